@@ -1,0 +1,23 @@
+use Rattle.std.proofs.Common.{◌-◌, ◌^◌, ◌<◌, length, get_or, arith}
+use Rattle.std.proofs.lemmas.List.{get_or_default}
+use Rattle.std.proofs.lemmas.List.FromFn.{fill_by_all}
+use Rattle.transyt_profile.specs.Profile.{added_at}
+use Rattle.transyt_profile.proofs.adding.add_into.Goals as goal
+
+pub returns-clause-value : goal.returns-clause-value
+returns-clause-value c =
+    fill_by_all (added_at c.args.out.now c.args.x.now) c.loop-i.out (length c.args.out.now) 0 (omega arith)
+    (λ k h. c.loop-i.invariant.summed k (omega arith))
+
+-- each step is the sum of two values with a limit each
+pub returns-clause-small : goal.returns-clause-small
+returns-clause-small c = λ k d h.
+    let before : get_or c.args.out.now k 0 < 2 ^ 48 - 2 ^ 44 = c.requires.out_fit k 0 (omega arith) in
+    let more : get_or c.args.x.now k 0 < 2 ^ 44 = c.requires.fit k 0 (omega arith) in
+    omega (arith, get_or_default c.loop-i.out k d 0 h, c.loop-i.invariant.summed k (omega arith))
+
+pub returns-clause-grows : goal.returns-clause-grows
+returns-clause-grows c = λ limit within k d h.
+    let before : get_or c.args.out.now k 0 < limit = within k 0 (omega arith) in
+    let more : get_or c.args.x.now k 0 < 2 ^ 44 = c.requires.fit k 0 (omega arith) in
+    omega (arith, get_or_default c.loop-i.out k d 0 h, c.loop-i.invariant.summed k (omega arith))

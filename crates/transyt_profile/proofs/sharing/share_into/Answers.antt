@@ -1,0 +1,6 @@
+use Rattle.std.proofs.Common.{arith}
+use Rattle.std.proofs.lemmas.List.{get_or_default}
+use Rattle.transyt_profile.proofs.sharing.share_into.Goals as goal
+
+pub returns-clause-small : goal.returns-clause-small
+returns-clause-small c = λ k d h. omega (arith, get_or_default c.loop-i.out k d 0 h, c.loop-i.invariant.small k (omega arith))

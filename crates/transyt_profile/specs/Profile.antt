@@ -1,0 +1,23 @@
+-- Profiles: lists with one value for each step of the cycle.
+use Rattle.std.specs.Prelude.{ℕ, ◌+◌, ◌*◌, ◌/◌, ◌==◌, List, length, map, replicate, slice_index, if◌then◌else◌}
+use Rattle.std.specs.List.{range_with_len}
+
+-- the profile with this value at each step
+abbrev pub uniform : ℕ → ℕ → List ℕ
+uniform step_count value = replicate step_count value
+
+-- the sum of two profiles at step i
+abbrev pub added_at : List ℕ → List ℕ → ℕ → ℕ
+added_at xs ys i = slice_index xs i + slice_index ys i
+
+-- the sum of two profiles, step by step
+abbrev pub added : List ℕ → List ℕ → List ℕ
+added xs ys = map (added_at xs ys) (range_with_len 0 (length xs))
+
+-- the part of one value that goes on with `part` of `whole` vehicles per hour, rounded down
+abbrev pub share_of : ℕ → ℕ → ℕ → ℕ
+share_of part whole value = (if whole == 0 then 0 else value * part / whole)
+
+-- the part of each value of a profile
+abbrev pub shared : ℕ → ℕ → List ℕ → List ℕ
+shared part whole xs = map (share_of part whole) xs

@@ -1,0 +1,12 @@
+ghost use Rattle.std.specs.Prelude.{◌≡◌, ℕ, ◌<◌, length, All};
+ghost use Rattle.transyt_profile.specs.Profile.{uniform};
+
+/// Gives each step of the cycle the same value.
+pub fn fill_uniform(value: u64, out: &mut [u64])
+    ensures value { out.new ≡ uniform (length out.old) value }
+    ensures bounded { (limit : ℕ) → value < limit → All (λ v. v < limit) out.new }
+{
+    for place in out.iter_mut() {
+        *place = value;
+    }
+}

@@ -1,0 +1,21 @@
+//! Profiles: one value for each step of the cycle, in millionths of a vehicle per step.
+//!
+//! A profile is a slice of `u64` and a contract sees it as a list of numbers. Each call is one definition of
+//! `specs/Profile`: `uniform`, `added` and `shared` give a profile, and std's `sum` its total over the cycle.
+//! Cite `added` first. Each call that fills a profile also says how large its values can be, as the next call asks.
+
+#![tactic(auto)]
+
+mod adding;
+mod comparing;
+mod filling;
+mod sharing;
+#[cfg(test)]
+mod tests;
+mod totals;
+
+pub use adding::add_into;
+pub use comparing::same;
+pub use filling::fill_uniform;
+pub use sharing::share_into;
+pub use totals::total;

@@ -1,0 +1,54 @@
+use super::*;
+
+// one row: two profiles, the part and the whole of a share, and what each call gives
+#[derive(Drop)]
+struct Row {
+    x: [u64; 3],
+    y: [u64; 3],
+    part: u32,
+    whole: u32,
+    sum: [u64; 3],
+    share: [u64; 3],
+    total: u64,
+    same: bool,
+}
+
+#[test]
+fn each_call_of_a_profile(rt: HostRuntime) {
+    let rows = [
+        Row {
+            x: [600000, 0, 7],
+            y: [1, 2, 3],
+            part: 180,
+            whole: 360,
+            sum: [600001, 2, 10],
+            share: [300000, 0, 3],
+            total: 600007,
+            same: false,
+        },
+        Row {
+            x: [5, 5, 5],
+            y: [5, 5, 5],
+            part: 9,
+            whole: 0,
+            sum: [10, 10, 10],
+            share: [0, 0, 0],
+            total: 15,
+            same: true,
+        },
+    ];
+    for row in rows.iter() {
+        assert!(rt; row.x.iter().all(|value| *value < 1073741824));
+        assert!(rt; row.y.iter().all(|value| *value < 1073741824));
+        assert!(rt; row.part <= 9999);
+        let mut out = row.y;
+        add_into(&row.x, &mut out);
+        assert_eq!(rt; out, row.sum);
+        share_into(&row.x, row.part, row.whole, &mut out);
+        assert_eq!(rt; out, row.share);
+        assert_eq!(rt; total(&row.x), row.total);
+        assert_eq!(rt; same(&row.x, &row.y), row.same);
+        fill_uniform(row.total, &mut out);
+        assert_eq!(rt; out, [row.total, row.total, row.total]);
+    }
+}
