@@ -1,0 +1,63 @@
+-- Laws of numbers as text.
+use Rattle.std.proofs.Common.{◌≡◌, ℕ, ◌+◌, ◌-◌, ◌*◌, ◌/◌, ◌%◌, ◌^◌, ◌<◌, ◌≤◌, List, [], ◌∷◌, ◌++◌, length, true, Some, sym, ◌∙◌, arith, refl}
+use Rattle.std.specs.Char.{is_ascii_digit}
+use Rattle.std.specs.Fmt.{decimal}
+use Rattle.std.specs.List.{list_all}
+use Rattle.std.proofs.lemmas.Bool.Decides.{nat_tests}
+use Rattle.std.proofs.lemmas.Fmt.{decimal_by_steps_wide, length-decimal-le_wide}
+use Rattle.std.proofs.lemmas.Grind.{common_steps}
+use Rattle.std.proofs.lemmas.List.{length_push, get_or_append_left}
+use Rattle.std.proofs.lemmas.List.Folds.{list_all-append}
+use Rattle.std.proofs.lemmas.List.Sums.{fold-append}
+use Rattle.std.proofs.Math.Nat.{mod-lt, mod-add-div'}
+use Rattle.transyt_num.specs.Number.{word_value, number_of, IsShortest}
+
+-- one digit more behind
+pub word_value_push : (ds : List ℕ) (c : ℕ) → word_value (ds ++ c ∷ []) ≡ word_value ds * 10 + (c - 48)
+word_value_push ds c = fold-append (λ value digit. value * 10 + (digit - 48)) 0 ds (c ∷ [])
+
+-- the byte of a digit is one
+digit_byte : (d : ℕ) → d < 10 → is_ascii_digit (48 + d) ≡ true
+digit_byte d small = grind (arith, nat_tests)
+
+-- a value below ten
+shortest_digit : (n : ℕ) → n < 10 → IsShortest n ((48 + n) ∷ [])
+shortest_digit n small = record {
+  some = omega arith;
+  digits = grind (arith, digit_byte n small);
+  value = omega arith;
+  zero = λ none. refl;
+  front = λ positive. omega arith;
+}
+
+-- a value from ten on: the text of its tenth part, and the digit that is left
+shortest_more : (n : ℕ) (ds : List ℕ) → 10 ≤ n → IsShortest (n / 10) ds → IsShortest n (ds ++ (48 + n % 10) ∷ [])
+shortest_more n ds wide tenth =
+    let digit : n % 10 < 10 = mod-lt n (omega arith) in
+    let whole : n % 10 + n / 10 * 10 ≡ n = mod-add-div' n 10 in
+    let positive : 0 < n / 10 = omega arith in
+    record {
+      some = omega (arith, length_push ds (48 + n % 10));
+      digits = grind (arith, list_all-append is_ascii_digit ds ((48 + n % 10) ∷ []), tenth.digits, digit_byte (n % 10) digit);
+      value = word_value_push ds (48 + n % 10) ∙ omega (arith, tenth.value);
+      zero = λ none. absurd (omega arith);
+      front = λ more. let first = tenth.front positive in omega (arith, get_or_append_left ds ((48 + n % 10) ∷ []) 0 0 tenth.some);
+    }
+
+-- std's text is the shortest
+pub shortest_decimal : (n : ℕ) → n < 10 ^ 64 → IsShortest n (decimal n)
+shortest_decimal n fits = decimal_by_steps_wide IsShortest shortest_digit shortest_more n fits
+
+-- the tests that make a word of nine digits a number
+reads : (word : List ℕ) (n : ℕ) → 0 < length word → length word ≤ 9 → list_all is_ascii_digit word ≡ true → word_value word ≡ n → number_of word ≡ Some n
+reads word n some few digits value = grind (arith, nat_tests, common_steps)
+
+-- the text of a value of at most nine digits reads as the value
+pub number_of-decimal : (n : ℕ) → n < 1000000000 → number_of (decimal n) ≡ Some n
+number_of-decimal n small =
+    let text : IsShortest n (decimal n) = shortest_decimal n (omega arith) in
+    reads (decimal n) n text.some (length-decimal-le_wide 9 n (omega arith) (omega arith) (omega arith)) text.digits text.value
+
+-- no number has two texts
+pub shortest_injective : (m n : ℕ) (text : List ℕ) → IsShortest m text → IsShortest n text → m ≡ n
+shortest_injective m n text first second = sym first.value ∙ second.value

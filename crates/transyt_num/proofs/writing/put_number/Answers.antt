@@ -1,0 +1,67 @@
+use Rattle.std.proofs.Common.{◌≡◌, ℕ, ◌+◌, ◌-◌, ◌≤◌, List, length, drop, set, arith, sym, ap, ◌∙◌, refl, subst}
+use Rattle.std.proofs.lemmas.List.{append-nil, take_at, take_all, length-drop, length-set}
+use Rattle.std.proofs.lemmas.Fmt.{length-decimal-le_wide}
+use Rattle.std.proofs.lemmas.Grind.{common_steps}
+use Rattle.std.specs.Fmt.{decimal}
+use Rattle.transyt_num.proofs.Digits.{put_more, put_room, put_first}
+use Rattle.transyt_num.proofs.NumberLaws.{shortest_decimal, number_of-decimal}
+use Rattle.transyt_num.specs.Number.{number_of, IsShortest}
+use Rattle.transyt_num.proofs.writing.put_number.Goals as goal
+
+-- nothing is written yet
+pub loop-rest-init : goal.loop-rest-init
+loop-rest-init c = record {
+  text = sym (append-nil (decimal c.args.v));
+  room = length-decimal-le_wide 39 c.args.v (omega arith) (omega (arith, c.ranges.v.fits)) (omega (arith, c.ranges.v.fits));
+  within = omega arith;
+  len = refl;
+}
+
+-- there is room for one digit more
+pub overflow_sub-start : goal.overflow_sub-start
+overflow_sub-start c =
+    let room = put_room c.loop-rest.rest c.loop-rest.start c.loop-rest-test.true (omega (arith, c.loop-rest.auto.rest-fits)) c.loop-rest.invariant.room in
+    omega arith
+
+-- one digit more stands
+pub loop-rest-preserved : goal.loop-rest-preserved
+loop-rest-preserved c =
+    let room = put_room c.loop-rest.rest c.loop-rest.start c.loop-rest-test.true (omega (arith, c.loop-rest.auto.rest-fits)) c.loop-rest.invariant.room in
+    record {
+      text = put_more c.args.v c.loop-rest.rest c.loop-rest.start c.loop-rest.digits c.loop-rest-test.true (omega (arith, c.loop-rest.auto.rest-fits)) c.loop-rest.invariant.text c.loop-rest.invariant.room (omega arith);
+      room = omega arith;
+      within = omega arith;
+      len = length-set c.loop-rest.digits _ _ ∙ c.loop-rest.invariant.len;
+    }
+
+-- the first digit has its place
+pub overflow_sub-start-2 : goal.overflow_sub-start-2
+overflow_sub-start-2 c = (put_first c.args.v c.loop-rest.rest c.loop-rest.start c.loop-rest.digits (omega arith) c.loop-rest.invariant.text c.loop-rest.invariant.room (omega arith)).0
+
+-- what is copied to the front is the text
+pub returns-clause-text : goal.returns-clause-text
+returns-clause-text c =
+    let n : length c.copy_from_slice.new.self ≡ 39 - (c.loop-rest.start - 1) = grind (arith, common_steps) in
+    take_at c.copy_from_slice.new.self _ _ n ∙ c.copy_from_slice.ensures.after ∙ take_all _ _ (simp (length-drop, length-set) (omega arith))
+    ∙ sym (put_first c.args.v c.loop-rest.rest c.loop-rest.start c.loop-rest.digits (omega arith) c.loop-rest.invariant.text c.loop-rest.invariant.room (omega arith)).1
+
+-- that text is the shortest one
+pub returns-clause-shortest : goal.returns-clause-shortest
+returns-clause-shortest c =
+    subst (λ (text : List ℕ). IsShortest c.args.v text) (sym (returns-clause-text c)) (shortest_decimal c.args.v (omega (arith, c.ranges.v.fits)))
+
+-- and reads as the value
+pub returns-clause-read_back : goal.returns-clause-read_back
+returns-clause-read_back c = λ small. ap number_of (returns-clause-text c) ∙ number_of-decimal c.args.v small
+
+-- the length is that of the text
+pub returns-clause-digits : goal.returns-clause-digits
+returns-clause-digits c = λ k some small.
+    let digits : List ℕ = set c.loop-rest.digits (c.loop-rest.start - 1) (48 + c.loop-rest.rest) in
+    let text : decimal c.args.v ≡ drop (c.loop-rest.start - 1) digits = (put_first c.args.v c.loop-rest.rest c.loop-rest.start c.loop-rest.digits (omega arith) c.loop-rest.invariant.text c.loop-rest.invariant.room (omega arith)).1 in
+    let few : length (decimal c.args.v) ≤ k = length-decimal-le_wide k c.args.v some small (omega (arith, c.ranges.v.fits)) in
+    omega (arith, ap length text, length-drop (c.loop-rest.start - 1) digits, length-set c.loop-rest.digits (c.loop-rest.start - 1) (48 + c.loop-rest.rest))
+
+-- 2^64 is below 10^20
+pub returns-clause-short : goal.returns-clause-short
+returns-clause-short c = λ small. returns-clause-digits c 20 (omega arith) (omega arith)
