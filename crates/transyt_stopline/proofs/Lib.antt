@@ -1,0 +1,8 @@
+pub mod BackSums
+pub mod Greatest
+pub mod QueueLaws
+pub mod Covering
+pub mod QueueBounds
+pub mod CutLaws
+pub mod StopsLaws
+mod Examples

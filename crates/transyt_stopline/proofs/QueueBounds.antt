@@ -1,0 +1,23 @@
+-- How large a queue can be.
+use Rattle.std.proofs.Common.{ℕ, ◌-◌, ◌^◌, ◌<◌, ◌≤◌, List, length, sum, arith}
+use Rattle.std.specs.List.{All}
+use Rattle.std.proofs.lemmas.List.Sums.{sum_by-le}
+use Rattle.transyt_stopline.specs.LastSteps.{sum_back}
+use Rattle.transyt_stopline.specs.Queue.{queue_at}
+use Rattle.transyt_stopline.proofs.BackSums.{back-le}
+use Rattle.transyt_stopline.proofs.Greatest.{greatest-le}
+
+-- no queue is above the arrivals of a cycle
+pub queue-le : (arrivals go : List ℕ) (i : ℕ) → i < length arrivals → queue_at arrivals go i ≤ sum arrivals
+queue-le arrivals go i below =
+    greatest-le (λ n. sum_back arrivals i n - sum_back go i n) (sum arrivals) (length arrivals)
+    (λ n most. omega (arith, back-le arrivals n i below most))
+
+-- what the green lets pass in a cycle
+pub go_total : (go : List ℕ) → length go ≤ 120 → All (λ v. v < 2 ^ 30) go → sum go < 2 ^ 37
+go_total go most fit = omega (arith, sum_by-le (λ x. x) (2 ^ 30) go (λ k d below. omega (arith, fit k d below)))
+
+-- so no queue is above what it lets pass
+pub queue-lt : (arrivals go : List ℕ) (i : ℕ) → i < length arrivals → sum arrivals ≤ sum go → length go ≤ 120 → All (λ v. v < 2 ^ 30) go
+    → queue_at arrivals go i < 2 ^ 37
+queue-lt arrivals go i below served most fit = omega (arith, queue-le arrivals go i below, go_total go most fit)

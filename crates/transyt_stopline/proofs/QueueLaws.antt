@@ -1,0 +1,107 @@
+-- The queue round the cycle, step by step.
+use Rattle.std.proofs.Common.{◌≡◌, ℕ, zero, suc, ◌+◌, ◌-◌, ◌<◌, ◌≤◌, List, length, get_or, refl, ap, sym, ◌∙◌, arith, sum, subst, map, take, ◌++◌, [], ◌∷◌}
+use Rattle.std.specs.List.{range_with_len}
+use Rattle.std.proofs.lemmas.List.{take_all}
+use Rattle.std.proofs.lemmas.List.Sums.{sum_by_more, sum_by_push}
+use Rattle.std.proofs.lemmas.List.FromFn.{map-range_with_len_more}
+use Rattle.transyt_cycle.specs.Cycle.{step_before}
+use Rattle.transyt_cycle.proofs.CycleLaws.{step_before-add_one}
+use Rattle.transyt_stopline.specs.LastSteps.{sum_back, greatest}
+use Rattle.transyt_stopline.specs.Queue.{queue_at, out_at, outs}
+use Rattle.transyt_stopline.proofs.BackSums.{back_suc, back_zero, back_turn}
+use Rattle.transyt_stopline.proofs.Greatest.{greatest_shift, greatest_turn}
+
+-- the greatest excess over up to n last steps
+abbrev pub queue_over : List ℕ → List ℕ → ℕ → ℕ → ℕ
+queue_over arrivals go n i = greatest (λ m. sum_back arrivals i m - sum_back go i m) n
+
+-- over no step it is 0
+pub queue_over_none : (arrivals go : List ℕ) (i : ℕ) → queue_over arrivals go 0 i ≡ 0
+unfolding greatest
+queue_over_none arrivals go i = refl
+
+-- over one step more it is what it was a step before, and this step
+pub queue_over_more : (arrivals go : List ℕ) (n i : ℕ) → length go ≡ length arrivals
+    → queue_over arrivals go (suc n) i ≡ queue_over arrivals go n (step_before (length arrivals) i) + get_or arrivals i 0 - get_or go i 0
+queue_over_more arrivals go n i same_length =
+    let before : ℕ = step_before (length arrivals) i in
+    greatest_shift (sum_back arrivals i) (sum_back go i) (sum_back arrivals before) (sum_back go before) (get_or arrivals i 0) (get_or go i 0) n
+    (back_zero arrivals _) (back_zero go _) (back_suc arrivals i)
+    (λ m. subst (λ (k : ℕ). sum_back go i (suc m) ≡ get_or go i 0 + sum_back go (step_before k i) m) same_length (back_suc go i m))
+
+-- the queue of the repeating cycle obeys the recurrence at every step, at step 0 from the last
+pub queue_more : (arrivals go : List ℕ) (i : ℕ) → length go ≡ length arrivals → sum arrivals ≤ sum go → i < length arrivals
+    → queue_at arrivals go i ≡ queue_at arrivals go (step_before (length arrivals) i) + get_or arrivals i 0 - get_or go i 0
+queue_more arrivals go i same_length served below =
+    let go_below : i < length go = omega arith in
+    let turn_go : sum_back go i (length arrivals + 1) ≡ sum go + sum_back go i 1 =
+    subst (λ (k : ℕ). sum_back go i (k + 1) ≡ sum go + sum_back go i 1) same_length (back_turn go i 1 go_below) in
+    sym (greatest_turn (λ m. sum_back arrivals i m - sum_back go i m) (length arrivals) (omega arith) (omega (arith, back_turn arrivals i 1 below)))
+    ∙ queue_over_more arrivals go (length arrivals) i same_length
+
+-- the step before a step past the first
+pub step_before_pos : (n i : ℕ) → 0 < i → step_before n i ≡ i - 1
+step_before_pos n zero positive = absurd (omega arith)
+step_before_pos n (suc i) positive = omega arith
+
+-- what left in the first n steps and the queue then are the queue at the start and the arrivals so far
+pub outs_so_far : (arrivals go : List ℕ) (n : ℕ) → length go ≡ length arrivals → sum arrivals ≤ sum go → n ≤ length arrivals
+    → sum (map (out_at arrivals go) (range_with_len 0 n)) + queue_at arrivals go (step_before (length arrivals) n)
+    ≡ queue_at arrivals go (length arrivals - 1) + sum (take n arrivals)
+outs_so_far arrivals go zero same_length served most = omega arith
+outs_so_far arrivals go (suc n) same_length served most =
+    let below : n < length arrivals = omega arith in
+    let next : n + 1 ≡ suc n = omega arith in
+    let so_far : List ℕ = map (out_at arrivals go) (range_with_len 0 n) in
+    let list : map (out_at arrivals go) (range_with_len 0 (n + 1)) ≡ so_far ++ out_at arrivals go n ∷ [] =
+    map-range_with_len_more (out_at arrivals go) 0 n n (omega arith) in
+    omega (
+      arith,
+      outs_so_far arrivals go n same_length served (omega arith),
+      queue_more arrivals go n same_length served below,
+      ap sum list,
+      ap (λ k. sum (map (out_at arrivals go) (range_with_len 0 k))) next,
+      sum_by_push (λ x. x) so_far (out_at arrivals go n),
+      sum_by_more (λ x. x) arrivals n 0 below,
+      ap (λ k. sum (take k arrivals)) next,
+    )
+
+-- what leaves in a cycle is what arrives in it
+pub outs_total : (arrivals go : List ℕ) → 0 < length arrivals → length go ≡ length arrivals → sum arrivals ≤ sum go
+    → sum (outs arrivals go) ≡ sum arrivals
+outs_total arrivals go positive same_length served =
+    let end : queue_at arrivals go (step_before (length arrivals) (length arrivals)) ≡ queue_at arrivals go (length arrivals - 1) =
+    ap (queue_at arrivals go) (step_before_pos (length arrivals) (length arrivals) positive) in
+    omega (
+      arith,
+      outs_so_far arrivals go (length arrivals) same_length served (omega arith),
+      end,
+      ap sum (take_all (length arrivals) arrivals (omega arith)),
+    )
+
+-- a turn of the first loop
+pub first_more : (arrivals go : List ℕ) (i waiting after : ℕ) → length go ≡ length arrivals
+    → waiting ≡ queue_over arrivals go i (step_before (length arrivals) i)
+    → after ≡ waiting + get_or arrivals i 0 - get_or go i 0
+    → after ≡ queue_over arrivals go (i + 1) (step_before (length arrivals) (i + 1))
+first_more arrivals go i waiting after same_length was is =
+    let here : step_before (length arrivals) (i + 1) ≡ i = step_before-add_one (length arrivals) i in
+    let next : i + 1 ≡ suc i = omega arith in
+    rw (here, next) (omega (arith, queue_over_more arrivals go i i same_length))
+
+-- a turn of the second loop
+pub second_more : (arrivals go : List ℕ) (i waiting after : ℕ) → length go ≡ length arrivals → sum arrivals ≤ sum go
+    → i < length arrivals → waiting ≡ queue_at arrivals go (step_before (length arrivals) i)
+    → after ≡ waiting + get_or arrivals i 0 - get_or go i 0 → after ≡ queue_at arrivals go i
+second_more arrivals go i waiting after same_length served below was is =
+    omega (arith, queue_more arrivals go i same_length served below)
+
+-- no more leaves than the green lets pass
+pub out-le-go : (arrivals go : List ℕ) (i : ℕ) → length go ≡ length arrivals → sum arrivals ≤ sum go → i < length arrivals
+    → out_at arrivals go i ≤ get_or go i 0
+out-le-go arrivals go i same_length served below = omega (arith, queue_more arrivals go i same_length served below)
+
+-- what leaves and what then stands is what stood and what arrived
+pub out_kept : (arrivals go : List ℕ) (i : ℕ) → length go ≡ length arrivals → sum arrivals ≤ sum go → i < length arrivals
+    → out_at arrivals go i + queue_at arrivals go i ≡ queue_at arrivals go (step_before (length arrivals) i) + get_or arrivals i 0
+out_kept arrivals go i same_length served below = omega (arith, queue_more arrivals go i same_length served below)

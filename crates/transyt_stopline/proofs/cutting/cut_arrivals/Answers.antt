@@ -1,0 +1,19 @@
+use Rattle.std.proofs.Common.{◌≡◌, ◌<◌, ◌≤◌, ◌^◌, arith, get_or, sum}
+use Rattle.std.proofs.lemmas.List.{get_or_default}
+use Rattle.std.proofs.lemmas.Grind.{common_steps}
+use Rattle.transyt_stopline.specs.Cut.{scaled}
+use Rattle.transyt_stopline.proofs.CutLaws.{cut_total, scaled-le}
+use Rattle.transyt_stopline.proofs.cutting.cut_arrivals.Goals as goal
+
+pub returns-after-loop-i-clause-total : goal.returns-after-loop-i-clause-total
+returns-after-loop-i-clause-total c =
+    cut_total c.args.x.now c.args.go.now c.loop-i.out (omega (arith, c.if-served-come.true)) (omega arith)
+    (λ k below. grind (arith, common_steps, c.loop-i.invariant k))
+
+pub returns-after-loop-i-clause-small : goal.returns-after-loop-i-clause-small
+returns-after-loop-i-clause-small c = λ k d below.
+    let small : get_or c.args.x.now k 0 < 2 ^ 48 = c.requires.fit k 0 (omega arith) in
+    let less : sum c.args.go.now ≤ sum c.args.x.now = omega (arith, c.if-served-come.true) in
+    let here : get_or c.loop-i.out k 0 ≡ scaled (sum c.args.x.now) (sum c.args.go.now) (get_or c.args.x.now k 0) =
+    grind (arith, common_steps, c.loop-i.invariant k) in
+    omega (arith, get_or_default c.loop-i.out k d 0 below, here, scaled-le (sum c.args.x.now) (sum c.args.go.now) (get_or c.args.x.now k 0) less)

@@ -1,0 +1,4 @@
+pub mod LastSteps
+pub mod Queue
+pub mod Cut
+pub mod Stops

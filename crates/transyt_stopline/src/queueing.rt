@@ -1,0 +1,48 @@
+ghost use Rattle.std.specs.Prelude.{◌≡◌, ℕ, ◌+◌, ◌-◌, ◌^◌, ◌<◌, ◌≤◌, length, sum, slice_index, All};
+ghost use Rattle.transyt_cycle.specs.Cycle.{step_before};
+ghost use Rattle.transyt_stopline.specs.Queue.{queues, outs, IsQueue};
+
+/// The queue at the end of each step, and what leaves in each step.
+///
+/// All four slices have one value for each step. `go` is what the green lets pass, and the arrivals of a cycle
+/// are at most what it lets pass, so that the queue of a cycle that repeats for ever is finite. A queue stands at
+/// the step's end: what arrives in a step with room leaves in it. The recurrence is LR 253's.
+pub fn queue(arrivals: &[u64], go: &[u64], queue: &mut [u64], out: &mut [u64])
+    requires steps { 0 < length arrivals.now }
+    requires most { length arrivals.now ≤ 120 }
+    requires go_len { length go.now ≡ length arrivals.now }
+    requires queue_len { length queue.old ≡ length arrivals.now }
+    requires out_len { length out.old ≡ length arrivals.now }
+    requires arrivals_fit { All (λ v. v < 2 ^ 48) arrivals.now }
+    requires go_fit { All (λ v. v < 2 ^ 30) go.now }
+    requires served { sum arrivals.now ≤ sum go.now }
+    ensures queue { queue.new ≡ queues arrivals.now go.now }
+    ensures out { out.new ≡ outs arrivals.now go.now }
+
+    // the same without a difference: the queue covers each excess of the last steps, and it is 0 or one of them
+    ensures greatest { (i : ℕ) → i < length arrivals.now
+        → IsQueue arrivals.now go.now i (slice_index queue.new i) }
+    ensures recurrence { (i : ℕ) → i < length arrivals.now → slice_index queue.new i
+        ≡ slice_index queue.new (step_before (length arrivals.now) i)
+        + slice_index arrivals.now i - slice_index go.now i }
+    // nothing is lost: what leaves and what still stands is what stood and what came
+    ensures kept { (i : ℕ) → i < length arrivals.now
+        → slice_index out.new i + slice_index queue.new i
+        ≡ slice_index queue.new (step_before (length arrivals.now) i) + slice_index arrivals.now i }
+    ensures out_at_most_go { (i : ℕ) → slice_index out.new i ≤ slice_index go.now i }
+    ensures total { sum out.new ≡ sum arrivals.now }
+    ensures queue_small { All (λ v. v < 2 ^ 37) queue.new }
+    ensures out_small { All (λ v. v < 2 ^ 30) out.new }
+{
+    let mut waiting: u64 = 0;
+    // from an empty queue, once round: then it stands as it does in every later cycle
+    'first: for i in 0..arrivals.len() {
+        waiting = (waiting + arrivals[i]).saturating_sub(go[i]);
+    }
+    'second: for i in 0..arrivals.len() {
+        let present = waiting + arrivals[i];
+        waiting = present.saturating_sub(go[i]);
+        queue[i] = waiting;
+        out[i] = present - waiting;
+    }
+}

@@ -1,0 +1,27 @@
+ghost use Rattle.std.specs.Prelude.{◌≡◌, ◌^◌, ◌<◌, ◌≤◌, length, All};
+ghost use Rattle.transyt_stopline.specs.Stops.{stopping, stopped_of};
+
+/// How much of a cycle's arrivals stops: what arrives in a step that ends with a queue.
+///
+/// In millionths of a vehicle, exact.
+pub fn stopped(arrivals: &[u64], queue: &[u64]) -> u64
+    requires most { length arrivals.now ≤ 120 }
+    requires queue_len { length queue.now ≡ length arrivals.now }
+    requires fit { All (λ v. v < 2 ^ 48) arrivals.now }
+    ensures value { result ≡ stopped_of arrivals.now queue.now }
+    ensures small { result < 2 ^ 55 }
+{
+    let mut all: u64 = 0;
+    for i in 0..arrivals.len() {
+        all += stopping(arrivals[i], queue[i]);
+    }
+    all
+}
+
+// what stops of one step's arrivals
+fn stopping(arrival: u64, queue: u64) -> u64
+    ensures value { result ≡ stopping arrival queue }
+    ensures part { result ≤ arrival }
+{
+    if queue > 0 { arrival } else { 0 }
+}
