@@ -10,7 +10,8 @@ use Rattle.transyt_cycle.proofs.CycleLaws.{minus_mod-lt, minus_mod-add, minus_mo
 use Rattle.transyt_stopline.specs.LastSteps.{sum_back, sum_at_places}
 
 -- one more step back
-pub back_suc : (xs : List ℕ) (i n : ℕ) → sum_back xs i (suc n) ≡ get_or xs i 0 + sum_back xs (step_before (length xs) i) n
+pub back_suc : (xs : List ℕ) (i n : ℕ)
+    → sum_back xs i (suc n) ≡ get_or xs i 0 + sum_back xs (step_before (length xs) i) n
 unfolding sum_back
 back_suc xs i n = refl
 
@@ -28,7 +29,8 @@ back_split xs (suc n) m (suc j) k there =
     let before : n + k ≡ j = omega arith in rw (suc-add) (omega (arith, back_split xs n m j k before))
 
 -- past step 0 the sum goes on from the last step
-pub back_wrap : (xs : List ℕ) (i m : ℕ) → sum_back xs i (suc i + m) ≡ sum_back xs i (suc i) + sum_back xs (length xs - 1) m
+pub back_wrap : (xs : List ℕ) (i m : ℕ)
+    → sum_back xs i (suc i + m) ≡ sum_back xs i (suc i) + sum_back xs (length xs - 1) m
 unfolding sum_back
 back_wrap xs zero m = rw (suc-add, zero-add) (omega arith)
 back_wrap xs (suc i) m = rw suc-add (omega (arith, back_wrap xs i m))
@@ -91,7 +93,8 @@ back-le xs n i below most =
     omega (arith, back_grows xs n (length xs - n) i, ap (sum_back xs i) whole, back_full xs i below)
 
 -- one more step at the far end
-pub back_more : (xs : List ℕ) (n i : ℕ) → i < length xs → sum_back xs i (suc n) ≡ sum_back xs i n + get_or xs (minus_mod (length xs) i n) 0
+pub back_more : (xs : List ℕ) (n i : ℕ) → i < length xs
+    → sum_back xs i (suc n) ≡ sum_back xs i n + get_or xs (minus_mod (length xs) i n) 0
 back_more xs zero i below =
     let positive : 0 < length xs = omega arith in
     let place : ℕ = minus_mod (length xs) i 0 in
@@ -99,7 +102,13 @@ back_more xs zero i below =
     let here : place ≡ i =
     sym (mod-eq_of_lt (minus_mod-lt (length xs) i 0 positive)) ∙ ap (λ k. k % length xs) none
     ∙ minus_mod-add (length xs) i 0 positive ∙ mod-eq_of_lt below in
-    omega (arith, back_suc xs i 0, back_zero xs i, back_zero xs (step_before (length xs) i), ap (λ k. get_or xs k 0) here)
+    omega (
+      arith,
+      back_suc xs i 0,
+      back_zero xs i,
+      back_zero xs (step_before (length xs) i),
+      ap (λ k. get_or xs k 0) here,
+    )
 back_more xs (suc n) i below =
     let next : n + 1 ≡ suc n = omega arith in
     omega (

@@ -10,12 +10,14 @@ abbrev pub green_of_four : List ℕ
 green_of_four = 0 ∷ 3000000 ∷ 3000000 ∷ 3000000 ∷ 3000000 ∷ 0 ∷ 0 ∷ 0 ∷ 0 ∷ 0 ∷ []
 
 -- the queue of 0.6 vehicles a step
-plain_queue : queues (replicate 10 600000) green_of_four ≡ 3600000 ∷ 1200000 ∷ 0 ∷ 0 ∷ 0 ∷ 600000 ∷ 1200000 ∷ 1800000 ∷ 2400000 ∷ 3000000 ∷ []
+plain_queue : queues (replicate 10 600000) green_of_four
+    ≡ 3600000 ∷ 1200000 ∷ 0 ∷ 0 ∷ 0 ∷ 600000 ∷ 1200000 ∷ 1800000 ∷ 2400000 ∷ 3000000 ∷ []
 unfolding sum_back greatest
 plain_queue = refl
 
 -- what leaves of it
-plain_out : outs (replicate 10 600000) green_of_four ≡ 0 ∷ 3000000 ∷ 1800000 ∷ 600000 ∷ 600000 ∷ 0 ∷ 0 ∷ 0 ∷ 0 ∷ 0 ∷ []
+plain_out : outs (replicate 10 600000) green_of_four
+    ≡ 0 ∷ 3000000 ∷ 1800000 ∷ 600000 ∷ 600000 ∷ 0 ∷ 0 ∷ 0 ∷ 0 ∷ 0 ∷ []
 unfolding sum_back greatest
 plain_out = refl
 
@@ -33,6 +35,7 @@ cut_arrivals : arrivals_of (replicate 10 3000000) green_of_four ≡ replicate 10
 cut_arrivals = refl
 
 -- and their queue
-full_queue : queues (replicate 10 1200000) green_of_four ≡ 7200000 ∷ 5400000 ∷ 3600000 ∷ 1800000 ∷ 0 ∷ 1200000 ∷ 2400000 ∷ 3600000 ∷ 4800000 ∷ 6000000 ∷ []
+full_queue : queues (replicate 10 1200000) green_of_four
+    ≡ 7200000 ∷ 5400000 ∷ 3600000 ∷ 1800000 ∷ 0 ∷ 1200000 ∷ 2400000 ∷ 3600000 ∷ 4800000 ∷ 6000000 ∷ []
 unfolding sum_back greatest
 full_queue = refl

@@ -20,8 +20,10 @@ pub le_greatest : (f : ℕ → ℕ) (m n : ℕ) → 0 < m → m ≤ n → f m �
 unfolding greatest
 le_greatest f m zero positive most = absurd (omega arith)
 le_greatest f m (suc n) positive most =
-    elim (cases_lt n m) as (λ w. f m ≤ max (greatest f n) (f (suc n)))
-    [ inl above ↦ let last : m ≡ suc n = omega arith in rw last (omega arith) | inr under ↦ omega (arith, le_greatest f m n positive under) ]
+    elim (cases_lt n m) as (λ w. f m ≤ max (greatest f n) (f (suc n))) [
+      | inl above ↦ let last : m ≡ suc n = omega arith in rw last (omega arith)
+      | inr under ↦ omega (arith, le_greatest f m n positive under)
+    ]
 
 -- what no value is above, the greatest isn't
 pub greatest-le : (f : ℕ → ℕ) (limit n : ℕ) → ((m : ℕ) → m ≤ n → f m ≤ limit) → greatest f n ≤ limit
@@ -36,14 +38,19 @@ unfolding greatest
 greatest_turn f n positive less =
     let next : n + 1 ≡ suc n = omega arith in omega (arith, le_greatest f 1 n (omega arith) positive, ap f next)
 
+-- a number is 0 or one of f 1 .. f n
+abbrev pub IsNoneOrValue : (ℕ → ℕ) → ℕ → ℕ → Type 0
+IsNoneOrValue f n number = (number ≡ 0) ⊎ ((m : ℕ) × (0 < m) × (m ≤ n) × (number ≡ f m))
+
 -- the greatest of 0 and f 1 .. f n is 0 or one of them
-pub greatest_is : (f : ℕ → ℕ) (n : ℕ) → (greatest f n ≡ 0) ⊎ ((m : ℕ) × (0 < m) × (m ≤ n) × (greatest f n ≡ f m))
+pub greatest_is : (f : ℕ → ℕ) (n : ℕ) → IsNoneOrValue f n (greatest f n)
 unfolding greatest
 greatest_is f zero = inl refl
 greatest_is f (suc n) =
-    elim (cases_lt (f (suc n)) (greatest f n)) as (λ w. (max (greatest f n) (f (suc n)) ≡ 0) ⊎ ((m : ℕ) × (0 < m) × (m ≤ suc n) × (max (greatest f n) (f (suc n)) ≡ f m))) [
-      | inl under ↦ let same : max (greatest f n) (f (suc n)) ≡ greatest f n = omega arith in
-          elim (greatest_is f n) as (λ w. (max (greatest f n) (f (suc n)) ≡ 0) ⊎ ((m : ℕ) × (0 < m) × (m ≤ suc n) × (max (greatest f n) (f (suc n)) ≡ f m)))
+    elim (cases_lt (f (suc n)) (greatest f n)) as (λ w. IsNoneOrValue f (suc n) (max (greatest f n) (f (suc n)))) [
+      | inl under ↦
+          let same : max (greatest f n) (f (suc n)) ≡ greatest f n = omega arith in
+          elim (greatest_is f n) as (λ w. IsNoneOrValue f (suc n) (max (greatest f n) (f (suc n))))
           [ inl none ↦ inl (same ∙ none) | inr some ↦ inr (some.0, some.1, omega arith, same ∙ some.3) ]
       | inr last ↦ inr (suc n, omega arith, omega arith, omega arith)
     ]

@@ -22,12 +22,15 @@ queue_over_none arrivals go i = refl
 
 -- over one step more it is what it was a step before, and this step
 pub queue_over_more : (arrivals go : List ℕ) (n i : ℕ) → length go ≡ length arrivals
-    → queue_over arrivals go (suc n) i ≡ queue_over arrivals go n (step_before (length arrivals) i) + get_or arrivals i 0 - get_or go i 0
+    → queue_over arrivals go (suc n) i
+    ≡ queue_over arrivals go n (step_before (length arrivals) i) + get_or arrivals i 0 - get_or go i 0
 queue_over_more arrivals go n i same_length =
     let before : ℕ = step_before (length arrivals) i in
-    greatest_shift (sum_back arrivals i) (sum_back go i) (sum_back arrivals before) (sum_back go before) (get_or arrivals i 0) (get_or go i 0) n
-    (back_zero arrivals _) (back_zero go _) (back_suc arrivals i)
-    (λ m. subst (λ (k : ℕ). sum_back go i (suc m) ≡ get_or go i 0 + sum_back go (step_before k i) m) same_length (back_suc go i m))
+    let go_suc : (m : ℕ) → sum_back go i (suc m) ≡ get_or go i 0 + sum_back go before m = λ m.
+    let Opens : ℕ → Type 0 = λ k. sum_back go i (suc m) ≡ get_or go i 0 + sum_back go (step_before k i) m in
+    subst Opens same_length (back_suc go i m) in
+    greatest_shift (sum_back arrivals i) (sum_back go i) (sum_back arrivals before) (sum_back go before)
+    (get_or arrivals i 0) (get_or go i 0) n (back_zero arrivals _) (back_zero go _) (back_suc arrivals i) go_suc
 
 -- the queue of the repeating cycle obeys the recurrence at every step, at step 0 from the last
 pub queue_more : (arrivals go : List ℕ) (i : ℕ) → length go ≡ length arrivals → sum arrivals ≤ sum go → i < length arrivals
@@ -36,7 +39,8 @@ queue_more arrivals go i same_length served below =
     let go_below : i < length go = omega arith in
     let turn_go : sum_back go i (length arrivals + 1) ≡ sum go + sum_back go i 1 =
     subst (λ (k : ℕ). sum_back go i (k + 1) ≡ sum go + sum_back go i 1) same_length (back_turn go i 1 go_below) in
-    sym (greatest_turn (λ m. sum_back arrivals i m - sum_back go i m) (length arrivals) (omega arith) (omega (arith, back_turn arrivals i 1 below)))
+    let excess : ℕ → ℕ = λ m. sum_back arrivals i m - sum_back go i m in
+    sym (greatest_turn excess (length arrivals) (omega arith) (omega (arith, back_turn arrivals i 1 below)))
     ∙ queue_over_more arrivals go (length arrivals) i same_length
 
 -- the step before a step past the first
@@ -70,12 +74,11 @@ outs_so_far arrivals go (suc n) same_length served most =
 pub outs_total : (arrivals go : List ℕ) → 0 < length arrivals → length go ≡ length arrivals → sum arrivals ≤ sum go
     → sum (outs arrivals go) ≡ sum arrivals
 outs_total arrivals go positive same_length served =
-    let end : queue_at arrivals go (step_before (length arrivals) (length arrivals)) ≡ queue_at arrivals go (length arrivals - 1) =
-    ap (queue_at arrivals go) (step_before_pos (length arrivals) (length arrivals) positive) in
+    let last = step_before_pos (length arrivals) (length arrivals) positive in
     omega (
       arith,
       outs_so_far arrivals go (length arrivals) same_length served (omega arith),
-      end,
+      ap (queue_at arrivals go) last,
       ap sum (take_all (length arrivals) arrivals (omega arith)),
     )
 
@@ -103,5 +106,6 @@ out-le-go arrivals go i same_length served below = omega (arith, queue_more arri
 
 -- what leaves and what then stands is what stood and what arrived
 pub out_kept : (arrivals go : List ℕ) (i : ℕ) → length go ≡ length arrivals → sum arrivals ≤ sum go → i < length arrivals
-    → out_at arrivals go i + queue_at arrivals go i ≡ queue_at arrivals go (step_before (length arrivals) i) + get_or arrivals i 0
+    → out_at arrivals go i + queue_at arrivals go i
+    ≡ queue_at arrivals go (step_before (length arrivals) i) + get_or arrivals i 0
 out_kept arrivals go i same_length served below = omega (arith, queue_more arrivals go i same_length served below)

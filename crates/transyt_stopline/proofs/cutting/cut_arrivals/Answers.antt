@@ -16,4 +16,9 @@ returns-after-loop-i-clause-small c = λ k d below.
     let less : sum c.args.go.now ≤ sum c.args.x.now = omega (arith, c.if-served-come.true) in
     let here : get_or c.loop-i.out k 0 ≡ scaled (sum c.args.x.now) (sum c.args.go.now) (get_or c.args.x.now k 0) =
     grind (arith, common_steps, c.loop-i.invariant k) in
-    omega (arith, get_or_default c.loop-i.out k d 0 below, here, scaled-le (sum c.args.x.now) (sum c.args.go.now) (get_or c.args.x.now k 0) less)
+    omega (
+      arith,
+      get_or_default c.loop-i.out k d 0 below,
+      here,
+      scaled-le (sum c.args.x.now) (sum c.args.go.now) (get_or c.args.x.now k 0) less,
+    )

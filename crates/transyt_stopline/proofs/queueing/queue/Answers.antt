@@ -17,18 +17,24 @@ first-init c = record { small = omega arith; so_far = sym (queue_over_none c.arg
 pub first-preserved : goal.first-preserved
 first-preserved c = record {
   small = let arrival = c.requires.arrivals_fit c.first.i 0 (omega arith) in omega (arith, c.saturating_sub-waiting.ensures);
-  so_far = first_more c.args.arrivals.now c.args.go.now c.first.i c.first.waiting _ c.requires.go_len c.first.invariant.so_far c.saturating_sub-waiting.ensures;
+  so_far = first_more c.args.arrivals.now c.args.go.now c.first.i c.first.waiting _ c.requires.go_len
+      c.first.invariant.so_far c.saturating_sub-waiting.ensures;
 }
 
 pub second-preserved : goal.second-preserved
 second-preserved c =
     let now : c.saturating_sub-waiting-in-second.result ≡ queue_at c.args.arrivals.now c.args.go.now c.second.i =
-    second_more c.args.arrivals.now c.args.go.now c.second.i c.second.waiting _ c.requires.go_len c.requires.served (omega arith) c.second.invariant.here c.saturating_sub-waiting-in-second.ensures in
+    second_more c.args.arrivals.now c.args.go.now c.second.i c.second.waiting _ c.requires.go_len c.requires.served
+    (omega arith) c.second.invariant.here c.saturating_sub-waiting-in-second.ensures in
     record {
-      small = let arrival = c.requires.arrivals_fit c.second.i 0 (omega arith) in omega (arith, c.saturating_sub-waiting-in-second.ensures);
+      small =
+          let arrival = c.requires.arrivals_fit c.second.i 0 (omega arith) in
+          omega (arith, c.saturating_sub-waiting-in-second.ensures);
       here = now ∙ sym (ap (queue_at c.args.arrivals.now c.args.go.now) (step_before-add_one _ c.second.i));
-      queue = below_more _ _ (λ k below. grind (arith, common_steps, c.second.invariant.queue k)) (grind (arith, common_steps));
-      out = below_more _ _ (λ k below. grind (arith, common_steps, c.second.invariant.out k)) (grind (arith, common_steps));
+      queue = below_more _ _ (λ k below. grind (arith, common_steps, c.second.invariant.queue k))
+          (grind (arith, common_steps));
+      out = below_more _ _ (λ k below. grind (arith, common_steps, c.second.invariant.out k))
+          (grind (arith, common_steps));
     }
 
 pub returns-clause-queue : goal.returns-clause-queue
@@ -70,13 +76,21 @@ returns-clause-kept c = λ i below.
 pub returns-clause-out_at_most_go : goal.returns-clause-out_at_most_go
 returns-clause-out_at_most_go c = λ i.
     elim (cases_lt i (length c.args.arrivals.now)) as (λ w. get_or c.second.out i 0 ≤ get_or c.args.go.now i 0) [
-      | inl below ↦ omega (arith, c.second.invariant.out i (omega arith), out-le-go c.args.arrivals.now c.args.go.now i c.requires.go_len c.requires.served below)
+      | inl below ↦
+          omega (
+            arith,
+            c.second.invariant.out i (omega arith),
+            out-le-go c.args.arrivals.now c.args.go.now i c.requires.go_len c.requires.served below,
+          )
       | inr past ↦ omega (arith, get_or_past c.second.out i 0 (omega arith))
     ]
 
 pub returns-clause-total : goal.returns-clause-total
 returns-clause-total c =
-    ap sum (fill_by_all (out_at c.args.arrivals.now c.args.go.now) c.second.out (length c.args.arrivals.now) 0 (omega arith) (λ k below. c.second.invariant.out k (omega arith)))
+    let out : ℕ → ℕ = out_at c.args.arrivals.now c.args.go.now in
+    let filled = fill_by_all out c.second.out (length c.args.arrivals.now) 0 (omega arith)
+    (λ k below. c.second.invariant.out k (omega arith)) in
+    ap sum filled
     ∙ outs_total c.args.arrivals.now c.args.go.now c.requires.steps c.requires.go_len c.requires.served
 
 pub returns-clause-queue_small : goal.returns-clause-queue_small
