@@ -1,0 +1,61 @@
+-- The figures of a link.
+use Rattle.std.specs.Prelude.{ℕ, ◌+◌, ◌-◌, ◌*◌, ◌/◌, ◌^◌, ◌<◌, ◌≤◌}
+use Rattle.std.specs.Int.{abs_diff}
+use Rattle.transyt_num.specs.Root.{root}
+use Rattle.transyt_delay.specs.Index.{index_of}
+use Rattle.transyt_delay.specs.declared.terms.Terms.{Terms}
+use Rattle.transyt_delay.specs.declared.terms.TermsFrame.{TermsFrame}
+use Rattle.transyt_delay.specs.declared.figures.Figures.{Figures}
+
+-- the limits that the figures need
+pub record InLimits (terms : Terms) : Type 0 where
+  pub arrivals : terms.arrivals < 2 ^ 55
+  pub room : terms.room < 2 ^ 55
+  pub queued : terms.queued < 2 ^ 55
+  pub stopped : terms.stopped < 2 ^ 55
+  pub cycle : 30 ≤ terms.frame.cycle
+  pub step_count : 0 < terms.frame.step_count
+  pub period : terms.frame.period ≤ 120
+  pub stop_penalty : terms.frame.stop_penalty ≤ 9999
+  pub delay_weight : terms.delay_weight ≤ 999
+  pub stop_weight : terms.stop_weight ≤ 999
+
+-- what a cycle's total comes to in the period, rounded down
+abbrev pub in_period : TermsFrame → ℕ → ℕ
+in_period frame total = 60 * frame.period * total / frame.cycle
+
+-- the number whose root the random delay takes, where x come in the period and y can go
+abbrev pub under_root : ℕ → ℕ → ℕ
+under_root x y = abs_diff x y * abs_diff x y + 4000000 * x
+
+-- The random delay where x come in the period and y can go. The root is never below y - x, so the difference never is
+-- below 0.
+abbrev pub random_delay : ℕ → ℕ → ℕ
+random_delay x y = (root (under_root x y) + x - y) / 4
+
+-- the mean queue over the steps, rounded down
+abbrev pub uniform_of : Terms → ℕ
+uniform_of terms = terms.queued / terms.frame.step_count
+
+-- the random delay of what comes, before any cut, and of what the green lets pass
+abbrev pub random_of : Terms → ℕ
+random_of terms = random_delay (in_period terms.frame terms.arrivals) (in_period terms.frame terms.room)
+
+-- stops per second, rounded down
+abbrev pub stops_of : Terms → ℕ
+stops_of terms = terms.stopped / terms.frame.cycle
+
+-- the index of a link from its terms
+abbrev pub link_index : Terms → ℕ
+link_index terms =
+    index_of (uniform_of terms) (random_of terms) (stops_of terms) terms.frame.stop_penalty terms.delay_weight
+    terms.stop_weight
+
+-- the figures of a link from its terms
+abbrev pub figures : Terms → Figures
+figures terms = record {
+  uniform = uniform_of terms;
+  random = random_of terms;
+  stops = stops_of terms;
+  index = link_index terms;
+}

@@ -1,0 +1,26 @@
+ghost use Rattle.std.specs.Prelude.{◌≡◌, ◌^◌, ◌<◌, ◌≤◌};
+ghost use Rattle.transyt_delay.specs.Index.{index_of};
+
+/// A link's part of the performance index: its weighted delay and its weighted stops, these rounded down.
+///
+/// `uniform` and `random` are delays and `stops` is a rate, in millionths as in `Figures`.
+pub fn weigh(
+    uniform: u64,
+    random: u64,
+    stops: u64,
+    stop_penalty: u32,
+    delay_weight: u32,
+    stop_weight: u32,
+) -> u128
+    requires uniform_fits { uniform < 2 ^ 63 }
+    requires random_fits { random < 2 ^ 63 }
+    requires stop_penalty_fits { stop_penalty ≤ 9999 }
+    requires delay_weight_fits { delay_weight ≤ 999 }
+    requires stop_weight_fits { stop_weight ≤ 999 }
+    ensures value { result ≡ index_of uniform random stops stop_penalty delay_weight stop_weight }
+    ensures small { result < 2 ^ 89 }
+{
+    let delay = u128::from(uniform) + u128::from(random);
+    let stopping = u128::from(stop_weight) * u128::from(stop_penalty) * u128::from(stops);
+    u128::from(delay_weight) * delay + stopping / 100
+}
