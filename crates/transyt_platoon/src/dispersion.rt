@@ -1,0 +1,58 @@
+//! The dispersion of a platoon.
+
+ghost use Rattle.std.specs.Prelude.{◌≡◌, ℕ, ◌+◌, ◌-◌, ◌*◌, ◌%◌, ◌^◌, ◌<◌, ◌≤◌, length, replicate, slice_index, All};
+ghost use Rattle.transyt_platoon.specs.Platoon.{mixed, smoothed, dispersed};
+
+use transyt_profile::total;
+
+/// Writes the profile of a platoon at the end of its travel, in units per step.
+///
+/// `x` and `out` hold one value for each step of the cycle, `t` is the travel time in steps and `percent` the
+/// dispersion. This is Robertson's recurrence of LR 253. That it starts from the mean, goes round the cycle
+/// twice and keeps the second turn, and rounds down at each step, is this project's own.
+pub fn disperse(x: &[u64], t: u32, percent: u32, out: &mut [u64])
+    requires steps { 0 < length x.now }
+    requires most { length x.now ≤ 120 }
+    requires lengths { length x.now ≡ length out.old }
+    requires fit { All (λ v. v < 2 ^ 44) x.now }
+    requires travel { t ≤ 960 }
+    requires percent { percent ≤ 100 }
+    ensures value { out.new ≡ dispersed x.now t percent }
+    // the value of each step of the second turn stands where t more steps lead
+    ensures by_step { (j : ℕ) → length x.now < j → j ≤ 2 * length x.now →
+        slice_index out.new ((j - 1 + t) % length x.now) ≡ smoothed x.now (percent * t) j }
+    ensures small { All (λ v. v < 2 ^ 44) out.new }
+    ensures uniform { (v : ℕ) → x.now ≡ replicate (length x.now) v → out.new ≡ x.now }
+{
+    let weight = u64::from(percent) * u64::from(t);
+    let mut value = total(x) / x.len() as u64;
+    'first: for i in 0..x.len() {
+        value = mix(weight, x[i], value);
+    }
+    let mut place = t as usize % x.len();
+    'second: for i in 0..x.len() {
+        value = mix(weight, x[i], value);
+        out[place] = value;
+        place = after(x.len(), place);
+    }
+}
+
+// what goes by in one step: 100 parts of what set out and `weight` parts of what went by before
+fn mix(weight: u64, starting: u64, before: u64) -> u64
+    requires weight { weight ≤ 96000 }
+    requires starting { starting < 2 ^ 44 }
+    requires before { before < 2 ^ 44 }
+    ensures value { result ≡ mixed weight starting before }
+    ensures small { result < 2 ^ 44 }
+{
+    (100 * starting + weight * before) / (100 + weight)
+}
+
+// the step after a step, round the cycle
+fn after(step_count: usize, step: usize) -> usize
+    requires { step < step_count }
+    ensures value { result ≡ (step + 1) % step_count }
+    ensures below { result < step_count }
+{
+    if step + 1 == step_count { 0 } else { step + 1 }
+}

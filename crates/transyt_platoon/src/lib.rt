@@ -1,0 +1,15 @@
+//! Platoons: how long a link's traffic travels, and how it spreads on its way.
+//!
+//! A profile is a slice of `u64`, one value for each step of the cycle in millionths of a vehicle per step,
+//! and a contract sees it as a list of numbers. Cite `dispersed` first, of `specs/Platoon`: the profile that
+//! arrives, as a function of the one that sets out. `travel_steps` there is the travel time in steps.
+#![tactic(auto)]
+
+mod dispersion;
+mod travel;
+
+pub use dispersion::disperse;
+pub use travel::travel_steps;
+
+#[cfg(test)]
+mod tests;
