@@ -6,7 +6,8 @@ use Rattle.transyt_platoon.specs.Platoon.{smoothed, dispersed, travel_steps}
 abbrev burst : List ℕ
 burst = 10000000 ∷ 0 ∷ 0 ∷ 0 ∷ 0 ∷ 0 ∷ 0 ∷ 0 ∷ 0 ∷ 0 ∷ []
 
-two_steps : dispersed burst 2 35 ≡ (4861 ∷ 2001 ∷ 5883234 ∷ 2422508 ∷ 997503 ∷ 410736 ∷ 169126 ∷ 69640 ∷ 28675 ∷ 11807 ∷ [])
+two_steps : dispersed burst 2 35
+    ≡ (4861 ∷ 2001 ∷ 5883234 ∷ 2422508 ∷ 997503 ∷ 410736 ∷ 169126 ∷ 69640 ∷ 28675 ∷ 11807 ∷ [])
 unfolding smoothed
 two_steps = refl
 
@@ -14,7 +15,8 @@ no_travel : dispersed burst 0 35 ≡ burst
 unfolding smoothed
 no_travel = refl
 
-past_the_cycle : dispersed burst 12 35 ≡ (406747 ∷ 328526 ∷ 2245734 ∷ 1813862 ∷ 1465042 ∷ 1183303 ∷ 955744 ∷ 771947 ∷ 623495 ∷ 503592 ∷ [])
+past_the_cycle : dispersed burst 12 35
+    ≡ (406747 ∷ 328526 ∷ 2245734 ∷ 1813862 ∷ 1465042 ∷ 1183303 ∷ 955744 ∷ 771947 ∷ 623495 ∷ 503592 ∷ [])
 unfolding smoothed
 past_the_cycle = refl
 

@@ -1,5 +1,5 @@
 -- Laws of the dispersion: what one step mixes, the smoothed profile, and where its values stand.
-use Rattle.std.proofs.Common.{◌≡◌, ℕ, zero, suc, ◌+◌, ◌-◌, ◌*◌, ◌/◌, ◌%◌, ◌<◌, ◌≤◌, List, length, get_or, replicate, refl, ap, sym, ◌∙◌, arith, sum, subst, set, ◌≢◌, get_or-set_same, get_or-set_other, below_more}
+use Rattle.std.proofs.Common.{◌≡◌, ℕ, zero, suc, ◌+◌, ◌-◌, ◌*◌, ◌/◌, ◌%◌, ◌<◌, ◌≤◌, List, length, get_or, replicate, refl, ap, sym, ◌∙◌, arith, sum, set, ◌≢◌, get_or-set_same, get_or-set_other, below_more}
 use Rattle.std.specs.List.{All}
 use Rattle.std.proofs.lemmas.List.{length-replicate, get_or-replicate, get_or_default}
 use Rattle.std.proofs.lemmas.List.Folds.{sum_by-replicate}
@@ -24,12 +24,14 @@ unfolding smoothed
 smoothed_none xs w = refl
 
 -- and goes on by mixing
-pub smoothed_suc : (xs : List ℕ) (w j : ℕ) → smoothed xs w (suc j) ≡ mixed w (get_or xs (j % length xs) 0) (smoothed xs w j)
+pub smoothed_suc : (xs : List ℕ) (w j : ℕ)
+    → smoothed xs w (suc j) ≡ mixed w (get_or xs (j % length xs) 0) (smoothed xs w j)
 unfolding smoothed
 smoothed_suc xs w j = refl
 
 -- step i of the first turn
-pub first_more : (xs : List ℕ) (w i z r : ℕ) → i < length xs → z ≡ smoothed xs w i → r ≡ mixed w (get_or xs i 0) z → r ≡ smoothed xs w (i + 1)
+pub first_more : (xs : List ℕ) (w i z r : ℕ) → i < length xs
+    → z ≡ smoothed xs w i → r ≡ mixed w (get_or xs i 0) z → r ≡ smoothed xs w (i + 1)
 first_more xs w i z r below before mix =
     let one : i + 1 ≡ suc i = omega arith in
     let place : i % length xs ≡ i = mod-eq_of_lt below in
@@ -37,7 +39,8 @@ first_more xs w i z r below before mix =
     rw (one, at, place, ← before) mix
 
 -- step i of the second turn
-pub second_more : (xs : List ℕ) (w i z r : ℕ) → i < length xs → z ≡ smoothed xs w (length xs + i) → r ≡ mixed w (get_or xs i 0) z → r ≡ smoothed xs w (length xs + 1 + i)
+pub second_more : (xs : List ℕ) (w i z r : ℕ) → i < length xs
+    → z ≡ smoothed xs w (length xs + i) → r ≡ mixed w (get_or xs i 0) z → r ≡ smoothed xs w (length xs + 1 + i)
 second_more xs w i z r below before mix =
     let one : length xs + 1 + i ≡ suc (length xs + i) = omega arith in
     let place : (length xs + i) % length xs ≡ i = add-mod_left (length xs) i ∙ mod-eq_of_lt below in
@@ -49,7 +52,8 @@ pub smoothed-le : (xs : List ℕ) (w j m : ℕ) → 0 < length xs → All (λ v.
 unfolding smoothed
 smoothed-le xs w zero m some within = div-le_of_le-mul (length xs) (sum_by-le (λ x. x) m xs within)
 smoothed-le xs w (suc j) m some within =
-    mixed-le w (get_or xs (j % length xs) 0) (smoothed xs w j) m (within (j % length xs) 0 (mod-lt j some)) (smoothed-le xs w j m some within)
+    let here : get_or xs (j % length xs) 0 ≤ m = within (j % length xs) 0 (mod-lt j some) in
+    mixed-le w (get_or xs (j % length xs) 0) (smoothed xs w j) m here (smoothed-le xs w j m some within)
 
 -- a profile that is the same at each step stays so
 pub smoothed_uniform : (n v w j : ℕ) → 0 < n → smoothed (replicate n v) w j ≡ v
@@ -68,56 +72,71 @@ dispersed_uniform xs t k v some same =
     sym (fill_by_all (dispersed_at xs t k) xs (length xs) 0 refl
     (λ i below.
     let j : ℕ = length xs + 1 + minus_mod (length xs) i t in
-    let here : smoothed xs (k * t) j ≡ v = subst (λ (ys : List ℕ). smoothed ys (k * t) j ≡ v) (sym same) (smoothed_uniform (length xs) v (k * t) j some) in
-    let there : get_or xs i 0 ≡ v = subst (λ (ys : List ℕ). get_or ys i 0 ≡ v) (sym same) (get_or-replicate (length xs) i v 0 below) in
+    let here : smoothed xs (k * t) j ≡ v =
+    ap (λ ys. smoothed ys (k * t) j) same ∙ smoothed_uniform (length xs) v (k * t) j some in
+    let there : get_or xs i 0 ≡ v = ap (λ ys. get_or ys i 0) same ∙ get_or-replicate (length xs) i v 0 below in
     there ∙ sym here))
 
 -- ys has the first n steps of the second turn in their places
 abbrev pub Placed : List ℕ → List ℕ → ℕ → ℕ → ℕ → Type 0
-Placed xs ys t k n = (m : ℕ) → m < n → get_or ys ((m + t) % length xs) 0 ≡ smoothed xs (k * t) (length xs + 1 + m)
+Placed xs ys t k n =
+    (m : ℕ) → m < n → get_or ys ((m + t) % length xs) 0 ≡ smoothed xs (k * t) (length xs + 1 + m)
 
 -- with the whole turn placed, step i has what the definition says
-pub placed_at : (xs ys : List ℕ) (t k i : ℕ) → Placed xs ys t k (length xs) → i < length xs → get_or ys i 0 ≡ dispersed_at xs t k i
+pub placed_at : (xs ys : List ℕ) (t k i : ℕ) → Placed xs ys t k (length xs) → i < length xs
+    → get_or ys i 0 ≡ dispersed_at xs t k i
 placed_at xs ys t k i placed below =
     let some : 0 < length xs = omega arith in
     let m : ℕ = minus_mod (length xs) i t in
     let place : (m + t) % length xs ≡ i = minus_mod-add (length xs) i t some ∙ mod-eq_of_lt below in
-    subst (λ (n : ℕ). get_or ys n 0 ≡ smoothed xs (k * t) (length xs + 1 + m)) place (placed m (minus_mod-lt (length xs) i t some))
+    ap (λ n. get_or ys n 0) (sym place) ∙ placed m (minus_mod-lt (length xs) i t some)
 
 -- and the profile is the definition's
-pub placed_all : (xs ys : List ℕ) (t k : ℕ) → length ys ≡ length xs → Placed xs ys t k (length xs) → ys ≡ dispersed xs t k
-placed_all xs ys t k same placed = fill_by_all (dispersed_at xs t k) ys (length xs) 0 same (λ i below. placed_at xs ys t k i placed below)
+pub placed_all : (xs ys : List ℕ) (t k : ℕ)
+    → length ys ≡ length xs → Placed xs ys t k (length xs) → ys ≡ dispersed xs t k
+placed_all xs ys t k same placed =
+    fill_by_all (dispersed_at xs t k) ys (length xs) 0 same (λ i below. placed_at xs ys t k i placed below)
 
 -- counted through both turns
-pub placed_by_step : (xs ys : List ℕ) (t k j : ℕ) → Placed xs ys t k (length xs) → length xs < j → j ≤ 2 * length xs → get_or ys ((j - 1 + t) % length xs) 0 ≡ smoothed xs (k * t) j
+pub placed_by_step : (xs ys : List ℕ) (t k j : ℕ) → Placed xs ys t k (length xs)
+    → length xs < j → j ≤ 2 * length xs → get_or ys ((j - 1 + t) % length xs) 0 ≡ smoothed xs (k * t) j
 placed_by_step xs ys t k j placed low high =
     let m : ℕ = j - 1 - length xs in
     let turn : j - 1 + t ≡ length xs + (m + t) = omega arith in
     let same : length xs + 1 + m ≡ j = omega arith in
-    ap (λ n. get_or ys (n % length xs) 0) turn ∙ ap (λ n. get_or ys n 0) (add-mod_left (length xs) (m + t)) ∙ placed m (omega arith)
-    ∙ ap (smoothed xs (k * t)) same
+    ap (λ n. get_or ys (n % length xs) 0) turn ∙ ap (λ n. get_or ys n 0) (add-mod_left (length xs) (m + t))
+    ∙ placed m (omega arith) ∙ ap (smoothed xs (k * t)) same
 
 -- no value is past the bound of the profile that set out
-pub placed_small : (xs ys : List ℕ) (t k b : ℕ) → length ys ≡ length xs → Placed xs ys t k (length xs) → All (λ v. v < b) xs → All (λ v. v < b) ys
+pub placed_small : (xs ys : List ℕ) (t k b : ℕ) → length ys ≡ length xs → Placed xs ys t k (length xs)
+    → All (λ v. v < b) xs → All (λ v. v < b) ys
 placed_small xs ys t k b same placed small i d within =
     let below : i < length xs = omega arith in
-    let some : get_or xs i 0 < b = small i 0 below in
+    let j : ℕ = length xs + 1 + minus_mod (length xs) i t in
+    let positive : get_or xs i 0 < b = small i 0 below in
+    let most : All (λ v. v ≤ b - 1) xs = λ n f l. omega (arith, small n f l) in
     omega (
       arith,
       get_or_default ys i d 0 within,
       placed_at xs ys t k i placed below,
-      smoothed-le xs (k * t) (length xs + 1 + minus_mod (length xs) i t) (b - 1) (omega arith) (λ n f l. omega (arith, small n f l)),
+      smoothed-le xs (k * t) j (b - 1) (omega arith) most,
     )
 
 -- one step more placed; those before stand elsewhere
-pub placed_more : (xs ys : List ℕ) (t k n p r : ℕ) → n < length xs → length ys ≡ length xs → p ≡ (n + t) % length xs → Placed xs ys t k n → r ≡ smoothed xs (k * t) (length xs + 1 + n) → Placed xs (set ys p r) t k (n + 1)
-placed_more xs ys t k n p r below same place placed here = below_more _ _
-    (λ m l.
-    let apart : (m + t) % length xs ≢ p = λ q. let one : m ≡ n = turned_apart (length xs) m n t (omega arith) below (q ∙ place) in omega arith in
-    rw get_or-set_other (placed m l))
-    (let within : p < length ys = omega (arith, mod-lt (n + t) {m = length xs} (omega arith)) in rw (← place, get_or-set_same) here)
+pub placed_more : (xs ys : List ℕ) (t k n p r : ℕ) → n < length xs → length ys ≡ length xs
+    → p ≡ (n + t) % length xs → Placed xs ys t k n → r ≡ smoothed xs (k * t) (length xs + 1 + n)
+    → Placed xs (set ys p r) t k (n + 1)
+placed_more xs ys t k n p r below same place placed here =
+    let within : p < length ys = omega (arith, mod-lt (n + t) {m = length xs} (omega arith)) in
+    below_more _ _
+    (λ m before.
+    let apart : (m + t) % length xs ≢ p = λ taken.
+    let one : m ≡ n = turned_apart (length xs) m n t (omega arith) below (taken ∙ place) in omega arith in
+    rw get_or-set_other (placed m before))
+    (rw (← place, get_or-set_same) here)
 
 -- the place after that of step n
 pub place_more : (l n t p r : ℕ) → p ≡ (n + t) % l → r ≡ (p + 1) % l → r ≡ (n + 1 + t) % l
 place_more l n t p r place next =
-    let turn : n + t + 1 ≡ n + 1 + t = omega arith in next ∙ ap (λ k. (k + 1) % l) place ∙ mod-add-mod (n + t) l 1 ∙ ap (λ k. k % l) turn
+    let turn : n + t + 1 ≡ n + 1 + t = omega arith in
+    next ∙ ap (λ k. (k + 1) % l) place ∙ mod-add-mod (n + t) l 1 ∙ ap (λ k. k % l) turn
