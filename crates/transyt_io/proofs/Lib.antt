@@ -1,0 +1,5 @@
+pub mod Copies
+pub mod Lines
+pub mod Reading
+pub mod Told
+pub mod WordParts

@@ -1,0 +1,255 @@
+-- The calls of `next`, by what was gathered.
+use Rattle.std.proofs.Common.{◌≡◌, ◌≢◌, ◌<◌, ◌≤◌, ◌⊎◌, inl, inr, ℕ, suc, ◌+◌, ◌++◌, Bool, true, false, List, [], ◌∷◌, map, Option, Some, Ok, Err, Result, IfSome, length, take, refl, sym, ◌∙◌, ap, subst, arith, append_assoc, length-append}
+use Rattle.std.proofs.lemmas.List.{append-nil, take_at}
+use Rattle.std.specs.List.{between}
+use Rattle.transyt_io.specs.declared.reader.Line.TheVariants.{Text, End}
+use Rattle.transyt_io.specs.declared.reader.ReadStop.TheVariants.{Fault, TooLong}
+use Rattle.transyt_io.specs.Lines.{line_of, lines_by, lines, whole, has_end}
+use Rattle.transyt_io.specs.Model.{Reading}
+use Rattle.transyt_io.specs.Reading.{Stands, Took}
+use Rattle.transyt_io.specs.Streams.{Takes, IsAtEnd}
+use Rattle.transyt_io.specs.Gather.{Gathers}
+use Rattle.transyt_io.specs.Pull.{Pulled}
+use Rattle.transyt_io.specs.declared.reader.Pull.{Pull}
+use Rattle.transyt_io.specs.declared.reader.ReadStop.{ReadStop}
+use Rattle.transyt_io.proofs.Lines.{no_whole, open_line}
+
+-- after a call that left the line in the middle, all whole lines were handed out
+pub all_given : (old : Reading) (left : Option (List ℕ)) (front taken : List ℕ) (given : List (List ℕ))
+    → old.ended ≡ false
+    → has_end (old.held ++ front) ≡ false → Stands old left taken given → given ≡ whole (taken ++ front)
+all_given old left front taken given going none stands =
+    let told : whole (taken ++ front) ≡ given ++ whole (old.held ++ front) =
+    stands.to_come false front (λ over. absurd (let h : true ≡ false = sym over ∙ going in cc)) in
+    sym (told ∙ ap (λ (ls : List (List ℕ)). given ++ map line_of ls) (no_whole (old.held ++ front) none)
+    ∙ append-nil given)
+
+-- a line that ended was handed out
+pub hand_on : (old new : Reading) (left left_new : Option (List ℕ)) (got line taken : List ℕ) (given : List (List ℕ))
+    → old.ended ≡ false → new.ended ≡ false → new.taken ≡ old.taken + length got
+    → length new.held < length old.held + length got
+    → ((keep : Bool) (ys : List ℕ) → lines_by keep ((old.held ++ got) ++ ys) ≡ line ∷ lines_by keep (new.held ++ ys))
+    → Stands old left taken given → Stands new left_new (taken ++ got) (given ++ line ∷ [])
+hand_on old new left left_new got line taken given going goes count fewer ends stands =
+    let lengths : length (taken ++ got) ≡ length taken + length got = length-append taken got in
+    let longer : length (given ++ line ∷ []) ≡ length given + 1 = length-append given (line ∷ []) in
+    let had : old.taken ≡ length taken = stands.count in
+    let few : length given + length old.held ≤ length taken = stands.few in
+    record {
+      count = omega arith;
+      to_come = λ keep ys _.
+          ap (lines_by keep) (append_assoc taken got ys)
+          ∙ stands.to_come keep (got ++ ys) (λ over. absurd (let h : true ≡ false = sym over ∙ going in cc))
+          ∙ ap (λ (xs : List ℕ). given ++ lines_by keep xs) (sym (append_assoc old.held got ys))
+          ∙ ap (λ (ls : List (List ℕ)). given ++ ls) (ends keep ys)
+          ∙ sym (append_assoc given (line ∷ []) (lines_by keep (new.held ++ ys)));
+      at_end = λ over. absurd (let h : true ≡ false = sym over ∙ goes in cc);
+      few = omega arith;
+    }
+
+open_lines : (raw : List ℕ) → has_end raw ≡ false → raw ≢ [] → lines raw ≡ line_of raw ∷ []
+open_lines [] none some = absurd (some refl)
+open_lines (b ∷ bs) none some = ap (map line_of) (open_line b bs none)
+
+some_length : (xs : List ℕ) → xs ≢ [] → 0 < length xs
+some_length [] h = absurd (h refl)
+some_length (x ∷ xs) h = omega arith
+
+-- the last line was handed out
+pub hand_last : (old new : Reading) (left left_new : Option (List ℕ)) (got taken : List ℕ) (given : List (List ℕ))
+    → old.ended ≡ false → new.ended ≡ true → new.held ≡ [] → new.taken ≡ old.taken + length got → IsAtEnd left_new
+    → has_end (old.held ++ got) ≡ false → old.held ++ got ≢ []
+    → Stands old left taken given → Stands new left_new (taken ++ got) (given ++ line_of (old.held ++ got) ∷ [])
+hand_last old new left left_new got taken given going ended empty count at_end none some stands =
+    let line = line_of (old.held ++ got) in
+    let lengths : length (taken ++ got) ≡ length taken + length got = length-append taken got in
+    let longer : length (given ++ line ∷ []) ≡ length given + 1 = length-append given (line ∷ []) in
+    let long : length (old.held ++ got) ≡ length old.held + length got = length-append old.held got in
+    let had : old.taken ≡ length taken = stands.count in
+    let few : length given + length old.held ≤ length taken = stands.few in
+    let positive : 0 < length (old.held ++ got) = some_length (old.held ++ got) some in
+    let nothing : length new.held ≡ 0 = ap length empty in
+    let all : lines (taken ++ got) ≡ given ++ line ∷ [] =
+    stands.to_come true got (λ over. absurd (let h : true ≡ false = sym over ∙ going in cc))
+    ∙ ap (λ (ls : List (List ℕ)). given ++ ls) (open_lines (old.held ++ got) none some) in
+    record {
+      count = omega arith;
+      to_come = λ keep ys end.
+          let nil : (zs : List ℕ) → new.held ++ zs ≡ zs = λ zs. ap (λ (xs : List ℕ). xs ++ zs) empty in
+          let P : List ℕ → Type 0 =
+          λ zs. lines_by true ((taken ++ got) ++ zs) ≡ (given ++ line ∷ []) ++ lines_by true (new.held ++ zs) in
+          let here : P [] =
+          ap (lines_by true) (append-nil (taken ++ got)) ∙ all ∙ sym (append-nil (given ++ line ∷ []))
+          ∙ ap (λ (xs : List ℕ). (given ++ line ∷ []) ++ lines_by true xs) (sym (nil [])) in
+          let parts = end ended in
+          let there : P ys = subst P (sym parts.1) here in
+          let Q : Bool → Type 0 =
+          λ k. lines_by k ((taken ++ got) ++ ys) ≡ (given ++ line ∷ []) ++ lines_by k (new.held ++ ys) in
+          subst Q (sym parts.0) there;
+      at_end = λ _. at_end;
+      few = omega arith;
+    }
+
+pub nothing_kept : (n : ℕ) (xs : List ℕ) → take (suc n) xs ≡ [] → xs ≡ []
+nothing_kept n [] h = refl
+nothing_kept n (x ∷ xs) h = cc
+
+-- what every call that read tells of its reads
+abbrev pub Reads : Reading → Option (List ℕ) → Option ℕ → Option ℕ → List ℕ → List ℕ → Type 0
+Reads old left last last_new front back =
+    ((front ≡ []) × (back ≡ []) × (last_new ≡ last))
+    ⊎ (IfSome last_new (λ n. n ≡ length back) × ((taken : List ℕ) (given : List (List ℕ))
+    → Stands old left taken given → given ≡ whole (taken ++ front)))
+
+-- a line ended
+pub took_line : (old new : Reading) (left left_new : Option (List ℕ)) (last last_new : Option ℕ)
+    (front back line : List ℕ)
+    → old.ended ≡ false → new.ended ≡ false → new.line ≡ Some line → new.taken ≡ old.taken + length (front ++ back)
+    → length new.held < length old.held + length (front ++ back)
+    → Takes left left_new (front ++ back) → Reads old left last last_new front back
+    → ((keep : Bool) (ys : List ℕ)
+    → lines_by keep ((old.held ++ (front ++ back)) ++ ys) ≡ line ∷ lines_by keep (new.held ++ ys))
+    → Took old new left left_new last last_new (Ok Text)
+took_line old new left left_new last last_new front back line going goes told count fewer takes reads ends = record {
+  front = front;
+  back = back;
+  takes = takes;
+  reads = reads;
+  says = λ taken given stands. record {
+    line = line;
+    now = told;
+    stands = hand_on old new left left_new (front ++ back) line taken given going goes count fewer ends stands;
+  };
+}
+
+-- the source ended behind a last line
+pub took_last : (old new : Reading) (left left_new : Option (List ℕ)) (last last_new : Option ℕ)
+    (front back line : List ℕ)
+    → old.ended ≡ false → new.ended ≡ true → new.held ≡ [] → new.line ≡ Some line
+    → line ≡ line_of (old.held ++ (front ++ back)) → new.taken ≡ old.taken + length (front ++ back)
+    → IsAtEnd left_new → has_end (old.held ++ (front ++ back)) ≡ false → old.held ++ (front ++ back) ≢ []
+    → Takes left left_new (front ++ back) → Reads old left last last_new front back
+    → Took old new left left_new last last_new (Ok Text)
+took_last old new left left_new last last_new front back line
+    going ended empty told is count at_end none some takes reads = record {
+      front = front;
+      back = back;
+      takes = takes;
+      reads = reads;
+      says = λ taken given stands. record {
+        line = line_of (old.held ++ (front ++ back));
+        now = told ∙ ap Some is;
+        stands = hand_last old new left left_new (front ++ back) taken given
+            going ended empty count at_end none some stands;
+      };
+    }
+
+-- the source ended and no line is left
+pub took_end : (old new : Reading) (left left_new : Option (List ℕ)) (last last_new : Option ℕ)
+    (front back : List ℕ)
+    → old.ended ≡ false → IsAtEnd left_new → old.held ++ (front ++ back) ≡ []
+    → old.taken + length (front ++ back) ≤ 4194304
+    → Takes left left_new (front ++ back) → Reads old left last last_new front back
+    → Took old new left left_new last last_new (Ok End)
+took_end old new left left_new last last_new front back going at_end none most takes reads = record {
+  front = front;
+  back = back;
+  takes = takes;
+  reads = reads;
+  says = λ taken given stands.
+      let had : old.taken ≡ length taken = stands.count in
+      let size : length (taken ++ (front ++ back)) ≡ length taken + length (front ++ back) =
+      length-append taken (front ++ back) in
+      let told : lines (taken ++ (front ++ back)) ≡ given ++ lines (old.held ++ (front ++ back)) =
+      stands.to_come true (front ++ back) (λ over. absurd (let h : true ≡ false = sym over ∙ going in cc)) in
+      (sym (told ∙ ap (λ (xs : List ℕ). given ++ lines xs) none ∙ append-nil given), at_end, omega arith);
+}
+
+-- the source failed
+pub took_fault : (old new : Reading) (left left_new : Option (List ℕ)) (last last_new : Option ℕ)
+    (front back : List ℕ)
+    → old.ended ≡ false → back ≡ [] → old.taken + length front ≤ 4194304 → has_end (old.held ++ front) ≡ false
+    → Takes left left_new (front ++ back) → Reads old left last last_new front back
+    → Took old new left left_new last last_new (Err Fault)
+took_fault old new left left_new last last_new front back going nothing most none takes reads = record {
+  front = front;
+  back = back;
+  takes = takes;
+  reads = reads;
+  says = λ taken given stands.
+      let had : old.taken ≡ length taken = stands.count in
+      let size : length (taken ++ (front ++ back)) ≡ length taken + length (front ++ back) =
+      length-append taken (front ++ back) in
+      let both : length (front ++ back) ≡ length front + length back = length-append front back in
+      let no_back : length back ≡ 0 = ap length nothing in
+      let all : front ≡ front ++ back = sym (append-nil front) ∙ ap (λ (xs : List ℕ). front ++ xs) (sym nothing) in
+      let given_is = all_given old left front taken given going none stands in
+      (given_is ∙ ap (λ (xs : List ℕ). whole (taken ++ xs)) all, omega arith);
+}
+
+-- one byte too many came
+pub took_too_long : (old new : Reading) (left left_new : Option (List ℕ)) (last last_new : Option ℕ)
+    (front back : List ℕ)
+    → old.ended ≡ false → length back ≡ 1 → old.taken + length front ≡ 4194304 → has_end (old.held ++ front) ≡ false
+    → Takes left left_new (front ++ back) → Reads old left last last_new front back
+    → Took old new left left_new last last_new (Err TooLong)
+took_too_long old new left left_new last last_new front back going one most none takes reads = record {
+  front = front;
+  back = back;
+  takes = takes;
+  reads = reads;
+  says = λ taken given stands.
+      let had : old.taken ≡ length taken = stands.count in
+      let first : length (taken ++ front) ≡ length taken + length front = length-append taken front in
+      let second : length (front ++ back) ≡ length front + length back = length-append front back in
+      let all : length (taken ++ (front ++ back)) ≡ length taken + length (front ++ back) =
+      length-append taken (front ++ back) in
+      let parts : taken ++ (front ++ back) ≡ (taken ++ front) ++ back = sym (append_assoc taken front back) in
+      let cut_off : take 4194304 (taken ++ (front ++ back)) ≡ taken ++ front =
+      ap (λ (xs : List ℕ). take 4194304 xs) parts ∙ take_at (taken ++ front) back 4194304 (omega arith) in
+      (omega arith, all_given old left front taken given going none stands ∙ ap whole (sym cut_off));
+}
+
+-- the reads of a call that read on
+pub pulled_reads : (old : Reading) (line line_new block : List ℕ) (taken taken_new : ℕ)
+    (left left_new : Option (List ℕ)) (last last_new : Option ℕ) (result : Result (Option Pull) ReadStop)
+    → old.ended ≡ false → Gathers line old.held
+    → (p : Pulled line line_new block taken taken_new left left_new last_new result)
+    → Reads old left last last_new p.front p.back
+pulled_reads old line line_new block taken taken_new left left_new last last_new result going first p =
+    let none = p.no_end old.held first in
+    inr (p.last_read, λ taken given stands. all_given old left p.front taken given going none stands)
+
+pub not_both : (a b : Bool) → a ≡ false → b ≡ false → (a ≡ true) ⊎ (b ≡ true) → ⊥
+not_both a b h k (inl e) = cc
+not_both a b h k (inr e) = cc
+
+-- what stopped a call that read on
+pub took_stop : (old new : Reading) (line line_new block : List ℕ) (taken taken_new : ℕ)
+    (left left_new : Option (List ℕ)) (last last_new : Option ℕ) (stop : ReadStop)
+    → old.ended ≡ false → Gathers line old.held → taken ≡ old.taken
+    → Pulled line line_new block taken taken_new left left_new last_new (Err stop)
+    → Took old new left left_new last last_new (Err stop)
+took_stop old new line line_new block taken taken_new left left_new last last_new Fault going first had p =
+    let most : taken + length p.front ≤ 4194304 = p.answer.1 in
+    let few : old.taken + length p.front ≤ 4194304 = omega arith in
+    took_fault old new left left_new last last_new p.front p.back going p.answer.0 few (p.no_end old.held first) p.takes
+    (pulled_reads old line line_new block taken taken_new left left_new last last_new (Err Fault) going first p)
+took_stop old new line line_new block taken taken_new left left_new last last_new TooLong going first had p =
+    let most : taken + length p.front ≡ 4194304 = p.answer.1 in
+    took_too_long old new left left_new last last_new p.front p.back going p.answer.0 (omega arith)
+    (p.no_end old.held first) p.takes
+    (pulled_reads old line line_new block taken taken_new left left_new last last_new (Err TooLong) going first p)
+
+pub empty_list : {X : Type 0} → (xs : List X) → length xs ≡ 0 → xs ≡ []
+empty_list [] h = refl
+empty_list (x ∷ xs) h = absurd (omega arith)
+
+-- what is held belongs to the line, where it has no line end
+pub held_first : (old : Reading) (at upto : ℕ) (block seen line line_new : List ℕ) → between at upto block ≡ old.held
+    → seen ≡ block → line ≡ []
+    → ((raw : List ℕ) → Gathers line raw → Gathers line_new (raw ++ between at upto seen)) → Gathers line_new old.held
+held_first old at upto block seen line line_new held same empty gathered =
+    let P : List ℕ → Type 0 = λ xs. Gathers line_new xs in
+    let nothing : Gathers line [] = record { first = empty; open_yet = refl } in
+    subst P (ap (λ (xs : List ℕ). between at upto xs) same ∙ held) (gathered [] nothing)

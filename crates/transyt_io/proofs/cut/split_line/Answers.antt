@@ -1,0 +1,28 @@
+use Rattle.std.proofs.Common.{◌≡◌, ℕ, ◌+◌, ◌∷◌, List, true, false, length, take, slice_index, sym, ap, ◌∙◌, arith}
+use Rattle.std.proofs.lemmas.Slice.{between_to_end}
+use Rattle.std.proofs.lemmas.List.{drop_all, take_all}
+use Rattle.std.proofs.lemmas.Bool.{eqb-true}
+use Rattle.transyt_io.specs.Lines.{cut, has_end}
+use Rattle.transyt_io.proofs.Lines.{cut_at, cut_open, no_end_before}
+use Rattle.transyt_io.proofs.cut.split_line.Goals as goal
+
+-- the place that was found is that of the first line end
+pub returns-in-Some-clause-cut : goal.returns-in-Some-clause-cut
+returns-in-Some-clause-cut c =
+    let bytes = c.args.bytes.now in
+    let i = c.in-Some.at in
+    let found = c.in-Some.ensures in
+    let here : slice_index bytes i ≡ 10 = eqb-true (slice_index bytes i) 10 found.1 in
+    cut_at true bytes i found.0.high (λ k below. found.0.before k (omega arith) below) here
+    ∙ ap (λ (l : List ℕ). take i bytes ∷ cut true l) (sym (between_to_end bytes (i + 1) (length bytes) (omega arith)))
+
+-- with no line end all bytes are one part
+pub returns-in-None-clause-cut : goal.returns-in-None-clause-cut
+returns-in-None-clause-cut c =
+    let bytes = c.args.bytes.now in
+    let none : has_end bytes ≡ false =
+    sym (ap has_end (take_all (length bytes) bytes (omega arith)))
+    ∙ no_end_before (length bytes) bytes (λ k below. c.in-None.ensures k (omega arith) below) (omega arith) in
+    cut_open bytes c.requires none
+    ∙ ap (λ (l : List ℕ). bytes ∷ cut true l) (sym (between_to_end bytes (length bytes) (length bytes) (omega arith)
+    ∙ drop_all (length bytes) bytes (omega arith)))

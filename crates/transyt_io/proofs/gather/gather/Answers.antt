@@ -1,0 +1,38 @@
+use Rattle.std.proofs.Common.{◌≡◌, ◌∙◌, ◌+◌, sym, arith, ap, List, ℕ, false, length, take, drop, slice_index, ◌++◌, ◌∷◌}
+use Rattle.std.proofs.lemmas.List.{take_all}
+use Rattle.std.proofs.lemmas.Bool.{eqb-true}
+use Rattle.transyt_io.specs.Lines.{line_of, lines_by, has_end}
+use Rattle.transyt_io.proofs.Lines.{no_end_before, no_end_more, kept_more, line_of_kept, gathered_line, length_kept, length_line}
+use Rattle.transyt_io.proofs.gather.gather.Goals as goal
+
+pub returns-in_default-clause-kept : goal.returns-in_default-clause-kept
+returns-in_default-clause-kept c = rw c.keep.ensures.line (length_kept 4098 (c.args.line.now.items ++ c.args.piece.now))
+
+pub returns-in_default-clause-gathered : goal.returns-in_default-clause-gathered
+returns-in_default-clause-gathered c raw h =
+    let piece = c.args.piece.now in
+    let none : has_end piece ≡ false =
+    sym (ap has_end (take_all (length piece) piece (omega arith)))
+    ∙ no_end_before (length piece) piece
+    (λ k below. (rw c.in_default.is at c.memchr.ensures) k (omega arith) below) (omega arith) in
+    record {
+      first = c.keep.ensures.line ∙ ap (λ (xs : List ℕ). take 4098 (xs ++ piece)) h.first ∙ kept_more 4098 raw piece;
+      open_yet = no_end_more raw piece h.open_yet none;
+    }
+
+pub returns-clause-kept : goal.returns-clause-kept
+returns-clause-kept c = rw c.close.ensures.line (length_line c.keep-2.new.line.items)
+
+pub returns-clause-gathered : goal.returns-clause-gathered
+returns-clause-gathered c raw h keep ys =
+    let piece = c.args.piece.now in
+    let at = c.in-Some.at in
+    let found = c.in-Some.ensures in
+    let here : slice_index piece at ≡ 10 = eqb-true (slice_index piece at) 10 found.1 in
+    let line : c.close.new.line.items ≡ line_of (raw ++ take at piece) =
+    c.close.ensures.line
+    ∙ ap line_of (c.keep-2.ensures.line ∙ ap (λ (xs : List ℕ). take 4098 (xs ++ take at piece)) h.first
+    ∙ kept_more 4098 raw (take at piece))
+    ∙ line_of_kept (raw ++ take at piece) in
+    gathered_line raw piece ys at keep h.open_yet found.0.high (λ k below. found.0.before k (omega arith) below) here
+    ∙ ap (λ (l : List ℕ). l ∷ lines_by keep (drop (at + 1) piece ++ ys)) (sym line)

@@ -1,0 +1,9 @@
+use Rattle.std.proofs.Common.{◌≡◌, true}
+use Rattle.transyt_io.specs.Reading.{turns_left}
+use Rattle.transyt_io.proofs.tests.read_text.Given as goal
+
+abbrev pub invariant-loop-reader : goal.invariant-loop-reader
+invariant-loop-reader g l = l.reader.live ≡ true
+
+abbrev pub decreases-loop-reader : goal.decreases-loop-reader
+decreases-loop-reader g l = turns_left l.reader

@@ -1,0 +1,9 @@
+use Rattle.std.proofs.Common.{◌≡◌, ◌≤◌, length}
+use Rattle.transyt_io.specs.Lines.{words}
+use Rattle.transyt_io.proofs.words.next_word.Given as goal
+
+abbrev pub invariant-loop-rest : goal.invariant-loop-rest
+invariant-loop-rest l = record { same : words l.rest ≡ words l.line; less : length l.rest ≤ length l.line }
+
+abbrev pub decreases-loop-rest : goal.decreases-loop-rest
+decreases-loop-rest l = length l.rest

@@ -1,0 +1,7 @@
+pub mod Gather
+pub mod Lines
+pub mod Memory
+pub mod Model
+pub mod Pull
+pub mod Reading
+pub mod Streams

@@ -1,0 +1,63 @@
+-- What a line reader took and handed out, and what a call of `next` does to both.
+use Rattle.std.specs.Prelude.{◌≡◌, ◌≤◌, ◌⊎◌, ℕ, ◌+◌, ◌-◌, ◌*◌, ◌++◌, List, [], ◌∷◌, Bool, true, false, Option, Some, None, Result, Ok, Err, IfSome, MatchResult, length, take}
+use Rattle.transyt_io.specs.declared.reader.Line.{Line}
+use Rattle.transyt_io.specs.declared.reader.Line.TheVariants.{Text, End}
+use Rattle.transyt_io.specs.declared.reader.ReadStop.{ReadStop}
+use Rattle.transyt_io.specs.declared.reader.ReadStop.TheVariants.{Fault, TooLong}
+use Rattle.transyt_io.specs.Lines.{lines_by, lines, whole}
+use Rattle.transyt_io.specs.Streams.{Takes, IsAtEnd}
+use Rattle.transyt_io.specs.Model.{Reading}
+
+-- The reader took these bytes and handed out these lines: before the lines of what it holds and of whatever comes
+-- behind, they are the lines of all. That holds of the whole lines and of all lines; after the end, of all lines.
+pub record Stands (reading : Reading) (left : Option (List ℕ)) (taken : List ℕ) (given : List (List ℕ)) : Type 0 where
+  pub count : reading.taken ≡ length taken
+  pub to_come : (keep : Bool) (ys : List ℕ) → (reading.ended ≡ true → (keep ≡ true) × (ys ≡ []))
+      → lines_by keep (taken ++ ys) ≡ given ++ lines_by keep (reading.held ++ ys)
+  pub at_end : reading.ended ≡ true → IsAtEnd left
+  pub few : length given + length reading.held ≤ length taken
+
+-- a line was handed out
+pub record HandedOut (reading : Reading) (left : Option (List ℕ)) (taken : List ℕ)
+    (given : List (List ℕ)) : Type 0 where
+  pub line : List ℕ
+  pub now : reading.line ≡ Some line
+  pub stands : Stands reading left taken (given ++ line ∷ [])
+
+-- what an answer says of all bytes taken and of the lines handed out before this call
+abbrev pub AnswerSays : Reading → Option (List ℕ) → List ℕ → List (List ℕ) → Line → Type 0
+AnswerSays reading left taken given Text = HandedOut reading left taken given
+AnswerSays reading left taken given End = (given ≡ lines taken) × IsAtEnd left × (length taken ≤ 4194304)
+
+-- what a stop says of them: all whole lines were handed out, at TooLong those of the first 4,194,304 bytes
+abbrev pub StopSays : List ℕ → List (List ℕ) → ReadStop → Type 0
+StopSays taken given Fault = (given ≡ whole taken) × (length taken ≤ 4194304)
+StopSays taken given TooLong = (length taken ≡ 4194305) × (given ≡ whole (take 4194304 taken))
+
+-- No read, or some: then front was taken, and then back by the last read, before which all whole lines were handed out.
+pub record Took (old new : Reading) (left left_new : Option (List ℕ)) (last last_new : Option ℕ)
+    (result : Result Line ReadStop) : Type 0 where
+  pub front : List ℕ
+  pub back : List ℕ
+  pub takes : Takes left left_new (front ++ back)
+  pub reads : ((front ≡ []) × (back ≡ []) × (last_new ≡ last))
+      ⊎ (IfSome last_new (λ n. n ≡ length back) × ((taken : List ℕ) (given : List (List ℕ))
+      → Stands old left taken given → given ≡ whole (taken ++ front)))
+  pub says : (taken : List ℕ) (given : List (List ℕ)) → Stands old left taken given
+      → MatchResult result
+      (AnswerSays new left_new (taken ++ (front ++ back)) given)
+      (StopSays (taken ++ (front ++ back)) given)
+
+-- a bound on how many lines may still be handed out, for a caller's measure
+abbrev pub turns_left : Reading → ℕ
+turns_left reading = 2 * (4194305 - reading.taken) + length reading.held
+
+-- a reader that has taken nothing
+abbrev pub new_reading : Reading
+new_reading = record { taken = 0; held = []; ended = false; live = true; line = None }
+
+-- the answer is a line
+abbrev pub is_text : Result Line ReadStop → Bool
+is_text (Ok Text) = true
+is_text (Ok End) = false
+is_text (Err stop) = false

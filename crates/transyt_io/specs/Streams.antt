@@ -1,0 +1,51 @@
+-- What reads and writes do to what a source or sink tells.
+use Rattle.std.specs.Prelude.{◌≡◌, ◌<◌, ◌≤◌, ◌⊎◌, ◌++◌, ℕ, List, [], Option, Result, IfSome, OnErr, MatchResult, take, option_map}
+
+-- what a source told before it gave these bytes
+abbrev pub followed_by : List ℕ → Option (List ℕ) → Option (List ℕ)
+followed_by front told = option_map (λ rest. front ++ rest) told
+
+-- what a sink tells after it took these bytes
+abbrev pub extended_by : Option (List ℕ) → List ℕ → Option (List ℕ)
+extended_by told back = option_map (λ front. front ++ back) told
+
+-- no byte is left, where the source tells it
+abbrev pub IsAtEnd : Option (List ℕ) → Type 0
+IsAtEnd told = IfSome told (λ bytes. bytes ≡ [])
+
+-- a source gave these bytes
+abbrev pub Takes : Option (List ℕ) → Option (List ℕ) → List ℕ → Type 0
+Takes old new bytes = old ≡ followed_by bytes new
+
+-- a sink took these bytes
+abbrev pub Adds : Option (List ℕ) → Option (List ℕ) → List ℕ → Type 0
+Adds old new bytes = new ≡ extended_by old bytes
+
+-- a sink took some first bytes of these
+pub record AddsFront (old new : Option (List ℕ)) (bytes : List ℕ) : Type 0 where
+  pub front : List ℕ
+  pub back : List ℕ
+  pub whole : front ++ back ≡ bytes
+  pub adds : Adds old new front
+
+-- a read gave the first n bytes of the buffer, none of them only at the end; one that failed took nothing
+abbrev pub Reads : {E : Type 0} → Option (List ℕ) → Option (List ℕ) → Result ℕ E → List ℕ → Type 0
+Reads old new result buf =
+    MatchResult result (λ n. Takes old new (take n buf) × (n ≡ 0 → IsAtEnd new)) (λ _. new ≡ old)
+
+-- the size of the last piece is that of this read, and 0 where it failed
+abbrev pub TellsLast : {E : Type 0} → Option ℕ → Result ℕ E → Type 0
+TellsLast last result = IfSome last (λ n. MatchResult result (λ m. n ≡ m) (λ _. n ≡ 0))
+
+-- a write added the first n bytes of the piece; one that failed added nothing
+abbrev pub Writes : {E : Type 0} → Option (List ℕ) → Option (List ℕ) → Result ℕ E → List ℕ → Type 0
+Writes old new result piece = MatchResult result (λ n. Adds old new (take n piece)) (λ _. new ≡ old)
+
+-- a count of faults rose: it is higher after than before, or at its last value
+abbrev pub Rose : ℕ → ℕ → Type 0
+Rose before after = (before < after) ⊎ (after ≡ 18446744073709551615)
+
+-- a count of faults does not fall, and rises where the call failed
+pub record CountsFault {T E : Type 0} (before after : ℕ) (result : Result T E) : Type 0 where
+  pub later : before ≤ after
+  pub failed : OnErr result (Rose before after)

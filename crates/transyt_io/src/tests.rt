@@ -1,0 +1,301 @@
+//! Lines by pieces of any size, faults in mid-stream, and each end once.
+ghost use Rattle.std.specs.Prelude.{None};
+
+use crate::{
+    Failed, Line, LineBuffer, LineReader, MemorySink, MemorySource, ReadStop, Sink, Source,
+    StdSink, StdSource, SteadySource, TallySink, is_skipped, next_line, next_word, write_line,
+};
+use std::alloc::{AllocError, Global};
+use std::io;
+use std::test::Fail;
+
+/// What a reader hands out until it stops, a bar behind each line, and why it stopped.
+fn read_text<S: Source>(
+    alloc: Global,
+    source: &mut S,
+) -> Result<(Vec<u8>, Option<ReadStop>), AllocError> {
+    let mut reader = LineReader::open(alloc)?;
+    let mut text = Vec::new(alloc);
+    loop {
+        match reader.next(source) {
+            Ok(Line::Text) => put_bar(reader.line(), &mut text)?,
+            Ok(Line::End) => return Ok((text, None)),
+            Err(stop) => return Ok((text, Some(stop))),
+        }
+    }
+}
+
+fn put_bar(line: &[u8], text: &mut Vec<u8>) -> Result<(), AllocError> {
+    text.extend_from_slice(line)?;
+    text.push(b'|')?;
+    Ok(())
+}
+
+/// Whether a reader hands out this text and stops so.
+fn gives<S: Source>(
+    alloc: Global,
+    source: &mut S,
+    wanted: &[u8],
+    why: Option<ReadStop>,
+) -> Result<bool, AllocError> {
+    let (text, stop) = read_text(alloc, source)?;
+    Ok(text.as_slice() == wanted && stop == why)
+}
+
+/// Whether it hands out this text and then the end, in pieces of each size.
+fn gives_by_pieces(alloc: Global, bytes: &[u8], wanted: &[u8]) -> Result<bool, AllocError> {
+    for piece in [1, 2, 3, 7, 100_000] {
+        let mut source = MemorySource::new(bytes.to_vec(alloc)?, piece, Vec::new(alloc));
+        if !gives(alloc, &mut source, wanted, None)? {
+            return Ok(false);
+        }
+    }
+    Ok(true)
+}
+
+/// The same text by the rule itself, over all bytes at once: an LF ends a line, and the bytes behind the last one
+/// are a line where `unended` says so.
+fn plain_text(alloc: Global, bytes: &[u8], unended: bool) -> Result<Vec<u8>, AllocError> {
+    let mut text = Vec::new(alloc);
+    let mut raw = Vec::new(alloc);
+    for byte in bytes {
+        if *byte == b'\n' {
+            put_plain(&raw, &mut text)?;
+            raw.clear();
+        } else {
+            raw.push(*byte)?;
+        }
+    }
+    if unended && !raw.is_empty() {
+        put_plain(&raw, &mut text)?;
+    }
+    Ok(text)
+}
+
+fn put_plain(raw: &[u8], text: &mut Vec<u8>) -> Result<(), AllocError> {
+    let line = raw.strip_suffix(b"\r").unwrap_or(raw);
+    put_bar(&line[..line.len().min(4097)], text)
+}
+
+/// The same text by `next_line`.
+fn sliced_text(alloc: Global, bytes: &[u8]) -> Result<Vec<u8>, AllocError> {
+    let mut text = Vec::new(alloc);
+    let mut rest = bytes;
+    while let Some((line, behind)) = next_line(rest) {
+        put_bar(line, &mut text)?;
+        rest = behind;
+    }
+    Ok(text)
+}
+
+/// The words of a line, a bar behind each.
+fn words_text(alloc: Global, line: &[u8]) -> Result<Vec<u8>, AllocError> {
+    let mut text = Vec::new(alloc);
+    let mut rest = line;
+    while let Some((word, behind)) = next_word(rest) {
+        put_bar(word, &mut text)?;
+        rest = behind;
+    }
+    Ok(text)
+}
+
+fn run_of(alloc: Global, count: usize, tail: &[u8]) -> Result<Vec<u8>, AllocError> {
+    let mut bytes = vec![in alloc; b'x'; count]?;
+    bytes.extend_from_slice(tail)?;
+    Ok(bytes)
+}
+
+#[test]
+fn cuts_short_inputs(rt: HostRuntime) -> Result<(), Fail> {
+    let alloc = rt.alloc();
+    let table: [(&[u8], &[u8]); 9] = [
+        (b"", b""),
+        (b"\n", b"|"),
+        (b"\r", b"|"),
+        (b"\r\r\n", b"\r|"),
+        (b"\n\n", b"||"),
+        (b"a", b"a|"),
+        (b"a\r\r\n\r", b"a\r||"),
+        (b"one\ntwo\r\n\r\n\nlast\r", b"one|two|||last|"),
+        (b"\r\na\rb\n", b"|a\rb|"),
+    ];
+    for (bytes, wanted) in table {
+        assert!(rt; plain_text(alloc, bytes, true)?.as_slice() == wanted);
+        assert!(rt; sliced_text(alloc, bytes)?.as_slice() == wanted);
+        assert!(rt; gives_by_pieces(alloc, bytes, wanted)?);
+    }
+    Ok(())
+}
+
+#[test]
+fn cuts_long_lines(rt: HostRuntime) -> Result<(), Fail> {
+    let alloc = rt.alloc();
+    let tails: [&[u8]; 6] = [b"", b"\r", b"\ny", b"\r\ny", b"\r\r\ny", b"\ry\n"];
+    for count in [4095, 4096, 4097, 4098, 9000] {
+        for tail in tails {
+            let bytes = run_of(alloc, count, tail)?;
+            let wanted = plain_text(alloc, &bytes, true)?;
+            assert!(rt; sliced_text(alloc, &bytes)? == wanted);
+            assert!(rt; gives_by_pieces(alloc, &bytes, &wanted)?);
+        }
+    }
+    Ok(())
+}
+
+#[test]
+fn stops_where_it_should(rt: HostRuntime) -> Result<(), Fail> {
+    let alloc = rt.alloc();
+    let long = Some(ReadStop::TooLong);
+    // How many bytes and what behind them; how long the text is, a bar with each line; and why it stops.
+    let table: [(usize, &[u8], usize, Option<ReadStop>); 10] = [
+        (4096, b"\n", 4097, None),
+        (4096, b"\r\n", 4097, None),
+        (4096, b"\r", 4097, None),
+        (4097, b"\r\n", 4098, None),
+        (4098, b"\n", 4098, None),
+        (4096, b"\r\r\n", 4098, None),
+        (9000, b"", 4098, None),
+        (4_194_302, b"\ny", 4100, None),
+        (4_194_303, b"\n\n", 4098, long),
+        (4_194_305, b"", 0, long),
+    ];
+    for (count, tail, wanted, why) in table {
+        let mut source = SteadySource::new(run_of(alloc, count, tail)?);
+        let (text, stop) = read_text(alloc, &mut source)?;
+        assert!(rt; text.len() == wanted && stop == why);
+    }
+    Ok(())
+}
+
+#[test]
+fn a_failed_read_leaves_the_whole_lines_before_it(rt: HostRuntime) -> Result<(), Fail> {
+    let alloc = rt.alloc();
+    let bytes = b"one\r\ntwo\n\nlast";
+    // Seven calls give the fourteen bytes, and the eighth is the end.
+    let table: [(u32, &[u8], Option<ReadStop>); 9] = [
+        (1, b"", Some(ReadStop::Fault)),
+        (2, b"", Some(ReadStop::Fault)),
+        (3, b"", Some(ReadStop::Fault)),
+        (4, b"one|", Some(ReadStop::Fault)),
+        (5, b"one|", Some(ReadStop::Fault)),
+        (6, b"one|two||", Some(ReadStop::Fault)),
+        (7, b"one|two||", Some(ReadStop::Fault)),
+        (8, b"one|two||", Some(ReadStop::Fault)),
+        (9, b"one|two||last|", None),
+    ];
+    for (call, wanted, why) in table {
+        let mut source = MemorySource::new(bytes.to_vec(alloc)?, 2, vec![in alloc; call; 1]?);
+        assert!(rt; gives(alloc, &mut source, wanted, why)?);
+    }
+    Ok(())
+}
+
+/// Takes at most three bytes a call, and notes how many the first call got and how many calls there were.
+#[derive(Drop)]
+struct Noting {
+    first: usize,
+    calls: usize,
+}
+
+impl Sink for Noting {
+    ghost written = { λ _. None };
+
+    ghost faults = { λ _. 0 };
+
+    fn write(&mut self, piece: &[u8]) -> Result<usize, Failed> {
+        let calls = self.calls;
+        if calls == 0 {
+            self.first = piece.len();
+        }
+        self.calls = calls.saturating_add(1);
+        Ok(piece.len().min(3))
+    }
+}
+
+#[test]
+fn hands_the_whole_line_to_the_first_write(rt: HostRuntime) -> Result<(), Fail> {
+    let mut line = LineBuffer::open(rt.alloc())?;
+    line.put(b"forgotten");
+    line.clear();
+    line.put(b"QUEUE ");
+    line.put_value(17);
+    line.put(b"\n");
+    assert!(rt; line.bytes() == b"QUEUE 17\n".as_slice());
+    let mut sink = Noting { first: 0, calls: 0 };
+    let mut tally = TallySink::new();
+    assert!(rt; write_line(&line, &mut sink).is_ok() && write_line(&line, &mut tally).is_ok());
+    assert!(rt; sink.first == 9 && sink.calls == 3 && tally.taken() == 9);
+    Ok(())
+}
+
+#[test]
+fn a_failed_write_leaves_a_front_of_the_line(rt: HostRuntime) -> Result<(), Fail> {
+    let alloc = rt.alloc();
+    let mut line = LineBuffer::open(alloc)?;
+    line.put(b"thirteen bits");
+    // The room, the call that fails, and what is written.
+    let table: [(usize, u32, &[u8]); 6] = [
+        (20, 1, b""),
+        (20, 2, b"thir"),
+        (20, 3, b"thirteen"),
+        (20, 4, b"thirteen bit"),
+        (20, 5, b"thirteen bits"),
+        (6, 9, b"thirte"),
+    ];
+    for (room, call, wanted) in table {
+        let mut sink = MemorySink::new(alloc, room, 4, vec![in alloc; call; 1]?)?;
+        let whole = write_line(&line, &mut sink).is_ok();
+        assert!(rt; sink.bytes() == wanted && whole == (wanted.len() == 13));
+    }
+    Ok(())
+}
+
+/// A reader of std that is interrupted.
+#[derive(Drop)]
+struct Interrupted;
+
+impl io::Read for Interrupted {
+    fn read(&mut self, _buf: &mut [u8]) -> io::Result<usize> {
+        Err(io::ErrorKind::Interrupted.into())
+    }
+}
+
+#[test]
+fn takes_the_ends_of_std(rt: HostRuntime) -> Result<(), Fail> {
+    let alloc = rt.alloc();
+    let mut bytes = StdSource::new(b"one\ntwo".as_slice());
+    assert!(rt; gives(alloc, &mut bytes, b"one|two|", None)?);
+    let mut interrupted = StdSource::new(Interrupted);
+    assert!(rt; gives(alloc, &mut interrupted, b"", Some(ReadStop::Fault))?);
+
+    let mut line = LineBuffer::open(alloc)?;
+    line.put(b"DONE\n");
+    let mut written = Vec::new(alloc);
+    let whole = write_line(&line, &mut StdSink::new(&mut written)).is_ok();
+    assert!(rt; whole && written.as_slice() == b"DONE\n".as_slice());
+    let mut room = [0u8; 3];
+    assert!(rt; write_line(&line, &mut StdSink::new(room.as_mut_slice())).is_err());
+    Ok(())
+}
+
+#[test]
+fn splits_words(rt: HostRuntime) -> Result<(), Fail> {
+    let alloc = rt.alloc();
+    let table: [(&[u8], &[u8], bool); 7] = [
+        (b"", b"", true),
+        (b" \t ", b"", true),
+        (b"* a remark", b"*|a|remark|", true),
+        (b" *X", b"*X|", false),
+        (b"NODE 1\t 20 ", b"NODE|1|20|", false),
+        (b"\tEND", b"END|", false),
+        (b"a\rb", b"a\rb|", false),
+    ];
+    for (line, wanted, skipped) in table {
+        assert!(rt; words_text(alloc, line)?.as_slice() == wanted && is_skipped(line) == skipped);
+    }
+    for byte in [b' ', b'*'] {
+        assert!(rt; is_skipped(&vec![in alloc; byte; 4096]?));
+        assert!(rt; !is_skipped(&vec![in alloc; byte; 4097]?));
+    }
+    Ok(())
+}
