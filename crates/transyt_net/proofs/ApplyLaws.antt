@@ -1,0 +1,308 @@
+-- What an allowed edit does: a valid network stays valid.
+use Rattle.std.proofs.Common.{◌≡◌, ℕ, ◌-◌, ◌≤◌, Bool, true, not, ◌&&◌, List, length, Some, None, refl, sym, ap, subst, ◌∙◌, arith, nat_le, nat_lt, if◌then◌else◌}
+use Rattle.std.proofs.lemmas.Bool.{and_parts, not-false, leb-true, ltb-true, le-leb}
+use Rattle.std.proofs.lemmas.List.{length-map}
+use Rattle.transyt_net.specs.declared.node.Stage.{Stage}
+use Rattle.transyt_net.specs.declared.link.Feed.{Feed}
+use Rattle.transyt_net.specs.declared.edit.Edit.{Edit}
+use Rattle.transyt_net.specs.declared.edit.Edit.TheVariants.{Offset, Change, Entry, Part, Cruise, Saturation, Weight}
+use Rattle.transyt_net.specs.declared.edit.EditFault.TheVariants.{Unknown, NoFeeder, Range, StageOrder, LeastGreen}
+use Rattle.transyt_net.specs.declared.plan_fault.PlanFault.TheVariants as plan
+use Rattle.transyt_net.specs.Parts.{NodeValue, LinkValue, Network}
+use Rattle.transyt_net.specs.Valid.{within, is_among, is_fed, numbered, on_numbered, on_place, node_number, link_number, node_numbers, link_numbers, stages_at, stage_total, feeds_at, feeds_in, all_differ, IsStage, IsLink, IsFeed}
+use Rattle.transyt_net.specs.Plan.{plan_fault, in_order, have_greens, stage_of, IsValid}
+use Rattle.transyt_net.specs.Edits.{with_edit, inverse, edit_fault, range_fault, feed_fault, order_fault, has_stage, is_link, set_offset, set_change, change_to, set_entry, set_saturation, set_weights, set_part, set_cruise, feeder_of, flow_to, cruise_to, node_in, link_in, the_node}
+use Rattle.transyt_net.specs.Named.{NamesNode, NamesLink, NodeTakes, LinkTakes, node_edit, link_edit, node_back, link_back}
+use Rattle.transyt_net.proofs.PlaceLaws.{keys_kept, keys_kept_at, all_on_numbered, all_on_place, length_kept}
+use Rattle.transyt_net.proofs.WriteLaws.{no_fault, in_range, links_written, nodes_written}
+
+-- what a range test without a fault tells
+pub ranged : (known fits : Bool) → range_fault known fits ≡ None → (known ≡ true) × (fits ≡ true)
+ranged known fits h =
+    let once = no_fault (not known) Unknown _ h in
+    let twice = no_fault (not fits) Range _ once.1 in
+    (not-false _ once.0, not-false _ twice.0)
+
+-- what a feed's test without a fault tells
+pub fed : (known feeds fits : Bool) → feed_fault known feeds fits ≡ None
+    → (known ≡ true) × (feeds ≡ true) × (fits ≡ true)
+fed known feeds fits h =
+    let once = no_fault (not known) Unknown _ h in
+    let twice = no_fault (not feeds) NoFeeder _ once.1 in
+    let thrice = no_fault (not fits) Range _ twice.1 in
+    (not-false _ once.0, not-false _ twice.0, not-false _ thrice.0)
+
+-- a plan without a fault, from its parts and back
+plan_is : (steps : ℕ) (stages : List Stage) → 2 ≤ length stages → order_fault steps stages ≡ None
+    → plan_fault steps stages ≡ None
+plan_is steps stages two h =
+    let ordered = no_fault (not (in_order steps stages)) StageOrder _ h in
+    let greens = no_fault (not (have_greens steps stages)) LeastGreen _ ordered.1 in
+    let enough : nat_le 2 (length stages) ≡ true = le-leb 2 (length stages) two in
+    (λ j. if not (enough j) then Some plan.FewStages else if not (not-false _ ordered.0 j) then Some plan.StageOrder else if not (not-false _ greens.0 j) then Some plan.LeastGreen else None)
+
+-- what a plan without a fault tells
+pub plan_parts : (steps : ℕ) (stages : List Stage) → plan_fault steps stages ≡ None
+    → (2 ≤ length stages) × (order_fault steps stages ≡ None)
+plan_parts steps stages h =
+    let many = no_fault (not (nat_le 2 (length stages))) plan.FewStages _ h in
+    let ordered = no_fault (not (in_order steps stages)) plan.StageOrder _ many.1 in
+    let greens = no_fault (not (have_greens steps stages)) plan.LeastGreen _ ordered.1 in (
+      leb-true 2 (length stages) (not-false _ many.0),
+      (λ j. if not (not-false _ ordered.0 j) then Some StageOrder else if not (not-false _ greens.0 j) then Some LeastGreen else None),
+    )
+
+-- a write to a link keeps a network valid
+link_valid : (net : Network) (f : LinkValue → LinkValue) (same : (l : LinkValue) → (f l).number ≡ l.number)
+    (link : ℕ)
+    → IsValid net
+    → ((l : LinkValue) → numbered link_number net.links link ≡ Some l → IsLink net.frame.step_count net.nodes (link_numbers net.links) l → IsLink net.frame.step_count net.nodes (link_numbers net.links) (f l))
+    → IsValid (record net { links = on_numbered link_number f net.links link })
+link_valid net f same link h keeps =
+    record { sound = links_written net f same link h.sound keeps; planned = h.planned }
+
+-- the feeds of a link, one of them written
+feeds_written : (numbers : List ℕ) (f : Feed → Feed) (same : (x : Feed) → (f x).feeder ≡ x.feeder) (steps : ℕ)
+    (nodes : List NodeValue) (feeder : ℕ) (l : LinkValue)
+    → IsLink steps nodes numbers l
+    → ((x : Feed) → IsFeed numbers x → IsFeed numbers (f x)) → IsLink steps nodes numbers (record l { feeds = on_numbered feeder_of f l.feeds feeder })
+feeds_written numbers f same steps nodes feeder l old good =
+    let len = length_kept feeder_of f same l.feeds feeder in
+    record {
+      number = old.number;
+      node = old.node;
+      entry = old.entry;
+      saturation = old.saturation;
+      delay_weight = old.delay_weight;
+      stop_weight = old.stop_weight;
+      start_lag = old.start_lag;
+      end_lag = old.end_lag;
+      stage_count = old.stage_count;
+      stages_differ = old.stages_differ;
+      stages = old.stages;
+      feed_count = omega (arith, old.feed_count);
+      feeders_differ =
+          subst (λ ks. all_differ ks ≡ true) (sym (keys_kept feeder_of f same l.feeds feeder)) old.feeders_differ;
+      feeds = all_on_numbered (IsFeed numbers) feeder_of f l.feeds feeder (λ x at is. good x is) old.feeds;
+      rule = old.rule;
+    }
+
+-- an allowed edit keeps a network valid
+pub valid_edit : (net : Network) (e : Edit) → IsValid net → edit_fault net e ≡ None → IsValid (with_edit net e)
+valid_edit net (Offset node offset) h none =
+    let both = ranged (is_among (node_numbers net.nodes) node) (nat_lt offset net.frame.step_count) none in
+    record {
+      sound = nodes_written net (set_offset offset) (λ n. refl) (λ n. refl) node h.sound
+          (λ n at old. record { number = old.number; offset = ltb-true offset net.frame.step_count both.1; stage_count = old.stage_count; stages = old.stages });
+      planned =
+          all_on_numbered (λ n. plan_fault net.frame.step_count n.stages ≡ None) node_number (set_offset offset) net.nodes node (λ n at p. p) h.planned;
+    }
+valid_edit net (Change node stage change) h none =
+    let steps = net.frame.step_count in
+    let known = no_fault (not (has_stage net node stage)) Unknown _ none in
+    let fits = no_fault (not (nat_lt change steps)) Range _ known.1 in
+    let below = ltb-true change steps (not-false _ fits.0) in
+    let kept : (n : NodeValue) → length (set_change stage change n).stages ≡ length n.stages =
+    λ n. sym (length-map (on_place (change_to change) n.stages (stage - 1)) (λ s. s.least))
+    ∙ ap length (keys_kept_at (λ s. s.least) (change_to change) (λ s. refl) n.stages (stage - 1))
+    ∙ length-map n.stages (λ s. s.least) in
+    record {
+      sound = nodes_written net (set_change stage change) (λ n. refl) kept node h.sound
+          (λ n at old.
+          let len = kept n in
+          record {
+            number = old.number;
+            offset = old.offset;
+            stage_count = omega (arith, old.stage_count);
+            stages =
+                all_on_place (IsStage steps) (change_to change) n.stages (stage - 1) (λ s here is. record { change = below; intergreen = is.intergreen; least = is.least }) old.stages;
+          });
+      planned =
+          all_on_numbered (λ n. plan_fault steps n.stages ≡ None) node_number (set_change stage change) net.nodes node
+          (λ n at p.
+          let two = (plan_parts steps n.stages p).0 in
+          let len = kept n in
+          plan_is steps (set_change stage change n).stages (omega arith) (ap (λ o. order_fault steps (set_change stage change (node_in o)).stages) (sym at) ∙ fits.1))
+          h.planned;
+    }
+valid_edit net (Entry link flow) h none =
+    let both = ranged (is_link net link) (nat_le flow 9999) none in
+    link_valid net (set_entry flow) (λ l. refl) link h (λ l at old. record {
+      number = old.number;
+      node = old.node;
+      entry = leb-true flow 9999 both.1;
+      saturation = old.saturation;
+      delay_weight = old.delay_weight;
+      stop_weight = old.stop_weight;
+      start_lag = old.start_lag;
+      end_lag = old.end_lag;
+      stage_count = old.stage_count;
+      stages_differ = old.stages_differ;
+      stages = old.stages;
+      feed_count = old.feed_count;
+      feeders_differ = old.feeders_differ;
+      feeds = old.feeds;
+      rule = old.rule;
+    })
+valid_edit net (Part link feeder flow) h none =
+    let all =
+    fed (is_link net link && is_link net feeder) (is_fed (feeds_at net.links link) feeder) (nat_le flow 9999) none in
+    link_valid net (set_part feeder flow) (λ l. refl) link h (λ l at old.
+    feeds_written (link_numbers net.links) (flow_to flow) (λ f. refl) net.frame.step_count net.nodes feeder l old
+    (λ x is. record { feeder = is.feeder; flow = leb-true flow 9999 all.2; cruise = is.cruise }))
+valid_edit net (Cruise link feeder seconds) h none =
+    let all =
+    fed (is_link net link && is_link net feeder) (is_fed (feeds_at net.links link) feeder) (within 1 300 seconds) none in
+    link_valid net (set_cruise feeder seconds) (λ l. refl) link h (λ l at old.
+    feeds_written (link_numbers net.links) (cruise_to seconds) (λ f. refl) net.frame.step_count net.nodes feeder l old
+    (λ x is. record { feeder = is.feeder; flow = is.flow; cruise = in_range 1 300 seconds all.2 }))
+valid_edit net (Saturation link flow) h none =
+    let both = ranged (is_link net link) (within 100 9999 flow) none in
+    link_valid net (set_saturation flow) (λ l. refl) link h (λ l at old. record {
+      number = old.number;
+      node = old.node;
+      entry = old.entry;
+      saturation = in_range 100 9999 flow both.1;
+      delay_weight = old.delay_weight;
+      stop_weight = old.stop_weight;
+      start_lag = old.start_lag;
+      end_lag = old.end_lag;
+      stage_count = old.stage_count;
+      stages_differ = old.stages_differ;
+      stages = old.stages;
+      feed_count = old.feed_count;
+      feeders_differ = old.feeders_differ;
+      feeds = old.feeds;
+      rule = old.rule;
+    })
+valid_edit net (Weight link delay stop) h none =
+    let both = ranged (is_link net link) (nat_le delay 999 && nat_le stop 999) none in
+    let weights = and_parts (nat_le delay 999) (nat_le stop 999) both.1 in
+    link_valid net (set_weights delay stop) (λ l. refl) link h (λ l at old. record {
+      number = old.number;
+      node = old.node;
+      entry = old.entry;
+      saturation = old.saturation;
+      delay_weight = leb-true delay 999 weights.0;
+      stop_weight = leb-true stop 999 weights.1;
+      start_lag = old.start_lag;
+      end_lag = old.end_lag;
+      stage_count = old.stage_count;
+      stages_differ = old.stages_differ;
+      stages = old.stages;
+      feed_count = old.feed_count;
+      feeders_differ = old.feeders_differ;
+      feeds = old.feeds;
+      rule = old.rule;
+    })
+
+-- what an allowed edit names is there
+pub node_named : (net : Network) (e : Edit) (k : ℕ) → NamesNode e k → edit_fault net e ≡ None
+    → is_among (node_numbers net.nodes) k ≡ true
+node_named net (Offset node offset) k same none =
+    subst (λ n. is_among (node_numbers net.nodes) n ≡ true) same (ranged (is_among (node_numbers net.nodes) node) (nat_lt offset net.frame.step_count) none).0
+node_named net (Change node stage change) k same none =
+    let known = no_fault (not (has_stage net node stage)) Unknown _ none in
+    subst (λ n. is_among (node_numbers net.nodes) n ≡ true) same (and_parts (is_among (node_numbers net.nodes) node) (within 1 (stages_at net.nodes node) stage) (not-false _ known.0)).0
+node_named net e k same none = elim same [ ]
+
+-- a link that an allowed edit names is there
+pub link_named : (net : Network) (e : Edit) (k : ℕ) → NamesLink e k → edit_fault net e ≡ None
+    → is_among (link_numbers net.links) k ≡ true
+link_named net (Entry link flow) k same none =
+    subst (λ n. is_link net n ≡ true) same (ranged (is_link net link) (nat_le flow 9999) none).0
+link_named net (Part link feeder flow) k same none =
+    subst (λ n. is_link net n ≡ true) same (and_parts (is_link net link) (is_link net feeder) (fed (is_link net link && is_link net feeder) (is_fed (feeds_at net.links link) feeder) (nat_le flow 9999) none).0).0
+link_named net (Cruise link feeder seconds) k same none =
+    subst (λ n. is_link net n ≡ true) same (and_parts (is_link net link) (is_link net feeder) (fed (is_link net link && is_link net feeder) (is_fed (feeds_at net.links link) feeder) (within 1 300 seconds) none).0).0
+link_named net (Saturation link flow) k same none =
+    subst (λ n. is_link net n ≡ true) same (ranged (is_link net link) (within 100 9999 flow) none).0
+link_named net (Weight link delay stop) k same none =
+    subst (λ n. is_link net n ≡ true) same (ranged (is_link net link) (nat_le delay 999 && nat_le stop 999) none).0
+link_named net e k same none = elim same [ ]
+
+-- and takes it
+pub node_takes : (net : Network) (e : Edit) (k : ℕ) (n : NodeValue) → NamesNode e k → edit_fault net e ≡ None
+    → numbered node_number net.nodes k ≡ Some n → NodeTakes e n
+node_takes net (Offset node offset) k n same none at = tt
+node_takes net (Change node stage change) k n same none at =
+    let known = no_fault (not (has_stage net node stage)) Unknown _ none in
+    let parts =
+    and_parts (is_among (node_numbers net.nodes) node) (within 1 (stages_at net.nodes node) stage) (not-false _ known.0) in
+    let fits = in_range 1 (stages_at net.nodes node) stage parts.1 in
+    let count : stages_at net.nodes node ≡ length n.stages = ap (stages_at net.nodes) same ∙ ap stage_total at in
+    (fits.0, omega arith)
+node_takes net e k n same none at = elim same [ ]
+
+-- and takes it
+pub link_takes : (net : Network) (e : Edit) (k : ℕ) (l : LinkValue) → NamesLink e k → edit_fault net e ≡ None
+    → numbered link_number net.links k ≡ Some l → LinkTakes e l
+link_takes net (Entry link flow) k l same none at = tt
+link_takes net (Part link feeder flow) k l same none at =
+    ap (λ o. is_fed (feeds_in o) feeder) (sym at)
+    ∙ ap (λ n. is_fed (feeds_at net.links n) feeder) (sym same)
+    ∙ (fed (is_link net link && is_link net feeder) (is_fed (feeds_at net.links link) feeder) (nat_le flow 9999) none).1
+link_takes net (Cruise link feeder seconds) k l same none at =
+    ap (λ o. is_fed (feeds_in o) feeder) (sym at)
+    ∙ ap (λ n. is_fed (feeds_at net.links n) feeder) (sym same)
+    ∙ (fed (is_link net link && is_link net feeder) (is_fed (feeds_at net.links link) feeder) (within 1 300 seconds) none).1
+link_takes net (Saturation link flow) k l same none at = tt
+link_takes net (Weight link delay stop) k l same none at = tt
+link_takes net e k l same none at = elim same [ ]
+
+-- an edit is what it does to the one that it names
+pub node_done : (net : Network) (e : Edit) (k : ℕ) → NamesNode e k
+    → record net { nodes = on_numbered node_number (node_edit e) net.nodes k } ≡ with_edit net e
+node_done net (Offset node offset) k same = ap (λ n. with_edit net (Offset n offset)) (sym same)
+node_done net (Change node stage change) k same = ap (λ n. with_edit net (Change n stage change)) (sym same)
+node_done net e k same = elim same [ ]
+
+-- an edit is what it does to the link that it names
+pub link_done : (net : Network) (e : Edit) (k : ℕ) → NamesLink e k
+    → record net { links = on_numbered link_number (link_edit e) net.links k } ≡ with_edit net e
+link_done net (Entry link flow) k same = ap (λ n. with_edit net (Entry n flow)) (sym same)
+link_done net (Part link feeder flow) k same = ap (λ n. with_edit net (Part n feeder flow)) (sym same)
+link_done net (Cruise link feeder seconds) k same = ap (λ n. with_edit net (Cruise n feeder seconds)) (sym same)
+link_done net (Saturation link flow) k same = ap (λ n. with_edit net (Saturation n flow)) (sym same)
+link_done net (Weight link delay stop) k same = ap (λ n. with_edit net (Weight n delay stop)) (sym same)
+link_done net e k same = elim same [ ]
+
+-- the inverse has the numbers of the node that is named
+pub node_back_done : (net : Network) (e : Edit) (k : ℕ) (n : NodeValue) → NamesNode e k
+    → numbered node_number net.nodes k ≡ Some n → node_back e n ≡ inverse net e
+node_back_done net (Offset node offset) k n same at =
+    ap (λ o. Offset node (node_in o).offset) (sym at) ∙ ap (λ m. Offset node (the_node net m).offset) (sym same)
+node_back_done net (Change node stage change) k n same at =
+    ap (λ o. Change node stage (stage_of (node_in o).stages (stage - 1)).change) (sym at)
+    ∙ ap (λ m. Change node stage (stage_of (the_node net m).stages (stage - 1)).change) (sym same)
+node_back_done net e k n same at = elim same [ ]
+
+-- the inverse has the numbers of the link that is named
+pub link_back_done : (net : Network) (e : Edit) (k : ℕ) (l : LinkValue) → NamesLink e k
+    → numbered link_number net.links k ≡ Some l → link_back e l ≡ inverse net e
+link_back_done net (Entry link flow) k l same at =
+    ap (λ o. link_back (Entry link flow) (link_in o)) (sym at ∙ ap (numbered link_number net.links) (sym same))
+link_back_done net (Part link feeder flow) k l same at =
+    ap (λ o. link_back (Part link feeder flow) (link_in o)) (sym at ∙ ap (numbered link_number net.links) (sym same))
+link_back_done net (Cruise link feeder seconds) k l same at =
+    ap (λ o. link_back (Cruise link feeder seconds) (link_in o)) (sym at ∙ ap (numbered link_number net.links) (sym same))
+link_back_done net (Saturation link flow) k l same at =
+    ap (λ o. link_back (Saturation link flow) (link_in o)) (sym at ∙ ap (numbered link_number net.links) (sym same))
+link_back_done net (Weight link delay stop) k l same at =
+    ap (λ o. link_back (Weight link delay stop) (link_in o)) (sym at ∙ ap (numbered link_number net.links) (sym same))
+link_back_done net e k l same at = elim same [ ]
+
+-- an edit keeps the numbers
+pub node_numbers_kept : (e : Edit) (n : NodeValue) → (node_edit e n).number ≡ n.number
+node_numbers_kept (Offset node offset) n = refl
+node_numbers_kept (Change node stage change) n = refl
+node_numbers_kept e n = refl
+
+-- an edit keeps a link's number
+pub link_numbers_kept : (e : Edit) (l : LinkValue) → (link_edit e l).number ≡ l.number
+link_numbers_kept (Entry link flow) l = refl
+link_numbers_kept (Part link feeder flow) l = refl
+link_numbers_kept (Cruise link feeder seconds) l = refl
+link_numbers_kept (Saturation link flow) l = refl
+link_numbers_kept (Weight link delay stop) l = refl
+link_numbers_kept e l = refl

@@ -1,0 +1,51 @@
+-- An edit keeps the shape.
+use Rattle.std.proofs.Common.{◌≡◌, ℕ, suc, zero, ◌-◌, true, false, cond, List, [], ◌∷◌, map, refl, ap, nat_eq}
+use Rattle.transyt_net.specs.declared.node.Stage.{Stage}
+use Rattle.transyt_net.specs.declared.edit.Edit.{Edit}
+use Rattle.transyt_net.specs.declared.edit.Edit.TheVariants.{Offset, Change, Entry, Part, Cruise, Saturation, Weight}
+use Rattle.transyt_net.specs.Parts.{NodeValue, LinkValue, Network}
+use Rattle.transyt_net.specs.Valid.{on_numbered, on_place, node_number, link_number}
+use Rattle.transyt_net.specs.Edits.{with_edit, set_offset, set_change, change_to, set_entry, set_saturation, set_weights, set_part, set_cruise, feeder_of, flow_to, cruise_to}
+use Rattle.transyt_net.specs.Shape.{bare_stage, bare_node, bare_feed, bare_link, shape}
+
+-- a write that h can't see
+map_kept : {A B : Type 0} (key : A → ℕ) (f : A → A) (h : A → B) (same : (x : A) → h (f x) ≡ h x) (xs : List A)
+    (k : ℕ)
+    → map h (on_numbered key f xs k) ≡ map h xs
+map_kept key f h same [] k = refl
+map_kept key f h same (x ∷ xs) k =
+    (elim (nat_eq k (key x)) as (λ b. map h (cond b (f x ∷ xs) (x ∷ on_numbered key f xs k)) ≡ h x ∷ map h xs) [
+      | true ↦ ap (λ y. y ∷ map h xs) (same x)
+      | false ↦ ap (λ ys. h x ∷ ys) (map_kept key f h same xs k)
+    ])
+
+map_kept_at : (change : ℕ) (ss : List Stage) (p : ℕ)
+    → map bare_stage (on_place (change_to change) ss p) ≡ map bare_stage ss
+map_kept_at change [] p = refl
+map_kept_at change (s ∷ ss) zero = refl
+map_kept_at change (s ∷ ss) (suc p) = ap (λ xs. bare_stage s ∷ xs) (map_kept_at change ss p)
+
+node_shape : (net : Network) (f : NodeValue → NodeValue) (same : (n : NodeValue) → bare_node (f n) ≡ bare_node n)
+    (node : ℕ)
+    → shape (record net { nodes = on_numbered node_number f net.nodes node }) ≡ shape net
+node_shape net f same node =
+    ap (λ ns. record net { nodes = ns; links = map bare_link net.links }) (map_kept node_number f bare_node same net.nodes node)
+
+link_shape : (net : Network) (f : LinkValue → LinkValue) (same : (l : LinkValue) → bare_link (f l) ≡ bare_link l)
+    (link : ℕ)
+    → shape (record net { links = on_numbered link_number f net.links link }) ≡ shape net
+link_shape net f same link =
+    ap (λ ls. record net { nodes = map bare_node net.nodes; links = ls }) (map_kept link_number f bare_link same net.links link)
+
+-- an edit keeps the shape
+pub shape_kept : (net : Network) (e : Edit) → shape (with_edit net e) ≡ shape net
+shape_kept net (Offset node offset) = node_shape net (set_offset offset) (λ n. refl) node
+shape_kept net (Change node stage change) =
+    node_shape net (set_change stage change) (λ n. ap (λ ss. record (bare_node n) { stages = ss }) (map_kept_at change n.stages (stage - 1))) node
+shape_kept net (Entry link flow) = link_shape net (set_entry flow) (λ l. refl) link
+shape_kept net (Part link feeder flow) =
+    link_shape net (set_part feeder flow) (λ l. ap (λ fs. record (bare_link l) { feeds = fs }) (map_kept feeder_of (flow_to flow) bare_feed (λ f. refl) l.feeds feeder)) link
+shape_kept net (Cruise link feeder seconds) =
+    link_shape net (set_cruise feeder seconds) (λ l. ap (λ fs. record (bare_link l) { feeds = fs }) (map_kept feeder_of (cruise_to seconds) bare_feed (λ f. refl) l.feeds feeder)) link
+shape_kept net (Saturation link flow) = link_shape net (set_saturation flow) (λ l. refl) link
+shape_kept net (Weight link delay stop) = link_shape net (set_weights delay stop) (λ l. refl) link

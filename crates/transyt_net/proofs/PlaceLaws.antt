@@ -1,0 +1,157 @@
+-- Numbers, their places, and writes by number or place.
+use Rattle.std.proofs.lemmas.List.Elements.{All-nil, All-cons, All-head, All-tail}
+use Rattle.std.proofs.Common.{IfSome, All, slice_get, ◌≡◌, ℕ, suc, zero, ◌<◌, Bool, true, false, not, cond, ◌||◌, List, [], ◌∷◌, ◌++◌, length, map, get_or, set, Option, Some, None, refl, sym, ap, subst, ◌∙◌, arith, nat_eq, if◌then◌else◌}
+use Rattle.std.specs.List.{list_any}
+use Rattle.std.proofs.lemmas.Bool.{and_parts, and_from, or_left, or_parts, or_from, not_from_false, not-true, eqb-true}
+use Rattle.std.proofs.lemmas.Bool.Decides.{nat_tests}
+use Rattle.std.proofs.lemmas.List.Folds.{list_any-append}
+use Rattle.std.proofs.lemmas.List.Quantifiers.{position-Some}
+use Rattle.std.proofs.lemmas.List.{length-map, get_or-map}
+use Rattle.transyt_net.specs.Valid.{is_among, all_differ, numbered, on_numbered, on_place, place_of, IsPlace}
+
+-- a number that is among these is among more
+pub among_more : (xs ys : List ℕ) (k : ℕ) → is_among xs k ≡ true → is_among (xs ++ ys) k ≡ true
+among_more xs ys k h = list_any-append (nat_eq k) xs ys ∙ or_left _ _ h
+
+-- a test of equality, with its sides exchanged
+pub eq_swapped : (a b : ℕ) → nat_eq a b ≡ false → nat_eq b a ≡ false
+eq_swapped a b h = grind (arith, nat_tests)
+
+-- a number that isn't there yet goes last
+pub all_differ-push : (xs : List ℕ) (y : ℕ) → all_differ xs ≡ true → is_among xs y ≡ false
+    → all_differ (xs ++ y ∷ []) ≡ true
+all_differ-push [] y d a = refl
+all_differ-push (x ∷ xs) y d a =
+    let parts = and_parts (not (list_any (nat_eq x) xs)) (all_differ xs) d in
+    let apart = or_parts (nat_eq y x) (list_any (nat_eq y) xs) a in
+    let absent : list_any (nat_eq x) (xs ++ y ∷ []) ≡ false =
+    list_any-append (nat_eq x) xs (y ∷ [])
+    ∙ or_from _ _ (not-true _ parts.0) (or_from _ _ (eq_swapped y x apart.0) refl) in
+    and_from _ _ (not_from_false _ absent) (all_differ-push xs y parts.1 apart.1)
+
+-- the place that is found is the place of the number
+pub place_is : {A : Type 0} (key : A → ℕ) (xs : List A) (k p : ℕ) → place_of (map key xs) k ≡ Some p
+    → IsPlace key xs k p
+place_is key xs k p h =
+    let at = position-Some (nat_eq k) (map key xs) p 0 h in
+    let inside : p < length xs = subst (λ n. p < n) (length-map xs key) at.0 in
+    record {
+      inside = inside;
+      here = λ d. ap (nat_eq k) (sym (get_or-map key xs p d 0 inside)) ∙ at.1;
+      first = λ d i less. ap (nat_eq k) (sym (get_or-map key xs i d 0 (omega arith))) ∙ at.2 i less;
+    }
+
+place_tail : {A : Type 0} (key : A → ℕ) (x : A) (xs : List A) (k p : ℕ) → IsPlace key (x ∷ xs) k (suc p)
+    → IsPlace key xs k p
+place_tail key x xs k p h = record {
+  inside = omega arith;
+  here = h.here;
+  first = λ d i less. h.first d (suc i) (omega arith);
+}
+
+-- what the number names stands at its place
+pub numbered_here : {A : Type 0} (key : A → ℕ) (xs : List A) (k p : ℕ) (d : A) → IsPlace key xs k p
+    → numbered key xs k ≡ Some (get_or xs p d)
+numbered_here key [] k p d h = absurd (omega arith)
+numbered_here key (x ∷ xs) k zero d h = ap (λ b. cond b (Some x) (numbered key xs k)) (h.here d)
+numbered_here key (x ∷ xs) k (suc p) d h =
+    ap (λ b. cond b (Some x) (numbered key xs k)) (h.first d 0 (omega arith))
+    ∙ numbered_here key xs k p d (place_tail key x xs k p h)
+
+-- a write by number is a write at the place of the number
+pub on_numbered_here : {A : Type 0} (key : A → ℕ) (f : A → A) (xs : List A) (k p : ℕ) (d : A) → IsPlace key xs k p
+    → on_numbered key f xs k ≡ set xs p (f (get_or xs p d))
+on_numbered_here key f [] k p d h = absurd (omega arith)
+on_numbered_here key f (x ∷ xs) k zero d h = ap (λ b. cond b (f x ∷ xs) (x ∷ on_numbered key f xs k)) (h.here d)
+on_numbered_here key f (x ∷ xs) k (suc p) d h =
+    ap (λ b. cond b (f x ∷ xs) (x ∷ on_numbered key f xs k)) (h.first d 0 (omega arith))
+    ∙ ap (λ ys. x ∷ ys) (on_numbered_here key f xs k p d (place_tail key x xs k p h))
+
+-- a write by place is a write there
+pub on_place_here : {A : Type 0} (f : A → A) (xs : List A) (p : ℕ) (d : A) → p < length xs
+    → on_place f xs p ≡ set xs p (f (get_or xs p d))
+on_place_here f [] p d h = absurd (omega arith)
+on_place_here f (x ∷ xs) zero d h = refl
+on_place_here f (x ∷ xs) (suc p) d h = ap (λ ys. x ∷ ys) (on_place_here f xs p d (omega arith))
+
+-- where a number isn't, nothing is found
+pub numbered_none : {A : Type 0} (key : A → ℕ) (xs : List A) (k : ℕ) → is_among (map key xs) k ≡ false
+    → numbered key xs k ≡ None
+numbered_none key [] k h = refl
+numbered_none key (x ∷ xs) k h =
+    let parts = or_parts (nat_eq k (key x)) (is_among (map key xs) k) h in
+    ap (λ b. cond b (Some x) (numbered key xs k)) parts.0 ∙ numbered_none key xs k parts.1
+
+-- a write that keeps the key keeps the keys
+pub keys_kept : {A : Type 0} (key : A → ℕ) (f : A → A) (same : (x : A) → key (f x) ≡ key x) (xs : List A) (k : ℕ)
+    → map key (on_numbered key f xs k) ≡ map key xs
+keys_kept key f same [] k = refl
+keys_kept key f same (x ∷ xs) k =
+    (elim (nat_eq k (key x)) as (λ b. map key (cond b (f x ∷ xs) (x ∷ on_numbered key f xs k)) ≡ key x ∷ map key xs) [
+      | true ↦ ap (λ n. n ∷ map key xs) (same x)
+      | false ↦ ap (λ ns. key x ∷ ns) (keys_kept key f same xs k)
+    ])
+
+-- the same at a place
+pub keys_kept_at : {A : Type 0} (key : A → ℕ) (f : A → A) (same : (x : A) → key (f x) ≡ key x) (xs : List A)
+    (p : ℕ)
+    → map key (on_place f xs p) ≡ map key xs
+keys_kept_at key f same [] p = refl
+keys_kept_at key f same (x ∷ xs) zero = ap (λ n. n ∷ map key xs) (same x)
+keys_kept_at key f same (x ∷ xs) (suc p) = ap (λ ns. key x ∷ ns) (keys_kept_at key f same xs p)
+
+-- a write by number keeps the count
+pub length_kept : {A : Type 0} (key : A → ℕ) (f : A → A) (same : (x : A) → key (f x) ≡ key x) (xs : List A)
+    (k : ℕ)
+    → length (on_numbered key f xs k) ≡ length xs
+length_kept key f same xs k =
+    sym (length-map (on_numbered key f xs k) key) ∙ ap length (keys_kept key f same xs k) ∙ length-map xs key
+
+-- a write by place keeps the count
+pub length_kept_at : {A : Type 0} (key : A → ℕ) (f : A → A) (same : (x : A) → key (f x) ≡ key x) (xs : List A)
+    (p : ℕ)
+    → length (on_place f xs p) ≡ length xs
+length_kept_at key f same xs p =
+    sym (length-map (on_place f xs p) key) ∙ ap length (keys_kept_at key f same xs p) ∙ length-map xs key
+
+-- what holds of each element holds after a write that keeps it
+pub all_on_numbered : {A : Type 0} (P : A → Type 0) (key : A → ℕ) (f : A → A) (xs : List A) (k : ℕ)
+    → ((x : A) → numbered key xs k ≡ Some x → P x → P (f x)) → All P xs → All P (on_numbered key f xs k)
+all_on_numbered P key f [] k h all = All-nil P
+all_on_numbered P key f (x ∷ xs) k h all =
+    by (nat_eq k (key x)) refl (λ none. all_on_numbered P key f xs k (λ y at good. h y (ap (λ b. cond b (Some x) (numbered key xs k)) none ∙ at) good) (All-tail P x xs all))
+  where
+    by : (b : Bool) → nat_eq k (key x) ≡ b → (nat_eq k (key x) ≡ false → All P (on_numbered key f xs k))
+        → All P (if nat_eq k (key x) then f x ∷ xs else x ∷ on_numbered key f xs k)
+    by true e rest = subst (λ b. All P (cond b (f x ∷ xs) (x ∷ on_numbered key f xs k))) (sym e)
+        (All-cons P (f x) xs (h x (ap (λ b. cond b (Some x) (numbered key xs k)) e) (All-head P x xs all)) (All-tail P x xs all))
+    by false e rest = subst (λ b. All P (cond b (f x ∷ xs) (x ∷ on_numbered key f xs k))) (sym e)
+        (All-cons P x (on_numbered key f xs k) (All-head P x xs all) (rest e))
+
+-- what holds of each holds after a write by place that keeps it
+pub all_on_place : {A : Type 0} (P : A → Type 0) (f : A → A) (xs : List A) (p : ℕ)
+    → ((x : A) → slice_get xs p ≡ Some x → P x → P (f x)) → All P xs → All P (on_place f xs p)
+all_on_place P f [] p h all = All-nil P
+all_on_place P f (x ∷ xs) zero h all = All-cons P (f x) xs (h x refl (All-head P x xs all)) (All-tail P x xs all)
+all_on_place P f (x ∷ xs) (suc p) h all =
+    All-cons P x (on_place f xs p) (All-head P x xs all) (all_on_place P f xs p h (All-tail P x xs all))
+
+-- a test of some element of a mapped list
+pub list_any_map : {A : Type 0} (key : A → ℕ) (test : ℕ → Bool) (xs : List A)
+    → list_any test (map key xs) ≡ list_any (λ x. test (key x)) xs
+list_any_map key test [] = refl
+list_any_map key test (x ∷ xs) = ap (λ b. test (key x) || b) (list_any_map key test xs)
+
+-- what a look-up answers
+pub found_place : {A : Type 0} (key : A → ℕ) (xs : List A) (k : ℕ) (d : A) (o : Option ℕ)
+    → o ≡ place_of (map key xs) k → IfSome o (λ p. (p < length xs) × (key (get_or xs p d) ≡ k))
+found_place key xs k d None h = tt
+found_place key xs k d (Some p) h =
+    let place = place_is key xs k p (sym h) in
+    (place.inside, sym (eqb-true k (key (get_or xs p d)) (place.here d)))
+
+-- a write at the place of a number
+pub written_here : {A : Type 0} (key : A → ℕ) (f : A → A) (xs : List A) (k p : ℕ) (old new : A)
+    → IsPlace key xs k p → old ≡ get_or xs p old → new ≡ f old → set xs p new ≡ on_numbered key f xs k
+written_here key f xs k p old new place read made =
+    ap (λ x. set xs p x) (made ∙ ap f read) ∙ sym (on_numbered_here key f xs k p old place)

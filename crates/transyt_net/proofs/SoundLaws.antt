@@ -1,0 +1,254 @@
+-- A draft's calls keep it sound.
+use Rattle.std.proofs.Common.{[], ◌≡◌, ℕ, ◌-◌, ◌<◌, ◌≤◌, true, false, not, ◌&&◌, ◌||◌, ◌∷◌, ◌++◌, length, None, refl, sym, ap, subst, ◌∙◌, arith, nat_eq, nat_le, nat_lt, is_some, length-append, All, IfSome, slice_get}
+use Rattle.std.specs.List.{list_all}
+use Rattle.std.proofs.lemmas.Bool.{and_parts, or_parts, leb-true, leb-false, ltb-true, not-false}
+use Rattle.std.proofs.lemmas.Bool.Decides.{nat_tests}
+use Rattle.std.proofs.lemmas.List.{map-append}
+use Rattle.std.proofs.lemmas.List.Elements.{All-push, All-weaker, All-nil}
+use Rattle.transyt_net.specs.declared.node.Stage.{Stage}
+use Rattle.transyt_net.specs.declared.link.Feed.{Feed}
+use Rattle.transyt_net.specs.declared.link.GiveWay.{GiveWay}
+use Rattle.transyt_net.specs.declared.draft.DraftFault.TheVariants.{Twice, Unknown, Range, TooMany}
+use Rattle.transyt_net.specs.Parts.{LinkValue, PlanValue, Network}
+use Rattle.transyt_net.specs.Valid.{is_among, all_differ, within, on_place, node_number, link_number, node_numbers, link_numbers, stages_at, stage_total, is_fed, feeders, feeds_at, feeds_in, rule_at, IsSound, IsNode, IsLink, IsStage, IsFeed, IsRule}
+use Rattle.transyt_net.specs.Faults.{node_fault, node_in_range, new_node, with_node, last_place, stage_in_range, add_stage, stage_fault, with_stage, link_in_range, link_fault, with_link, are_links, feed_in_range, add_feed, feed_fault, with_feed, set_rule, rule_fault, with_rule, climb_fault, with_plan}
+use Rattle.transyt_net.proofs.PlaceLaws.{among_more, all_differ-push, keys_kept_at, length_kept_at, all_on_place, list_any_map}
+use Rattle.transyt_net.proofs.WriteLaws.{no_fault, in_range, all_in_range, stages_more, stages_more_at, link_with_more_nodes, link_with_more_numbers, links_written}
+
+-- a draft with a new node is sound
+pub sound_node : (net : Network) (number offset : ℕ) → IsSound net → node_fault net number offset ≡ None
+    → IsSound (with_node net number offset)
+sound_node net number offset h none =
+    let steps = net.frame.step_count in
+    let new = new_node number offset in
+    let once = no_fault (is_among (node_numbers net.nodes) number) Twice _ none in
+    let ranged = no_fault (not (node_in_range steps number offset)) Range _ once.1 in
+    let room = no_fault (nat_le 200 (length net.nodes)) TooMany _ ranged.1 in
+    let range = and_parts (within 1 99999 number) (nat_lt offset steps) (not-false _ ranged.0) in
+    let fits = and_parts (nat_le 1 number) (nat_le number 99999) range.0 in
+    let low = leb-true 1 number fits.0 in
+    let high = leb-true number 99999 fits.1 in
+    let below = ltb-true offset steps range.1 in
+    let few : length net.nodes < 200 = grind (arith, nat_tests) in
+    let longer = length-append net.nodes (new ∷ []) in
+    let among : (k : ℕ) → is_among (node_numbers net.nodes) k ≡ true → is_among (node_numbers (net.nodes ++ new ∷ [])) k ≡ true =
+    λ k a. subst (λ ks. is_among ks k ≡ true) (sym (map-append node_number net.nodes (new ∷ []))) (among_more (node_numbers net.nodes) (number ∷ []) k a) in
+    record {
+      frame = h.frame;
+      node_count = omega arith;
+      nodes_differ =
+          subst (λ ks. all_differ ks ≡ true) (sym (map-append node_number net.nodes (new ∷ []))) (all_differ-push (node_numbers net.nodes) number h.nodes_differ once.0);
+      nodes =
+          All-push (IsNode steps) net.nodes new h.nodes (record { number = (low, high); offset = below; stage_count = omega arith; stages = All-nil (IsStage steps) });
+      link_count = h.link_count;
+      links_differ = h.links_differ;
+      links = All-weaker _ (IsLink steps (net.nodes ++ new ∷ []) (link_numbers net.links))
+          (λ l. link_with_more_nodes steps net.nodes (net.nodes ++ new ∷ []) (link_numbers net.links) among (stages_more net.nodes new) l) net.links h.links;
+      plan = h.plan;
+    }
+
+-- no fault of a new node: its number is new
+pub new_number : (net : Network) (number offset : ℕ) → node_fault net number offset ≡ None
+    → is_among (node_numbers net.nodes) number ≡ false
+new_number net number offset none = (no_fault (is_among (node_numbers net.nodes) number) Twice _ none).0
+
+stage_is : (steps : ℕ) (s : Stage) → stage_in_range steps s ≡ true → IsStage steps s
+stage_is steps s h =
+    let both = and_parts (nat_lt s.change steps && nat_lt s.intergreen steps) (within 1 steps s.least) h in
+    let first = and_parts (nat_lt s.change steps) (nat_lt s.intergreen steps) both.0 in
+    record {
+      change = ltb-true s.change steps first.0;
+      intergreen = ltb-true s.intergreen steps first.1;
+      least = in_range 1 steps s.least both.1;
+    }
+
+-- a draft with a new stage is sound
+pub sound_stage : (net : Network) (s : Stage) → IsSound net → stage_fault net s ≡ None → IsSound (with_stage net s)
+sound_stage net s h none =
+    let steps = net.frame.step_count in
+    let p = last_place net.nodes in
+    let ranged = no_fault (not (stage_in_range steps s)) Range _ none in
+    let room = no_fault (nat_le 8 (stage_total (slice_get net.nodes p))) TooMany _ ranged.1 in
+    let numbers : node_numbers (on_place (add_stage s) net.nodes p) ≡ node_numbers net.nodes =
+    keys_kept_at node_number (add_stage s) (λ x. refl) net.nodes p in
+    let len = length_kept_at node_number (add_stage s) (λ x. refl) net.nodes p in
+    record {
+      frame = h.frame;
+      node_count = omega arith;
+      nodes_differ = subst (λ ks. all_differ ks ≡ true) (sym numbers) h.nodes_differ;
+      nodes = all_on_place (IsNode steps) (add_stage s) net.nodes p
+          (λ n at good.
+          let few : length n.stages < 8 =
+          leb-false 8 (length n.stages) (ap (λ o. nat_le 8 (stage_total o)) (sym at) ∙ room.0) in
+          let longer = length-append n.stages (s ∷ []) in
+          record { number = good.number; offset = good.offset; stage_count = omega arith; stages = All-push (IsStage steps) n.stages s good.stages (stage_is steps s (not-false _ ranged.0)) })
+          h.nodes;
+      link_count = h.link_count;
+      links_differ = h.links_differ;
+      links = All-weaker _ (IsLink steps (on_place (add_stage s) net.nodes p) (link_numbers net.links))
+          (λ l. link_with_more_nodes steps net.nodes (on_place (add_stage s) net.nodes p) (link_numbers net.links)
+          (λ k a. subst (λ ks. is_among ks k ≡ true) (sym numbers) a) (λ k. stages_more_at net.nodes s p k) l) net.links h.links;
+      plan = h.plan;
+    }
+
+-- a new link leaves the numbers that were there
+pub new_link_number : (net : Network) (l : LinkValue) → link_fault net l ≡ None
+    → is_among (link_numbers net.links) l.number ≡ false
+new_link_number net l none =
+    (or_parts (is_among (link_numbers net.links) l.number) (not (all_differ l.stages)) (no_fault (is_among (link_numbers net.links) l.number || not (all_differ l.stages)) Twice _ none).0).0
+
+-- a draft with a new link is sound
+pub sound_link : (net : Network) (l : LinkValue) → IsSound net → (1 ≤ length l.stages) × (length l.stages ≤ 8)
+    → l.feeds ≡ [] → l.gives_way ≡ None → link_fault net l ≡ None → IsSound (with_link net l)
+sound_link net l h count no_feeds no_rule none =
+    let steps = net.frame.step_count in
+    let numbers = link_numbers net.links in
+    let known = is_among (node_numbers net.nodes) l.node in
+    let runs = list_all (within 1 (stages_at net.nodes l.node)) l.stages in
+    let once = no_fault (is_among numbers l.number || not (all_differ l.stages)) Twice _ none in
+    let unknown = no_fault (not (known && runs)) Unknown _ once.1 in
+    let ranged = no_fault (not (link_in_range steps l)) Range _ unknown.1 in
+    let room = no_fault (nat_le 1000 (length net.links)) TooMany _ ranged.1 in
+    let apart = or_parts (is_among numbers l.number) (not (all_differ l.stages)) once.0 in
+    let names = and_parts known runs (not-false _ unknown.0) in
+    let r6 =
+    and_parts (within 1 99999 l.number && nat_le l.entry 9999 && within 100 9999 l.saturation && nat_le l.delay_weight 999 && nat_le l.stop_weight 999 && nat_lt l.start_lag steps) (nat_lt l.end_lag steps) (not-false _ ranged.0) in
+    let r5 =
+    and_parts (within 1 99999 l.number && nat_le l.entry 9999 && within 100 9999 l.saturation && nat_le l.delay_weight 999 && nat_le l.stop_weight 999) (nat_lt l.start_lag steps) r6.0 in
+    let r4 =
+    and_parts (within 1 99999 l.number && nat_le l.entry 9999 && within 100 9999 l.saturation && nat_le l.delay_weight 999) (nat_le l.stop_weight 999) r5.0 in
+    let r3 =
+    and_parts (within 1 99999 l.number && nat_le l.entry 9999 && within 100 9999 l.saturation) (nat_le l.delay_weight 999) r4.0 in
+    let r2 = and_parts (within 1 99999 l.number && nat_le l.entry 9999) (within 100 9999 l.saturation) r3.0 in
+    let r1 = and_parts (within 1 99999 l.number) (nat_le l.entry 9999) r2.0 in
+    let few = leb-false 1000 (length net.links) room.0 in
+    let longer = length-append net.links (l ∷ []) in
+    let keys : link_numbers (net.links ++ l ∷ []) ≡ numbers ++ l.number ∷ [] =
+    map-append link_number net.links (l ∷ []) in
+    let among : (k : ℕ) → is_among numbers k ≡ true → is_among (link_numbers (net.links ++ l ∷ [])) k ≡ true =
+    λ k a. subst (λ ks. is_among ks k ≡ true) (sym keys) (among_more numbers (l.number ∷ []) k a) in
+    let new : IsLink steps net.nodes (link_numbers (net.links ++ l ∷ [])) l = record {
+      number = in_range 1 99999 l.number r1.0;
+      node = names.0;
+      entry = leb-true l.entry 9999 r1.1;
+      saturation = in_range 100 9999 l.saturation r2.1;
+      delay_weight = leb-true l.delay_weight 999 r3.1;
+      stop_weight = leb-true l.stop_weight 999 r4.1;
+      start_lag = ltb-true l.start_lag steps r5.1;
+      end_lag = ltb-true l.end_lag steps r6.1;
+      stage_count = count;
+      stages_differ = not-false _ apart.1;
+      stages = all_in_range 1 (stages_at net.nodes l.node) l.stages names.1;
+      feed_count = subst (λ fs. length fs ≤ 8) (sym no_feeds) (omega arith);
+      feeders_differ = subst (λ fs. all_differ (feeders fs) ≡ true) (sym no_feeds) refl;
+      feeds =
+          subst (λ fs. All (IsFeed (link_numbers (net.links ++ l ∷ []))) fs) (sym no_feeds) (All-nil (IsFeed (link_numbers (net.links ++ l ∷ []))));
+      rule = subst (λ o. IfSome o (IsRule (link_numbers (net.links ++ l ∷ [])))) (sym no_rule) tt;
+    } in
+    record {
+      frame = h.frame;
+      node_count = h.node_count;
+      nodes_differ = h.nodes_differ;
+      nodes = h.nodes;
+      link_count = omega arith;
+      links_differ =
+          subst (λ ks. all_differ ks ≡ true) (sym keys) (all_differ-push numbers l.number h.links_differ apart.0);
+      links = All-push (IsLink steps net.nodes (link_numbers (net.links ++ l ∷ []))) net.links l
+          (All-weaker _ (IsLink steps net.nodes (link_numbers (net.links ++ l ∷ [])))
+          (λ x. link_with_more_numbers steps net.nodes numbers (link_numbers (net.links ++ l ∷ [])) among x) net.links h.links)
+          new;
+      plan = h.plan;
+    }
+
+-- a draft with a new feed is sound
+pub sound_feed : (net : Network) (link : ℕ) (f : Feed) → IsSound net → feed_fault net link f ≡ None
+    → IsSound (with_feed net link f)
+sound_feed net link f h none =
+    let once = no_fault (is_fed (feeds_at net.links link) f.feeder) Twice _ none in
+    let unknown = no_fault (not (are_links net link f.feeder)) Unknown _ once.1 in
+    let ranged = no_fault (not (feed_in_range f)) Range _ unknown.1 in
+    let room = no_fault (nat_le 8 (length (feeds_at net.links link))) TooMany _ ranged.1 in
+    let both =
+    and_parts (is_among (link_numbers net.links) link) (is_among (link_numbers net.links) f.feeder) (not-false _ unknown.0) in
+    let range = and_parts (nat_le f.flow 9999) (within 1 300 f.cruise) (not-false _ ranged.0) in
+    let good : IsFeed (link_numbers net.links) f =
+    record { feeder = both.1; flow = leb-true f.flow 9999 range.0; cruise = in_range 1 300 f.cruise range.1 } in
+    links_written net (add_feed f) (λ l. refl) link h (λ l at old.
+    let few = leb-false 8 (length l.feeds) (ap (λ o. nat_le 8 (length (feeds_in o))) (sym at) ∙ room.0) in
+    let longer = length-append l.feeds (f ∷ []) in
+    let absent : is_among (feeders l.feeds) f.feeder ≡ false =
+    list_any_map (λ x. x.feeder) (nat_eq f.feeder) l.feeds
+    ∙ ap (λ o. is_fed (feeds_in o) f.feeder) (sym at)
+    ∙ once.0 in
+    record {
+      number = old.number;
+      node = old.node;
+      entry = old.entry;
+      saturation = old.saturation;
+      delay_weight = old.delay_weight;
+      stop_weight = old.stop_weight;
+      start_lag = old.start_lag;
+      end_lag = old.end_lag;
+      stage_count = old.stage_count;
+      stages_differ = old.stages_differ;
+      stages = old.stages;
+      feed_count = omega arith;
+      feeders_differ =
+          subst (λ ks. all_differ ks ≡ true) (sym (map-append (λ x. x.feeder) l.feeds (f ∷ []))) (all_differ-push (feeders l.feeds) f.feeder old.feeders_differ absent);
+      feeds = All-push (IsFeed (link_numbers net.links)) l.feeds f old.feeds good;
+      rule = old.rule;
+    })
+
+-- a draft with a new give-way rule is sound
+pub sound_rule : (net : Network) (link : ℕ) (r : GiveWay) → IsSound net → rule_fault net link r ≡ None
+    → IsSound (with_rule net link r)
+sound_rule net link r h none =
+    let once = no_fault (is_some (rule_at net.links link)) Twice _ none in
+    let unknown = no_fault (not (are_links net link r.other)) Unknown _ once.1 in
+    let ranged = no_fault (not (nat_le r.percent 400)) Range _ unknown.1 in
+    let both =
+    and_parts (is_among (link_numbers net.links) link) (is_among (link_numbers net.links) r.other) (not-false _ unknown.0) in
+    let good : IsRule (link_numbers net.links) r =
+    record { other = both.1; percent = leb-true r.percent 400 (not-false _ ranged.0) } in
+    links_written net (set_rule r) (λ l. refl) link h (λ l at old. record {
+      number = old.number;
+      node = old.node;
+      entry = old.entry;
+      saturation = old.saturation;
+      delay_weight = old.delay_weight;
+      stop_weight = old.stop_weight;
+      start_lag = old.start_lag;
+      end_lag = old.end_lag;
+      stage_count = old.stage_count;
+      stages_differ = old.stages_differ;
+      stages = old.stages;
+      feed_count = old.feed_count;
+      feeders_differ = old.feeders_differ;
+      feeds = old.feeds;
+      rule = good;
+    })
+
+-- a draft with a climb plan is sound
+pub sound_plan : (net : Network) (p : PlanValue) → IsSound net → (1 ≤ length p.sizes) × (length p.sizes ≤ 16)
+    → climb_fault net p ≡ None → IsSound (with_plan net p)
+sound_plan net p h count none =
+    let steps = net.frame.step_count in
+    let ranged = no_fault (not (within 1 1000000 p.budget && list_all (within 1 (steps - 1)) p.sizes)) Range _ none in
+    let range =
+    and_parts (within 1 1000000 p.budget) (list_all (within 1 (steps - 1)) p.sizes) (not-false _ ranged.0) in
+    let least = h.frame.step_count in
+    record {
+      frame = h.frame;
+      node_count = h.node_count;
+      nodes_differ = h.nodes_differ;
+      nodes = h.nodes;
+      link_count = h.link_count;
+      links_differ = h.links_differ;
+      links = h.links;
+      plan = record {
+        budget = in_range 1 1000000 p.budget range.0;
+        size_count = count;
+        sizes =
+            All-weaker (λ k. (1 ≤ k) × (k ≤ steps - 1)) (λ k. (1 ≤ k) × (k < steps)) (λ k both. (both.0, omega arith)) p.sizes (all_in_range 1 (steps - 1) p.sizes range.1);
+      };
+    }

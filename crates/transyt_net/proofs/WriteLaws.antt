@@ -1,0 +1,175 @@
+-- Writes to nodes and links, and more of them, that keep a network sound.
+use Rattle.std.proofs.Common.{[], ◌≡◌, ℕ, suc, zero, ◌-◌, ◌≤◌, Bool, true, false, cond, List, ◌∷◌, ◌++◌, length, Option, Some, None, refl, sym, subst, arith, nat_eq, nat_le, length-append, All, IfSome, if◌then◌else◌}
+use Rattle.std.specs.List.{list_all}
+use Rattle.std.proofs.lemmas.Bool.{and_parts, leb-true}
+use Rattle.std.proofs.lemmas.List.Elements.{All-cons, All-weaker, All-nil}
+use Rattle.transyt_net.specs.declared.node.Stage.{Stage}
+use Rattle.transyt_net.specs.declared.link.GiveWay.{GiveWay}
+use Rattle.transyt_net.specs.Parts.{NodeValue, LinkValue, Network}
+use Rattle.transyt_net.specs.Valid.{is_among, all_differ, within, numbered, on_numbered, on_place, node_number, link_number, node_numbers, link_numbers, stages_at, stage_total, IsSound, IsNode, IsLink, IsFeed, IsRule}
+use Rattle.transyt_net.specs.Faults.{add_stage}
+use Rattle.transyt_net.proofs.PlaceLaws.{keys_kept, length_kept, all_on_numbered}
+
+-- a chain of tests that finds no fault has none that holds
+pub no_fault : {F : Type 0} (b : Bool) (f : F) (rest : Option F) → (if b then Some f else rest) ≡ None
+    → (b ≡ false) × (rest ≡ None)
+no_fault true f rest h = absurd (cc)
+no_fault false f rest h = (refl, h)
+
+-- the tests of ranges, as facts
+pub in_range : (low high n : ℕ) → within low high n ≡ true → (low ≤ n) × (n ≤ high)
+in_range low high n h =
+    let parts = and_parts (nat_le low n) (nat_le n high) h in (leb-true low n parts.0, leb-true n high parts.1)
+
+pub all_in_range : (low high : ℕ) (xs : List ℕ) → list_all (within low high) xs ≡ true
+    → All (λ k. (low ≤ k) × (k ≤ high)) xs
+all_in_range low high [] h = All-nil (λ k. (low ≤ k) × (k ≤ high))
+all_in_range low high (x ∷ xs) h =
+    let parts = and_parts (within low high x) (list_all (within low high) xs) h in
+    All-cons (λ k. (low ≤ k) × (k ≤ high)) x xs (in_range low high x parts.0) (all_in_range low high xs parts.1)
+
+-- a new node leaves what a node's number finds
+pub stages_more : (nodes : List NodeValue) (n : NodeValue) (k : ℕ) → stages_at nodes k ≤ stages_at (nodes ++ n ∷ []) k
+stages_more [] n k = omega arith
+stages_more (x ∷ xs) n k =
+    (elim (nat_eq k x.number) as (λ b. stage_total (cond b (Some x) (numbered node_number xs k)) ≤ stage_total (cond b (Some x) (numbered node_number (xs ++ n ∷ []) k))) [
+      | true ↦ omega arith
+      | false ↦ stages_more xs n k
+    ])
+
+pub stages_more_at : (nodes : List NodeValue) (s : Stage) (p k : ℕ)
+    → stages_at nodes k ≤ stages_at (on_place (add_stage s) nodes p) k
+stages_more_at [] s p k = omega arith
+stages_more_at (x ∷ xs) s zero k =
+    let longer = length-append x.stages (s ∷ []) in
+    (elim (nat_eq k x.number) as (λ b. stage_total (cond b (Some x) (numbered node_number xs k)) ≤ stage_total (cond b (Some (add_stage s x)) (numbered node_number xs k))) [
+      | true ↦ omega arith
+      | false ↦ omega arith
+    ])
+stages_more_at (x ∷ xs) s (suc p) k =
+    (elim (nat_eq k x.number) as (λ b. stage_total (cond b (Some x) (numbered node_number xs k)) ≤ stage_total (cond b (Some x) (numbered node_number (on_place (add_stage s) xs p) k))) [
+      | true ↦ omega arith
+      | false ↦ stages_more_at xs s p k
+    ])
+
+-- more nodes and stages hurt no link
+pub link_with_more_nodes : (steps : ℕ) (nodes more : List NodeValue) (numbers : List ℕ)
+    → ((k : ℕ) → is_among (node_numbers nodes) k ≡ true → is_among (node_numbers more) k ≡ true)
+    → ((k : ℕ) → stages_at nodes k ≤ stages_at more k)
+    → (l : LinkValue) → IsLink steps nodes numbers l → IsLink steps more numbers l
+link_with_more_nodes steps nodes more numbers among stages l h = record {
+  number = h.number;
+  node = among l.node h.node;
+  entry = h.entry;
+  saturation = h.saturation;
+  delay_weight = h.delay_weight;
+  stop_weight = h.stop_weight;
+  start_lag = h.start_lag;
+  end_lag = h.end_lag;
+  stage_count = h.stage_count;
+  stages_differ = h.stages_differ;
+  stages =
+      λ i d inside. let old = h.stages i d inside in let more_stages = stages l.node in (omega arith, omega arith);
+  feed_count = h.feed_count;
+  feeders_differ = h.feeders_differ;
+  feeds = h.feeds;
+  rule = h.rule;
+}
+
+-- more link numbers hurt no link
+pub link_with_more_numbers : (steps : ℕ) (nodes : List NodeValue) (numbers more : List ℕ)
+    → ((k : ℕ) → is_among numbers k ≡ true → is_among more k ≡ true)
+    → (l : LinkValue) → IsLink steps nodes numbers l → IsLink steps nodes more l
+link_with_more_numbers steps nodes numbers more among l h = record {
+  number = h.number;
+  node = h.node;
+  entry = h.entry;
+  saturation = h.saturation;
+  delay_weight = h.delay_weight;
+  stop_weight = h.stop_weight;
+  start_lag = h.start_lag;
+  end_lag = h.end_lag;
+  stage_count = h.stage_count;
+  stages_differ = h.stages_differ;
+  stages = h.stages;
+  feed_count = h.feed_count;
+  feeders_differ = h.feeders_differ;
+  feeds =
+      All-weaker (IsFeed numbers) (IsFeed more) (λ f good. record { feeder = among f.feeder good.feeder; flow = good.flow; cruise = good.cruise }) l.feeds h.feeds;
+  rule = rule l.gives_way h.rule;
+}
+  where
+    rule : (o : Option GiveWay) → IfSome o (IsRule numbers) → IfSome o (IsRule more)
+    rule None given = given
+    rule (Some r) given = record { other = among r.other given.other; percent = given.percent }
+
+-- a network whose links were written, each keeping its number
+pub links_written : (net : Network) (f : LinkValue → LinkValue) (same : (l : LinkValue) → (f l).number ≡ l.number)
+    (link : ℕ)
+    → IsSound net
+    → ((l : LinkValue) → numbered link_number net.links link ≡ Some l → IsLink net.frame.step_count net.nodes (link_numbers net.links) l → IsLink net.frame.step_count net.nodes (link_numbers net.links) (f l))
+    → IsSound (record net { links = on_numbered link_number f net.links link })
+links_written net f same link h keeps =
+    let numbers : link_numbers (on_numbered link_number f net.links link) ≡ link_numbers net.links =
+    keys_kept link_number f same net.links link in
+    let len = length_kept link_number f same net.links link in
+    record {
+      frame = h.frame;
+      node_count = h.node_count;
+      nodes_differ = h.nodes_differ;
+      nodes = h.nodes;
+      link_count = omega arith;
+      links_differ = subst (λ ks. all_differ ks ≡ true) (sym numbers) h.links_differ;
+      links =
+          subst (λ ks. All (IsLink net.frame.step_count net.nodes ks) (on_numbered link_number f net.links link)) (sym numbers)
+          (all_on_numbered (IsLink net.frame.step_count net.nodes (link_numbers net.links)) link_number f net.links link keeps h.links);
+      plan = h.plan;
+    }
+
+-- a network whose nodes were written, each keeping its number and the count of its stages
+pub nodes_written : (net : Network) (f : NodeValue → NodeValue) (same : (n : NodeValue) → (f n).number ≡ n.number)
+    (count : (n : NodeValue) → length (f n).stages ≡ length n.stages) (node : ℕ)
+    → IsSound net
+    → ((n : NodeValue) → numbered node_number net.nodes node ≡ Some n → IsNode net.frame.step_count n → IsNode net.frame.step_count (f n))
+    → IsSound (record net { nodes = on_numbered node_number f net.nodes node })
+nodes_written net f same count node h keeps =
+    let steps = net.frame.step_count in
+    let after = on_numbered node_number f net.nodes node in
+    let numbers : node_numbers after ≡ node_numbers net.nodes = keys_kept node_number f same net.nodes node in
+    let len = length_kept node_number f same net.nodes node in
+    record {
+      frame = h.frame;
+      node_count = omega arith;
+      nodes_differ = subst (λ ks. all_differ ks ≡ true) (sym numbers) h.nodes_differ;
+      nodes = all_on_numbered (IsNode steps) node_number f net.nodes node keeps h.nodes;
+      link_count = h.link_count;
+      links_differ = h.links_differ;
+      links = All-weaker _ (IsLink steps after (link_numbers net.links))
+          (λ l. link_with_more_nodes steps net.nodes after (link_numbers net.links)
+          (λ k a. subst (λ ks. is_among ks k ≡ true) (sym numbers) a) (λ k. stages_as_many net.nodes f same count node k) l) net.links h.links;
+      plan = h.plan;
+    }
+  where
+    stages_as_many : (nodes : List NodeValue) (f : NodeValue → NodeValue)
+        (same : (n : NodeValue) → (f n).number ≡ n.number)
+        (count : (n : NodeValue) → length (f n).stages ≡ length n.stages) (node k : ℕ)
+        → stages_at nodes k ≤ stages_at (on_numbered node_number f nodes node) k
+    stages_as_many [] f same count node k = omega arith
+    stages_as_many (x ∷ xs) f same count node k =
+        let longer = count x in
+        let rest = stages_as_many xs f same count node k in
+        let here : stage_total (numbered node_number (x ∷ xs) k) ≤ stage_total (numbered node_number (f x ∷ xs) k) =
+        subst (λ m. stage_total (numbered node_number (x ∷ xs) k) ≤ stage_total (if nat_eq k m then Some (f x) else numbered node_number xs k)) (sym (same x))
+        (elim (nat_eq k x.number) as (λ b. stage_total (cond b (Some x) (numbered node_number xs k)) ≤ stage_total (cond b (Some (f x)) (numbered node_number xs k))) [
+          | true ↦ omega arith
+          | false ↦ omega arith
+        ]) in
+        let there : stage_total (numbered node_number (x ∷ xs) k) ≤ stage_total (numbered node_number (x ∷ on_numbered node_number f xs node) k) =
+        (elim (nat_eq k x.number) as (λ b. stage_total (cond b (Some x) (numbered node_number xs k)) ≤ stage_total (cond b (Some x) (numbered node_number (on_numbered node_number f xs node) k))) [
+          | true ↦ omega arith
+          | false ↦ rest
+        ]) in
+        (elim (nat_eq node x.number) as (λ b. stage_total (numbered node_number (x ∷ xs) k) ≤ stage_total (numbered node_number (cond b (f x ∷ xs) (x ∷ on_numbered node_number f xs node)) k)) [
+          | true ↦ here
+          | false ↦ there
+        ])

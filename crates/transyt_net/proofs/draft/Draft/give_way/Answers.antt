@@ -1,0 +1,41 @@
+use Rattle.std.proofs.Common.{rules, ◌≡◌, ℕ, List, Some, None, refl, sym, ap, ◌∙◌, subst, set}
+use Rattle.transyt_net.specs.declared.link.GiveWay.{GiveWay}
+use Rattle.transyt_net.specs.Parts.{LinkValue, Network, network_of}
+use Rattle.transyt_net.specs.Valid.{IsSound, link_numbers, link_number, on_numbered, place_of}
+use Rattle.transyt_net.specs.Faults.{rule_fault, new_rule, set_rule, with_rule}
+use Rattle.transyt_net.proofs.PlaceLaws.{written_here, place_is, keys_kept}
+use Rattle.transyt_net.proofs.SoundLaws.{sound_rule}
+use Rattle.transyt_net.proofs.draft.Draft.give_way.Goals as goal
+
+-- the links as they are then
+written : (c : goal.After-self-1) → set c.self.inside.links.items c.in-Some-get_index_of.place c.set_rule.new.link
+    ≡ on_numbered link_number (set_rule (new_rule c.args.other c.args.percent)) c.self.inside.links.items c.args.link
+written c =
+    let items : List LinkValue = c.self.inside.links.items in
+    let p : ℕ = c.in-Some-get_index_of.place in
+    let old : LinkValue = c.index_mut-owner.result.now in
+    let at : place_of (link_numbers items) c.args.link ≡ Some p = search rules in
+    written_here link_number (set_rule (new_rule c.args.other c.args.percent)) items c.args.link p old c.set_rule.new.link
+    (place_is link_number items c.args.link p at) c.index_mut-owner.ensures.value c.set_rule.ensures
+
+pub invariant_of-self : goal.invariant_of-self
+invariant_of-self c =
+    let net : Network = network_of c.self.inside.frame c.self.inside.nodes.items
+    c.self.inside.links.items c.self.inside.plan in
+    let asked : GiveWay = new_rule c.args.other c.args.percent in
+    let none : rule_fault net c.args.link asked ≡ None = search rules in
+    let sound : IsSound (with_rule net c.args.link asked) = sound_rule net c.args.link asked c.self.invariant.0 none in (
+      subst (λ (ls : List LinkValue). IsSound (record net { links = ls })) (sym (written c)) sound,
+      c.self.invariant.1,
+      c.self.invariant.2
+          ∙ sym (keys_kept link_number (set_rule asked) (λ l. refl) net.links c.args.link)
+          ∙ ap link_numbers (sym (written c)),
+    )
+
+pub returns-clause-ok : goal.returns-clause-ok
+returns-clause-ok c =
+    let net : Network = network_of c.self.inside.frame c.self.inside.nodes.items
+    c.self.inside.links.items c.self.inside.plan in
+    let asked : GiveWay = new_rule c.args.other c.args.percent in
+    ap (λ (ls : List LinkValue). record net { links = ls }) (written c)
+    ∙ ap (λ (n : Network). with_rule n c.args.link asked) c.self.view_is

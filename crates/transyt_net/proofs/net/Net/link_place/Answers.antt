@@ -1,0 +1,10 @@
+use Rattle.std.proofs.Common.{rules, ◌≡◌}
+use Rattle.transyt_net.specs.Valid.{link_number, link_numbers, place_of}
+use Rattle.transyt_net.specs.Flow.{no_link}
+use Rattle.transyt_net.proofs.PlaceLaws.{found_place}
+use Rattle.transyt_net.proofs.net.Net.link_place.Goals as goal
+
+pub returns-clause-found : goal.returns-clause-found
+returns-clause-found c =
+    let at : c.get_index_of.result ≡ place_of (link_numbers c.args.self.now.links) c.args.number = search rules in
+    found_place link_number c.args.self.now.links c.args.number no_link c.get_index_of.result at

@@ -1,0 +1,10 @@
+use Rattle.std.proofs.Common.{rules, ◌≡◌}
+use Rattle.transyt_net.specs.Valid.{node_number, node_numbers, place_of}
+use Rattle.transyt_net.specs.Flow.{no_node}
+use Rattle.transyt_net.proofs.PlaceLaws.{found_place}
+use Rattle.transyt_net.proofs.net.Net.node_place.Goals as goal
+
+pub returns-clause-found : goal.returns-clause-found
+returns-clause-found c =
+    let at : c.get_index_of.result ≡ place_of (node_numbers c.args.self.now.nodes) c.args.number = search rules in
+    found_place node_number c.args.self.now.nodes c.args.number no_node c.get_index_of.result at

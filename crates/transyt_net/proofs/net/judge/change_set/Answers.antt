@@ -1,0 +1,13 @@
+use Rattle.std.proofs.Common.{List, ◌++◌, drop, length, take, set, get_or, ap, ◌∙◌, replicate}
+use Rattle.transyt_net.specs.declared.node.Stage.{Stage}
+use Rattle.transyt_net.specs.Plan.{no_stage}
+use Rattle.transyt_net.specs.Edits.{change_to}
+use Rattle.transyt_net.proofs.EditLaws.{changed_front}
+use Rattle.transyt_net.proofs.net.judge.change_set.Goals as goal
+
+pub returns : goal.returns
+returns c =
+    let items : List Stage = c.args.stages.now in
+    let rest : List Stage = drop (length items) (replicate 8 no_stage) in
+    ap (λ (front : List Stage). take (length items) (set (front ++ rest) c.args.place (change_to c.args.change (get_or (front ++ rest) c.args.place no_stage)))) c.copy_from_slice.ensures.after
+    ∙ changed_front items rest c.args.place c.args.change no_stage c.requires.place

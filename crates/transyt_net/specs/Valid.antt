@@ -1,0 +1,172 @@
+-- What the parts of a network keep to, and the part that a card number names.
+use Rattle.std.specs.Prelude.{suc, zero, ◌≡◌, ℕ, ◌<◌, ◌≤◌, Bool, true, false, ◌&&◌, not, nat_le, nat_eq, List, [], ◌∷◌, length, map, Option, Some, None, IfSome, All, position, IsTrue, if◌then◌else◌, slice_index_or}
+use Rattle.std.specs.List.{list_any}
+use Rattle.transyt_net.specs.declared.frame.Frame.{Frame}
+use Rattle.transyt_net.specs.declared.node.Stage.{Stage}
+use Rattle.transyt_net.specs.declared.link.Feed.{Feed}
+use Rattle.transyt_net.specs.declared.link.GiveWay.{GiveWay}
+use Rattle.transyt_net.specs.Parts.{NodeValue, LinkValue, PlanValue, Network}
+
+-- a node's card number
+abbrev pub node_number : NodeValue → ℕ
+node_number n = n.number
+
+-- a link's card number
+abbrev pub link_number : LinkValue → ℕ
+link_number l = l.number
+
+-- the nodes' card numbers in order
+abbrev pub node_numbers : List NodeValue → List ℕ
+node_numbers nodes = map node_number nodes
+
+-- the links' card numbers in order
+abbrev pub link_numbers : List LinkValue → List ℕ
+link_numbers links = map link_number links
+
+-- the first place of a number
+abbrev pub place_of : List ℕ → ℕ → Option ℕ
+place_of numbers number = position (nat_eq number) numbers
+
+-- p is the first place whose number is k
+pub record IsPlace {A : Type 0} (key : A → ℕ) (xs : List A) (k p : ℕ) : Type 0 where
+  pub inside : p < length xs
+  pub here : (d : A) → nat_eq k (key (slice_index_or xs p d)) ≡ true
+  pub first : (d : A) (i : ℕ) → i < p → nat_eq k (key (slice_index_or xs i d)) ≡ false
+
+-- no number stands twice
+abbrev pub all_differ : List ℕ → Bool
+all_differ [] = true
+all_differ (x ∷ xs) = not (list_any (nat_eq x) xs) && all_differ xs
+
+-- whether a number is one of low to high
+abbrev pub within : ℕ → ℕ → ℕ → Bool
+within low high n = nat_le low n && nat_le n high
+
+-- the first whose number this is
+abbrev pub numbered : {A : Type 0} → (A → ℕ) → List A → ℕ → Option A
+numbered key [] k = None
+numbered key (x ∷ xs) k = if nat_eq k (key x) then Some x else numbered key xs k
+
+-- the list, with f done to the first whose number this is
+abbrev pub on_numbered : {A : Type 0} → (A → ℕ) → (A → A) → List A → ℕ → List A
+on_numbered key f [] k = []
+on_numbered key f (x ∷ xs) k = if nat_eq k (key x) then f x ∷ xs else x ∷ on_numbered key f xs k
+
+-- the list, with f done at a place
+abbrev pub on_place : {A : Type 0} → (A → A) → List A → ℕ → List A
+on_place f [] p = []
+on_place f (x ∷ xs) zero = f x ∷ xs
+on_place f (x ∷ xs) (suc p) = x ∷ on_place f xs p
+
+-- how many stages a node has; 0 where there is none
+abbrev pub stage_total : Option NodeValue → ℕ
+stage_total None = 0
+stage_total (Some n) = length n.stages
+
+-- how many stages the node of this number has; 0 where there is no such node
+abbrev pub stages_at : List NodeValue → ℕ → ℕ
+stages_at nodes number = stage_total (numbered node_number nodes number)
+
+-- the feeds of a link; none where there is no link
+abbrev pub feeds_in : Option LinkValue → List Feed
+feeds_in None = []
+feeds_in (Some l) = l.feeds
+
+-- the feeds of the link of this number; none where there is no such link
+abbrev pub feeds_at : List LinkValue → ℕ → List Feed
+feeds_at links number = feeds_in (numbered link_number links number)
+
+-- the give-way rule of a link; none where there is no link
+abbrev pub rule_in : Option LinkValue → Option GiveWay
+rule_in None = None
+rule_in (Some l) = l.gives_way
+
+-- the rule of the link of this number
+abbrev pub rule_at : List LinkValue → ℕ → Option GiveWay
+rule_at links number = rule_in (numbered link_number links number)
+
+-- whether a number is among these
+abbrev pub is_among : List ℕ → ℕ → Bool
+is_among numbers number = list_any (nat_eq number) numbers
+
+-- the feeders of these feeds in order
+abbrev pub feeders : List Feed → List ℕ
+feeders feeds = map (λ f. f.feeder) feeds
+
+-- whether one of these feeds has this feeder
+abbrev pub is_fed : List Feed → ℕ → Bool
+is_fed feeds feeder = list_any (λ f. nat_eq feeder f.feeder) feeds
+
+-- whether each number of a frame is in its range
+abbrev pub is_frame : Frame → Bool
+is_frame f =
+    within 30 240 f.cycle && within 10 120 f.step_count && within 1 8 f.sweeps && within 15 120 f.period
+    && nat_le f.stop_penalty 9999 && nat_le f.dispersion 100
+
+-- what a feed keeps to
+pub record IsFeed (numbers : List ℕ) (f : Feed) : Type 0 where
+  pub feeder : IsTrue (is_among numbers f.feeder)
+  pub flow : f.flow ≤ 9999
+  pub cruise : (1 ≤ f.cruise) × (f.cruise ≤ 300)
+
+-- what a give-way rule keeps to
+pub record IsRule (numbers : List ℕ) (r : GiveWay) : Type 0 where
+  pub other : IsTrue (is_among numbers r.other)
+  pub percent : r.percent ≤ 400
+
+-- what a stage keeps to
+pub record IsStage (steps : ℕ) (s : Stage) : Type 0 where
+  pub change : s.change < steps
+  pub intergreen : s.intergreen < steps
+  pub least : (1 ≤ s.least) × (s.least ≤ steps)
+
+-- what a node keeps to, its plan apart
+pub record IsNode (steps : ℕ) (n : NodeValue) : Type 0 where
+  pub number : (1 ≤ n.number) × (n.number ≤ 99999)
+  pub offset : n.offset < steps
+  pub stage_count : length n.stages ≤ 8
+  pub stages : All (IsStage steps) n.stages
+
+-- what a link keeps to, among these nodes and link numbers
+pub record IsLink (steps : ℕ) (nodes : List NodeValue) (numbers : List ℕ) (l : LinkValue) : Type 0 where
+  pub number : (1 ≤ l.number) × (l.number ≤ 99999)
+  pub node : IsTrue (is_among (node_numbers nodes) l.node)
+  pub entry : l.entry ≤ 9999
+  pub saturation : (100 ≤ l.saturation) × (l.saturation ≤ 9999)
+  pub delay_weight : l.delay_weight ≤ 999
+  pub stop_weight : l.stop_weight ≤ 999
+  pub start_lag : l.start_lag < steps
+  pub end_lag : l.end_lag < steps
+  pub stage_count : (1 ≤ length l.stages) × (length l.stages ≤ 8)
+  pub stages_differ : IsTrue (all_differ l.stages)
+  pub stages : All (λ k. (1 ≤ k) × (k ≤ stages_at nodes l.node)) l.stages
+  pub feed_count : length l.feeds ≤ 8
+  pub feeders_differ : IsTrue (all_differ (feeders l.feeds))
+  pub feeds : All (IsFeed numbers) l.feeds
+  pub rule : IfSome l.gives_way (IsRule numbers)
+
+-- what a climb plan keeps to
+pub record IsPlan (steps : ℕ) (p : PlanValue) : Type 0 where
+  pub budget : (1 ≤ p.budget) × (p.budget ≤ 1000000)
+  pub size_count : (1 ≤ length p.sizes) × (length p.sizes ≤ 16)
+  pub sizes : All (λ h. (1 ≤ h) × (h < steps)) p.sizes
+
+-- what a frame keeps to
+pub record IsFrame (f : Frame) : Type 0 where
+  pub cycle : (30 ≤ f.cycle) × (f.cycle ≤ 240)
+  pub step_count : (10 ≤ f.step_count) × (f.step_count ≤ 120)
+  pub sweeps : (1 ≤ f.sweeps) × (f.sweeps ≤ 8)
+  pub period : (15 ≤ f.period) × (f.period ≤ 120)
+  pub stop_penalty : f.stop_penalty ≤ 9999
+  pub dispersion : f.dispersion ≤ 100
+
+-- a valid network, but for its stage plans
+pub record IsSound (net : Network) : Type 0 where
+  pub frame : IsFrame net.frame
+  pub node_count : length net.nodes ≤ 200
+  pub nodes_differ : IsTrue (all_differ (node_numbers net.nodes))
+  pub nodes : All (IsNode net.frame.step_count) net.nodes
+  pub link_count : length net.links ≤ 1000
+  pub links_differ : IsTrue (all_differ (link_numbers net.links))
+  pub links : All (IsLink net.frame.step_count net.nodes (link_numbers net.links)) net.links
+  pub plan : IfSome net.plan (IsPlan net.frame.step_count)

@@ -1,0 +1,332 @@
+//! A network that is being made.
+
+ghost use Rattle.std.specs.Prelude.{◌≡◌, ℕ, ◌-◌, ◌<◌, ◌≤◌, length, IfSome, IfNone, IfErr, IfOk, OnOk, OnErr, IsTrue, IsOk, IsErrOf, ◌↔◌, ◌++◌, ◌∷◌, []};
+ghost use Rattle.transyt_net.specs.Valid.{node_numbers, link_numbers, place_of, is_frame, is_among};
+ghost use Rattle.indexmap.specs.IndexSet.{spare};
+ghost use Rattle.transyt_net.specs.Plan.{first_fault, IsValid};
+ghost use Rattle.transyt_net.specs.Faults.{empty, node_fault, with_node, new_stage, stage_fault, with_stage, new_link, link_fault, with_link, new_feed, feed_fault, with_feed, new_rule, rule_fault, with_rule, new_plan, climb_fault, with_plan};
+
+mod fault;
+
+use crate::climb_plan::ClimbPlan;
+use crate::frame::Frame;
+use crate::link::{Feed, GiveWay, Link, add_feed, set_rule};
+use crate::net::Net;
+use crate::node::{Node, Stage, add_stage};
+use crate::places::add_number;
+use crate::plan_fault::{PlanFault, first_fault};
+use crate::range::is_frame_in_range;
+use indexmap::IndexSet;
+use std::alloc::{AllocError, AllocFailed, Global};
+use std::marker::Model;
+
+/// Why a draft refuses, in the order in which the faults are asked for.
+#[derive(Clone, Copy, Debug, PartialEq, Eq)]
+pub enum DraftFault {
+    /// The number, the feeder or the rule is there already (16).
+    Twice,
+    /// The node, the stage or the link is unknown (17).
+    Unknown,
+    /// A number is out of its range (14).
+    Range,
+    /// No more of these fit: 200 nodes, 8 stages of a node, 1,000 links, 8 feeds of a link (20).
+    TooMany,
+    /// Memory was wanting. It comes only where no other fault holds.
+    Memory,
+}
+
+impl<T: Drop> From<AllocFailed<T>> for DraftFault {
+    ghost use Rattle.transyt_net.specs.declared.draft.DraftFault.TheVariants.{Memory};
+
+    ghost from_gives = { λ _ fault. fault ≡ Memory };
+
+    fn from(_e: AllocFailed<T>) -> DraftFault {
+        DraftFault::Memory
+    }
+}
+
+impl From<AllocError> for DraftFault {
+    ghost use Rattle.transyt_net.specs.declared.draft.DraftFault.TheVariants.{Memory};
+
+    ghost from_gives = { λ _ fault. fault ≡ Memory };
+
+    fn from(_e: AllocError) -> DraftFault {
+        DraftFault::Memory
+    }
+}
+
+/// A network that is being made: always valid, but for its stage plans.
+///
+/// Each call refuses with the first fault that holds, in the order of `DraftFault`, and a refusal
+/// changes nothing, want of memory included. The calls may come in any order that their conditions
+/// leave.
+#[derive(Drop)]
+pub struct Draft {
+    alloc: Global,
+    frame: Frame,
+    nodes: Vec<Node>,
+    links: Vec<Link>,
+    plan: Option<ClimbPlan>,
+    node_places: IndexSet<u32>,
+    link_places: IndexSet<u32>,
+}
+
+impl Model for Draft {
+    ghost use Rattle.std.specs.Prelude.{◌≡◌};
+    ghost use Rattle.transyt_net.specs.Parts.{Network, network_of};
+
+    ghost Value = { Network };
+
+    ghost use Rattle.transyt_net.specs.Valid.{IsSound, node_numbers, link_numbers};
+
+    ghost view = { λ n. network_of n.frame n.nodes.items n.links.items n.plan };
+
+    ghost invariant = { λ n.
+        IsSound (network_of n.frame n.nodes.items n.links.items n.plan)
+        × (n.node_places.keys ≡ node_numbers n.nodes.items)
+        × (n.link_places.keys ≡ link_numbers n.links.items) };
+}
+
+impl Draft {
+    /// An empty draft with this frame, or Range where a number of the frame is out of range. It
+    /// takes no memory; `alloc` serves the later calls.
+    pub fn new(alloc: Global, frame: Frame) -> Result<Draft, DraftFault>
+        ensures ok { IfOk result (λ draft. draft ≡ empty frame) }
+        ensures err { IfErr result (λ fault. fault ≡ DraftFault.Range) }
+        ensures fault { IsOk result ↔ IsTrue (is_frame frame) }
+    {
+        if !is_frame_in_range(frame) {
+            return Err(DraftFault::Range);
+        }
+        Ok(Draft {
+            alloc,
+            frame,
+            nodes: Vec::new(alloc),
+            links: Vec::new(alloc),
+            plan: None,
+            node_places: IndexSet::new(alloc),
+            link_places: IndexSet::new(alloc),
+        })
+    }
+
+    /// Adds a node, which has no stage yet. `offset` is in steps.
+    ///
+    /// Twice where a node has this number, Range, TooMany where there are 200 nodes, in this order.
+    pub fn node(&mut self, number: u32, offset: u32) -> Result<(), DraftFault>
+        ensures fault { IfSome (node_fault self.old number offset) (λ fault. IsErrOf result fault) }
+        ensures memory { IfNone (node_fault self.old number offset)
+            (IfErr result (λ fault. fault ≡ DraftFault.Memory)) }
+        ensures ok { OnOk result (self.new ≡ with_node self.old number offset) }
+        ensures err { OnErr result (self.new ≡ self.old) }
+    {
+        if let Some(fault) = self.node_fault(number, offset) {
+            return Err(fault);
+        }
+        self.nodes.reserve(1)?;
+        self.node_places.reserve(1)?;
+        let node = Node {
+            number,
+            offset,
+            stages: Vec::new(self.alloc),
+        };
+        if self.nodes.push(node).is_err() {
+            unreachable!();
+        }
+        add_number(&mut self.node_places, number);
+        Ok(())
+    }
+
+    /// Adds a stage to the last node. All three are in steps.
+    ///
+    /// Range, or else TooMany where the node has 8 stages.
+    pub fn stage(&mut self, change: u32, intergreen: u32, least: u32) -> Result<(), DraftFault>
+        requires { 0 < length self.old.nodes }
+        ensures fault { IfSome (stage_fault self.old (new_stage change intergreen least))
+            (λ fault. IsErrOf result fault) }
+        ensures memory { IfNone (stage_fault self.old (new_stage change intergreen least))
+            (IfErr result (λ fault. fault ≡ DraftFault.Memory)) }
+        ensures ok { OnOk result (self.new ≡ with_stage self.old
+            (new_stage change intergreen least)) }
+        ensures err { OnErr result (self.new ≡ self.old) }
+        ensures count { length self.new.nodes ≡ length self.old.nodes }
+    {
+        let stage = Stage {
+            change,
+            intergreen,
+            least,
+        };
+        if let Some(fault) = self.stage_fault(stage) {
+            return Err(fault);
+        }
+        let last = self.nodes.len() - 1;
+        let node = &mut self.nodes[last];
+        add_stage(node, stage)?;
+        Ok(())
+    }
+
+    /// Adds a link, which has neither feeds nor a rule yet.
+    ///
+    /// Flows are in vehicles per hour, lags in steps, and `stages` are the stages of `node`, each
+    /// from 1. Twice where a link has this number or a stage stands twice; Unknown where there is
+    /// no such node, or it hasn't one of the stages; Range; TooMany where there are 1,000 links; in
+    /// this order.
+    pub fn link(
+        &mut self,
+        number: u32,
+        node: u32,
+        entry: u32,
+        saturation: u32,
+        delay_weight: u32,
+        stop_weight: u32,
+        start_lag: u32,
+        end_lag: u32,
+        stages: &[u32],
+    ) -> Result<(), DraftFault>
+        requires some { 1 ≤ length stages.now }
+        requires most { length stages.now ≤ 8 }
+        ensures fault { IfSome (link_fault self.old
+            (new_link number node entry saturation delay_weight stop_weight
+            start_lag end_lag stages.now))
+            (λ fault. IsErrOf result fault) }
+        ensures memory { IfNone (link_fault self.old
+            (new_link number node entry saturation delay_weight stop_weight
+            start_lag end_lag stages.now))
+            (IfErr result (λ fault. fault ≡ DraftFault.Memory)) }
+        ensures ok { OnOk result (self.new ≡ with_link self.old
+            (new_link number node entry saturation delay_weight stop_weight
+            start_lag end_lag stages.now)) }
+        ensures err { OnErr result (self.new ≡ self.old) }
+    {
+        if let Some(fault) = self.link_fault(
+            number,
+            node,
+            entry,
+            saturation,
+            delay_weight,
+            stop_weight,
+            start_lag,
+            end_lag,
+            stages,
+        ) {
+            return Err(fault);
+        }
+        let stages = Vec::from_slice(self.alloc, stages)?;
+        self.links.reserve(1)?;
+        self.link_places.reserve(1)?;
+        let link = Link {
+            number,
+            node,
+            entry,
+            saturation,
+            delay_weight,
+            stop_weight,
+            start_lag,
+            end_lag,
+            stages,
+            feeds: Vec::new(self.alloc),
+            gives_way: None,
+        };
+        if self.links.push(link).is_err() {
+            unreachable!();
+        }
+        add_number(&mut self.link_places, number);
+        Ok(())
+    }
+
+    /// Adds a feed of a link, after those that it has. `flow` is in vehicles per hour, `cruise` in
+    /// seconds.
+    ///
+    /// Twice where this feeder feeds the link already, Unknown where one of the two is no link,
+    /// Range, TooMany where the link has 8 feeds, in this order.
+    pub fn feed(&mut self, link: u32, feeder: u32, flow: u32, cruise: u32) -> Result<(), DraftFault>
+        ensures fault { IfSome (feed_fault self.old link (new_feed feeder flow cruise))
+            (λ fault. IsErrOf result fault) }
+        ensures memory { IfNone (feed_fault self.old link (new_feed feeder flow cruise))
+            (IfErr result (λ fault. fault ≡ DraftFault.Memory)) }
+        ensures ok { OnOk result (self.new ≡ with_feed self.old link
+            (new_feed feeder flow cruise)) }
+        ensures err { OnErr result (self.new ≡ self.old) }
+    {
+        let feed = Feed {
+            feeder,
+            flow,
+            cruise,
+        };
+        if let Some(fault) = self.feed_fault(link, feed) {
+            return Err(fault);
+        }
+        let Some(place) = self.link_places.get_index_of(&link) else {
+            unreachable!();
+        };
+        let owner = &mut self.links[place];
+        add_feed(owner, feed)?;
+        Ok(())
+    }
+
+    /// Sets the give-way rule of a link. It takes no memory.
+    ///
+    /// Twice where the link has a rule already, Unknown where one of the two is no link, Range
+    /// where `percent` is above 400, in this order.
+    pub fn give_way(&mut self, link: u32, other: u32, percent: u32) -> Result<(), DraftFault>
+        ensures fault { IfSome (rule_fault self.old link (new_rule other percent))
+            (λ fault. IsErrOf result fault) }
+        ensures free { IfNone (rule_fault self.old link (new_rule other percent)) (IsOk result) }
+        ensures ok { OnOk result (self.new ≡ with_rule self.old link (new_rule other percent)) }
+        ensures err { OnErr result (self.new ≡ self.old) }
+    {
+        let rule = GiveWay { other, percent };
+        if let Some(fault) = self.rule_fault(link, rule) {
+            return Err(fault);
+        }
+        let Some(place) = self.link_places.get_index_of(&link) else {
+            unreachable!();
+        };
+        let owner = &mut self.links[place];
+        set_rule(owner, rule);
+        Ok(())
+    }
+
+    /// Sets the climb plan. `sizes` are in steps, each from 1 and below the number of steps.
+    pub fn plan(&mut self, budget: u32, sizes: &[u32]) -> Result<(), DraftFault>
+        requires unset { self.old.plan ≡ None }
+        requires some { 1 ≤ length sizes.now }
+        requires most { length sizes.now ≤ 16 }
+        ensures fault { IfSome (climb_fault self.old (new_plan budget sizes.now))
+            (λ fault. IsErrOf result fault) }
+        ensures memory { IfNone (climb_fault self.old (new_plan budget sizes.now))
+            (IfErr result (λ fault. fault ≡ DraftFault.Memory)) }
+        ensures ok { OnOk result (self.new ≡ with_plan self.old (new_plan budget sizes.now)) }
+        ensures err { OnErr result (self.new ≡ self.old) }
+    {
+        if let Some(fault) = self.climb_fault(budget, sizes) {
+            return Err(fault);
+        }
+        let sizes = Vec::from_slice(self.alloc, sizes)?;
+        self.plan = Some(ClimbPlan { budget, sizes });
+        Ok(())
+    }
+
+    /// The first fault of the nodes' plans, node by node in order.
+    pub fn judge(&self) -> Option<PlanFault>
+        ensures { result ≡ first_fault self.now.frame.step_count self.now.nodes }
+    {
+        first_fault(self.frame.step_count, &self.nodes)
+    }
+
+    /// The network that was made. It takes no memory.
+    pub fn close(self) -> Net
+        requires { first_fault self.frame.step_count self.nodes ≡ None }
+        ensures { result ≡ self }
+    {
+        let Draft {
+            alloc: _,
+            frame,
+            nodes,
+            links,
+            plan,
+            node_places,
+            link_places,
+        } = self;
+        Net::of_parts(frame, nodes, links, plan, node_places, link_places)
+    }
+}

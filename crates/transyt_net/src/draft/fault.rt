@@ -1,0 +1,163 @@
+//! The first fault of each call of a draft.
+
+ghost use Rattle.std.specs.Prelude.{is_some, ◌≡◌, ℕ, ◌-◌, ◌<◌, length, true, false, ◌&&◌};
+ghost use Rattle.std.specs.List.{list_all};
+ghost use Rattle.transyt_net.specs.Valid.{node_numbers, link_numbers, is_among, within, all_differ, is_fed, stages_at, feeds_at, rule_at};
+ghost use Rattle.transyt_net.specs.Faults.{node_fault, stage_fault, new_link, link_fault, are_links, feed_fault, rule_fault, new_plan, climb_fault};
+
+use super::{Draft, DraftFault};
+use crate::link::{Feed, GiveWay};
+use crate::node::Stage;
+use crate::places::{is_fed, link_at, stages_at};
+use crate::range::{
+    all_differ, all_within, is_feed_in_range, is_link_in_range, is_node_in_range,
+    is_stage_in_range, is_within,
+};
+
+impl Draft {
+    /// The first fault of a new node.
+    pub(super) fn node_fault(&self, number: u32, offset: u32) -> Option<DraftFault>
+        ensures { result ≡ node_fault self.now number offset }
+    {
+        if self.node_places.contains(&number) {
+            return Some(DraftFault::Twice);
+        }
+        if !is_node_in_range(self.frame.step_count, number, offset) {
+            return Some(DraftFault::Range);
+        }
+        if self.nodes.len() >= 200 {
+            return Some(DraftFault::TooMany);
+        }
+        None
+    }
+
+    /// The first fault of a new stage of the last node.
+    pub(super) fn stage_fault(&self, stage: Stage) -> Option<DraftFault>
+        requires { 0 < length self.now.nodes }
+        ensures { result ≡ stage_fault self.now stage }
+    {
+        if !is_stage_in_range(self.frame.step_count, stage) {
+            return Some(DraftFault::Range);
+        }
+        let last = &self.nodes[self.nodes.len() - 1];
+        if last.stages.len() >= 8 {
+            return Some(DraftFault::TooMany);
+        }
+        None
+    }
+
+    /// Whether the link of this number has a give-way rule.
+    fn has_rule(&self, link: u32) -> bool
+        ensures { result ≡ is_some (rule_at self.now.links link) }
+    {
+        match link_at(&self.link_places, &self.links, link) {
+            Some(owner) => owner.gives_way.is_some(),
+            None => false,
+        }
+    }
+
+    /// How many feeds the link of this number has.
+    fn feed_count(&self, link: u32) -> usize
+        ensures { result ≡ length (feeds_at self.now.links link) }
+    {
+        match link_at(&self.link_places, &self.links, link) {
+            Some(owner) => owner.feeds.len(),
+            None => 0,
+        }
+    }
+
+    /// Whether both are numbers of links.
+    fn are_links(&self, a: u32, b: u32) -> bool
+        ensures { result ≡ are_links self.now a b }
+    {
+        self.link_places.contains(&a) && self.link_places.contains(&b)
+    }
+
+    /// The first fault of a new link.
+    pub(super) fn link_fault(
+        &self,
+        number: u32,
+        node: u32,
+        entry: u32,
+        saturation: u32,
+        delay_weight: u32,
+        stop_weight: u32,
+        start_lag: u32,
+        end_lag: u32,
+        stages: &[u32],
+    ) -> Option<DraftFault>
+        ensures { result ≡ link_fault self.now
+            (new_link number node entry saturation delay_weight stop_weight
+            start_lag end_lag stages.now) }
+    {
+        if self.link_places.contains(&number) || !all_differ(stages) {
+            return Some(DraftFault::Twice);
+        }
+        let count = stages_at(&self.node_places, &self.nodes, node);
+        if !(self.node_places.contains(&node) && all_within(1, count, stages)) {
+            return Some(DraftFault::Unknown);
+        }
+        if !is_link_in_range(
+            self.frame.step_count,
+            number,
+            entry,
+            saturation,
+            delay_weight,
+            stop_weight,
+            start_lag,
+            end_lag,
+        ) {
+            return Some(DraftFault::Range);
+        }
+        if self.links.len() >= 1000 {
+            return Some(DraftFault::TooMany);
+        }
+        None
+    }
+
+    /// The first fault of a new feed.
+    pub(super) fn feed_fault(&self, link: u32, feed: Feed) -> Option<DraftFault>
+        ensures { result ≡ feed_fault self.now link feed }
+    {
+        if is_fed(&self.link_places, &self.links, link, feed.feeder) {
+            return Some(DraftFault::Twice);
+        }
+        if !self.are_links(link, feed.feeder) {
+            return Some(DraftFault::Unknown);
+        }
+        if !is_feed_in_range(feed) {
+            return Some(DraftFault::Range);
+        }
+        if self.feed_count(link) >= 8 {
+            return Some(DraftFault::TooMany);
+        }
+        None
+    }
+
+    /// The first fault of a new give-way rule.
+    pub(super) fn rule_fault(&self, link: u32, rule: GiveWay) -> Option<DraftFault>
+        ensures { result ≡ rule_fault self.now link rule }
+    {
+        if self.has_rule(link) {
+            return Some(DraftFault::Twice);
+        }
+        if !self.are_links(link, rule.other) {
+            return Some(DraftFault::Unknown);
+        }
+        if rule.percent > 400 {
+            return Some(DraftFault::Range);
+        }
+        None
+    }
+
+    /// The fault of a climb plan.
+    pub(super) fn climb_fault(&self, budget: u32, sizes: &[u32]) -> Option<DraftFault>
+        ensures { result ≡ climb_fault self.now (new_plan budget sizes.now) }
+    {
+        let most = self.frame.step_count - 1;
+        if !(is_within(1, 1_000_000, budget) && all_within(1, most as usize, sizes)) {
+            return Some(DraftFault::Range);
+        }
+        None
+    }
+}

@@ -1,0 +1,207 @@
+//! The network.
+
+ghost use Rattle.std.specs.Prelude.{◌≡◌, ℕ, ◌+◌, ◌*◌, ◌/◌, ◌<◌, ◌≤◌, ◌^◌, length, IfSome, IfNone, IfOk, ◌↔◌, IsTrue, false};
+ghost use Rattle.std.specs.Option.{option_map};
+ghost use Rattle.transyt_net.specs.Valid.{node_numbers, link_numbers, place_of, is_among};
+ghost use Rattle.transyt_net.specs.Shape.{SameShape, same_shape};
+ghost use Rattle.transyt_net.specs.Flow.{node_of, link_of, perstep, total_flow};
+ghost use Rattle.transyt_net.specs.Plan.{IsValid};
+ghost use Rattle.transyt_net.specs.Parts.{network_of, with_cycle};
+
+mod apply;
+mod judge;
+
+use crate::climb_plan::ClimbPlan;
+use crate::copy::{copy_links, copy_nodes, copy_numbers, copy_plan};
+use crate::frame::Frame;
+use crate::link::{Link, all_flow};
+use crate::node::Node;
+use crate::shape::{same_frame, same_links, same_nodes, same_plan, take_links, take_nodes};
+use indexmap::IndexSet;
+use std::alloc::{AllocError, Global};
+use std::marker::Model;
+
+/// A network that is valid at all times.
+///
+/// A contract sees its frame, its nodes, its links and its climb plan or none, in card order. That
+/// it is valid is told by the clause `valid` of the accessors.
+#[derive(Drop)]
+pub struct Net {
+    frame: Frame,
+    nodes: Vec<Node>,
+    links: Vec<Link>,
+    plan: Option<ClimbPlan>,
+    node_places: IndexSet<u32>,
+    link_places: IndexSet<u32>,
+}
+
+impl Model for Net {
+    ghost use Rattle.std.specs.Prelude.{◌≡◌};
+    ghost use Rattle.transyt_net.specs.Parts.{Network, network_of};
+
+    ghost Value = { Network };
+
+    ghost use Rattle.transyt_net.specs.Plan.{IsValid};
+    ghost use Rattle.transyt_net.specs.Valid.{node_numbers, link_numbers};
+
+    ghost view = { λ n. network_of n.frame n.nodes.items n.links.items n.plan };
+
+    ghost invariant = { λ n.
+        IsValid (network_of n.frame n.nodes.items n.links.items n.plan)
+        × (n.node_places.keys ≡ node_numbers n.nodes.items)
+        × (n.link_places.keys ≡ link_numbers n.links.items) };
+}
+
+impl Net {
+    /// The network of these parts.
+    pub(crate) fn of_parts(
+        frame: Frame,
+        nodes: Vec<Node>,
+        links: Vec<Link>,
+        plan: Option<ClimbPlan>,
+        node_places: IndexSet<u32>,
+        link_places: IndexSet<u32>,
+    ) -> Net
+        requires valid { IsValid (network_of frame nodes.items links.items plan) }
+        requires node_places { node_places.keys ≡ node_numbers nodes.items }
+        requires link_places { link_places.keys ≡ link_numbers links.items }
+        ensures { result ≡ network_of frame nodes.items links.items plan }
+    {
+        Net {
+            frame,
+            nodes,
+            links,
+            plan,
+            node_places,
+            link_places,
+        }
+    }
+
+    /// What holds for the whole network.
+    pub fn frame(&self) -> Frame
+        ensures value { result ≡ self.now.frame }
+        ensures valid { IsValid self.now }
+    {
+        self.frame
+    }
+
+    /// The nodes in card order.
+    pub fn nodes(&self) -> &[Node]
+        ensures value { result.now ≡ self.now.nodes }
+        ensures valid { IsValid self.now }
+    {
+        &self.nodes
+    }
+
+    /// The links in card order.
+    pub fn links(&self) -> &[Link]
+        ensures value { result.now ≡ self.now.links }
+        ensures valid { IsValid self.now }
+    {
+        &self.links
+    }
+
+    /// The climb plan, if there is one.
+    pub fn plan(&self) -> Option<&ClimbPlan>
+        ensures value { option_map (λ p. p.now) result ≡ self.now.plan }
+        ensures valid { IsValid self.now }
+    {
+        self.plan.as_ref()
+    }
+
+    /// The place of a node's number, from 0 in card order.
+    pub fn node_place(&self, number: u32) -> Option<usize>
+        ensures place { result ≡ place_of (node_numbers self.now.nodes) number }
+        ensures found { IfSome result (λ p.
+            (p < length self.now.nodes) × ((node_of self.now p).number ≡ number)) }
+        ensures absent { IfNone result (is_among (node_numbers self.now.nodes) number ≡ false) }
+    {
+        self.node_places.get_index_of(&number)
+    }
+
+    /// The place of a link's number, from 0 in card order.
+    pub fn link_place(&self, number: u32) -> Option<usize>
+        ensures place { result ≡ place_of (link_numbers self.now.links) number }
+        ensures found { IfSome result (λ p.
+            (p < length self.now.links) × ((link_of self.now p).number ≡ number)) }
+        ensures absent { IfNone result (is_among (link_numbers self.now.links) number ≡ false) }
+    {
+        self.link_places.get_index_of(&number)
+    }
+
+    /// A flow in vehicles per hour as units per step, rounded down. A unit is a millionth of a
+    /// vehicle.
+    pub fn per_step(&self, flow: u32) -> u64
+        requires { flow ≤ 100000 }
+        ensures value { result ≡ perstep self.now.frame flow }
+        ensures small { result < 2 ^ 30 }
+    {
+        flow as u64 * self.frame.cycle as u64 * 1_000_000 / (3600 * self.frame.step_count as u64)
+    }
+
+    /// The entry flow of the link at a place and the flows of its feeds, in vehicles per hour.
+    pub fn total_flow(&self, link: usize) -> u32
+        requires { link < length self.now.links }
+        ensures value { result ≡ total_flow (link_of self.now link) }
+        ensures small { result ≤ 89991 }
+    {
+        all_flow(&self.links[link])
+    }
+
+    /// The same as a test of each part.
+    fn is_alike(&self, other: &Net) -> bool
+        ensures { result ≡ same_shape self.now other.now }
+    {
+        let frames = same_frame(self.frame, other.frame);
+        let nodes = same_nodes(&self.nodes, &other.nodes);
+        let links = same_links(&self.links, &other.links);
+        let plans = same_plan(&self.plan, &other.plan);
+        frames && nodes && links && plans
+    }
+
+    /// Whether the two differ at most in numbers that an edit sets.
+    pub fn same_shape(&self, other: &Net) -> bool
+        ensures { IsTrue result ↔ SameShape self.now other.now }
+    {
+        self.is_alike(other)
+    }
+
+    /// Becomes equal to `from`, which has the same shape. It takes no memory.
+    pub fn take_numbers(&mut self, from: &Net)
+        requires { SameShape self.old from.now }
+        ensures { self.new ≡ from.now }
+    {
+        take_nodes(&mut self.nodes, &from.nodes);
+        take_links(&mut self.links, &from.links);
+    }
+
+    /// An equal network, with memory of its own.
+    pub fn copy(&self, alloc: Global) -> Result<Net, AllocError>
+        ensures { IfOk result (λ net. net ≡ self.now) }
+    {
+        let nodes = copy_nodes(alloc, &self.nodes)?;
+        let links = copy_links(alloc, &self.links)?;
+        let plan = copy_plan(alloc, &self.plan)?;
+        let node_places = copy_numbers(&self.node_places)?;
+        let link_places = copy_numbers(&self.link_places)?;
+        Ok(Net {
+            frame: self.frame,
+            nodes,
+            links,
+            plan,
+            node_places,
+            link_places,
+        })
+    }
+
+    /// A copy of the network with this cycle, in seconds, in its frame.
+    pub fn with_cycle(&self, alloc: Global, cycle: u32) -> Result<Net, AllocError>
+        requires low { 30 ≤ cycle }
+        requires high { cycle ≤ 240 }
+        ensures { IfOk result (λ net. net ≡ with_cycle self.now cycle) }
+    {
+        let mut net = self.copy(alloc)?;
+        net.frame.cycle = cycle;
+        Ok(net)
+    }
+}

@@ -1,0 +1,174 @@
+//! Edits with their faults and inverses, flows, copies, and threads.
+
+use super::{FRAME, two_links};
+use crate::{Edit, EditFault, Frame, GiveWay, Net, stage_length};
+use std::test::Fail;
+use std::thread;
+
+/// Whether an edit is refused for this.
+fn is_refused(net: &mut Net, e: Edit, fault: EditFault) -> bool {
+    net.judge(&e) == Some(fault) && net.apply(e) == Err(fault)
+}
+
+/// Whether an edit is made, and has this inverse.
+fn is_undone_by(net: &mut Net, e: Edit, back: Edit) -> bool {
+    net.judge(&e).is_none() && net.apply(e) == Ok(back) && net.apply(back) == Ok(e)
+}
+
+fn offset(node: u32, offset: u32) -> Edit {
+    Edit::Offset { node, offset }
+}
+
+fn change(node: u32, stage: u32, change: u32) -> Edit {
+    Edit::Change {
+        node,
+        stage,
+        change,
+    }
+}
+
+fn entry(link: u32, flow: u32) -> Edit {
+    Edit::Entry { link, flow }
+}
+
+fn part(link: u32, feeder: u32, flow: u32) -> Edit {
+    Edit::Part { link, feeder, flow }
+}
+
+fn cruise(link: u32, feeder: u32, seconds: u32) -> Edit {
+    Edit::Cruise {
+        link,
+        feeder,
+        seconds,
+    }
+}
+
+fn saturation(link: u32, flow: u32) -> Edit {
+    Edit::Saturation { link, flow }
+}
+
+fn weight(link: u32, delay: u32, stop: u32) -> Edit {
+    Edit::Weight { link, delay, stop }
+}
+
+#[test]
+fn faults_of_node_edits_come_in_order(rt: HostRuntime) -> Result<(), Fail> {
+    let mut net = two_links(rt.alloc())?;
+    assert!(rt; is_refused(&mut net, offset(9, 10), EditFault::Unknown));
+    assert!(rt; is_refused(&mut net, offset(1, 10), EditFault::Range));
+    assert!(rt; is_refused(&mut net, change(9, 1, 10), EditFault::Unknown));
+    assert!(rt; is_refused(&mut net, change(1, 0, 10), EditFault::Unknown));
+    assert!(rt; is_refused(&mut net, change(1, 3, 0), EditFault::Unknown));
+    assert!(rt; is_refused(&mut net, change(1, 2, 10), EditFault::Range));
+    assert!(rt; is_refused(&mut net, change(1, 2, 0), EditFault::StageOrder));
+    assert!(rt; is_refused(&mut net, change(1, 2, 2), EditFault::LeastGreen));
+    assert!(rt; is_refused(&mut net, change(1, 2, 8), EditFault::LeastGreen));
+    Ok(())
+}
+
+#[test]
+fn faults_of_link_edits_come_in_order(rt: HostRuntime) -> Result<(), Fail> {
+    let mut net = two_links(rt.alloc())?;
+    assert!(rt; is_refused(&mut net, entry(9, 10_000), EditFault::Unknown));
+    assert!(rt; is_refused(&mut net, entry(1, 10_000), EditFault::Range));
+    assert!(rt; is_refused(&mut net, saturation(9, 99), EditFault::Unknown));
+    assert!(rt; is_refused(&mut net, saturation(1, 99), EditFault::Range));
+    assert!(rt; is_refused(&mut net, weight(9, 1000, 0), EditFault::Unknown));
+    assert!(rt; is_refused(&mut net, weight(1, 1000, 0), EditFault::Range));
+    assert!(rt; is_refused(&mut net, weight(1, 0, 1000), EditFault::Range));
+    Ok(())
+}
+
+#[test]
+fn faults_of_feed_edits_come_in_order(rt: HostRuntime) -> Result<(), Fail> {
+    let mut net = two_links(rt.alloc())?;
+    assert!(rt; is_refused(&mut net, part(9, 1, 10_000), EditFault::Unknown));
+    assert!(rt; is_refused(&mut net, part(1, 9, 10_000), EditFault::Unknown));
+    assert!(rt; is_refused(&mut net, part(1, 1, 10_000), EditFault::NoFeeder));
+    assert!(rt; is_refused(&mut net, part(2, 1, 10_000), EditFault::Range));
+    assert!(rt; is_refused(&mut net, cruise(1, 9, 0), EditFault::Unknown));
+    assert!(rt; is_refused(&mut net, cruise(1, 1, 0), EditFault::NoFeeder));
+    assert!(rt; is_refused(&mut net, cruise(2, 1, 301), EditFault::Range));
+    Ok(())
+}
+
+#[test]
+fn each_edit_has_its_inverse(rt: HostRuntime) -> Result<(), Fail> {
+    let mut net = two_links(rt.alloc())?;
+    assert!(rt; is_undone_by(&mut net, offset(1, 9), offset(1, 0)));
+    assert!(rt; is_undone_by(&mut net, change(1, 2, 7), change(1, 2, 5)));
+    assert!(rt; is_undone_by(&mut net, change(1, 2, 5), change(1, 2, 5)));
+    assert!(rt; is_undone_by(&mut net, entry(1, 1800), entry(1, 360)));
+    assert!(rt; is_undone_by(&mut net, part(2, 1, 0), part(2, 1, 100)));
+    assert!(rt; is_undone_by(&mut net, cruise(2, 1, 300), cruise(2, 1, 15)));
+    assert!(rt; is_undone_by(&mut net, saturation(2, 100), saturation(2, 1800)));
+    assert!(rt; is_undone_by(&mut net, weight(1, 2, 0), weight(1, 1, 1)));
+    Ok(())
+}
+
+#[test]
+fn flows_and_lengths_are_the_known_ones(rt: HostRuntime) -> Result<(), Fail> {
+    let net = two_links(rt.alloc())?;
+    assert_eq!(rt; net.per_step(360), 600_000);
+    assert_eq!(rt; net.node_place(1), Some(0));
+    assert_eq!(rt; net.node_place(2), None);
+    assert_eq!(rt; net.link_place(2), Some(1));
+    assert_eq!(rt; net.links().len(), 2);
+    assert_eq!(rt; net.total_flow(0), 360);
+    assert_eq!(rt; net.total_flow(1), 100);
+    let Some(node) = net.nodes().first() else {
+        return Err(Fail::from("no node"));
+    };
+    assert_eq!(rt; node.stages.len(), 2);
+    assert_eq!(rt; stage_length(node, 10, 2), 5);
+    Ok(())
+}
+
+#[test]
+fn copies_have_the_same_numbers(rt: HostRuntime) -> Result<(), Fail> {
+    let net = two_links(rt.alloc())?;
+    let copy = net.copy(rt.alloc())?;
+    assert!(rt; net.same_shape(&copy));
+    assert_eq!(rt; copy.frame(), FRAME);
+    let (Some(plan), Some(link)) = (copy.plan(), copy.links().last()) else {
+        return Err(Fail::from("no plan or no link"));
+    };
+    assert_eq!(rt; plan.budget, 100);
+    assert_eq!(rt; plan.sizes.as_slice(), [1, 2].as_slice());
+    assert_eq!(rt; (link.start_lag, link.end_lag), (2, 1));
+    assert_eq!(rt; link.stages.as_slice(), [1, 2].as_slice());
+    assert_eq!(rt;
+        link.gives_way,
+        Some(GiveWay {
+            other: 1,
+            percent: 50
+        })
+    );
+    let longer = net.with_cycle(rt.alloc(), 90)?;
+    assert_eq!(rt; longer.frame(), Frame { cycle: 90, ..FRAME });
+    assert!(rt; !net.same_shape(&longer));
+    Ok(())
+}
+
+#[test]
+fn numbers_are_taken(rt: HostRuntime) -> Result<(), Fail> {
+    let mut net = two_links(rt.alloc())?;
+    let before = net.copy(rt.alloc())?;
+    assert_eq!(rt; net.apply(entry(1, 1800)), Ok(entry(1, 360)));
+    if !net.same_shape(&before) {
+        return Err(Fail::from("an edit changed the shape"));
+    }
+    net.take_numbers(&before);
+    assert_eq!(rt; net.apply(entry(1, 0)), Ok(entry(1, 360)));
+    Ok(())
+}
+
+#[test]
+fn a_network_is_shared_and_sent(rt: HostRuntime) -> Result<(), Fail> {
+    let net = two_links(rt.alloc())?;
+    let counts = thread::join(&rt, || net.nodes().len(), || net.links().len());
+    assert_eq!(rt; counts, (1, 2));
+    let place = thread::join(&rt, move || net.link_place(2), || 0).0;
+    assert_eq!(rt; place, Some(1));
+    Ok(())
+}
