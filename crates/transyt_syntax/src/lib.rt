@@ -1,0 +1,20 @@
+//! A line read as a keyword and numbers, for cards and for commands.
+//!
+//! The four faults that a line can have before its meaning is looked at are the codes 11 (longer than
+//! 4,096 bytes), 10 (a byte that may not stand in a line, or an unknown keyword), 12 (a wrong count of
+//! numbers) and 13 (a word that is no number), and the first of them in this order is answered. Cite
+//! `Rattle.transyt_syntax.specs.Syntax.{syntax_code, numbers_of}` first, and for an order of tests
+//! `Rattle.transyt_syntax.specs.Findings.{first_found, when}`.
+//!
+//! The keywords and the counts of their numbers are the caller's: a table for cards, another for commands.
+//! No call takes memory.
+#![tactic(auto)]
+
+mod line;
+mod words;
+
+pub use line::read_line;
+pub use words::{first_of, read_numbers, word_count};
+
+#[cfg(test)]
+mod tests;
