@@ -1,0 +1,14 @@
+pub mod OneMore
+pub mod OneMoreCard
+pub mod After
+pub mod LinkNumbers
+pub mod Refusals
+pub mod Accepting
+pub mod FirstLine
+pub mod CardTexts
+pub mod Taking
+pub mod Blocks
+pub mod LinkBlocks
+pub mod Fitting
+pub mod ReadBack
+pub mod Worked

@@ -1,0 +1,11 @@
+-- The worked decks and codes, computed from the definitions.
+use Rattle.std.proofs.Common.{◌≡◌, map, Some, refl}
+use Rattle.transyt_deck.specs.Deck.{code, deck}
+use Rattle.transyt_deck.specs.WorkedDecks.{worked}
+use Rattle.transyt_deck.specs.CodesInOrder.{in_order}
+
+pub all_worked : map (λ row. deck row.0) worked ≡ map (λ row. row.1) worked
+all_worked = refl
+
+pub all_in_order : map (λ row. code row.0 row.1) in_order ≡ map (λ row. Some row.2) in_order
+all_in_order = refl

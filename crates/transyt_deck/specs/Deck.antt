@@ -1,0 +1,122 @@
+-- The deck that lines make: its network, or the first code of a card.
+use Rattle.std.specs.Prelude.{ℕ, ◌+◌, Bool, false, not, if◌then◌else◌, List, [], ◌∷◌, ◌++◌, length, Option, Some, None, unwrap_or, option_and_then}
+use Rattle.std.specs.Option.{option_map}
+use Rattle.transyt_io.specs.Lines.{is_skipped}
+use Rattle.transyt_syntax.specs.Syntax.{syntax_code}
+use Rattle.transyt_syntax.specs.Findings.{when, first_found}
+use Rattle.transyt_net.specs.declared.draft.DraftFault.{DraftFault}
+use Rattle.transyt_net.specs.declared.draft.DraftFault.TheVariants.{Twice, Unknown, Range, TooMany, Memory}
+use Rattle.transyt_net.specs.declared.plan_fault.PlanFault.{PlanFault}
+use Rattle.transyt_net.specs.declared.plan_fault.PlanFault.TheVariants.{FewStages, StageOrder, LeastGreen}
+use Rattle.transyt_net.specs.Parts.{Network}
+use Rattle.transyt_net.specs.Valid.{within, is_frame}
+use Rattle.transyt_net.specs.Plan.{first_fault}
+use Rattle.transyt_net.specs.Faults.{node_fault, stage_fault, link_fault, feed_fault, rule_fault, climb_fault}
+use Rattle.transyt_deck.specs.declared.places.Places.{Places}
+use Rattle.transyt_deck.specs.Cards.{Card, Form, Cycle, Node, StageOf, LinkOf, FeedOf, Yield, Steps, End}
+use Rattle.transyt_deck.specs.Rows.{card_word, card_counts, card_of, row_of, rows_of}
+use Rattle.transyt_deck.specs.Picks.{form_of, cards_of, draft_of}
+use Rattle.transyt_deck.specs.InPlace.{places_of, in_place, is_end}
+
+-- what lines have come to, each part a pick from all of them: the form, the cards' places, the network so far
+pub record Seen : Type 0 where
+  pub form : ℕ
+  pub places : Places
+  pub draft : Option Network
+
+-- what cards have come to
+abbrev pub seen_of : ℕ → List Card → Seen
+seen_of form cards = record { form = form; places = places_of cards; draft = draft_of cards }
+
+-- what lines have come to
+abbrev pub seen : List (List ℕ) → Seen
+seen before = seen_of (form_of (rows_of before)) (cards_of before)
+
+-- the first fault of a card's own part: given twice, unknown, out of range, too many
+abbrev pub fault_in : Card → Option Network → Option DraftFault
+fault_in (Form f) draft = when (not (within 1 2 f)) Range
+fault_in (Cycle f) draft = when (not (is_frame f)) Range
+fault_in (Node number offset) draft = option_and_then (λ d. node_fault d number offset) draft
+fault_in (StageOf s) draft = option_and_then (λ d. stage_fault d s) draft
+fault_in (LinkOf l) draft = option_and_then (λ d. link_fault d l) draft
+fault_in (FeedOf link f) draft = option_and_then (λ d. feed_fault d link f) draft
+fault_in (Yield link g) draft = option_and_then (λ d. rule_fault d link g) draft
+fault_in (Steps p) draft = option_and_then (λ d. climb_fault d p) draft
+fault_in End draft = None
+
+-- END judges the stage plans, node by node
+abbrev pub plan_fault_in : Card → Option Network → Option PlanFault
+plan_fault_in End draft = option_and_then (λ d. first_fault d.frame.step_count d.nodes) draft
+plan_fault_in _ draft = None
+
+-- the code of a fault; want of memory has none
+abbrev pub fault_code : DraftFault → ℕ
+fault_code Twice = 16
+fault_code Unknown = 17
+fault_code Range = 14
+fault_code TooMany = 20
+fault_code Memory = 0
+
+-- the code of a stage plan's fault
+abbrev pub plan_code : PlanFault → ℕ
+plan_code FewStages = 22
+plan_code StageOrder = 18
+plan_code LeastGreen = 19
+
+-- the first code that holds of a card: out of its place, or a fault
+abbrev pub card_code : Seen → Card → Option ℕ
+card_code s card = first_found (
+    when (not (in_place s.places card)) 15
+    ∷ option_map fault_code (fault_in card s.draft)
+    ∷ option_map plan_code (plan_fault_in card s.draft)
+    ∷ [])
+
+-- how many numbers a line's keyword takes, if it is one of cards
+abbrev pub counts_of : ℕ → List ℕ → Option (ℕ × ℕ)
+counts_of form line = option_map (card_counts form) (card_word line)
+
+-- the card of a line
+abbrev pub card_in : ℕ → List ℕ → Option Card
+card_in form line = option_map (λ row. card_of form row.0 row.1) (row_of line)
+
+-- the first code that holds of a line, by what the lines before it have come to; a skipped line has none
+abbrev pub code_at : Seen → List ℕ → Option ℕ
+code_at s line =
+    if is_skipped line then None
+    else first_found (
+    syntax_code (counts_of s.form line) line ∷ option_and_then (card_code s) (card_in s.form line) ∷ [])
+
+-- the first code that holds of a line behind others, none of which has a code
+abbrev pub code : List (List ℕ) → List ℕ → Option ℕ
+code before line = code_at (seen before) line
+
+-- a line that is an END card
+abbrev pub is_end_line : List ℕ → Bool
+is_end_line line = unwrap_or (option_map is_end (card_in 1 line)) false
+
+-- refused at a line with a code; complete with END's line and the network; or open, where neither holds
+pub data Deck : Type 0 where
+  Refused : ℕ → ℕ → Deck
+  Complete : ℕ → Network → Deck
+  Open : Deck
+
+-- the deck that an accepted END at a line completes
+abbrev pub complete : ℕ → Option Network → Deck
+complete number None = Open
+complete number (Some net) = Complete number net
+
+-- the deck by the code of the line with this number, and whether it is END; else by the later lines
+abbrev pub deck_step : Option ℕ → ℕ → Bool → Option Network → Deck → Deck
+deck_step (Some code) number ends draft later = Refused number code
+deck_step None number ends draft later = if ends then complete number draft else later
+
+-- the deck of lines behind others
+abbrev pub deck_after : List (List ℕ) → List (List ℕ) → Deck
+deck_after before [] = Open
+deck_after before (line ∷ more) =
+    deck_step (code before line) (length before + 1) (is_end_line line) (seen before).draft
+    (deck_after (before ++ line ∷ []) more)
+
+-- the deck of lines: the first line that has a code or is END decides
+abbrev pub deck : List (List ℕ) → Deck
+deck lines = deck_after [] lines

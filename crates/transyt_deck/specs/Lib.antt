@@ -1,0 +1,11 @@
+pub mod Cards
+pub mod Rows
+pub mod Picks
+pub mod InPlace
+pub mod Deck
+pub mod Cut
+pub mod Next
+pub mod Stops
+pub mod Reader
+pub mod WorkedDecks
+pub mod CodesInOrder

@@ -1,0 +1,61 @@
+-- What putting a card into a network comes to. Only private contracts cite these words.
+use Rattle.std.specs.Prelude.{◌≡◌, ◌<◌, ℕ, true, false, [], ◌∷◌, length, Option, Some, None, Result, Ok, Err, IfSome}
+use Rattle.std.specs.Option.{option_map}
+use Rattle.transyt_syntax.specs.Findings.{first_found}
+use Rattle.transyt_net.specs.declared.draft.DraftFault.{DraftFault}
+use Rattle.transyt_net.specs.declared.draft.DraftFault.TheVariants.{Twice, Unknown, Range, TooMany, Memory}
+use Rattle.transyt_net.specs.Parts.{Network}
+use Rattle.transyt_net.specs.Valid.{all_differ, link_numbers}
+use Rattle.transyt_net.specs.Plan.{first_fault}
+use Rattle.transyt_deck.specs.declared.keyword.CardWord.{CardWord}
+use Rattle.transyt_deck.specs.declared.keyword.CardWord.TheVariants as w
+use Rattle.transyt_deck.specs.declared.places.Places.{Places}
+use Rattle.transyt_deck.specs.declared.put.Stop.{Stop}
+use Rattle.transyt_deck.specs.declared.put.Stop.TheVariants as stop
+use Rattle.transyt_deck.specs.Cards.{Card}
+use Rattle.transyt_deck.specs.Deck.{fault_in, plan_fault_in, fault_code, plan_code}
+use Rattle.transyt_deck.specs.Next.{draft_with}
+
+-- the code of a card in its place, or none
+abbrev pub codes_in : Card → Option Network → Option ℕ
+codes_in card draft =
+    first_found (option_map fault_code (fault_in card draft) ∷ option_map plan_code (plan_fault_in card draft) ∷ [])
+
+-- a fault as a stop
+abbrev pub stop_of : DraftFault → Stop
+stop_of Memory = stop.Memory
+stop_of Twice = stop.Code 16
+stop_of Unknown = stop.Code 17
+stop_of Range = stop.Code 14
+stop_of TooMany = stop.Code 20
+
+-- an outcome with its fault as a stop
+abbrev pub stopped : {T : Type 0} → Result T DraftFault → Result T Stop
+stopped (Ok x) = Ok x
+stopped (Err fault) = Err (stop_of fault)
+
+-- a stop has the code; memory is wanting only where there is none
+abbrev pub Stops : Option ℕ → Stop → Type 0
+Stops code stop.Memory = code ≡ None
+Stops code (stop.Code n) = code ≡ Some n
+
+-- a card was put in, or it has a code and all is as before
+abbrev pub Puts : {T : Type 0} → Card → Option Network → Option Network → Result T Stop → Type 0
+Puts card old new (Ok x) = (codes_in card old ≡ None) × (new ≡ draft_with card old)
+Puts card old new (Err s) = Stops (codes_in card old) s × (new ≡ old)
+
+-- a STAGE card finds a node, a FEED and a YIELD card no link number twice, and a STEPS card no plan
+abbrev pub HasRoomFor : CardWord → Option Network → Type 0
+HasRoomFor w.Stage draft = IfSome draft (λ d. 0 < length d.nodes)
+HasRoomFor w.Feed draft = IfSome draft (λ d. all_differ (link_numbers d.links) ≡ true)
+HasRoomFor w.Yield draft = IfSome draft (λ d. all_differ (link_numbers d.links) ≡ true)
+HasRoomFor w.Steps draft = IfSome draft (λ d. d.plan ≡ None)
+HasRoomFor _ draft = Unit {0}
+
+-- what the places say of the network so far
+abbrev pub IsTied : Places → Option Network → Type 0
+IsTied p draft = IfSome draft (λ d.
+    (p.node_last ≡ true → 0 < length d.nodes)
+    × (p.steps ≡ false → d.plan ≡ None)
+    × (all_differ (link_numbers d.links) ≡ true)
+    × (p.end ≡ true → first_fault d.frame.step_count d.nodes ≡ None))

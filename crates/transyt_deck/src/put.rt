@@ -1,0 +1,224 @@
+//! A card put into the network so far.
+ghost use Rattle.std.specs.Prelude.{◌≡◌, ◌≤◌, length, Option, IfSome, IfNone, IfErr, IsErrOf, OnOk, OnErr, true};
+ghost use Rattle.transyt_net.specs.Parts.{Network};
+ghost use Rattle.transyt_net.specs.Faults.{new_stage, new_feed, new_rule, new_plan, link_fault, with_link};
+ghost use Rattle.transyt_syntax.specs.Syntax.{is_count};
+ghost use Rattle.transyt_deck.specs.declared.keyword.CardWord.TheVariants as w;
+ghost use Rattle.transyt_deck.specs.Cards.{Form, Cycle, Node, StageOf, LinkOf, FeedOf, Yield, Steps, End};
+ghost use Rattle.transyt_deck.specs.Rows.{card_of, card_counts, link_read};
+ghost use Rattle.transyt_deck.specs.Deck.{plan_code};
+ghost use Rattle.transyt_deck.specs.Next.{form_with};
+ghost use Rattle.transyt_deck.specs.Stops.{Puts, HasRoomFor, stopped, stop_of};
+
+use crate::keyword::CardWord;
+use std::alloc::Global;
+use transyt_net::{Draft, DraftFault, Frame, PlanFault};
+
+/// Why a card isn't taken.
+#[derive(Clone, Copy, Debug, PartialEq, Eq)]
+pub enum Stop {
+    /// The card's first code.
+    Code(u32),
+    /// Memory was wanting.
+    Memory,
+}
+
+fn stop_of(fault: DraftFault) -> Stop
+    ensures { result ≡ stop_of fault }
+{
+    match fault {
+        DraftFault::Twice => Stop::Code(16),
+        DraftFault::Unknown => Stop::Code(17),
+        DraftFault::Range => Stop::Code(14),
+        DraftFault::TooMany => Stop::Code(20),
+        DraftFault::Memory => Stop::Memory,
+    }
+}
+
+fn stopped(outcome: Result<(), DraftFault>) -> Result<(), Stop>
+    ensures { result ≡ stopped outcome }
+{
+    match outcome {
+        Ok(()) => Ok(()),
+        Err(fault) => Err(stop_of(fault)),
+    }
+}
+
+fn plan_code(fault: PlanFault) -> u32
+    ensures { result ≡ plan_code fault }
+{
+    match fault {
+        PlanFault::FewStages => 22,
+        PlanFault::StageOrder => 18,
+        PlanFault::LeastGreen => 19,
+    }
+}
+
+fn put_form(form: &mut u32, number: u32) -> Result<(), Stop>
+    ensures puts { (draft : Option Network) → Puts (Form number) draft draft result }
+    ensures form { OnOk result (form.new ≡ number) }
+{
+    if number < 1 || number > 2 {
+        return Err(Stop::Code(14));
+    }
+    *form = number;
+    Ok(())
+}
+
+fn put_cycle(alloc: Global, draft: &mut Option<Draft>, frame: Frame) -> Result<(), Stop>
+    ensures { Puts (Cycle frame) draft.old draft.new result }
+{
+    match Draft::new(alloc, frame) {
+        Ok(made) => {
+            *draft = Some(made);
+            Ok(())
+        }
+        Err(_) => Err(Stop::Code(14)),
+    }
+}
+
+fn put_node(draft: &mut Option<Draft>, number: u32, offset: u32) -> Result<(), Stop>
+    ensures { Puts (Node number offset) draft.old draft.new result }
+{
+    match draft {
+        None => Ok(()),
+        Some(d) => stopped(d.node(number, offset)),
+    }
+}
+
+fn put_stage(
+    draft: &mut Option<Draft>,
+    change: u32,
+    intergreen: u32,
+    least: u32,
+) -> Result<(), Stop>
+    requires { HasRoomFor w.Stage draft.old }
+    ensures { Puts (StageOf (new_stage change intergreen least)) draft.old draft.new result }
+{
+    match draft {
+        None => Ok(()),
+        Some(d) => stopped(d.stage(change, intergreen, least)),
+    }
+}
+
+fn put_link(draft: &mut Option<Draft>, form: u32, ns: &[u32]) -> Result<(), Stop>
+    requires { is_count (card_counts form w.Link) (length ns.now) ≡ true }
+    ensures { Puts (LinkOf (link_read form ns.now)) draft.old draft.new result }
+{
+    match draft {
+        None => Ok(()),
+        Some(d) => stopped(add_link(d, form, ns)),
+    }
+}
+
+/// Adds the link of a LINK card's numbers: the lags stand behind the sixth in form 2, and are 0 in form 1.
+fn add_link(draft: &mut Draft, form: u32, ns: &[u32]) -> Result<(), DraftFault>
+    requires { is_count (card_counts form w.Link) (length ns.now) ≡ true }
+    ensures fault { IfSome (link_fault draft.old (link_read form ns.now)) (λ fault. IsErrOf result fault) }
+    ensures memory { IfNone (link_fault draft.old (link_read form ns.now))
+        (IfErr result (λ fault. fault ≡ DraftFault.Memory)) }
+    ensures ok { OnOk result (draft.new ≡ with_link draft.old (link_read form ns.now)) }
+    ensures err { OnErr result (draft.new ≡ draft.old) }
+{
+    if form == 2 {
+        draft.link(
+            ns[0],
+            ns[1],
+            ns[2],
+            ns[3],
+            ns[4],
+            ns[5],
+            ns[6],
+            ns[7],
+            &ns[8..],
+        )
+    } else {
+        draft.link(ns[0], ns[1], ns[2], ns[3], ns[4], ns[5], 0, 0, &ns[6..])
+    }
+}
+
+fn put_feed(
+    draft: &mut Option<Draft>,
+    link: u32,
+    feeder: u32,
+    flow: u32,
+    cruise: u32,
+) -> Result<(), Stop>
+    requires { HasRoomFor w.Feed draft.old }
+    ensures { Puts (FeedOf link (new_feed feeder flow cruise)) draft.old draft.new result }
+{
+    match draft {
+        None => Ok(()),
+        Some(d) => stopped(d.feed(link, feeder, flow, cruise)),
+    }
+}
+
+fn put_rule(draft: &mut Option<Draft>, link: u32, other: u32, percent: u32) -> Result<(), Stop>
+    requires { HasRoomFor w.Yield draft.old }
+    ensures { Puts (Yield link (new_rule other percent)) draft.old draft.new result }
+{
+    match draft {
+        None => Ok(()),
+        Some(d) => stopped(d.give_way(link, other, percent)),
+    }
+}
+
+fn put_plan(draft: &mut Option<Draft>, budget: u32, sizes: &[u32]) -> Result<(), Stop>
+    requires unset { HasRoomFor w.Steps draft.old }
+    requires some { 1 ≤ length sizes.now }
+    requires most { length sizes.now ≤ 16 }
+    ensures { Puts (Steps (new_plan budget sizes.now)) draft.old draft.new result }
+{
+    match draft {
+        None => Ok(()),
+        Some(d) => stopped(d.plan(budget, sizes)),
+    }
+}
+
+fn put_end(draft: &Option<Draft>) -> Result<(), Stop>
+    ensures { Puts End draft.now draft.now result }
+{
+    match draft {
+        None => Ok(()),
+        Some(d) => match d.judge() {
+            None => Ok(()),
+            Some(fault) => Err(Stop::Code(plan_code(fault))),
+        },
+    }
+}
+
+/// Puts a card in its place into the network so far, or answers its first code; a refusal changes nothing.
+pub fn put(
+    alloc: Global,
+    form: &mut u32,
+    draft: &mut Option<Draft>,
+    word: CardWord,
+    ns: &[u32],
+) -> Result<(), Stop>
+    requires count { is_count (card_counts form.old word) (length ns.now) ≡ true }
+    requires room { HasRoomFor word draft.old }
+    ensures puts { Puts (card_of form.old word ns.now) draft.old draft.new result }
+    ensures form { OnOk result (form.new ≡ form_with (card_of form.old word ns.now) form.old) }
+{
+    match word {
+        CardWord::Form => put_form(form, ns[0]),
+        CardWord::Cycle => {
+            let frame = Frame {
+                cycle: ns[0],
+                step_count: ns[1],
+                sweeps: ns[2],
+                period: ns[3],
+                stop_penalty: ns[4],
+                dispersion: if ns.len() > 5 { ns[5] } else { 35 },
+            };
+            put_cycle(alloc, draft, frame)
+        }
+        CardWord::Node => put_node(draft, ns[0], ns[1]),
+        CardWord::Stage => put_stage(draft, ns[0], ns[1], ns[2]),
+        CardWord::Link => put_link(draft, *form, ns),
+        CardWord::Feed => put_feed(draft, ns[0], ns[1], ns[2], ns[3]),
+        CardWord::Yield => put_rule(draft, ns[0], ns[1], ns[2]),
+        CardWord::Steps => put_plan(draft, ns[0], &ns[1..]),
+        CardWord::End => put_end(draft),
+    }
+}

@@ -1,0 +1,189 @@
+//! Cards, taken line by line.
+ghost use Rattle.std.specs.Prelude.{◌≡◌, ◌<◌, ◌+◌, ℕ, List, [], ◌∷◌, ◌++◌, length, IsTrue, OnErr, IfErr, IfOk, Some, Ok, Err, false};
+ghost use Rattle.transyt_net.specs.Parts.{Network};
+ghost use Rattle.transyt_deck.specs.declared.reader.CardStop.TheVariants as stop;
+ghost use Rattle.transyt_deck.specs.Deck.{code_at, seen};
+ghost use Rattle.transyt_deck.specs.Stops.{Stops};
+ghost use Rattle.transyt_deck.specs.Reader.{reading, ended, Ends, Takes, Refuses, Accepts, goes_on};
+
+use crate::places::{Places, is_end};
+use crate::put::{Stop, put};
+use crate::row::read_row;
+use std::alloc::Global;
+use std::marker::Model;
+use transyt_io::is_skipped;
+use transyt_net::{Draft, Net};
+
+/// Why a line isn't taken.
+#[derive(Clone, Copy, Debug, PartialEq, Eq)]
+pub enum CardStop {
+    /// The line with this number, from 1, is refused with this code.
+    Refused {
+        /// The number of the line.
+        card: u32,
+        /// Its first code.
+        code: u32,
+    },
+    /// Memory was wanting, at a line that has no code.
+    Memory,
+}
+
+/// How a line was taken.
+#[derive(Clone, Copy, Debug, PartialEq, Eq)]
+pub enum Progress {
+    /// More lines are awaited.
+    More,
+    /// The line is an accepted END.
+    Complete,
+}
+
+/// Takes the lines of a deck, one at a time. A contract sees what the lines taken have come to, how many they
+/// are, and whether the next may be taken: `reading before` after lines `before` that end no deck, and
+/// `ended before` where the last of them is an accepted END.
+#[derive(Drop)]
+pub struct CardReader {
+    alloc: Global,
+    form: u32,
+    places: Places,
+    draft: Option<Draft>,
+    taken: u32,
+    live: bool,
+}
+
+impl Model for CardReader {
+    ghost use Rattle.std.specs.Prelude.{◌≡◌, ◌≤◌, true, false};
+    ghost use Rattle.transyt_deck.specs.Reader.{ReaderValue};
+    ghost use Rattle.transyt_deck.specs.Stops.{IsTied};
+
+    ghost Value = { ReaderValue };
+
+    ghost view = { λ r. record {
+      seen = record { form = r.form; places = r.places; draft = r.draft };
+      taken = r.taken;
+      live = r.live;
+    } };
+
+    ghost invariant = { λ r.
+        IsTied r.places r.draft
+        × (r.live ≡ true → r.places.end ≡ false)
+        × (r.taken ≤ 4294967294) };
+}
+
+impl CardReader {
+    /// A live reader that has taken no line. It takes no memory; `alloc` serves the later calls.
+    pub fn new(alloc: Global) -> CardReader
+        ensures { result ≡ reading [] }
+    {
+        CardReader {
+            alloc,
+            form: 1,
+            places: Places::none(),
+            draft: None,
+            taken: 0,
+            live: true,
+        }
+    }
+
+    /// Whether the next line may be taken: no END was accepted and nothing was refused.
+    pub fn is_live(&self) -> bool
+        ensures { result ≡ self.now.live }
+    {
+        self.live
+    }
+
+    /// How many lines were taken, skipped lines among them.
+    pub fn taken(&self) -> u32
+        ensures { result ≡ self.now.taken }
+    {
+        self.taken
+    }
+
+    /// Takes the next line, or refuses it with its number and the first code that holds of it behind the lines
+    /// before it. After `Complete` or an error the reader is no longer live.
+    #[tactic(auto, using(crate::proofs::After::after_next))]
+    pub fn take(&mut self, line: &[u8]) -> Result<Progress, CardStop>
+        requires live { IsTrue self.old.live }
+        requires few { self.old.taken < 4294967294 }
+        ensures taken { (before : List (List ℕ)) → self.old ≡ reading before
+            → IfOk result (λ progress. Takes before line.now self.new progress) }
+        ensures refused { (before : List (List ℕ)) → self.old ≡ reading before
+            → IfErr result (λ stop. Refuses before line.now stop) }
+        ensures live { self.new.live ≡ goes_on result }
+    {
+        match self.accept(line) {
+            Ok(progress) => return Ok(progress),
+            Err(Stop::Memory) => return Err(CardStop::Memory),
+            Err(Stop::Code(code)) => {
+                return Err(CardStop::Refused {
+                    card: self.taken + 1,
+                    code,
+                });
+            }
+        }
+    }
+
+    /// The network where END was accepted; else code 21 at the number of lines taken plus 1. It takes no memory.
+    pub fn finish(self) -> Result<Net, CardStop>
+        ensures network { (before : List (List ℕ)) (line : List ℕ) (net : Network) → Ends before line
+            → self ≡ ended (before ++ line ∷ []) → (seen before).draft ≡ Some net → result ≡ Ok net }
+        ensures open { (before : List (List ℕ)) → self ≡ reading before
+            → result ≡ Err (stop.Refused (length before + 1) 21) }
+    {
+        let number = self.taken + 1;
+        if !self.places.end {
+            return Err(CardStop::Refused {
+                card: number,
+                code: 21,
+            });
+        }
+        match self.draft {
+            Some(draft) => Ok(draft.close()),
+            None => Err(CardStop::Refused {
+                card: number,
+                code: 21,
+            }),
+        }
+    }
+
+    /// Takes the next line by what the lines before it have come to.
+    fn accept(&mut self, line: &[u8]) -> Result<Progress, Stop>
+        requires live { IsTrue self.old.live }
+        requires few { self.old.taken < 4294967294 }
+        ensures taken { IfOk result (λ progress. Accepts self.old line.now self.new progress) }
+        ensures refused { IfErr result (Stops (code_at self.old.seen line.now)) }
+        ensures dead { OnErr result (self.new.live ≡ false) }
+        ensures count { OnErr result (self.new.taken ≡ self.old.taken) }
+    {
+        if is_skipped(line) {
+            self.taken += 1;
+            return Ok(Progress::More);
+        }
+        self.live = false;
+        let mut numbers = [0u32; 17];
+        let (word, n) = match read_row(line, self.form, &mut numbers) {
+            Ok(row) => row,
+            Err(code) => return Err(Stop::Code(code)),
+        };
+        if !self.places.allow(word) {
+            return Err(Stop::Code(15));
+        }
+        match put(
+            self.alloc,
+            &mut self.form,
+            &mut self.draft,
+            word,
+            &numbers[..n],
+        ) {
+            Ok(()) => {
+                self.places = self.places.with(word);
+                self.taken += 1;
+                if is_end(word) {
+                    return Ok(Progress::Complete);
+                }
+                self.live = true;
+                Ok(Progress::More)
+            }
+            Err(stop) => Err(stop),
+        }
+    }
+}
