@@ -1,0 +1,3 @@
+mod CardTexts
+mod DeckParts
+mod Printing

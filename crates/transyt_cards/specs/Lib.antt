@@ -1,0 +1,5 @@
+pub use Rattle.transyt_deck.specs.Cards
+pub use Rattle.transyt_deck.specs.Cut
+pub use Rattle.transyt_deck.specs.Deck
+pub use Rattle.transyt_deck.specs.Reader
+pub use Rattle.transyt_commands.specs.Commands
