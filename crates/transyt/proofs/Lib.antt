@@ -1,0 +1,9 @@
+pub mod Examples
+pub mod Fits
+pub mod Head
+pub mod Heard
+pub mod NoSteps
+pub mod SoFar
+pub mod Speaking
+pub mod Spent
+pub mod ValidLaws

@@ -1,0 +1,9 @@
+pub mod Cards
+pub mod Exit
+pub mod Junction
+pub mod Progress
+pub mod Report
+pub mod Runs
+pub mod Turns
+pub mod Validity
+pub mod Words
