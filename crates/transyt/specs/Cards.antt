@@ -1,23 +1,12 @@
 -- The cards of a deck of one junction: CYCLE, NODE, STAGE, STAGE, LINK and END, in this order.
 use Rattle.std.specs.Prelude.{ℕ, ◌+◌, ◌==◌, ◌&&◌, ◌||◌, not, nat_le, List, [], ◌∷◌, length, Option, None, Some, if◌then◌else◌, slice_index, slice_index_or, filter, codes}
-use Rattle.std.specs.Option.{option_map}
 use Rattle.std.specs.Str.{bytes_eq}
-use Rattle.transyt_num.specs.Number.{number_of}
 use Rattle.transyt_io.specs.Lines.{words, is_skipped}
+use Rattle.transyt_syntax.specs.Syntax.{all_numbers}
 use Rattle.transyt_net.specs.declared.frame.Frame.{Frame}
 use Rattle.transyt_net.specs.declared.node.Stage.{Stage}
 use Rattle.transyt_net.specs.Parts.{NodeValue, LinkValue, Network, network_of}
 use Rattle.transyt_net.specs.Faults.{new_stage, new_link}
-
--- a number before others, if it and they are numbers
-abbrev pub number_before : Option ℕ → Option (List ℕ) → Option (List ℕ)
-number_before None numbers = None
-number_before (Some number) numbers = option_map (λ ns. number ∷ ns) numbers
-
--- the numbers that words are; None where one of them is no number
-abbrev pub all_numbers : List (List ℕ) → Option (List ℕ)
-all_numbers [] = Some []
-all_numbers (word ∷ rest) = number_before (number_of word) (all_numbers rest)
 
 -- so many numbers, from least to most
 abbrev pub counted : ℕ → ℕ → Option (List ℕ) → Option (List ℕ)

@@ -1,7 +1,8 @@
 //! The cards of a deck of one junction, and the network that they make.
 ghost use Rattle.std.specs.Prelude.{◌≡◌, IfOk, slice_index, slice_index_or};
 ghost use Rattle.transyt_io.specs.Lines.{words};
-ghost use Rattle.transyt.specs.Cards.{all_numbers, card_numbers, card_at, numbers_at, frame_of};
+ghost use Rattle.transyt_syntax.specs.Syntax.{all_numbers};
+ghost use Rattle.transyt.specs.Cards.{card_numbers, card_at, numbers_at, frame_of};
 
 use crate::junction::LONGEST;
 use std::alloc::{AllocError, Global};

@@ -9,10 +9,12 @@
 
 mod command;
 mod keyword;
+mod laws;
 mod reading;
 
 pub use command::Command;
 pub use keyword::CommandWord;
+pub use laws::worked_lines;
 pub use reading::read_command;
 
 #[cfg(test)]

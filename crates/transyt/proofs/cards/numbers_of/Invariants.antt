@@ -1,7 +1,7 @@
 use Rattle.std.proofs.Common.{◌≡◌, ◌++◌, length}
 use Rattle.std.specs.Option.{option_map}
 use Rattle.transyt_io.specs.Lines.{words}
-use Rattle.transyt.specs.Cards.{all_numbers}
+use Rattle.transyt_syntax.specs.Syntax.{all_numbers}
 use Rattle.transyt.proofs.cards.numbers_of.Given as goal
 
 -- the numbers so far and those to come are those of the line

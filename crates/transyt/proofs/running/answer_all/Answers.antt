@@ -2,7 +2,6 @@ use Rattle.std.proofs.Common.{inl, arith, ℕ, [], List, Option, refl, subst}
 use Rattle.transyt_io.specs.Streams.{Takes, Adds}
 use Rattle.transyt_io.proofs.Told.{takes_nothing, adds_nothing}
 use Rattle.transyt.specs.Runs.{Answering, answering}
-use Rattle.transyt.proofs.SoFar.{at_start}
 use Rattle.transyt.proofs.Head.{head, said_too_long}
 use Rattle.transyt.proofs.running.answer_all.Goals as goal
 
