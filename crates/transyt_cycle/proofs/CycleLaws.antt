@@ -1,6 +1,14 @@
 -- Laws of steps round a cycle.
 use Rattle.std.proofs.Common.{◌≡◌, ℕ, zero, suc, ◌+◌, ◌-◌, ◌*◌, ◌/◌, ◌%◌, ◌<◌, ◌≤◌, ap, sym, ◌∙◌, arith}
-use Rattle.std.proofs.Math.Nat.{mod-add-mod, add-mul-mod_self_right, mod-eq_of_lt, mod-lt, mod-add-div', mod_self, add-mod_right}
+use Rattle.std.proofs.Math.Nat.{
+  mod-add-mod,
+  add-mul-mod_self_right,
+  mod-eq_of_lt,
+  mod-lt,
+  mod-add-div',
+  mod_self,
+  add-mod_right,
+}
 use Rattle.transyt_cycle.specs.Cycle.{minus_mod, step_before}
 
 -- a difference round the cycle is a step of it
@@ -14,14 +22,16 @@ rest_of_turns n a b positive = omega (arith, mod-lt b positive, mod-add-div' b n
 -- b steps on from the difference stands a
 pub minus_mod-add : (n a b : ℕ) → 0 < n → (minus_mod n a b + b) % n ≡ a % n
 minus_mod-add n a b positive =
-    mod-add-mod (a + (n - b % n)) n b ∙ ap (λ k. k % n) (rest_of_turns n a b positive) ∙ add-mul-mod_self_right a (b / n + 1) n
+    mod-add-mod (a + (n - b % n)) n b ∙ ap (λ k. k % n) (rest_of_turns n a b positive)
+    ∙ add-mul-mod_self_right a (b / n + 1) n
 
 -- t steps on and t steps back
 pub minus_mod-of_add : (n m t : ℕ) → m < n → minus_mod n ((m + t) % n) t ≡ m
 minus_mod-of_add n m t below =
     let positive : 0 < n = omega arith in
     let turns : (m + t) + (n - t % n) ≡ m + (t / n + 1) * n = omega (arith, rest_of_turns n m t positive) in
-    mod-add-mod (m + t) n (n - t % n) ∙ ap (λ k. k % n) turns ∙ add-mul-mod_self_right m (t / n + 1) n ∙ mod-eq_of_lt below
+    mod-add-mod (m + t) n (n - t % n) ∙ ap (λ k. k % n) turns
+    ∙ add-mul-mod_self_right m (t / n + 1) n ∙ mod-eq_of_lt below
 
 -- steps that t steps move to one step are one
 pub turned_apart : (n m i t : ℕ) → m < n → i < n → (m + t) % n ≡ (i + t) % n → m ≡ i
@@ -60,7 +70,8 @@ step_before-add_one n i = let next : i + 1 ≡ suc i = omega arith in ap (step_b
 -- one step on from the step before
 pub step_before-then : (n i : ℕ) → i < n → (step_before n i + 1) % n ≡ i
 step_before-then n zero below = let turn : n - 1 + 1 ≡ n = omega arith in ap (λ k. k % n) turn ∙ mod_self n
-step_before-then n (suc i) below = let next : suc i ≡ i + 1 = omega arith in sym (ap (λ k. k % n) next) ∙ mod-eq_of_lt below
+step_before-then n (suc i) below =
+    let next : suc i ≡ i + 1 = omega arith in sym (ap (λ k. k % n) next) ∙ mod-eq_of_lt below
 
 -- the step before is one step back
 pub step_before-is : (n i : ℕ) → i < n → step_before n i ≡ minus_mod n i 1
@@ -79,5 +90,6 @@ minus_mod-step_before n i m below =
     ap (λ k. k % n) whole ∙ sym (mod-add-mod (back + m) n 1)
     ∙ ap (λ k. (k + 1) % n) (minus_mod-add n (step_before n i) m positive ∙ mod-eq_of_lt (step_before-lt n i below))
     ∙ step_before-then n i below in
-    turned_apart n back (minus_mod n i (m + 1)) (m + 1) (minus_mod-lt n (step_before n i) m positive) (minus_mod-lt n i (m + 1) positive)
+    turned_apart n back (minus_mod n i (m + 1)) (m + 1)
+    (minus_mod-lt n (step_before n i) m positive) (minus_mod-lt n i (m + 1) positive)
     (there ∙ sym (minus_mod-add n i (m + 1) positive ∙ mod-eq_of_lt below))

@@ -1,3 +1,4 @@
+-- The difference of two places in their turn is the difference round the cycle.
 use Rattle.std.proofs.Common.{◌+◌, ◌%◌, ap, sym, ◌∙◌, arith}
 use Rattle.transyt_cycle.proofs.CycleLaws.{minus_mod-above, minus_mod-under, minus_mod-add}
 use Rattle.transyt_cycle.proofs.difference.minus_mod.Goals as goal
@@ -12,11 +13,14 @@ pub returns-else-from-to-clause-value : goal.returns-else-from-to-clause-value
 returns-else-from-to-clause-value c =
     sym (minus_mod-under c.args.n c.args.a c.args.b c.requires (omega (arith, c.if-from-to.false)))
 
--- both are the difference, from which b steps lead to a
+-- b steps on from it stands a, where a comes after b
 pub returns-then-from-to-clause-back : goal.returns-then-from-to-clause-back
 returns-then-from-to-clause-back c =
-    ap (λ k. (k + c.args.b) % c.args.n) (returns-then-from-to-clause-value c) ∙ minus_mod-add c.args.n c.args.a c.args.b c.requires
+    ap (λ k. (k + c.args.b) % c.args.n) (returns-then-from-to-clause-value c)
+    ∙ minus_mod-add c.args.n c.args.a c.args.b c.requires
 
+-- and where b comes after a
 pub returns-else-from-to-clause-back : goal.returns-else-from-to-clause-back
 returns-else-from-to-clause-back c =
-    ap (λ k. (k + c.args.b) % c.args.n) (returns-else-from-to-clause-value c) ∙ minus_mod-add c.args.n c.args.a c.args.b c.requires
+    ap (λ k. (k + c.args.b) % c.args.n) (returns-else-from-to-clause-value c)
+    ∙ minus_mod-add c.args.n c.args.a c.args.b c.requires
