@@ -1,20 +1,45 @@
 -- Digits read and written one by one.
-use Rattle.std.proofs.Common.{◌≡◌, ℕ, ◌+◌, ◌-◌, ◌/◌, ◌%◌, ◌^◌, ◌<◌, ◌≤◌, List, [], ◌∷◌, ◌++◌, length, drop, set, ap, sym, ◌∙◌, arith}
+use Rattle.std.proofs.Common.{
+  ◌≡◌,
+  ℕ,
+  ◌+◌,
+  ◌-◌,
+  ◌/◌,
+  ◌%◌,
+  ◌^◌,
+  ◌<◌,
+  ◌≤◌,
+  List,
+  [],
+  ◌∷◌,
+  ◌++◌,
+  length,
+  drop,
+  set,
+  ap,
+  sym,
+  ◌∙◌,
+  arith,
+}
 use Rattle.std.specs.Fmt.{decimal}
 use Rattle.std.proofs.lemmas.Fmt.{decimal_step_wide, decimal_digit}
 use Rattle.std.proofs.lemmas.List.{drop-set, length_push, append_assoc}
 use Rattle.std.proofs.Math.Nat.{pow-le-pow_right}
 
--- eight digits fit, and ten times them
+-- a value of at most eight digits is below 10^8, so ten times it fits
 pub read_small : (n i : ℕ) → n < 10 ^ i → i ≤ 8 → n < 100000000
-read_small n i small few = let most : 10 ^ i ≤ 10 ^ 8 = pow-le-pow_right {n = 10} (omega arith) few in omega (arith, most)
+read_small n i small few =
+    let most : 10 ^ i ≤ 10 ^ 8 = pow-le-pow_right {n = 10} (omega arith) few in omega (arith, most)
 
--- so do nine
+-- a value of at most nine digits is below 10^9
 pub read_nine : (n i : ℕ) → n < 10 ^ i → i ≤ 9 → n < 1000000000
-read_nine n i small few = let most : 10 ^ i ≤ 10 ^ 9 = pow-le-pow_right {n = 10} (omega arith) few in omega (arith, most)
+read_nine n i small few =
+    let most : 10 ^ i ≤ 10 ^ 9 = pow-le-pow_right {n = 10} (omega arith) few in omega (arith, most)
 
 -- one digit more written before those that stand
-pub put_more : (v r start : ℕ) (ds : List ℕ) → 10 ≤ r → r < 2 ^ 128 → decimal v ≡ decimal r ++ drop start ds → length (decimal r) ≤ start → start ≤ length ds → decimal v ≡ decimal (r / 10) ++ drop (start - 1) (set ds (start - 1) (48 + r % 10))
+pub put_more : (v r start : ℕ) (ds : List ℕ) → 10 ≤ r → r < 2 ^ 128
+    → decimal v ≡ decimal r ++ drop start ds → length (decimal r) ≤ start → start ≤ length ds
+    → decimal v ≡ decimal (r / 10) ++ drop (start - 1) (set ds (start - 1) (48 + r % 10))
 put_more v r start ds low high text room within =
     let wide : r < 10 ^ 64 = omega arith in
     let step = decimal_step_wide r low wide in
@@ -26,7 +51,9 @@ put_more v r start ds low high text room within =
     ∙ ap (λ w. decimal (r / 10) ++ w) (sym tail)
 
 -- the first digit, written last
-pub put_first : (v r start : ℕ) (ds : List ℕ) → r < 10 → decimal v ≡ decimal r ++ drop start ds → length (decimal r) ≤ start → start ≤ length ds → (1 ≤ start) × (decimal v ≡ drop (start - 1) (set ds (start - 1) (48 + r)))
+pub put_first : (v r start : ℕ) (ds : List ℕ) → r < 10
+    → decimal v ≡ decimal r ++ drop start ds → length (decimal r) ≤ start → start ≤ length ds
+    → (1 ≤ start) × (decimal v ≡ drop (start - 1) (set ds (start - 1) (48 + r)))
 put_first v r start ds low text room within =
     let some : 1 ≤ start = omega (arith, ap length (decimal_digit r low)) in
     let at : start - 1 + 1 ≡ start = omega arith in (

@@ -1,5 +1,27 @@
 -- Laws of numbers as text.
-use Rattle.std.proofs.Common.{◌≡◌, ℕ, ◌+◌, ◌-◌, ◌*◌, ◌/◌, ◌%◌, ◌^◌, ◌<◌, ◌≤◌, List, [], ◌∷◌, ◌++◌, length, true, Some, sym, ◌∙◌, arith, refl}
+use Rattle.std.proofs.Common.{
+  ◌≡◌,
+  ℕ,
+  ◌+◌,
+  ◌-◌,
+  ◌*◌,
+  ◌/◌,
+  ◌%◌,
+  ◌^◌,
+  ◌<◌,
+  ◌≤◌,
+  List,
+  [],
+  ◌∷◌,
+  ◌++◌,
+  length,
+  true,
+  Some,
+  sym,
+  ◌∙◌,
+  arith,
+  refl,
+}
 use Rattle.std.specs.Char.{is_ascii_digit}
 use Rattle.std.specs.Fmt.{decimal}
 use Rattle.std.specs.List.{list_all}
@@ -38,10 +60,14 @@ shortest_more n ds wide tenth =
     let positive : 0 < n / 10 = omega arith in
     record {
       some = omega (arith, length_push ds (48 + n % 10));
-      digits = grind (arith, list_all-append is_ascii_digit ds ((48 + n % 10) ∷ []), tenth.digits, digit_byte (n % 10) digit);
+      digits =
+          let apart = list_all-append is_ascii_digit ds ((48 + n % 10) ∷ []) in
+          grind (arith, apart, tenth.digits, digit_byte (n % 10) digit);
       value = word_value_push ds (48 + n % 10) ∙ omega (arith, tenth.value);
       zero = λ none. absurd (omega arith);
-      front = λ more. let first = tenth.front positive in omega (arith, get_or_append_left ds ((48 + n % 10) ∷ []) 0 0 tenth.some);
+      front = λ more.
+          let first = tenth.front positive in
+          omega (arith, get_or_append_left ds ((48 + n % 10) ∷ []) 0 0 tenth.some);
     }
 
 -- std's text is the shortest
@@ -49,14 +75,16 @@ pub shortest_decimal : (n : ℕ) → n < 10 ^ 64 → IsShortest n (decimal n)
 shortest_decimal n fits = decimal_by_steps_wide IsShortest shortest_digit shortest_more n fits
 
 -- the tests that make a word of nine digits a number
-reads : (word : List ℕ) (n : ℕ) → 0 < length word → length word ≤ 9 → list_all is_ascii_digit word ≡ true → word_value word ≡ n → number_of word ≡ Some n
+reads : (word : List ℕ) (n : ℕ) → 0 < length word → length word ≤ 9
+    → list_all is_ascii_digit word ≡ true → word_value word ≡ n → number_of word ≡ Some n
 reads word n some few digits value = grind (arith, nat_tests, common_steps)
 
 -- the text of a value of at most nine digits reads as the value
 pub number_of-decimal : (n : ℕ) → n < 1000000000 → number_of (decimal n) ≡ Some n
 number_of-decimal n small =
     let text : IsShortest n (decimal n) = shortest_decimal n (omega arith) in
-    reads (decimal n) n text.some (length-decimal-le_wide 9 n (omega arith) (omega arith) (omega arith)) text.digits text.value
+    let few : length (decimal n) ≤ 9 = length-decimal-le_wide 9 n (omega arith) (omega arith) (omega arith) in
+    reads (decimal n) n text.some few text.digits text.value
 
 -- no number has two texts
 pub shortest_injective : (m n : ℕ) (text : List ℕ) → IsShortest m text → IsShortest n text → m ≡ n

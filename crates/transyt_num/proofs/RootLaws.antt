@@ -15,6 +15,7 @@ up_to_skips : (v n : ℕ) → v < suc n * suc n → root_up_to v (suc n) ≡ roo
 unfolding root_up_to
 up_to_skips v n over = grind (arith, nat_tests)
 
+-- up to 0 there is but 0
 up_to_zero : (v : ℕ) → root_up_to v 0 ≡ 0
 unfolding root_up_to
 up_to_zero v = refl
@@ -31,6 +32,7 @@ up_to_is v r (suc n) low high within =
           up_to_skips v n (omega arith) ∙ up_to_is v r n low high below
     ]
 
+-- no number is above its square
 le_square : (r : ℕ) → r ≤ r * r
 le_square zero = omega arith
 le_square (suc r) = omega arith
@@ -51,4 +53,5 @@ root_greatest v s r high fits = let below : r < s + 1 = lt_of_squares r (s + 1) 
 
 -- there is but one
 pub root_only : (v s r : ℕ) → s * s ≤ v → v < (s + 1) * (s + 1) → r * r ≤ v → v < (r + 1) * (r + 1) → r ≡ s
-root_only v s r s_low s_high r_low r_high = omega (arith, root_greatest v s r s_high r_low, root_greatest v r s r_high s_low)
+root_only v s r s_low s_high r_low r_high =
+    omega (arith, root_greatest v s r s_high r_low, root_greatest v r s r_high s_low)

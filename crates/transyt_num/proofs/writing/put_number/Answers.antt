@@ -1,4 +1,5 @@
-use Rattle.std.proofs.Common.{◌≡◌, ℕ, ◌+◌, ◌-◌, ◌≤◌, List, length, drop, set, arith, sym, ap, ◌∙◌, refl, subst}
+-- The digits that were written last to first are the shortest text of the value, and stand at the front.
+use Rattle.std.proofs.Common.{◌≡◌, ℕ, ◌+◌, ◌-◌, ◌^◌, ◌<◌, ◌≤◌, List, length, drop, set, arith, sym, ap, ◌∙◌, refl, subst}
 use Rattle.std.proofs.lemmas.List.{append-nil, take_at, take_all, length-drop, length-set}
 use Rattle.std.proofs.lemmas.Fmt.{length-decimal-le_wide}
 use Rattle.std.proofs.lemmas.Grind.{common_steps}
@@ -12,7 +13,9 @@ use Rattle.transyt_num.proofs.writing.put_number.Goals as goal
 pub loop-rest-init : goal.loop-rest-init
 loop-rest-init c = record {
   text = sym (append-nil (decimal c.args.v));
-  room = length-decimal-le_wide 39 c.args.v (omega arith) (omega (arith, c.ranges.v.fits)) (omega (arith, c.ranges.v.fits));
+  room =
+      let fits : c.args.v < 2 ^ 128 = c.ranges.v.fits in
+      length-decimal-le_wide 39 c.args.v (omega arith) (omega (arith, fits)) (omega (arith, fits));
   within = omega arith;
   len = refl;
 }
@@ -20,35 +23,51 @@ loop-rest-init c = record {
 -- there is room for one digit more
 pub overflow_sub-start : goal.overflow_sub-start
 overflow_sub-start c =
-    let room = put_room c.loop-rest.rest c.loop-rest.start c.loop-rest-test.true (omega (arith, c.loop-rest.auto.rest-fits)) c.loop-rest.invariant.room in
+    let at = c.loop-rest in
+    let fits : at.rest < 2 ^ 128 = omega (arith, at.auto.rest-fits) in
+    let room = put_room at.rest at.start c.loop-rest-test.true fits at.invariant.room in
     omega arith
 
 -- one digit more stands
 pub loop-rest-preserved : goal.loop-rest-preserved
 loop-rest-preserved c =
-    let room = put_room c.loop-rest.rest c.loop-rest.start c.loop-rest-test.true (omega (arith, c.loop-rest.auto.rest-fits)) c.loop-rest.invariant.room in
+    let at = c.loop-rest in
+    let wide = c.loop-rest-test.true in
+    let fits : at.rest < 2 ^ 128 = omega (arith, at.auto.rest-fits) in
+    let room = put_room at.rest at.start wide fits at.invariant.room in
     record {
-      text = put_more c.args.v c.loop-rest.rest c.loop-rest.start c.loop-rest.digits c.loop-rest-test.true (omega (arith, c.loop-rest.auto.rest-fits)) c.loop-rest.invariant.text c.loop-rest.invariant.room (omega arith);
+      text =
+          put_more c.args.v at.rest at.start at.digits wide fits at.invariant.text at.invariant.room (omega arith);
       room = omega arith;
       within = omega arith;
-      len = length-set c.loop-rest.digits _ _ ∙ c.loop-rest.invariant.len;
+      len = length-set at.digits _ _ ∙ at.invariant.len;
     }
 
 -- the first digit has its place
 pub overflow_sub-start-2 : goal.overflow_sub-start-2
-overflow_sub-start-2 c = (put_first c.args.v c.loop-rest.rest c.loop-rest.start c.loop-rest.digits (omega arith) c.loop-rest.invariant.text c.loop-rest.invariant.room (omega arith)).0
+overflow_sub-start-2 c =
+    let at = c.loop-rest in
+    (put_first c.args.v at.rest at.start at.digits (omega arith) at.invariant.text at.invariant.room (omega arith)).0
+
+-- with it the whole text stands, from its place on
+written : (c : goal.After-copy_from_slice) → decimal c.args.v
+    ≡ drop (c.loop-rest.start - 1) (set c.loop-rest.digits (c.loop-rest.start - 1) (48 + c.loop-rest.rest))
+written c =
+    let at = c.loop-rest in
+    (put_first c.args.v at.rest at.start at.digits (omega arith) at.invariant.text at.invariant.room (omega arith)).1
 
 -- what is copied to the front is the text
 pub returns-clause-text : goal.returns-clause-text
 returns-clause-text c =
     let n : length c.copy_from_slice.new.self ≡ 39 - (c.loop-rest.start - 1) = grind (arith, common_steps) in
-    take_at c.copy_from_slice.new.self _ _ n ∙ c.copy_from_slice.ensures.after ∙ take_all _ _ (simp (length-drop, length-set) (omega arith))
-    ∙ sym (put_first c.args.v c.loop-rest.rest c.loop-rest.start c.loop-rest.digits (omega arith) c.loop-rest.invariant.text c.loop-rest.invariant.room (omega arith)).1
+    take_at c.copy_from_slice.new.self _ _ n ∙ c.copy_from_slice.ensures.after
+    ∙ take_all _ _ (simp (length-drop, length-set) (omega arith)) ∙ sym (written c)
 
 -- that text is the shortest one
 pub returns-clause-shortest : goal.returns-clause-shortest
 returns-clause-shortest c =
-    subst (λ (text : List ℕ). IsShortest c.args.v text) (sym (returns-clause-text c)) (shortest_decimal c.args.v (omega (arith, c.ranges.v.fits)))
+    subst (λ (text : List ℕ). IsShortest c.args.v text) (sym (returns-clause-text c))
+    (shortest_decimal c.args.v (omega (arith, c.ranges.v.fits)))
 
 -- and reads as the value
 pub returns-clause-read_back : goal.returns-clause-read_back
@@ -57,10 +76,17 @@ returns-clause-read_back c = λ small. ap number_of (returns-clause-text c) ∙ 
 -- the length is that of the text
 pub returns-clause-digits : goal.returns-clause-digits
 returns-clause-digits c = λ k some small.
-    let digits : List ℕ = set c.loop-rest.digits (c.loop-rest.start - 1) (48 + c.loop-rest.rest) in
-    let text : decimal c.args.v ≡ drop (c.loop-rest.start - 1) digits = (put_first c.args.v c.loop-rest.rest c.loop-rest.start c.loop-rest.digits (omega arith) c.loop-rest.invariant.text c.loop-rest.invariant.room (omega arith)).1 in
-    let few : length (decimal c.args.v) ≤ k = length-decimal-le_wide k c.args.v some small (omega (arith, c.ranges.v.fits)) in
-    omega (arith, ap length text, length-drop (c.loop-rest.start - 1) digits, length-set c.loop-rest.digits (c.loop-rest.start - 1) (48 + c.loop-rest.rest))
+    let at = c.loop-rest in
+    let digits : List ℕ = set at.digits (at.start - 1) (48 + at.rest) in
+    let fits : c.args.v < 10 ^ 64 = omega (arith, c.ranges.v.fits) in
+    let few : length (decimal c.args.v) ≤ k = length-decimal-le_wide k c.args.v some small fits in
+    omega (
+      arith,
+      ap length (written c),
+      few,
+      length-drop (at.start - 1) digits,
+      length-set at.digits (at.start - 1) (48 + at.rest),
+    )
 
 -- 2^64 is below 10^20
 pub returns-clause-short : goal.returns-clause-short

@@ -1,3 +1,4 @@
+-- Digits are written from the last one on.
 use Rattle.std.proofs.Common.{◌≡◌, ◌≤◌, ◌++◌, drop, length}
 use Rattle.std.specs.Fmt.{decimal}
 use Rattle.transyt_num.proofs.writing.put_number.Given as goal
@@ -11,5 +12,6 @@ invariant-loop-rest l = record {
   len : length l.digits ≡ 39;
 }
 
+-- what is left falls
 abbrev pub decreases-loop-rest : goal.decreases-loop-rest
 decreases-loop-rest l = l.rest
