@@ -1,9 +1,10 @@
 ghost use Rattle.std.specs.Prelude.{◌≡◌, ℕ, ◌+◌, ◌-◌, ◌^◌, ◌<◌, length, All};
 ghost use Rattle.transyt_profile.specs.Profile.{added};
 
-/// Adds one profile to another, step by step.
+/// Adds the profile `x` to the profile `out`, step by step.
 ///
-/// Nothing is rounded. The limits leave room for the flow that enters a link from outside and its eight feeds.
+/// Both hold one value for each step of the cycle, in millionths of a vehicle per step. Nothing is rounded. The
+/// limits leave room for the flow that enters a link from outside and its eight feeds; they are this project's own.
 pub fn add_into(x: &[u64], out: &mut [u64])
     requires lengths { length x.now ≡ length out.old }
     requires fit { All (λ v. v < 2 ^ 44) x.now }

@@ -3,6 +3,8 @@
 //! A profile is a slice of `u64` and a contract sees it as a list of numbers. Each call is one definition of
 //! `specs/Profile`: `uniform`, `added` and `shared` give a profile, and std's `sum` its total over the cycle.
 //! Cite `added` first. Each call that fills a profile also says how large its values can be, as the next call asks.
+//! That a link has a profile which repeats each cycle is from LR 253; the unit and each rounding are this project's
+//! own.
 
 #![tactic(auto)]
 

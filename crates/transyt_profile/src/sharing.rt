@@ -3,7 +3,9 @@ ghost use Rattle.transyt_profile.specs.Profile.{share_of, shared};
 
 /// Writes the part of a profile that goes on to one link, each value rounded down.
 ///
-/// Of `whole` vehicles per hour `part` go on. Where `whole` is 0 nothing goes on.
+/// `x` and `out` hold one value for each step of the cycle, in millionths of a vehicle per step; what stood in
+/// `out` is overwritten. Of `whole` vehicles per hour `part` go on. Where `whole` is 0 nothing goes on. The
+/// rounding at each step is this project's own.
 pub fn share_into(x: &[u64], part: u32, whole: u32, out: &mut [u64])
     requires lengths { length x.now ≡ length out.old }
     requires fit { All (λ v. v < 2 ^ 30) x.now }

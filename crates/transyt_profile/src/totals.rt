@@ -1,6 +1,6 @@
 ghost use Rattle.std.specs.Prelude.{◌≡◌, ℕ, ◌*◌, ◌^◌, ◌<◌, ◌≤◌, length, sum, All};
 
-/// The sum of a profile's values over the cycle.
+/// The sum of a profile's values over the cycle, exact: `x` holds one for each step, and the sum is in their unit.
 pub fn total(x: &[u64]) -> u64
     requires most { length x.now ≤ 120 }
     requires fit { All (λ v. v < 2 ^ 48) x.now }

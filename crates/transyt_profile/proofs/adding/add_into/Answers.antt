@@ -1,9 +1,11 @@
+-- The sum of two profiles, and how large its values can be.
 use Rattle.std.proofs.Common.{◌-◌, ◌^◌, ◌<◌, length, get_or, arith}
 use Rattle.std.proofs.lemmas.List.{get_or_default}
 use Rattle.std.proofs.lemmas.List.FromFn.{fill_by_all}
 use Rattle.transyt_profile.specs.Profile.{added_at}
 use Rattle.transyt_profile.proofs.adding.add_into.Goals as goal
 
+-- with every step passed, the profile is the definition's
 pub returns-clause-value : goal.returns-clause-value
 returns-clause-value c =
     fill_by_all (added_at c.args.out.now c.args.x.now) c.loop-i.out (length c.args.out.now) 0 (omega arith)
@@ -16,6 +18,7 @@ returns-clause-small c = λ k d h.
     let more : get_or c.args.x.now k 0 < 2 ^ 44 = c.requires.fit k 0 (omega arith) in
     omega (arith, get_or_default c.loop-i.out k d 0 h, c.loop-i.invariant.summed k (omega arith))
 
+-- so a limit on what stood goes up by the limit on what is added
 pub returns-clause-grows : goal.returns-clause-grows
 returns-clause-grows c = λ limit within k d h.
     let before : get_or c.args.out.now k 0 < limit = within k 0 (omega arith) in

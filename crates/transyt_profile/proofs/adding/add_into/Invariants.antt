@@ -1,3 +1,4 @@
+-- A profile is added step by step.
 use Rattle.std.proofs.Common.{◌≡◌, ℕ, ◌<◌, ◌≤◌, get_or}
 use Rattle.transyt_profile.specs.Profile.{added_at}
 use Rattle.transyt_profile.proofs.adding.add_into.Given as goal

@@ -1,3 +1,4 @@
+-- A profile is filled step by step.
 use Rattle.std.proofs.Common.{◌≡◌, ℕ, ◌<◌, get_or}
 use Rattle.transyt_profile.proofs.filling.fill_uniform.Given as goal
 

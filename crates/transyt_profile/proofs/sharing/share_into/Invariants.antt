@@ -1,3 +1,4 @@
+-- A profile is shared step by step.
 use Rattle.std.proofs.Common.{◌≡◌, ℕ, ◌^◌, ◌<◌, get_or}
 use Rattle.transyt_profile.specs.Profile.{share_of}
 use Rattle.transyt_profile.proofs.sharing.share_into.Given as goal

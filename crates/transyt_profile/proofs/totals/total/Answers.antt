@@ -1,3 +1,4 @@
+-- How large a total can be.
 use Rattle.std.proofs.Common.{sum, ap, arith}
 use Rattle.std.proofs.lemmas.List.{take_all}
 use Rattle.std.proofs.lemmas.List.Sums.{sum_by-le}

@@ -1,3 +1,4 @@
+-- A profile is summed step by step.
 use Rattle.std.proofs.Common.{◌≡◌, ◌*◌, ◌^◌, ◌≤◌, sum, take}
 use Rattle.transyt_profile.proofs.totals.total.Given as goal
 
