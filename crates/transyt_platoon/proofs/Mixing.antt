@@ -1,11 +1,46 @@
 -- Laws of the dispersion: what one step mixes, the smoothed profile, and where its values stand.
-use Rattle.std.proofs.Common.{◌≡◌, ℕ, zero, suc, ◌+◌, ◌-◌, ◌*◌, ◌/◌, ◌%◌, ◌<◌, ◌≤◌, List, length, get_or, replicate, refl, ap, sym, ◌∙◌, arith, sum, set, ◌≢◌, get_or-set_same, get_or-set_other, below_more}
+use Rattle.std.proofs.Common.{
+  ◌≡◌,
+  ℕ,
+  zero,
+  suc,
+  ◌+◌,
+  ◌-◌,
+  ◌*◌,
+  ◌/◌,
+  ◌%◌,
+  ◌<◌,
+  ◌≤◌,
+  List,
+  length,
+  get_or,
+  replicate,
+  refl,
+  ap,
+  sym,
+  ◌∙◌,
+  arith,
+  sum,
+  set,
+  ◌≢◌,
+  get_or-set_same,
+  get_or-set_other,
+  below_more,
+}
 use Rattle.std.specs.List.{All}
 use Rattle.std.proofs.lemmas.List.{length-replicate, get_or-replicate, get_or_default}
 use Rattle.std.proofs.lemmas.List.Folds.{sum_by-replicate}
 use Rattle.std.proofs.lemmas.List.Sums.{sum_by-le}
 use Rattle.std.proofs.lemmas.List.FromFn.{fill_by_all}
-use Rattle.std.proofs.Math.Nat.{mod-lt, mod-eq_of_lt, mod-add-mod, add-mod_left, mul-div_cancel_left, mul-le-mul_left, div-le_of_le-mul}
+use Rattle.std.proofs.Math.Nat.{
+  mod-lt,
+  mod-eq_of_lt,
+  mod-add-mod,
+  add-mod_left,
+  mul-div_cancel_left,
+  mul-le-mul_left,
+  div-le_of_le-mul,
+}
 use Rattle.transyt_cycle.specs.Cycle.{minus_mod}
 use Rattle.transyt_cycle.proofs.CycleLaws.{minus_mod-lt, minus_mod-add, turned_apart}
 use Rattle.transyt_platoon.specs.Platoon.{mixed, smoothed, dispersed_at, dispersed}
@@ -23,13 +58,13 @@ pub smoothed_none : (xs : List ℕ) (w : ℕ) → smoothed xs w 0 ≡ sum xs / l
 unfolding smoothed
 smoothed_none xs w = refl
 
--- and goes on by mixing
+-- one step more of the smoothed profile mixes the step that sets out with what went by before
 pub smoothed_suc : (xs : List ℕ) (w j : ℕ)
     → smoothed xs w (suc j) ≡ mixed w (get_or xs (j % length xs) 0) (smoothed xs w j)
 unfolding smoothed
 smoothed_suc xs w j = refl
 
--- step i of the first turn
+-- what step i of the first turn mixes is the smoothed profile's next value
 pub first_more : (xs : List ℕ) (w i z r : ℕ) → i < length xs
     → z ≡ smoothed xs w i → r ≡ mixed w (get_or xs i 0) z → r ≡ smoothed xs w (i + 1)
 first_more xs w i z r below before mix =
@@ -38,7 +73,7 @@ first_more xs w i z r below before mix =
     let at = smoothed_suc xs w i in
     rw (one, at, place, ← before) mix
 
--- step i of the second turn
+-- what step i of the second turn mixes is the smoothed profile's next value
 pub second_more : (xs : List ℕ) (w i z r : ℕ) → i < length xs
     → z ≡ smoothed xs w (length xs + i) → r ≡ mixed w (get_or xs i 0) z → r ≡ smoothed xs w (length xs + 1 + i)
 second_more xs w i z r below before mix =
@@ -66,7 +101,7 @@ smoothed_uniform n v w (suc j) some =
     let here = get_or-replicate n (j % n) v 0 place in
     smoothed_suc (replicate n v) w j ∙ rw (length-replicate, before, here) (mixed_same w v)
 
--- so it arrives as it set out
+-- so a profile that is the same at each step arrives as it set out
 pub dispersed_uniform : (xs : List ℕ) (t k v : ℕ) → 0 < length xs → xs ≡ replicate (length xs) v → dispersed xs t k ≡ xs
 dispersed_uniform xs t k v some same =
     sym (fill_by_all (dispersed_at xs t k) xs (length xs) 0 refl
@@ -91,13 +126,13 @@ placed_at xs ys t k i placed below =
     let place : (m + t) % length xs ≡ i = minus_mod-add (length xs) i t some ∙ mod-eq_of_lt below in
     ap (λ n. get_or ys n 0) (sym place) ∙ placed m (minus_mod-lt (length xs) i t some)
 
--- and the profile is the definition's
+-- with the whole turn placed, the profile is the definition's
 pub placed_all : (xs ys : List ℕ) (t k : ℕ)
     → length ys ≡ length xs → Placed xs ys t k (length xs) → ys ≡ dispersed xs t k
 placed_all xs ys t k same placed =
     fill_by_all (dispersed_at xs t k) ys (length xs) 0 same (λ i below. placed_at xs ys t k i placed below)
 
--- counted through both turns
+-- the same counted through both turns: value j stands at step j - 1 + t, round the cycle
 pub placed_by_step : (xs ys : List ℕ) (t k j : ℕ) → Placed xs ys t k (length xs)
     → length xs < j → j ≤ 2 * length xs → get_or ys ((j - 1 + t) % length xs) 0 ≡ smoothed xs (k * t) j
 placed_by_step xs ys t k j placed low high =

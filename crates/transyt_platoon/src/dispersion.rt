@@ -5,11 +5,12 @@ ghost use Rattle.transyt_platoon.specs.Platoon.{mixed, smoothed, dispersed};
 
 use transyt_profile::total;
 
-/// Writes the profile of a platoon at the end of its travel, in units per step.
+/// Writes the profile of a platoon at the end of its travel, in millionths of a vehicle per step.
 ///
-/// `x` and `out` hold one value for each step of the cycle, `t` is the travel time in steps and `percent` the
-/// dispersion. This is Robertson's recurrence of LR 253. That it starts from the mean, goes round the cycle
-/// twice and keeps the second turn, and rounds down at each step, is this project's own.
+/// `x` and `out` hold one value for each step of the cycle; what stood in `out` is overwritten. `t` is the
+/// travel time in steps and `percent` the dispersion. This is Robertson's recurrence of LR 253. That it starts
+/// from the mean, goes round the cycle twice and keeps the second turn, and rounds down at each step, is this
+/// project's own.
 pub fn disperse(x: &[u64], t: u32, percent: u32, out: &mut [u64])
     requires steps { 0 < length x.now }
     requires most { length x.now ≤ 120 }

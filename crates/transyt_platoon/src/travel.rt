@@ -5,9 +5,9 @@ ghost use Rattle.transyt_platoon.specs.Platoon.{travel_steps};
 
 /// The travel time in steps of a cycle of `cycle` seconds that has `step_count` steps.
 ///
-/// It is 0.8 of the cruise time in seconds, rounded to the nearest step, a half up. That the platoon's travel
-/// time is a part of the cruise time is from LR 253; that the part is always 0.8, and the rounding, are this
-/// project's own.
+/// It is 0.8 of `cruise`, the cruise time in seconds, rounded to the nearest step, a half up. That the
+/// platoon's travel time is a part of the cruise time is from LR 253; that the part is always 0.8, and the
+/// rounding, are this project's own.
 pub fn travel_steps(cruise: u32, step_count: u32, cycle: u32) -> u32
     requires cruise { cruise ≤ 300 }
     requires step_count { step_count ≤ 120 }

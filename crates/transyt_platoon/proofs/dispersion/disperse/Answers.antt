@@ -1,3 +1,4 @@
+-- The two turns write the dispersed profile.
 use Rattle.std.proofs.Common.{◌≡◌, ℕ, ◌+◌, ◌-◌, ◌*◌, ◌/◌, rules, ◌^◌, List, length, ap, sym, ◌∙◌, arith}
 use Rattle.std.proofs.Math.Nat.{div-le_of_le-mul}
 use Rattle.transyt_platoon.specs.Platoon.{smoothed}
@@ -22,7 +23,8 @@ first-preserved c =
     let weight : ℕ = c.args.percent * c.args.t in
     record {
       small = c.mix-value.ensures.small;
-      here = first_more c.args.x.now weight c.first.i c.first.value _ (omega arith) c.first.invariant.here (search rules);
+      here = first_more c.args.x.now weight c.first.i c.first.value _ (omega arith)
+          c.first.invariant.here (search rules);
     }
 
 -- one step of the second turn, written in its place

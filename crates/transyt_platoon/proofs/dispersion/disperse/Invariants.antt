@@ -1,3 +1,4 @@
+-- A profile goes by twice, step by step.
 use Rattle.std.proofs.Common.{◌≡◌, ◌+◌, ◌*◌, ◌%◌, ◌^◌, ◌<◌, length}
 use Rattle.transyt_platoon.specs.Platoon.{smoothed}
 use Rattle.transyt_platoon.proofs.Mixing.{Placed}
