@@ -8,6 +8,9 @@ use crate::terms::{Terms, TermsFrame};
 use transyt_num::mul_div;
 
 /// The figures of one link.
+///
+/// That uniform delay is the mean queue is from LR 253. The random delay is after the sheared form of later
+/// versions; it, the count of stops and each rounding are this project's own.
 #[derive(Clone, Copy, PartialEq, Eq, Debug)]
 pub struct Figures {
     /// The mean queue over the steps of a cycle, in millionths of a vehicle, rounded down.
@@ -16,11 +19,14 @@ pub struct Figures {
     pub random: u64,
     /// Stops per second, in millionths, rounded down.
     pub stops: u64,
-    /// The link's part of the performance index.
+    /// The link's part of the performance index, in millionths, the stops' share of it rounded down.
     pub index: u128,
 }
 
 /// The figures of a link from its terms.
+///
+/// The terms are sums over one cycle, in millionths of a vehicle. What arrives and what can go are taken to the
+/// period first, each rounded down, and then the random delay is worked out.
 pub fn figures_of(terms: &Terms) -> Figures
     requires limits { InLimits terms.now }
     ensures value { result ≡ figures terms.now }

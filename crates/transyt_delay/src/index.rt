@@ -3,7 +3,9 @@ ghost use Rattle.transyt_delay.specs.Index.{index_of};
 
 /// A link's part of the performance index: its weighted delay and its weighted stops, these rounded down.
 ///
-/// `uniform` and `random` are delays and `stops` is a rate, in millionths as in `Figures`.
+/// `uniform` and `random` are delays and `stops` is a rate, in millionths as in `Figures`, and the index is in the
+/// same. `stop_penalty` is what a stop weighs against delay, in hundredths. The weighted sum is from LR 253; its
+/// scale and rounding are this project's own.
 pub fn weigh(
     uniform: u64,
     random: u64,

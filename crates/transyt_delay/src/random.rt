@@ -4,7 +4,10 @@ ghost use Rattle.transyt_num.specs.Root.{root};
 
 use transyt_num::isqrt;
 
-// the delay of chance and oversaturation where x come in the period and y can go
+/// The delay of chance and oversaturation where `x` come in the period and `y` can go, rounded down.
+///
+/// All three are in millionths of a vehicle. It is after the sheared form of later versions than LR 253; its form
+/// here, in whole numbers, is this project's own.
 pub fn random_delay(x: u64, y: u64) -> u64
     requires come { x < 2 ^ 63 }
     requires room { y < 2 ^ 63 }

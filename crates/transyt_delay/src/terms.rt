@@ -1,4 +1,4 @@
-/// The numbers of a network's frame that the figures of a link take.
+/// The numbers of a network's frame that the figures of a link take, all of them whole.
 #[derive(Clone, Copy, PartialEq, Eq, Debug)]
 pub struct TermsFrame {
     /// The cycle in seconds.
@@ -7,7 +7,7 @@ pub struct TermsFrame {
     pub step_count: u32,
     /// The period that is looked at, in minutes.
     pub period: u32,
-    /// What a stop weighs against delay.
+    /// What a stop weighs against delay, in hundredths.
     pub stop_penalty: u32,
 }
 
@@ -24,8 +24,8 @@ pub struct Terms {
     pub stopped: u64,
     /// The numbers of the network's frame.
     pub frame: TermsFrame,
-    /// The link's weight of delay.
+    /// The link's weight of delay, a whole number.
     pub delay_weight: u32,
-    /// The link's weight of stops.
+    /// The link's weight of stops, a whole number.
     pub stop_weight: u32,
 }
