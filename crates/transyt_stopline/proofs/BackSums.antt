@@ -1,5 +1,28 @@
 -- Sums over the last steps round a cycle.
-use Rattle.std.proofs.Common.{◌≡◌, ℕ, zero, suc, ◌+◌, ◌-◌, ◌%◌, ◌<◌, ◌≤◌, List, length, get_or, take, refl, ap, arith, sum, map, sym, ◌∙◌, zero-add, suc-add}
+use Rattle.std.proofs.Common.{
+  ◌≡◌,
+  ℕ,
+  zero,
+  suc,
+  ◌+◌,
+  ◌-◌,
+  ◌%◌,
+  ◌<◌,
+  ◌≤◌,
+  List,
+  length,
+  get_or,
+  take,
+  refl,
+  ap,
+  arith,
+  sum,
+  map,
+  sym,
+  ◌∙◌,
+  zero-add,
+  suc-add,
+}
 use Rattle.std.specs.List.{range_with_len}
 use Rattle.std.proofs.lemmas.List.Sums.{sum_by_more}
 use Rattle.std.proofs.lemmas.List.FromFn.{sum_by-map-range_with_len_more}
@@ -9,18 +32,18 @@ use Rattle.transyt_cycle.specs.Cycle.{minus_mod, step_before}
 use Rattle.transyt_cycle.proofs.CycleLaws.{minus_mod-lt, minus_mod-add, minus_mod-step_before, step_before-lt}
 use Rattle.transyt_stopline.specs.LastSteps.{sum_back, sum_at_places}
 
--- one more step back
+-- the sum over one step more is this step and the sum from the step before
 pub back_suc : (xs : List ℕ) (i n : ℕ)
     → sum_back xs i (suc n) ≡ get_or xs i 0 + sum_back xs (step_before (length xs) i) n
 unfolding sum_back
 back_suc xs i n = refl
 
--- no step
+-- the sum over no step is 0
 pub back_zero : (xs : List ℕ) (i : ℕ) → sum_back xs i 0 ≡ 0
 unfolding sum_back
 back_zero xs i = refl
 
--- n steps back from j, where n ≤ j, and then m more
+-- the sum over n steps back from j, where n ≤ j, and m more is that over the n and that over the m
 pub back_split : (xs : List ℕ) (n m j k : ℕ) → n + k ≡ j → sum_back xs j (n + m) ≡ sum_back xs j n + sum_back xs k m
 unfolding sum_back
 back_split xs zero m j k there = let same : k ≡ j = omega arith in rw (zero-add, same) (omega arith)
@@ -35,7 +58,7 @@ unfolding sum_back
 back_wrap xs zero m = rw (suc-add, zero-add) (omega arith)
 back_wrap xs (suc i) m = rw suc-add (omega (arith, back_wrap xs i m))
 
--- the steps from 0 to i
+-- the sum back to step 0 is that of the steps from 0 to i
 pub back_front : (xs : List ℕ) (i : ℕ) → i < length xs → sum_back xs i (suc i) ≡ sum (take (i + 1) xs)
 unfolding sum_back
 back_front xs zero below = omega (arith, sum_by_more (λ x. x) xs 0 0 below)
@@ -44,7 +67,7 @@ back_front xs (suc i) below =
     let next : suc i ≡ i + 1 = omega arith in
     omega (arith, back_front xs i under, sum_by_more (λ x. x) xs (suc i) 0 below, ap (λ k. sum (take k xs)) next)
 
--- once round the cycle
+-- the sum once round the cycle is the sum of all
 pub back_full : (xs : List ℕ) (i : ℕ) → i < length xs → sum_back xs i (length xs) ≡ sum xs
 back_full xs i below =
     let last : ℕ = length xs - 1 in
@@ -63,7 +86,7 @@ back_full xs i below =
       ap sum (take_all (last + 1) xs (omega arith)),
     )
 
--- once round the cycle and m steps more
+-- the sum once round the cycle and m steps more is the sum of all and that over the m
 pub back_turn : (xs : List ℕ) (i m : ℕ) → i < length xs → sum_back xs i (length xs + m) ≡ sum xs + sum_back xs i m
 back_turn xs i m below =
     let last : ℕ = length xs - 1 in
@@ -92,7 +115,7 @@ back-le xs n i below most =
     let whole : n + (length xs - n) ≡ length xs = omega arith in
     omega (arith, back_grows xs n (length xs - n) i, ap (sum_back xs i) whole, back_full xs i below)
 
--- one more step at the far end
+-- the sum over one step more is the sum so far and the step at the far end
 pub back_more : (xs : List ℕ) (n i : ℕ) → i < length xs
     → sum_back xs i (suc n) ≡ sum_back xs i n + get_or xs (minus_mod (length xs) i n) 0
 back_more xs zero i below =

@@ -27,7 +27,7 @@ scaled_sum a b (x ∷ xs) =
 pub scaled_total : (b : ℕ) (xs : List ℕ) → b < sum xs → sum (map (scaled (sum xs) b) xs) ≤ b
 scaled_total b xs above = le_of_mul-le-mul_right {k = sum xs} (omega (arith, scaled_sum (sum xs) b xs)) (omega arith)
 
--- a list filled place by place
+-- a list with f of each value in its place is the list mapped
 pub mapped : (f : ℕ → ℕ) (xs ys : List ℕ) → length ys ≡ length xs
     → ((k : ℕ) → k < length xs → get_or ys k 0 ≡ f (get_or xs k 0)) → ys ≡ map f xs
 mapped f xs ys same_length at_each = ext_get_or 0 ys (map f xs) (omega (arith, length-map xs f))

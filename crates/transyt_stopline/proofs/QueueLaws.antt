@@ -1,5 +1,29 @@
 -- The queue round the cycle, step by step.
-use Rattle.std.proofs.Common.{◌≡◌, ℕ, zero, suc, ◌+◌, ◌-◌, ◌<◌, ◌≤◌, List, length, get_or, refl, ap, sym, ◌∙◌, arith, sum, subst, map, take, ◌++◌, [], ◌∷◌}
+use Rattle.std.proofs.Common.{
+  ◌≡◌,
+  ℕ,
+  zero,
+  suc,
+  ◌+◌,
+  ◌-◌,
+  ◌<◌,
+  ◌≤◌,
+  List,
+  length,
+  get_or,
+  refl,
+  ap,
+  sym,
+  ◌∙◌,
+  arith,
+  sum,
+  subst,
+  map,
+  take,
+  ◌++◌,
+  [],
+  ◌∷◌,
+}
 use Rattle.std.specs.List.{range_with_len}
 use Rattle.std.proofs.lemmas.List.{take_all}
 use Rattle.std.proofs.lemmas.List.Sums.{sum_by_more, sum_by_push}
@@ -15,12 +39,12 @@ use Rattle.transyt_stopline.proofs.Greatest.{greatest_shift, greatest_turn}
 abbrev pub queue_over : List ℕ → List ℕ → ℕ → ℕ → ℕ
 queue_over arrivals go n i = greatest (λ m. sum_back arrivals i m - sum_back go i m) n
 
--- over no step it is 0
+-- the greatest excess over no step is 0
 pub queue_over_none : (arrivals go : List ℕ) (i : ℕ) → queue_over arrivals go 0 i ≡ 0
 unfolding greatest
 queue_over_none arrivals go i = refl
 
--- over one step more it is what it was a step before, and this step
+-- the greatest excess over one step more is that of a step before, with what came and passed at this step
 pub queue_over_more : (arrivals go : List ℕ) (n i : ℕ) → length go ≡ length arrivals
     → queue_over arrivals go (suc n) i
     ≡ queue_over arrivals go n (step_before (length arrivals) i) + get_or arrivals i 0 - get_or go i 0
@@ -33,8 +57,10 @@ queue_over_more arrivals go n i same_length =
     (get_or arrivals i 0) (get_or go i 0) n (back_zero arrivals _) (back_zero go _) (back_suc arrivals i) go_suc
 
 -- the queue of the repeating cycle obeys the recurrence at every step, at step 0 from the last
-pub queue_more : (arrivals go : List ℕ) (i : ℕ) → length go ≡ length arrivals → sum arrivals ≤ sum go → i < length arrivals
-    → queue_at arrivals go i ≡ queue_at arrivals go (step_before (length arrivals) i) + get_or arrivals i 0 - get_or go i 0
+pub queue_more : (arrivals go : List ℕ) (i : ℕ)
+    → length go ≡ length arrivals → sum arrivals ≤ sum go → i < length arrivals
+    → queue_at arrivals go i
+    ≡ queue_at arrivals go (step_before (length arrivals) i) + get_or arrivals i 0 - get_or go i 0
 queue_more arrivals go i same_length served below =
     let go_below : i < length go = omega arith in
     let turn_go : sum_back go i (length arrivals + 1) ≡ sum go + sum_back go i 1 =
@@ -43,13 +69,14 @@ queue_more arrivals go i same_length served below =
     sym (greatest_turn excess (length arrivals) (omega arith) (omega (arith, back_turn arrivals i 1 below)))
     ∙ queue_over_more arrivals go (length arrivals) i same_length
 
--- the step before a step past the first
+-- the step before a step past the first is one less
 pub step_before_pos : (n i : ℕ) → 0 < i → step_before n i ≡ i - 1
 step_before_pos n zero positive = absurd (omega arith)
 step_before_pos n (suc i) positive = omega arith
 
 -- what left in the first n steps and the queue then are the queue at the start and the arrivals so far
-pub outs_so_far : (arrivals go : List ℕ) (n : ℕ) → length go ≡ length arrivals → sum arrivals ≤ sum go → n ≤ length arrivals
+pub outs_so_far : (arrivals go : List ℕ) (n : ℕ)
+    → length go ≡ length arrivals → sum arrivals ≤ sum go → n ≤ length arrivals
     → sum (map (out_at arrivals go) (range_with_len 0 n)) + queue_at arrivals go (step_before (length arrivals) n)
     ≡ queue_at arrivals go (length arrivals - 1) + sum (take n arrivals)
 outs_so_far arrivals go zero same_length served most = omega arith
@@ -82,7 +109,7 @@ outs_total arrivals go positive same_length served =
       ap sum (take_all (length arrivals) arrivals (omega arith)),
     )
 
--- a turn of the first loop
+-- one step more of the first turn: the greatest excess over one step more
 pub first_more : (arrivals go : List ℕ) (i waiting after : ℕ) → length go ≡ length arrivals
     → waiting ≡ queue_over arrivals go i (step_before (length arrivals) i)
     → after ≡ waiting + get_or arrivals i 0 - get_or go i 0
@@ -92,7 +119,7 @@ first_more arrivals go i waiting after same_length was is =
     let next : i + 1 ≡ suc i = omega arith in
     rw (here, next) (omega (arith, queue_over_more arrivals go i i same_length))
 
--- a turn of the second loop
+-- one step more of the second turn: the queue at that step
 pub second_more : (arrivals go : List ℕ) (i waiting after : ℕ) → length go ≡ length arrivals → sum arrivals ≤ sum go
     → i < length arrivals → waiting ≡ queue_at arrivals go (step_before (length arrivals) i)
     → after ≡ waiting + get_or arrivals i 0 - get_or go i 0 → after ≡ queue_at arrivals go i
@@ -100,12 +127,14 @@ second_more arrivals go i waiting after same_length served below was is =
     omega (arith, queue_more arrivals go i same_length served below)
 
 -- no more leaves than the green lets pass
-pub out-le-go : (arrivals go : List ℕ) (i : ℕ) → length go ≡ length arrivals → sum arrivals ≤ sum go → i < length arrivals
+pub out-le-go : (arrivals go : List ℕ) (i : ℕ)
+    → length go ≡ length arrivals → sum arrivals ≤ sum go → i < length arrivals
     → out_at arrivals go i ≤ get_or go i 0
 out-le-go arrivals go i same_length served below = omega (arith, queue_more arrivals go i same_length served below)
 
 -- what leaves and what then stands is what stood and what arrived
-pub out_kept : (arrivals go : List ℕ) (i : ℕ) → length go ≡ length arrivals → sum arrivals ≤ sum go → i < length arrivals
+pub out_kept : (arrivals go : List ℕ) (i : ℕ)
+    → length go ≡ length arrivals → sum arrivals ≤ sum go → i < length arrivals
     → out_at arrivals go i + queue_at arrivals go i
     ≡ queue_at arrivals go (step_before (length arrivals) i) + get_or arrivals i 0
 out_kept arrivals go i same_length served below = omega (arith, queue_more arrivals go i same_length served below)

@@ -8,7 +8,7 @@ use Rattle.transyt_stopline.specs.Stops.{stopped_at}
 abbrev pub stopped_before : List ℕ → List ℕ → ℕ → ℕ
 stopped_before arrivals queue n = sum (map (stopped_at arrivals queue) (range_with_len 0 n))
 
--- what stops in one step more
+-- what stops in one step more is what stopped so far and what stops at that step
 pub stopped_more : (arrivals queue : List ℕ) (n : ℕ)
     → stopped_before arrivals queue (n + 1) ≡ stopped_before arrivals queue n + stopped_at arrivals queue n
 stopped_more arrivals queue n = sum_by-map-range_with_len_more (λ x. x) (stopped_at arrivals queue) 0 n n (omega arith)

@@ -6,8 +6,9 @@ use transyt_profile::total;
 
 /// What reaches the stop line of what comes to it.
 ///
-/// Where more comes in a cycle than the green lets pass, each step is scaled down to it, rounded down; else all
-/// of it arrives. This cut is this project's own.
+/// All three slices have one value for each step of the cycle, in millionths of a vehicle; what stood in `out` is
+/// overwritten. `go` is what the green lets pass. Where more comes in a cycle than that, each step is scaled down
+/// to it, rounded down; else all of it arrives. This cut is this project's own.
 pub fn cut_arrivals(x: &[u64], go: &[u64], out: &mut [u64])
     requires most { length x.now ≤ 120 }
     requires go_len { length go.now ≡ length x.now }

@@ -4,9 +4,11 @@ ghost use Rattle.transyt_stopline.specs.Queue.{queues, outs, IsQueue};
 
 /// The queue at the end of each step, and what leaves in each step.
 ///
-/// All four slices have one value for each step. `go` is what the green lets pass, and the arrivals of a cycle
-/// are at most what it lets pass, so that the queue of a cycle that repeats for ever is finite. A queue stands at
-/// the step's end: what arrives in a step with room leaves in it. The recurrence is LR 253's.
+/// All four slices have one value for each step of the cycle, in millionths of a vehicle; what stood in `queue` and
+/// `out` is overwritten, and nothing is rounded. `go` is what the green lets pass, and the arrivals of a cycle are at
+/// most what it lets pass, so that the queue of a cycle that repeats for ever is finite. A queue stands at the step's
+/// end: what arrives in a step with room leaves in it. The recurrence is LR 253's; the queue without a start is this
+/// project's own.
 pub fn queue(arrivals: &[u64], go: &[u64], queue: &mut [u64], out: &mut [u64])
     requires steps { 0 < length arrivals.now }
     requires most { length arrivals.now ≤ 120 }

@@ -3,7 +3,8 @@ ghost use Rattle.transyt_stopline.specs.Stops.{stopping, stopped_of};
 
 /// How much of a cycle's arrivals stops: what arrives in a step that ends with a queue.
 ///
-/// In millionths of a vehicle, exact.
+/// Both slices have one value for each step of the cycle, in millionths of a vehicle: `queue` is what stands at
+/// the step's end. The result is in the same unit, exact. This count of stops is this project's own.
 pub fn stopped(arrivals: &[u64], queue: &[u64]) -> u64
     requires most { length arrivals.now ≤ 120 }
     requires queue_len { length queue.now ≡ length arrivals.now }

@@ -1,3 +1,4 @@
+-- Where the arrivals are cut, they sum to no more than the green lets pass, and each stays below its limit.
 use Rattle.std.proofs.Common.{◌≡◌, ◌<◌, ◌≤◌, ◌^◌, arith, get_or, sum}
 use Rattle.std.proofs.lemmas.List.{get_or_default}
 use Rattle.std.proofs.lemmas.Grind.{common_steps}
@@ -5,11 +6,13 @@ use Rattle.transyt_stopline.specs.Cut.{scaled}
 use Rattle.transyt_stopline.proofs.CutLaws.{cut_total, scaled-le}
 use Rattle.transyt_stopline.proofs.cutting.cut_arrivals.Goals as goal
 
+-- each step is scaled, so they sum to at most what the green lets pass
 pub returns-after-loop-i-clause-total : goal.returns-after-loop-i-clause-total
 returns-after-loop-i-clause-total c =
     cut_total c.args.x.now c.args.go.now c.loop-i.out (omega (arith, c.if-served-come.true)) (omega arith)
     (λ k below. grind (arith, common_steps, c.loop-i.invariant k))
 
+-- what is scaled down is no more than it was
 pub returns-after-loop-i-clause-small : goal.returns-after-loop-i-clause-small
 returns-after-loop-i-clause-small c = λ k d below.
     let small : get_or c.args.x.now k 0 < 2 ^ 48 = c.requires.fit k 0 (omega arith) in

@@ -1,3 +1,4 @@
+-- Arrivals are scaled step by step.
 use Rattle.std.proofs.Common.{◌≡◌, ℕ, ◌<◌, get_or}
 use Rattle.transyt_stopline.specs.Cut.{scaled}
 use Rattle.transyt_stopline.proofs.cutting.cut_arrivals.Given as goal

@@ -1,4 +1,22 @@
-use Rattle.std.proofs.Common.{subst, ℕ, ◌≡◌, ◌^◌, ◌<◌, ◌≤◌, length, get_or, ap, sym, ◌∙◌, arith, below_more, sum, inl, inr}
+-- The two turns write the queue of the repeating cycle, and what leaves; the clauses are laws of the two.
+use Rattle.std.proofs.Common.{
+  subst,
+  ℕ,
+  ◌≡◌,
+  ◌^◌,
+  ◌<◌,
+  ◌≤◌,
+  length,
+  get_or,
+  ap,
+  sym,
+  ◌∙◌,
+  arith,
+  below_more,
+  sum,
+  inl,
+  inr,
+}
 use Rattle.std.proofs.lemmas.Grind.{common_steps}
 use Rattle.std.proofs.lemmas.List.FromFn.{fill_by_all}
 use Rattle.std.proofs.lemmas.Bool.{cases_lt}
@@ -6,21 +24,34 @@ use Rattle.std.proofs.lemmas.List.{get_or_past, get_or_default}
 use Rattle.transyt_cycle.specs.Cycle.{step_before}
 use Rattle.transyt_cycle.proofs.CycleLaws.{step_before-add_one, step_before-lt}
 use Rattle.transyt_stopline.specs.Queue.{IsQueue, queue_at, out_at}
-use Rattle.transyt_stopline.proofs.QueueLaws.{queue_over_none, first_more, second_more, queue_more, outs_total, out-le-go, out_kept}
+use Rattle.transyt_stopline.proofs.QueueLaws.{
+  queue_over_none,
+  first_more,
+  second_more,
+  queue_more,
+  outs_total,
+  out-le-go,
+  out_kept,
+}
 use Rattle.transyt_stopline.proofs.Covering.{queue_is}
 use Rattle.transyt_stopline.proofs.QueueBounds.{queue-lt}
 use Rattle.transyt_stopline.proofs.queueing.queue.Goals as goal
 
+-- the recurrence starts with no queue, the greatest excess over no step
 pub first-init : goal.first-init
 first-init c = record { small = omega arith; so_far = sym (queue_over_none c.args.arrivals.now c.args.go.now _) }
 
+-- one step of the first turn
 pub first-preserved : goal.first-preserved
 first-preserved c = record {
-  small = let arrival = c.requires.arrivals_fit c.first.i 0 (omega arith) in omega (arith, c.saturating_sub-waiting.ensures);
+  small =
+      let arrival = c.requires.arrivals_fit c.first.i 0 (omega arith) in
+      omega (arith, c.saturating_sub-waiting.ensures);
   so_far = first_more c.args.arrivals.now c.args.go.now c.first.i c.first.waiting _ c.requires.go_len
       c.first.invariant.so_far c.saturating_sub-waiting.ensures;
 }
 
+-- one step of the second turn, written in its place
 pub second-preserved : goal.second-preserved
 second-preserved c =
     let now : c.saturating_sub-waiting-in-second.result ≡ queue_at c.args.arrivals.now c.args.go.now c.second.i =
@@ -37,21 +68,25 @@ second-preserved c =
           (grind (arith, common_steps));
     }
 
+-- at its end each step has its queue
 pub returns-clause-queue : goal.returns-clause-queue
 returns-clause-queue c =
     fill_by_all (queue_at c.args.arrivals.now c.args.go.now) c.second.queue _ 0 (omega arith)
     (λ k below. c.second.invariant.queue k (omega arith))
 
+-- and what leaves in it
 pub returns-clause-out : goal.returns-clause-out
 returns-clause-out c =
     fill_by_all (out_at c.args.arrivals.now c.args.go.now) c.second.out _ 0 (omega arith)
     (λ k below. c.second.invariant.out k (omega arith))
 
+-- what is written is the queue by its two facts
 pub returns-clause-greatest : goal.returns-clause-greatest
 returns-clause-greatest c = λ i below.
     subst (λ (q : ℕ). IsQueue c.args.arrivals.now c.args.go.now i q) (sym (c.second.invariant.queue i (omega arith)))
     (queue_is c.args.arrivals.now c.args.go.now i c.requires.go_len below)
 
+-- the recurrence holds of what is written, since the definition obeys it
 pub returns-clause-recurrence : goal.returns-clause-recurrence
 returns-clause-recurrence c = λ i below.
     let before : step_before (length c.args.arrivals.now) i < length c.args.arrivals.now = step_before-lt _ i below in
@@ -62,6 +97,7 @@ returns-clause-recurrence c = λ i below.
       queue_more c.args.arrivals.now c.args.go.now i c.requires.go_len c.requires.served below,
     )
 
+-- what leaves and what then stands is what stood and what arrived
 pub returns-clause-kept : goal.returns-clause-kept
 returns-clause-kept c = λ i below.
     let before : step_before (length c.args.arrivals.now) i < length c.args.arrivals.now = step_before-lt _ i below in
@@ -73,6 +109,7 @@ returns-clause-kept c = λ i below.
       out_kept c.args.arrivals.now c.args.go.now i c.requires.go_len c.requires.served below,
     )
 
+-- no more leaves than the green lets pass; past the last step nothing leaves
 pub returns-clause-out_at_most_go : goal.returns-clause-out_at_most_go
 returns-clause-out_at_most_go c = λ i.
     elim (cases_lt i (length c.args.arrivals.now)) as (λ w. get_or c.second.out i 0 ≤ get_or c.args.go.now i 0) [
@@ -85,6 +122,7 @@ returns-clause-out_at_most_go c = λ i.
       | inr past ↦ omega (arith, get_or_past c.second.out i 0 (omega arith))
     ]
 
+-- what leaves in a cycle is what arrives in it
 pub returns-clause-total : goal.returns-clause-total
 returns-clause-total c =
     let out : ℕ → ℕ = out_at c.args.arrivals.now c.args.go.now in
@@ -93,6 +131,7 @@ returns-clause-total c =
     ap sum filled
     ∙ outs_total c.args.arrivals.now c.args.go.now c.requires.steps c.requires.go_len c.requires.served
 
+-- no queue is above what the green lets pass in a cycle
 pub returns-clause-queue_small : goal.returns-clause-queue_small
 returns-clause-queue_small c = λ k d below.
     omega (
@@ -102,6 +141,7 @@ returns-clause-queue_small c = λ k d below.
       queue-lt c.args.arrivals.now c.args.go.now k (omega arith) c.requires.served (omega arith) c.requires.go_fit,
     )
 
+-- what leaves is below the limit of what the green lets pass
 pub returns-clause-out_small : goal.returns-clause-out_small
 returns-clause-out_small c = λ k d below.
     let go_small : get_or c.args.go.now k 0 < 2 ^ 30 = c.requires.go_fit k 0 (omega arith) in

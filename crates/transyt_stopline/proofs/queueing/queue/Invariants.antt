@@ -1,3 +1,4 @@
+-- The recurrence goes round the cycle twice.
 use Rattle.std.proofs.Common.{◌≡◌, ℕ, ◌+◌, ◌*◌, ◌^◌, ◌<◌, ◌≤◌, length, get_or}
 use Rattle.transyt_cycle.specs.Cycle.{step_before}
 use Rattle.transyt_stopline.specs.Queue.{queue_at, out_at}

@@ -1,3 +1,4 @@
+-- What stops is summed step by step.
 use Rattle.std.proofs.Common.{◌≡◌, ◌*◌, ◌^◌, ◌≤◌, map, sum}
 use Rattle.std.specs.List.{range_with_len}
 use Rattle.transyt_stopline.specs.Stops.{stopped_at}
