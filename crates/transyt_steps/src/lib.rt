@@ -5,7 +5,7 @@
 //! back, so a function that is handed one and ensures `steps.new ≡ steps.old + k` worked out exactly k
 //! cells. The parameter L names the ledger that the counter is kept in, and any ledger will do. A caller
 //! that counts for itself takes a `Blank` and begins a counter of its own. A contract cites the number
-//! itself, `steps.old` and `steps.new`.
+//! itself, `steps.old` and `steps.new`. Everything here is this project's own.
 #![tactic(auto)]
 
 mod counter;

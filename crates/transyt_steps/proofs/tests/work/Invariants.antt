@@ -1,3 +1,4 @@
+-- A test's work is counted cell by cell.
 use Rattle.std.proofs.Common.{◌≡◌, ◌+◌}
 use Rattle.transyt_steps.proofs.tests.work.Given as goal
 
