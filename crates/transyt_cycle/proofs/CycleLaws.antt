@@ -15,7 +15,7 @@ use Rattle.transyt_cycle.specs.Cycle.{minus_mod, step_before}
 pub minus_mod-lt : (n a b : ℕ) → 0 < n → minus_mod n a b < n
 minus_mod-lt n a b positive = mod-lt (a + (n - b % n)) positive
 
--- b and what is missing to whole turns
+-- b and what its last turn lacks are whole turns
 pub rest_of_turns : (n a b : ℕ) → 0 < n → (a + (n - b % n)) + b ≡ a + (b / n + 1) * n
 rest_of_turns n a b positive = omega (arith, mod-lt b positive, mod-add-div' b n)
 
@@ -25,7 +25,7 @@ minus_mod-add n a b positive =
     mod-add-mod (a + (n - b % n)) n b ∙ ap (λ k. k % n) (rest_of_turns n a b positive)
     ∙ add-mul-mod_self_right a (b / n + 1) n
 
--- t steps on and t steps back
+-- t steps on and t steps back lead to the same step
 pub minus_mod-of_add : (n m t : ℕ) → m < n → minus_mod n ((m + t) % n) t ≡ m
 minus_mod-of_add n m t below =
     let positive : 0 < n = omega arith in
@@ -33,12 +33,12 @@ minus_mod-of_add n m t below =
     mod-add-mod (m + t) n (n - t % n) ∙ ap (λ k. k % n) turns
     ∙ add-mul-mod_self_right m (t / n + 1) n ∙ mod-eq_of_lt below
 
--- steps that t steps move to one step are one
+-- two steps that t steps lead to one step are the same
 pub turned_apart : (n m i t : ℕ) → m < n → i < n → (m + t) % n ≡ (i + t) % n → m ≡ i
 turned_apart n m i t m_below i_below same =
     sym (minus_mod-of_add n m t m_below) ∙ ap (λ k. minus_mod n k t) same ∙ minus_mod-of_add n i t i_below
 
--- whole turns of either step change nothing
+-- whole turns of the first step change nothing
 pub minus_mod-mod : (n a b : ℕ) → minus_mod n (a % n) b ≡ minus_mod n a b
 minus_mod-mod n a b = mod-add-mod a n (n - b % n)
 
@@ -50,7 +50,7 @@ minus_mod-above n a b positive after =
     let below : a % n - b % n < n = omega arith in
     sym (minus_mod-mod n a b) ∙ ap (λ k. k % n) turn ∙ add-mod_right (a % n - b % n) n ∙ mod-eq_of_lt below
 
--- where a comes first, it is what is left of the turn
+-- where a comes first in its turn, the difference is what is left of the turn
 pub minus_mod-under : (n a b : ℕ) → 0 < n → a % n < b % n → minus_mod n a b ≡ n - (b % n - a % n)
 minus_mod-under n a b positive before =
     let there : b % n < n = mod-lt b positive in
@@ -67,7 +67,7 @@ step_before-lt n (suc i) below = omega arith
 pub step_before-add_one : (n i : ℕ) → step_before n (i + 1) ≡ i
 step_before-add_one n i = let next : i + 1 ≡ suc i = omega arith in ap (step_before n) next
 
--- one step on from the step before
+-- one step on from the step before a step stands the step
 pub step_before-then : (n i : ℕ) → i < n → (step_before n i + 1) % n ≡ i
 step_before-then n zero below = let turn : n - 1 + 1 ≡ n = omega arith in ap (λ k. k % n) turn ∙ mod_self n
 step_before-then n (suc i) below =

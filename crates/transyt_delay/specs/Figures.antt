@@ -28,8 +28,8 @@ in_period frame total = 60 * frame.period * total / frame.cycle
 abbrev pub under_root : ℕ → ℕ → ℕ
 under_root x y = abs_diff x y * abs_diff x y + 4000000 * x
 
--- The random delay where x come in the period and y can go. The root is never below y - x, so the difference never is
--- below 0.
+-- The random delay where x come in the period and y can go, rounded down. The root is never below y - x, so the
+-- difference never is below 0.
 abbrev pub random_delay : ℕ → ℕ → ℕ
 random_delay x y = (root (under_root x y) + x - y) / 4
 

@@ -36,7 +36,7 @@ pub read_nine : (n i : ℕ) → n < 10 ^ i → i ≤ 9 → n < 1000000000
 read_nine n i small few =
     let most : 10 ^ i ≤ 10 ^ 9 = pow-le-pow_right {n = 10} (omega arith) few in omega (arith, most)
 
--- one digit more written before those that stand
+-- the text is that of a tenth of what was left, then one digit more and those that stand
 pub put_more : (v r start : ℕ) (ds : List ℕ) → 10 ≤ r → r < 2 ^ 128
     → decimal v ≡ decimal r ++ drop start ds → length (decimal r) ≤ start → start ≤ length ds
     → decimal v ≡ decimal (r / 10) ++ drop (start - 1) (set ds (start - 1) (48 + r % 10))
@@ -50,7 +50,7 @@ put_more v r start ds low high text room within =
     text ∙ ap (λ w. w ++ drop start ds) step ∙ append_assoc (decimal (r / 10)) ((48 + r % 10) ∷ []) (drop start ds)
     ∙ ap (λ w. decimal (r / 10) ++ w) (sym tail)
 
--- the first digit, written last
+-- with the first digit, written last, the text stands
 pub put_first : (v r start : ℕ) (ds : List ℕ) → r < 10
     → decimal v ≡ decimal r ++ drop start ds → length (decimal r) ≤ start → start ≤ length ds
     → (1 ≤ start) × (decimal v ≡ drop (start - 1) (set ds (start - 1) (48 + r)))
@@ -62,7 +62,7 @@ put_first v r start ds low text room within =
           ∙ sym (drop-set ds (start - 1) (48 + r) (omega arith) ∙ ap (λ k. (48 + r) ∷ drop k ds) at),
     )
 
--- there is room for the digits that are left
+-- where the digits that are left have room, all but the last of them leave a place free
 pub put_room : (r start : ℕ) → 10 ≤ r → r < 2 ^ 128 → length (decimal r) ≤ start → length (decimal (r / 10)) + 1 ≤ start
 put_room r start low high room =
     let wide : r < 10 ^ 64 = omega arith in

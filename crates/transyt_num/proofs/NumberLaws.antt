@@ -34,7 +34,7 @@ use Rattle.std.proofs.lemmas.List.Sums.{fold-append}
 use Rattle.std.proofs.Math.Nat.{mod-lt, mod-add-div'}
 use Rattle.transyt_num.specs.Number.{word_value, number_of, IsShortest}
 
--- one digit more behind
+-- one digit more behind gives ten times the value and the digit
 pub word_value_push : (ds : List ℕ) (c : ℕ) → word_value (ds ++ c ∷ []) ≡ word_value ds * 10 + (c - 48)
 word_value_push ds c = fold-append (λ value digit. value * 10 + (digit - 48)) 0 ds (c ∷ [])
 
@@ -42,7 +42,7 @@ word_value_push ds c = fold-append (λ value digit. value * 10 + (digit - 48)) 0
 digit_byte : (d : ℕ) → d < 10 → is_ascii_digit (48 + d) ≡ true
 digit_byte d small = grind (arith, nat_tests)
 
--- a value below ten
+-- the shortest text of a value below ten is its digit
 shortest_digit : (n : ℕ) → n < 10 → IsShortest n ((48 + n) ∷ [])
 shortest_digit n small = record {
   some = omega arith;
@@ -52,7 +52,7 @@ shortest_digit n small = record {
   front = λ positive. omega arith;
 }
 
--- a value from ten on: the text of its tenth part, and the digit that is left
+-- that of a value from ten on is the text of its tenth part and the digit that is left
 shortest_more : (n : ℕ) (ds : List ℕ) → 10 ≤ n → IsShortest (n / 10) ds → IsShortest n (ds ++ (48 + n % 10) ∷ [])
 shortest_more n ds wide tenth =
     let digit : n % 10 < 10 = mod-lt n (omega arith) in
@@ -70,7 +70,7 @@ shortest_more n ds wide tenth =
           omega (arith, get_or_append_left ds ((48 + n % 10) ∷ []) 0 0 tenth.some);
     }
 
--- std's text is the shortest
+-- std's text of a value is the shortest
 pub shortest_decimal : (n : ℕ) → n < 10 ^ 64 → IsShortest n (decimal n)
 shortest_decimal n fits = decimal_by_steps_wide IsShortest shortest_digit shortest_more n fits
 

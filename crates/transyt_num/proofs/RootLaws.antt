@@ -10,7 +10,7 @@ up_to_takes : (v n : ℕ) → suc n * suc n ≤ v → root_up_to v (suc n) ≡ s
 unfolding root_up_to
 up_to_takes v n fits = grind (arith, nat_tests)
 
--- and is passed over where it doesn't
+-- the next number is passed over where its square doesn't fit
 up_to_skips : (v n : ℕ) → v < suc n * suc n → root_up_to v (suc n) ≡ root_up_to v n
 unfolding root_up_to
 up_to_skips v n over = grind (arith, nat_tests)
@@ -41,17 +41,17 @@ le_square (suc r) = omega arith
 pub root_is : (v r : ℕ) → r * r ≤ v → v < (r + 1) * (r + 1) → r ≡ root v
 root_is v r low high = sym (up_to_is v r v low high (omega (arith, le_square r)))
 
--- squares grow
+-- a number with a smaller square is smaller
 pub lt_of_squares : (a b : ℕ) → a * a < b * b → a < b
 lt_of_squares a b less =
     elim (cases_lt a b) as (λ w. a < b)
     [ inl below ↦ below | inr above ↦ let more : b * b ≤ a * a = mul-le-mul above above in absurd (omega arith) ]
 
--- it is the greatest
+-- the root is the greatest number whose square is at most v
 pub root_greatest : (v s r : ℕ) → v < (s + 1) * (s + 1) → r * r ≤ v → r ≤ s
 root_greatest v s r high fits = let below : r < s + 1 = lt_of_squares r (s + 1) (omega arith) in omega arith
 
--- there is but one
+-- there is but one number between whose square and the next one's v lies
 pub root_only : (v s r : ℕ) → s * s ≤ v → v < (s + 1) * (s + 1) → r * r ≤ v → v < (r + 1) * (r + 1) → r ≡ s
 root_only v s r s_low s_high r_low r_high =
     omega (arith, root_greatest v s r s_high r_low, root_greatest v r s r_high s_low)

@@ -142,7 +142,7 @@ placed_by_step xs ys t k j placed low high =
     ap (λ n. get_or ys (n % length xs) 0) turn ∙ ap (λ n. get_or ys n 0) (add-mod_left (length xs) (m + t))
     ∙ placed m (omega arith) ∙ ap (smoothed xs (k * t)) same
 
--- no value is past the bound of the profile that set out
+-- no value that arrives is past the bound of the profile that set out
 pub placed_small : (xs ys : List ℕ) (t k b : ℕ) → length ys ≡ length xs → Placed xs ys t k (length xs)
     → All (λ v. v < b) xs → All (λ v. v < b) ys
 placed_small xs ys t k b same placed small i d within =
@@ -170,7 +170,7 @@ placed_more xs ys t k n p r below same place placed here =
     rw get_or-set_other (placed m before))
     (rw (← place, get_or-set_same) here)
 
--- the place after that of step n
+-- the place after that of step n is that of step n + 1
 pub place_more : (l n t p r : ℕ) → p ≡ (n + t) % l → r ≡ (p + 1) % l → r ≡ (n + 1 + t) % l
 place_more l n t p r place next =
     let turn : n + t + 1 ≡ n + 1 + t = omega arith in

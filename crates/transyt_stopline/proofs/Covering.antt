@@ -17,7 +17,7 @@ abbrev pub IsNoneOrExcess : (come passed : ℕ → ℕ) (most queue : ℕ) → T
 IsNoneOrExcess come passed most queue =
     (queue ≡ 0) ⊎ ((n : ℕ) × (0 < n) × (n ≤ most) × (queue + passed n ≡ come n))
 
--- so it is with the queue, by the sums on the way back
+-- the queue is 0 or just covers what came in some last steps, by the sums on the way back
 pub queue_least : (arrivals go : List ℕ) (i : ℕ)
     → IsNoneOrExcess (sum_back arrivals i) (sum_back go i) (length arrivals) (queue_at arrivals go i)
 queue_least arrivals go i =
@@ -31,7 +31,7 @@ queue_least arrivals go i =
           [ inl more ↦ inr (some.0, some.1, some.2, omega arith) | inr less ↦ inl (omega arith) ]
     ]
 
--- the queue by its two facts
+-- the definition's queue has the two facts of a queue
 pub queue_is : (arrivals go : List ℕ) (i : ℕ) → length go ≡ length arrivals → i < length arrivals
     → IsQueue arrivals go i (queue_at arrivals go i)
 queue_is arrivals go i same_length below =

@@ -17,7 +17,7 @@ queue-le arrivals go i below =
 pub go_total : (go : List ℕ) → length go ≤ 120 → All (λ v. v < 2 ^ 30) go → sum go < 2 ^ 37
 go_total go most fit = omega (arith, sum_by-le (λ x. x) (2 ^ 30) go (λ k d below. omega (arith, fit k d below)))
 
--- so no queue is above what it lets pass
+-- so no queue is above what the green can let pass in a cycle
 pub queue-lt : (arrivals go : List ℕ) (i : ℕ) → i < length arrivals → sum arrivals ≤ sum go
     → length go ≤ 120 → All (λ v. v < 2 ^ 30) go → queue_at arrivals go i < 2 ^ 37
 queue-lt arrivals go i below served most fit = omega (arith, queue-le arrivals go i below, go_total go most fit)

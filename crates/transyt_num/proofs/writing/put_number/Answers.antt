@@ -1,5 +1,23 @@
 -- The digits that were written last to first are the shortest text of the value, and stand at the front.
-use Rattle.std.proofs.Common.{◌≡◌, ℕ, ◌+◌, ◌-◌, ◌^◌, ◌<◌, ◌≤◌, List, length, drop, set, arith, sym, ap, ◌∙◌, refl, subst}
+use Rattle.std.proofs.Common.{
+  ◌≡◌,
+  ℕ,
+  ◌+◌,
+  ◌-◌,
+  ◌^◌,
+  ◌<◌,
+  ◌≤◌,
+  List,
+  length,
+  drop,
+  set,
+  arith,
+  sym,
+  ap,
+  ◌∙◌,
+  refl,
+  subst,
+}
 use Rattle.std.proofs.lemmas.List.{append-nil, take_at, take_all, length-drop, length-set}
 use Rattle.std.proofs.lemmas.Fmt.{length-decimal-le_wide}
 use Rattle.std.proofs.lemmas.Grind.{common_steps}
