@@ -86,6 +86,6 @@ number_of-decimal n small =
     let few : length (decimal n) ≤ 9 = length-decimal-le_wide 9 n (omega arith) (omega arith) (omega arith) in
     reads (decimal n) n text.some few text.digits text.value
 
--- no number has two texts
+-- no text is that of two numbers
 pub shortest_injective : (m n : ℕ) (text : List ℕ) → IsShortest m text → IsShortest n text → m ≡ n
 shortest_injective m n text first second = sym first.value ∙ second.value
