@@ -4,7 +4,7 @@ use Rattle.std.proofs.lemmas.List.{take_all, take-take, length-take-le, length-t
 use Rattle.std.proofs.Math.Seq.{take-append-add}
 use Rattle.std.proofs.lemmas.Bool.{cases_lt, or_parts, or_from, false_from_ne_true}
 use Rattle.std.specs.Str.Lines.{strip_carriage_return}
-use Rattle.transyt_io.specs.Lines.{onto_first, cut, line_of, lines_by, whole, has_end}
+use Rattle.transyt_io.specs.Lines.{onto_first, cut, behind_first, line_of, lines_by, whole, has_end}
 
 -- what is kept of more is kept of what was kept
 pub kept_more : {X : Type 0} → (n : ℕ) (xs ys : List X) → take n (take n xs ++ ys) ≡ take n (xs ++ ys)
@@ -52,6 +52,12 @@ no_end_before (suc n) (b ∷ bs) h l =
     or_from (b == 10) (has_end (take n bs)) (false_from_ne_true (b == 10) (h 0 (omega arith)))
     (no_end_before n bs (λ k below. h (suc k) (omega arith)) (omega arith))
 
+-- bytes have no line end where none of them is one
+pub no_end_in : (bytes : List ℕ) → ((k : ℕ) → k < length bytes → (slice_index bytes k == 10) ≡ true → ⊥)
+    → has_end bytes ≡ false
+no_end_in bytes h =
+    sym (ap has_end (take_all (length bytes) bytes (omega arith))) ∙ no_end_before (length bytes) bytes h (omega arith)
+
 -- the bytes around a byte
 pub around : (n : ℕ) (xs : List ℕ) → n < length xs → xs ≡ take n xs ++ slice_index xs n ∷ drop (suc n) xs
 around zero (x ∷ xs) h = refl
@@ -76,6 +82,32 @@ cut_at keep bytes n below before here =
     let parts : bytes ≡ take n bytes ++ 10 ∷ drop (n + 1) bytes =
     around n bytes below ∙ (λ j. take n bytes ++ here j ∷ drop (next j) bytes) in
     ap (cut keep) parts ∙ cut_line keep (take n bytes) (drop (n + 1) bytes) (no_end_before n bytes before (omega arith))
+
+-- behind bytes up to a line end
+pub behind_line : (raw ys : List ℕ) → has_end raw ≡ false → behind_first (raw ++ 10 ∷ ys) ≡ ys
+behind_line [] ys h = refl
+behind_line (b ∷ bs) ys h =
+    let parts = or_parts (b == 10) (has_end bs) h in
+    let rest = behind_line bs ys parts.1 in
+    rw parts.0 rest
+
+-- what is behind the first line end begins right behind it
+pub behind_at : (bytes : List ℕ) (n : ℕ) → n < length bytes
+    → ((k : ℕ) → k < n → (slice_index bytes k == 10) ≡ true → ⊥)
+    → slice_index bytes n ≡ 10 → behind_first bytes ≡ drop (n + 1) bytes
+behind_at bytes n below before here =
+    let next : suc n ≡ n + 1 = omega arith in
+    let parts : bytes ≡ take n bytes ++ 10 ∷ drop (n + 1) bytes =
+    around n bytes below ∙ (λ j. take n bytes ++ here j ∷ drop (next j) bytes) in
+    ap behind_first parts ∙ behind_line (take n bytes) (drop (n + 1) bytes) (no_end_before n bytes before (omega arith))
+
+-- nothing is behind bytes with no line end
+pub behind_none : (bytes : List ℕ) → has_end bytes ≡ false → behind_first bytes ≡ []
+behind_none [] h = refl
+behind_none (b ∷ bs) h =
+    let parts = or_parts (b == 10) (has_end bs) h in
+    let rest = behind_none bs parts.1 in
+    rw parts.0 rest
 
 -- bytes with no line end have no whole part
 pub no_whole : (raw : List ℕ) → has_end raw ≡ false → cut false raw ≡ []

@@ -1,6 +1,6 @@
 //! The next line of bytes that are all there.
-ghost use Rattle.std.specs.Prelude.{◌≡◌, ◌<◌, ◌-◌, ◌∷◌, [], true, length, take, drop, MatchOption, IfSome};
-ghost use Rattle.transyt_io.specs.Lines.{cut, line_of, lines};
+ghost use Rattle.std.specs.Prelude.{◌≡◌, ◌<◌, ◌∷◌, [], true, length, MatchOption, IfSome};
+ghost use Rattle.transyt_io.specs.Lines.{behind_first, cut, lines};
 
 use crate::gather::line_length;
 use memchr::memchr;
@@ -12,8 +12,7 @@ pub fn next_line(bytes: &[u8]) -> Option<(&[u8], &[u8])>
     ensures line { MatchOption result (bytes.now ≡ [])
         (λ found. lines bytes.now ≡ found.0.now ∷ lines found.1.now) }
     ensures less { IfSome result (λ found. length found.1.now < length bytes.now) }
-    ensures behind { IfSome result (λ found.
-        found.1.now ≡ drop (length bytes.now - length found.1.now) bytes.now) }
+    ensures behind { IfSome result (λ found. found.1.now ≡ behind_first bytes.now) }
 {
     if bytes.is_empty() {
         return None;
@@ -27,7 +26,7 @@ fn split_line(bytes: &[u8]) -> (&[u8], &[u8])
     requires { 0 < length bytes.now }
     ensures cut { cut true bytes.now ≡ result.0.now ∷ cut true result.1.now }
     ensures less { length result.1.now < length bytes.now }
-    ensures behind { result.1.now ≡ drop (length bytes.now - length result.1.now) bytes.now }
+    ensures behind { result.1.now ≡ behind_first bytes.now }
 {
     match memchr(b'\n', bytes) {
         Some(at) => (&bytes[..at], &bytes[at + 1..]),

@@ -1,10 +1,16 @@
-use Rattle.std.proofs.Common.{◌≡◌, ℕ, ◌+◌, ◌∷◌, List, true, false, length, take, slice_index, sym, ap, ◌∙◌, arith}
+use Rattle.std.proofs.Common.{◌≡◌, ℕ, ◌+◌, ◌∷◌, List, [], true, false, length, take, slice_index, sym, ap, ◌∙◌, arith}
 use Rattle.std.proofs.lemmas.Slice.{between_to_end}
-use Rattle.std.proofs.lemmas.List.{drop_all, take_all}
+use Rattle.std.proofs.lemmas.List.{drop_all}
 use Rattle.std.proofs.lemmas.Bool.{eqb-true}
+use Rattle.std.specs.List.{between}
 use Rattle.transyt_io.specs.Lines.{cut, has_end}
-use Rattle.transyt_io.proofs.Lines.{cut_at, cut_open, no_end_before}
+use Rattle.transyt_io.proofs.Lines.{behind_at, behind_none, cut_at, cut_open, no_end_in}
 use Rattle.transyt_io.proofs.cut.split_line.Goals as goal
+
+-- no bytes are behind the last
+none_behind : (bytes : List ℕ) → between (length bytes) (length bytes) bytes ≡ []
+none_behind bytes =
+    between_to_end bytes (length bytes) (length bytes) (omega arith) ∙ drop_all (length bytes) bytes (omega arith)
 
 -- the place that was found is that of the first line end
 pub returns-in-Some-clause-cut : goal.returns-in-Some-clause-cut
@@ -16,13 +22,24 @@ returns-in-Some-clause-cut c =
     cut_at true bytes i found.0.high (λ k below. found.0.before k (omega arith) below) here
     ∙ ap (λ (l : List ℕ). take i bytes ∷ cut true l) (sym (between_to_end bytes (i + 1) (length bytes) (omega arith)))
 
+pub returns-in-Some-clause-behind : goal.returns-in-Some-clause-behind
+returns-in-Some-clause-behind c =
+    let bytes = c.args.bytes.now in
+    let i = c.in-Some.at in
+    let found = c.in-Some.ensures in
+    let here : slice_index bytes i ≡ 10 = eqb-true (slice_index bytes i) 10 found.1 in
+    between_to_end bytes (i + 1) (length bytes) (omega arith)
+    ∙ sym (behind_at bytes i found.0.high (λ k below. found.0.before k (omega arith) below) here)
+
 -- with no line end all bytes are one part
 pub returns-in-None-clause-cut : goal.returns-in-None-clause-cut
 returns-in-None-clause-cut c =
     let bytes = c.args.bytes.now in
-    let none : has_end bytes ≡ false =
-    sym (ap has_end (take_all (length bytes) bytes (omega arith)))
-    ∙ no_end_before (length bytes) bytes (λ k below. c.in-None.ensures k (omega arith) below) (omega arith) in
-    cut_open bytes c.requires none
-    ∙ ap (λ (l : List ℕ). bytes ∷ cut true l) (sym (between_to_end bytes (length bytes) (length bytes) (omega arith)
-    ∙ drop_all (length bytes) bytes (omega arith)))
+    let none : has_end bytes ≡ false = no_end_in bytes (λ k below. c.in-None.ensures k (omega arith) below) in
+    cut_open bytes c.requires none ∙ ap (λ (l : List ℕ). bytes ∷ cut true l) (sym (none_behind bytes))
+
+pub returns-in-None-clause-behind : goal.returns-in-None-clause-behind
+returns-in-None-clause-behind c =
+    let bytes = c.args.bytes.now in
+    let none : has_end bytes ≡ false = no_end_in bytes (λ k below. c.in-None.ensures k (omega arith) below) in
+    none_behind bytes ∙ sym (behind_none bytes none)
