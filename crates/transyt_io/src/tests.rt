@@ -42,16 +42,8 @@ fn gives<S: Source>(
     Ok(text.as_slice() == wanted && stop == why)
 }
 
-/// Whether it hands out this text and then the end, in pieces of each size.
-fn gives_by_pieces(alloc: Global, bytes: &[u8], wanted: &[u8]) -> Result<bool, AllocError> {
-    for piece in [1, 2, 3, 7, 100_000] {
-        let mut source = MemorySource::new(bytes.to_vec(alloc)?, piece, Vec::new(alloc));
-        if !gives(alloc, &mut source, wanted, None)? {
-            return Ok(false);
-        }
-    }
-    Ok(true)
-}
+/// The most bytes that an input may have.
+const LIMIT: usize = 4_194_304;
 
 /// The same text by the rule itself, over all bytes at once: an LF ends a line, and the bytes behind the last one
 /// are a line where `unended` says so.
@@ -75,6 +67,32 @@ fn plain_text(alloc: Global, bytes: &[u8], unended: bool) -> Result<Vec<u8>, All
 fn put_plain(raw: &[u8], text: &mut Vec<u8>) -> Result<(), AllocError> {
     let line = raw.strip_suffix(b"\r").unwrap_or(raw);
     put_bar(&line[..line.len().min(4097)], text)
+}
+
+/// What a reader is to hand out of these bytes by that rule, and why it is to stop: past the limit with an error,
+/// behind the lines of the bytes up to it that have their line end.
+fn plain_outcome(alloc: Global, bytes: &[u8]) -> Result<(Vec<u8>, Option<ReadStop>), AllocError> {
+    let front = bytes.len().min(LIMIT);
+    let fits = front == bytes.len();
+    let text = plain_text(alloc, &bytes[..front], fits)?;
+    Ok((text, if fits { None } else { Some(ReadStop::TooLong) }))
+}
+
+/// Whether a reader does so, by pieces of each size and from a source that gives all that it is asked for.
+fn gives_by_pieces(alloc: Global, bytes: &[u8]) -> Result<bool, AllocError> {
+    let (wanted, why) = plain_outcome(alloc, bytes)?;
+    for piece in [1, 2, 3, 7, usize::MAX] {
+        let mut source = MemorySource::new(bytes.to_vec(alloc)?, piece, Vec::new(alloc));
+        if !gives(alloc, &mut source, &wanted, why)? {
+            return Ok(false);
+        }
+    }
+    gives(
+        alloc,
+        &mut SteadySource::new(bytes.to_vec(alloc)?),
+        &wanted,
+        why,
+    )
 }
 
 /// The same text by `next_line`.
@@ -105,6 +123,17 @@ fn run_of(alloc: Global, count: usize, tail: &[u8]) -> Result<Vec<u8>, AllocErro
     Ok(bytes)
 }
 
+/// So many bytes, `tail` at their end: lines of 0, 37, 74 and so on up to 17,353 bytes, and then one more.
+fn many_lines(alloc: Global, size: usize, tail: &[u8]) -> Result<Vec<u8>, AllocError> {
+    let mut bytes = Vec::new(alloc);
+    for number in 0..470 {
+        bytes.extend_from_slice(&run_of(alloc, 37 * number, b"\r\n")?)?;
+    }
+    bytes.resize(size.saturating_sub(tail.len()), b'x')?;
+    bytes.extend_from_slice(tail)?;
+    Ok(bytes)
+}
+
 #[test]
 fn cuts_short_inputs(rt: HostRuntime) -> Result<(), Fail> {
     let alloc = rt.alloc();
@@ -122,7 +151,7 @@ fn cuts_short_inputs(rt: HostRuntime) -> Result<(), Fail> {
     for (bytes, wanted) in table {
         assert!(rt; plain_text(alloc, bytes, true)?.as_slice() == wanted);
         assert!(rt; sliced_text(alloc, bytes)?.as_slice() == wanted);
-        assert!(rt; gives_by_pieces(alloc, bytes, wanted)?);
+        assert!(rt; gives_by_pieces(alloc, bytes)?);
     }
     Ok(())
 }
@@ -136,33 +165,71 @@ fn cuts_long_lines(rt: HostRuntime) -> Result<(), Fail> {
             let bytes = run_of(alloc, count, tail)?;
             let wanted = plain_text(alloc, &bytes, true)?;
             assert!(rt; sliced_text(alloc, &bytes)? == wanted);
-            assert!(rt; gives_by_pieces(alloc, &bytes, &wanted)?);
+            assert!(rt; gives_by_pieces(alloc, &bytes)?);
         }
     }
     Ok(())
 }
 
 #[test]
-fn stops_where_it_should(rt: HostRuntime) -> Result<(), Fail> {
+fn keeps_4097_bytes_of_a_longer_line(rt: HostRuntime) -> Result<(), Fail> {
+    let alloc = rt.alloc();
+    // How many bytes and what behind them; and how long the text is, a bar with each line.
+    let table: [(usize, &[u8], usize); 7] = [
+        (4096, b"\n", 4097),
+        (4096, b"\r\n", 4097),
+        (4096, b"\r", 4097),
+        (4097, b"\r\n", 4098),
+        (4098, b"\n", 4098),
+        (4096, b"\r\r\n", 4098),
+        (9000, b"", 4098),
+    ];
+    for (count, tail, wanted) in table {
+        let bytes = run_of(alloc, count, tail)?;
+        assert!(rt; plain_text(alloc, &bytes, true)?.len() == wanted);
+        assert!(rt; gives_by_pieces(alloc, &bytes)?);
+    }
+    Ok(())
+}
+
+/// Takes some seconds where it is compiled, and too long for an interpreter.
+#[test]
+fn takes_no_line_behind_the_limit(rt: HostRuntime) -> Result<(), Fail> {
     let alloc = rt.alloc();
     let long = Some(ReadStop::TooLong);
-    // How many bytes and what behind them; how long the text is, a bar with each line; and why it stops.
-    let table: [(usize, &[u8], usize, Option<ReadStop>); 10] = [
-        (4096, b"\n", 4097, None),
-        (4096, b"\r\n", 4097, None),
-        (4096, b"\r", 4097, None),
-        (4097, b"\r\n", 4098, None),
-        (4098, b"\n", 4098, None),
-        (4096, b"\r\r\n", 4098, None),
-        (9000, b"", 4098, None),
-        (4_194_302, b"\ny", 4100, None),
-        (4_194_303, b"\n\n", 4098, long),
-        (4_194_305, b"", 0, long),
+    // As above, and why the reader stops: one line up to the limit, and one that never ends.
+    let table: [(usize, &[u8], usize, Option<ReadStop>); 8] = [
+        (LIMIT - 1, b"", 4098, None),
+        (LIMIT, b"", 4098, None),
+        (LIMIT - 1, b"\n", 4098, None),
+        (LIMIT - 2, b"\ny", 4100, None),
+        (LIMIT - 1, b"\n\n", 4098, long),
+        (LIMIT, b"\n", 0, long),
+        (LIMIT + 1, b"", 0, long),
+        (LIMIT + 9000, b"", 0, long),
     ];
     for (count, tail, wanted, why) in table {
-        let mut source = SteadySource::new(run_of(alloc, count, tail)?);
-        let (text, stop) = read_text(alloc, &mut source)?;
+        let bytes = run_of(alloc, count, tail)?;
+        let (text, stop) = plain_outcome(alloc, &bytes)?;
         assert!(rt; text.len() == wanted && stop == why);
+        assert!(rt; gives_by_pieces(alloc, &bytes)?);
+    }
+    // With many lines before: how many bytes in all, and the last of them.
+    let table: [(usize, &[u8]); 10] = [
+        (LIMIT, b"\n"),
+        (LIMIT, b"\nlast\r\n"),
+        (LIMIT, b"x"),
+        (LIMIT, b"\nlast"),
+        (LIMIT, b"\nlast\r"),
+        (LIMIT + 1, b"\n"),
+        (LIMIT + 1, b"\r\n"),
+        (LIMIT + 1, b"\nx"),
+        (LIMIT + 1, b"x"),
+        (LIMIT + 9000, b"x"),
+    ];
+    for (size, tail) in table {
+        let bytes = many_lines(alloc, size, tail)?;
+        assert!(rt; bytes.len() == size && gives_by_pieces(alloc, &bytes)?);
     }
     Ok(())
 }
