@@ -1,17 +1,14 @@
 -- The calls of `next`, by what was gathered.
-use Rattle.std.proofs.Common.{◌≡◌, ◌≢◌, ◌<◌, ◌≤◌, ◌⊎◌, inl, inr, ℕ, suc, ◌+◌, ◌++◌, Bool, true, false, List, [], ◌∷◌, map, Option, Some, Ok, Err, Result, IfSome, length, take, refl, sym, ◌∙◌, ap, subst, arith, append_assoc, length-append}
+use Rattle.std.proofs.Common.{◌≡◌, ◌≢◌, ◌<◌, ◌≤◌, ◌⊎◌, ℕ, ◌+◌, ◌++◌, Bool, true, false, List, [], ◌∷◌}
+use Rattle.std.proofs.Common.{map, Option, Some, Ok, Err, IfSome, length, take, refl, sym, ◌∙◌, ap, subst}
+use Rattle.std.proofs.Common.{arith, append_assoc, length-append}
 use Rattle.std.proofs.lemmas.List.{append-nil, take_at}
-use Rattle.std.specs.List.{between}
 use Rattle.transyt_io.specs.declared.reader.Line.TheVariants.{Text, End}
 use Rattle.transyt_io.specs.declared.reader.ReadStop.TheVariants.{Fault, TooLong}
 use Rattle.transyt_io.specs.Lines.{line_of, lines_by, lines, whole, has_end}
 use Rattle.transyt_io.specs.Model.{Reading}
 use Rattle.transyt_io.specs.Reading.{Stands, Took}
 use Rattle.transyt_io.specs.Streams.{Takes, IsAtEnd}
-use Rattle.transyt_io.specs.Gather.{Gathers}
-use Rattle.transyt_io.specs.Pull.{Pulled}
-use Rattle.transyt_io.specs.declared.reader.Pull.{Pull}
-use Rattle.transyt_io.specs.declared.reader.ReadStop.{ReadStop}
 use Rattle.transyt_io.proofs.Lines.{no_whole, open_line}
 
 -- after a call that left the line in the middle, all whole lines were handed out
@@ -51,7 +48,7 @@ open_lines : (raw : List ℕ) → has_end raw ≡ false → raw ≢ [] → lines
 open_lines [] none some = absurd (some refl)
 open_lines (b ∷ bs) none some = ap (map line_of) (open_line b bs none)
 
-some_length : (xs : List ℕ) → xs ≢ [] → 0 < length xs
+pub some_length : (xs : List ℕ) → xs ≢ [] → 0 < length xs
 some_length [] h = absurd (h refl)
 some_length (x ∷ xs) h = omega arith
 
@@ -89,10 +86,6 @@ hand_last old new left left_new got taken given going ended empty count at_end n
       at_end = λ _. at_end;
       few = omega arith;
     }
-
-pub nothing_kept : (n : ℕ) (xs : List ℕ) → take (suc n) xs ≡ [] → xs ≡ []
-nothing_kept n [] h = refl
-nothing_kept n (x ∷ xs) h = cc
 
 -- what every call that read tells of its reads
 abbrev pub Reads : Reading → Option (List ℕ) → Option ℕ → Option ℕ → List ℕ → List ℕ → Type 0
@@ -209,47 +202,3 @@ took_too_long old new left left_new last last_new front back going one most none
       ap (λ (xs : List ℕ). take 4194304 xs) parts ∙ take_at (taken ++ front) back 4194304 (omega arith) in
       (omega arith, all_given old left front taken given going none stands ∙ ap whole (sym cut_off));
 }
-
--- the reads of a call that read on
-pub pulled_reads : (old : Reading) (line line_new block : List ℕ) (taken taken_new : ℕ)
-    (left left_new : Option (List ℕ)) (last last_new : Option ℕ) (result : Result (Option Pull) ReadStop)
-    → old.ended ≡ false → Gathers line old.held
-    → (p : Pulled line line_new block taken taken_new left left_new last_new result)
-    → Reads old left last last_new p.front p.back
-pulled_reads old line line_new block taken taken_new left left_new last last_new result going first p =
-    let none = p.no_end old.held first in
-    inr (p.last_read, λ taken given stands. all_given old left p.front taken given going none stands)
-
-pub not_both : (a b : Bool) → a ≡ false → b ≡ false → (a ≡ true) ⊎ (b ≡ true) → ⊥
-not_both a b h k (inl e) = cc
-not_both a b h k (inr e) = cc
-
--- what stopped a call that read on
-pub took_stop : (old new : Reading) (line line_new block : List ℕ) (taken taken_new : ℕ)
-    (left left_new : Option (List ℕ)) (last last_new : Option ℕ) (stop : ReadStop)
-    → old.ended ≡ false → Gathers line old.held → taken ≡ old.taken
-    → Pulled line line_new block taken taken_new left left_new last_new (Err stop)
-    → Took old new left left_new last last_new (Err stop)
-took_stop old new line line_new block taken taken_new left left_new last last_new Fault going first had p =
-    let most : taken + length p.front ≤ 4194304 = p.answer.1 in
-    let few : old.taken + length p.front ≤ 4194304 = omega arith in
-    took_fault old new left left_new last last_new p.front p.back going p.answer.0 few (p.no_end old.held first) p.takes
-    (pulled_reads old line line_new block taken taken_new left left_new last last_new (Err Fault) going first p)
-took_stop old new line line_new block taken taken_new left left_new last last_new TooLong going first had p =
-    let most : taken + length p.front ≡ 4194304 = p.answer.1 in
-    took_too_long old new left left_new last last_new p.front p.back going p.answer.0 (omega arith)
-    (p.no_end old.held first) p.takes
-    (pulled_reads old line line_new block taken taken_new left left_new last last_new (Err TooLong) going first p)
-
-pub empty_list : {X : Type 0} → (xs : List X) → length xs ≡ 0 → xs ≡ []
-empty_list [] h = refl
-empty_list (x ∷ xs) h = absurd (omega arith)
-
--- what is held belongs to the line, where it has no line end
-pub held_first : (old : Reading) (at upto : ℕ) (block seen line line_new : List ℕ) → between at upto block ≡ old.held
-    → seen ≡ block → line ≡ []
-    → ((raw : List ℕ) → Gathers line raw → Gathers line_new (raw ++ between at upto seen)) → Gathers line_new old.held
-held_first old at upto block seen line line_new held same empty gathered =
-    let P : List ℕ → Type 0 = λ xs. Gathers line_new xs in
-    let nothing : Gathers line [] = record { first = empty; open_yet = refl } in
-    subst P (ap (λ (xs : List ℕ). between at upto xs) same ∙ held) (gathered [] nothing)

@@ -1,5 +1,6 @@
 -- The first word of a line.
-use Rattle.std.proofs.Common.{◌≡◌, ℕ, zero, suc, ◌<◌, List, [], ◌∷◌, length, take, drop, get_or, cond, Bool, true, false, filter, refl, sym, ◌∙◌, ap, arith}
+use Rattle.std.proofs.Common.{◌≡◌, ℕ, zero, suc, ◌<◌, List, [], ◌∷◌, length, take, drop, get_or, cond, Bool, true}
+use Rattle.std.proofs.Common.{false, filter, refl, sym, ◌∙◌, ap, arith}
 use Rattle.std.proofs.Math.ListN.{length-take}
 use Rattle.std.specs.List.{slice_split, onto_first}
 use Rattle.transyt_io.specs.Lines.{words, is_blank, is_some_word}

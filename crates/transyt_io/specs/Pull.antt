@@ -1,5 +1,6 @@
 -- What a call of `read_on` does; no public clause cites it.
-use Rattle.std.specs.Prelude.{◌≡◌, ◌<◌, ◌≤◌, ℕ, ◌+◌, ◌-◌, ◌++◌, List, [], ◌∷◌, Bool, false, Option, Result, IfSome, MatchResult, MatchOption, length}
+use Rattle.std.specs.Prelude.{◌≡◌, ◌<◌, ◌≤◌, ℕ, ◌+◌, ◌-◌, ◌++◌, List, [], ◌∷◌, Bool, false, Option, Result, IfSome}
+use Rattle.std.specs.Prelude.{MatchResult, MatchOption, length}
 use Rattle.std.specs.List.{between}
 use Rattle.transyt_io.specs.declared.reader.ReadStop.{ReadStop}
 use Rattle.transyt_io.specs.declared.reader.ReadStop.TheVariants.{Fault, TooLong}

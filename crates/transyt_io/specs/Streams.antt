@@ -1,5 +1,6 @@
 -- What reads and writes do to what a source or sink tells.
-use Rattle.std.specs.Prelude.{◌≡◌, ◌<◌, ◌≤◌, ◌⊎◌, ◌++◌, ℕ, List, [], Option, Result, IfSome, OnErr, MatchResult, take, option_map}
+use Rattle.std.specs.Prelude.{◌≡◌, ◌<◌, ◌≤◌, ◌⊎◌, ◌++◌, ℕ, List, [], Option, Result, IfSome, OnErr, MatchResult, take}
+use Rattle.std.specs.Prelude.{option_map}
 
 -- what a source told before it gave these bytes
 abbrev pub followed_by : List ℕ → Option (List ℕ) → Option (List ℕ)

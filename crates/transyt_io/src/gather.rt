@@ -6,6 +6,8 @@ ghost use Rattle.std.specs.Prelude.{
   ◌<◌,
   ◌≤◌,
   ◌++◌,
+  [],
+  nat_lt,
   slice_index,
   length,
   take,
@@ -34,6 +36,7 @@ fn ends_in_return(raw: &[u8]) -> bool
 pub(crate) fn line_length(raw: &[u8]) -> usize
     ensures line { take result raw.now ≡ line_of raw.now }
     ensures within { result ≤ length raw.now }
+    ensures most { result ≤ 4097 }
 {
     if ends_in_return(raw) {
         return (raw.len() - 1).min(KEPT - 1);
@@ -72,11 +75,36 @@ pub(crate) fn gather(line: &mut Vec<u8>, piece: &[u8]) -> Option<usize>
     Some(at)
 }
 
+/// Begins a line with `piece`, up to the piece's first line end, and answers where that is.
+pub(crate) fn begin(line: &mut Vec<u8>, piece: &[u8]) -> Option<usize>
+    requires room { 4098 ≤ vec_capacity line.old }
+    ensures room { 4098 ≤ vec_capacity line.new }
+    ensures kept { length line.new.items ≤ 4098 }
+    ensures within { IfSome result (λ at. at < length piece.now) }
+    ensures begun { Gathered [] line.new.items piece.now result }
+{
+    line.clear();
+    gather(line, piece)
+}
+
 /// Makes of what is kept of a line the line itself.
 pub(crate) fn close(line: &mut Vec<u8>)
     ensures line { line.new.items ≡ line_of line.old.items }
+    ensures kept { length line.new.items ≤ 4098 }
     ensures room { vec_capacity line.new ≡ vec_capacity line.old }
 {
     let length = line_length(line);
     line.truncate(length);
+}
+
+/// Makes of what is kept at the end of a source the last line, and answers whether there is one.
+pub(crate) fn close_last(line: &mut Vec<u8>) -> bool
+    ensures some { result ≡ nat_lt 0 (length line.old.items) }
+    ensures line { line.new.items ≡ line_of line.old.items }
+    ensures kept { length line.new.items ≤ 4098 }
+    ensures room { vec_capacity line.new ≡ vec_capacity line.old }
+{
+    let some = !line.is_empty();
+    close(line);
+    some
 }

@@ -19,7 +19,7 @@ ghost use Rattle.transyt_io.specs.Streams.{Rose};
 ghost use Rattle.transyt_io.specs.Pull.{Pulled};
 ghost use Rattle.transyt_io.specs.Reading.{Took, turns_left, new_reading, is_text};
 
-use crate::gather::{KEPT, close, gather};
+use crate::gather::{KEPT, begin, close_last, gather};
 use crate::streams::{Failed, Source};
 use std::alloc::{AllocError, Global};
 use std::marker::Model;
@@ -201,13 +201,12 @@ impl LineReader {
         ensures fault { result ≡ Err ReadStop.Fault →
             Rose (S.faults source.old) (S.faults source.new) }
     {
-        self.line.clear();
         self.told = false;
         if self.ended {
             self.live = false;
             return Ok(Line::End);
         }
-        if let Some(n) = gather(&mut self.line, &self.block[self.at..self.end]) {
+        if let Some(n) = begin(&mut self.line, &self.block[self.at..self.end]) {
             self.at += n + 1;
             self.told = true;
             return Ok(Line::Text);
@@ -223,13 +222,12 @@ impl LineReader {
             }
             Ok(None) => {
                 self.ended = true;
-                if self.line.is_empty() {
-                    self.live = false;
-                    return Ok(Line::End);
+                if close_last(&mut self.line) {
+                    self.told = true;
+                    return Ok(Line::Text);
                 }
-                close(&mut self.line);
-                self.told = true;
-                Ok(Line::Text)
+                self.live = false;
+                Ok(Line::End)
             }
             Err(stop) => {
                 self.live = false;

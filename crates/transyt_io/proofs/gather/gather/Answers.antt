@@ -2,7 +2,8 @@ use Rattle.std.proofs.Common.{◌≡◌, ◌∙◌, ◌+◌, sym, arith, ap, Lis
 use Rattle.std.proofs.lemmas.List.{take_all}
 use Rattle.std.proofs.lemmas.Bool.{eqb-true}
 use Rattle.transyt_io.specs.Lines.{line_of, lines_by, has_end}
-use Rattle.transyt_io.proofs.Lines.{no_end_before, no_end_more, kept_more, line_of_kept, gathered_line, length_kept, length_line}
+use Rattle.transyt_io.proofs.Lines.{no_end_before, no_end_more, kept_more, line_of_kept, gathered_line, length_kept}
+use Rattle.transyt_io.proofs.Lines.{length_line}
 use Rattle.transyt_io.proofs.gather.gather.Goals as goal
 
 pub returns-in_default-clause-kept : goal.returns-in_default-clause-kept

@@ -1,4 +1,5 @@
-use Rattle.std.proofs.Common.{◌≡◌, ◌∙◌, ◌++◌, ◌-◌, ◌≤◌, sym, arith, rules, ap, ℕ, true, length, take, min, vec_len, refl, is_ok}
+use Rattle.std.proofs.Common.{◌≡◌, ◌∙◌, ◌++◌, ◌-◌, ◌≤◌, sym, arith, rules, ap, ℕ, true, length, take, min, vec_len}
+use Rattle.std.proofs.Common.{refl, is_ok}
 use Rattle.transyt_io.proofs.Lines.{take_onto}
 use Rattle.transyt_io.proofs.gather.keep.Goals as goal
 

@@ -1,4 +1,5 @@
-use Rattle.std.proofs.Common.{◌≡◌, ◌∙◌, ◌==◌, ◌-◌, sym, ap, ℕ, Bool, true, false, length, take, slice_index, if◌then◌else◌}
+use Rattle.std.proofs.Common.{◌≡◌, ◌∙◌, ◌==◌, ◌-◌, sym, ap, ℕ, Bool, true, false, length, take, slice_index}
+use Rattle.std.proofs.Common.{if◌then◌else◌}
 use Rattle.transyt_io.proofs.Lines.{take_min, take_min_length}
 use Rattle.transyt_io.proofs.gather.line_length.Goals as goal
 
