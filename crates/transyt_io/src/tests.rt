@@ -123,7 +123,8 @@ fn run_of(alloc: Global, count: usize, tail: &[u8]) -> Result<Vec<u8>, AllocErro
     Ok(bytes)
 }
 
-/// So many bytes, `tail` at their end: lines of 0, 37, 74 and so on up to 17,353 bytes, and then one more.
+/// So many bytes, `tail` at their end: lines of 0, 37, 74 and so on up to 17,353 bytes, which are 4,078,895 bytes with
+/// their line ends, and then one more.
 fn many_lines(alloc: Global, size: usize, tail: &[u8]) -> Result<Vec<u8>, AllocError> {
     let mut bytes = Vec::new(alloc);
     for number in 0..470 {
@@ -192,7 +193,7 @@ fn keeps_4097_bytes_of_a_longer_line(rt: HostRuntime) -> Result<(), Fail> {
     Ok(())
 }
 
-/// Takes some seconds where it is compiled, and too long for an interpreter.
+/// Takes some seconds as `rt test` builds it; `rt try --test` ends it at its time limit.
 #[test]
 fn takes_no_line_behind_the_limit(rt: HostRuntime) -> Result<(), Fail> {
     let alloc = rt.alloc();
