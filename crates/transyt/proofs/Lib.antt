@@ -1,9 +1,11 @@
+-- The lemmas of the crate.
 pub mod Examples
 pub mod Fits
 pub mod Head
 pub mod Heard
+pub mod LastLine
 pub mod NoSteps
 pub mod SoFar
 pub mod Speaking
-pub mod Spent
+pub mod UnderWayLaws
 pub mod ValidLaws

@@ -1,3 +1,4 @@
+-- The definitions of the crate.
 pub mod Cards
 pub mod Exit
 pub mod Junction
@@ -5,5 +6,6 @@ pub mod Progress
 pub mod Report
 pub mod Runs
 pub mod Turns
+pub mod UnderWay
 pub mod Validity
 pub mod Words
