@@ -9,7 +9,7 @@ use Rattle.transyt.specs.Turns.{answers_after, costs_after, unless_ended, or_els
 use Rattle.transyt.specs.Runs.{Answering, answers_by, ending_by, costs_by, IsFront, EndsRun, Finished, CutOff, IsPart, StepsAll, StepsMost}
 use Rattle.transyt.specs.UnderWay.{SoFar}
 use Rattle.transyt.proofs.SoFar.{all_texts, all_endings, line_texts, line_endings, line_costs, lines_given, whole_given, front_longer}
-use Rattle.transyt.proofs.Head.{whole_then}
+use Rattle.transyt.proofs.MoreBytes.{whole_then}
 
 module _ {by : Answering} {before : List (List ℕ)} {out : List ℕ} {steps steps_old : ℕ}
     (so : SoFar by before out steps steps_old) {reading : Reading} {left : Option (List ℕ)} {taken : List ℕ}

@@ -4,6 +4,7 @@ pub mod Fits
 pub mod Head
 pub mod Heard
 pub mod LastLine
+pub mod MoreBytes
 pub mod NoSteps
 pub mod SoFar
 pub mod Speaking
