@@ -11,7 +11,8 @@ use Rattle.transyt.specs.Validity.{node_in, steps_in, are_drawn, is_valid_deck}
 
 -- the tests of the cards, in order
 abbrev pub node_test : List (List ℕ) → Bool
-node_test cards = node_in_range (steps_in cards) (slice_index (numbers_at cards 1) 0) (slice_index (numbers_at cards 1) 1)
+node_test cards =
+    node_in_range (steps_in cards) (slice_index (numbers_at cards 1) 0) (slice_index (numbers_at cards 1) 1)
 
 abbrev pub first_test : List (List ℕ) → Bool
 first_test cards = stage_in_range (steps_in cards) (stage_of_card (numbers_at cards 2))
@@ -42,14 +43,18 @@ first_alone (Some fault) = refl
 pub judged_is : (cards : List (List ℕ)) (net : Network) (judged : Option PlanFault) → net ≡ network_of_cards cards
     → judged ≡ first_fault net.frame.step_count net.nodes → judged ≡ plan_fault (steps_in cards) (node_in cards).stages
 judged_is cards net judged is told =
-    told ∙ (λ i. first_fault (is i).frame.step_count (is i).nodes) ∙ first_alone (plan_fault (steps_in cards) (node_in cards).stages)
+    told ∙ (λ i. first_fault (is i).frame.step_count (is i).nodes)
+    ∙ first_alone (plan_fault (steps_in cards) (node_in cards).stages)
 
-pub plan_refused : (cards : List (List ℕ)) (judged : Option PlanFault) → judged ≡ plan_fault (steps_in cards) (node_in cards).stages → is_some judged ≡ true
+pub plan_refused : (cards : List (List ℕ)) (judged : Option PlanFault)
+    → judged ≡ plan_fault (steps_in cards) (node_in cards).stages → is_some judged ≡ true
     → is_valid_deck cards ≡ false
 plan_refused cards judged is some =
-    planned_no (is_frame (frame_of (numbers_at cards 0))) (are_drawn cards) (is_none (plan_fault (steps_in cards) (node_in cards).stages))
+    planned_no (is_frame (frame_of (numbers_at cards 0))) (are_drawn cards)
+    (is_none (plan_fault (steps_in cards) (node_in cards).stages))
     (ap is_none (sym is) ∙ ap not some)
 
-pub deck_passes : (cards : List (List ℕ)) (judged : Option PlanFault) → IsTrue (is_frame (frame_of (numbers_at cards 0))) → are_drawn cards ≡ true
+pub deck_passes : (cards : List (List ℕ)) (judged : Option PlanFault)
+    → IsTrue (is_frame (frame_of (numbers_at cards 0))) → are_drawn cards ≡ true
     → judged ≡ plan_fault (steps_in cards) (node_in cards).stages → is_some judged ≡ false → is_valid_deck cards ≡ true
 deck_passes cards judged framed drawn is none = λ i. framed i && drawn i && (ap is_none (sym is) ∙ ap not none) i

@@ -25,7 +25,8 @@ module _ {by : Answering} {before : List (List ℕ)} {out : List ℕ} {steps ste
       let ended : ending_by by (lines taken) ≡ Some refused =
       ap (ending_by by) all.1 ∙ line_endings so line is all.0 in
       record {
-        out_is = sym ((λ i. answered i ++ unless_ended (ended i) (by.closing (lines taken))) ∙ append-nil (out ++ text));
+        out_is =
+            sym ((λ i. answered i ++ unless_ended (ended i) (by.closing (lines taken))) ∙ append-nil (out ++ text));
         status = ap (λ (e : Option Bool). or_else e (by.refused (lines taken))) ended;
         ended = elim (whole_given stands) [
           | inl at_end ↦ inl at_end

@@ -29,16 +29,23 @@ within_true low high n h = λ i. le_true low n h.0 i && le_true n high h.1 i
 
 frame_true : (f : Frame) → IsFrame f → is_frame f ≡ true
 frame_true f v = λ i.
-    within_true 30 240 f.cycle v.cycle i && within_true 10 120 f.step_count v.step_count i && within_true 1 8 f.sweeps v.sweeps i
-    && within_true 15 120 f.period v.period i && le_true f.stop_penalty 9999 v.stop_penalty i && le_true f.dispersion 100 v.dispersion i
+    within_true 30 240 f.cycle v.cycle i && within_true 10 120 f.step_count v.step_count i
+    && within_true 1 8 f.sweeps v.sweeps i
+    && within_true 15 120 f.period v.period i && le_true f.stop_penalty 9999 v.stop_penalty i
+    && le_true f.dispersion 100 v.dispersion i
 
 stage_true : (steps : ℕ) (s : Stage) → IsStage steps s → stage_in_range steps s ≡ true
-stage_true steps s v = λ i. lt_true s.change steps v.change i && lt_true s.intergreen steps v.intergreen i && within_true 1 steps s.least v.least i
+stage_true steps s v =
+    λ i. lt_true s.change steps v.change i && lt_true s.intergreen steps v.intergreen i
+    && within_true 1 steps s.least v.least i
 
-link_range_true : (steps : ℕ) (nodes : List NodeValue) (numbers : List ℕ) (l : LinkValue) → IsLink steps nodes numbers l → link_in_range steps l ≡ true
+link_range_true : (steps : ℕ) (nodes : List NodeValue) (numbers : List ℕ) (l : LinkValue)
+    → IsLink steps nodes numbers l → link_in_range steps l ≡ true
 link_range_true steps nodes numbers l v = λ i.
-    within_true 1 99999 l.number v.number i && le_true l.entry 9999 v.entry i && within_true 100 9999 l.saturation v.saturation i
-    && le_true l.delay_weight 999 v.delay_weight i && le_true l.stop_weight 999 v.stop_weight i && lt_true l.start_lag steps v.start_lag i && lt_true l.end_lag steps v.end_lag i
+    within_true 1 99999 l.number v.number i && le_true l.entry 9999 v.entry i
+    && within_true 100 9999 l.saturation v.saturation i
+    && le_true l.delay_weight 999 v.delay_weight i && le_true l.stop_weight 999 v.stop_weight i
+    && lt_true l.start_lag steps v.start_lag i && lt_true l.end_lag steps v.end_lag i
 
 or_false : (b : Bool) → (b || false) ≡ true → b ≡ true
 or_false true h = refl
@@ -50,23 +57,33 @@ valid_passes cards v =
     let node = node_in cards in
     let link = link_of_card (numbers_at cards 4) in
     let at_node : IsNode steps node = All-head (IsNode steps) node [] v.sound.nodes in
-    let at_link : IsLink steps (node ∷ []) (link.number ∷ []) link = All-head (IsLink steps (node ∷ []) (link.number ∷ [])) link [] v.sound.links in
-    let one : IsStage steps (stage_of_card (numbers_at cards 2)) = All-head (IsStage steps) _ (stage_of_card (numbers_at cards 3) ∷ []) at_node.stages in
+    let at_link : IsLink steps (node ∷ []) (link.number ∷ []) link =
+    All-head (IsLink steps (node ∷ []) (link.number ∷ [])) link [] v.sound.links in
+    let one : IsStage steps (stage_of_card (numbers_at cards 2)) =
+    All-head (IsStage steps) _ (stage_of_card (numbers_at cards 3) ∷ []) at_node.stages in
     let two : IsStage steps (stage_of_card (numbers_at cards 3)) =
-    All-head (IsStage steps) (stage_of_card (numbers_at cards 3)) [] (All-tail (IsStage steps) (stage_of_card (numbers_at cards 2)) (stage_of_card (numbers_at cards 3) ∷ []) at_node.stages) in
+    All-head (IsStage steps) (stage_of_card (numbers_at cards 3)) []
+    (All-tail (IsStage steps) (stage_of_card (numbers_at cards 2))
+    (stage_of_card (numbers_at cards 3) ∷ []) at_node.stages) in
     let named : name_test cards ≡ true = or_false (name_test cards) at_link.node in
-    let count : stages_at (node ∷ []) link.node ≡ 2 = ap (λ (b : Bool). stage_total (if b then Some node else None)) named in
-    let runs : (1 ≤ slice_index (numbers_at cards 4) 6) × (slice_index (numbers_at cards 4) 6 ≤ stages_at (node ∷ []) link.node) =
-    All-head (λ k. (1 ≤ k) × (k ≤ stages_at (node ∷ []) link.node)) (slice_index (numbers_at cards 4) 6) [] at_link.stages in
+    let count : stages_at (node ∷ []) link.node ≡ 2 =
+    ap (λ (b : Bool). stage_total (if b then Some node else None)) named in
+    let runs : (1 ≤ slice_index (numbers_at cards 4) 6)
+    × (slice_index (numbers_at cards 4) 6 ≤ stages_at (node ∷ []) link.node) =
+    All-head (λ k. (1 ≤ k) × (k ≤ stages_at (node ∷ []) link.node))
+    (slice_index (numbers_at cards 4) 6) [] at_link.stages in
     let staged : within 1 2 (slice_index (numbers_at cards 4) 6) ≡ true = within_true 1 2 _ (runs.0, omega arith) in
-    let planned : plan_fault steps node.stages ≡ None = All-head (λ n. plan_fault steps n.stages ≡ None) node [] v.planned in
+    let planned : plan_fault steps node.stages ≡ None =
+    All-head (λ n. plan_fault steps n.stages ≡ None) node [] v.planned in
     let number : within 1 99999 node.number ≡ true = within_true 1 99999 node.number at_node.number in
     let offset : nat_lt node.offset steps ≡ true = lt_true node.offset steps at_node.offset in
     let first : first_test cards ≡ true = stage_true steps _ one in
     let second : second_test cards ≡ true = stage_true steps _ two in
     let ranged : range_test cards ≡ true = link_range_true steps _ _ link at_link in
     let framed : is_frame (frame_of (numbers_at cards 0)) ≡ true = frame_true _ v.sound.frame in
-    λ i. framed i && (((number i && offset i) && (first i && (second i && true))) && ((ranged i && named i) && (staged i && true))) && is_none (planned i)
+    λ i. framed i
+    && (((number i && offset i) && (first i && (second i && true))) && ((ranged i && named i) && (staged i && true)))
+    && is_none (planned i)
 
 -- a network that passes the tests is valid
 le_of : (a b : ℕ) → nat_le a b ≡ true → a ≤ b
@@ -80,7 +97,8 @@ both_of true b h = (refl, h)
 both_of false b h = cc
 
 within_of : (low high n : ℕ) → within low high n ≡ true → (low ≤ n) × (n ≤ high)
-within_of low high n h = let both = both_of (nat_le low n) (nat_le n high) h in (le_of low n both.0, le_of n high both.1)
+within_of low high n h =
+    let both = both_of (nat_le low n) (nat_le n high) h in (le_of low n both.0, le_of n high both.1)
 
 frame_of_true : (f : Frame) → is_frame f ≡ true → IsFrame f
 frame_of_true f h =
@@ -108,7 +126,8 @@ stage_of_true steps s h =
       least = within_of 1 steps s.least three.1;
     }
 
-node_of_true : (cards : List (List ℕ)) → is_node (steps_in cards) (node_in cards) ≡ true → IsNode (steps_in cards) (node_in cards)
+node_of_true : (cards : List (List ℕ)) → is_node (steps_in cards) (node_in cards) ≡ true
+    → IsNode (steps_in cards) (node_in cards)
 node_of_true cards h =
     let steps = steps_in cards in
     let one = stage_of_card (numbers_at cards 2) in
@@ -125,8 +144,10 @@ node_of_true cards h =
           (All-cons (IsStage steps) two [] (stage_of_true steps two second.0) (all_nil (IsStage steps)));
     }
 
-link_of_true : (cards : List (List ℕ)) → is_link (steps_in cards) (node_in cards) (link_of_card (numbers_at cards 4)) ≡ true
-    → IsLink (steps_in cards) (node_in cards ∷ []) ((link_of_card (numbers_at cards 4)).number ∷ []) (link_of_card (numbers_at cards 4))
+link_of_true : (cards : List (List ℕ))
+    → is_link (steps_in cards) (node_in cards) (link_of_card (numbers_at cards 4)) ≡ true
+    → IsLink (steps_in cards) (node_in cards ∷ []) ((link_of_card (numbers_at cards 4)).number ∷ [])
+    (link_of_card (numbers_at cards 4))
 link_of_true cards h =
     let steps = steps_in cards in
     let node = node_in cards in
@@ -140,9 +161,11 @@ link_of_true cards h =
     let three = both_of _ (within 100 9999 l.saturation) four.0 in
     let two = both_of (within 1 99999 l.number) (nat_le l.entry 9999) three.0 in
     let named : name_test cards ≡ true = parts.1 in
-    let count : stages_at (node ∷ []) l.node ≡ 2 = ap (λ (b : Bool). stage_total (if b then Some node else None)) named in
+    let count : stages_at (node ∷ []) l.node ≡ 2 =
+    ap (λ (b : Bool). stage_total (if b then Some node else None)) named in
     let runs = both_of (within 1 2 (slice_index (numbers_at cards 4) 6)) true last.1 in
-    let range : (1 ≤ slice_index (numbers_at cards 4) 6) × (slice_index (numbers_at cards 4) 6 ≤ 2) = within_of 1 2 _ runs.0 in
+    let range : (1 ≤ slice_index (numbers_at cards 4) 6) × (slice_index (numbers_at cards 4) 6 ≤ 2) =
+    within_of 1 2 _ runs.0 in
     record {
       number = within_of 1 99999 l.number two.0;
       node = λ i. named i || false;
@@ -154,7 +177,8 @@ link_of_true cards h =
       end_lag = lt_of l.end_lag steps seven.1;
       stage_count = (omega arith, omega arith);
       stages_differ = refl;
-      stages = All-cons (λ k. (1 ≤ k) × (k ≤ stages_at (node ∷ []) l.node)) (slice_index (numbers_at cards 4) 6) [] (range.0, omega arith)
+      stages = All-cons (λ k. (1 ≤ k) × (k ≤ stages_at (node ∷ []) l.node)) (slice_index (numbers_at cards 4) 6) []
+          (range.0, omega arith)
           (all_nil (λ k. (1 ≤ k) × (k ≤ stages_at (node ∷ []) l.node)));
       feed_count = omega arith;
       feeders_differ = refl;
@@ -171,7 +195,8 @@ passes_valid cards h =
     let steps = steps_in cards in
     let node = node_in cards in
     let l = link_of_card (numbers_at cards 4) in
-    let last = both_of (is_frame (frame_of (numbers_at cards 0)) && are_drawn cards) (is_none (plan_fault steps node.stages)) h in
+    let last = both_of (is_frame (frame_of (numbers_at cards 0)) && are_drawn cards)
+    (is_none (plan_fault steps node.stages)) h in
     let parts = both_of (is_frame (frame_of (numbers_at cards 0))) (are_drawn cards) last.0 in
     let drawn = both_of (is_node steps node) (is_link steps node l) parts.1 in
     record {
@@ -182,24 +207,31 @@ passes_valid cards h =
         nodes = All-cons (IsNode steps) node [] (node_of_true cards drawn.0) (all_nil (IsNode steps));
         link_count = omega arith;
         links_differ = refl;
-        links = All-cons (IsLink steps (node ∷ []) (l.number ∷ [])) l [] (link_of_true cards drawn.1) (all_nil (IsLink steps (node ∷ []) (l.number ∷ [])));
+        links = All-cons (IsLink steps (node ∷ []) (l.number ∷ [])) l [] (link_of_true cards drawn.1)
+            (all_nil (IsLink steps (node ∷ []) (l.number ∷ [])));
         plan = tt;
       };
-      planned = All-cons (λ n. plan_fault steps n.stages ≡ None) node [] (none_of (plan_fault steps node.stages) last.1) (all_nil (λ n. plan_fault steps n.stages ≡ None));
+      planned = All-cons (λ n. plan_fault steps n.stages ≡ None) node []
+          (none_of (plan_fault steps node.stages) last.1) (all_nil (λ n. plan_fault steps n.stages ≡ None));
     }
 
 -- such a network has one node of two stages, and one link of one of them
-pub valid_junction : (cards : List (List ℕ)) (net : Network) → is_valid_deck cards ≡ true → net ≡ network_of_cards cards → IsJunction net
+pub valid_junction : (cards : List (List ℕ)) (net : Network) → is_valid_deck cards ≡ true
+    → net ≡ network_of_cards cards → IsJunction net
 valid_junction cards net h is =
     let node = node_in cards in
     let link = link_of_card (numbers_at cards 4) in
     let steps = steps_in cards in
     let v : IsValid (network_of_cards cards) = passes_valid cards h in
-    let at_link : IsLink steps (node ∷ []) (link.number ∷ []) link = All-head (IsLink steps (node ∷ []) (link.number ∷ [])) link [] v.sound.links in
+    let at_link : IsLink steps (node ∷ []) (link.number ∷ []) link =
+    All-head (IsLink steps (node ∷ []) (link.number ∷ [])) link [] v.sound.links in
     let named : name_test cards ≡ true = or_false (name_test cards) at_link.node in
-    let count : stages_at (node ∷ []) link.node ≡ 2 = ap (λ (b : Bool). stage_total (if b then Some node else None)) named in
-    let runs : (1 ≤ slice_index (numbers_at cards 4) 6) × (slice_index (numbers_at cards 4) 6 ≤ stages_at (node ∷ []) link.node) =
-    All-head (λ k. (1 ≤ k) × (k ≤ stages_at (node ∷ []) link.node)) (slice_index (numbers_at cards 4) 6) [] at_link.stages in
+    let count : stages_at (node ∷ []) link.node ≡ 2 =
+    ap (λ (b : Bool). stage_total (if b then Some node else None)) named in
+    let runs : (1 ≤ slice_index (numbers_at cards 4) 6)
+    × (slice_index (numbers_at cards 4) 6 ≤ stages_at (node ∷ []) link.node) =
+    All-head (λ k. (1 ≤ k) × (k ≤ stages_at (node ∷ []) link.node))
+    (slice_index (numbers_at cards 4) 6) [] at_link.stages in
     let made : IsJunction (network_of_cards cards) = record {
       node_count = refl;
       link_count = refl;

@@ -30,7 +30,8 @@ passed_at steps node place room i = if is_green steps node place i then room els
 -- what passes in each step: the saturation flow in each step of green, nothing in the others
 abbrev pub go_of : Network → List ℕ
 go_of net =
-    map (passed_at net.frame.step_count (node_of net 0) (green_place net) (perstep net.frame (link_of net 0).saturation))
+    map (passed_at net.frame.step_count (node_of net 0) (green_place net)
+    (perstep net.frame (link_of net 0).saturation))
     (range_with_len 0 net.frame.step_count)
 
 -- what comes to the stop line in each step

@@ -35,4 +35,5 @@ are_drawn cards =
 -- node's plan is allowed
 abbrev pub is_valid_deck : List (List ℕ) → Bool
 is_valid_deck cards =
-    is_frame (frame_of (numbers_at cards 0)) && are_drawn cards && is_none (plan_fault (steps_in cards) (node_in cards).stages)
+    is_frame (frame_of (numbers_at cards 0)) && are_drawn cards
+    && is_none (plan_fault (steps_in cards) (node_in cards).stages)

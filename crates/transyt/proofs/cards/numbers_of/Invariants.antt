@@ -6,7 +6,8 @@ use Rattle.transyt.proofs.cards.numbers_of.Given as goal
 
 -- the numbers so far and those to come are those of the line
 abbrev pub invariant-loop-word : goal.invariant-loop-word
-invariant-loop-word l = option_map (λ ns. l.numbers.items ++ ns) (all_numbers (words l.rest)) ≡ all_numbers (words l.line)
+invariant-loop-word l =
+    option_map (λ ns. l.numbers.items ++ ns) (all_numbers (words l.rest)) ≡ all_numbers (words l.line)
 
 abbrev pub decreases-loop-word : goal.decreases-loop-word
 decreases-loop-word l = length l.rest

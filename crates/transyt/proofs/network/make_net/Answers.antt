@@ -23,7 +23,8 @@ returns-in-Ok-draw c =
     ap is_frame (sym (c.frame_of.ensures ∙ ap frame_of c.numbers_at.ensures)) ∙ c.in-Ok.ensures.fault.0 refl in
     record {
       made = (
-        deck_passes cards c.judge.result framed c.in-Ok-draw.ensures.drawn is (sym c.is_some.ensures ∙ c.if-is_some.false),
+        deck_passes cards c.judge.result framed c.in-Ok-draw.ensures.drawn is
+            (sym c.is_some.ensures ∙ c.if-is_some.false),
         c.close.ensures ∙ c.in-Ok-draw.ensures.ok,
       );
     }

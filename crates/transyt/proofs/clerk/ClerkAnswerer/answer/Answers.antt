@@ -17,7 +17,8 @@ returns-in-Err-clause-part g c = λ before heard. record {
 }
 
 pub returns-in-Err-clause-silent : goal.returns-in-Err-clause-silent
-returns-in-Err-clause-silent g c = λ before heard _. (heard_nothing c.args.self.now.progress before heard (c.in-Err.ensures.memory refl), refl)
+returns-in-Err-clause-silent g c =
+    λ before heard _. (heard_nothing c.args.self.now.progress before heard (c.in-Err.ensures.memory refl), refl)
 
 pub returns-in-Ok-say-clause-whole : goal.returns-in-Ok-say-clause-whole
 returns-in-Ok-say-clause-whole g c = λ before heard.
@@ -25,7 +26,8 @@ returns-in-Ok-say-clause-whole g c = λ before heard.
     let new = g.K.Sink.written c.say.new.sink in
     let P : Option JunctionValue → Type 0 = λ j. Adds old new (said_text j c.in-Ok.said) in
     answered_whole before c.args.line.now c.in-Ok.said c.judge.new.self old new c.ending.result
-    (heard_said c.args.self.now.progress c.judge.new.self c.in-Ok.said before c.args.line.now c.in-Ok.ensures.turn heard)
+    (heard_said c.args.self.now.progress c.judge.new.self c.in-Ok.said before c.args.line.now c.in-Ok.ensures.turn
+    heard)
     (subst P c.junction.ensures c.in-Ok-say.ensures.ok) c.ending.ensures
 
 pub returns-in-Err-say-clause-part : goal.returns-in-Err-say-clause-part
@@ -34,5 +36,6 @@ returns-in-Err-say-clause-part g c = λ before heard.
     let new = g.K.Sink.written c.say.new.sink in
     let P : Option JunctionValue → Type 0 = λ j. AddsFront old new (said_text j c.in-Ok.said) in
     answered_part before c.args.line.now c.in-Ok.said c.judge.new.self old new
-    (heard_said c.args.self.now.progress c.judge.new.self c.in-Ok.said before c.args.line.now c.in-Ok.ensures.turn heard)
+    (heard_said c.args.self.now.progress c.judge.new.self c.in-Ok.said before c.args.line.now c.in-Ok.ensures.turn
+    heard)
     (subst P c.junction.ensures c.in-Err-say.ensures.err)

@@ -7,12 +7,15 @@ use Rattle.transyt.specs.Junction.{JunctionValue}
 use Rattle.transyt.specs.Progress.{ProgressValue, Turn, turn_of, card_turn, end_turn, opened_by}
 use Rattle.transyt.proofs.progress.Progress.judge_card.Goals as goal
 
-accepted_turn : (p : ProgressValue) (line card : List ℕ) (read : Option (List ℕ)) (junction : JunctionValue) → read ≡ Some card → 5 ≤ length p.cards
-    → opened_by p.cards ≡ Some junction → turn_of (Accepted 1 1) (record p { junction = Some junction }) ≡ card_turn p read
+accepted_turn : (p : ProgressValue) (line card : List ℕ) (read : Option (List ℕ)) (junction : JunctionValue)
+    → read ≡ Some card → 5 ≤ length p.cards
+    → opened_by p.cards ≡ Some junction
+    → turn_of (Accepted 1 1) (record p { junction = Some junction }) ≡ card_turn p read
 accepted_turn p line card read junction is many opens =
     let last : nat_lt (length p.cards) 5 ≡ false = grind (arith, nat_tests) in
     let first : Turn = turn_of Nothing (record p { cards = p.cards ++ card ∷ [] }) in
-    sym (ap (card_turn p) is ∙ ap (λ (b : Bool). if b then first else end_turn p (opened_by p.cards)) last ∙ ap (end_turn p) opens)
+    sym (ap (card_turn p) is ∙ ap (λ (b : Bool). if b then first else end_turn p (opened_by p.cards)) last
+    ∙ ap (end_turn p) opens)
 
 pub returns-clause-turn : goal.returns-clause-turn
 returns-clause-turn c =
