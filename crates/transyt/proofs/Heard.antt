@@ -20,6 +20,7 @@ pub record Follows (before : List (List ℕ)) (line : List ℕ) (t : Turn) : Typ
   pub ends_is : said_ends t.said ≡ ends before line
   pub goes_on : said_ends t.said ≡ None → HasHeard t.after (before ++ line ∷ [])
 
+-- no line came
 pub heard_new : HasHeard new_progress []
 heard_new = record {
   lines = refl;
@@ -86,7 +87,8 @@ heard_turn p before line heard =
           ∙ ap (λ (n : ℕ). spoken_text n (spoken before) line) (sym number) in
           let turns : ends before line ≡ said_ends t.said =
           ap (λ (b : Bool).
-          if b || is_open (spoken before) || is_next_card (spoken before) line then None else Some true) e ∙ sym said.ends_is in
+          if b || is_open (spoken before) || is_next_card (spoken before) line then None else Some true) e
+          ∙ sym said.ends_is in
           let more : spoken (before ++ line ∷ []) ≡ spoken before ++ line ∷ [] = spoken-append before line false e in
           record {
             text_is = said.text_is ∙ sym told;
@@ -102,7 +104,7 @@ heard_turn p before line heard =
           }
     ] in cases (is_skipped line) refl
 
--- the end of the input
+-- what is said of the end of the input is its text, and tells whether that is a refusal
 pub record Closes (before : List (List ℕ)) (junction : Option JunctionValue) (said : Said) : Type 0 where
   pub text_is : said_text junction said ≡ closing before
   pub refused_is : not (is_some junction) ≡ refused_at_end before
@@ -125,6 +127,7 @@ closes_by p before (Some junction) lines reached =
       refused_is = sym (ap not open_yet);
     }
 
+-- so it is after any lines
 pub heard_end : (p : ProgressValue) (before : List (List ℕ)) → HasHeard p before
     → Closes before p.junction (said_at_end p p.junction)
 heard_end p before heard = closes_by p before p.junction heard.lines heard.reached
@@ -153,6 +156,7 @@ answered_whole before line said after old new turn follows adds is = record {
   goes_on = λ none. follows.goes_on (sym is ∙ none);
 }
 
+-- and what was said of it in part, in part
 pub answered_part : (before : List (List ℕ)) (line : List ℕ) (said : Said) (after : ProgressValue)
     (old new : Option (List ℕ))
     → Follows before line (turn_of said after) → AddsFront old new (said_text after.junction said)

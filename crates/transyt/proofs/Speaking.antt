@@ -214,7 +214,8 @@ speaks_turn number lines line (Some card) small valid few read is_small is_valid
     (if b then first else end_turn p (if v then Some (junction_of (network_of_cards cards)) else None))) [
       | true ↦ λ e n. speaks_card number lines line card few read e n
       | false ↦ λ e n. elim v as (λ w. is_next_card lines line ≡ w
-          → Speaks None number lines line (end_turn p (if w then Some (junction_of (network_of_cards cards)) else None))) [
+          → Speaks None number lines line
+          (end_turn p (if w then Some (junction_of (network_of_cards cards)) else None))) [
             | true ↦ λ m. speaks_end number lines line few e m
             | false ↦ λ m. speaks_refused number lines line few m
           ] n

@@ -14,10 +14,11 @@ use Rattle.transyt.specs.Junction.{IsJunction}
 use Rattle.transyt.specs.Validity.{is_node, is_link, node_in, steps_in, are_drawn, is_valid_deck}
 use Rattle.transyt.proofs.Fits.{node_test, first_test, second_test, range_test, name_test, stage_test}
 
+-- no item
 all_nil : {X : Type 0} (P : X → Type 0) → All P []
 all_nil P = λ k d h. absurd (omega arith)
 
--- a valid network passes the tests
+-- each order passes its test
 le_true : (a b : ℕ) → a ≤ b → nat_le a b ≡ true
 le_true a b h = grind (arith, nat_tests)
 
@@ -51,6 +52,7 @@ or_false : (b : Bool) → (b || false) ≡ true → b ≡ true
 or_false true h = refl
 or_false false h = h
 
+-- a deck of a valid network passes the test
 pub valid_passes : (cards : List (List ℕ)) → IsValid (network_of_cards cards) → is_valid_deck cards ≡ true
 valid_passes cards v =
     let steps = steps_in cards in
@@ -190,6 +192,7 @@ none_of : (fault : Option PlanFault) → is_none fault ≡ true → fault ≡ No
 none_of None h = refl
 none_of (Some fault) h = cc
 
+-- the network of a deck that passes the test is valid
 pub passes_valid : (cards : List (List ℕ)) → is_valid_deck cards ≡ true → IsValid (network_of_cards cards)
 passes_valid cards h =
     let steps = steps_in cards in

@@ -3,6 +3,7 @@ use Rattle.std.specs.Prelude.{ℕ}
 use Rattle.transyt.specs.declared.status.Status.{Status}
 use Rattle.transyt.specs.declared.status.Status.TheVariants.{Done, BadWords, DeckRefused, ReadFault, WriteFault, NoMemory, TooLong}
 
+-- the exit number of a status
 abbrev pub exit_number : Status → ℕ
 exit_number Done = 0
 exit_number BadWords = 1

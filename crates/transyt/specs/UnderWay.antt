@@ -14,8 +14,8 @@ pub record SoFar (by : Answering) (before : List (List ℕ)) (out : List ℕ) (s
   pub costs : (more : List (List ℕ))
       → steps + costs_by by (before ++ more) ≡ steps_new + costs_after by.cost by.ends before more
 
--- A run that goes on: what `heard` says of lines holds of those answered, `count` of them are counted, the reader
--- is as it stands, and source, sink and steps tell what they told at the start of the run, and what they tell now.
+-- A run that goes on: what it took, answered and wrote. `heard` is what the answerer has heard and `count` how many
+-- lines it has counted; source, sink and steps come with what they told at the start of the run, and tell now.
 pub record UnderWay (by : Answering) (heard : List (List ℕ) → Type 0) (count : ℕ) (reading : Reading)
     (left left_new : Option (List ℕ)) (last : Option ℕ) (written written_new : Option (List ℕ))
     (steps steps_new : ℕ) : Type 0 where

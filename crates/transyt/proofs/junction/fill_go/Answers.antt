@@ -10,11 +10,13 @@ passed-lt : (green : Bool) (room : ℕ) → room < 2 ^ 30 → (if green then roo
 passed-lt true room h = h
 passed-lt false room h = omega arith
 
+-- the value at each step is that of the map
 pub returns-clause-value : goal.returns-clause-value
 returns-clause-value c =
     fill_by_all (passed_at c.args.steps c.args.node.now c.args.place c.args.room) c.loop-i.go _ 0 (omega arith)
     (λ k below. c.loop-i.invariant k (omega arith))
 
+-- and so below the room's bound
 pub returns-clause-small : goal.returns-clause-small
 returns-clause-small c = λ k d below.
     let value : get_or c.loop-i.go k d ≡ passed_at c.args.steps c.args.node.now c.args.place c.args.room k =

@@ -1,3 +1,4 @@
+-- The steps so far.
 use Rattle.std.proofs.Common.{◌≡◌, ℕ, ◌<◌, get_or}
 use Rattle.transyt.specs.Junction.{passed_at}
 use Rattle.transyt.proofs.junction.fill_go.Given as goal

@@ -5,6 +5,7 @@ use Rattle.transyt_net.specs.Valid.{IsStage}
 use Rattle.transyt_net.specs.Plan.{no_stage, stage_of}
 use Rattle.transyt.proofs.junction.is_green.Goals as goal
 
+-- both are below the number of steps, so their sum fits
 pub overflow_add-from : goal.overflow_add-from
 overflow_add-from c =
     let stage : IsStage c.args.steps (stage_of c.args.node.now.stages c.args.place) =

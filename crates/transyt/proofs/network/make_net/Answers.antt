@@ -7,6 +7,7 @@ use Rattle.transyt.specs.Validity.{steps_in, node_in}
 use Rattle.transyt.proofs.Fits.{judged_is, plan_refused, deck_passes}
 use Rattle.transyt.proofs.network.make_net.Goals as goal
 
+-- the draft was judged to have a fault
 pub returns-then-is_some : goal.returns-then-is_some
 returns-then-is_some c =
     let cards = c.args.cards.now in
@@ -14,6 +15,7 @@ returns-then-is_some c =
     judged_is cards c.draw.new.draft c.judge.result c.in-Ok-draw.ensures.ok c.judge.ensures in
     record { made = plan_refused cards c.judge.result is (sym c.is_some.ensures ∙ c.if-is_some.true) }
 
+-- the draft was closed
 pub returns-in-Ok-draw : goal.returns-in-Ok-draw
 returns-in-Ok-draw c =
     let cards = c.args.cards.now in

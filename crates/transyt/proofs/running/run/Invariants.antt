@@ -5,6 +5,7 @@ use Rattle.transyt.specs.Runs.{answering}
 use Rattle.transyt.specs.UnderWay.{UnderWay}
 use Rattle.transyt.proofs.running.run.Given as goal
 
+-- the run is under way from what source, sink and steps told at its start
 abbrev pub invariant-loop-found : goal.invariant-loop-found
 invariant-loop-found g l =
     let by = g.T.Answerer in

@@ -1,3 +1,4 @@
+-- The values so far.
 use Rattle.std.proofs.Common.{◌≡◌, ◌≤◌, ◌+◌, ◌*◌, ◌++◌, length, drop}
 use Rattle.transyt.specs.Report.{values_text}
 use Rattle.transyt.proofs.said.put_values.Given as goal

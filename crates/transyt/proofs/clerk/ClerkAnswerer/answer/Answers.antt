@@ -8,6 +8,7 @@ use Rattle.transyt.specs.Progress.{said_text}
 use Rattle.transyt.proofs.Heard.{heard_said, heard_nothing, answered_whole, answered_part}
 use Rattle.transyt.proofs.clerk.ClerkAnswerer.answer.Goals as goal
 
+-- without memory nothing was written
 pub returns-in-Err-clause-part : goal.returns-in-Err-clause-part
 returns-in-Err-clause-part g c = λ before heard. record {
   front = [];
@@ -16,10 +17,12 @@ returns-in-Err-clause-part g c = λ before heard. record {
   adds = adds_nothing _;
 }
 
+-- nor before: memory is taken before END alone
 pub returns-in-Err-clause-silent : goal.returns-in-Err-clause-silent
 returns-in-Err-clause-silent g c =
     λ before heard _. (heard_nothing c.args.self.now.progress before heard (c.in-Err.ensures.memory refl), refl)
 
+-- what was judged was said
 pub returns-in-Ok-say-clause-whole : goal.returns-in-Ok-say-clause-whole
 returns-in-Ok-say-clause-whole g c = λ before heard.
     let old = g.K.Sink.written c.args.sink.now in
@@ -30,6 +33,7 @@ returns-in-Ok-say-clause-whole g c = λ before heard.
     heard)
     (subst P c.junction.ensures c.in-Ok-say.ensures.ok) c.ending.ensures
 
+-- what was judged was said in part
 pub returns-in-Err-say-clause-part : goal.returns-in-Err-say-clause-part
 returns-in-Err-say-clause-part g c = λ before heard.
     let old = g.K.Sink.written c.args.sink.now in

@@ -7,6 +7,7 @@ use Rattle.transyt.specs.Junction.{JunctionValue}
 use Rattle.transyt.specs.Progress.{ProgressValue, Turn, turn_of, card_turn, end_turn, opened_by}
 use Rattle.transyt.proofs.progress.Progress.judge_card.Goals as goal
 
+-- behind five cards, END is accepted where they open a junction
 accepted_turn : (p : ProgressValue) (line card : List ℕ) (read : Option (List ℕ)) (junction : JunctionValue)
     → read ≡ Some card → 5 ≤ length p.cards
     → opened_by p.cards ≡ Some junction
@@ -17,6 +18,7 @@ accepted_turn p line card read junction is many opens =
     sym (ap (card_turn p) is ∙ ap (λ (b : Bool). if b then first else end_turn p (opened_by p.cards)) last
     ∙ ap (end_turn p) opens)
 
+-- the line is END, and the junction that of the cards
 pub returns-clause-turn : goal.returns-clause-turn
 returns-clause-turn c =
     let p = c.args.self.now in
