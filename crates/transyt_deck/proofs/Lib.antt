@@ -4,7 +4,7 @@ pub mod After
 pub mod LinkNumbers
 pub mod Refusals
 pub mod Accepting
-pub mod FirstLine
+pub mod BehindLines
 pub mod CardTexts
 pub mod Taking
 pub mod Blocks

@@ -1,15 +1,10 @@
 -- A deck and what stands behind it in the same bytes.
-use Rattle.std.specs.Prelude.{ℕ, ◌≡◌, zero, suc, ◌+◌, ◌-◌, ◌==◌, if◌then◌else◌, List, [], ◌∷◌, length, Result, Ok, Err}
-use Rattle.transyt_io.specs.Lines.{lines}
+use Rattle.std.specs.Prelude.{ℕ, ◌≡◌, zero, suc, ◌+◌, ◌-◌, List, length, Result, Ok, Err}
+use Rattle.transyt_io.specs.Lines.{lines, behind_first}
 use Rattle.transyt_deck.specs.declared.reader.CardStop.{CardStop}
 use Rattle.transyt_deck.specs.declared.reader.CardStop.TheVariants as stop
 use Rattle.transyt_deck.specs.declared.cut.Cut.{Cut}
 use Rattle.transyt_deck.specs.Deck.{Deck, Refused, Complete, Open, deck}
-
--- the bytes behind the first line end; none where there is no line end
-abbrev pub behind_first : List ℕ → List ℕ
-behind_first [] = []
-behind_first (b ∷ bs) = if b == 10 then bs else behind_first bs
 
 -- the bytes behind so many lines
 abbrev pub behind : ℕ → List ℕ → List ℕ

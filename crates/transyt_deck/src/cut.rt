@@ -6,9 +6,9 @@ ghost use Rattle.transyt_deck.specs.Deck.{seen};
 ghost use Rattle.transyt_deck.specs.Reader.{reading, ended, Ends};
 ghost use Rattle.transyt_deck.specs.Cut.{cut_of, RefusesDeck};
 
-use crate::line_end::{line_of, split_line};
 use crate::reader::{CardReader, CardStop, Progress};
 use std::alloc::Global;
+use transyt_io::next_line;
 use transyt_net::Net;
 
 /// A deck at the front of bytes.
@@ -33,9 +33,8 @@ pub fn cut_deck(alloc: Global, input: &[u8]) -> Result<Cut, CardStop>
 {
     let mut reader = CardReader::new(alloc);
     let mut rest = input;
-    while !rest.is_empty() {
-        let (raw, behind) = split_line(rest);
-        match reader.take(line_of(raw)) {
+    while let Some((line, behind)) = next_line(rest) {
+        match reader.take(line) {
             Ok(Progress::More) => {}
             Ok(Progress::Complete) => return close(reader, input.len() - behind.len()),
             Err(stop) => return Err(stop),

@@ -13,7 +13,6 @@
 mod cut;
 mod keyword;
 mod laws;
-mod line_end;
 mod places;
 mod put;
 mod reader;

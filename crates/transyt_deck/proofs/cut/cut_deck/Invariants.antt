@@ -6,8 +6,8 @@ use Rattle.transyt_deck.specs.Reader.{reading}
 use Rattle.transyt_deck.proofs.cut.cut_deck.Given as goal
 
 -- the lines taken, which the reader stands for; the deck is that of the lines that are left behind them
-abbrev pub invariant-loop-rest : goal.invariant-loop-rest
-invariant-loop-rest l = (before : List (List ℕ)) × record {
+abbrev pub invariant-loop-line : goal.invariant-loop-line
+invariant-loop-line l = (before : List (List ℕ)) × record {
   reader : l.reader ≡ reading before;
   all : before ++ lines l.rest ≡ lines l.input;
   deck : deck_after before (lines l.rest) ≡ deck (lines l.input);
@@ -16,5 +16,5 @@ invariant-loop-rest l = (before : List (List ℕ)) × record {
   rest : l.rest ≡ behind (length before) l.input;
 }
 
-abbrev pub decreases-loop-rest : goal.decreases-loop-rest
-decreases-loop-rest l = length l.rest
+abbrev pub decreases-loop-line : goal.decreases-loop-line
+decreases-loop-line l = length l.rest
