@@ -130,13 +130,8 @@ impl CardReader {
             → result ≡ Err (stop.Refused (length before + 1) 21) }
     {
         let number = self.taken + 1;
-        if !self.places.end {
-            return Err(CardStop::Refused {
-                card: number,
-                code: 21,
-            });
-        }
-        match self.draft {
+        let complete = if self.places.end { self.draft } else { None };
+        match complete {
             Some(draft) => Ok(draft.close()),
             None => Err(CardStop::Refused {
                 card: number,
