@@ -24,11 +24,20 @@ pub enum Command {
     /// Writes each node's stages.
     Timing,
     /// Writes a link's IN, GO and OUT.
-    Profile { link: u32 },
+    Profile {
+        /// The card number of the link.
+        link: u32,
+    },
     /// Draws a link's IN, GO and OUT.
-    Plot { link: u32 },
+    Plot {
+        /// The card number of the link.
+        link: u32,
+    },
     /// Writes a link's queue.
-    Queue { link: u32 },
+    Queue {
+        /// The card number of the link.
+        link: u32,
+    },
     /// Writes the work so far.
     Work,
     /// Writes the deck text of the network as it stands.

@@ -3,29 +3,50 @@ ghost use Rattle.std.specs.Prelude.{◌≡◌, ◌≤◌};
 ghost use Rattle.transyt_syntax.specs.Syntax.{named};
 ghost use Rattle.transyt_commands.specs.Commands.{edit_words, control_words, report_words, command_named, command_counts};
 
-/// The keyword of a command.
+/// The keyword of a command, with the numbers that stand behind it.
 #[derive(Clone, Copy, Debug, PartialEq, Eq)]
 pub enum CommandWord {
+    /// `OFFSET node offset`: sets a node's offset.
     Offset,
+    /// `CHANGE node stage change`: sets the change of a node's stage.
     Change,
+    /// `ENTRY link flow`: sets a link's entry flow.
     Entry,
+    /// `PART link feeder flow`: sets the flow of a link's feed.
     Part,
+    /// `CRUISE link feeder seconds`: sets the cruise time of a link's feed.
     Cruise,
+    /// `SATURATION link flow`: sets a link's saturation flow.
     Saturation,
+    /// `WEIGHT link wd ws`: sets a link's weights of delay and of stops.
     Weight,
+    /// `TRIAL`: opens a trial.
     Trial,
+    /// `BACK`: takes the open trial back.
     Back,
+    /// `KEEP`: keeps the open trial.
     Keep,
+    /// `CLIMB`: climbs by the deck's plan.
     Climb,
+    /// `CERT`: writes the index of each listed move.
     Cert,
+    /// `INDEX`: writes the network's index.
     Index,
+    /// `LINKS`: writes each link's figures and index.
     Links,
+    /// `TIMING`: writes each node's stages.
     Timing,
+    /// `PROFILE link`: writes a link's IN, GO and OUT.
     Profile,
+    /// `PLOT link`: draws a link's IN, GO and OUT.
     Plot,
+    /// `QUEUE link`: writes a link's queue.
     Queue,
+    /// `WORK`: writes the work so far.
     Work,
+    /// `DECK`: writes the deck text of the network as it stands.
     Deck,
+    /// `STOP`: ends the run.
     Stop,
 }
 

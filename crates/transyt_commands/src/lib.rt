@@ -5,6 +5,8 @@
 //! `Rattle.transyt_commands.specs.Commands.{command_in}` first: what a line says, or the first of the codes
 //! 11, 10, 12 and 13 that holds of it. The codes that depend on the network or on an open trial (17, 23, 14,
 //! 24, 25, 26, 18, 19) are judged by whoever carries the command out. No call takes memory.
+//!
+//! Commands, their numbers and all codes are this project's own.
 #![tactic(auto)]
 
 mod command;

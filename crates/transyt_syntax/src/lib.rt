@@ -2,7 +2,8 @@
 //!
 //! The four faults that a line can have before its meaning is looked at are the codes 11 (longer than
 //! 4,096 bytes), 10 (a byte that may not stand in a line, or an unknown keyword), 12 (a wrong count of
-//! numbers) and 13 (a word that is no number), and the first of them in this order is answered. Cite
+//! numbers) and 13 (a word that is no number), and the first of them in this order is answered; a number is a
+//! word of 1 to 9 decimal digits. Codes and their order are this project's own. Cite
 //! `Rattle.transyt_syntax.specs.Syntax.{syntax_code, numbers_of}` first, and for an order of tests
 //! `Rattle.transyt_syntax.specs.Findings.{first_found, when}`.
 //!

@@ -18,7 +18,7 @@ pub fn first_of(line: &[u8]) -> (&[u8], &[u8])
     }
 }
 
-/// How many words a line has.
+/// How many words a line has: its longest runs of bytes that are neither blank nor tab.
 pub fn word_count(line: &[u8]) -> usize
     ensures { result ≡ length (words line.now) }
 {
