@@ -14,7 +14,8 @@ numbers_text-append (n ∷ ns) ms =
 
 -- the line of a card, put together piece by piece
 pub line_text : (keyword first further l0 l1 l2 l3 l4 : List ℕ)
-    → l0 ≡ [] → l1 ≡ l0 ++ keyword → l2 ≡ l1 ++ numbers_text first → l3 ≡ l2 ++ numbers_text further → l4 ≡ l3 ++ 10 ∷ []
+    → l0 ≡ [] → l1 ≡ l0 ++ keyword → l2 ≡ l1 ++ numbers_text first → l3 ≡ l2 ++ numbers_text further
+    → l4 ≡ l3 ++ 10 ∷ []
     → l4 ≡ keyword ++ numbers_text (first ++ further) ++ 10 ∷ []
 line_text keyword first further l0 l1 l2 l3 l4 clear begun put more closed =
     let word : l1 ≡ keyword = begun ∙ ap (λ (l : List ℕ). l ++ keyword) clear in

@@ -85,56 +85,64 @@ pub nodes_written : (net : Network) (a b c : Option (List ℕ)) → Writes a b (
     → (nodes : List NodeValue) → nodes ≡ net.nodes → Adds b c (cards_text (flat_map node_cards nodes))
     → Writes a c (from_links net) (deck_cards net)
 nodes_written net a b c before nodes same h =
-    part_written a b c (flat_map node_cards net.nodes) (from_links net) (deck_cards net) before (flat_map node_cards nodes) (ap (flat_map node_cards) same) h
+    part_written a b c (flat_map node_cards net.nodes) (from_links net) (deck_cards net) before
+    (flat_map node_cards nodes) (ap (flat_map node_cards) same) h
 
 -- the text broke off in the nodes
 pub nodes_broken : (net : Network) (a b c : Option (List ℕ)) → Writes a b (from_nodes net) (deck_cards net)
     → (nodes : List NodeValue) → nodes ≡ net.nodes → AddsFront b c (cards_text (flat_map node_cards nodes))
     → AddsFront a c (cards_text (deck_cards net))
 nodes_broken net a b c before nodes same h =
-    part_broken a b c (flat_map node_cards net.nodes) (from_links net) (deck_cards net) before (flat_map node_cards nodes) (ap (flat_map node_cards) same) h
+    part_broken a b c (flat_map node_cards net.nodes) (from_links net) (deck_cards net) before
+    (flat_map node_cards nodes) (ap (flat_map node_cards) same) h
 
 -- the links are written
 pub links_written : (net : Network) (a b c : Option (List ℕ)) → Writes a b (from_links net) (deck_cards net)
     → (links : List LinkValue) → links ≡ net.links → Adds b c (cards_text (map link_card links))
     → Writes a c (from_feeds net) (deck_cards net)
 links_written net a b c before links same h =
-    part_written a b c (map link_card net.links) (from_feeds net) (deck_cards net) before (map link_card links) (ap (map link_card) same) h
+    part_written a b c (map link_card net.links) (from_feeds net) (deck_cards net) before (map link_card links)
+    (ap (map link_card) same) h
 
 -- the text broke off in the links
 pub links_broken : (net : Network) (a b c : Option (List ℕ)) → Writes a b (from_links net) (deck_cards net)
     → (links : List LinkValue) → links ≡ net.links → AddsFront b c (cards_text (map link_card links))
     → AddsFront a c (cards_text (deck_cards net))
 links_broken net a b c before links same h =
-    part_broken a b c (map link_card net.links) (from_feeds net) (deck_cards net) before (map link_card links) (ap (map link_card) same) h
+    part_broken a b c (map link_card net.links) (from_feeds net) (deck_cards net) before (map link_card links)
+    (ap (map link_card) same) h
 
 -- the feeds are written
 pub feeds_written : (net : Network) (a b c : Option (List ℕ)) → Writes a b (from_feeds net) (deck_cards net)
     → (links : List LinkValue) → links ≡ net.links → Adds b c (cards_text (flat_map feed_cards links))
     → Writes a c (from_rules net) (deck_cards net)
 feeds_written net a b c before links same h =
-    part_written a b c (flat_map feed_cards net.links) (from_rules net) (deck_cards net) before (flat_map feed_cards links) (ap (flat_map feed_cards) same) h
+    part_written a b c (flat_map feed_cards net.links) (from_rules net) (deck_cards net) before
+    (flat_map feed_cards links) (ap (flat_map feed_cards) same) h
 
 -- the text broke off in the feeds
 pub feeds_broken : (net : Network) (a b c : Option (List ℕ)) → Writes a b (from_feeds net) (deck_cards net)
     → (links : List LinkValue) → links ≡ net.links → AddsFront b c (cards_text (flat_map feed_cards links))
     → AddsFront a c (cards_text (deck_cards net))
 feeds_broken net a b c before links same h =
-    part_broken a b c (flat_map feed_cards net.links) (from_rules net) (deck_cards net) before (flat_map feed_cards links) (ap (flat_map feed_cards) same) h
+    part_broken a b c (flat_map feed_cards net.links) (from_rules net) (deck_cards net) before
+    (flat_map feed_cards links) (ap (flat_map feed_cards) same) h
 
 -- the give-way rules are written
 pub rules_written : (net : Network) (a b c : Option (List ℕ)) → Writes a b (from_rules net) (deck_cards net)
     → (links : List LinkValue) → links ≡ net.links → Adds b c (cards_text (flat_map rule_cards links))
     → Writes a c (from_plan net) (deck_cards net)
 rules_written net a b c before links same h =
-    part_written a b c (flat_map rule_cards net.links) (from_plan net) (deck_cards net) before (flat_map rule_cards links) (ap (flat_map rule_cards) same) h
+    part_written a b c (flat_map rule_cards net.links) (from_plan net) (deck_cards net) before
+    (flat_map rule_cards links) (ap (flat_map rule_cards) same) h
 
 -- the text broke off in the give-way rules
 pub rules_broken : (net : Network) (a b c : Option (List ℕ)) → Writes a b (from_rules net) (deck_cards net)
     → (links : List LinkValue) → links ≡ net.links → AddsFront b c (cards_text (flat_map rule_cards links))
     → AddsFront a c (cards_text (deck_cards net))
 rules_broken net a b c before links same h =
-    part_broken a b c (flat_map rule_cards net.links) (from_plan net) (deck_cards net) before (flat_map rule_cards links) (ap (flat_map rule_cards) same) h
+    part_broken a b c (flat_map rule_cards net.links) (from_plan net) (deck_cards net) before
+    (flat_map rule_cards links) (ap (flat_map rule_cards) same) h
 
 -- the climb plan is written
 pub plan_written : (net : Network) (a b c : Option (List ℕ)) → Writes a b (from_plan net) (deck_cards net)

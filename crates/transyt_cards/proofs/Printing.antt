@@ -41,7 +41,8 @@ begins told all = record { written = []; whole = refl; adds = adds_nothing told 
 
 -- some cards more
 pub goes_on : (a b c : Option (List ℕ)) (rest all : List Card) → Writes a b rest all
-    → (cards : List Card) → Adds b c (cards_text cards) → (left : List Card) → rest ≡ cards ++ left → Writes a c left all
+    → (cards : List Card) → Adds b c (cards_text cards) → (left : List Card) → rest ≡ cards ++ left
+    → Writes a c left all
 goes_on a b c rest all before cards more left is = record {
   written = before.written ++ cards;
   whole =
@@ -79,7 +80,8 @@ pub card_front : (a b : Option (List ℕ)) (card : Card)
 card_front a b card h = subst (AddsFront a b) (cards_text-one card) h
 
 -- the same cards, named otherwise
-pub adds_same : (a b : Option (List ℕ)) (cs ds : List Card) → cs ≡ ds → Adds a b (cards_text cs) → Adds a b (cards_text ds)
+pub adds_same : (a b : Option (List ℕ)) (cs ds : List Card) → cs ≡ ds → Adds a b (cards_text cs)
+    → Adds a b (cards_text ds)
 adds_same a b cs ds same h = subst (λ (cards : List Card). Adds a b (cards_text cards)) same h
 
 -- some first bytes of the same cards, named otherwise

@@ -17,8 +17,11 @@ use Rattle.transyt_deck.specs.Deck.{Complete, Seen, card_code, complete, deck, s
 use Rattle.transyt_deck.specs.Next.{places_with, seen_with}
 use Rattle.transyt_deck.proofs.Blocks.{at_nodes, code_none, nodes_go, within_true}
 use Rattle.transyt_deck.proofs.CardTexts.{Fits}
-use Rattle.transyt_deck.proofs.Fitting.{all_feeds_inside, all_rules_inside, cycle_inside, inside_both, links_inside, nodes_inside, plan_inside}
-use Rattle.transyt_deck.proofs.LinkBlocks.{TakesFeeds, feeds_go, links_go, rules_go, state}
+use Rattle.transyt_deck.proofs.Fitting.{cycle_inside, inside_both, nodes_inside, plan_inside}
+use Rattle.transyt_deck.proofs.FittingLinks.{all_feeds_inside, all_rules_inside, links_inside}
+use Rattle.transyt_deck.proofs.LinkBlocks.{TakesFeeds, links_go, state}
+use Rattle.transyt_deck.proofs.FeedBlocks.{feeds_go}
+use Rattle.transyt_deck.proofs.RuleBlocks.{rules_go}
 use Rattle.transyt_deck.proofs.Taking.{AreInside, AreShort, deck_ends, deck_goes_on, goes, goes_both, goes_one, lines_go, lines_text, seen_card}
 
 -- no node of a valid network has a fault

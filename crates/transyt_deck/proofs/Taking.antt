@@ -14,7 +14,8 @@ use Rattle.transyt_deck.specs.InPlace.{is_end}
 use Rattle.transyt_deck.specs.Deck.{Seen, card_code, code, code_at, complete, deck_after, deck_step, is_end_line, seen}
 use Rattle.transyt_deck.specs.Next.{form_with, next_card, seen_with}
 use Rattle.transyt_deck.proofs.After.{after_next}
-use Rattle.transyt_deck.proofs.CardTexts.{Fits, card_back, card_plain, card_short, is_small, row_card, syntax_card, word_in}
+use Rattle.transyt_deck.proofs.NumberTexts.{is_small}
+use Rattle.transyt_deck.proofs.CardTexts.{Fits, card_back, card_plain, card_short, row_card, syntax_card, word_in}
 
 -- the state after cards, where each is accepted
 abbrev pub go : Option ℕ → Option Seen → Option Seen

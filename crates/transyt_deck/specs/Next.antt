@@ -40,7 +40,8 @@ draft_with (Form f) draft = draft
 draft_with (Cycle f) draft = Some (empty f)
 draft_with (Node number offset) draft = option_map (λ (d : Network). with_node d number offset) draft
 draft_with (StageOf s) draft = option_map (λ (d : Network). with_stage d s) draft
-draft_with (LinkOf l) draft = option_map (λ (d : Network). with_link d (record l { feeds = []; gives_way = None })) draft
+draft_with (LinkOf l) draft =
+    option_map (λ (d : Network). with_link d (record l { feeds = []; gives_way = None })) draft
 draft_with (FeedOf link f) draft = option_map (with_links link (add_feed f)) draft
 draft_with (Yield link g) draft = option_map (with_links link (set_rule g)) draft
 draft_with (Steps p) draft = option_map (λ (d : Network). with_plan d p) draft

@@ -15,7 +15,8 @@ loop-link-preserved g c =
     ap (map (FeedOf number)) c.deref.ensures.value ∙ ap feed_cards c.link.view_is in
     record {
       writes =
-          item_written (flat_map feed_cards) c.args.links.now i link link _ _ _ c.loop-link-test.true c.link-item.is (feed_cards link) (λ _. refl)
+          item_written (flat_map feed_cards) c.args.links.now i link link _ _ _ c.loop-link-test.true c.link-item.is
+          (feed_cards link) (λ _. refl)
           c.loop-link.invariant.writes (adds_same _ _ _ _ same c.in_ok-print_feeds_of.ensures.ok);
       later = omega (arith, c.loop-link.invariant.later, c.print_feeds_of.ensures.cause.later);
     }
@@ -29,5 +30,6 @@ returns-in_err-print_feeds_of-clause-err g c =
     let same : map (FeedOf number) c.deref.result.now ≡ feed_cards link =
     ap (map (FeedOf number)) c.deref.ensures.value ∙ ap feed_cards c.link.view_is in
     on_err _
-    (item_broken (flat_map feed_cards) c.args.links.now i link link _ _ _ c.loop-link-test.true c.link-item.is (feed_cards link) (λ _. refl)
+    (item_broken (flat_map feed_cards) c.args.links.now i link link _ _ _ c.loop-link-test.true c.link-item.is
+    (feed_cards link) (λ _. refl)
     c.loop-link.invariant.writes (front_same _ _ _ _ same c.in_err-print_feeds_of.ensures.err))

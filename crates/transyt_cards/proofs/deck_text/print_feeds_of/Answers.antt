@@ -12,7 +12,8 @@ loop-feed-preserved g c =
     let feed = get_or c.args.feeds.now i no_feed in
     record {
       writes =
-          item_written (map (FeedOf c.args.link)) c.args.feeds.now i no_feed feed _ _ _ c.loop-feed-test.true refl (FeedOf c.args.link feed ∷ []) (λ _. refl)
+          item_written (map (FeedOf c.args.link)) c.args.feeds.now i no_feed feed _ _ _ c.loop-feed-test.true refl
+          (FeedOf c.args.link feed ∷ []) (λ _. refl)
           c.loop-feed.invariant.writes (one_card _ _ (FeedOf c.args.link feed) c.in_ok-print_card.ensures.ok);
       later = omega (arith, c.loop-feed.invariant.later, c.print_card.ensures.cause.later);
     }
@@ -23,5 +24,6 @@ returns-in_err-print_card-clause-err g c =
     let i = c.loop-feed.feed-index in
     let feed = get_or c.args.feeds.now i no_feed in
     on_err _
-    (item_broken (map (FeedOf c.args.link)) c.args.feeds.now i no_feed feed _ _ _ c.loop-feed-test.true refl (FeedOf c.args.link feed ∷ []) (λ _. refl)
+    (item_broken (map (FeedOf c.args.link)) c.args.feeds.now i no_feed feed _ _ _ c.loop-feed-test.true refl
+    (FeedOf c.args.link feed ∷ []) (λ _. refl)
     c.loop-feed.invariant.writes (card_front _ _ (FeedOf c.args.link feed) c.in_err-print_card.ensures.err))

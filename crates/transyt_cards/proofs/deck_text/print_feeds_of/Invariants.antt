@@ -6,6 +6,7 @@ use Rattle.transyt_cards.proofs.deck_text.print_feeds_of.Given as goal
 -- the cards before this one are written
 abbrev pub invariant-loop-feed : goal.invariant-loop-feed
 invariant-loop-feed g l = record {
-  writes : Writes (g.K.Sink.written l.fn.sink) (g.K.Sink.written l.sink) (map (FeedOf l.fn.link) (drop l.feed-index l.feeds)) (map (FeedOf l.link) l.feeds);
+  writes : Writes (g.K.Sink.written l.fn.sink) (g.K.Sink.written l.sink)
+      (map (FeedOf l.fn.link) (drop l.feed-index l.feeds)) (map (FeedOf l.link) l.feeds);
   later : g.K.Sink.faults l.fn.sink ≤ g.K.Sink.faults l.sink;
 }

@@ -11,7 +11,8 @@ loop-link-preserved g c =
     let link = c.link-item.result in
     record {
       writes =
-          item_written (map link_card) c.args.links.now i link link _ _ _ c.loop-link-test.true c.link-item.is (link_card link ∷ []) (λ _. refl)
+          item_written (map link_card) c.args.links.now i link link _ _ _ c.loop-link-test.true c.link-item.is
+          (link_card link ∷ []) (λ _. refl)
           c.loop-link.invariant.writes c.in_ok-print_link.ensures.ok;
       later = omega (arith, c.loop-link.invariant.later, c.print_link.ensures.cause.later);
     }
@@ -22,5 +23,6 @@ returns-in_err-print_link-clause-err g c =
     let i = c.loop-link.link-index in
     let link = c.link-item.result in
     on_err _
-    (item_broken (map link_card) c.args.links.now i link link _ _ _ c.loop-link-test.true c.link-item.is (link_card link ∷ []) (λ _. refl)
+    (item_broken (map link_card) c.args.links.now i link link _ _ _ c.loop-link-test.true c.link-item.is
+    (link_card link ∷ []) (λ _. refl)
     c.loop-link.invariant.writes c.in_err-print_link.ensures.err)

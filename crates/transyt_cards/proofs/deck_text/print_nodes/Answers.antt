@@ -12,7 +12,8 @@ loop-node-preserved g c =
     let node = c.node-item.result in
     record {
       writes =
-          item_written (flat_map node_cards) c.args.nodes.now i node node _ _ _ c.loop-node-test.true c.node-item.is (node_cards node) (λ _. refl)
+          item_written (flat_map node_cards) c.args.nodes.now i node node _ _ _ c.loop-node-test.true c.node-item.is
+          (node_cards node) (λ _. refl)
           c.loop-node.invariant.writes c.in_ok-print_node.ensures.ok;
       later = omega (arith, c.loop-node.invariant.later, c.print_node.ensures.cause.later);
     }
@@ -23,5 +24,6 @@ returns-in_err-print_node-clause-err g c =
     let i = c.loop-node.node-index in
     let node = c.node-item.result in
     on_err _
-    (item_broken (flat_map node_cards) c.args.nodes.now i node node _ _ _ c.loop-node-test.true c.node-item.is (node_cards node) (λ _. refl)
+    (item_broken (flat_map node_cards) c.args.nodes.now i node node _ _ _ c.loop-node-test.true c.node-item.is
+    (node_cards node) (λ _. refl)
     c.loop-node.invariant.writes c.in_err-print_node.ensures.err)

@@ -12,7 +12,8 @@ loop-link-preserved g c =
     let link = c.link-item.result in
     record {
       writes =
-          item_written (flat_map rule_cards) c.args.links.now i link link _ _ _ c.loop-link-test.true c.link-item.is (rule_cards link) (λ _. refl)
+          item_written (flat_map rule_cards) c.args.links.now i link link _ _ _ c.loop-link-test.true c.link-item.is
+          (rule_cards link) (λ _. refl)
           c.loop-link.invariant.writes c.in_ok-print_rule.ensures.ok;
       later = omega (arith, c.loop-link.invariant.later, c.print_rule.ensures.cause.later);
     }
@@ -23,5 +24,6 @@ returns-in_err-print_rule-clause-err g c =
     let i = c.loop-link.link-index in
     let link = c.link-item.result in
     on_err _
-    (item_broken (flat_map rule_cards) c.args.links.now i link link _ _ _ c.loop-link-test.true c.link-item.is (rule_cards link) (λ _. refl)
+    (item_broken (flat_map rule_cards) c.args.links.now i link link _ _ _ c.loop-link-test.true c.link-item.is
+    (rule_cards link) (λ _. refl)
     c.loop-link.invariant.writes c.in_err-print_rule.ensures.err)

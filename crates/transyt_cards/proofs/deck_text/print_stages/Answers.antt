@@ -12,7 +12,8 @@ loop-stage-preserved g c =
     let stage = get_or c.args.stages.now i no_stage in
     record {
       writes =
-          item_written (map StageOf) c.args.stages.now i no_stage stage _ _ _ c.loop-stage-test.true refl (StageOf stage ∷ []) (λ _. refl)
+          item_written (map StageOf) c.args.stages.now i no_stage stage _ _ _ c.loop-stage-test.true refl
+          (StageOf stage ∷ []) (λ _. refl)
           c.loop-stage.invariant.writes (one_card _ _ (StageOf stage) c.in_ok-print_card.ensures.ok);
       later = omega (arith, c.loop-stage.invariant.later, c.print_card.ensures.cause.later);
     }
@@ -23,5 +24,6 @@ returns-in_err-print_card-clause-err g c =
     let i = c.loop-stage.stage-index in
     let stage = get_or c.args.stages.now i no_stage in
     on_err _
-    (item_broken (map StageOf) c.args.stages.now i no_stage stage _ _ _ c.loop-stage-test.true refl (StageOf stage ∷ []) (λ _. refl)
+    (item_broken (map StageOf) c.args.stages.now i no_stage stage _ _ _ c.loop-stage-test.true refl
+    (StageOf stage ∷ []) (λ _. refl)
     c.loop-stage.invariant.writes (card_front _ _ (StageOf stage) c.in_err-print_card.ensures.err))

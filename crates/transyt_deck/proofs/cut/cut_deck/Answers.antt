@@ -1,4 +1,4 @@
-use Rattle.std.proofs.Common.{◌≡◌, ℕ, ◌+◌, ◌-◌, List, [], ◌∷◌, ◌++◌, map, length, Result, Ok, IfOk, IfErr, sym, subst, ap, ◌∙◌, arith, length-append, append_assoc}
+use Rattle.std.proofs.Common.{◌≡◌, ℕ, ◌+◌, ◌-◌, List, [], ◌∷◌, ◌++◌, length, Result, Ok, IfOk, IfErr, sym, subst, ap, ◌∙◌, arith, length-append, append_assoc}
 use Rattle.transyt_io.specs.Lines.{lines, behind_first}
 use Rattle.transyt_net.specs.Parts.{Network}
 use Rattle.transyt_deck.specs.declared.cut.Cut.{Cut}
@@ -8,7 +8,7 @@ use Rattle.transyt_deck.specs.declared.reader.Progress.TheVariants as progress
 use Rattle.transyt_deck.specs.Deck.{deck, deck_after, Complete}
 use Rattle.transyt_deck.specs.Cut.{RefusesDeck, behind, cut_by, cut_of}
 use Rattle.transyt_deck.specs.Reader.{Takes}
-use Rattle.transyt_deck.proofs.Accepting.{end_has_draft, deck_more, deck_complete}
+use Rattle.transyt_deck.proofs.AcceptedEnd.{end_has_draft, deck_more, deck_complete}
 use Rattle.transyt_deck.proofs.BehindLines.{behind_more}
 use Rattle.transyt_deck.proofs.cut.cut_deck.Goals as goal
 

@@ -9,7 +9,8 @@ use Rattle.transyt_deck.specs.Rows.{card_of}
 use Rattle.transyt_deck.specs.Next.{places_with}
 use Rattle.transyt_deck.specs.declared.places.Places.{Places}
 use Rattle.transyt_deck.specs.Reader.{ReaderValue}
-use Rattle.transyt_deck.proofs.Accepting.{IsRow, room_at, tied_next, code_of_place, code_of_card, end_of_row, seen_new}
+use Rattle.transyt_deck.proofs.TiedPlaces.{room_at, tied_next}
+use Rattle.transyt_deck.proofs.Accepting.{IsRow, code_of_place, code_of_card, end_of_row, seen_new}
 use Rattle.transyt_deck.proofs.reader.CardReader.accept.Goals as goal
 
 pub returns-then-not-allow-clause-refused : goal.returns-then-not-allow-clause-refused

@@ -3,7 +3,7 @@ use Rattle.std.proofs.lemmas.Bool.{both_ways}
 use Rattle.std.proofs.lemmas.Option.{none-some}
 use Rattle.transyt_net.specs.Parts.{Network}
 use Rattle.transyt_deck.specs.Reader.{ReaderValue}
-use Rattle.transyt_deck.proofs.Accepting.{end_placed, end_draft}
+use Rattle.transyt_deck.proofs.AcceptedEnd.{end_placed, end_draft}
 use Rattle.transyt_deck.proofs.reader.CardReader.finish.Goals.{then-self, else-self}
 use Rattle.transyt_deck.proofs.reader.CardReader.finish.Goals as goal
 
