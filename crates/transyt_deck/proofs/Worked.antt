@@ -4,8 +4,10 @@ use Rattle.transyt_deck.specs.Deck.{code, deck}
 use Rattle.transyt_deck.specs.WorkedDecks.{worked}
 use Rattle.transyt_deck.specs.CodesInOrder.{in_order}
 
+-- each worked deck comes out as it is written
 pub all_worked : map (λ row. deck row.0) worked ≡ map (λ row. row.1) worked
 all_worked = refl
 
+-- each line has the code that is written beside it
 pub all_in_order : map (λ row. code row.0 row.1) in_order ≡ map (λ row. Some row.2) in_order
 all_in_order = refl
