@@ -1,5 +1,6 @@
 -- An accepted END, and the deck behind a line.
-use Rattle.std.proofs.Common.{◌≡◌, ℕ, ◌+◌, ◌||◌, List, [], ◌∷◌, ◌++◌, length, Bool, true, false, cond, not, Option, Some, None, refl, sym, ◌∙◌, ap, unwrap_or, option_and_then}
+use Rattle.std.proofs.Common.{◌≡◌, ℕ, ◌+◌, ◌||◌, List, [], ◌∷◌, ◌++◌, length, Bool, true, false, cond, not, Option}
+use Rattle.std.proofs.Common.{Some, None, refl, sym, ◌∙◌, ap, unwrap_or, option_and_then}
 use Rattle.std.specs.Option.{option_map}
 use Rattle.std.specs.List.{list_any, filter_map}
 use Rattle.transyt_io.specs.Lines.{is_skipped}
@@ -12,7 +13,8 @@ use Rattle.transyt_deck.specs.Cards.{Card}
 use Rattle.transyt_deck.specs.Rows.{card_of, row_of}
 use Rattle.transyt_deck.specs.Picks.{cards_of, draft_of, frame_in, last_of, network_with}
 use Rattle.transyt_deck.specs.InPlace.{in_place, is_cycle, is_end}
-use Rattle.transyt_deck.specs.Deck.{Complete, Seen, card_code, card_in, code, code_at, counts_of, deck_after, deck_step, fault_code, fault_in, is_end_line, plan_code, plan_fault_in, seen}
+use Rattle.transyt_deck.specs.Deck.{Complete, Seen, card_code, card_in, code, code_at, counts_of, deck_after}
+use Rattle.transyt_deck.specs.Deck.{deck_step, fault_code, fault_in, is_end_line, plan_code, plan_fault_in, seen}
 use Rattle.transyt_deck.specs.Next.{next_card, seen_with}
 use Rattle.transyt_deck.specs.Reader.{Ends}
 use Rattle.transyt_deck.proofs.After.{after_next}

@@ -1,5 +1,6 @@
 -- What a line comes to, by its row.
-use Rattle.std.proofs.Common.{◌≡◌, ℕ, ◌+◌, List, [], ◌∷◌, ◌++◌, length, true, false, cond, not, Option, Some, None, refl, sym, subst, ◌∙◌, ap, unwrap_or, option_and_then, arith, length-append}
+use Rattle.std.proofs.Common.{◌≡◌, ℕ, ◌+◌, List, [], ◌∷◌, ◌++◌, length, true, false, cond, not, Option, Some, None}
+use Rattle.std.proofs.Common.{refl, sym, subst, ◌∙◌, ap, unwrap_or, option_and_then, arith, length-append}
 use Rattle.std.specs.Option.{option_map}
 use Rattle.transyt_io.specs.Lines.{is_skipped}
 use Rattle.transyt_net.specs.Parts.{Network}
@@ -10,7 +11,8 @@ use Rattle.transyt_deck.specs.declared.places.Places.{Places}
 use Rattle.transyt_deck.specs.declared.reader.Progress.{Progress}
 use Rattle.transyt_deck.specs.Rows.{card_of, row_of}
 use Rattle.transyt_deck.specs.InPlace.{in_place, is_end}
-use Rattle.transyt_deck.specs.Deck.{Seen, card_code, code_at, counts_of, fault_code, fault_in, is_end_line, plan_code, plan_fault_in}
+use Rattle.transyt_deck.specs.Deck.{Seen, card_code, code_at, counts_of, fault_code, fault_in, is_end_line, plan_code}
+use Rattle.transyt_deck.specs.Deck.{plan_fault_in}
 use Rattle.transyt_deck.specs.Next.{draft_with, form_with, next, next_card, places_with, seen_with}
 use Rattle.transyt_deck.specs.Stops.{codes_in}
 use Rattle.transyt_deck.specs.Reader.{Accepts, ReaderValue, Refuses, Takes, reading}

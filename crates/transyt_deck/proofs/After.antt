@@ -1,5 +1,6 @@
 -- What lines have come to, line by line.
-use Rattle.std.proofs.Common.{◌≡◌, ℕ, List, [], ◌∷◌, ◌++◌, map, Bool, true, false, cond, not, Option, Some, None, refl, sym, ◌∙◌, ap, unwrap_or, is_some, option_and_then, ◌⊎◌, inl, inr}
+use Rattle.std.proofs.Common.{◌≡◌, ℕ, List, [], ◌∷◌, ◌++◌, map, Bool, true, false, cond, not, Option, Some, None}
+use Rattle.std.proofs.Common.{refl, sym, ◌∙◌, ap, unwrap_or, is_some, option_and_then, ◌⊎◌, inl, inr}
 use Rattle.std.specs.List.{filter_map}
 use Rattle.std.specs.Option.{option_map}
 use Rattle.std.proofs.lemmas.List.{map-append}

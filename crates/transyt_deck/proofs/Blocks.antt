@@ -1,5 +1,7 @@
 -- The NODE and STAGE cards of a valid network make its nodes again.
-use Rattle.std.proofs.Common.{◌≡◌, ℕ, ◌+◌, ◌-◌, ◌<◌, ◌≤◌, nat_le, List, [], ◌∷◌, ◌++◌, map, length, Bool, true, false, cond, not, ◌&&◌, Some, None, refl, sym, ◌∙◌, ap, arith, append_assoc, flat_map, length-append, slice_get, All}
+use Rattle.std.proofs.Common.{◌≡◌, ℕ, ◌+◌, ◌-◌, ◌<◌, ◌≤◌, nat_le, List, [], ◌∷◌, ◌++◌, map, length, Bool, true, false}
+use Rattle.std.proofs.Common.{cond, not, ◌&&◌, Some, None, refl, sym, ◌∙◌, ap, arith, append_assoc, flat_map}
+use Rattle.std.proofs.Common.{length-append, slice_get, All}
 use Rattle.std.specs.List.{list_all}
 use Rattle.std.specs.Option.{option_map}
 use Rattle.std.proofs.lemmas.List.{append-nil}
@@ -9,7 +11,8 @@ use Rattle.transyt_net.specs.declared.frame.Frame.{Frame}
 use Rattle.transyt_net.specs.declared.draft.DraftFault.TheVariants.{Range, TooMany, Twice}
 use Rattle.transyt_net.specs.declared.node.Stage.{Stage}
 use Rattle.transyt_net.specs.Parts.{NodeValue, network_of}
-use Rattle.transyt_net.specs.Valid.{IsNode, IsStage, all_differ, is_among, node_number, node_numbers, on_place, stage_total, within}
+use Rattle.transyt_net.specs.Valid.{IsNode, IsStage, all_differ, is_among, node_number, node_numbers, on_place}
+use Rattle.transyt_net.specs.Valid.{stage_total, within}
 use Rattle.transyt_net.specs.Faults.{add_stage, last_place, node_in_range, stage_in_range}
 use Rattle.transyt_syntax.specs.Findings.{first_found, when}
 use Rattle.transyt_deck.specs.declared.places.Places.{Places}

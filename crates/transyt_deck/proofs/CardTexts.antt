@@ -1,5 +1,7 @@
 -- A card's text reads back as the card.
-use Rattle.std.proofs.Common.{◌≡◌, ℕ, ◌<◌, ◌≤◌, nat_lt, List, [], ◌∷◌, map, length, Bool, true, false, cond, not, ◌&&◌, Option, Some, None, refl, ◌∙◌, ap, unwrap_or, is_some, option_and_then, decimal, arith, length-append}
+use Rattle.std.proofs.Common.{◌≡◌, ℕ, ◌<◌, ◌≤◌, nat_lt, List, [], ◌∷◌, map, length, Bool, true, false, cond, not}
+use Rattle.std.proofs.Common.{◌&&◌, Option, Some, None, refl, ◌∙◌, ap, unwrap_or, is_some, option_and_then, decimal}
+use Rattle.std.proofs.Common.{arith, length-append}
 use Rattle.std.specs.List.{list_all}
 use Rattle.std.specs.Option.{option_map}
 use Rattle.std.proofs.lemmas.List.Folds.{list_all-append}
@@ -7,13 +9,16 @@ use Rattle.std.proofs.lemmas.Bool.Decides.{nat_tests}
 use Rattle.std.proofs.lemmas.Bool.{and_from}
 use Rattle.transyt_io.specs.Lines.{is_blank, is_skipped, words}
 use Rattle.transyt_syntax.specs.Findings.{first_found, when}
-use Rattle.transyt_syntax.specs.Syntax.{all_numbers, first_word, further_words, is_count, is_plain, named, numbers_of, syntax_code}
+use Rattle.transyt_syntax.specs.Syntax.{all_numbers, first_word, further_words, is_count, is_plain, named, numbers_of}
+use Rattle.transyt_syntax.specs.Syntax.{syntax_code}
 use Rattle.transyt_deck.specs.declared.keyword.CardWord.{CardWord}
-use Rattle.transyt_deck.specs.Cards.{Card, Cycle, End, FeedOf, Form, LinkOf, Node, StageOf, Steps, Yield, card_text, keyword_in, numbers_in, numbers_text}
+use Rattle.transyt_deck.specs.Cards.{Card, Cycle, End, FeedOf, Form, LinkOf, Node, StageOf, Steps, Yield, card_text}
+use Rattle.transyt_deck.specs.Cards.{keyword_in, numbers_in, numbers_text}
 use Rattle.transyt_deck.specs.Rows.{card_counts, card_of, card_word, card_words, row_of}
 use Rattle.transyt_deck.specs.Deck.{card_in, counts_of}
 use Rattle.transyt_deck.specs.declared.keyword.CardWord.TheVariants as w
-use Rattle.transyt_deck.proofs.NumberTexts.{is_small, length_decimals, numbers_back, numbers_plain, numbers_short, words_text}
+use Rattle.transyt_deck.proofs.NumberTexts.{is_small, length_decimals, numbers_back, numbers_plain, numbers_short}
+use Rattle.transyt_deck.proofs.NumberTexts.{words_text}
 
 keyword_tests : (card : Card)
     → (list_all (λ b. not (is_blank b)) (keyword_in card) ≡ true) × (0 < length (keyword_in card))

@@ -1,12 +1,15 @@
 -- The FEED cards of a valid network make the feeds of its links again.
-use Rattle.std.proofs.Common.{◌≡◌, ℕ, ◌+◌, ◌<◌, ◌≤◌, nat_le, List, [], ◌∷◌, ◌++◌, map, length, Bool, true, false, cond, not, ◌&&◌, ◌||◌, Some, None, refl, sym, ◌∙◌, ap, arith, append_assoc, flat_map, length-append, All}
+use Rattle.std.proofs.Common.{◌≡◌, ℕ, ◌+◌, ◌<◌, ◌≤◌, nat_le, List, [], ◌∷◌, ◌++◌, map, length, Bool, true, false}
+use Rattle.std.proofs.Common.{cond, not, ◌&&◌, ◌||◌, Some, None, refl, sym, ◌∙◌, ap, arith, append_assoc, flat_map}
+use Rattle.std.proofs.Common.{length-append, All}
 use Rattle.std.proofs.lemmas.List.{append-nil, map-append}
 use Rattle.std.proofs.lemmas.List.Elements.{All-head, All-tail}
 use Rattle.std.proofs.lemmas.Bool.{le-leb, lt-leb}
 use Rattle.transyt_net.specs.declared.link.Feed.{Feed}
 use Rattle.transyt_net.specs.declared.draft.DraftFault.TheVariants.{Range, TooMany, Twice, Unknown}
 use Rattle.transyt_net.specs.Parts.{LinkValue, Network}
-use Rattle.transyt_net.specs.Valid.{IsFeed, all_differ, feeders, feeds_at, feeds_in, is_among, is_fed, link_number, link_numbers}
+use Rattle.transyt_net.specs.Valid.{IsFeed, all_differ, feeders, feeds_at, feeds_in, is_among, is_fed, link_number}
+use Rattle.transyt_net.specs.Valid.{link_numbers}
 use Rattle.transyt_net.specs.Faults.{add_feed, feed_in_range}
 use Rattle.transyt_deck.specs.declared.places.Places.{Places}
 use Rattle.transyt_deck.specs.Cards.{FeedOf, feed_cards}
@@ -15,7 +18,8 @@ use Rattle.transyt_deck.proofs.Blocks.{code_none, within_true}
 use Rattle.transyt_deck.proofs.LinkNumbers.{any_key, key_apart, numbered_one, onto_one}
 use Rattle.transyt_deck.proofs.OneMore.{map_twice}
 use Rattle.transyt_deck.proofs.Taking.{goes, goes_both, goes_one}
-use Rattle.transyt_deck.proofs.LinkBlocks.{AreLinks, IsOne, Names, TakesFeeds, bare, fed, middle, moved, numbers_two, part, state}
+use Rattle.transyt_deck.proofs.LinkBlocks.{AreLinks, IsOne, Names, TakesFeeds, bare, fed, middle, moved, numbers_two}
+use Rattle.transyt_deck.proofs.LinkBlocks.{part, state}
 
 names_part : (net : Network) (us vs : List LinkValue) (l : LinkValue) (fs gs : List Feed)
     → Names net (us ++ part l fs ∷ vs) → Names net (us ++ part l gs ∷ vs)

@@ -1,5 +1,6 @@
 -- Each card of a valid network is one that a line can say: those of its frame, its nodes and its plan.
-use Rattle.std.proofs.Common.{◌≡◌, ℕ, suc, ◌<◌, ◌≤◌, nat_le, List, [], ◌∷◌, ◌++◌, map, length, true, ◌&&◌, Option, Some, None, refl, arith, flat_map, All, IfSome}
+use Rattle.std.proofs.Common.{◌≡◌, ℕ, suc, ◌<◌, ◌≤◌, nat_le, List, [], ◌∷◌, ◌++◌, map, length, true, ◌&&◌, Option}
+use Rattle.std.proofs.Common.{Some, None, refl, arith, flat_map, All, IfSome}
 use Rattle.std.specs.List.{list_all}
 use Rattle.std.proofs.lemmas.List.Elements.{All-head, All-tail}
 use Rattle.std.proofs.lemmas.Bool.{and_from, le-leb, lt-ltb}

@@ -1,12 +1,14 @@
 -- Each card of a valid network is one that a line can say: those of its links.
-use Rattle.std.proofs.Common.{◌≡◌, ℕ, suc, ◌<◌, ◌≤◌, nat_eq, nat_le, List, [], ◌∷◌, map, length, Bool, true, false, cond, ◌&&◌, Option, Some, None, refl, ◌∙◌, ap, arith, flat_map, inl, inr, All, IfSome}
+use Rattle.std.proofs.Common.{◌≡◌, ℕ, suc, ◌<◌, ◌≤◌, nat_eq, nat_le, List, [], ◌∷◌, map, length, Bool, true, false}
+use Rattle.std.proofs.Common.{cond, ◌&&◌, Option, Some, None, refl, ◌∙◌, ap, arith, flat_map, inl, inr, All, IfSome}
 use Rattle.std.specs.List.{list_all}
 use Rattle.std.proofs.lemmas.List.Elements.{All-head, All-tail}
 use Rattle.std.proofs.lemmas.Bool.{and_from, or_cases, eqb-true, le-leb}
 use Rattle.transyt_net.specs.declared.link.Feed.{Feed}
 use Rattle.transyt_net.specs.declared.link.GiveWay.{GiveWay}
 use Rattle.transyt_net.specs.Parts.{LinkValue, Network, NodeValue}
-use Rattle.transyt_net.specs.Valid.{IsFeed, IsLink, IsNode, IsRule, is_among, link_numbers, node_number, node_numbers, numbered, stage_total, stages_at}
+use Rattle.transyt_net.specs.Valid.{IsFeed, IsLink, IsNode, IsRule, is_among, link_numbers, node_number, node_numbers}
+use Rattle.transyt_net.specs.Valid.{numbered, stage_total, stages_at}
 use Rattle.transyt_deck.specs.Cards.{FeedOf, Yield, feed_cards, link_card, numbers_in, rule_cards}
 use Rattle.transyt_deck.proofs.NumberTexts.{is_small}
 use Rattle.transyt_deck.proofs.LinkBlocks.{AreLinks}

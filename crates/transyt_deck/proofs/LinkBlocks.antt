@@ -1,5 +1,7 @@
 -- The LINK cards of a valid network make its links again, without feeds and rules.
-use Rattle.std.proofs.Common.{◌≡◌, ℕ, ◌+◌, ◌<◌, ◌≤◌, nat_le, List, [], ◌∷◌, ◌++◌, map, length, Bool, true, false, cond, not, ◌&&◌, ◌||◌, Some, None, refl, sym, ◌∙◌, ap, arith, append_assoc, length-append, All}
+use Rattle.std.proofs.Common.{◌≡◌, ℕ, ◌+◌, ◌<◌, ◌≤◌, nat_le, List, [], ◌∷◌, ◌++◌, map, length, Bool, true, false}
+use Rattle.std.proofs.Common.{cond, not, ◌&&◌, ◌||◌, Some, None, refl, sym, ◌∙◌, ap, arith, append_assoc}
+use Rattle.std.proofs.Common.{length-append, All}
 use Rattle.std.specs.List.{list_all}
 use Rattle.std.proofs.lemmas.List.{append-nil, map-append, length-map}
 use Rattle.std.proofs.lemmas.List.Elements.{All-head, All-tail}
@@ -7,7 +9,8 @@ use Rattle.std.proofs.lemmas.Bool.{le-leb, lt-ltb, lt-leb}
 use Rattle.transyt_net.specs.declared.link.Feed.{Feed}
 use Rattle.transyt_net.specs.declared.draft.DraftFault.TheVariants.{Range, TooMany, Twice, Unknown}
 use Rattle.transyt_net.specs.Parts.{LinkValue, Network, NodeValue, network_of}
-use Rattle.transyt_net.specs.Valid.{IsLink, all_differ, is_among, link_number, link_numbers, node_numbers, stages_at, within}
+use Rattle.transyt_net.specs.Valid.{IsLink, all_differ, is_among, link_number, link_numbers, node_numbers, stages_at}
+use Rattle.transyt_net.specs.Valid.{within}
 use Rattle.transyt_net.specs.Faults.{link_in_range}
 use Rattle.transyt_deck.specs.declared.places.Places.{Places}
 use Rattle.transyt_deck.specs.Cards.{link_card}

@@ -1,5 +1,7 @@
 -- Numbers written on a line: their words, their bytes, and what is read again.
-use Rattle.std.proofs.Common.{◌≡◌, ℕ, suc, ◌*◌, ◌<◌, ◌≤◌, nat_lt, List, [], ◌∷◌, ◌++◌, map, filter, length, Bool, true, false, cond, not, Option, Some, refl, ◌∙◌, ap, option_and_then, decimal, arith, length-append}
+use Rattle.std.proofs.Common.{◌≡◌, ℕ, suc, ◌*◌, ◌<◌, ◌≤◌, nat_lt, List, [], ◌∷◌, ◌++◌, map, filter, length, Bool}
+use Rattle.std.proofs.Common.{true, false, cond, not, Option, Some, refl, ◌∙◌, ap, option_and_then, decimal, arith}
+use Rattle.std.proofs.Common.{length-append}
 use Rattle.std.specs.List.{list_all, slice_split, onto_first}
 use Rattle.std.specs.Option.{option_map}
 use Rattle.std.specs.Char.{is_ascii_digit}

@@ -1,5 +1,6 @@
 -- What one card more changes.
-use Rattle.std.proofs.Common.{◌≡◌, List, [], ◌∷◌, ◌++◌, true, false, Option, Some, None, refl, ◌∙◌, ap, unwrap_or, is_some}
+use Rattle.std.proofs.Common.{◌≡◌, List, [], ◌∷◌, ◌++◌, true, false, Option, Some, None, refl, ◌∙◌, ap, unwrap_or}
+use Rattle.std.proofs.Common.{is_some}
 use Rattle.std.specs.List.{filter_map, list_all}
 use Rattle.std.specs.Option.{option_map}
 use Rattle.std.proofs.lemmas.Bool.{and_parts, not-true, or_parts}
@@ -8,7 +9,8 @@ use Rattle.transyt_net.specs.Parts.{Network, network_of}
 use Rattle.transyt_net.specs.Faults.{add_feed, set_rule, with_link, with_node, with_plan, with_stage}
 use Rattle.transyt_deck.specs.Cards.{Card, Cycle, End, FeedOf, Form, LinkOf, Node, StageOf, Steps, Yield}
 use Rattle.transyt_deck.specs.Picks.{draft_of, frame_in, last_of, links_of, network_with, nodes_of, plan_in}
-use Rattle.transyt_deck.specs.InPlace.{in_place, is_cycle, is_end, is_feed_or_rule, is_form, is_link, is_of_node, is_steps, places_of}
+use Rattle.transyt_deck.specs.InPlace.{in_place, is_cycle, is_end, is_feed_or_rule, is_form, is_link, is_of_node}
+use Rattle.transyt_deck.specs.InPlace.{is_steps, places_of}
 use Rattle.transyt_deck.specs.Next.{draft_with, places_with, with_links}
 use Rattle.transyt_deck.proofs.OneMore.{all_more, any_more, last_more, option_same, option_twice, picked, picked_none}
 use Rattle.transyt_deck.proofs.OneMoreNode.{nodes_end, nodes_same, nodes_stage}

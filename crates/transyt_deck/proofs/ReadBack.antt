@@ -1,5 +1,7 @@
 -- The deck text of a valid network is the deck of that network.
-use Rattle.std.proofs.Common.{◌≡◌, ℕ, ◌+◌, ◌-◌, ◌<◌, ◌≤◌, List, [], ◌∷◌, ◌++◌, map, length, Bool, true, false, cond, not, ◌&&◌, ◌||◌, Option, Some, None, refl, ◌∙◌, ap, arith, append_assoc, flat_map, length-append, All, IfSome}
+use Rattle.std.proofs.Common.{◌≡◌, ℕ, ◌+◌, ◌-◌, ◌<◌, ◌≤◌, List, [], ◌∷◌, ◌++◌, map, length, Bool, true, false, cond}
+use Rattle.std.proofs.Common.{not, ◌&&◌, ◌||◌, Option, Some, None, refl, ◌∙◌, ap, arith, append_assoc, flat_map}
+use Rattle.std.proofs.Common.{length-append, All, IfSome}
 use Rattle.std.specs.List.{list_all}
 use Rattle.std.proofs.lemmas.List.{map-append, length-map}
 use Rattle.std.proofs.lemmas.List.Elements.{All-head, All-tail}
@@ -12,7 +14,8 @@ use Rattle.transyt_net.specs.Valid.{IsFrame, IsPlan, IsSound, is_frame, within}
 use Rattle.transyt_net.specs.Plan.{IsValid, first_fault, first_of, plan_fault}
 use Rattle.transyt_syntax.specs.Findings.{when}
 use Rattle.transyt_deck.specs.declared.places.Places.{Places}
-use Rattle.transyt_deck.specs.Cards.{Card, Cycle, End, Form, Steps, card_text, cards_text, deck_cards, deck_text, feed_cards, link_card, node_cards, plan_cards, rule_cards}
+use Rattle.transyt_deck.specs.Cards.{Card, Cycle, End, Form, Steps, card_text, cards_text, deck_cards, deck_text}
+use Rattle.transyt_deck.specs.Cards.{feed_cards, link_card, node_cards, plan_cards, rule_cards}
 use Rattle.transyt_deck.specs.Deck.{Complete, Seen, card_code, complete, deck, seen}
 use Rattle.transyt_deck.specs.Next.{places_with, seen_with}
 use Rattle.transyt_deck.proofs.Blocks.{at_nodes, code_none, nodes_go, within_true}
@@ -22,7 +25,8 @@ use Rattle.transyt_deck.proofs.FittingLinks.{all_feeds_inside, all_rules_inside,
 use Rattle.transyt_deck.proofs.LinkBlocks.{TakesFeeds, links_go, state}
 use Rattle.transyt_deck.proofs.FeedBlocks.{feeds_go}
 use Rattle.transyt_deck.proofs.RuleBlocks.{rules_go}
-use Rattle.transyt_deck.proofs.Taking.{AreInside, AreShort, deck_ends, deck_goes_on, goes, goes_both, goes_one, lines_go, lines_text, seen_card}
+use Rattle.transyt_deck.proofs.Taking.{AreInside, AreShort, deck_ends, deck_goes_on, goes, goes_both, goes_one}
+use Rattle.transyt_deck.proofs.Taking.{lines_go, lines_text, seen_card}
 
 -- no node of a valid network has a fault
 no_plan_fault : (n : ℕ) (nodes : List NodeValue) → All (λ node. plan_fault n node.stages ≡ None) nodes

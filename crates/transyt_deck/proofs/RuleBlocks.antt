@@ -1,5 +1,6 @@
 -- The YIELD cards of a valid network make the rules of its links again.
-use Rattle.std.proofs.Common.{◌≡◌, List, [], ◌∷◌, ◌++◌, map, Bool, true, false, cond, not, ◌&&◌, ◌||◌, Option, Some, None, refl, sym, ◌∙◌, ap, is_some, append_assoc, flat_map, IfSome}
+use Rattle.std.proofs.Common.{◌≡◌, List, [], ◌∷◌, ◌++◌, map, Bool, true, false, cond, not, ◌&&◌, ◌||◌, Option, Some}
+use Rattle.std.proofs.Common.{None, refl, sym, ◌∙◌, ap, is_some, append_assoc, flat_map, IfSome}
 use Rattle.std.proofs.lemmas.List.Elements.{All-head, All-tail}
 use Rattle.std.proofs.lemmas.Bool.{le-leb}
 use Rattle.transyt_net.specs.declared.link.GiveWay.{GiveWay}

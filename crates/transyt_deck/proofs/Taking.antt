@@ -1,5 +1,7 @@
 -- A list of cards taken one after another, and the lines of their texts.
-use Rattle.std.proofs.Common.{◌≡◌, ℕ, zero, suc, ◌+◌, ◌-◌, ◌≤◌, ◌==◌, List, [], ◌∷◌, ◌++◌, map, length, take, Bool, true, false, cond, Option, Some, None, refl, sym, subst, ◌∙◌, ap, unwrap_or, option_and_then, arith, append_assoc, slice_index}
+use Rattle.std.proofs.Common.{◌≡◌, ℕ, zero, suc, ◌+◌, ◌-◌, ◌≤◌, ◌==◌, List, [], ◌∷◌, ◌++◌, map, length, take, Bool}
+use Rattle.std.proofs.Common.{true, false, cond, Option, Some, None, refl, sym, subst, ◌∙◌, ap, unwrap_or}
+use Rattle.std.proofs.Common.{option_and_then, arith, append_assoc, slice_index}
 use Rattle.std.specs.List.{list_all}
 use Rattle.std.specs.Option.{option_map}
 use Rattle.std.proofs.lemmas.List.{append-nil, take_all}
@@ -8,7 +10,8 @@ use Rattle.std.proofs.lemmas.Bool.{and_parts}
 use Rattle.transyt_io.specs.Lines.{cut, is_skipped, line_of, lines, onto_first}
 use Rattle.transyt_syntax.specs.Findings.{first_found}
 use Rattle.transyt_syntax.specs.Syntax.{is_plain}
-use Rattle.transyt_deck.specs.Cards.{Card, Cycle, End, FeedOf, Form, LinkOf, Node, StageOf, Steps, Yield, card_text, cards_text, numbers_in}
+use Rattle.transyt_deck.specs.Cards.{Card, Cycle, End, FeedOf, Form, LinkOf, Node, StageOf, Steps, Yield, card_text}
+use Rattle.transyt_deck.specs.Cards.{cards_text, numbers_in}
 use Rattle.transyt_deck.specs.Rows.{card_of}
 use Rattle.transyt_deck.specs.InPlace.{is_end}
 use Rattle.transyt_deck.specs.Deck.{Seen, card_code, code, code_at, complete, deck_after, deck_step, is_end_line, seen}

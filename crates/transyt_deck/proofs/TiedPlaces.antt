@@ -1,7 +1,8 @@
 -- What the places of cards say of the network so far goes on to hold.
 use Rattle.std.proofs.lemmas.Bool.{and_parts, not-true, or_parts}
 use Rattle.std.proofs.lemmas.List.{map-append}
-use Rattle.std.proofs.Common.{◌≡◌, ℕ, ◌<◌, zero, suc, ◌||◌, List, [], ◌∷◌, ◌++◌, length, Bool, true, false, cond, not, Option, Some, None, refl, ◌∙◌, ap, arith, length-append}
+use Rattle.std.proofs.Common.{◌≡◌, ℕ, ◌<◌, zero, suc, ◌||◌, List, [], ◌∷◌, ◌++◌, length, Bool, true, false, cond, not}
+use Rattle.std.proofs.Common.{Option, Some, None, refl, ◌∙◌, ap, arith, length-append}
 use Rattle.std.specs.Option.{option_map}
 use Rattle.transyt_net.specs.declared.draft.DraftFault.{DraftFault}
 use Rattle.transyt_net.specs.declared.plan_fault.PlanFault.{PlanFault}

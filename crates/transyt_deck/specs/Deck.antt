@@ -1,5 +1,6 @@
 -- The deck that lines make: its network, or the first code of a card.
-use Rattle.std.specs.Prelude.{ℕ, ◌+◌, Bool, false, not, if◌then◌else◌, List, [], ◌∷◌, ◌++◌, length, Option, Some, None, unwrap_or, option_and_then}
+use Rattle.std.specs.Prelude.{ℕ, ◌+◌, Bool, false, not, if◌then◌else◌, List, [], ◌∷◌, ◌++◌, length, Option, Some}
+use Rattle.std.specs.Prelude.{None, unwrap_or, option_and_then}
 use Rattle.std.specs.Option.{option_map}
 use Rattle.transyt_io.specs.Lines.{is_skipped}
 use Rattle.transyt_syntax.specs.Syntax.{syntax_code}

@@ -1,4 +1,5 @@
-use Rattle.std.proofs.Common.{◌≡◌, ℕ, ◌+◌, ◌-◌, List, [], ◌∷◌, ◌++◌, length, Result, Ok, IfOk, IfErr, sym, subst, ap, ◌∙◌, arith, length-append, append_assoc}
+use Rattle.std.proofs.Common.{◌≡◌, ℕ, ◌+◌, ◌-◌, List, [], ◌∷◌, ◌++◌, length, Result, Ok, IfOk, IfErr, sym, subst, ap}
+use Rattle.std.proofs.Common.{◌∙◌, arith, length-append, append_assoc}
 use Rattle.transyt_io.specs.Lines.{lines, behind_first}
 use Rattle.transyt_net.specs.Parts.{Network}
 use Rattle.transyt_deck.specs.declared.cut.Cut.{Cut}
