@@ -1,53 +1,6 @@
--- Lists that are made equal place by place.
-use Rattle.std.proofs.Common.{◌≡◌, ℕ, suc, ◌+◌, ◌<◌, List, [], ◌∷◌, ◌++◌, map, length, take, drop, get_or, set, refl, sym, ap, ◌∙◌, arith, ◌⊎◌, inl, inr, ◌≢◌, ◌≤◌}
-use Rattle.std.proofs.lemmas.Bool.{cases_eq}
-use Rattle.std.proofs.lemmas.List.{map-set, set-get_or, get_or-map, length-map, get_or-set_other, get_or_default, take-append-le}
-use Rattle.std.proofs.lemmas.Grind.{get_or-set_at}
-
--- lists that agree at each place are equal
-pub same_lists : {A : Type 0} (xs ys : List A) → length xs ≡ length ys
-    → ((k : ℕ) (d : A) → k < length ys → get_or xs k d ≡ get_or ys k d) → xs ≡ ys
-same_lists [] [] len at = refl
-same_lists [] (y ∷ ys) len at = absurd (omega arith)
-same_lists (x ∷ xs) [] len at = absurd (omega arith)
-same_lists (x ∷ xs) (y ∷ ys) len at =
-    let first : 0 < length (y ∷ ys) = omega arith in
-    (λ j. at 0 x first j ∷ same_lists xs ys (omega arith) (λ k d less. at (suc k) d (omega arith)) j)
-
--- where two lists have one shape, so have their elements
-pub same_at : {A B : Type 0} (f : A → B) (xs ys : List A) (i : ℕ) (x y : A) → map f xs ≡ map f ys → i < length xs
-    → x ≡ get_or xs i x → y ≡ get_or ys i y → f x ≡ f y
-same_at f xs ys i x y same inside at_x at_y =
-    let len : length xs ≡ length ys = sym (length-map xs f) ∙ ap length same ∙ length-map ys f in
-    let there : i < length ys = omega arith in
-    ap f at_x
-    ∙ sym (get_or-map f xs i x (f x) inside)
-    ∙ ap (λ zs. get_or zs i (f x)) same
-    ∙ get_or-map f ys i y (f x) there
-    ∙ ap f (sym at_y)
-
--- a write of what stands in the other keeps the shape
-pub shape_more : {A B : Type 0} (f : A → B) (xs ys : List A) (i : ℕ) (v : A) → map f xs ≡ map f ys
-    → v ≡ get_or ys i v → map f (set xs i v) ≡ map f ys
-shape_more f xs ys i v same at =
-    map-set f xs i v
-    ∙ ap (λ zs. set zs i (f v)) same
-    ∙ sym (map-set f ys i v)
-    ∙ ap (λ w. map f (set ys i w)) at
-    ∙ ap (map f) (set-get_or ys i v)
-
--- one more place at which they agree
-pub agree_more : {A : Type 0} (xs ys : List A) (i : ℕ) (v : A) → i < length xs → i < length ys
-    → ((k : ℕ) (d : A) → k < i → get_or xs k d ≡ get_or ys k d) → v ≡ get_or ys i v
-    → (k : ℕ) (d : A) → k < i + 1 → get_or (set xs i v) k d ≡ get_or ys k d
-agree_more xs ys i v inside there before at k d less = by (cases_eq k i)
-  where
-    by : (k ≡ i) ⊎ (k ≡ i → ⊥) → get_or (set xs i v) k d ≡ get_or ys k d
-    by (inl same) =
-        get_or-set_at xs i k v d same inside ∙ at ∙ get_or_default ys i v d there ∙ ap (λ m. get_or ys m d) (sym same)
-    by (inr other) =
-        let apart : k ≢ i = other in let lower : k < i = omega arith in get_or-set_other xs i k v d apart
-        ∙ before k d lower
+-- The slice of a vector, written back as a whole.
+use Rattle.std.proofs.Common.{◌≡◌, ℕ, ◌≤◌, List, [], ◌∷◌, ◌++◌, length, take, drop, refl, sym, ap, ◌∙◌, arith}
+use Rattle.std.proofs.lemmas.List.{take-append-le}
 
 take_whole : {A : Type 0} (xs : List A) → take (length xs) xs ≡ xs
 take_whole [] = refl

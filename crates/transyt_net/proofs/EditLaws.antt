@@ -3,7 +3,7 @@ use Rattle.std.proofs.Common.{◌≡◌, ℕ, suc, zero, ◌<◌, ◌≤◌, Boo
 use Rattle.std.proofs.lemmas.List.{set-append_left, take-append-le, length-set}
 use Rattle.std.proofs.lemmas.List.Elements.{All-head, All-tail}
 use Rattle.transyt_net.specs.Valid.{numbered, on_place}
-use Rattle.transyt_net.specs.declared.node.Stage.{Stage}
+use Rattle.transyt_parts.specs.declared.node.Stage.{Stage}
 use Rattle.transyt_net.specs.Edits.{change_to}
 use Rattle.transyt_net.proofs.PlaceLaws.{on_place_here}
 

@@ -5,7 +5,6 @@ pub mod EditLaws
 pub mod KeptLaws
 mod KnownValues
 pub mod PlaceLaws
-pub mod PlanLaws
 pub mod ShapeLaws
 pub mod SoundLaws
 pub mod UndoLaws

@@ -5,13 +5,16 @@ use Rattle.std.proofs.lemmas.Bool.{and_parts, or_parts, leb-true, leb-false, ltb
 use Rattle.std.proofs.lemmas.Bool.Decides.{nat_tests}
 use Rattle.std.proofs.lemmas.List.{map-append}
 use Rattle.std.proofs.lemmas.List.Elements.{All-push, All-weaker, All-nil}
-use Rattle.transyt_net.specs.declared.node.Stage.{Stage}
-use Rattle.transyt_net.specs.declared.link.Feed.{Feed}
-use Rattle.transyt_net.specs.declared.link.GiveWay.{GiveWay}
+use Rattle.transyt_parts.specs.declared.node.Stage.{Stage}
+use Rattle.transyt_parts.specs.declared.link.Feed.{Feed}
+use Rattle.transyt_parts.specs.declared.link.GiveWay.{GiveWay}
 use Rattle.transyt_net.specs.declared.draft.DraftFault.TheVariants.{Twice, Unknown, Range, TooMany}
-use Rattle.transyt_net.specs.Parts.{LinkValue, PlanValue, Network}
-use Rattle.transyt_net.specs.Valid.{is_among, all_differ, within, on_place, node_number, link_number, node_numbers, link_numbers, stages_at, stage_total, is_fed, feeders, feeds_at, feeds_in, rule_at, IsSound, IsNode, IsLink, IsStage, IsFeed, IsRule}
-use Rattle.transyt_net.specs.Faults.{node_fault, node_in_range, new_node, with_node, last_place, stage_in_range, add_stage, stage_fault, with_stage, link_in_range, link_fault, with_link, are_links, feed_in_range, add_feed, feed_fault, with_feed, set_rule, rule_fault, with_rule, climb_fault, with_plan}
+use Rattle.transyt_parts.specs.Parts.{LinkValue, PlanValue}
+use Rattle.transyt_net.specs.Parts.{Network}
+use Rattle.transyt_net.specs.Valid.{is_among, on_place, node_numbers, link_numbers, stages_at, stage_total, feeds_at, feeds_in, rule_at, IsSound, IsLink, IsFeed, IsRule}
+use Rattle.transyt_parts.specs.Valid.{all_differ, within, node_number, link_number, is_fed, feeders, IsNode, IsStage, node_in_range, stage_in_range, link_in_range, feed_in_range}
+use Rattle.transyt_net.specs.Faults.{node_fault, with_node, last_place, stage_fault, with_stage, link_fault, with_link, are_links, feed_fault, with_feed, rule_fault, with_rule, climb_fault, with_plan}
+use Rattle.transyt_parts.specs.Made.{new_node, add_stage, add_feed, set_rule}
 use Rattle.transyt_net.proofs.PlaceLaws.{among_more, all_differ-push, keys_kept_at, length_kept_at, all_on_place, list_any_map}
 use Rattle.transyt_net.proofs.WriteLaws.{no_fault, in_range, all_in_range, stages_more, stages_more_at, link_with_more_nodes, link_with_more_numbers, links_written}
 

@@ -3,11 +3,13 @@ use Rattle.std.proofs.Common.{[], ◌≡◌, ℕ, suc, zero, ◌-◌, ◌≤◌,
 use Rattle.std.specs.List.{list_all}
 use Rattle.std.proofs.lemmas.Bool.{and_parts, leb-true}
 use Rattle.std.proofs.lemmas.List.Elements.{All-cons, All-weaker, All-nil}
-use Rattle.transyt_net.specs.declared.node.Stage.{Stage}
-use Rattle.transyt_net.specs.declared.link.GiveWay.{GiveWay}
-use Rattle.transyt_net.specs.Parts.{NodeValue, LinkValue, Network}
-use Rattle.transyt_net.specs.Valid.{is_among, all_differ, within, numbered, on_numbered, on_place, node_number, link_number, node_numbers, link_numbers, stages_at, stage_total, IsSound, IsNode, IsLink, IsFeed, IsRule}
-use Rattle.transyt_net.specs.Faults.{add_stage}
+use Rattle.transyt_parts.specs.declared.node.Stage.{Stage}
+use Rattle.transyt_parts.specs.declared.link.GiveWay.{GiveWay}
+use Rattle.transyt_parts.specs.Parts.{NodeValue, LinkValue}
+use Rattle.transyt_net.specs.Parts.{Network}
+use Rattle.transyt_net.specs.Valid.{is_among, numbered, on_numbered, on_place, node_numbers, link_numbers, stages_at, stage_total, IsSound, IsLink, IsFeed, IsRule}
+use Rattle.transyt_parts.specs.Valid.{all_differ, within, node_number, link_number, IsNode}
+use Rattle.transyt_parts.specs.Made.{add_stage}
 use Rattle.transyt_net.proofs.PlaceLaws.{keys_kept, length_kept, all_on_numbered}
 
 -- a chain of tests that finds no fault has none that holds

@@ -1,22 +1,21 @@
 -- The calls of a draft: the first fault of each, and the network after it.
-use Rattle.std.specs.Prelude.{ℕ, Bool, ◌&&◌, ◌||◌, not, nat_le, nat_lt, List, [], ◌∷◌, ◌++◌, length, Option, Some, None, if◌then◌else◌, slice_get, is_some, ◌-◌}
+use Rattle.std.specs.Prelude.{ℕ, Bool, ◌&&◌, ◌||◌, not, nat_le, List, [], ◌∷◌, ◌++◌, length, Option, Some, None, if◌then◌else◌, slice_get, is_some, ◌-◌}
 use Rattle.std.specs.List.{list_all}
-use Rattle.transyt_net.specs.declared.frame.Frame.{Frame}
+use Rattle.transyt_parts.specs.declared.frame.Frame.{Frame}
 use Rattle.transyt_net.specs.declared.draft.DraftFault.{DraftFault}
 use Rattle.transyt_net.specs.declared.draft.DraftFault.TheVariants.{Twice, Unknown, Range, TooMany}
-use Rattle.transyt_net.specs.Parts.{NodeValue, LinkValue, PlanValue, Network}
-use Rattle.transyt_net.specs.declared.node.Stage.{Stage}
-use Rattle.transyt_net.specs.declared.link.Feed.{Feed}
-use Rattle.transyt_net.specs.declared.link.GiveWay.{GiveWay}
-use Rattle.transyt_net.specs.Valid.{within, is_among, all_differ, is_fed, link_number, node_numbers, link_numbers, on_numbered, on_place, stages_at, feeds_at, rule_at, stage_total}
+use Rattle.transyt_parts.specs.Parts.{NodeValue, LinkValue, PlanValue}
+use Rattle.transyt_net.specs.Parts.{Network}
+use Rattle.transyt_parts.specs.declared.node.Stage.{Stage}
+use Rattle.transyt_parts.specs.declared.link.Feed.{Feed}
+use Rattle.transyt_parts.specs.declared.link.GiveWay.{GiveWay}
+use Rattle.transyt_parts.specs.Valid.{within, all_differ, is_fed, link_number, node_in_range, stage_in_range, link_in_range, feed_in_range}
+use Rattle.transyt_net.specs.Valid.{is_among, node_numbers, link_numbers, on_numbered, on_place, stages_at, feeds_at, rule_at, stage_total}
+use Rattle.transyt_parts.specs.Made.{new_node, add_stage, add_feed, set_rule}
 
 -- a network with nothing in it
 abbrev pub empty : Frame → Network
 empty frame = record { frame = frame; nodes = []; links = []; plan = None }
-
--- whether the numbers of a node are in their ranges
-abbrev pub node_in_range : ℕ → ℕ → ℕ → Bool
-node_in_range steps number offset = within 1 99999 number && nat_lt offset steps
 
 -- the first fault of a new node
 abbrev pub node_fault : Network → ℕ → ℕ → Option DraftFault
@@ -26,10 +25,6 @@ node_fault net number offset =
     else if nat_le 200 (length net.nodes) then Some TooMany
     else None
 
--- a node with no stage yet
-abbrev pub new_node : ℕ → ℕ → NodeValue
-new_node number offset = record { number = number; offset = offset; stages = [] }
-
 -- the network with a new node, which has no stage yet
 abbrev pub with_node : Network → ℕ → ℕ → Network
 with_node net number offset = record net { nodes = net.nodes ++ new_node number offset ∷ [] }
@@ -38,14 +33,6 @@ with_node net number offset = record net { nodes = net.nodes ++ new_node number 
 abbrev pub last_place : List NodeValue → ℕ
 last_place nodes = length nodes - 1
 
--- whether the numbers of a stage are in their ranges
-abbrev pub stage_in_range : ℕ → Stage → Bool
-stage_in_range steps s = nat_lt s.change steps && nat_lt s.intergreen steps && within 1 steps s.least
-
--- a stage of these numbers
-abbrev pub new_stage : ℕ → ℕ → ℕ → Stage
-new_stage change intergreen least = record { change = change; intergreen = intergreen; least = least }
-
 -- the first fault of a new stage of the last node
 abbrev pub stage_fault : Network → Stage → Option DraftFault
 stage_fault net stage =
@@ -53,20 +40,9 @@ stage_fault net stage =
     else if nat_le 8 (stage_total (slice_get net.nodes (last_place net.nodes))) then Some TooMany
     else None
 
--- the node with one more stage, the last
-abbrev pub add_stage : Stage → NodeValue → NodeValue
-add_stage stage n = record n { stages = n.stages ++ stage ∷ [] }
-
 -- the network with a new stage of the last node
 abbrev pub with_stage : Network → Stage → Network
 with_stage net stage = record net { nodes = on_place (add_stage stage) net.nodes (last_place net.nodes) }
-
--- whether the numbers of a link are in their ranges, its names apart
-abbrev pub link_in_range : ℕ → LinkValue → Bool
-link_in_range steps l =
-    within 1 99999 l.number && nat_le l.entry 9999 && within 100 9999 l.saturation
-    && nat_le l.delay_weight 999 && nat_le l.stop_weight 999
-    && nat_lt l.start_lag steps && nat_lt l.end_lag steps
 
 -- the first fault of a new link, which has neither feeds nor a rule yet
 abbrev pub link_fault : Network → LinkValue → Option DraftFault
@@ -78,23 +54,6 @@ link_fault net l =
     else if nat_le 1000 (length net.links) then Some TooMany
     else None
 
--- a link with neither feeds nor a rule yet
-abbrev pub new_link : ℕ → ℕ → ℕ → ℕ → ℕ → ℕ → ℕ → ℕ → List ℕ → LinkValue
-new_link number node entry saturation delay_weight stop_weight start_lag end_lag stages =
-    record {
-      number = number;
-      node = node;
-      entry = entry;
-      saturation = saturation;
-      delay_weight = delay_weight;
-      stop_weight = stop_weight;
-      start_lag = start_lag;
-      end_lag = end_lag;
-      stages = stages;
-      feeds = [];
-      gives_way = None;
-    }
-
 -- the network with a new link
 abbrev pub with_link : Network → LinkValue → Network
 with_link net l = record net { links = net.links ++ l ∷ [] }
@@ -102,14 +61,6 @@ with_link net l = record net { links = net.links ++ l ∷ [] }
 -- whether both are links
 abbrev pub are_links : Network → ℕ → ℕ → Bool
 are_links net a b = is_among (link_numbers net.links) a && is_among (link_numbers net.links) b
-
--- a feed of these numbers
-abbrev pub new_feed : ℕ → ℕ → ℕ → Feed
-new_feed feeder flow cruise = record { feeder = feeder; flow = flow; cruise = cruise }
-
--- whether the numbers of a feed are in their ranges, its name apart
-abbrev pub feed_in_range : Feed → Bool
-feed_in_range f = nat_le f.flow 9999 && within 1 300 f.cruise
 
 -- the first fault of a new feed
 abbrev pub feed_fault : Network → ℕ → Feed → Option DraftFault
@@ -120,17 +71,9 @@ feed_fault net link f =
     else if nat_le 8 (length (feeds_at net.links link)) then Some TooMany
     else None
 
--- the link with one more feed, the last
-abbrev pub add_feed : Feed → LinkValue → LinkValue
-add_feed f l = record l { feeds = l.feeds ++ f ∷ [] }
-
 -- the network with a new feed of a link
 abbrev pub with_feed : Network → ℕ → Feed → Network
 with_feed net link f = record net { links = on_numbered link_number (add_feed f) net.links link }
-
--- a give-way rule of these numbers
-abbrev pub new_rule : ℕ → ℕ → GiveWay
-new_rule other percent = record { other = other; percent = percent }
 
 -- the first fault of a new give-way rule
 abbrev pub rule_fault : Network → ℕ → GiveWay → Option DraftFault
@@ -140,17 +83,9 @@ rule_fault net link rule =
     else if not (nat_le rule.percent 400) then Some Range
     else None
 
--- the link with this give-way rule
-abbrev pub set_rule : GiveWay → LinkValue → LinkValue
-set_rule rule l = record l { gives_way = Some rule }
-
 -- the network with a new give-way rule of a link
 abbrev pub with_rule : Network → ℕ → GiveWay → Network
 with_rule net link rule = record net { links = on_numbered link_number (set_rule rule) net.links link }
-
--- a climb plan of these numbers
-abbrev pub new_plan : ℕ → List ℕ → PlanValue
-new_plan budget sizes = record { budget = budget; sizes = sizes }
 
 -- the first fault of a climb plan
 abbrev pub climb_fault : Network → PlanValue → Option DraftFault

@@ -1,7 +1,8 @@
 -- Flows: vehicles per hour, and units per step, a unit being a millionth of a vehicle.
-use Rattle.std.specs.Prelude.{ℕ, ◌+◌, ◌*◌, ◌/◌, [], None, sum_by, slice_index_or}
-use Rattle.transyt_net.specs.declared.frame.Frame.{Frame}
-use Rattle.transyt_net.specs.Parts.{NodeValue, LinkValue, Network}
+use Rattle.std.specs.Prelude.{ℕ, ◌*◌, ◌/◌, [], None, slice_index_or}
+use Rattle.transyt_parts.specs.declared.frame.Frame.{Frame}
+use Rattle.transyt_parts.specs.Parts.{NodeValue, LinkValue}
+use Rattle.transyt_net.specs.Parts.{Network}
 
 -- what stands at a place where there is no node
 abbrev pub no_node : NodeValue
@@ -34,7 +35,3 @@ link_of net p = slice_index_or net.links p no_link
 -- vehicles per hour as units per step, rounded down
 abbrev pub perstep : Frame → ℕ → ℕ
 perstep frame q = q * frame.cycle * 1000000 / (3600 * frame.step_count)
-
--- a link's entry flow and the flows of its feeds, in vehicles per hour
-abbrev pub total_flow : LinkValue → ℕ
-total_flow l = l.entry + sum_by (λ f. f.flow) l.feeds

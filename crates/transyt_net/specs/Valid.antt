@@ -1,19 +1,12 @@
--- What the parts of a network keep to, and the part that a card number names.
-use Rattle.std.specs.Prelude.{suc, zero, ◌≡◌, ℕ, ◌<◌, ◌≤◌, Bool, true, false, ◌&&◌, not, nat_le, nat_eq, List, [], ◌∷◌, length, map, Option, Some, None, IfSome, All, position, IsTrue, if◌then◌else◌, slice_index_or}
+-- What a network keeps to, and the part that a card number names.
+use Rattle.std.specs.Prelude.{suc, zero, ◌≡◌, ℕ, ◌<◌, ◌≤◌, Bool, true, false, nat_eq, List, [], ◌∷◌, length, map, Option, Some, None, IfSome, All, position, IsTrue, if◌then◌else◌, slice_index_or}
 use Rattle.std.specs.List.{list_any}
-use Rattle.transyt_net.specs.declared.frame.Frame.{Frame}
-use Rattle.transyt_net.specs.declared.node.Stage.{Stage}
-use Rattle.transyt_net.specs.declared.link.Feed.{Feed}
-use Rattle.transyt_net.specs.declared.link.GiveWay.{GiveWay}
-use Rattle.transyt_net.specs.Parts.{NodeValue, LinkValue, PlanValue, Network}
-
--- a node's card number
-abbrev pub node_number : NodeValue → ℕ
-node_number n = n.number
-
--- a link's card number
-abbrev pub link_number : LinkValue → ℕ
-link_number l = l.number
+use Rattle.transyt_parts.specs.declared.link.Feed.{Feed}
+use Rattle.transyt_parts.specs.declared.link.GiveWay.{GiveWay}
+use Rattle.transyt_parts.specs.Parts.{NodeValue, LinkValue}
+use Rattle.transyt_net.specs.Parts.{Network}
+use Rattle.transyt_parts.specs.Plan.{plan_fault}
+use Rattle.transyt_parts.specs.Valid.{node_number, link_number, all_differ, feeders, IsNode, IsPlan, IsFrame}
 
 -- the nodes' card numbers in order
 abbrev pub node_numbers : List NodeValue → List ℕ
@@ -32,15 +25,6 @@ pub record IsPlace {A : Type 0} (key : A → ℕ) (xs : List A) (k p : ℕ) : Ty
   pub inside : p < length xs
   pub here : (d : A) → nat_eq k (key (slice_index_or xs p d)) ≡ true
   pub first : (d : A) (i : ℕ) → i < p → nat_eq k (key (slice_index_or xs i d)) ≡ false
-
--- no number stands twice
-abbrev pub all_differ : List ℕ → Bool
-all_differ [] = true
-all_differ (x ∷ xs) = not (list_any (nat_eq x) xs) && all_differ xs
-
--- whether a number is one of low to high
-abbrev pub within : ℕ → ℕ → ℕ → Bool
-within low high n = nat_le low n && nat_le n high
 
 -- the first whose number this is
 abbrev pub numbered : {A : Type 0} → (A → ℕ) → List A → ℕ → Option A
@@ -89,20 +73,6 @@ rule_at links number = rule_in (numbered link_number links number)
 abbrev pub is_among : List ℕ → ℕ → Bool
 is_among numbers number = list_any (nat_eq number) numbers
 
--- the feeders of these feeds in order
-abbrev pub feeders : List Feed → List ℕ
-feeders feeds = map (λ f. f.feeder) feeds
-
--- whether one of these feeds has this feeder
-abbrev pub is_fed : List Feed → ℕ → Bool
-is_fed feeds feeder = list_any (λ f. nat_eq feeder f.feeder) feeds
-
--- whether each number of a frame is in its range
-abbrev pub is_frame : Frame → Bool
-is_frame f =
-    within 30 240 f.cycle && within 10 120 f.step_count && within 1 8 f.sweeps && within 15 120 f.period
-    && nat_le f.stop_penalty 9999 && nat_le f.dispersion 100
-
 -- what a feed keeps to
 pub record IsFeed (numbers : List ℕ) (f : Feed) : Type 0 where
   pub feeder : IsTrue (is_among numbers f.feeder)
@@ -113,19 +83,6 @@ pub record IsFeed (numbers : List ℕ) (f : Feed) : Type 0 where
 pub record IsRule (numbers : List ℕ) (r : GiveWay) : Type 0 where
   pub other : IsTrue (is_among numbers r.other)
   pub percent : r.percent ≤ 400
-
--- what a stage keeps to
-pub record IsStage (steps : ℕ) (s : Stage) : Type 0 where
-  pub change : s.change < steps
-  pub intergreen : s.intergreen < steps
-  pub least : (1 ≤ s.least) × (s.least ≤ steps)
-
--- what a node keeps to, its plan apart
-pub record IsNode (steps : ℕ) (n : NodeValue) : Type 0 where
-  pub number : (1 ≤ n.number) × (n.number ≤ 99999)
-  pub offset : n.offset < steps
-  pub stage_count : length n.stages ≤ 8
-  pub stages : All (IsStage steps) n.stages
 
 -- what a link keeps to, among these nodes and link numbers
 pub record IsLink (steps : ℕ) (nodes : List NodeValue) (numbers : List ℕ) (l : LinkValue) : Type 0 where
@@ -145,21 +102,6 @@ pub record IsLink (steps : ℕ) (nodes : List NodeValue) (numbers : List ℕ) (l
   pub feeds : All (IsFeed numbers) l.feeds
   pub rule : IfSome l.gives_way (IsRule numbers)
 
--- what a climb plan keeps to
-pub record IsPlan (steps : ℕ) (p : PlanValue) : Type 0 where
-  pub budget : (1 ≤ p.budget) × (p.budget ≤ 1000000)
-  pub size_count : (1 ≤ length p.sizes) × (length p.sizes ≤ 16)
-  pub sizes : All (λ h. (1 ≤ h) × (h < steps)) p.sizes
-
--- what a frame keeps to
-pub record IsFrame (f : Frame) : Type 0 where
-  pub cycle : (30 ≤ f.cycle) × (f.cycle ≤ 240)
-  pub step_count : (10 ≤ f.step_count) × (f.step_count ≤ 120)
-  pub sweeps : (1 ≤ f.sweeps) × (f.sweeps ≤ 8)
-  pub period : (15 ≤ f.period) × (f.period ≤ 120)
-  pub stop_penalty : f.stop_penalty ≤ 9999
-  pub dispersion : f.dispersion ≤ 100
-
 -- a valid network, but for its stage plans
 pub record IsSound (net : Network) : Type 0 where
   pub frame : IsFrame net.frame
@@ -170,3 +112,8 @@ pub record IsSound (net : Network) : Type 0 where
   pub links_differ : IsTrue (all_differ (link_numbers net.links))
   pub links : All (IsLink net.frame.step_count net.nodes (link_numbers net.links)) net.links
   pub plan : IfSome net.plan (IsPlan net.frame.step_count)
+
+-- a valid network: a sound one in which no node has a fault in its plan
+pub record IsValid (net : Network) : Type 0 where
+  pub sound : IsSound net
+  pub planned : All (λ n. plan_fault net.frame.step_count n.stages ≡ None) net.nodes

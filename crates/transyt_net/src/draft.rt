@@ -1,24 +1,24 @@
 //! A network that is being made.
 
 ghost use Rattle.std.specs.Prelude.{◌≡◌, ℕ, ◌-◌, ◌<◌, ◌≤◌, length, IfSome, IfNone, IfErr, IfOk, OnOk, OnErr, IsTrue, IsOk, IsErrOf, ◌↔◌, ◌++◌, ◌∷◌, []};
-ghost use Rattle.transyt_net.specs.Valid.{node_numbers, link_numbers, place_of, is_frame, is_among};
+ghost use Rattle.transyt_net.specs.Valid.{node_numbers, link_numbers, place_of, is_among, IsValid};
+ghost use Rattle.transyt_parts.specs.Valid.{is_frame};
 ghost use Rattle.indexmap.specs.IndexSet.{spare};
-ghost use Rattle.transyt_net.specs.Plan.{first_fault, IsValid};
-ghost use Rattle.transyt_net.specs.Faults.{empty, node_fault, with_node, new_stage, stage_fault, with_stage, new_link, link_fault, with_link, new_feed, feed_fault, with_feed, new_rule, rule_fault, with_rule, new_plan, climb_fault, with_plan};
+ghost use Rattle.transyt_parts.specs.Plan.{first_fault};
+ghost use Rattle.transyt_net.specs.Faults.{empty, node_fault, with_node, stage_fault, with_stage, link_fault, with_link, feed_fault, with_feed, rule_fault, with_rule, climb_fault, with_plan};
+ghost use Rattle.transyt_parts.specs.Made.{new_stage, new_link, new_feed, new_rule, new_plan};
 
 mod fault;
 
-use crate::climb_plan::ClimbPlan;
-use crate::frame::Frame;
-use crate::link::{Feed, GiveWay, Link, add_feed, set_rule};
 use crate::net::Net;
-use crate::node::{Node, Stage, add_stage};
 use crate::places::add_number;
-use crate::plan_fault::{PlanFault, first_fault};
-use crate::range::is_frame_in_range;
 use indexmap::IndexSet;
 use std::alloc::{AllocError, AllocFailed, Global};
 use std::marker::Model;
+use transyt_parts::{
+    ClimbPlan, Feed, Frame, GiveWay, Link, Node, PlanFault, Stage, add_feed, add_stage, first_fault,
+    is_frame_in_range, set_rule,
+};
 
 /// Why a draft refuses, in the order in which the faults are asked for.
 #[derive(Clone, Copy, Debug, PartialEq, Eq)]

@@ -1,13 +1,13 @@
 //! Edits of the numbers of a network.
 
 ghost use Rattle.std.specs.Prelude.{◌≡◌, ℕ, ◌+◌, ◌-◌, ◌<◌, ◌≤◌, length, true};
-ghost use Rattle.transyt_net.specs.Valid.{is_fed, IsPlace};
-ghost use Rattle.transyt_net.specs.Plan.{stage_of};
+ghost use Rattle.transyt_parts.specs.Valid.{is_fed};
+ghost use Rattle.transyt_net.specs.Valid.{IsPlace};
+ghost use Rattle.transyt_parts.specs.Plan.{stage_of};
 ghost use Rattle.transyt_net.specs.Edits.{feeder_of, set_offset, set_change, set_entry, set_saturation, set_weights, set_part, set_cruise, the_feed};
 ghost use Rattle.transyt_net.specs.Named.{node_edit, link_edit, node_back, link_back, NodeTakes, LinkTakes};
 
-use crate::link::{Feed, Link};
-use crate::node::Node;
+use transyt_parts::{Feed, Link, Node};
 
 /// An edit of one number, or of the two weights of a link. This project's own.
 ///

@@ -2,24 +2,23 @@
 
 ghost use Rattle.std.specs.Prelude.{◌≡◌, ℕ, ◌+◌, ◌*◌, ◌/◌, ◌<◌, ◌≤◌, ◌^◌, length, IfSome, IfNone, IfOk, ◌↔◌, IsTrue, false};
 ghost use Rattle.std.specs.Option.{option_map};
-ghost use Rattle.transyt_net.specs.Valid.{node_numbers, link_numbers, place_of, is_among};
+ghost use Rattle.transyt_net.specs.Valid.{node_numbers, link_numbers, place_of, is_among, IsValid};
 ghost use Rattle.transyt_net.specs.Shape.{SameShape, same_shape};
-ghost use Rattle.transyt_net.specs.Flow.{node_of, link_of, perstep, total_flow};
-ghost use Rattle.transyt_net.specs.Plan.{IsValid};
+ghost use Rattle.transyt_net.specs.Flow.{node_of, link_of, perstep};
+ghost use Rattle.transyt_parts.specs.Flow.{total_flow};
 ghost use Rattle.transyt_net.specs.Parts.{network_of, with_cycle};
 
 mod apply;
 mod judge;
 
-use crate::climb_plan::ClimbPlan;
-use crate::copy::{copy_links, copy_nodes, copy_numbers, copy_plan};
-use crate::frame::Frame;
-use crate::link::{Link, all_flow};
-use crate::node::Node;
-use crate::shape::{same_frame, same_links, same_nodes, same_plan, take_links, take_nodes};
+use crate::places::copy_numbers;
 use indexmap::IndexSet;
 use std::alloc::{AllocError, Global};
 use std::marker::Model;
+use transyt_parts::{
+    ClimbPlan, Frame, Link, Node, all_flow, copy_links, copy_nodes, copy_plan, same_frame,
+    same_links, same_nodes, same_plan, take_links, take_nodes,
+};
 
 /// A network that is valid at all times.
 ///
@@ -41,8 +40,7 @@ impl Model for Net {
 
     ghost Value = { Network };
 
-    ghost use Rattle.transyt_net.specs.Plan.{IsValid};
-    ghost use Rattle.transyt_net.specs.Valid.{node_numbers, link_numbers};
+    ghost use Rattle.transyt_net.specs.Valid.{IsValid, node_numbers, link_numbers};
 
     ghost view = { λ n. network_of n.frame n.nodes.items n.links.items n.plan };
 

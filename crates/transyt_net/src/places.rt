@@ -3,14 +3,15 @@
 //! A set in the order of insertion is the map from a number to its place: its keys are the numbers
 //! of the nodes or links in order.
 
-ghost use Rattle.std.specs.Prelude.{◌≡◌, ℕ, ◌<◌, ◌++◌, ◌∷◌, [], false};
+ghost use Rattle.std.specs.Prelude.{◌≡◌, IfOk, ℕ, ◌<◌, ◌++◌, ◌∷◌, [], false};
 ghost use Rattle.std.specs.Option.{option_map};
 ghost use Rattle.indexmap.specs.IndexSet.{spare};
-ghost use Rattle.transyt_net.specs.Valid.{is_fed, is_among, numbered, node_number, link_number, node_numbers, link_numbers, stages_at, feeds_at};
+ghost use Rattle.transyt_parts.specs.Valid.{is_fed, node_number, link_number};
+ghost use Rattle.transyt_net.specs.Valid.{is_among, numbered, node_numbers, link_numbers, stages_at, feeds_at};
 
-use crate::link::{Link, has_feeder};
-use crate::node::Node;
 use indexmap::IndexSet;
+use std::alloc::AllocError;
+use transyt_parts::{Link, Node, has_feeder};
 
 /// Adds a number that isn't there yet, where there is room for it.
 pub(crate) fn add_number(places: &mut IndexSet<u32>, number: u32)
@@ -21,6 +22,13 @@ pub(crate) fn add_number(places: &mut IndexSet<u32>, number: u32)
     if places.insert(number).is_err() {
         unreachable!();
     }
+}
+
+/// An equal set, with memory of its own.
+pub(crate) fn copy_numbers(places: &IndexSet<u32>) -> Result<IndexSet<u32>, AllocError>
+    ensures { IfOk result (λ copy. copy.keys ≡ places.now.keys) }
+{
+    places.clone()
 }
 
 /// The node of a number.

@@ -2,16 +2,16 @@
 
 ghost use Rattle.std.specs.Prelude.{is_some, ◌≡◌, ℕ, ◌-◌, ◌<◌, length, true, false, ◌&&◌};
 ghost use Rattle.std.specs.List.{list_all};
-ghost use Rattle.transyt_net.specs.Valid.{node_numbers, link_numbers, is_among, within, all_differ, is_fed, stages_at, feeds_at, rule_at};
-ghost use Rattle.transyt_net.specs.Faults.{node_fault, stage_fault, new_link, link_fault, are_links, feed_fault, rule_fault, new_plan, climb_fault};
+ghost use Rattle.transyt_net.specs.Valid.{node_numbers, link_numbers, is_among, stages_at, feeds_at, rule_at};
+ghost use Rattle.transyt_parts.specs.Valid.{within, all_differ, is_fed};
+ghost use Rattle.transyt_net.specs.Faults.{node_fault, stage_fault, link_fault, are_links, feed_fault, rule_fault, climb_fault};
+ghost use Rattle.transyt_parts.specs.Made.{new_link, new_plan};
 
 use super::{Draft, DraftFault};
-use crate::link::{Feed, GiveWay};
-use crate::node::Stage;
 use crate::places::{is_fed, link_at, stages_at};
-use crate::range::{
-    all_differ, all_within, is_feed_in_range, is_link_in_range, is_node_in_range,
-    is_stage_in_range, is_within,
+use transyt_parts::{
+    Feed, GiveWay, Stage, all_differ, all_within, is_feed_in_range, is_link_in_range,
+    is_node_in_range, is_stage_in_range, is_within,
 };
 
 impl Draft {

@@ -1,9 +1,10 @@
 //! Edits made, and their inverses.
 
 ghost use Rattle.std.specs.Prelude.{◌≡◌, IfSome, IfNone, IfOk, OnOk, OnErr, IsOk, IsErrOf};
-ghost use Rattle.transyt_net.specs.Edits.{edit_fault, with_edit, inverse};
+ghost use Rattle.transyt_net.specs.EditFaults.{edit_fault};
+ghost use Rattle.transyt_net.specs.Edits.{with_edit, inverse};
 ghost use Rattle.transyt_net.specs.Named.{NamesNode, NamesLink};
-ghost use Rattle.transyt_net.specs.Plan.{IsValid};
+ghost use Rattle.transyt_net.specs.Valid.{IsValid};
 ghost use Rattle.transyt_net.specs.Shape.{SameShape};
 
 use super::Net;

@@ -1,15 +1,15 @@
 //! The first fault of an edit.
 
 ghost use Rattle.std.specs.Prelude.{◌≡◌, ℕ, ◌-◌, ◌<◌, ◌≤◌, length, true, take};
-ghost use Rattle.transyt_net.specs.Valid.{node_numbers, link_numbers, is_among, is_fed, feeds_at, stages_at, on_place, within};
-ghost use Rattle.transyt_net.specs.Edits.{range_fault, feed_fault, order_fault, change_fault, edit_fault, change_to, is_link, has_stage, changed};
+ghost use Rattle.transyt_net.specs.Valid.{node_numbers, link_numbers, is_among, feeds_at, stages_at, on_place};
+ghost use Rattle.transyt_parts.specs.Valid.{is_fed, within};
+ghost use Rattle.transyt_net.specs.EditFaults.{range_fault, feed_fault, order_fault, change_fault, edit_fault, is_link, has_stage, changed};
+ghost use Rattle.transyt_net.specs.Edits.{change_to};
 
 use super::Net;
 use crate::edit::{Edit, EditFault};
-use crate::node::Stage;
 use crate::places::{is_fed, node_at, stages_at};
-use crate::plan_fault::{have_greens, in_order};
-use crate::range::is_within;
+use transyt_parts::{Stage, have_greens, in_order, is_within};
 
 /// Unknown, or else Range.
 fn range_fault(known: bool, fits: bool) -> Option<EditFault>

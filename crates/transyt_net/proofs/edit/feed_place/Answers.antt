@@ -1,7 +1,7 @@
 use Rattle.std.proofs.Common.{◌≡◌, ◌<◌, false, nat_eq, arith}
 use Rattle.std.proofs.lemmas.Bool.{both_ways}
 use Rattle.std.proofs.lemmas.List.Folds.{list_any_none}
-use Rattle.transyt_net.specs.Valid.{is_fed}
+use Rattle.transyt_parts.specs.Valid.{is_fed}
 use Rattle.transyt_net.proofs.edit.feed_place.Goals as goal
 
 pub unreachable-requires : goal.unreachable-requires

@@ -1,5 +1,5 @@
 use Rattle.std.proofs.Common.{◌≡◌, ◌<◌, ℕ, false, nat_eq, get_or}
-use Rattle.transyt_net.specs.declared.link.Feed.{Feed}
+use Rattle.transyt_parts.specs.declared.link.Feed.{Feed}
 use Rattle.transyt_net.proofs.edit.feed_place.Given as goal
 
 abbrev pub invariant-loop-place : goal.invariant-loop-place

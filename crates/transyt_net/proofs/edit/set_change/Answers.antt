@@ -1,6 +1,6 @@
 use Rattle.std.proofs.Common.{rules, ◌≡◌, ◌<◌, ◌-◌, ℕ, List, set, ap, sym, ◌∙◌, length}
-use Rattle.transyt_net.specs.declared.node.Stage.{Stage}
-use Rattle.transyt_net.specs.Parts.{NodeValue}
+use Rattle.transyt_parts.specs.declared.node.Stage.{Stage}
+use Rattle.transyt_parts.specs.Parts.{NodeValue}
 use Rattle.transyt_net.specs.Valid.{on_place}
 use Rattle.transyt_net.specs.Edits.{set_change, change_to}
 use Rattle.transyt_net.proofs.PlaceLaws.{on_place_here}

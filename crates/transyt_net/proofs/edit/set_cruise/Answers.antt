@@ -1,6 +1,6 @@
 use Rattle.std.proofs.Common.{rules, ◌≡◌, ℕ, List, Option, Some, set, ap, sym, ◌∙◌, refl}
-use Rattle.transyt_net.specs.declared.link.Feed.{Feed}
-use Rattle.transyt_net.specs.Parts.{LinkValue}
+use Rattle.transyt_parts.specs.declared.link.Feed.{Feed}
+use Rattle.transyt_parts.specs.Parts.{LinkValue}
 use Rattle.transyt_net.specs.Valid.{on_numbered, numbered, IsPlace}
 use Rattle.transyt_net.specs.Edits.{set_cruise, cruise_to, feeder_of, feed_in}
 use Rattle.transyt_net.proofs.PlaceLaws.{written_here, numbered_here}

@@ -1,6 +1,7 @@
 use Rattle.std.proofs.Common.{rules, ◌≡◌, Some, false, sym, ap, ◌∙◌}
-use Rattle.transyt_net.specs.Parts.{LinkValue}
-use Rattle.transyt_net.specs.Valid.{link_number, link_numbers, place_of, is_among}
+use Rattle.transyt_parts.specs.Parts.{LinkValue}
+use Rattle.transyt_parts.specs.Valid.{link_number}
+use Rattle.transyt_net.specs.Valid.{link_numbers, place_of, is_among}
 use Rattle.transyt_net.proofs.PlaceLaws.{place_is, numbered_here, numbered_none}
 use Rattle.transyt_net.proofs.places.link_at.Goals as goal
 

@@ -1,6 +1,7 @@
 use Rattle.std.proofs.Common.{rules, ◌≡◌, Some, false, sym, ap, ◌∙◌}
-use Rattle.transyt_net.specs.Parts.{NodeValue}
-use Rattle.transyt_net.specs.Valid.{node_number, node_numbers, place_of, is_among}
+use Rattle.transyt_parts.specs.Parts.{NodeValue}
+use Rattle.transyt_parts.specs.Valid.{node_number}
+use Rattle.transyt_net.specs.Valid.{node_numbers, place_of, is_among}
 use Rattle.transyt_net.proofs.PlaceLaws.{place_is, numbered_here, numbered_none}
 use Rattle.transyt_net.proofs.places.node_at.Goals as goal
 

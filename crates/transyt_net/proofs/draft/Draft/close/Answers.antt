@@ -1,6 +1,6 @@
 use Rattle.std.proofs.Common.{rules, ◌≡◌, None}
-use Rattle.transyt_net.specs.Plan.{first_fault}
-use Rattle.transyt_net.proofs.PlanLaws.{all_planned}
+use Rattle.transyt_parts.specs.Plan.{first_fault}
+use Rattle.transyt_parts.proofs.PlanLaws.{all_planned}
 use Rattle.transyt_net.proofs.draft.Draft.close.Goals as goal
 
 pub of_parts-requires-clause-valid : goal.of_parts-requires-clause-valid

@@ -1,8 +1,11 @@
 use Rattle.std.proofs.Common.{rules, ◌≡◌, ℕ, List, Some, None, refl, sym, ap, ◌∙◌, subst, set}
-use Rattle.transyt_net.specs.declared.link.GiveWay.{GiveWay}
-use Rattle.transyt_net.specs.Parts.{LinkValue, Network, network_of}
-use Rattle.transyt_net.specs.Valid.{IsSound, link_numbers, link_number, on_numbered, place_of}
-use Rattle.transyt_net.specs.Faults.{rule_fault, new_rule, set_rule, with_rule}
+use Rattle.transyt_parts.specs.declared.link.GiveWay.{GiveWay}
+use Rattle.transyt_parts.specs.Parts.{LinkValue}
+use Rattle.transyt_net.specs.Parts.{Network, network_of}
+use Rattle.transyt_net.specs.Valid.{IsSound, link_numbers, on_numbered, place_of}
+use Rattle.transyt_parts.specs.Valid.{link_number}
+use Rattle.transyt_net.specs.Faults.{rule_fault, with_rule}
+use Rattle.transyt_parts.specs.Made.{new_rule, set_rule}
 use Rattle.transyt_net.proofs.PlaceLaws.{written_here, place_is, keys_kept}
 use Rattle.transyt_net.proofs.SoundLaws.{sound_rule}
 use Rattle.transyt_net.proofs.draft.Draft.give_way.Goals as goal

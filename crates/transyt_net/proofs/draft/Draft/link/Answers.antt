@@ -1,8 +1,11 @@
 use Rattle.std.proofs.Common.{rules, ◌≡◌, List, ◌++◌, ◌∷◌, [], None, refl, sym, ap, ◌∙◌, subst}
 use Rattle.std.proofs.lemmas.List.{map-append}
-use Rattle.transyt_net.specs.Parts.{LinkValue, Network}
-use Rattle.transyt_net.specs.Valid.{IsSound, link_numbers, link_number}
-use Rattle.transyt_net.specs.Faults.{link_fault, new_link, with_link}
+use Rattle.transyt_parts.specs.Parts.{LinkValue}
+use Rattle.transyt_net.specs.Parts.{Network}
+use Rattle.transyt_net.specs.Valid.{IsSound, link_numbers}
+use Rattle.transyt_parts.specs.Valid.{link_number}
+use Rattle.transyt_net.specs.Faults.{link_fault, with_link}
+use Rattle.transyt_parts.specs.Made.{new_link}
 use Rattle.transyt_net.proofs.SoundLaws.{sound_link}
 use Rattle.transyt_net.proofs.draft.Draft.link.Goals as goal
 

@@ -1,8 +1,11 @@
 use Rattle.std.proofs.Common.{rules, ◌≡◌, List, ◌++◌, ◌∷◌, [], None, sym, ap, ◌∙◌, subst}
 use Rattle.std.proofs.lemmas.List.{map-append}
-use Rattle.transyt_net.specs.Parts.{NodeValue, Network}
-use Rattle.transyt_net.specs.Valid.{IsSound, node_numbers, node_number}
-use Rattle.transyt_net.specs.Faults.{node_fault, new_node, with_node}
+use Rattle.transyt_parts.specs.Parts.{NodeValue}
+use Rattle.transyt_net.specs.Parts.{Network}
+use Rattle.transyt_net.specs.Valid.{IsSound, node_numbers}
+use Rattle.transyt_parts.specs.Valid.{node_number}
+use Rattle.transyt_net.specs.Faults.{node_fault, with_node}
+use Rattle.transyt_parts.specs.Made.{new_node}
 use Rattle.transyt_net.proofs.SoundLaws.{sound_node}
 use Rattle.transyt_net.proofs.draft.Draft.node.Goals as goal
 

@@ -1,8 +1,11 @@
 use Rattle.std.proofs.Common.{rules, ◌≡◌, ℕ, List, ◌<◌, ◌-◌, None, refl, sym, ap, ◌∙◌, subst, length, set, get_or}
-use Rattle.transyt_net.specs.declared.node.Stage.{Stage}
-use Rattle.transyt_net.specs.Parts.{NodeValue, Network, network_of}
-use Rattle.transyt_net.specs.Valid.{IsSound, node_numbers, node_number, on_place}
-use Rattle.transyt_net.specs.Faults.{stage_fault, new_stage, add_stage, with_stage, last_place}
+use Rattle.transyt_parts.specs.declared.node.Stage.{Stage}
+use Rattle.transyt_parts.specs.Parts.{NodeValue}
+use Rattle.transyt_net.specs.Parts.{Network, network_of}
+use Rattle.transyt_net.specs.Valid.{IsSound, node_numbers, on_place}
+use Rattle.transyt_parts.specs.Valid.{node_number}
+use Rattle.transyt_net.specs.Faults.{stage_fault, with_stage, last_place}
+use Rattle.transyt_parts.specs.Made.{new_stage, add_stage}
 use Rattle.transyt_net.proofs.PlaceLaws.{on_place_here, keys_kept_at, length_kept_at}
 use Rattle.transyt_net.proofs.SoundLaws.{sound_stage}
 use Rattle.transyt_net.proofs.draft.Draft.stage.Goals as goal

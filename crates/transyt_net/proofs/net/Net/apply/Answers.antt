@@ -1,6 +1,7 @@
 use Rattle.std.proofs.Common.{ap, rules, ◌≡◌, ◌∙◌, None, subst, sym}
-use Rattle.transyt_net.specs.Edits.{with_edit, edit_fault}
-use Rattle.transyt_net.specs.Plan.{IsValid}
+use Rattle.transyt_net.specs.Edits.{with_edit}
+use Rattle.transyt_net.specs.EditFaults.{edit_fault}
+use Rattle.transyt_net.specs.Valid.{IsValid}
 use Rattle.transyt_net.proofs.UndoLaws.{undone}
 use Rattle.transyt_net.specs.Shape.{shape}
 use Rattle.transyt_net.proofs.KeptLaws.{shape_kept}

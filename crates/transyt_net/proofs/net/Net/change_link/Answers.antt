@@ -1,8 +1,10 @@
 use Rattle.std.proofs.Common.{rules, ◌≡◌, ℕ, List, Some, None, sym, ap, ◌∙◌, subst, set, true}
-use Rattle.transyt_net.specs.Parts.{LinkValue, Network, network_of}
-use Rattle.transyt_net.specs.Valid.{link_numbers, link_number, on_numbered, numbered, place_of, is_among, IsPlace}
-use Rattle.transyt_net.specs.Plan.{IsValid}
-use Rattle.transyt_net.specs.Edits.{edit_fault, with_edit, inverse}
+use Rattle.transyt_parts.specs.Parts.{LinkValue}
+use Rattle.transyt_net.specs.Parts.{Network, network_of}
+use Rattle.transyt_net.specs.Valid.{link_numbers, on_numbered, numbered, place_of, is_among, IsPlace, IsValid}
+use Rattle.transyt_parts.specs.Valid.{link_number}
+use Rattle.transyt_net.specs.EditFaults.{edit_fault}
+use Rattle.transyt_net.specs.Edits.{with_edit, inverse}
 use Rattle.transyt_net.specs.Named.{link_edit}
 use Rattle.transyt_net.proofs.PlaceLaws.{written_here, numbered_here, place_is, keys_kept}
 use Rattle.transyt_net.proofs.ApplyLaws.{valid_edit, link_named, link_takes, link_done, link_back_done, link_numbers_kept}

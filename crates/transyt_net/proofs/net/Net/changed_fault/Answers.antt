@@ -1,5 +1,6 @@
 use Rattle.std.proofs.Common.{rules, ◌≡◌, ◌≤◌, length, Some}
-use Rattle.transyt_net.specs.Valid.{IsNode, node_number, numbered}
+use Rattle.transyt_parts.specs.Valid.{IsNode, node_number}
+use Rattle.transyt_net.specs.Valid.{numbered}
 use Rattle.transyt_net.proofs.EditLaws.{all_numbered}
 use Rattle.transyt_net.proofs.net.Net.changed_fault.Goals as goal
 

@@ -1,7 +1,6 @@
 use Rattle.std.proofs.Common.{rules, ◌≡◌, ◌++◌, take, drop, length, sym, ap, ◌∙◌, subst}
 use Rattle.transyt_net.specs.Parts.{Network, network_of}
-use Rattle.transyt_net.specs.Valid.{node_numbers, link_numbers}
-use Rattle.transyt_net.specs.Plan.{IsValid}
+use Rattle.transyt_net.specs.Valid.{node_numbers, link_numbers, IsValid}
 use Rattle.transyt_net.specs.Shape.{SameShape, shape}
 use Rattle.transyt_net.proofs.ShapeLaws.{same_node_numbers, same_link_numbers}
 use Rattle.transyt_net.proofs.CopyLaws.{written_back}

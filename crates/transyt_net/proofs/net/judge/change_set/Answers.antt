@@ -1,6 +1,6 @@
 use Rattle.std.proofs.Common.{List, ◌++◌, drop, length, take, set, get_or, ap, ◌∙◌, replicate}
-use Rattle.transyt_net.specs.declared.node.Stage.{Stage}
-use Rattle.transyt_net.specs.Plan.{no_stage}
+use Rattle.transyt_parts.specs.declared.node.Stage.{Stage}
+use Rattle.transyt_parts.specs.Plan.{no_stage}
 use Rattle.transyt_net.specs.Edits.{change_to}
 use Rattle.transyt_net.proofs.EditLaws.{changed_front}
 use Rattle.transyt_net.proofs.net.judge.change_set.Goals as goal

@@ -1,7 +1,0 @@
-use Rattle.std.proofs.Common.{◌≡◌, true}
-use Rattle.std.specs.List.{range_with_len, list_all}
-use Rattle.transyt_net.specs.Plan.{has_green}
-use Rattle.transyt_net.proofs.plan_fault.have_greens.Given as goal
-
-abbrev pub invariant-loop-place : goal.invariant-loop-place
-invariant-loop-place l = list_all (has_green l.steps l.stages) (range_with_len 0 l.place) ≡ true

@@ -1,5 +1,0 @@
-use Rattle.std.proofs.Common.{length}
-use Rattle.transyt_net.proofs.shape.+same_feeds.Given as goal
-
-abbrev pub decreases-same_feeds : goal.decreases-same_feeds
-decreases-same_feeds l = length l.a.now

@@ -1,5 +1,0 @@
-use Rattle.std.proofs.Common.{length}
-use Rattle.transyt_net.proofs.shape.+same_numbers.Given as goal
-
-abbrev pub decreases-same_numbers : goal.decreases-same_numbers
-decreases-same_numbers l = length l.a.now

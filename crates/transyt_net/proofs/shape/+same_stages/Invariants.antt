@@ -1,5 +1,0 @@
-use Rattle.std.proofs.Common.{length}
-use Rattle.transyt_net.proofs.shape.+same_stages.Given as goal
-
-abbrev pub decreases-same_stages : goal.decreases-same_stages
-decreases-same_stages l = length l.a.now

@@ -1,0 +1,4 @@
+pub mod CopyLaws
+mod KnownValues
+pub mod PlanLaws
+pub mod ShapeLaws

@@ -1,0 +1,5 @@
+use Rattle.std.proofs.Common.{length}
+use Rattle.transyt_parts.proofs.shape.+same_feeds.Given as goal
+
+abbrev pub decreases-same_feeds : goal.decreases-same_feeds
+decreases-same_feeds l = length l.a.now

@@ -1,0 +1,55 @@
+-- Parts of given numbers, and parts with one thing more.
+use Rattle.std.specs.Prelude.{ℕ, List, [], ◌∷◌, ◌++◌, Some, None}
+use Rattle.transyt_parts.specs.Parts.{NodeValue, LinkValue, PlanValue}
+use Rattle.transyt_parts.specs.declared.node.Stage.{Stage}
+use Rattle.transyt_parts.specs.declared.link.Feed.{Feed}
+use Rattle.transyt_parts.specs.declared.link.GiveWay.{GiveWay}
+
+-- a node with no stage yet
+abbrev pub new_node : ℕ → ℕ → NodeValue
+new_node number offset = record { number = number; offset = offset; stages = [] }
+
+-- a stage of these numbers
+abbrev pub new_stage : ℕ → ℕ → ℕ → Stage
+new_stage change intergreen least = record { change = change; intergreen = intergreen; least = least }
+
+-- the node with one more stage, the last
+abbrev pub add_stage : Stage → NodeValue → NodeValue
+add_stage stage n = record n { stages = n.stages ++ stage ∷ [] }
+
+-- a link with neither feeds nor a rule yet
+abbrev pub new_link : ℕ → ℕ → ℕ → ℕ → ℕ → ℕ → ℕ → ℕ → List ℕ → LinkValue
+new_link number node entry saturation delay_weight stop_weight start_lag end_lag stages =
+    record {
+      number = number;
+      node = node;
+      entry = entry;
+      saturation = saturation;
+      delay_weight = delay_weight;
+      stop_weight = stop_weight;
+      start_lag = start_lag;
+      end_lag = end_lag;
+      stages = stages;
+      feeds = [];
+      gives_way = None;
+    }
+
+-- a feed of these numbers
+abbrev pub new_feed : ℕ → ℕ → ℕ → Feed
+new_feed feeder flow cruise = record { feeder = feeder; flow = flow; cruise = cruise }
+
+-- the link with one more feed, the last
+abbrev pub add_feed : Feed → LinkValue → LinkValue
+add_feed f l = record l { feeds = l.feeds ++ f ∷ [] }
+
+-- a give-way rule of these numbers
+abbrev pub new_rule : ℕ → ℕ → GiveWay
+new_rule other percent = record { other = other; percent = percent }
+
+-- the link with this give-way rule
+abbrev pub set_rule : GiveWay → LinkValue → LinkValue
+set_rule rule l = record l { gives_way = Some rule }
+
+-- a climb plan of these numbers
+abbrev pub new_plan : ℕ → List ℕ → PlanValue
+new_plan budget sizes = record { budget = budget; sizes = sizes }

@@ -1,0 +1,30 @@
+-- The parts of a network as contracts see them: a list in place of each vector.
+use Rattle.std.specs.Prelude.{ℕ, List, Option}
+use Rattle.transyt_parts.specs.declared.node.Stage.{Stage}
+use Rattle.transyt_parts.specs.declared.link.Feed.{Feed}
+use Rattle.transyt_parts.specs.declared.link.GiveWay.{GiveWay}
+
+-- a node, with a list in place of its vector
+pub record NodeValue : Type 0 where
+  pub number : ℕ
+  pub offset : ℕ
+  pub stages : List Stage
+
+-- a link, with lists in place of its vectors
+pub record LinkValue : Type 0 where
+  pub number : ℕ
+  pub node : ℕ
+  pub entry : ℕ
+  pub saturation : ℕ
+  pub delay_weight : ℕ
+  pub stop_weight : ℕ
+  pub start_lag : ℕ
+  pub end_lag : ℕ
+  pub stages : List ℕ
+  pub feeds : List Feed
+  pub gives_way : Option GiveWay
+
+-- a climb plan, with a list in place of its vector
+pub record PlanValue : Type 0 where
+  pub budget : ℕ
+  pub sizes : List ℕ

@@ -1,0 +1,21 @@
+//! What a climb does.
+
+use std::marker::Model;
+
+/// What a climb tries, and how often.
+#[derive(Debug, Drop)]
+pub struct ClimbPlan {
+    /// How many moves a climb looks at, at most: 1 to 1,000,000.
+    pub budget: u32,
+    /// By how many steps the moves shift an offset or a change: 1 to 16 sizes, each below the
+    /// number of steps.
+    pub sizes: Vec<u32>,
+}
+
+impl Model for ClimbPlan {
+    ghost use Rattle.transyt_parts.specs.Parts.{PlanValue};
+
+    ghost Value = { PlanValue };
+
+    ghost view = { λ p. record { budget = p.budget; sizes = p.sizes.items } };
+}

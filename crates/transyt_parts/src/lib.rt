@@ -1,0 +1,37 @@
+//! The parts of a network of signals, each by itself, and the plan of a node's stages.
+//!
+//! A contract sees a node, a link and a climb plan as the records of `specs/Parts`, with a list in
+//! place of each vector: `NodeValue`, `LinkValue` and `PlanValue`; frames, stages, feeds and rules
+//! are seen as they are. Cite first: `within` and `is_frame` of `specs/Valid` for ranges, `IsNode`
+//! and its like there for what a part keeps to, `new_link` and its like of `specs/Made` for parts
+//! of given numbers, `length_at`, `plan_fault` and `first_fault` of `specs/Plan`, `total_flow` of
+//! `specs/Flow`, and `bare_node`, `bare_link` and `same_list` of `specs/Shape` for what no edit
+//! changes.
+//!
+//! The parts are those of Robertson's TRANSYT (LR 253); lags, give-way rules, climb plans and all
+//! limits are this project's own.
+#![tactic(auto)]
+
+mod climb_plan;
+mod copy;
+mod frame;
+mod link;
+mod node;
+mod range;
+mod shape;
+mod stage_plan;
+
+pub use climb_plan::ClimbPlan;
+pub use copy::{copy_links, copy_nodes, copy_plan};
+pub use frame::Frame;
+pub use link::{Feed, GiveWay, Link, add_feed, all_flow, has_feeder, set_rule};
+pub use node::{Node, Stage, add_stage};
+pub use range::{
+    all_differ, all_within, is_feed_in_range, is_frame_in_range, is_link_in_range,
+    is_node_in_range, is_stage_in_range, is_within,
+};
+pub use shape::{same_frame, same_links, same_nodes, same_plan, take_links, take_nodes};
+pub use stage_plan::{PlanFault, first_fault, have_greens, in_order, plan_fault, stage_length};
+
+#[cfg(test)]
+mod tests;
