@@ -1,7 +1,7 @@
 -- The shape of a network: all but the numbers that an edit sets.
-use Rattle.std.specs.Prelude.{◌≡◌, Bool, ◌&&◌, map}
+use Rattle.std.specs.Prelude.{◌≡◌, map}
 use Rattle.transyt_net.specs.Parts.{Network}
-use Rattle.transyt_parts.specs.Shape.{bare_node, bare_link, same_list, same_node, same_link, same_plan, same_frame}
+use Rattle.transyt_parts.specs.Shape.{bare_node, bare_link}
 
 -- what no edit changes: the network with each number that an edit sets put to 0
 abbrev pub shape : Network → Network
@@ -10,9 +10,3 @@ shape net = record net { nodes = map bare_node net.nodes; links = map bare_link 
 -- the two differ at most in numbers that an edit sets
 abbrev pub SameShape : Network → Network → Type 0
 SameShape a b = shape a ≡ shape b
-
--- two networks differ at most in numbers that an edit sets, part by part
-abbrev pub same_shape : Network → Network → Bool
-same_shape a b =
-    same_frame a.frame b.frame && same_list same_node a.nodes b.nodes
-    && same_list same_link a.links b.links && same_plan a.plan b.plan

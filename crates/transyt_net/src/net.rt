@@ -3,7 +3,7 @@
 ghost use Rattle.std.specs.Prelude.{◌≡◌, ℕ, ◌+◌, ◌*◌, ◌/◌, ◌<◌, ◌≤◌, ◌^◌, length, IfSome, IfNone, IfOk, ◌↔◌, IsTrue, false};
 ghost use Rattle.std.specs.Option.{option_map};
 ghost use Rattle.transyt_net.specs.Valid.{node_numbers, link_numbers, place_of, is_among, IsValid};
-ghost use Rattle.transyt_net.specs.Shape.{SameShape, same_shape};
+ghost use Rattle.transyt_net.specs.Shape.{SameShape};
 ghost use Rattle.transyt_net.specs.Flow.{node_of, link_of, perstep};
 ghost use Rattle.transyt_parts.specs.Flow.{total_flow};
 ghost use Rattle.transyt_net.specs.Parts.{network_of, with_cycle};
@@ -146,22 +146,14 @@ impl Net {
         all_flow(&self.links[link])
     }
 
-    /// The same as a test of each part.
-    fn is_alike(&self, other: &Net) -> bool
-        ensures { result ≡ same_shape self.now other.now }
-    {
-        let frames = same_frame(self.frame, other.frame);
-        let nodes = same_nodes(&self.nodes, &other.nodes);
-        let links = same_links(&self.links, &other.links);
-        let plans = same_plan(&self.plan, &other.plan);
-        frames && nodes && links && plans
-    }
-
     /// Whether the two differ at most in numbers that an edit sets.
     pub fn same_shape(&self, other: &Net) -> bool
         ensures { IsTrue result ↔ SameShape self.now other.now }
     {
-        self.is_alike(other)
+        same_frame(self.frame, other.frame)
+            && same_nodes(&self.nodes, &other.nodes)
+            && same_links(&self.links, &other.links)
+            && same_plan(&self.plan, &other.plan)
     }
 
     /// Becomes equal to `from`, which has the same shape. It takes no memory.

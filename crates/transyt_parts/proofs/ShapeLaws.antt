@@ -1,15 +1,16 @@
 -- The tests of equal shapes of parts.
-use Rattle.std.proofs.Common.{◌≡◌, ℕ, Bool, true, ◌&&◌, List, [], ◌∷◌, map, Option, Some, None, refl, sym, ap, ◌∙◌, nat_eq}
+use Rattle.std.proofs.Common.{◌≡◌, ℕ, Bool, true, ◌&&◌, List, [], ◌∷◌, map, Option, Some, None, refl, sym, ap, ◌∙◌, nat_eq, ◌↔◌}
 use Rattle.std.proofs.lemmas.Bool.{and_parts, and_from, eqb-true, eq-eqb}
 use Rattle.transyt_parts.specs.declared.frame.Frame.{Frame}
 use Rattle.transyt_parts.specs.declared.node.Stage.{Stage}
 use Rattle.transyt_parts.specs.declared.link.Feed.{Feed}
 use Rattle.transyt_parts.specs.declared.link.GiveWay.{GiveWay}
 use Rattle.transyt_parts.specs.Parts.{NodeValue, LinkValue, PlanValue}
-use Rattle.transyt_parts.specs.Shape.{bare_stage, bare_node, bare_feed, bare_link, same_list, same_stage, same_node, same_feed, same_rule, same_link, same_plan, same_frame}
+use Rattle.transyt_parts.specs.Alike.{same_list, same_stage, same_node, same_feed, same_rule, same_link, same_plan, same_frame}
+use Rattle.transyt_parts.specs.Shape.{bare_stage, bare_node, bare_feed, bare_link}
 
 -- lists that a test finds the same are the same but for what the test leaves out
-pub list_told : {A B : Type 0} (f : A → B) (test : A → A → Bool) (told : (x y : A) → test x y ≡ true → f x ≡ f y)
+list_told : {A B : Type 0} (f : A → B) (test : A → A → Bool) (told : (x y : A) → test x y ≡ true → f x ≡ f y)
     (xs ys : List A)
     → same_list test xs ys ≡ true → map f xs ≡ map f ys
 list_told f test told [] [] h = refl
@@ -20,7 +21,7 @@ list_told f test told (x ∷ xs) (y ∷ ys) h =
     (λ j. told x y both.0 j ∷ list_told f test told xs ys both.1 j)
 
 -- a test finds lists the same that are the same but for what the test leaves out
-pub list_tells : {A B : Type 0} (f : A → B) (test : A → A → Bool) (tells : (x y : A) → f x ≡ f y → test x y ≡ true)
+list_tells : {A B : Type 0} (f : A → B) (test : A → A → Bool) (tells : (x y : A) → f x ≡ f y → test x y ≡ true)
     (xs ys : List A)
     → map f xs ≡ map f ys → same_list test xs ys ≡ true
 list_tells f test tells [] [] h = refl
@@ -50,14 +51,12 @@ stage_tells : (a b : Stage) → bare_stage a ≡ bare_stage b → same_stage a b
 stage_tells a b h =
     and_from _ _ (eq-eqb a.intergreen b.intergreen (ap (λ s. s.intergreen) h)) (eq-eqb a.least b.least (ap (λ s. s.least) h))
 
--- nodes that the test finds the same have one shape
-pub node_told : (a b : NodeValue) → same_node a b ≡ true → bare_node a ≡ bare_node b
+node_told : (a b : NodeValue) → same_node a b ≡ true → bare_node a ≡ bare_node b
 node_told a b h =
     let both = and_parts (nat_eq a.number b.number) (same_list same_stage a.stages b.stages) h in
     (λ j. record { number = eqb-true a.number b.number both.0 j; offset = 0; stages = list_told bare_stage same_stage stage_told a.stages b.stages both.1 j })
 
--- the test finds nodes of one shape the same
-pub node_tells : (a b : NodeValue) → bare_node a ≡ bare_node b → same_node a b ≡ true
+node_tells : (a b : NodeValue) → bare_node a ≡ bare_node b → same_node a b ≡ true
 node_tells a b h =
     and_from _ _ (eq-eqb a.number b.number (ap (λ n. n.number) h)) (list_tells bare_stage same_stage stage_tells a.stages b.stages (ap (λ n. n.stages) h))
 
@@ -83,8 +82,7 @@ rule_tells (Some a) (Some b) h =
     let same : a ≡ b = cc in
     and_from _ _ (eq-eqb a.other b.other (ap (λ r. r.other) same)) (eq-eqb a.percent b.percent (ap (λ r. r.percent) same))
 
--- climb plans that the test finds the same are equal
-pub plan_told : (a b : Option PlanValue) → same_plan a b ≡ true → a ≡ b
+plan_told : (a b : Option PlanValue) → same_plan a b ≡ true → a ≡ b
 plan_told None None h = refl
 plan_told None (Some b) h = absurd (cc)
 plan_told (Some a) None h = absurd (cc)
@@ -92,8 +90,7 @@ plan_told (Some a) (Some b) h =
     let both = and_parts (nat_eq a.budget b.budget) (same_list nat_eq a.sizes b.sizes) h in
     (λ j. Some (record { budget = eqb-true a.budget b.budget both.0 j; sizes = numbers_told a.sizes b.sizes both.1 j }))
 
--- the test finds equal climb plans the same
-pub plan_tells : (a b : Option PlanValue) → a ≡ b → same_plan a b ≡ true
+plan_tells : (a b : Option PlanValue) → a ≡ b → same_plan a b ≡ true
 plan_tells None None h = refl
 plan_tells None (Some b) h = absurd (cc)
 plan_tells (Some a) None h = absurd (cc)
@@ -135,8 +132,7 @@ link_tests a b h =
       rule = rule_told a.gives_way b.gives_way r6.1;
     }
 
--- links that the test finds the same have one shape
-pub link_told : (a b : LinkValue) → same_link a b ≡ true → bare_link a ≡ bare_link b
+link_told : (a b : LinkValue) → same_link a b ≡ true → bare_link a ≡ bare_link b
 link_told a b h =
     let t = link_tests a b h in
     (λ j. record {
@@ -153,8 +149,7 @@ link_told a b h =
       gives_way = t.rule j;
     })
 
--- the test finds links of one shape the same
-pub link_tells : (a b : LinkValue) → bare_link a ≡ bare_link b → same_link a b ≡ true
+link_tells : (a b : LinkValue) → bare_link a ≡ bare_link b → same_link a b ≡ true
 link_tells a b h =
     and_from _ _ (and_from _ _ (and_from _ _ (and_from _ _ (and_from _ _ (and_from _ _
     (eq-eqb a.number b.number (ap (λ l. l.number) h))
@@ -165,8 +160,7 @@ link_tells a b h =
     (list_tells bare_feed same_feed feed_tells a.feeds b.feeds (ap (λ l. l.feeds) h)))
     (rule_tells a.gives_way b.gives_way (ap (λ l. l.gives_way) h))
 
--- frames that the test finds the same are equal
-pub frame_told : (a b : Frame) → same_frame a b ≡ true → a ≡ b
+frame_told : (a b : Frame) → same_frame a b ≡ true → a ≡ b
 frame_told a b h =
     let c = nat_eq a.cycle b.cycle in
     let n = nat_eq a.step_count b.step_count in
@@ -187,8 +181,7 @@ frame_told a b h =
       dispersion = eqb-true a.dispersion b.dispersion r5.1 j;
     })
 
--- the test finds equal frames the same
-pub frame_tells : (a b : Frame) → a ≡ b → same_frame a b ≡ true
+frame_tells : (a b : Frame) → a ≡ b → same_frame a b ≡ true
 frame_tells a b h =
     and_from _ _ (and_from _ _ (and_from _ _ (and_from _ _ (and_from _ _
     (eq-eqb a.cycle b.cycle (ap (λ f. f.cycle) h))
@@ -197,3 +190,33 @@ frame_tells a b h =
     (eq-eqb a.period b.period (ap (λ f. f.period) h)))
     (eq-eqb a.stop_penalty b.stop_penalty (ap (λ f. f.stop_penalty) h)))
     (eq-eqb a.dispersion b.dispersion (ap (λ f. f.dispersion) h))
+
+-- what the test of frames answers says whether they are equal
+pub frames_decide : (a b : Frame) (answer : Bool) → answer ≡ same_frame a b → (answer ≡ true) ↔ (a ≡ b)
+frames_decide a b answer value = (
+  λ yes. frame_told a b (sym value ∙ yes),
+  λ same. value ∙ frame_tells a b same,
+)
+
+-- what the test of climb plans answers says whether they are equal
+pub plans_decide : (a b : Option PlanValue) (answer : Bool) → answer ≡ same_plan a b → (answer ≡ true) ↔ (a ≡ b)
+plans_decide a b answer value = (
+  λ yes. plan_told a b (sym value ∙ yes),
+  λ same. value ∙ plan_tells a b same,
+)
+
+-- what the test of nodes answers says whether they have one shape
+pub nodes_decide : (xs ys : List NodeValue) (answer : Bool) → answer ≡ same_list same_node xs ys
+    → (answer ≡ true) ↔ (map bare_node xs ≡ map bare_node ys)
+nodes_decide xs ys answer value = (
+  λ yes. list_told bare_node same_node node_told xs ys (sym value ∙ yes),
+  λ same. value ∙ list_tells bare_node same_node node_tells xs ys same,
+)
+
+-- what the test of links answers says whether they have one shape
+pub links_decide : (xs ys : List LinkValue) (answer : Bool) → answer ≡ same_list same_link xs ys
+    → (answer ≡ true) ↔ (map bare_link xs ≡ map bare_link ys)
+links_decide xs ys answer value = (
+  λ yes. list_told bare_link same_link link_told xs ys (sym value ∙ yes),
+  λ same. value ∙ list_tells bare_link same_link link_tells xs ys same,
+)

@@ -1,3 +1,4 @@
+pub mod Alike
 pub mod Parts
 pub mod Valid
 pub mod Made

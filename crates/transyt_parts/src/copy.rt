@@ -58,10 +58,7 @@ pub fn copy_links(alloc: Global, links: &[Link]) -> Result<Vec<Link>, AllocError
 }
 
 /// An equal climb plan with memory of its own, or none.
-pub fn copy_plan(
-    alloc: Global,
-    plan: &Option<ClimbPlan>,
-) -> Result<Option<ClimbPlan>, AllocError>
+pub fn copy_plan(alloc: Global, plan: &Option<ClimbPlan>) -> Result<Option<ClimbPlan>, AllocError>
     ensures { IfOk result (λ copy. copy ≡ plan.now) }
 {
     match plan {

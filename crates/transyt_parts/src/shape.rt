@@ -3,8 +3,9 @@
 //! An edit sets an offset, a change, a flow, a cruise time or a weight; all else is the shape. This
 //! project's own.
 
-ghost use Rattle.std.specs.Prelude.{◌≡◌, ℕ, length, map, nat_eq};
-ghost use Rattle.transyt_parts.specs.Shape.{bare_stage, bare_node, bare_feed, bare_link, same_list, same_stage, same_node, same_feed, same_rule, same_link, same_plan, same_frame};
+ghost use Rattle.std.specs.Prelude.{◌≡◌, ◌↔◌, ℕ, IsTrue, length, map, nat_eq};
+ghost use Rattle.transyt_parts.specs.Shape.{bare_node, bare_link};
+ghost use Rattle.transyt_parts.specs.Alike.{same_list, same_stage, same_node, same_feed, same_rule, same_link, same_plan, same_frame};
 
 use crate::climb_plan::ClimbPlan;
 use crate::frame::Frame;
@@ -12,8 +13,9 @@ use crate::link::{Feed, GiveWay, Link};
 use crate::node::{Node, Stage};
 
 /// Whether two frames are equal.
+#[tactic(auto, using(crate::proofs::ShapeLaws::frames_decide))]
 pub fn same_frame(a: Frame, b: Frame) -> bool
-    ensures { result ≡ same_frame a b }
+    ensures { IsTrue result ↔ a ≡ b }
 {
     a.cycle == b.cycle
         && a.step_count == b.step_count
@@ -83,31 +85,46 @@ fn same_link(a: &Link, b: &Link) -> bool
         && same_rule(a.gives_way, b.gives_way)
 }
 
-/// Whether two lists of nodes differ at most in numbers that an edit sets.
-pub fn same_nodes(a: &[Node], b: &[Node]) -> bool
+fn nodes_agree(a: &[Node], b: &[Node]) -> bool
     ensures { result ≡ same_list same_node a.now b.now }
 {
     match (a, b) {
         ([], []) => true,
-        ([x, xs @ ..], [y, ys @ ..]) => same_node(x, y) && same_nodes(xs, ys),
+        ([x, xs @ ..], [y, ys @ ..]) => same_node(x, y) && nodes_agree(xs, ys),
         _ => false,
     }
 }
 
-/// Whether two lists of links differ at most in numbers that an edit sets.
-pub fn same_links(a: &[Link], b: &[Link]) -> bool
+fn links_agree(a: &[Link], b: &[Link]) -> bool
     ensures { result ≡ same_list same_link a.now b.now }
 {
     match (a, b) {
         ([], []) => true,
-        ([x, xs @ ..], [y, ys @ ..]) => same_link(x, y) && same_links(xs, ys),
+        ([x, xs @ ..], [y, ys @ ..]) => same_link(x, y) && links_agree(xs, ys),
         _ => false,
     }
 }
 
+/// Whether two lists of nodes differ at most in numbers that an edit sets.
+#[tactic(auto, using(crate::proofs::ShapeLaws::nodes_decide))]
+pub fn same_nodes(a: &[Node], b: &[Node]) -> bool
+    ensures { IsTrue result ↔ map bare_node a.now ≡ map bare_node b.now }
+{
+    nodes_agree(a, b)
+}
+
+/// Whether two lists of links differ at most in numbers that an edit sets.
+#[tactic(auto, using(crate::proofs::ShapeLaws::links_decide))]
+pub fn same_links(a: &[Link], b: &[Link]) -> bool
+    ensures { IsTrue result ↔ map bare_link a.now ≡ map bare_link b.now }
+{
+    links_agree(a, b)
+}
+
 /// Whether two climb plans are equal, or there is none on either side.
+#[tactic(auto, using(crate::proofs::ShapeLaws::plans_decide))]
 pub fn same_plan(a: &Option<ClimbPlan>, b: &Option<ClimbPlan>) -> bool
-    ensures { result ≡ same_plan a.now b.now }
+    ensures { IsTrue result ↔ a.now ≡ b.now }
 {
     match (a, b) {
         (None, None) => true,

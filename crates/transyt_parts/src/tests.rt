@@ -29,7 +29,10 @@ fn node(alloc: Global, number: u32, first: u32, second: u32) -> Result<Node, All
 }
 
 /// A link of node 1 that runs in stages 2 and 1, with no feed and no rule.
-fn link(alloc: Global, number: u32) -> Result<Link, AllocError> {
+fn link(alloc: Global, number: u32) -> Result<Link, AllocError>
+    ensures entry { IfOk result (λ l. l.entry ≡ 360) }
+    ensures feeds { IfOk result (λ l. l.feeds ≡ []) }
+{
     Ok(Link {
         number,
         node: 1,

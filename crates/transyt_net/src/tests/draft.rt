@@ -1,167 +1,213 @@
-//! The faults of a draft's calls, each with the fault that stands behind it in order.
+//! The faults of a draft's calls.
+
+ghost use Rattle.std.specs.Prelude.{◌≡◌, ℕ, ◌<◌, ◌≤◌, length, IfOk};
 
 use super::{FRAME, one_link};
 use crate::{Draft, DraftFault, Frame, PlanFault};
 use std::alloc::Global;
 use std::test::Fail;
 
-/// Whether a number of this frame is out of range.
-fn is_refused(alloc: Global, frame: Frame) -> bool {
+/// Whether a draft can have this frame.
+fn is_taken(alloc: Global, frame: Frame) -> bool {
     match Draft::new(alloc, frame) {
-        Ok(_) => false,
-        Err(fault) => fault == DraftFault::Range,
+        Ok(_) => true,
+        Err(fault) => fault != DraftFault::Range,
     }
 }
 
 #[test]
 fn frames_are_judged(rt: HostRuntime) {
-    assert!(rt; !is_refused(rt.alloc(), FRAME));
-    assert!(rt; is_refused(rt.alloc(), Frame { cycle: 29, ..FRAME }));
-    assert!(rt;
-        is_refused(
-            rt.alloc(),
-            Frame {
-                cycle: 241,
-                ..FRAME
-            }
-        )
-    );
-    assert!(rt;
-        is_refused(
-            rt.alloc(),
-            Frame {
-                step_count: 121,
-                ..FRAME
-            }
-        )
-    );
-    assert!(rt; is_refused(rt.alloc(), Frame { sweeps: 9, ..FRAME }));
-    assert!(rt;
-        is_refused(
-            rt.alloc(),
-            Frame {
-                period: 14,
-                ..FRAME
-            }
-        )
-    );
-    assert!(rt;
-        is_refused(
-            rt.alloc(),
-            Frame {
-                stop_penalty: 10_000,
-                ..FRAME
-            }
-        )
-    );
-    assert!(rt;
-        is_refused(
-            rt.alloc(),
-            Frame {
-                dispersion: 101,
-                ..FRAME
-            }
-        )
-    );
+    for (frame, taken) in [
+        (FRAME, true),
+        (Frame { cycle: 29, ..FRAME }, false),
+        (Frame { cycle: 30, ..FRAME }, true),
+        (Frame { cycle: 240, ..FRAME }, true),
+        (Frame { cycle: 241, ..FRAME }, false),
+        (Frame { step_count: 9, ..FRAME }, false),
+        (Frame { step_count: 120, ..FRAME }, true),
+        (Frame { step_count: 121, ..FRAME }, false),
+        (Frame { sweeps: 0, ..FRAME }, false),
+        (Frame { sweeps: 8, ..FRAME }, true),
+        (Frame { sweeps: 9, ..FRAME }, false),
+        (Frame { period: 14, ..FRAME }, false),
+        (Frame { period: 15, ..FRAME }, true),
+        (Frame { period: 120, ..FRAME }, true),
+        (Frame { period: 121, ..FRAME }, false),
+        (Frame { stop_penalty: 9999, ..FRAME }, true),
+        (Frame { stop_penalty: 10_000, ..FRAME }, false),
+        (Frame { dispersion: 100, ..FRAME }, true),
+        (Frame { dispersion: 101, ..FRAME }, false),
+    ] {
+        assert_eq!(rt; is_taken(rt.alloc(), frame), taken, "{frame:?}");
+    }
 }
 
-#[test]
-fn node_faults_come_in_order(rt: HostRuntime) -> Result<(), Fail> {
-    let mut draft = one_link(rt.alloc())?;
-    assert_eq!(rt; draft.node(1, 10), Err(DraftFault::Twice));
-    assert_eq!(rt; draft.node(0, 0), Err(DraftFault::Range));
-    assert_eq!(rt; draft.node(100_000, 0), Err(DraftFault::Range));
-    for number in 2..201 {
+/// A call of a draft.
+#[derive(Clone, Copy, Debug)]
+enum Step {
+    /// Number and offset.
+    Node(u32, u32),
+    /// Change, intergreen and least green.
+    Stage(u32, u32, u32),
+    /// Number, node, entry and saturation flow, the two weights, the two lags; the stages.
+    Link([u32; 8], [u32; 2]),
+    /// Link, feeder, flow and cruise time.
+    Feed(u32, u32, u32, u32),
+    /// Link, the other and per cent.
+    Rule(u32, u32, u32),
+    /// Budget and sizes.
+    Plan(u32, [u32; 2]),
+}
+
+/// Makes one call.
+fn make(draft: &mut Draft, step: Step) -> Result<(), DraftFault>
+    requires nodes { 0 < length draft.old.nodes }
+    requires plan { draft.old.plan ≡ None }
+{
+    match step {
+        Step::Node(number, offset) => draft.node(number, offset),
+        Step::Stage(change, intergreen, least) => draft.stage(change, intergreen, least),
+        Step::Link([number, node, entry, flow, delay, stop, start, end], stages) => {
+            draft.link(number, node, entry, flow, delay, stop, start, end, &stages)
+        }
+        Step::Feed(link, feeder, flow, cruise) => draft.feed(link, feeder, flow, cruise),
+        Step::Rule(link, other, percent) => draft.give_way(link, other, percent),
+        Step::Plan(budget, sizes) => draft.plan(budget, &sizes),
+    }
+}
+
+/// Adds nodes with these numbers, the last apart.
+fn add_nodes(draft: &mut Draft, first: u32, end: u32) -> Result<(), DraftFault>
+    ensures nodes { length draft.old.nodes ≤ length draft.new.nodes }
+    ensures plan { draft.new.plan ≡ draft.old.plan }
+{
+    for number in first..end {
         draft.node(number, 9)?;
     }
-    assert_eq!(rt; draft.node(99_999, 10), Err(DraftFault::Range));
-    assert_eq!(rt; draft.node(99_999, 9), Err(DraftFault::TooMany));
     Ok(())
 }
 
-#[test]
-fn stage_faults_come_in_order(rt: HostRuntime) -> Result<(), Fail> {
-    let mut draft = Draft::new(rt.alloc(), FRAME)?;
-    draft.node(1, 0)?;
-    draft.stage(9, 9, 10)?;
-    draft.stage(9, 9, 10)?;
-    draft.stage(9, 9, 10)?;
-    draft.stage(9, 9, 10)?;
-    draft.stage(9, 9, 10)?;
-    draft.stage(9, 9, 10)?;
-    draft.stage(9, 9, 10)?;
-    assert_eq!(rt; draft.stage(0, 0, 0), Err(DraftFault::Range));
-    draft.stage(0, 0, 1)?;
-    assert_eq!(rt; draft.stage(10, 0, 1), Err(DraftFault::Range));
-    assert_eq!(rt; draft.stage(0, 0, 1), Err(DraftFault::TooMany));
+/// Adds so many stages to the last node.
+fn add_stages(draft: &mut Draft, count: u32) -> Result<(), DraftFault>
+    requires { 0 < length draft.old.nodes }
+    ensures nodes { 0 < length draft.new.nodes }
+    ensures plan { draft.new.plan ≡ draft.old.plan }
+{
+    for _ in 0..count {
+        draft.stage(9, 9, 10)?;
+    }
     Ok(())
 }
 
-#[test]
-fn link_faults_come_in_order(rt: HostRuntime) -> Result<(), Fail> {
-    let mut draft = one_link(rt.alloc())?;
-    let refused = draft.link(1, 9, 10_000, 1800, 1, 1, 0, 0, &[1]);
-    assert_eq!(rt; refused, Err(DraftFault::Twice));
-    let refused = draft.link(2, 9, 10_000, 1800, 1, 1, 0, 0, &[3, 3]);
-    assert_eq!(rt; refused, Err(DraftFault::Twice));
-    let refused = draft.link(2, 9, 10_000, 1800, 1, 1, 0, 0, &[1]);
-    assert_eq!(rt; refused, Err(DraftFault::Unknown));
-    let refused = draft.link(2, 1, 10_000, 1800, 1, 1, 0, 0, &[1, 3]);
-    assert_eq!(rt; refused, Err(DraftFault::Unknown));
-    for number in 2..1001 {
+/// Adds links of node 1 with these numbers, the last apart.
+fn add_links(draft: &mut Draft, first: u32, end: u32) -> Result<(), DraftFault>
+    ensures nodes { length draft.old.nodes ≤ length draft.new.nodes }
+    ensures plan { draft.new.plan ≡ draft.old.plan }
+{
+    for number in first..end {
         draft.link(number, 1, 9999, 9999, 999, 999, 9, 9, &[2, 1])?;
     }
-    let refused = draft.link(1001, 1, 0, 99, 1, 1, 0, 0, &[1]);
-    assert_eq!(rt; refused, Err(DraftFault::Range));
-    let refused = draft.link(1001, 1, 0, 1800, 1, 1, 0, 0, &[1]);
-    assert_eq!(rt; refused, Err(DraftFault::TooMany));
     Ok(())
 }
 
-#[test]
-fn feed_faults_come_in_order(rt: HostRuntime) -> Result<(), Fail> {
-    let mut draft = one_link(rt.alloc())?;
-    for number in 2..10 {
-        draft.link(number, 1, 0, 1800, 1, 1, 0, 0, &[1])?;
-    }
-    for feeder in 1..9 {
+/// Feeds link 1 from the links with these numbers, the last apart.
+fn add_feeds(draft: &mut Draft, first: u32, end: u32) -> Result<(), DraftFault>
+    ensures nodes { length draft.old.nodes ≤ length draft.new.nodes }
+    ensures plan { draft.new.plan ≡ draft.old.plan }
+{
+    for feeder in first..end {
         draft.feed(1, feeder, 9999, 300)?;
     }
-    assert_eq!(rt; draft.feed(1, 8, 10_000, 15), Err(DraftFault::Twice));
-    assert_eq!(rt; draft.feed(1, 10, 10_000, 15), Err(DraftFault::Unknown));
-    assert_eq!(rt; draft.feed(10, 1, 10_000, 15), Err(DraftFault::Unknown));
-    assert_eq!(rt; draft.feed(1, 9, 10_000, 15), Err(DraftFault::Range));
-    assert_eq!(rt; draft.feed(1, 9, 180, 301), Err(DraftFault::Range));
-    assert_eq!(rt; draft.feed(1, 9, 180, 15), Err(DraftFault::TooMany));
     Ok(())
 }
 
+/// A draft that takes no more: links 1 to 1,000, of which 2 to 9 feed link 1, which gives way to
+/// link 2; nodes 1 to 200, the last with eight stages.
+fn full_draft(alloc: Global) -> Result<Draft, DraftFault>
+    ensures nodes { IfOk result (λ draft. 0 < length draft.nodes) }
+    ensures plan { IfOk result (λ draft. draft.plan ≡ None) }
+{
+    let mut draft = one_link(alloc)?;
+    add_links(&mut draft, 2, 1001)?;
+    add_feeds(&mut draft, 2, 10)?;
+    draft.give_way(1, 2, 400)?;
+    add_nodes(&mut draft, 2, 201)?;
+    add_stages(&mut draft, 8)?;
+    Ok(draft)
+}
+
+/// The fault of a call of the full draft.
+fn fault_of(alloc: Global, step: Step) -> Result<Option<DraftFault>, DraftFault> {
+    let mut draft = full_draft(alloc)?;
+    Ok(make(&mut draft, step).err())
+}
+
+/// In the full draft each row but the last of a call has a later fault too.
 #[test]
-fn rule_faults_come_in_order(rt: HostRuntime) -> Result<(), Fail> {
-    let mut draft = one_link(rt.alloc())?;
-    draft.link(2, 1, 0, 1800, 1, 1, 0, 0, &[1])?;
-    draft.give_way(2, 1, 400)?;
-    assert_eq!(rt; draft.give_way(2, 9, 401), Err(DraftFault::Twice));
-    assert_eq!(rt; draft.give_way(1, 9, 401), Err(DraftFault::Unknown));
-    assert_eq!(rt; draft.give_way(9, 1, 401), Err(DraftFault::Unknown));
-    assert_eq!(rt; draft.give_way(1, 2, 401), Err(DraftFault::Range));
+fn faults_come_in_order(rt: HostRuntime) -> Result<(), Fail> {
+    for (step, fault) in [
+        (Step::Node(1, 10), DraftFault::Twice),
+        (Step::Node(0, 9), DraftFault::Range),
+        (Step::Node(100_000, 9), DraftFault::Range),
+        (Step::Node(99_999, 10), DraftFault::Range),
+        (Step::Node(99_999, 9), DraftFault::TooMany),
+        (Step::Stage(10, 9, 10), DraftFault::Range),
+        (Step::Stage(9, 10, 10), DraftFault::Range),
+        (Step::Stage(9, 9, 0), DraftFault::Range),
+        (Step::Stage(9, 9, 11), DraftFault::Range),
+        (Step::Stage(9, 9, 10), DraftFault::TooMany),
+        (Step::Link([1, 201, 10_000, 1800, 1, 1, 0, 0], [1, 2]), DraftFault::Twice),
+        (Step::Link([1001, 1, 10_000, 1800, 1, 1, 0, 0], [3, 3]), DraftFault::Twice),
+        (Step::Link([1001, 201, 10_000, 1800, 1, 1, 0, 0], [1, 2]), DraftFault::Unknown),
+        (Step::Link([1001, 1, 10_000, 1800, 1, 1, 0, 0], [1, 3]), DraftFault::Unknown),
+        (Step::Link([1001, 1, 10_000, 1800, 1, 1, 0, 0], [0, 1]), DraftFault::Unknown),
+        (Step::Link([0, 1, 0, 1800, 1, 1, 0, 0], [1, 2]), DraftFault::Range),
+        (Step::Link([100_000, 1, 0, 1800, 1, 1, 0, 0], [1, 2]), DraftFault::Range),
+        (Step::Link([1001, 1, 10_000, 1800, 1, 1, 0, 0], [1, 2]), DraftFault::Range),
+        (Step::Link([1001, 1, 0, 99, 1, 1, 0, 0], [1, 2]), DraftFault::Range),
+        (Step::Link([1001, 1, 0, 10_000, 1, 1, 0, 0], [1, 2]), DraftFault::Range),
+        (Step::Link([1001, 1, 0, 1800, 1000, 1, 0, 0], [1, 2]), DraftFault::Range),
+        (Step::Link([1001, 1, 0, 1800, 1, 1000, 0, 0], [1, 2]), DraftFault::Range),
+        (Step::Link([1001, 1, 0, 1800, 1, 1, 10, 0], [1, 2]), DraftFault::Range),
+        (Step::Link([1001, 1, 0, 1800, 1, 1, 0, 10], [1, 2]), DraftFault::Range),
+        (Step::Link([1001, 1, 0, 1800, 1, 1, 0, 0], [1, 2]), DraftFault::TooMany),
+        (Step::Feed(1, 9, 10_000, 15), DraftFault::Twice),
+        (Step::Feed(1, 1001, 10_000, 15), DraftFault::Unknown),
+        (Step::Feed(1001, 1, 10_000, 15), DraftFault::Unknown),
+        (Step::Feed(1, 10, 10_000, 15), DraftFault::Range),
+        (Step::Feed(1, 10, 180, 0), DraftFault::Range),
+        (Step::Feed(1, 10, 180, 301), DraftFault::Range),
+        (Step::Feed(1, 10, 180, 15), DraftFault::TooMany),
+        (Step::Rule(1, 1001, 401), DraftFault::Twice),
+        (Step::Rule(2, 1001, 401), DraftFault::Unknown),
+        (Step::Rule(1001, 1, 401), DraftFault::Unknown),
+        (Step::Rule(2, 1, 401), DraftFault::Range),
+        (Step::Plan(0, [9, 1]), DraftFault::Range),
+        (Step::Plan(1_000_001, [9, 1]), DraftFault::Range),
+        (Step::Plan(1, [1, 0]), DraftFault::Range),
+        (Step::Plan(1, [10, 1]), DraftFault::Range),
+    ] {
+        assert_eq!(rt; fault_of(rt.alloc(), step)?, Some(fault), "{step:?}");
+    }
     Ok(())
 }
 
+/// What the full draft still takes, at the ends of the ranges.
 #[test]
-fn climb_plans_are_judged(rt: HostRuntime) -> Result<(), Fail> {
-    let mut draft = one_link(rt.alloc())?;
-    assert_eq!(rt; draft.plan(0, &[1]), Err(DraftFault::Range));
-    assert_eq!(rt; draft.plan(1_000_001, &[1]), Err(DraftFault::Range));
-    assert_eq!(rt; draft.plan(1, &[1, 0]), Err(DraftFault::Range));
-    assert_eq!(rt; draft.plan(1, &[10, 1]), Err(DraftFault::Range));
-    draft.plan(1_000_000, &[9, 1, 9])?;
+fn a_full_draft_takes_a_rule_and_a_plan(rt: HostRuntime) -> Result<(), Fail> {
+    for step in [
+        Step::Feed(2, 1, 9999, 300),
+        Step::Rule(2, 1, 400),
+        Step::Plan(1_000_000, [9, 9]),
+    ] {
+        assert_eq!(rt; fault_of(rt.alloc(), step)?, None, "{step:?}");
+    }
     Ok(())
 }
 
 /// Why two nodes are no network: the first has stages at steps 0 and `first`, the second at 0 and
 /// `second`, each with an intergreen of 1 and a least green of 2.
-fn fault_of(alloc: Global, first: u32, second: u32) -> Result<Option<PlanFault>, DraftFault> {
+fn plan_fault_of(alloc: Global, first: u32, second: u32) -> Result<Option<PlanFault>, DraftFault> {
     let mut draft = Draft::new(alloc, FRAME)?;
     draft.node(2, 0)?;
     draft.stage(0, 1, 2)?;
@@ -174,10 +220,19 @@ fn fault_of(alloc: Global, first: u32, second: u32) -> Result<Option<PlanFault>,
 
 #[test]
 fn plans_are_judged_node_by_node(rt: HostRuntime) -> Result<(), Fail> {
-    assert_eq!(rt; fault_of(rt.alloc(), 3, 7)?, None);
-    assert_eq!(rt; fault_of(rt.alloc(), 0, 2)?, Some(PlanFault::StageOrder));
-    assert_eq!(rt; fault_of(rt.alloc(), 2, 0)?, Some(PlanFault::LeastGreen));
-    assert_eq!(rt; fault_of(rt.alloc(), 5, 8)?, Some(PlanFault::LeastGreen));
+    for (first, second, want) in [
+        (3, 7, None),
+        (0, 2, Some(PlanFault::StageOrder)),
+        (2, 0, Some(PlanFault::LeastGreen)),
+        (5, 8, Some(PlanFault::LeastGreen)),
+    ] {
+        assert_eq!(rt; plan_fault_of(rt.alloc(), first, second)?, want);
+    }
+    Ok(())
+}
+
+#[test]
+fn one_stage_is_too_few(rt: HostRuntime) -> Result<(), Fail> {
     let mut draft = one_link(rt.alloc())?;
     draft.node(2, 0)?;
     draft.stage(0, 9, 10)?;

@@ -5,9 +5,9 @@ ghost use Rattle.std.specs.Prelude.{◌≡◌};
 use super::{FEEDS, RULE, link, node, stage};
 use crate::{
     ClimbPlan, Feed, Frame, Link, Node, Stage, add_feed, add_stage, all_differ, all_flow,
-    all_within, copy_links, copy_nodes, copy_plan, has_feeder, is_feed_in_range,
-    is_frame_in_range, is_link_in_range, is_node_in_range, is_stage_in_range, is_within,
-    same_frame, same_links, same_nodes, same_plan, set_rule, take_links, take_nodes,
+    all_within, copy_links, copy_nodes, copy_plan, has_feeder, is_feed_in_range, is_frame_in_range,
+    is_link_in_range, is_node_in_range, is_stage_in_range, is_within, same_frame, same_links,
+    same_nodes, same_plan, set_rule, take_links, take_nodes,
 };
 use std::alloc::{AllocError, Global};
 use std::test::Fail;
@@ -32,7 +32,12 @@ fn numbers_in_range_are_told(rt: HostRuntime) {
     assert!(rt; is_link_in_range(10, 1, 0, 100, 999, 0, 9, 0));
     assert!(rt; !is_link_in_range(10, 1, 0, 100, 999, 0, 9, 10));
     assert!(rt; is_feed_in_range(FEEDS[0]));
-    assert!(rt; !is_feed_in_range(Feed { cruise: 301, ..FEEDS[0] }));
+    assert!(rt;
+        !is_feed_in_range(Feed {
+            cruise: 301,
+            ..FEEDS[0]
+        })
+    );
 }
 
 #[test]
@@ -51,20 +56,20 @@ fn feeds_and_a_rule_are_added(rt: HostRuntime) -> Result<(), Fail> {
 fn a_stage_is_added_last(rt: HostRuntime) -> Result<(), Fail> {
     let mut node = node(rt.alloc(), 1, 0, 3)?;
     add_stage(&mut node, stage(6))?;
-    assert_eq!(rt; node.stages.as_slice(), [stage(0), stage(3), stage(6)].as_slice());
+    assert_eq!(rt;
+        node.stages.as_slice(),
+        [stage(0), stage(3), stage(6)].as_slice()
+    );
     Ok(())
-}
-
-/// The total flow of a link with an entry flow of 360 and these feeds.
-fn total_with(alloc: Global, feeds: &[Feed; 2]) -> Result<u32, AllocError> {
-    let mut link = link(alloc, 1)?;
-    link.feeds = Vec::from_slice(alloc, feeds)?;
-    Ok(all_flow(&link))
 }
 
 #[test]
 fn entry_and_feeds_are_the_total_flow(rt: HostRuntime) -> Result<(), Fail> {
-    assert_eq!(rt; total_with(rt.alloc(), &FEEDS)?, 510);
+    let mut link = link(rt.alloc(), 1)?;
+    assert_eq!(rt; all_flow(&link), 360);
+    add_feed(&mut link, FEEDS[0])?;
+    add_feed(&mut link, FEEDS[1])?;
+    assert_eq!(rt; all_flow(&link), 510);
     Ok(())
 }
 
@@ -138,7 +143,15 @@ fn a_copied_plan_is_equal(rt: HostRuntime) -> Result<(), Fail> {
 #[test]
 fn frames_of_one_shape_are_equal(rt: HostRuntime) {
     assert!(rt; same_frame(FRAME, FRAME));
-    assert!(rt; !same_frame(FRAME, Frame { dispersion: 36, ..FRAME }));
+    assert!(rt;
+        !same_frame(
+            FRAME,
+            Frame {
+                dispersion: 36,
+                ..FRAME
+            }
+        )
+    );
 }
 
 /// Takes the numbers of `from`, if it has the same shape.
@@ -163,7 +176,8 @@ fn links_taken(links: &mut [Link], from: &[Link]) -> bool {
 fn nodes_take_offsets_and_changes(rt: HostRuntime) -> Result<(), Fail> {
     let mut nodes = [node(rt.alloc(), 1, 0, 5)?];
     let mut from = [node(rt.alloc(), 1, 3, 9)?];
-    from[0].offset = 7;
+    let first = &mut from[0];
+    first.offset = 7;
     assert!(rt; nodes_taken(&mut nodes, &from));
     assert!(rt; are_equal_nodes(&nodes[0], &from[0]));
     let other = [node(rt.alloc(), 2, 3, 9)?];
@@ -182,7 +196,11 @@ fn links_take_flows_and_weights(rt: HostRuntime) -> Result<(), Fail> {
     first.saturation = 100;
     first.delay_weight = 0;
     first.stop_weight = 999;
-    let cheaper = Feed { flow: 1, cruise: 300, ..FEEDS[0] };
+    let cheaper = Feed {
+        flow: 1,
+        cruise: 300,
+        ..FEEDS[0]
+    };
     first.feeds = Vec::from_slice(rt.alloc(), &[cheaper, FEEDS[1]])?;
     assert!(rt; links_taken(&mut links, &from));
     assert!(rt; are_equal_links(&links[0], &from[0]));
