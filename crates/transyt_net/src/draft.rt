@@ -16,8 +16,8 @@ use indexmap::IndexSet;
 use std::alloc::{AllocError, AllocFailed, Global};
 use std::marker::Model;
 use transyt_parts::{
-    ClimbPlan, Feed, Frame, GiveWay, Link, Node, PlanFault, Stage, add_feed, add_stage, first_fault,
-    is_frame_in_range, set_rule,
+    ClimbPlan, Feed, Frame, GiveWay, Link, Node, PlanFault, Stage, add_feed, add_stage,
+    first_fault, is_frame_in_range, set_rule,
 };
 
 /// Why a draft refuses, in the order in which the faults are asked for.

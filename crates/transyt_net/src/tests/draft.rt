@@ -7,38 +7,113 @@ use crate::{Draft, DraftFault, Frame, PlanFault};
 use std::alloc::Global;
 use std::test::Fail;
 
-/// Whether a draft can have this frame.
-fn is_taken(alloc: Global, frame: Frame) -> bool {
-    match Draft::new(alloc, frame) {
-        Ok(_) => true,
-        Err(fault) => fault != DraftFault::Range,
-    }
+/// The fault of a frame.
+fn fault_of_frame(alloc: Global, frame: Frame) -> Option<DraftFault> {
+    Draft::new(alloc, frame).err()
 }
 
 #[test]
 fn frames_are_judged(rt: HostRuntime) {
-    for (frame, taken) in [
-        (FRAME, true),
-        (Frame { cycle: 29, ..FRAME }, false),
-        (Frame { cycle: 30, ..FRAME }, true),
-        (Frame { cycle: 240, ..FRAME }, true),
-        (Frame { cycle: 241, ..FRAME }, false),
-        (Frame { step_count: 9, ..FRAME }, false),
-        (Frame { step_count: 120, ..FRAME }, true),
-        (Frame { step_count: 121, ..FRAME }, false),
-        (Frame { sweeps: 0, ..FRAME }, false),
-        (Frame { sweeps: 8, ..FRAME }, true),
-        (Frame { sweeps: 9, ..FRAME }, false),
-        (Frame { period: 14, ..FRAME }, false),
-        (Frame { period: 15, ..FRAME }, true),
-        (Frame { period: 120, ..FRAME }, true),
-        (Frame { period: 121, ..FRAME }, false),
-        (Frame { stop_penalty: 9999, ..FRAME }, true),
-        (Frame { stop_penalty: 10_000, ..FRAME }, false),
-        (Frame { dispersion: 100, ..FRAME }, true),
-        (Frame { dispersion: 101, ..FRAME }, false),
+    for (frame, want) in [
+        (FRAME, None),
+        (Frame { cycle: 29, ..FRAME }, Some(DraftFault::Range)),
+        (Frame { cycle: 30, ..FRAME }, None),
+        (
+            Frame {
+                cycle: 240,
+                ..FRAME
+            },
+            None,
+        ),
+        (
+            Frame {
+                cycle: 241,
+                ..FRAME
+            },
+            Some(DraftFault::Range),
+        ),
+        (
+            Frame {
+                step_count: 9,
+                ..FRAME
+            },
+            Some(DraftFault::Range),
+        ),
+        (
+            Frame {
+                step_count: 120,
+                ..FRAME
+            },
+            None,
+        ),
+        (
+            Frame {
+                step_count: 121,
+                ..FRAME
+            },
+            Some(DraftFault::Range),
+        ),
+        (Frame { sweeps: 0, ..FRAME }, Some(DraftFault::Range)),
+        (Frame { sweeps: 8, ..FRAME }, None),
+        (Frame { sweeps: 9, ..FRAME }, Some(DraftFault::Range)),
+        (
+            Frame {
+                period: 14,
+                ..FRAME
+            },
+            Some(DraftFault::Range),
+        ),
+        (
+            Frame {
+                period: 15,
+                ..FRAME
+            },
+            None,
+        ),
+        (
+            Frame {
+                period: 120,
+                ..FRAME
+            },
+            None,
+        ),
+        (
+            Frame {
+                period: 121,
+                ..FRAME
+            },
+            Some(DraftFault::Range),
+        ),
+        (
+            Frame {
+                stop_penalty: 9999,
+                ..FRAME
+            },
+            None,
+        ),
+        (
+            Frame {
+                stop_penalty: 10_000,
+                ..FRAME
+            },
+            Some(DraftFault::Range),
+        ),
+        (
+            Frame {
+                dispersion: 100,
+                ..FRAME
+            },
+            None,
+        ),
+        (
+            Frame {
+                dispersion: 101,
+                ..FRAME
+            },
+            Some(DraftFault::Range),
+        ),
     ] {
-        assert_eq!(rt; is_taken(rt.alloc(), frame), taken, "{frame:?}");
+        assert_eq!(rt; fault_of_frame(rt.alloc(), frame), want, "{frame:?}");
     }
 }
 
@@ -59,6 +134,19 @@ enum Step {
     Plan(u32, [u32; 2]),
 }
 
+/// Adds a link with these numbers, in the order of `Step::Link`.
+fn add_link(draft: &mut Draft, numbers: [u32; 8], stages: [u32; 2]) -> Result<(), DraftFault> {
+    let [number, node, entry, flow, delay, stop, start, end] = numbers;
+    draft.link(number, node, entry, flow, delay, stop, start, end, &stages)
+}
+
+/// Sets a climb plan of two sizes.
+fn set_plan(draft: &mut Draft, budget: u32, sizes: [u32; 2]) -> Result<(), DraftFault>
+    requires { draft.old.plan ≡ None }
+{
+    draft.plan(budget, &sizes)
+}
+
 /// Makes one call.
 fn make(draft: &mut Draft, step: Step) -> Result<(), DraftFault>
     requires nodes { 0 < length draft.old.nodes }
@@ -67,19 +155,16 @@ fn make(draft: &mut Draft, step: Step) -> Result<(), DraftFault>
     match step {
         Step::Node(number, offset) => draft.node(number, offset),
         Step::Stage(change, intergreen, least) => draft.stage(change, intergreen, least),
-        Step::Link([number, node, entry, flow, delay, stop, start, end], stages) => {
-            draft.link(number, node, entry, flow, delay, stop, start, end, &stages)
-        }
+        Step::Link(numbers, stages) => add_link(draft, numbers, stages),
         Step::Feed(link, feeder, flow, cruise) => draft.feed(link, feeder, flow, cruise),
         Step::Rule(link, other, percent) => draft.give_way(link, other, percent),
-        Step::Plan(budget, sizes) => draft.plan(budget, &sizes),
+        Step::Plan(budget, sizes) => set_plan(draft, budget, sizes),
     }
 }
 
 /// Adds nodes with these numbers, the last apart.
 fn add_nodes(draft: &mut Draft, first: u32, end: u32) -> Result<(), DraftFault>
-    ensures nodes { length draft.old.nodes ≤ length draft.new.nodes }
-    ensures plan { draft.new.plan ≡ draft.old.plan }
+    ensures { draft.new.plan ≡ draft.old.plan }
 {
     for number in first..end {
         draft.node(number, 9)?;
@@ -101,8 +186,7 @@ fn add_stages(draft: &mut Draft, count: u32) -> Result<(), DraftFault>
 
 /// Adds links of node 1 with these numbers, the last apart.
 fn add_links(draft: &mut Draft, first: u32, end: u32) -> Result<(), DraftFault>
-    ensures nodes { length draft.old.nodes ≤ length draft.new.nodes }
-    ensures plan { draft.new.plan ≡ draft.old.plan }
+    ensures { draft.new.plan ≡ draft.old.plan }
 {
     for number in first..end {
         draft.link(number, 1, 9999, 9999, 999, 999, 9, 9, &[2, 1])?;
@@ -112,8 +196,7 @@ fn add_links(draft: &mut Draft, first: u32, end: u32) -> Result<(), DraftFault>
 
 /// Feeds link 1 from the links with these numbers, the last apart.
 fn add_feeds(draft: &mut Draft, first: u32, end: u32) -> Result<(), DraftFault>
-    ensures nodes { length draft.old.nodes ≤ length draft.new.nodes }
-    ensures plan { draft.new.plan ≡ draft.old.plan }
+    ensures { draft.new.plan ≡ draft.old.plan }
 {
     for feeder in first..end {
         draft.feed(1, feeder, 9999, 300)?;
@@ -131,7 +214,8 @@ fn full_draft(alloc: Global) -> Result<Draft, DraftFault>
     add_links(&mut draft, 2, 1001)?;
     add_feeds(&mut draft, 2, 10)?;
     draft.give_way(1, 2, 400)?;
-    add_nodes(&mut draft, 2, 201)?;
+    add_nodes(&mut draft, 2, 200)?;
+    draft.node(200, 9)?;
     add_stages(&mut draft, 8)?;
     Ok(draft)
 }
@@ -156,21 +240,66 @@ fn faults_come_in_order(rt: HostRuntime) -> Result<(), Fail> {
         (Step::Stage(9, 9, 0), DraftFault::Range),
         (Step::Stage(9, 9, 11), DraftFault::Range),
         (Step::Stage(9, 9, 10), DraftFault::TooMany),
-        (Step::Link([1, 201, 10_000, 1800, 1, 1, 0, 0], [1, 2]), DraftFault::Twice),
-        (Step::Link([1001, 1, 10_000, 1800, 1, 1, 0, 0], [3, 3]), DraftFault::Twice),
-        (Step::Link([1001, 201, 10_000, 1800, 1, 1, 0, 0], [1, 2]), DraftFault::Unknown),
-        (Step::Link([1001, 1, 10_000, 1800, 1, 1, 0, 0], [1, 3]), DraftFault::Unknown),
-        (Step::Link([1001, 1, 10_000, 1800, 1, 1, 0, 0], [0, 1]), DraftFault::Unknown),
-        (Step::Link([0, 1, 0, 1800, 1, 1, 0, 0], [1, 2]), DraftFault::Range),
-        (Step::Link([100_000, 1, 0, 1800, 1, 1, 0, 0], [1, 2]), DraftFault::Range),
-        (Step::Link([1001, 1, 10_000, 1800, 1, 1, 0, 0], [1, 2]), DraftFault::Range),
-        (Step::Link([1001, 1, 0, 99, 1, 1, 0, 0], [1, 2]), DraftFault::Range),
-        (Step::Link([1001, 1, 0, 10_000, 1, 1, 0, 0], [1, 2]), DraftFault::Range),
-        (Step::Link([1001, 1, 0, 1800, 1000, 1, 0, 0], [1, 2]), DraftFault::Range),
-        (Step::Link([1001, 1, 0, 1800, 1, 1000, 0, 0], [1, 2]), DraftFault::Range),
-        (Step::Link([1001, 1, 0, 1800, 1, 1, 10, 0], [1, 2]), DraftFault::Range),
-        (Step::Link([1001, 1, 0, 1800, 1, 1, 0, 10], [1, 2]), DraftFault::Range),
-        (Step::Link([1001, 1, 0, 1800, 1, 1, 0, 0], [1, 2]), DraftFault::TooMany),
+        (
+            Step::Link([1, 201, 10_000, 1800, 1, 1, 0, 0], [1, 2]),
+            DraftFault::Twice,
+        ),
+        (
+            Step::Link([1001, 1, 10_000, 1800, 1, 1, 0, 0], [3, 3]),
+            DraftFault::Twice,
+        ),
+        (
+            Step::Link([1001, 201, 10_000, 1800, 1, 1, 0, 0], [1, 2]),
+            DraftFault::Unknown,
+        ),
+        (
+            Step::Link([1001, 1, 10_000, 1800, 1, 1, 0, 0], [1, 3]),
+            DraftFault::Unknown,
+        ),
+        (
+            Step::Link([1001, 1, 10_000, 1800, 1, 1, 0, 0], [0, 1]),
+            DraftFault::Unknown,
+        ),
+        (
+            Step::Link([0, 1, 0, 1800, 1, 1, 0, 0], [1, 2]),
+            DraftFault::Range,
+        ),
+        (
+            Step::Link([100_000, 1, 0, 1800, 1, 1, 0, 0], [1, 2]),
+            DraftFault::Range,
+        ),
+        (
+            Step::Link([1001, 1, 10_000, 1800, 1, 1, 0, 0], [1, 2]),
+            DraftFault::Range,
+        ),
+        (
+            Step::Link([1001, 1, 0, 99, 1, 1, 0, 0], [1, 2]),
+            DraftFault::Range,
+        ),
+        (
+            Step::Link([1001, 1, 0, 10_000, 1, 1, 0, 0], [1, 2]),
+            DraftFault::Range,
+        ),
+        (
+            Step::Link([1001, 1, 0, 1800, 1000, 1, 0, 0], [1, 2]),
+            DraftFault::Range,
+        ),
+        (
+            Step::Link([1001, 1, 0, 1800, 1, 1000, 0, 0], [1, 2]),
+            DraftFault::Range,
+        ),
+        (
+            Step::Link([1001, 1, 0, 1800, 1, 1, 10, 0], [1, 2]),
+            DraftFault::Range,
+        ),
+        (
+            Step::Link([1001, 1, 0, 1800, 1, 1, 0, 10], [1, 2]),
+            DraftFault::Range,
+        ),
+        (
+            Step::Link([1001, 1, 0, 1800, 1, 1, 0, 0], [1, 2]),
+            DraftFault::TooMany,
+        ),
         (Step::Feed(1, 9, 10_000, 15), DraftFault::Twice),
         (Step::Feed(1, 1001, 10_000, 15), DraftFault::Unknown),
         (Step::Feed(1001, 1, 10_000, 15), DraftFault::Unknown),

@@ -1,7 +1,7 @@
 //! Edits with their faults and inverses, flows, copies, and threads.
 
-use super::{FRAME, two_links};
-use crate::{Edit, EditFault, Frame, GiveWay, Net, stage_length};
+use super::{FRAME, junction, two_links};
+use crate::{Edit, EditFault, Frame, GiveWay, Net, Stage, stage_length};
 use std::test::Fail;
 use std::thread;
 
@@ -13,6 +13,14 @@ fn is_refused(net: &mut Net, e: Edit, fault: EditFault) -> bool {
 /// Whether an edit is made, and has this inverse.
 fn is_undone_by(net: &mut Net, e: Edit, back: Edit) -> bool {
     net.judge(&e).is_none() && net.apply(e) == Ok(back) && net.apply(back) == Ok(e)
+}
+
+fn stage(change: u32) -> Stage {
+    Stage {
+        change,
+        intergreen: 1,
+        least: 2,
+    }
 }
 
 fn offset(node: u32, offset: u32) -> Edit {
@@ -51,58 +59,58 @@ fn weight(link: u32, delay: u32, stop: u32) -> Edit {
     Edit::Weight { link, delay, stop }
 }
 
+/// In each row the next fault that can hold of such an edit holds too.
 #[test]
-fn faults_of_node_edits_come_in_order(rt: HostRuntime) -> Result<(), Fail> {
+fn faults_come_in_order(rt: HostRuntime) -> Result<(), Fail> {
     let mut net = two_links(rt.alloc())?;
-    assert!(rt; is_refused(&mut net, offset(9, 10), EditFault::Unknown));
-    assert!(rt; is_refused(&mut net, offset(1, 10), EditFault::Range));
-    assert!(rt; is_refused(&mut net, change(9, 1, 10), EditFault::Unknown));
-    assert!(rt; is_refused(&mut net, change(1, 0, 10), EditFault::Unknown));
-    assert!(rt; is_refused(&mut net, change(1, 3, 0), EditFault::Unknown));
-    assert!(rt; is_refused(&mut net, change(1, 2, 10), EditFault::Range));
-    assert!(rt; is_refused(&mut net, change(1, 2, 0), EditFault::StageOrder));
-    assert!(rt; is_refused(&mut net, change(1, 2, 2), EditFault::LeastGreen));
-    assert!(rt; is_refused(&mut net, change(1, 2, 8), EditFault::LeastGreen));
-    Ok(())
-}
-
-#[test]
-fn faults_of_link_edits_come_in_order(rt: HostRuntime) -> Result<(), Fail> {
-    let mut net = two_links(rt.alloc())?;
-    assert!(rt; is_refused(&mut net, entry(9, 10_000), EditFault::Unknown));
-    assert!(rt; is_refused(&mut net, entry(1, 10_000), EditFault::Range));
-    assert!(rt; is_refused(&mut net, saturation(9, 99), EditFault::Unknown));
-    assert!(rt; is_refused(&mut net, saturation(1, 99), EditFault::Range));
-    assert!(rt; is_refused(&mut net, weight(9, 1000, 0), EditFault::Unknown));
-    assert!(rt; is_refused(&mut net, weight(1, 1000, 0), EditFault::Range));
-    assert!(rt; is_refused(&mut net, weight(1, 0, 1000), EditFault::Range));
-    Ok(())
-}
-
-#[test]
-fn faults_of_feed_edits_come_in_order(rt: HostRuntime) -> Result<(), Fail> {
-    let mut net = two_links(rt.alloc())?;
-    assert!(rt; is_refused(&mut net, part(9, 1, 10_000), EditFault::Unknown));
-    assert!(rt; is_refused(&mut net, part(1, 9, 10_000), EditFault::Unknown));
-    assert!(rt; is_refused(&mut net, part(1, 1, 10_000), EditFault::NoFeeder));
-    assert!(rt; is_refused(&mut net, part(2, 1, 10_000), EditFault::Range));
-    assert!(rt; is_refused(&mut net, cruise(1, 9, 0), EditFault::Unknown));
-    assert!(rt; is_refused(&mut net, cruise(1, 1, 0), EditFault::NoFeeder));
-    assert!(rt; is_refused(&mut net, cruise(2, 1, 301), EditFault::Range));
+    for (e, fault) in [
+        (offset(9, 10), EditFault::Unknown),
+        (offset(1, 10), EditFault::Range),
+        (change(9, 1, 10), EditFault::Unknown),
+        (change(1, 0, 10), EditFault::Unknown),
+        (change(1, 3, 10), EditFault::Unknown),
+        (change(1, 2, 10), EditFault::Range),
+        (change(1, 2, 0), EditFault::StageOrder),
+        (change(1, 2, 2), EditFault::LeastGreen),
+        (change(1, 2, 8), EditFault::LeastGreen),
+        (entry(9, 10_000), EditFault::Unknown),
+        (entry(1, 10_000), EditFault::Range),
+        (part(9, 1, 10_000), EditFault::Unknown),
+        (part(1, 9, 10_000), EditFault::Unknown),
+        (part(1, 1, 10_000), EditFault::NoFeeder),
+        (part(2, 1, 10_000), EditFault::Range),
+        (cruise(9, 1, 0), EditFault::Unknown),
+        (cruise(1, 9, 0), EditFault::Unknown),
+        (cruise(1, 1, 0), EditFault::NoFeeder),
+        (cruise(2, 1, 0), EditFault::Range),
+        (cruise(2, 1, 301), EditFault::Range),
+        (saturation(9, 99), EditFault::Unknown),
+        (saturation(1, 99), EditFault::Range),
+        (saturation(1, 10_000), EditFault::Range),
+        (weight(9, 1000, 0), EditFault::Unknown),
+        (weight(1, 1000, 0), EditFault::Range),
+        (weight(1, 0, 1000), EditFault::Range),
+    ] {
+        assert!(rt; is_refused(&mut net, e, fault), "{e:?}");
+    }
     Ok(())
 }
 
 #[test]
 fn each_edit_has_its_inverse(rt: HostRuntime) -> Result<(), Fail> {
     let mut net = two_links(rt.alloc())?;
-    assert!(rt; is_undone_by(&mut net, offset(1, 9), offset(1, 0)));
-    assert!(rt; is_undone_by(&mut net, change(1, 2, 7), change(1, 2, 5)));
-    assert!(rt; is_undone_by(&mut net, change(1, 2, 5), change(1, 2, 5)));
-    assert!(rt; is_undone_by(&mut net, entry(1, 1800), entry(1, 360)));
-    assert!(rt; is_undone_by(&mut net, part(2, 1, 0), part(2, 1, 100)));
-    assert!(rt; is_undone_by(&mut net, cruise(2, 1, 300), cruise(2, 1, 15)));
-    assert!(rt; is_undone_by(&mut net, saturation(2, 100), saturation(2, 1800)));
-    assert!(rt; is_undone_by(&mut net, weight(1, 2, 0), weight(1, 1, 1)));
+    for (e, back) in [
+        (offset(1, 9), offset(1, 0)),
+        (change(1, 2, 7), change(1, 2, 5)),
+        (change(1, 2, 5), change(1, 2, 5)),
+        (entry(1, 1800), entry(1, 360)),
+        (part(2, 1, 0), part(2, 1, 100)),
+        (cruise(2, 1, 300), cruise(2, 1, 15)),
+        (saturation(2, 100), saturation(2, 1800)),
+        (weight(1, 2, 0), weight(1, 1, 1)),
+    ] {
+        assert!(rt; is_undone_by(&mut net, e, back), "{e:?}");
+    }
     Ok(())
 }
 
@@ -147,6 +155,39 @@ fn copies_have_the_same_numbers(rt: HostRuntime) -> Result<(), Fail> {
     let longer = net.with_cycle(rt.alloc(), 90)?;
     assert_eq!(rt; longer.frame(), Frame { cycle: 90, ..FRAME });
     assert!(rt; !net.same_shape(&longer));
+    Ok(())
+}
+
+/// Whether this is the junction, number by number.
+fn is_junction(net: &Net) -> bool {
+    let ([node], [link]) = (net.nodes(), net.links()) else {
+        return false;
+    };
+    net.frame() == FRAME
+        && (node.number, node.offset) == (1, 0)
+        && node.stages.as_slice() == [stage(0), stage(5)].as_slice()
+        && (link.number, link.node) == (1, 1)
+        && (link.entry, link.saturation) == (360, 1800)
+        && (link.delay_weight, link.stop_weight) == (1, 1)
+        && (link.start_lag, link.end_lag) == (0, 0)
+        && link.stages.as_slice() == [1].as_slice()
+        && link.feeds.is_empty()
+        && link.gives_way.is_none()
+        && net.plan().is_none()
+}
+
+#[test]
+fn the_copy_of_a_junction_is_the_junction(rt: HostRuntime) -> Result<(), Fail> {
+    let net = junction(rt.alloc())?;
+    assert!(rt; is_junction(&net));
+    let mut copy = net.copy(rt.alloc())?;
+    assert!(rt; net.same_shape(&copy));
+    assert!(rt; is_junction(&copy));
+    assert_eq!(rt; copy.apply(entry(1, 1800)), Ok(entry(1, 360)));
+    assert!(rt; is_junction(&net) && !is_junction(&copy));
+    drop(net);
+    assert_eq!(rt; copy.apply(entry(1, 360)), Ok(entry(1, 1800)));
+    assert!(rt; is_junction(&copy));
     Ok(())
 }
 
