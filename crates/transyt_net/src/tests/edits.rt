@@ -115,15 +115,27 @@ fn each_edit_has_its_inverse(rt: HostRuntime) -> Result<(), Fail> {
 }
 
 #[test]
-fn flows_and_lengths_are_the_known_ones(rt: HostRuntime) -> Result<(), Fail> {
+fn places_are_in_card_order(rt: HostRuntime) -> Result<(), Fail> {
     let net = two_links(rt.alloc())?;
-    assert_eq!(rt; net.per_step(360), 600_000);
     assert_eq!(rt; net.node_place(1), Some(0));
     assert_eq!(rt; net.node_place(2), None);
     assert_eq!(rt; net.link_place(2), Some(1));
+    Ok(())
+}
+
+#[test]
+fn flows_are_the_known_ones(rt: HostRuntime) -> Result<(), Fail> {
+    let net = two_links(rt.alloc())?;
+    assert_eq!(rt; net.per_step(360), 600_000);
     assert_eq!(rt; net.links().len(), 2);
     assert_eq!(rt; net.total_flow(0), 360);
     assert_eq!(rt; net.total_flow(1), 100);
+    Ok(())
+}
+
+#[test]
+fn the_last_stage_goes_round_the_cycle(rt: HostRuntime) -> Result<(), Fail> {
+    let net = two_links(rt.alloc())?;
     let Some(node) = net.nodes().first() else {
         return Err(Fail::from("no node"));
     };
@@ -132,29 +144,37 @@ fn flows_and_lengths_are_the_known_ones(rt: HostRuntime) -> Result<(), Fail> {
     Ok(())
 }
 
+/// Whether the plan and the last link are those of the two links, number by number.
+fn has_second_link(net: &Net) -> bool {
+    let (Some(plan), Some(link)) = (net.plan(), net.links().last()) else {
+        return false;
+    };
+    let rule = GiveWay {
+        other: 1,
+        percent: 50,
+    };
+    plan.budget == 100
+        && plan.sizes.as_slice() == [1, 2].as_slice()
+        && (link.number, link.start_lag, link.end_lag) == (2, 2, 1)
+        && link.stages.as_slice() == [1, 2].as_slice()
+        && link.gives_way == Some(rule)
+}
+
 #[test]
 fn copies_have_the_same_numbers(rt: HostRuntime) -> Result<(), Fail> {
     let net = two_links(rt.alloc())?;
     let copy = net.copy(rt.alloc())?;
     assert!(rt; net.same_shape(&copy));
-    assert_eq!(rt; copy.frame(), FRAME);
-    let (Some(plan), Some(link)) = (copy.plan(), copy.links().last()) else {
-        return Err(Fail::from("no plan or no link"));
-    };
-    assert_eq!(rt; plan.budget, 100);
-    assert_eq!(rt; plan.sizes.as_slice(), [1, 2].as_slice());
-    assert_eq!(rt; (link.start_lag, link.end_lag), (2, 1));
-    assert_eq!(rt; link.stages.as_slice(), [1, 2].as_slice());
-    assert_eq!(rt;
-        link.gives_way,
-        Some(GiveWay {
-            other: 1,
-            percent: 50
-        })
-    );
+    assert!(rt; copy.frame() == FRAME && has_second_link(&copy));
+    Ok(())
+}
+
+#[test]
+fn another_cycle_is_another_shape(rt: HostRuntime) -> Result<(), Fail> {
+    let net = two_links(rt.alloc())?;
     let longer = net.with_cycle(rt.alloc(), 90)?;
     assert_eq!(rt; longer.frame(), Frame { cycle: 90, ..FRAME });
-    assert!(rt; !net.same_shape(&longer));
+    assert!(rt; has_second_link(&longer) && !net.same_shape(&longer));
     Ok(())
 }
 
