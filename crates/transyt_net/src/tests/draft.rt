@@ -2,118 +2,44 @@
 
 ghost use Rattle.std.specs.Prelude.{◌≡◌, ℕ, ◌<◌, ◌≤◌, length, IfOk};
 
+use self::Step::{Feed, Link, Node, Plan, Rule, Stage};
 use super::{FRAME, one_link};
+use crate::DraftFault::{Range, TooMany, Twice, Unknown};
 use crate::{Draft, DraftFault, Frame, PlanFault};
 use std::alloc::Global;
 use std::test::Fail;
 
-/// The fault of a frame.
-fn fault_of_frame(alloc: Global, frame: Frame) -> Option<DraftFault> {
+/// The fault of a frame of these numbers, in the order of its fields.
+fn fault_of_frame(alloc: Global, numbers: [u32; 6]) -> Option<DraftFault> {
+    let [cycle, step_count, sweeps, period, stop_penalty, dispersion] = numbers;
+    let frame = Frame {
+        cycle,
+        step_count,
+        sweeps,
+        period,
+        stop_penalty,
+        dispersion,
+    };
     Draft::new(alloc, frame).err()
 }
 
 #[test]
 fn frames_are_judged(rt: HostRuntime) {
-    for (frame, want) in [
-        (FRAME, None),
-        (Frame { cycle: 29, ..FRAME }, Some(DraftFault::Range)),
-        (Frame { cycle: 30, ..FRAME }, None),
-        (
-            Frame {
-                cycle: 240,
-                ..FRAME
-            },
-            None,
-        ),
-        (
-            Frame {
-                cycle: 241,
-                ..FRAME
-            },
-            Some(DraftFault::Range),
-        ),
-        (
-            Frame {
-                step_count: 9,
-                ..FRAME
-            },
-            Some(DraftFault::Range),
-        ),
-        (
-            Frame {
-                step_count: 120,
-                ..FRAME
-            },
-            None,
-        ),
-        (
-            Frame {
-                step_count: 121,
-                ..FRAME
-            },
-            Some(DraftFault::Range),
-        ),
-        (Frame { sweeps: 0, ..FRAME }, Some(DraftFault::Range)),
-        (Frame { sweeps: 8, ..FRAME }, None),
-        (Frame { sweeps: 9, ..FRAME }, Some(DraftFault::Range)),
-        (
-            Frame {
-                period: 14,
-                ..FRAME
-            },
-            Some(DraftFault::Range),
-        ),
-        (
-            Frame {
-                period: 15,
-                ..FRAME
-            },
-            None,
-        ),
-        (
-            Frame {
-                period: 120,
-                ..FRAME
-            },
-            None,
-        ),
-        (
-            Frame {
-                period: 121,
-                ..FRAME
-            },
-            Some(DraftFault::Range),
-        ),
-        (
-            Frame {
-                stop_penalty: 9999,
-                ..FRAME
-            },
-            None,
-        ),
-        (
-            Frame {
-                stop_penalty: 10_000,
-                ..FRAME
-            },
-            Some(DraftFault::Range),
-        ),
-        (
-            Frame {
-                dispersion: 100,
-                ..FRAME
-            },
-            None,
-        ),
-        (
-            Frame {
-                dispersion: 101,
-                ..FRAME
-            },
-            Some(DraftFault::Range),
-        ),
+    for (numbers, want) in [
+        ([30, 10, 1, 15, 0, 0], None),
+        ([240, 120, 8, 120, 9999, 100], None),
+        ([29, 10, 1, 60, 100, 35], Some(Range)),
+        ([241, 10, 1, 60, 100, 35], Some(Range)),
+        ([60, 9, 1, 60, 100, 35], Some(Range)),
+        ([60, 121, 1, 60, 100, 35], Some(Range)),
+        ([60, 10, 0, 60, 100, 35], Some(Range)),
+        ([60, 10, 9, 60, 100, 35], Some(Range)),
+        ([60, 10, 1, 14, 100, 35], Some(Range)),
+        ([60, 10, 1, 121, 100, 35], Some(Range)),
+        ([60, 10, 1, 60, 10_000, 35], Some(Range)),
+        ([60, 10, 1, 60, 100, 101], Some(Range)),
     ] {
-        assert_eq!(rt; fault_of_frame(rt.alloc(), frame), want, "{frame:?}");
+        assert_eq!(rt; fault_of_frame(rt.alloc(), numbers), want, "{numbers:?}");
     }
 }
 
@@ -153,12 +79,12 @@ fn make(draft: &mut Draft, step: Step) -> Result<(), DraftFault>
     requires plan { draft.old.plan ≡ None }
 {
     match step {
-        Step::Node(number, offset) => draft.node(number, offset),
-        Step::Stage(change, intergreen, least) => draft.stage(change, intergreen, least),
-        Step::Link(numbers, stages) => add_link(draft, numbers, stages),
-        Step::Feed(link, feeder, flow, cruise) => draft.feed(link, feeder, flow, cruise),
-        Step::Rule(link, other, percent) => draft.give_way(link, other, percent),
-        Step::Plan(budget, sizes) => set_plan(draft, budget, sizes),
+        Node(number, offset) => draft.node(number, offset),
+        Stage(change, intergreen, least) => draft.stage(change, intergreen, least),
+        Link(numbers, stages) => add_link(draft, numbers, stages),
+        Feed(link, feeder, flow, cruise) => draft.feed(link, feeder, flow, cruise),
+        Rule(link, other, percent) => draft.give_way(link, other, percent),
+        Plan(budget, sizes) => set_plan(draft, budget, sizes),
     }
 }
 
@@ -230,91 +156,46 @@ fn fault_of(alloc: Global, step: Step) -> Result<Option<DraftFault>, DraftFault>
 #[test]
 fn faults_come_in_order(rt: HostRuntime) -> Result<(), Fail> {
     for (step, fault) in [
-        (Step::Node(1, 10), DraftFault::Twice),
-        (Step::Node(0, 9), DraftFault::Range),
-        (Step::Node(100_000, 9), DraftFault::Range),
-        (Step::Node(99_999, 10), DraftFault::Range),
-        (Step::Node(99_999, 9), DraftFault::TooMany),
-        (Step::Stage(10, 9, 10), DraftFault::Range),
-        (Step::Stage(9, 10, 10), DraftFault::Range),
-        (Step::Stage(9, 9, 0), DraftFault::Range),
-        (Step::Stage(9, 9, 11), DraftFault::Range),
-        (Step::Stage(9, 9, 10), DraftFault::TooMany),
-        (
-            Step::Link([1, 201, 10_000, 1800, 1, 1, 0, 0], [1, 2]),
-            DraftFault::Twice,
-        ),
-        (
-            Step::Link([1001, 1, 10_000, 1800, 1, 1, 0, 0], [3, 3]),
-            DraftFault::Twice,
-        ),
-        (
-            Step::Link([1001, 201, 10_000, 1800, 1, 1, 0, 0], [1, 2]),
-            DraftFault::Unknown,
-        ),
-        (
-            Step::Link([1001, 1, 10_000, 1800, 1, 1, 0, 0], [1, 3]),
-            DraftFault::Unknown,
-        ),
-        (
-            Step::Link([1001, 1, 10_000, 1800, 1, 1, 0, 0], [0, 1]),
-            DraftFault::Unknown,
-        ),
-        (
-            Step::Link([0, 1, 0, 1800, 1, 1, 0, 0], [1, 2]),
-            DraftFault::Range,
-        ),
-        (
-            Step::Link([100_000, 1, 0, 1800, 1, 1, 0, 0], [1, 2]),
-            DraftFault::Range,
-        ),
-        (
-            Step::Link([1001, 1, 10_000, 1800, 1, 1, 0, 0], [1, 2]),
-            DraftFault::Range,
-        ),
-        (
-            Step::Link([1001, 1, 0, 99, 1, 1, 0, 0], [1, 2]),
-            DraftFault::Range,
-        ),
-        (
-            Step::Link([1001, 1, 0, 10_000, 1, 1, 0, 0], [1, 2]),
-            DraftFault::Range,
-        ),
-        (
-            Step::Link([1001, 1, 0, 1800, 1000, 1, 0, 0], [1, 2]),
-            DraftFault::Range,
-        ),
-        (
-            Step::Link([1001, 1, 0, 1800, 1, 1000, 0, 0], [1, 2]),
-            DraftFault::Range,
-        ),
-        (
-            Step::Link([1001, 1, 0, 1800, 1, 1, 10, 0], [1, 2]),
-            DraftFault::Range,
-        ),
-        (
-            Step::Link([1001, 1, 0, 1800, 1, 1, 0, 10], [1, 2]),
-            DraftFault::Range,
-        ),
-        (
-            Step::Link([1001, 1, 0, 1800, 1, 1, 0, 0], [1, 2]),
-            DraftFault::TooMany,
-        ),
-        (Step::Feed(1, 9, 10_000, 15), DraftFault::Twice),
-        (Step::Feed(1, 1001, 10_000, 15), DraftFault::Unknown),
-        (Step::Feed(1001, 1, 10_000, 15), DraftFault::Unknown),
-        (Step::Feed(1, 10, 10_000, 15), DraftFault::Range),
-        (Step::Feed(1, 10, 180, 0), DraftFault::Range),
-        (Step::Feed(1, 10, 180, 301), DraftFault::Range),
-        (Step::Feed(1, 10, 180, 15), DraftFault::TooMany),
-        (Step::Rule(1, 1001, 401), DraftFault::Twice),
-        (Step::Rule(2, 1001, 401), DraftFault::Unknown),
-        (Step::Rule(1001, 1, 401), DraftFault::Unknown),
-        (Step::Rule(2, 1, 401), DraftFault::Range),
-        (Step::Plan(0, [9, 1]), DraftFault::Range),
-        (Step::Plan(1_000_001, [9, 1]), DraftFault::Range),
-        (Step::Plan(1, [1, 0]), DraftFault::Range),
-        (Step::Plan(1, [10, 1]), DraftFault::Range),
+        (Node(1, 10), Twice),
+        (Node(0, 9), Range),
+        (Node(100_000, 9), Range),
+        (Node(99_999, 10), Range),
+        (Node(99_999, 9), TooMany),
+        (Stage(10, 9, 10), Range),
+        (Stage(9, 10, 10), Range),
+        (Stage(9, 9, 0), Range),
+        (Stage(9, 9, 11), Range),
+        (Stage(9, 9, 10), TooMany),
+        (Link([1, 201, 10_000, 1800, 1, 1, 0, 0], [1, 2]), Twice),
+        (Link([1001, 1, 10_000, 1800, 1, 1, 0, 0], [3, 3]), Twice),
+        (Link([1001, 201, 10_000, 1800, 1, 1, 0, 0], [1, 2]), Unknown),
+        (Link([1001, 1, 10_000, 1800, 1, 1, 0, 0], [1, 3]), Unknown),
+        (Link([1001, 1, 10_000, 1800, 1, 1, 0, 0], [0, 1]), Unknown),
+        (Link([0, 1, 0, 1800, 1, 1, 0, 0], [1, 2]), Range),
+        (Link([100_000, 1, 0, 1800, 1, 1, 0, 0], [1, 2]), Range),
+        (Link([1001, 1, 10_000, 1800, 1, 1, 0, 0], [1, 2]), Range),
+        (Link([1001, 1, 0, 99, 1, 1, 0, 0], [1, 2]), Range),
+        (Link([1001, 1, 0, 10_000, 1, 1, 0, 0], [1, 2]), Range),
+        (Link([1001, 1, 0, 1800, 1000, 1, 0, 0], [1, 2]), Range),
+        (Link([1001, 1, 0, 1800, 1, 1000, 0, 0], [1, 2]), Range),
+        (Link([1001, 1, 0, 1800, 1, 1, 10, 0], [1, 2]), Range),
+        (Link([1001, 1, 0, 1800, 1, 1, 0, 10], [1, 2]), Range),
+        (Link([1001, 1, 0, 1800, 1, 1, 0, 0], [1, 2]), TooMany),
+        (Feed(1, 9, 10_000, 15), Twice),
+        (Feed(1, 1001, 10_000, 15), Unknown),
+        (Feed(1001, 1, 10_000, 15), Unknown),
+        (Feed(1, 10, 10_000, 15), Range),
+        (Feed(1, 10, 180, 0), Range),
+        (Feed(1, 10, 180, 301), Range),
+        (Feed(1, 10, 180, 15), TooMany),
+        (Rule(1, 1001, 401), Twice),
+        (Rule(2, 1001, 401), Unknown),
+        (Rule(1001, 1, 401), Unknown),
+        (Rule(2, 1, 401), Range),
+        (Plan(0, [9, 1]), Range),
+        (Plan(1_000_001, [9, 1]), Range),
+        (Plan(1, [1, 0]), Range),
+        (Plan(1, [10, 1]), Range),
     ] {
         assert_eq!(rt; fault_of(rt.alloc(), step)?, Some(fault), "{step:?}");
     }
@@ -325,9 +206,9 @@ fn faults_come_in_order(rt: HostRuntime) -> Result<(), Fail> {
 #[test]
 fn a_full_draft_takes_a_rule_and_a_plan(rt: HostRuntime) -> Result<(), Fail> {
     for step in [
-        Step::Feed(2, 1, 9999, 300),
-        Step::Rule(2, 1, 400),
-        Step::Plan(1_000_000, [9, 9]),
+        Feed(2, 1, 9999, 300),
+        Rule(2, 1, 400),
+        Plan(1_000_000, [9, 9]),
     ] {
         assert_eq!(rt; fault_of(rt.alloc(), step)?, None, "{step:?}");
     }
