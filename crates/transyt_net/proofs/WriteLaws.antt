@@ -1,5 +1,5 @@
 -- Writes to nodes and links, and more of them, that keep a network sound.
-use Rattle.std.proofs.Common.{[], ◌≡◌, ℕ, suc, zero, ◌-◌, ◌≤◌, Bool, true, false, cond, List, ◌∷◌, ◌++◌, length, Option, Some, None, refl, sym, subst, arith, nat_eq, nat_le, length-append, All, IfSome, if◌then◌else◌}
+use Rattle.std.proofs.Common.{[], ◌≡◌, ℕ, suc, zero, ◌≤◌, Bool, true, false, cond, List, ◌∷◌, ◌++◌, length, Option, Some, None, refl, sym, subst, arith, nat_eq, nat_le, length-append, All, IfSome, if◌then◌else◌}
 use Rattle.std.specs.List.{list_all}
 use Rattle.std.proofs.lemmas.Bool.{and_parts, leb-true}
 use Rattle.std.proofs.lemmas.List.Elements.{All-cons, All-weaker, All-nil}
