@@ -1,11 +1,11 @@
 -- When the draft of a deck of one junction refuses, and when its network is valid.
-use Rattle.std.proofs.Common.{◌≡◌, ℕ, ◌&&◌, not, nat_eq, Bool, true, false, List, Option, None, Some, is_none, is_some, IsTrue, refl, sym, ◌∙◌, ap, slice_index}
+use Rattle.std.proofs.Common.{◌≡◌, ℕ, ◌&&◌, not, nat_eq, Bool, true, false, List, Option, None, Some, is_none, is_some}
+use Rattle.std.proofs.Common.{IsTrue, refl, sym, ◌∙◌, ap, slice_index}
 use Rattle.std.specs.List.{list_all}
-use Rattle.transyt_net.specs.declared.plan_fault.PlanFault.{PlanFault}
+use Rattle.transyt_parts.specs.declared.stage_plan.PlanFault.{PlanFault}
 use Rattle.transyt_net.specs.Parts.{Network}
-use Rattle.transyt_net.specs.Valid.{within, is_frame}
-use Rattle.transyt_net.specs.Plan.{plan_fault, first_fault, first_of}
-use Rattle.transyt_net.specs.Faults.{node_in_range, stage_in_range, link_in_range}
+use Rattle.transyt_parts.specs.Valid.{within, is_frame, node_in_range, stage_in_range, link_in_range}
+use Rattle.transyt_parts.specs.Plan.{plan_fault, first_fault, first_of}
 use Rattle.transyt.specs.Cards.{frame_of, stage_of_card, link_of_card, numbers_at, network_of_cards}
 use Rattle.transyt.specs.Validity.{node_in, steps_in, are_drawn, is_valid_deck}
 

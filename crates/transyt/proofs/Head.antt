@@ -1,12 +1,15 @@
 -- A run with no fault writes the report of the input, and its status is the report's.
-use Rattle.std.proofs.Common.{◌≡◌, ◌≢◌, inl, inr, ℕ, ◌+◌, ◌≤◌, ◌<◌, ◌-◌, ◌++◌, Bool, true, false, if◌then◌else◌, List, [], Option, None, Some, length, take, refl, sym, ◌∙◌, ap, subst, arith, length-append}
+use Rattle.std.proofs.Common.{◌≡◌, ◌≢◌, inl, inr, ℕ, ◌+◌, ◌≤◌, ◌<◌, ◌-◌, ◌++◌, Bool, true, false, if◌then◌else◌, List}
+use Rattle.std.proofs.Common.{[], Option, None, Some, length, take, refl, sym, ◌∙◌, ap, subst, arith, length-append}
 use Rattle.std.proofs.lemmas.List.{append-nil}
 use Rattle.std.proofs.Math.Seq.{take-append-add}
 use Rattle.transyt_io.specs.Lines.{whole}
 use Rattle.transyt_io.specs.Streams.{Takes, Adds, IsAtEnd}
 use Rattle.transyt.specs.declared.status.Status.{Status}
-use Rattle.transyt.specs.declared.status.Status.TheVariants.{Done, DeckRefused, ReadFault, TooLong, WriteFault, NoMemory, BadWords}
-use Rattle.transyt.specs.Runs.{Answering, ending_by, report_by, is_refused_by, status_by, EndsRun, Finished, Row, Ran, Headline, TooLongWhere}
+use Rattle.transyt.specs.declared.status.Status.TheVariants.{Done, DeckRefused, ReadFault, TooLong, WriteFault}
+use Rattle.transyt.specs.declared.status.Status.TheVariants.{NoMemory, BadWords}
+use Rattle.transyt.specs.Runs.{Answering, ending_by, report_by, is_refused_by, status_by, EndsRun, Finished, Row, Ran}
+use Rattle.transyt.specs.Runs.{Headline, TooLongWhere}
 use Rattle.transyt.proofs.MoreBytes.{whole_then, ending_more, report_more, refused_more}
 
 -- what was taken of a told input

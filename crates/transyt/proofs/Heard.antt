@@ -1,5 +1,7 @@
 -- What a line adds to the progress, on plain lists.
-use Rattle.std.proofs.Common.{◌≡◌, ◌≤◌, ℕ, suc, ◌+◌, ◌++◌, ◌||◌, not, Bool, true, false, if◌then◌else◌, List, [], ◌∷◌, length, Option, None, Some, is_some, refl, sym, ◌∙◌, ap, subst, arith, append_assoc, length-append}
+use Rattle.std.proofs.Common.{◌≡◌, ◌≤◌, ℕ, suc, ◌+◌, ◌++◌, ◌||◌, not, Bool, true, false, if◌then◌else◌, List, [], ◌∷◌}
+use Rattle.std.proofs.Common.{length, Option, None, Some, is_some, refl, sym, ◌∙◌, ap, subst, arith, append_assoc}
+use Rattle.std.proofs.Common.{length-append}
 use Rattle.std.proofs.lemmas.List.{append-nil}
 use Rattle.std.proofs.lemmas.List.Elements.{filter-append}
 use Rattle.std.proofs.lemmas.Bool.Decides.{nat_tests}
@@ -11,7 +13,8 @@ use Rattle.transyt.specs.Junction.{JunctionValue}
 use Rattle.transyt_io.specs.Streams.{Adds, AddsFront}
 use Rattle.transyt.specs.Turns.{answers_after, unless_ended, AnsweredWhole}
 use Rattle.transyt.specs.Report.{card_refused, is_open, is_next_card, spoken_text, text, ends, closing, refused_at_end}
-use Rattle.transyt.specs.Progress.{ProgressValue, Turn, turn_of, spoken_turn, counted_on, turn, said_at_end, said_text, said_ends, Reached, HasHeard, new_progress}
+use Rattle.transyt.specs.Progress.{ProgressValue, Turn, turn_of, spoken_turn, counted_on, turn, said_at_end, said_text}
+use Rattle.transyt.specs.Progress.{said_ends, Reached, HasHeard, new_progress}
 use Rattle.transyt.proofs.Speaking.{Speaks, speaks, closed}
 
 -- what is said of a line is its text, and the progress after it is that of the lines with it

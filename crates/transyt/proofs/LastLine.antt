@@ -1,14 +1,17 @@
 -- How the lines answered so far end a run, on plain lists: by one line more, by the end of the source, or by a stop.
-use Rattle.std.proofs.Common.{◌≡◌, inl, inr, ℕ, ◌+◌, ◌≤◌, ◌++◌, Bool, false, List, [], ◌∷◌, Option, None, Some, length, refl, sym, ◌∙◌, ap, subst, arith, append_assoc}
+use Rattle.std.proofs.Common.{◌≡◌, inl, inr, ℕ, ◌+◌, ◌≤◌, ◌++◌, Bool, false, List, [], ◌∷◌, Option, None, Some, length}
+use Rattle.std.proofs.Common.{refl, sym, ◌∙◌, ap, subst, arith, append_assoc}
 use Rattle.std.proofs.lemmas.List.{append-nil}
 use Rattle.transyt_io.specs.Lines.{lines, whole}
 use Rattle.transyt_io.specs.Model.{Reading}
 use Rattle.transyt_io.specs.Reading.{Stands}
 use Rattle.transyt_io.specs.Streams.{IsAtEnd}
 use Rattle.transyt.specs.Turns.{answers_after, costs_after, unless_ended, or_else}
-use Rattle.transyt.specs.Runs.{Answering, answers_by, ending_by, costs_by, IsFront, EndsRun, Finished, CutOff, IsPart, StepsAll, StepsMost}
+use Rattle.transyt.specs.Runs.{Answering, answers_by, ending_by, costs_by, IsFront, EndsRun, Finished, CutOff, IsPart}
+use Rattle.transyt.specs.Runs.{StepsAll, StepsMost}
 use Rattle.transyt.specs.UnderWay.{SoFar}
-use Rattle.transyt.proofs.SoFar.{all_texts, all_endings, line_texts, line_endings, line_costs, lines_given, whole_given, front_longer}
+use Rattle.transyt.proofs.SoFar.{all_texts, all_endings, line_texts, line_endings, line_costs, lines_given, whole_given}
+use Rattle.transyt.proofs.SoFar.{front_longer}
 use Rattle.transyt.proofs.MoreBytes.{whole_then}
 
 module _ {by : Answering} {before : List (List ℕ)} {out : List ℕ} {steps steps_old : ℕ}

@@ -1,5 +1,6 @@
 -- What bytes behind others leave as it is: their whole lines, and all of the report where one of these ends the run.
-use Rattle.std.proofs.Common.{◌≡◌, ℕ, ◌++◌, ◌==◌, Bool, true, false, if◌then◌else◌, List, [], ◌∷◌, map, Option, None, Some, refl, sym, ◌∙◌, ap}
+use Rattle.std.proofs.Common.{◌≡◌, ℕ, ◌++◌, ◌==◌, Bool, true, false, if◌then◌else◌, List, [], ◌∷◌, map, Option, None}
+use Rattle.std.proofs.Common.{Some, refl, sym, ◌∙◌, ap}
 use Rattle.std.proofs.lemmas.List.{append-nil, map-append}
 use Rattle.transyt_io.specs.Lines.{cut, onto_first, line_of, lines, whole, lines_by}
 use Rattle.transyt.specs.Turns.{answers_after, ending_after, unless_ended, first_of, or_else}

@@ -2,7 +2,8 @@
 use Rattle.std.proofs.Common.{◌≡◌, ◌≤◌, inl, inr, ℕ, ◌+◌, ◌++◌, Bool, List, [], ◌∷◌, Option, None, Some, refl, arith}
 use Rattle.transyt_io.specs.Lines.{lines, whole}
 use Rattle.transyt.specs.declared.status.Status.{Status}
-use Rattle.transyt.specs.declared.status.Status.TheVariants.{Done, DeckRefused, ReadFault, TooLong, WriteFault, NoMemory, BadWords}
+use Rattle.transyt.specs.declared.status.Status.TheVariants.{Done, DeckRefused, ReadFault, TooLong, WriteFault}
+use Rattle.transyt.specs.declared.status.Status.TheVariants.{NoMemory, BadWords}
 use Rattle.transyt.specs.Turns.{costs_after, unless_over}
 use Rattle.transyt.specs.Runs.{costs_by, StepsAll, StepsMost, StepsRow}
 use Rattle.transyt.specs.Report.{cost, ends, deck_answering}

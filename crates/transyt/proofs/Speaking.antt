@@ -1,5 +1,7 @@
 -- What a line that isn't skipped adds to the progress, on plain lists.
-use Rattle.std.proofs.Common.{◌≡◌, ◌≤◌, ◌<◌, ℕ, suc, ◌+◌, ◌++◌, ◌==◌, ◌&&◌, ◌||◌, nat_le, nat_lt, Bool, true, false, if◌then◌else◌, List, [], ◌∷◌, length, take, Option, None, Some, is_some, refl, sym, ◌∙◌, ap, subst, arith, length-append}
+use Rattle.std.proofs.Common.{◌≡◌, ◌≤◌, ◌<◌, ℕ, suc, ◌+◌, ◌++◌, ◌==◌, ◌&&◌, ◌||◌, nat_le, nat_lt, Bool, true, false}
+use Rattle.std.proofs.Common.{if◌then◌else◌, List, [], ◌∷◌, length, take, Option, None, Some, is_some, refl, sym, ◌∙◌}
+use Rattle.std.proofs.Common.{ap, subst, arith, length-append}
 use Rattle.std.proofs.lemmas.List.{take-append-le}
 use Rattle.std.proofs.Math.Seq.{take-append_seam}
 use Rattle.std.proofs.lemmas.Bool.Decides.{nat_tests}
@@ -8,8 +10,10 @@ use Rattle.transyt.specs.declared.said.Said.TheVariants.{Nothing, CardRefused, N
 use Rattle.transyt.specs.Cards.{card_at, cards_from, network_of_cards, or_none}
 use Rattle.transyt.specs.Validity.{is_valid_deck}
 use Rattle.transyt.specs.Junction.{JunctionValue, junction_of}
-use Rattle.transyt.specs.Report.{accepted_net, card_refused, refused, queue_text, queue_number, queue_answer, command_text, opened, is_open, is_next_card, card_text, spoken_text}
-use Rattle.transyt.specs.Progress.{ProgressValue, Turn, turn_of, queue_said, command_said, opened_by, accepted_said, end_turn, card_turn, spoken_turn, said_text, said_ends, Reached}
+use Rattle.transyt.specs.Report.{accepted_net, card_refused, refused, queue_text, queue_number, queue_answer}
+use Rattle.transyt.specs.Report.{command_text, opened, is_open, is_next_card, card_text, spoken_text}
+use Rattle.transyt.specs.Progress.{ProgressValue, Turn, turn_of, queue_said, command_said, opened_by, accepted_said}
+use Rattle.transyt.specs.Progress.{end_turn, card_turn, spoken_turn, said_text, said_ends, Reached}
 
 -- what is said of a line that isn't skipped, where these lines before it aren't either: its text, its end, and how
 -- far they have come

@@ -1,5 +1,7 @@
 -- How a run that is under way goes on, and how it ends: by what a call of `next` took, and by what was answered.
-use Rattle.std.proofs.Common.{◌≡◌, ◌≤◌, inl, inr, ℕ, ◌+◌, ◌++◌, Bool, true, false, if◌then◌else◌, List, [], ◌∷◌, Option, None, Some, Result, Ok, Err, length, take, refl, sym, ◌∙◌, ap, subst, arith, length-append}
+use Rattle.std.proofs.Common.{◌≡◌, ◌≤◌, inl, inr, ℕ, ◌+◌, ◌++◌, Bool, true, false, if◌then◌else◌, List, [], ◌∷◌, Option}
+use Rattle.std.proofs.Common.{None, Some, Result, Ok, Err, length, take, refl, sym, ◌∙◌, ap, subst, arith}
+use Rattle.std.proofs.Common.{length-append}
 use Rattle.std.specs.Prelude.{drop}
 use Rattle.std.proofs.lemmas.List.{take-append-drop}
 use Rattle.transyt_io.specs.declared.reader.Line.{Line}
@@ -14,12 +16,14 @@ use Rattle.transyt_io.proofs.Told.{takes_nothing, takes_both, adds_nothing, adds
 use Rattle.transyt.specs.declared.answerer.Stop.{Stop}
 use Rattle.transyt.specs.declared.answerer.Stop.TheVariants.{Write, Memory}
 use Rattle.transyt.specs.declared.status.Status.{Status}
-use Rattle.transyt.specs.declared.status.Status.TheVariants.{Done, DeckRefused, ReadFault, TooLong, WriteFault, NoMemory}
+use Rattle.transyt.specs.declared.status.Status.TheVariants.{Done, DeckRefused, ReadFault, TooLong, WriteFault}
+use Rattle.transyt.specs.declared.status.Status.TheVariants.{NoMemory}
 use Rattle.transyt.specs.Turns.{AnsweredWhole, ClosedWhole}
 use Rattle.transyt.specs.Runs.{Answering, answers_by, costs_by, Finished, IsWritten, StepsAll, Row, StepsRow, Ran}
 use Rattle.transyt.specs.UnderWay.{UnderWay}
 use Rattle.transyt.proofs.SoFar.{so_far_none, so_far_on, all_texts, all_costs, written_none, written_on, written_next}
-use Rattle.transyt.proofs.LastLine.{finished_line, steps_line, part_of_line, steps_of_line, finished_end, part_of_end, cut_off, steps_cut}
+use Rattle.transyt.proofs.LastLine.{finished_line, steps_line, part_of_line, steps_of_line, finished_end, part_of_end}
+use Rattle.transyt.proofs.LastLine.{cut_off, steps_cut}
 
 -- a reader that has taken nothing
 stands_new : (left : Option (List ℕ)) → Stands new_reading left [] []

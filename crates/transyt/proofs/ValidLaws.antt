@@ -1,14 +1,16 @@
 -- The tests of the five cards before END are the validity of their network.
-use Rattle.std.proofs.Common.{◌≡◌, ◌≤◌, ◌<◌, ℕ, ◌&&◌, ◌||◌, nat_le, nat_lt, Bool, true, false, if◌then◌else◌, List, [], ◌∷◌, Option, None, Some, is_none, All, refl, sym, ap, subst, arith, slice_index}
+use Rattle.std.proofs.Common.{◌≡◌, ◌≤◌, ◌<◌, ℕ, ◌&&◌, ◌||◌, nat_le, nat_lt, Bool, true, false, if◌then◌else◌, List, []}
+use Rattle.std.proofs.Common.{◌∷◌, Option, None, Some, is_none, All, refl, sym, ap, subst, arith, slice_index}
 use Rattle.std.proofs.lemmas.Bool.Decides.{nat_tests}
 use Rattle.std.proofs.lemmas.List.Elements.{All-head, All-tail, All-cons}
-use Rattle.transyt_net.specs.declared.frame.Frame.{Frame}
-use Rattle.transyt_net.specs.declared.node.Stage.{Stage}
-use Rattle.transyt_net.specs.declared.plan_fault.PlanFault.{PlanFault}
-use Rattle.transyt_net.specs.Parts.{NodeValue, LinkValue, Network}
-use Rattle.transyt_net.specs.Valid.{within, is_frame, IsFrame, IsNode, IsLink, IsStage, IsFeed, stage_total, stages_at}
-use Rattle.transyt_net.specs.Plan.{IsValid, plan_fault}
-use Rattle.transyt_net.specs.Faults.{stage_in_range, link_in_range}
+use Rattle.transyt_parts.specs.declared.frame.Frame.{Frame}
+use Rattle.transyt_parts.specs.declared.node.Stage.{Stage}
+use Rattle.transyt_parts.specs.declared.stage_plan.PlanFault.{PlanFault}
+use Rattle.transyt_parts.specs.Parts.{NodeValue, LinkValue}
+use Rattle.transyt_net.specs.Parts.{Network}
+use Rattle.transyt_parts.specs.Valid.{within, is_frame, IsFrame, IsNode, IsStage, stage_in_range, link_in_range}
+use Rattle.transyt_net.specs.Valid.{IsLink, IsFeed, stage_total, stages_at, IsValid}
+use Rattle.transyt_parts.specs.Plan.{plan_fault}
 use Rattle.transyt.specs.Cards.{frame_of, stage_of_card, link_of_card, numbers_at, network_of_cards}
 use Rattle.transyt.specs.Junction.{IsJunction}
 use Rattle.transyt.specs.Validity.{is_node, is_link, node_in, steps_in, are_drawn, is_valid_deck}

@@ -1,12 +1,14 @@
 -- The cards of a deck of one junction: CYCLE, NODE, STAGE, STAGE, LINK and END, in this order.
-use Rattle.std.specs.Prelude.{ℕ, ◌+◌, ◌==◌, ◌&&◌, ◌||◌, not, nat_le, List, [], ◌∷◌, length, Option, None, Some, if◌then◌else◌, slice_index, slice_index_or, filter, codes}
+use Rattle.std.specs.Prelude.{ℕ, ◌+◌, ◌==◌, ◌&&◌, ◌||◌, not, nat_le, List, [], ◌∷◌, length, Option, None, Some}
+use Rattle.std.specs.Prelude.{if◌then◌else◌, slice_index, slice_index_or, filter, codes}
 use Rattle.std.specs.Str.{bytes_eq}
 use Rattle.transyt_io.specs.Lines.{words, is_skipped}
 use Rattle.transyt_syntax.specs.Syntax.{all_numbers}
-use Rattle.transyt_net.specs.declared.frame.Frame.{Frame}
-use Rattle.transyt_net.specs.declared.node.Stage.{Stage}
-use Rattle.transyt_net.specs.Parts.{NodeValue, LinkValue, Network, network_of}
-use Rattle.transyt_net.specs.Faults.{new_stage, new_link}
+use Rattle.transyt_parts.specs.declared.frame.Frame.{Frame}
+use Rattle.transyt_parts.specs.declared.node.Stage.{Stage}
+use Rattle.transyt_parts.specs.Parts.{NodeValue, LinkValue}
+use Rattle.transyt_net.specs.Parts.{Network, network_of}
+use Rattle.transyt_parts.specs.Made.{new_stage, new_link}
 
 -- so many numbers, from least to most
 abbrev pub counted : ℕ → ℕ → Option (List ℕ) → Option (List ℕ)

@@ -1,7 +1,8 @@
 -- The exit numbers of the program.
 use Rattle.std.specs.Prelude.{ℕ}
 use Rattle.transyt.specs.declared.status.Status.{Status}
-use Rattle.transyt.specs.declared.status.Status.TheVariants.{Done, BadWords, DeckRefused, ReadFault, WriteFault, NoMemory, TooLong}
+use Rattle.transyt.specs.declared.status.Status.TheVariants.{Done, BadWords, DeckRefused, ReadFault, WriteFault}
+use Rattle.transyt.specs.declared.status.Status.TheVariants.{NoMemory, TooLong}
 
 -- the exit number of a status
 abbrev pub exit_number : Status → ℕ

@@ -1,9 +1,11 @@
 -- The queue of the link of a network of one node and one link: what comes is uniform, and one stage lets it pass.
-use Rattle.std.specs.Prelude.{◌≡◌, ◌≤◌, ℕ, ◌+◌, ◌-◌, ◌&&◌, Bool, nat_le, nat_lt, List, length, map, slice_index, if◌then◌else◌}
+use Rattle.std.specs.Prelude.{◌≡◌, ◌≤◌, ℕ, ◌+◌, ◌-◌, ◌&&◌, Bool, nat_le, nat_lt, List, length, map, slice_index}
+use Rattle.std.specs.Prelude.{if◌then◌else◌}
 use Rattle.std.specs.List.{range_with_len}
 use Rattle.transyt_cycle.specs.Cycle.{minus_mod}
-use Rattle.transyt_net.specs.Parts.{NodeValue, Network}
-use Rattle.transyt_net.specs.Plan.{stage_of, length_at}
+use Rattle.transyt_parts.specs.Parts.{NodeValue}
+use Rattle.transyt_net.specs.Parts.{Network}
+use Rattle.transyt_parts.specs.Plan.{stage_of, length_at}
 use Rattle.transyt_net.specs.Flow.{node_of, link_of, perstep}
 use Rattle.transyt_profile.specs.Profile.{uniform}
 use Rattle.transyt_stopline.specs.Cut.{arrivals_of}

@@ -1,9 +1,11 @@
 -- What the code knows of the lines before, and its judgement of a line. No public clause cites it.
-use Rattle.std.specs.Prelude.{◌≡◌, ◌≤◌, ℕ, ◌+◌, ◌++◌, ◌==◌, Bool, true, nat_le, nat_lt, List, [], ◌∷◌, length, Option, None, Some, if◌then◌else◌}
+use Rattle.std.specs.Prelude.{◌≡◌, ◌≤◌, ℕ, ◌+◌, ◌++◌, ◌==◌, Bool, true, nat_le, nat_lt, List, [], ◌∷◌, length, Option}
+use Rattle.std.specs.Prelude.{None, Some, if◌then◌else◌}
 use Rattle.transyt_io.specs.Lines.{words, is_skipped}
 use Rattle.transyt_net.specs.Parts.{Network}
 use Rattle.transyt.specs.declared.said.Said.{Said}
-use Rattle.transyt.specs.declared.said.Said.TheVariants.{Nothing, CardRefused, Unfinished, Accepted, NoCommand, UnknownLink, Queue}
+use Rattle.transyt.specs.declared.said.Said.TheVariants.{Nothing, CardRefused, Unfinished, Accepted, NoCommand}
+use Rattle.transyt.specs.declared.said.Said.TheVariants.{UnknownLink, Queue}
 use Rattle.transyt.specs.Cards.{card_at, cards_from, spoken, network_of_cards}
 use Rattle.transyt.specs.Validity.{is_valid_deck}
 use Rattle.transyt.specs.Junction.{JunctionValue, junction_of}

@@ -1,5 +1,6 @@
 -- The report of an input: the answers to its lines, one after another.
-use Rattle.std.specs.Prelude.{ℕ, ◌+◌, ◌++◌, ◌==◌, ◌&&◌, ◌||◌, not, Bool, true, nat_le, nat_lt, List, [], ◌∷◌, length, take, Option, None, Some, if◌then◌else◌, codes, is_some}
+use Rattle.std.specs.Prelude.{ℕ, ◌+◌, ◌++◌, ◌==◌, ◌&&◌, ◌||◌, not, Bool, true, nat_le, nat_lt, List, [], ◌∷◌, length}
+use Rattle.std.specs.Prelude.{take, Option, None, Some, if◌then◌else◌, codes, is_some}
 use Rattle.std.specs.Fmt.{decimal}
 use Rattle.std.specs.Str.{bytes_eq}
 use Rattle.transyt_num.specs.Number.{number_of}

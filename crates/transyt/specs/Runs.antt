@@ -1,9 +1,11 @@
 -- What a run over an input does, whatever it is that answers the lines.
-use Rattle.std.specs.Prelude.{◌≡◌, ◌⊎◌, ℕ, ◌+◌, ◌-◌, ◌++◌, List, [], Bool, true, false, Option, None, Some, IfSome, length, take, if◌then◌else◌, ◌≢◌, ◌≤◌, ◌<◌}
+use Rattle.std.specs.Prelude.{◌≡◌, ◌⊎◌, ℕ, ◌+◌, ◌-◌, ◌++◌, List, [], Bool, true, false, Option, None, Some, IfSome}
+use Rattle.std.specs.Prelude.{length, take, if◌then◌else◌, ◌≢◌, ◌≤◌, ◌<◌}
 use Rattle.transyt_io.specs.Lines.{lines, whole}
 use Rattle.transyt_io.specs.Streams.{Takes, Adds, IsAtEnd}
 use Rattle.transyt.specs.declared.status.Status.{Status}
-use Rattle.transyt.specs.declared.status.Status.TheVariants.{Done, DeckRefused, ReadFault, TooLong, WriteFault, NoMemory, BadWords}
+use Rattle.transyt.specs.declared.status.Status.TheVariants.{Done, DeckRefused, ReadFault, TooLong, WriteFault}
+use Rattle.transyt.specs.declared.status.Status.TheVariants.{NoMemory, BadWords}
 use Rattle.transyt.specs.Turns.{answers_after, ending_after, costs_after, unless_ended, or_else}
 
 -- how lines are answered: the text of a line after the lines before it, whether it ends the run and then whether as a

@@ -1,10 +1,9 @@
 -- When the network of a deck of one junction is valid.
 use Rattle.std.specs.Prelude.{ℕ, ◌&&◌, Bool, nat_eq, List, length, is_none}
 use Rattle.std.specs.List.{list_all}
-use Rattle.transyt_net.specs.Parts.{NodeValue, LinkValue}
-use Rattle.transyt_net.specs.Valid.{within, is_frame}
-use Rattle.transyt_net.specs.Plan.{plan_fault}
-use Rattle.transyt_net.specs.Faults.{node_in_range, stage_in_range, link_in_range}
+use Rattle.transyt_parts.specs.Parts.{NodeValue, LinkValue}
+use Rattle.transyt_parts.specs.Valid.{within, is_frame, node_in_range, stage_in_range, link_in_range}
+use Rattle.transyt_parts.specs.Plan.{plan_fault}
 use Rattle.transyt.specs.Cards.{frame_of, node_of_cards, link_of_card, numbers_at}
 
 -- whether each number of a node is in its range

@@ -2,8 +2,8 @@
 ghost use Rattle.std.specs.Prelude.{◌≡◌, ◌<◌, ◌≤◌, ◌^◌, length, map, All, IfOk};
 ghost use Rattle.std.specs.List.{range_with_len};
 ghost use Rattle.transyt_io.specs.Lines.{words};
-ghost use Rattle.transyt_net.specs.Plan.{stage_of};
-ghost use Rattle.transyt_net.specs.Valid.{IsNode};
+ghost use Rattle.transyt_parts.specs.Plan.{stage_of};
+ghost use Rattle.transyt_parts.specs.Valid.{IsNode};
 ghost use Rattle.transyt_stopline.specs.Cut.{arrivals_of};
 ghost use Rattle.transyt_stopline.specs.Queue.{queues};
 ghost use Rattle.transyt.specs.Junction.{is_green, passed_at, junction_of, IsJunction};

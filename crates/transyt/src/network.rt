@@ -1,7 +1,7 @@
 //! The network of the five cards before END.
 ghost use Rattle.std.specs.Prelude.{◌≡◌, ◌↔◌, ◌⊎◌, ℕ, List, false, true, slice_index, length, ◌<◌, IfOk, IfErr, IfSome, IfNone, IsErrOf, OnOk, MatchOption};
 ghost use Rattle.transyt_net.specs.Faults.{empty, node_fault, with_node, stage_fault, with_stage, link_fault, with_link};
-ghost use Rattle.transyt_net.specs.Plan.{IsValid};
+ghost use Rattle.transyt_net.specs.Valid.{IsValid};
 ghost use Rattle.transyt.specs.Cards.{numbers_at, frame_of, stage_of_card, link_of_card, network_of_cards};
 ghost use Rattle.transyt.specs.Validity.{are_drawn, is_valid_deck};
 

@@ -2,8 +2,9 @@
 use Rattle.std.proofs.Common.{◌≡◌, ℕ, List, [], ◌∷◌, ◌++◌, map, Option, refl, ap}
 use Rattle.std.specs.List.{flat_map}
 use Rattle.transyt_io.specs.Streams.{Adds, AddsFront}
-use Rattle.transyt_net.specs.declared.frame.Frame.{Frame}
-use Rattle.transyt_net.specs.Parts.{Network, NodeValue, LinkValue, PlanValue}
+use Rattle.transyt_parts.specs.declared.frame.Frame.{Frame}
+use Rattle.transyt_net.specs.Parts.{Network}
+use Rattle.transyt_parts.specs.Parts.{NodeValue, LinkValue, PlanValue}
 use Rattle.transyt_deck.specs.Cards.{
   Card,
   Form,

@@ -3,7 +3,7 @@ ghost use Rattle.std.specs.Prelude.{◌≡◌, ◌≤◌, ◌++◌, ◌∷◌, [
 ghost use Rattle.std.specs.Option.{option_map};
 ghost use Rattle.transyt_io.specs.Lines.{lines};
 ghost use Rattle.transyt_io.specs.Streams.{Adds, AddsFront, CountsFault};
-ghost use Rattle.transyt_net.specs.Parts.{LinkValue};
+ghost use Rattle.transyt_parts.specs.Parts.{LinkValue};
 ghost use Rattle.transyt_deck.specs.Cards.{Form, Cycle, StageOf, FeedOf, End, node_cards, link_card, feed_cards, rule_cards, plan_cards, cards_text, deck_cards, deck_text};
 ghost use Rattle.transyt_deck.specs.Deck.{deck, Complete};
 

@@ -4,7 +4,7 @@ use Rattle.std.proofs.Common.{Some, None, refl, sym, ◌∙◌, ap, unwrap_or, o
 use Rattle.std.specs.Option.{option_map}
 use Rattle.std.specs.List.{list_any, filter_map}
 use Rattle.transyt_io.specs.Lines.{is_skipped}
-use Rattle.transyt_net.specs.declared.frame.Frame.{Frame}
+use Rattle.transyt_parts.specs.declared.frame.Frame.{Frame}
 use Rattle.transyt_net.specs.Parts.{Network}
 use Rattle.transyt_syntax.specs.Findings.{first_found, or_else, when}
 use Rattle.transyt_syntax.specs.Syntax.{syntax_code}

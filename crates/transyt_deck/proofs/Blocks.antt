@@ -7,13 +7,15 @@ use Rattle.std.specs.Option.{option_map}
 use Rattle.std.proofs.lemmas.List.{append-nil}
 use Rattle.std.proofs.lemmas.List.Elements.{All-head, All-tail}
 use Rattle.std.proofs.lemmas.Bool.{and_from, le-leb, lt-ltb, lt-leb}
-use Rattle.transyt_net.specs.declared.frame.Frame.{Frame}
+use Rattle.transyt_parts.specs.declared.frame.Frame.{Frame}
 use Rattle.transyt_net.specs.declared.draft.DraftFault.TheVariants.{Range, TooMany, Twice}
-use Rattle.transyt_net.specs.declared.node.Stage.{Stage}
-use Rattle.transyt_net.specs.Parts.{NodeValue, network_of}
-use Rattle.transyt_net.specs.Valid.{IsNode, IsStage, all_differ, is_among, node_number, node_numbers, on_place}
-use Rattle.transyt_net.specs.Valid.{stage_total, within}
-use Rattle.transyt_net.specs.Faults.{add_stage, last_place, node_in_range, stage_in_range}
+use Rattle.transyt_parts.specs.declared.node.Stage.{Stage}
+use Rattle.transyt_parts.specs.Parts.{NodeValue}
+use Rattle.transyt_net.specs.Parts.{network_of}
+use Rattle.transyt_parts.specs.Valid.{IsNode, IsStage, all_differ, node_number, within, node_in_range, stage_in_range}
+use Rattle.transyt_net.specs.Valid.{is_among, node_numbers, on_place, stage_total}
+use Rattle.transyt_parts.specs.Made.{add_stage}
+use Rattle.transyt_net.specs.Faults.{last_place}
 use Rattle.transyt_syntax.specs.Findings.{first_found, when}
 use Rattle.transyt_deck.specs.declared.places.Places.{Places}
 use Rattle.transyt_deck.specs.Cards.{Card, Node, StageOf, node_cards}

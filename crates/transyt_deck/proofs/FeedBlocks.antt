@@ -5,12 +5,13 @@ use Rattle.std.proofs.Common.{length-append, All}
 use Rattle.std.proofs.lemmas.List.{append-nil, map-append}
 use Rattle.std.proofs.lemmas.List.Elements.{All-head, All-tail}
 use Rattle.std.proofs.lemmas.Bool.{le-leb, lt-leb}
-use Rattle.transyt_net.specs.declared.link.Feed.{Feed}
+use Rattle.transyt_parts.specs.declared.link.Feed.{Feed}
 use Rattle.transyt_net.specs.declared.draft.DraftFault.TheVariants.{Range, TooMany, Twice, Unknown}
-use Rattle.transyt_net.specs.Parts.{LinkValue, Network}
-use Rattle.transyt_net.specs.Valid.{IsFeed, all_differ, feeders, feeds_at, feeds_in, is_among, is_fed, link_number}
-use Rattle.transyt_net.specs.Valid.{link_numbers}
-use Rattle.transyt_net.specs.Faults.{add_feed, feed_in_range}
+use Rattle.transyt_parts.specs.Parts.{LinkValue}
+use Rattle.transyt_net.specs.Parts.{Network}
+use Rattle.transyt_net.specs.Valid.{IsFeed, feeds_at, feeds_in, is_among, link_numbers}
+use Rattle.transyt_parts.specs.Valid.{all_differ, feeders, is_fed, link_number, feed_in_range}
+use Rattle.transyt_parts.specs.Made.{add_feed}
 use Rattle.transyt_deck.specs.declared.places.Places.{Places}
 use Rattle.transyt_deck.specs.Cards.{FeedOf, feed_cards}
 use Rattle.transyt_deck.specs.Next.{places_with}

@@ -4,10 +4,10 @@ use Rattle.std.proofs.Common.{Some, None, refl, arith, flat_map, All, IfSome}
 use Rattle.std.specs.List.{list_all}
 use Rattle.std.proofs.lemmas.List.Elements.{All-head, All-tail}
 use Rattle.std.proofs.lemmas.Bool.{and_from, le-leb, lt-ltb}
-use Rattle.transyt_net.specs.declared.frame.Frame.{Frame}
-use Rattle.transyt_net.specs.declared.node.Stage.{Stage}
-use Rattle.transyt_net.specs.Parts.{NodeValue, PlanValue}
-use Rattle.transyt_net.specs.Valid.{IsFrame, IsNode, IsPlan, IsStage}
+use Rattle.transyt_parts.specs.declared.frame.Frame.{Frame}
+use Rattle.transyt_parts.specs.declared.node.Stage.{Stage}
+use Rattle.transyt_parts.specs.Parts.{NodeValue, PlanValue}
+use Rattle.transyt_parts.specs.Valid.{IsFrame, IsNode, IsPlan, IsStage}
 use Rattle.transyt_deck.specs.Cards.{Card, Cycle, StageOf, node_cards, plan_cards}
 use Rattle.transyt_deck.proofs.NumberTexts.{is_small}
 use Rattle.transyt_deck.proofs.Taking.{AreInside, IsInside}

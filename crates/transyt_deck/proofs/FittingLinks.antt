@@ -4,11 +4,13 @@ use Rattle.std.proofs.Common.{cond, ◌&&◌, Option, Some, None, refl, ◌∙�
 use Rattle.std.specs.List.{list_all}
 use Rattle.std.proofs.lemmas.List.Elements.{All-head, All-tail}
 use Rattle.std.proofs.lemmas.Bool.{and_from, or_cases, eqb-true, le-leb}
-use Rattle.transyt_net.specs.declared.link.Feed.{Feed}
-use Rattle.transyt_net.specs.declared.link.GiveWay.{GiveWay}
-use Rattle.transyt_net.specs.Parts.{LinkValue, Network, NodeValue}
-use Rattle.transyt_net.specs.Valid.{IsFeed, IsLink, IsNode, IsRule, is_among, link_numbers, node_number, node_numbers}
-use Rattle.transyt_net.specs.Valid.{numbered, stage_total, stages_at}
+use Rattle.transyt_parts.specs.declared.link.Feed.{Feed}
+use Rattle.transyt_parts.specs.declared.link.GiveWay.{GiveWay}
+use Rattle.transyt_parts.specs.Parts.{LinkValue, NodeValue}
+use Rattle.transyt_net.specs.Parts.{Network}
+use Rattle.transyt_net.specs.Valid.{IsFeed, IsLink, IsRule, is_among, link_numbers, node_numbers, numbered, stage_total}
+use Rattle.transyt_net.specs.Valid.{stages_at}
+use Rattle.transyt_parts.specs.Valid.{IsNode, node_number}
 use Rattle.transyt_deck.specs.Cards.{FeedOf, Yield, feed_cards, link_card, numbers_in, rule_cards}
 use Rattle.transyt_deck.proofs.NumberTexts.{is_small}
 use Rattle.transyt_deck.proofs.LinkBlocks.{AreLinks}

@@ -6,12 +6,12 @@ use Rattle.std.specs.List.{list_all}
 use Rattle.std.proofs.lemmas.List.{append-nil, map-append, length-map}
 use Rattle.std.proofs.lemmas.List.Elements.{All-head, All-tail}
 use Rattle.std.proofs.lemmas.Bool.{le-leb, lt-ltb, lt-leb}
-use Rattle.transyt_net.specs.declared.link.Feed.{Feed}
+use Rattle.transyt_parts.specs.declared.link.Feed.{Feed}
 use Rattle.transyt_net.specs.declared.draft.DraftFault.TheVariants.{Range, TooMany, Twice, Unknown}
-use Rattle.transyt_net.specs.Parts.{LinkValue, Network, NodeValue, network_of}
-use Rattle.transyt_net.specs.Valid.{IsLink, all_differ, is_among, link_number, link_numbers, node_numbers, stages_at}
-use Rattle.transyt_net.specs.Valid.{within}
-use Rattle.transyt_net.specs.Faults.{link_in_range}
+use Rattle.transyt_parts.specs.Parts.{LinkValue, NodeValue}
+use Rattle.transyt_net.specs.Parts.{Network, network_of}
+use Rattle.transyt_net.specs.Valid.{IsLink, is_among, link_numbers, node_numbers, stages_at}
+use Rattle.transyt_parts.specs.Valid.{all_differ, link_number, within, link_in_range}
 use Rattle.transyt_deck.specs.declared.places.Places.{Places}
 use Rattle.transyt_deck.specs.Cards.{link_card}
 use Rattle.transyt_deck.specs.Deck.{Seen}

@@ -6,8 +6,9 @@ use Rattle.std.proofs.lemmas.List.{map-append}
 use Rattle.std.proofs.lemmas.List.Folds.{list_any-append}
 use Rattle.std.proofs.lemmas.Bool.{and_parts, or_parts, or_right, or_left, not-true, eqb-true, eq-eqb}
 use Rattle.std.proofs.lemmas.Bool.Decides.{nat_tests}
-use Rattle.transyt_net.specs.Parts.{LinkValue}
-use Rattle.transyt_net.specs.Valid.{all_differ, is_among, link_number, link_numbers, numbered, on_numbered}
+use Rattle.transyt_parts.specs.Parts.{LinkValue}
+use Rattle.transyt_parts.specs.Valid.{all_differ, link_number}
+use Rattle.transyt_net.specs.Valid.{is_among, link_numbers, numbered, on_numbered}
 use Rattle.transyt_deck.specs.Next.{onto_links}
 
 turned : (a b : ℕ) → nat_eq a b ≡ false → nat_eq b a ≡ false

@@ -4,9 +4,10 @@ use Rattle.std.proofs.Common.{is_some}
 use Rattle.std.specs.List.{filter_map, list_all}
 use Rattle.std.specs.Option.{option_map}
 use Rattle.std.proofs.lemmas.Bool.{and_parts, not-true, or_parts}
-use Rattle.transyt_net.specs.declared.frame.Frame.{Frame}
+use Rattle.transyt_parts.specs.declared.frame.Frame.{Frame}
 use Rattle.transyt_net.specs.Parts.{Network, network_of}
-use Rattle.transyt_net.specs.Faults.{add_feed, set_rule, with_link, with_node, with_plan, with_stage}
+use Rattle.transyt_parts.specs.Made.{add_feed, set_rule}
+use Rattle.transyt_net.specs.Faults.{with_link, with_node, with_plan, with_stage}
 use Rattle.transyt_deck.specs.Cards.{Card, Cycle, End, FeedOf, Form, LinkOf, Node, StageOf, Steps, Yield}
 use Rattle.transyt_deck.specs.Picks.{draft_of, frame_in, last_of, links_of, network_with, nodes_of, plan_in}
 use Rattle.transyt_deck.specs.InPlace.{in_place, is_cycle, is_end, is_feed_or_rule, is_form, is_link, is_of_node}

@@ -3,10 +3,10 @@ use Rattle.std.proofs.Common.{◌≡◌, ℕ, ◌==◌, List, [], ◌∷◌, ◌
 use Rattle.std.proofs.Common.{◌∙◌, ap}
 use Rattle.std.specs.List.{filter_map, list_any}
 use Rattle.std.proofs.lemmas.List.{map-append}
-use Rattle.transyt_net.specs.declared.link.Feed.{Feed}
-use Rattle.transyt_net.specs.declared.link.GiveWay.{GiveWay}
-use Rattle.transyt_net.specs.Parts.{LinkValue}
-use Rattle.transyt_net.specs.Faults.{add_feed, set_rule}
+use Rattle.transyt_parts.specs.declared.link.Feed.{Feed}
+use Rattle.transyt_parts.specs.declared.link.GiveWay.{GiveWay}
+use Rattle.transyt_parts.specs.Parts.{LinkValue}
+use Rattle.transyt_parts.specs.Made.{add_feed, set_rule}
 use Rattle.transyt_deck.specs.Cards.{Card, Cycle, End, FeedOf, Form, LinkOf, Node, StageOf, Steps, Yield}
 use Rattle.transyt_deck.specs.Picks.{completed, feed_in, last_of, link_in, links_of, rule_in}
 use Rattle.transyt_deck.specs.InPlace.{is_feed_or_rule}

@@ -1,10 +1,11 @@
 -- What one card more changes of the nodes.
 use Rattle.std.proofs.Common.{length, ◌≡◌, ℕ, ◌-◌, suc, arith, List, [], ◌∷◌, ◌++◌, refl, sym, ◌∙◌, ap, append_assoc}
 use Rattle.std.proofs.lemmas.List.{append-nil}
-use Rattle.transyt_net.specs.declared.node.Stage.{Stage}
-use Rattle.transyt_net.specs.Parts.{NodeValue}
+use Rattle.transyt_parts.specs.declared.node.Stage.{Stage}
+use Rattle.transyt_parts.specs.Parts.{NodeValue}
 use Rattle.transyt_net.specs.Valid.{on_place}
-use Rattle.transyt_net.specs.Faults.{add_stage, last_place}
+use Rattle.transyt_parts.specs.Made.{add_stage}
+use Rattle.transyt_net.specs.Faults.{last_place}
 use Rattle.transyt_deck.specs.Cards.{Card, Cycle, End, FeedOf, Form, LinkOf, Node, StageOf, Steps, Yield}
 use Rattle.transyt_deck.specs.Picks.{node_in, nodes_of, onto_stages, stages_behind}
 

@@ -7,11 +7,13 @@ use Rattle.std.proofs.lemmas.List.{map-append, length-map}
 use Rattle.std.proofs.lemmas.List.Elements.{All-head, All-tail}
 use Rattle.std.proofs.lemmas.Bool.{and_from, le-leb}
 use Rattle.transyt_io.specs.Lines.{lines}
-use Rattle.transyt_net.specs.declared.frame.Frame.{Frame}
+use Rattle.transyt_parts.specs.declared.frame.Frame.{Frame}
 use Rattle.transyt_net.specs.declared.draft.DraftFault.TheVariants.{Range}
-use Rattle.transyt_net.specs.Parts.{Network, NodeValue, PlanValue}
-use Rattle.transyt_net.specs.Valid.{IsFrame, IsPlan, IsSound, is_frame, within}
-use Rattle.transyt_net.specs.Plan.{IsValid, first_fault, first_of, plan_fault}
+use Rattle.transyt_net.specs.Parts.{Network}
+use Rattle.transyt_parts.specs.Parts.{NodeValue, PlanValue}
+use Rattle.transyt_parts.specs.Valid.{IsFrame, IsPlan, is_frame, within}
+use Rattle.transyt_net.specs.Valid.{IsSound, IsValid}
+use Rattle.transyt_parts.specs.Plan.{first_fault, first_of, plan_fault}
 use Rattle.transyt_syntax.specs.Findings.{when}
 use Rattle.transyt_deck.specs.declared.places.Places.{Places}
 use Rattle.transyt_deck.specs.Cards.{Card, Cycle, End, Form, Steps, card_text, cards_text, deck_cards, deck_text}

@@ -3,12 +3,13 @@ use Rattle.std.proofs.Common.{◌≡◌, ℕ, List, [], ◌∷◌, Bool, true, f
 use Rattle.std.proofs.Common.{refl, sym, subst, ◌∙◌, ap, IfSome, IfNone, IfErr, OnOk, OnErr, IsOk, IsErrOf}
 use Rattle.std.specs.Option.{option_map}
 use Rattle.transyt_net.specs.declared.draft.DraftFault.{DraftFault}
-use Rattle.transyt_net.specs.declared.link.Feed.{Feed}
-use Rattle.transyt_net.specs.declared.link.GiveWay.{GiveWay}
+use Rattle.transyt_parts.specs.declared.link.Feed.{Feed}
+use Rattle.transyt_parts.specs.declared.link.GiveWay.{GiveWay}
 use Rattle.transyt_net.specs.declared.draft.DraftFault.TheVariants.{Memory, Range, TooMany, Twice, Unknown}
-use Rattle.transyt_net.specs.Parts.{LinkValue, Network}
-use Rattle.transyt_net.specs.Faults.{add_feed, feed_fault, link_fault, rule_fault, set_rule, with_feed, with_link}
-use Rattle.transyt_net.specs.Faults.{with_rule}
+use Rattle.transyt_parts.specs.Parts.{LinkValue}
+use Rattle.transyt_net.specs.Parts.{Network}
+use Rattle.transyt_parts.specs.Made.{add_feed, set_rule}
+use Rattle.transyt_net.specs.Faults.{feed_fault, link_fault, rule_fault, with_feed, with_link, with_rule}
 use Rattle.transyt_syntax.specs.Findings.{first_found}
 use Rattle.transyt_deck.specs.Cards.{Card, FeedOf, LinkOf, Yield}
 use Rattle.transyt_deck.specs.Rows.{link_read}

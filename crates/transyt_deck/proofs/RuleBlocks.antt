@@ -3,11 +3,13 @@ use Rattle.std.proofs.Common.{◌≡◌, List, [], ◌∷◌, ◌++◌, map, Boo
 use Rattle.std.proofs.Common.{None, refl, sym, ◌∙◌, ap, is_some, append_assoc, flat_map, IfSome}
 use Rattle.std.proofs.lemmas.List.Elements.{All-head, All-tail}
 use Rattle.std.proofs.lemmas.Bool.{le-leb}
-use Rattle.transyt_net.specs.declared.link.GiveWay.{GiveWay}
+use Rattle.transyt_parts.specs.declared.link.GiveWay.{GiveWay}
 use Rattle.transyt_net.specs.declared.draft.DraftFault.TheVariants.{Range, Twice, Unknown}
-use Rattle.transyt_net.specs.Parts.{LinkValue, Network}
-use Rattle.transyt_net.specs.Valid.{rule_in, IsRule, all_differ, is_among, link_number, link_numbers, rule_at}
-use Rattle.transyt_net.specs.Faults.{set_rule}
+use Rattle.transyt_parts.specs.Parts.{LinkValue}
+use Rattle.transyt_net.specs.Parts.{Network}
+use Rattle.transyt_net.specs.Valid.{rule_in, IsRule, is_among, link_numbers, rule_at}
+use Rattle.transyt_parts.specs.Valid.{all_differ, link_number}
+use Rattle.transyt_parts.specs.Made.{set_rule}
 use Rattle.transyt_deck.specs.declared.places.Places.{Places}
 use Rattle.transyt_deck.specs.Cards.{Yield, rule_cards}
 use Rattle.transyt_deck.specs.Next.{places_with}

@@ -5,12 +5,15 @@ use Rattle.std.proofs.Common.{◌≡◌, ℕ, ◌<◌, zero, suc, ◌||◌, List
 use Rattle.std.proofs.Common.{Option, Some, None, refl, ◌∙◌, ap, arith, length-append}
 use Rattle.std.specs.Option.{option_map}
 use Rattle.transyt_net.specs.declared.draft.DraftFault.{DraftFault}
-use Rattle.transyt_net.specs.declared.plan_fault.PlanFault.{PlanFault}
+use Rattle.transyt_parts.specs.declared.stage_plan.PlanFault.{PlanFault}
 use Rattle.transyt_net.specs.declared.draft.DraftFault.TheVariants.{Twice}
-use Rattle.transyt_net.specs.Parts.{LinkValue, Network}
-use Rattle.transyt_net.specs.Valid.{all_differ, is_among, link_number, link_numbers, on_place}
-use Rattle.transyt_net.specs.Plan.{first_fault}
-use Rattle.transyt_net.specs.Faults.{add_feed, add_stage, last_place, link_fault, new_node, set_rule}
+use Rattle.transyt_parts.specs.Parts.{LinkValue}
+use Rattle.transyt_net.specs.Parts.{Network}
+use Rattle.transyt_parts.specs.Valid.{all_differ, link_number}
+use Rattle.transyt_net.specs.Valid.{is_among, link_numbers, on_place}
+use Rattle.transyt_parts.specs.Plan.{first_fault}
+use Rattle.transyt_parts.specs.Made.{add_feed, add_stage, new_node, set_rule}
+use Rattle.transyt_net.specs.Faults.{last_place, link_fault}
 use Rattle.transyt_net.proofs.PlaceLaws.{all_differ-push}
 use Rattle.transyt_syntax.specs.Findings.{or_else}
 use Rattle.transyt_deck.specs.declared.keyword.CardWord.{CardWord}

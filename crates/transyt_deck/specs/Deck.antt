@@ -7,11 +7,11 @@ use Rattle.transyt_syntax.specs.Syntax.{syntax_code}
 use Rattle.transyt_syntax.specs.Findings.{when, first_found}
 use Rattle.transyt_net.specs.declared.draft.DraftFault.{DraftFault}
 use Rattle.transyt_net.specs.declared.draft.DraftFault.TheVariants.{Twice, Unknown, Range, TooMany, Memory}
-use Rattle.transyt_net.specs.declared.plan_fault.PlanFault.{PlanFault}
-use Rattle.transyt_net.specs.declared.plan_fault.PlanFault.TheVariants.{FewStages, StageOrder, LeastGreen}
+use Rattle.transyt_parts.specs.declared.stage_plan.PlanFault.{PlanFault}
+use Rattle.transyt_parts.specs.declared.stage_plan.PlanFault.TheVariants.{FewStages, StageOrder, LeastGreen}
 use Rattle.transyt_net.specs.Parts.{Network}
-use Rattle.transyt_net.specs.Valid.{within, is_frame}
-use Rattle.transyt_net.specs.Plan.{first_fault}
+use Rattle.transyt_parts.specs.Valid.{within, is_frame}
+use Rattle.transyt_parts.specs.Plan.{first_fault}
 use Rattle.transyt_net.specs.Faults.{node_fault, stage_fault, link_fault, feed_fault, rule_fault, climb_fault}
 use Rattle.transyt_deck.specs.declared.places.Places.{Places}
 use Rattle.transyt_deck.specs.Cards.{Card, Form, Cycle, Node, StageOf, LinkOf, FeedOf, Yield, Steps, End}

@@ -1,8 +1,10 @@
 -- One card more, by what stands already. `Deck` picks from whole lists; only private contracts cite these words.
 use Rattle.std.specs.Prelude.{ℕ, true, ◌&&◌, ◌||◌, ◌==◌, if◌then◌else◌, List, [], map, Option, Some, None}
 use Rattle.std.specs.Option.{option_map}
-use Rattle.transyt_net.specs.Parts.{LinkValue, Network}
-use Rattle.transyt_net.specs.Faults.{empty, with_node, with_stage, with_link, add_feed, set_rule, with_plan}
+use Rattle.transyt_parts.specs.Parts.{LinkValue}
+use Rattle.transyt_net.specs.Parts.{Network}
+use Rattle.transyt_net.specs.Faults.{empty, with_node, with_stage, with_link, with_plan}
+use Rattle.transyt_parts.specs.Made.{add_feed, set_rule}
 use Rattle.transyt_deck.specs.declared.places.Places.{Places}
 use Rattle.transyt_deck.specs.Cards.{Card, Form, Cycle, Node, StageOf, LinkOf, FeedOf, Yield, Steps, End}
 use Rattle.transyt_deck.specs.InPlace.{is_form, is_cycle, is_link, is_feed_or_rule, is_steps, is_of_node, is_end}

@@ -2,11 +2,12 @@
 use Rattle.std.specs.Prelude.{ℕ, ◌==◌, if◌then◌else◌, List, [], ◌∷◌, ◌++◌, map, Option, Some, None, unwrap_or}
 use Rattle.std.specs.Option.{option_map}
 use Rattle.std.specs.List.{filter_map}
-use Rattle.transyt_net.specs.declared.frame.Frame.{Frame}
-use Rattle.transyt_net.specs.declared.node.Stage.{Stage}
-use Rattle.transyt_net.specs.declared.link.Feed.{Feed}
-use Rattle.transyt_net.specs.declared.link.GiveWay.{GiveWay}
-use Rattle.transyt_net.specs.Parts.{NodeValue, LinkValue, PlanValue, Network}
+use Rattle.transyt_parts.specs.declared.frame.Frame.{Frame}
+use Rattle.transyt_parts.specs.declared.node.Stage.{Stage}
+use Rattle.transyt_parts.specs.declared.link.Feed.{Feed}
+use Rattle.transyt_parts.specs.declared.link.GiveWay.{GiveWay}
+use Rattle.transyt_parts.specs.Parts.{NodeValue, LinkValue, PlanValue}
+use Rattle.transyt_net.specs.Parts.{Network}
 use Rattle.transyt_syntax.specs.Findings.{or_else}
 use Rattle.transyt_deck.specs.declared.keyword.CardWord.{CardWord}
 use Rattle.transyt_deck.specs.Cards.{Card, Form, Cycle, Node, StageOf, LinkOf, FeedOf, Yield, Steps}

@@ -4,8 +4,8 @@ use Rattle.std.specs.Option.{option_map}
 use Rattle.std.specs.List.{filter_map}
 use Rattle.transyt_io.specs.Lines.{words, is_skipped}
 use Rattle.transyt_syntax.specs.Syntax.{named, first_word, numbers_of, at}
-use Rattle.transyt_net.specs.Parts.{LinkValue}
-use Rattle.transyt_net.specs.Faults.{new_stage, new_link, new_feed, new_rule, new_plan}
+use Rattle.transyt_parts.specs.Parts.{LinkValue}
+use Rattle.transyt_parts.specs.Made.{new_stage, new_link, new_feed, new_rule, new_plan}
 use Rattle.transyt_deck.specs.declared.keyword.CardWord.{CardWord}
 use Rattle.transyt_deck.specs.declared.keyword.CardWord.TheVariants as w
 use Rattle.transyt_deck.specs.Cards.{Card}

@@ -5,8 +5,9 @@ use Rattle.transyt_syntax.specs.Findings.{first_found}
 use Rattle.transyt_net.specs.declared.draft.DraftFault.{DraftFault}
 use Rattle.transyt_net.specs.declared.draft.DraftFault.TheVariants.{Twice, Unknown, Range, TooMany, Memory}
 use Rattle.transyt_net.specs.Parts.{Network}
-use Rattle.transyt_net.specs.Valid.{all_differ, link_numbers}
-use Rattle.transyt_net.specs.Plan.{first_fault}
+use Rattle.transyt_parts.specs.Valid.{all_differ}
+use Rattle.transyt_net.specs.Valid.{link_numbers}
+use Rattle.transyt_parts.specs.Plan.{first_fault}
 use Rattle.transyt_deck.specs.declared.keyword.CardWord.{CardWord}
 use Rattle.transyt_deck.specs.declared.keyword.CardWord.TheVariants as w
 use Rattle.transyt_deck.specs.declared.places.Places.{Places}

@@ -2,7 +2,7 @@
 ghost use Rattle.std.specs.Prelude.{◌≡◌, map, length, Some};
 ghost use Rattle.transyt_io.specs.Lines.{lines};
 ghost use Rattle.transyt_net.specs.Parts.{Network};
-ghost use Rattle.transyt_net.specs.Plan.{IsValid};
+ghost use Rattle.transyt_net.specs.Valid.{IsValid};
 ghost use Rattle.transyt_deck.specs.Cards.{deck_cards, deck_text};
 ghost use Rattle.transyt_deck.specs.Deck.{deck, code, Complete};
 ghost use Rattle.transyt_deck.specs.WorkedDecks.{worked};

@@ -1,7 +1,8 @@
 //! A card put into the network so far.
 ghost use Rattle.std.specs.Prelude.{◌≡◌, ◌≤◌, length, Option, IfSome, IfNone, IfErr, IsErrOf, OnOk, OnErr, true};
 ghost use Rattle.transyt_net.specs.Parts.{Network};
-ghost use Rattle.transyt_net.specs.Faults.{new_stage, new_feed, new_rule, new_plan, link_fault, with_link};
+ghost use Rattle.transyt_parts.specs.Made.{new_stage, new_feed, new_rule, new_plan};
+ghost use Rattle.transyt_net.specs.Faults.{link_fault, with_link};
 ghost use Rattle.transyt_syntax.specs.Syntax.{is_count};
 ghost use Rattle.transyt_deck.specs.declared.keyword.CardWord.TheVariants as w;
 ghost use Rattle.transyt_deck.specs.Cards.{Form, Cycle, Node, StageOf, LinkOf, FeedOf, Yield, Steps, End};

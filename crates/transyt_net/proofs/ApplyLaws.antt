@@ -1,5 +1,6 @@
 -- What an allowed edit does: a valid network stays valid.
-use Rattle.std.proofs.Common.{◌≡◌, ℕ, ◌-◌, ◌≤◌, Bool, true, not, ◌&&◌, List, length, Some, None, refl, sym, ap, subst, ◌∙◌, arith, nat_le, nat_lt, if◌then◌else◌}
+use Rattle.std.proofs.Common.{◌≡◌, ℕ, ◌-◌, ◌≤◌, Bool, true, not, ◌&&◌, List, length, Some, None, refl, sym, ap, subst}
+use Rattle.std.proofs.Common.{◌∙◌, arith, nat_le, nat_lt, if◌then◌else◌}
 use Rattle.std.proofs.lemmas.Bool.{and_parts, not-false, leb-true, ltb-true, le-leb}
 use Rattle.std.proofs.lemmas.List.{length-map}
 use Rattle.transyt_parts.specs.declared.node.Stage.{Stage}
@@ -11,11 +12,15 @@ use Rattle.transyt_parts.specs.declared.stage_plan.PlanFault.TheVariants as plan
 use Rattle.transyt_parts.specs.Parts.{NodeValue, LinkValue}
 use Rattle.transyt_net.specs.Parts.{Network}
 use Rattle.transyt_parts.specs.Valid.{within, is_fed, node_number, link_number, all_differ, IsStage}
-use Rattle.transyt_net.specs.Valid.{is_among, numbered, on_numbered, on_place, node_numbers, link_numbers, stages_at, stage_total, feeds_at, feeds_in, IsLink, IsFeed, IsValid}
+use Rattle.transyt_net.specs.Valid.{is_among, numbered, on_numbered, on_place, node_numbers, link_numbers, stages_at}
+use Rattle.transyt_net.specs.Valid.{stage_total, feeds_at, feeds_in, IsLink, IsFeed, IsValid}
 use Rattle.transyt_parts.specs.Plan.{plan_fault, in_order, have_greens, stage_of}
-use Rattle.transyt_net.specs.Edits.{with_edit, inverse, set_offset, set_change, change_to, set_entry, set_saturation, set_weights, set_part, set_cruise, feeder_of, flow_to, cruise_to, node_in, link_in, the_node}
+use Rattle.transyt_net.specs.Edits.{with_edit, inverse, set_offset, set_change, change_to, set_entry, set_saturation}
+use Rattle.transyt_net.specs.Edits.{set_weights, set_part, set_cruise, feeder_of, flow_to, cruise_to, node_in, link_in}
+use Rattle.transyt_net.specs.Edits.{the_node}
 use Rattle.transyt_net.specs.EditFaults.{edit_fault, range_fault, feed_fault, order_fault, has_stage, is_link}
-use Rattle.transyt_net.specs.Named.{NamesNode, NamesLink, NodeTakes, LinkTakes, node_edit, link_edit, node_back, link_back}
+use Rattle.transyt_net.specs.Named.{NamesNode, NamesLink, NodeTakes, LinkTakes, node_edit, link_edit, node_back}
+use Rattle.transyt_net.specs.Named.{link_back}
 use Rattle.transyt_net.proofs.PlaceLaws.{keys_kept, keys_kept_at, all_on_numbered, all_on_place, length_kept}
 use Rattle.transyt_net.proofs.WriteLaws.{no_fault, in_range, links_written, nodes_written}
 

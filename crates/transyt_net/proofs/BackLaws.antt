@@ -1,5 +1,7 @@
 -- The inverse of an allowed edit is allowed.
-use Rattle.std.proofs.Common.{◌≡◌, ℕ, ◌-◌, ◌<◌, ◌≤◌, Bool, true, false, not, cond, ◌&&◌, List, [], ◌∷◌, length, map, Some, None, refl, sym, ap, subst, ◌∙◌, arith, nat_eq, nat_le, nat_lt, if◌then◌else◌, ◌⊎◌, inl, inr}
+use Rattle.std.proofs.Common.{◌≡◌, ℕ, ◌-◌, ◌<◌, ◌≤◌, Bool, true, false, not, cond, ◌&&◌, List, [], ◌∷◌, length, map}
+use Rattle.std.proofs.Common.{Some, None, refl, sym, ap, subst, ◌∙◌, arith, nat_eq, nat_le, nat_lt, if◌then◌else◌, ◌⊎◌}
+use Rattle.std.proofs.Common.{inl, inr}
 use Rattle.std.proofs.lemmas.Bool.{and_parts, and_from, not-false, le-leb, lt-ltb, or_cases, true≢false}
 use Rattle.std.proofs.lemmas.List.{length-map}
 use Rattle.transyt_parts.specs.declared.link.Feed.{Feed}
@@ -9,9 +11,12 @@ use Rattle.transyt_net.specs.declared.edit.EditFault.TheVariants.{Unknown, NoFee
 use Rattle.transyt_parts.specs.Parts.{NodeValue, LinkValue}
 use Rattle.transyt_net.specs.Parts.{Network}
 use Rattle.transyt_parts.specs.Valid.{within, is_fed, node_number, link_number, IsNode}
-use Rattle.transyt_net.specs.Valid.{is_among, numbered, on_numbered, on_place, node_numbers, link_numbers, stages_at, stage_total, feeds_at, feeds_in, IsLink, IsFeed, IsValid}
+use Rattle.transyt_net.specs.Valid.{is_among, numbered, on_numbered, on_place, node_numbers, link_numbers, stages_at}
+use Rattle.transyt_net.specs.Valid.{stage_total, feeds_at, feeds_in, IsLink, IsFeed, IsValid}
 use Rattle.transyt_parts.specs.Plan.{plan_fault, stage_of, no_stage}
-use Rattle.transyt_net.specs.Edits.{with_edit, inverse, set_offset, set_change, change_to, set_entry, set_saturation, set_weights, set_part, set_cruise, feeder_of, flow_to, cruise_to, node_in, link_in, feed_in, the_node, the_feed}
+use Rattle.transyt_net.specs.Edits.{with_edit, inverse, set_offset, set_change, change_to, set_entry, set_saturation}
+use Rattle.transyt_net.specs.Edits.{set_weights, set_part, set_cruise, feeder_of, flow_to, cruise_to, node_in, link_in}
+use Rattle.transyt_net.specs.Edits.{feed_in, the_node, the_feed}
 use Rattle.transyt_net.specs.EditFaults.{edit_fault, range_fault, feed_fault, order_fault, has_stage, changed, is_link}
 use Rattle.transyt_net.proofs.PlaceLaws.{keys_kept, keys_kept_at, list_any_map}
 use Rattle.transyt_net.proofs.WriteLaws.{no_fault, in_range}

@@ -7,7 +7,8 @@ use Rattle.transyt_parts.specs.Parts.{NodeValue, LinkValue}
 use Rattle.transyt_net.specs.Parts.{Network}
 use Rattle.transyt_net.specs.Valid.{on_numbered, on_place}
 use Rattle.transyt_parts.specs.Valid.{node_number, link_number}
-use Rattle.transyt_net.specs.Edits.{with_edit, set_offset, set_change, change_to, set_entry, set_saturation, set_weights, set_part, set_cruise, feeder_of, flow_to, cruise_to}
+use Rattle.transyt_net.specs.Edits.{with_edit, set_offset, set_change, change_to, set_entry, set_saturation}
+use Rattle.transyt_net.specs.Edits.{set_weights, set_part, set_cruise, feeder_of, flow_to, cruise_to}
 use Rattle.transyt_parts.specs.Shape.{bare_stage, bare_node, bare_feed, bare_link}
 use Rattle.transyt_net.specs.Shape.{shape}
 

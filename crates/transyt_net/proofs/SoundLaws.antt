@@ -1,5 +1,7 @@
 -- A draft's calls keep it sound.
-use Rattle.std.proofs.Common.{[], ◌≡◌, ℕ, ◌-◌, ◌<◌, ◌≤◌, true, false, not, ◌&&◌, ◌||◌, ◌∷◌, ◌++◌, length, None, refl, sym, ap, subst, ◌∙◌, arith, nat_eq, nat_le, nat_lt, is_some, length-append, All, IfSome, slice_get}
+use Rattle.std.proofs.Common.{[], ◌≡◌, ℕ, ◌-◌, ◌<◌, ◌≤◌, true, false, not, ◌&&◌, ◌||◌, ◌∷◌, ◌++◌, length, None, refl}
+use Rattle.std.proofs.Common.{sym, ap, subst, ◌∙◌, arith, nat_eq, nat_le, nat_lt, is_some, length-append, All, IfSome}
+use Rattle.std.proofs.Common.{slice_get}
 use Rattle.std.specs.List.{list_all}
 use Rattle.std.proofs.lemmas.Bool.{and_parts, or_parts, leb-true, leb-false, ltb-true, not-false}
 use Rattle.std.proofs.lemmas.Bool.Decides.{nat_tests}
@@ -11,12 +13,17 @@ use Rattle.transyt_parts.specs.declared.link.GiveWay.{GiveWay}
 use Rattle.transyt_net.specs.declared.draft.DraftFault.TheVariants.{Twice, Unknown, Range, TooMany}
 use Rattle.transyt_parts.specs.Parts.{LinkValue, PlanValue}
 use Rattle.transyt_net.specs.Parts.{Network}
-use Rattle.transyt_net.specs.Valid.{is_among, on_place, node_numbers, link_numbers, stages_at, stage_total, feeds_at, feeds_in, rule_at, IsSound, IsLink, IsFeed, IsRule}
-use Rattle.transyt_parts.specs.Valid.{all_differ, within, node_number, link_number, is_fed, feeders, IsNode, IsStage, node_in_range, stage_in_range, link_in_range, feed_in_range}
-use Rattle.transyt_net.specs.Faults.{node_fault, with_node, last_place, stage_fault, with_stage, link_fault, with_link, are_links, feed_fault, with_feed, rule_fault, with_rule, climb_fault, with_plan}
+use Rattle.transyt_net.specs.Valid.{is_among, on_place, node_numbers, link_numbers, stages_at, stage_total, feeds_at}
+use Rattle.transyt_net.specs.Valid.{feeds_in, rule_at, IsSound, IsLink, IsFeed, IsRule}
+use Rattle.transyt_parts.specs.Valid.{all_differ, within, node_number, link_number, is_fed, feeders, IsNode, IsStage}
+use Rattle.transyt_parts.specs.Valid.{node_in_range, stage_in_range, link_in_range, feed_in_range}
+use Rattle.transyt_net.specs.Faults.{node_fault, with_node, last_place, stage_fault, with_stage, link_fault, with_link}
+use Rattle.transyt_net.specs.Faults.{are_links, feed_fault, with_feed, rule_fault, with_rule, climb_fault, with_plan}
 use Rattle.transyt_parts.specs.Made.{new_node, add_stage, add_feed, set_rule}
-use Rattle.transyt_net.proofs.PlaceLaws.{among_more, all_differ-push, keys_kept_at, length_kept_at, all_on_place, list_any_map}
-use Rattle.transyt_net.proofs.WriteLaws.{no_fault, in_range, all_in_range, stages_more, stages_more_at, link_with_more_nodes, link_with_more_numbers, links_written}
+use Rattle.transyt_net.proofs.PlaceLaws.{among_more, all_differ-push, keys_kept_at, length_kept_at, all_on_place}
+use Rattle.transyt_net.proofs.PlaceLaws.{list_any_map}
+use Rattle.transyt_net.proofs.WriteLaws.{no_fault, in_range, all_in_range, stages_more, stages_more_at}
+use Rattle.transyt_net.proofs.WriteLaws.{link_with_more_nodes, link_with_more_numbers, links_written}
 
 -- a draft with a new node is sound
 pub sound_node : (net : Network) (number offset : ℕ) → IsSound net → node_fault net number offset ≡ None

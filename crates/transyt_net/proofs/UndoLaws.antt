@@ -1,5 +1,6 @@
 -- The inverse takes an edit back.
-use Rattle.std.proofs.Common.{◌≡◌, ℕ, suc, zero, ◌-◌, Bool, true, false, cond, List, [], ◌∷◌, Some, refl, sym, ap, ◌∙◌, nat_eq, if◌then◌else◌}
+use Rattle.std.proofs.Common.{◌≡◌, ℕ, suc, zero, ◌-◌, Bool, true, false, cond, List, [], ◌∷◌, Some, refl, sym, ap, ◌∙◌}
+use Rattle.std.proofs.Common.{nat_eq, if◌then◌else◌}
 use Rattle.transyt_parts.specs.declared.node.Stage.{Stage}
 use Rattle.transyt_net.specs.declared.edit.Edit.{Edit}
 use Rattle.transyt_net.specs.declared.edit.Edit.TheVariants.{Offset, Change, Entry, Part, Cruise, Saturation, Weight}
@@ -8,7 +9,9 @@ use Rattle.transyt_net.specs.Parts.{Network}
 use Rattle.transyt_net.specs.Valid.{numbered, on_numbered, on_place}
 use Rattle.transyt_parts.specs.Valid.{node_number, link_number}
 use Rattle.transyt_parts.specs.Plan.{stage_of}
-use Rattle.transyt_net.specs.Edits.{with_edit, inverse, set_offset, set_change, change_to, set_entry, set_saturation, set_weights, set_part, set_cruise, feeder_of, flow_to, cruise_to, node_in, link_in, feed_in}
+use Rattle.transyt_net.specs.Edits.{with_edit, inverse, set_offset, set_change, change_to, set_entry, set_saturation}
+use Rattle.transyt_net.specs.Edits.{set_weights, set_part, set_cruise, feeder_of, flow_to, cruise_to, node_in, link_in}
+use Rattle.transyt_net.specs.Edits.{feed_in}
 
 -- two writes at one number are one
 pub twice : {A : Type 0} (key : A → ℕ) (f g : A → A) (same : (x : A) → key (f x) ≡ key x) (xs : List A) (k : ℕ)

@@ -5,7 +5,8 @@ use Rattle.transyt_net.specs.declared.edit.Edit.TheVariants.{Offset, Change, Ent
 use Rattle.transyt_parts.specs.Parts.{NodeValue, LinkValue}
 use Rattle.transyt_parts.specs.Valid.{is_fed}
 use Rattle.transyt_parts.specs.Plan.{stage_of}
-use Rattle.transyt_net.specs.Edits.{set_offset, set_change, set_entry, set_saturation, set_weights, set_part, set_cruise, the_feed}
+use Rattle.transyt_net.specs.Edits.{set_offset, set_change, set_entry, set_saturation, set_weights, set_part}
+use Rattle.transyt_net.specs.Edits.{set_cruise, the_feed}
 
 -- the edit of the same kind and names with a node's present numbers
 abbrev pub node_back : Edit → NodeValue → Edit

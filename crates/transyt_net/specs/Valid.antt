@@ -1,5 +1,6 @@
 -- What a network keeps to, and the part that a card number names.
-use Rattle.std.specs.Prelude.{suc, zero, ◌≡◌, ℕ, ◌<◌, ◌≤◌, Bool, true, false, nat_eq, List, [], ◌∷◌, length, map, Option, Some, None, IfSome, All, position, IsTrue, if◌then◌else◌, slice_index_or}
+use Rattle.std.specs.Prelude.{suc, zero, ◌≡◌, ℕ, ◌<◌, ◌≤◌, Bool, true, false, nat_eq, List, [], ◌∷◌, length, map}
+use Rattle.std.specs.Prelude.{Option, Some, None, IfSome, All, position, IsTrue, if◌then◌else◌, slice_index_or}
 use Rattle.std.specs.List.{list_any}
 use Rattle.transyt_parts.specs.declared.link.Feed.{Feed}
 use Rattle.transyt_parts.specs.declared.link.GiveWay.{GiveWay}

@@ -1,12 +1,14 @@
 -- The tests of equal shapes of parts.
-use Rattle.std.proofs.Common.{◌≡◌, ℕ, Bool, true, ◌&&◌, List, [], ◌∷◌, map, Option, Some, None, refl, sym, ap, ◌∙◌, nat_eq, ◌↔◌}
+use Rattle.std.proofs.Common.{◌≡◌, ℕ, Bool, true, ◌&&◌, List, [], ◌∷◌, map, Option, Some, None, refl, sym, ap, ◌∙◌}
+use Rattle.std.proofs.Common.{nat_eq, ◌↔◌}
 use Rattle.std.proofs.lemmas.Bool.{and_parts, and_from, eqb-true, eq-eqb}
 use Rattle.transyt_parts.specs.declared.frame.Frame.{Frame}
 use Rattle.transyt_parts.specs.declared.node.Stage.{Stage}
 use Rattle.transyt_parts.specs.declared.link.Feed.{Feed}
 use Rattle.transyt_parts.specs.declared.link.GiveWay.{GiveWay}
 use Rattle.transyt_parts.specs.Parts.{NodeValue, LinkValue, PlanValue}
-use Rattle.transyt_parts.specs.Alike.{same_list, same_stage, same_node, same_feed, same_rule, same_link, same_plan, same_frame}
+use Rattle.transyt_parts.specs.Alike.{same_list, same_stage, same_node, same_feed, same_rule, same_link, same_plan}
+use Rattle.transyt_parts.specs.Alike.{same_frame}
 use Rattle.transyt_parts.specs.Shape.{bare_stage, bare_node, bare_feed, bare_link}
 
 -- lists that a test finds the same are the same but for what the test leaves out

@@ -1,5 +1,6 @@
 -- The plan of a node: its stages in order round the cycle, each with room for its greens. Lengths are in steps.
-use Rattle.std.specs.Prelude.{ℕ, ◌+◌, ◌==◌, Bool, not, nat_le, List, [], ◌∷◌, length, map, sum, slice_index_or, Option, Some, None, if◌then◌else◌}
+use Rattle.std.specs.Prelude.{ℕ, ◌+◌, ◌==◌, Bool, not, nat_le, List, [], ◌∷◌, length, map, sum, slice_index_or, Option}
+use Rattle.std.specs.Prelude.{Some, None, if◌then◌else◌}
 use Rattle.std.specs.List.{list_all, range_with_len}
 use Rattle.transyt_cycle.specs.Cycle.{minus_mod}
 use Rattle.transyt_parts.specs.declared.node.Stage.{Stage}

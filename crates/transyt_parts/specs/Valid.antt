@@ -1,5 +1,6 @@
 -- What each part of a network keeps to by itself. Offsets, changes, intergreens, least greens and lags are in steps.
-use Rattle.std.specs.Prelude.{ℕ, ◌<◌, ◌≤◌, Bool, true, ◌&&◌, not, nat_le, nat_eq, List, [], ◌∷◌, length, map, All, nat_lt}
+use Rattle.std.specs.Prelude.{ℕ, ◌<◌, ◌≤◌, Bool, true, ◌&&◌, not, nat_le, nat_eq, List, [], ◌∷◌, length, map, All}
+use Rattle.std.specs.Prelude.{nat_lt}
 use Rattle.std.specs.List.{list_any}
 use Rattle.transyt_parts.specs.declared.frame.Frame.{Frame}
 use Rattle.transyt_parts.specs.declared.node.Stage.{Stage}

@@ -1,8 +1,8 @@
 -- The offset and the change are steps of the cycle.
 use Rattle.std.proofs.Common.{◌≡◌, ◌<◌, ap, arith}
-use Rattle.transyt_net.specs.declared.node.Stage.{Stage}
-use Rattle.transyt_net.specs.Valid.{IsStage}
-use Rattle.transyt_net.specs.Plan.{no_stage, stage_of}
+use Rattle.transyt_parts.specs.declared.node.Stage.{Stage}
+use Rattle.transyt_parts.specs.Valid.{IsStage}
+use Rattle.transyt_parts.specs.Plan.{no_stage, stage_of}
 use Rattle.transyt.proofs.junction.is_green.Goals as goal
 
 -- both are below the number of steps, so their sum fits

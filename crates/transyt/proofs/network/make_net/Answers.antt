@@ -1,7 +1,7 @@
 -- The network is valid where the frame and the cards are in range and the draft is judged to have no fault.
 use Rattle.std.proofs.Common.{◌≡◌, true, sym, ◌∙◌, ap, refl}
-use Rattle.transyt_net.specs.Plan.{plan_fault}
-use Rattle.transyt_net.specs.Valid.{is_frame}
+use Rattle.transyt_parts.specs.Plan.{plan_fault}
+use Rattle.transyt_parts.specs.Valid.{is_frame}
 use Rattle.transyt.specs.Cards.{frame_of, numbers_at}
 use Rattle.transyt.specs.Validity.{steps_in, node_in}
 use Rattle.transyt.proofs.Fits.{judged_is, plan_refused, deck_passes}

@@ -1,7 +1,8 @@
 -- Each turn goes on, or ends the run, by what its call of `next` took and by what was answered.
 use Rattle.std.proofs.Common.{Err, ap, rules}
 use Rattle.transyt.specs.Runs.{answering}
-use Rattle.transyt.proofs.UnderWayLaws.{under_way_new, goes_on, line_ends, line_stops, end_closes, end_stops, read_stops}
+use Rattle.transyt.proofs.UnderWayLaws.{under_way_new, goes_on, line_ends, line_stops, end_closes, end_stops}
+use Rattle.transyt.proofs.UnderWayLaws.{read_stops}
 use Rattle.transyt.proofs.running.run.Goals as goal
 
 -- nothing is taken yet

@@ -1,6 +1,6 @@
 use Rattle.std.proofs.Common.{[], ◌∷◌, map, refl, sym, ap}
 use Rattle.std.proofs.lemmas.List.{append-nil}
-use Rattle.transyt_net.specs.Parts.{NodeValue}
+use Rattle.transyt_parts.specs.Parts.{NodeValue}
 use Rattle.transyt_io.proofs.Told.{on_err, on_err_map}
 use Rattle.transyt_deck.specs.Cards.{Node, StageOf, node_cards}
 use Rattle.transyt_cards.proofs.Printing.{begins, goes_on, stops, one_card, card_front, front_same}

@@ -1,5 +1,5 @@
 use Rattle.std.proofs.Common.{[], ◌∷◌, map, get_or, refl, arith}
-use Rattle.transyt_net.specs.Plan.{no_stage}
+use Rattle.transyt_parts.specs.Plan.{no_stage}
 use Rattle.transyt_io.proofs.Told.{on_err}
 use Rattle.transyt_deck.specs.Cards.{StageOf}
 use Rattle.transyt_cards.proofs.Printing.{item_written, item_broken, one_card, card_front}

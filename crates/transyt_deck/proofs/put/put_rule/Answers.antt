@@ -1,5 +1,5 @@
 use Rattle.std.proofs.Common.{sym, subst, Some}
-use Rattle.transyt_net.specs.Faults.{new_rule}
+use Rattle.transyt_parts.specs.Made.{new_rule}
 use Rattle.transyt_deck.specs.Cards.{Yield}
 use Rattle.transyt_deck.specs.Stops.{Puts}
 use Rattle.transyt_deck.proofs.Refusals.{put_rule_by}

@@ -1,5 +1,6 @@
 -- An accepted END opens the junction of the five cards before it.
-use Rattle.std.proofs.Common.{◌≡◌, ◌≤◌, ◌++◌, ◌∷◌, [], ℕ, List, Option, Some, false, Bool, length, nat_lt, if◌then◌else◌, sym, ◌∙◌, ap, arith}
+use Rattle.std.proofs.Common.{◌≡◌, ◌≤◌, ◌++◌, ◌∷◌, [], ℕ, List, Option, Some, false, Bool, length, nat_lt}
+use Rattle.std.proofs.Common.{if◌then◌else◌, sym, ◌∙◌, ap, arith}
 use Rattle.std.proofs.lemmas.Bool.Decides.{nat_tests}
 use Rattle.transyt.specs.declared.said.Said.TheVariants.{Nothing, Accepted}
 use Rattle.transyt.specs.Cards.{card_at}

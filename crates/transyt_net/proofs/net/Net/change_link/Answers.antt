@@ -7,7 +7,8 @@ use Rattle.transyt_net.specs.EditFaults.{edit_fault}
 use Rattle.transyt_net.specs.Edits.{with_edit, inverse}
 use Rattle.transyt_net.specs.Named.{link_edit}
 use Rattle.transyt_net.proofs.PlaceLaws.{written_here, numbered_here, place_is, keys_kept}
-use Rattle.transyt_net.proofs.ApplyLaws.{valid_edit, link_named, link_takes, link_done, link_back_done, link_numbers_kept}
+use Rattle.transyt_net.proofs.ApplyLaws.{valid_edit, link_named, link_takes, link_done, link_back_done}
+use Rattle.transyt_net.proofs.ApplyLaws.{link_numbers_kept}
 use Rattle.transyt_net.proofs.net.Net.change_link.Goals as goal
 
 pub unreachable-requires : goal.unreachable-requires

@@ -7,7 +7,8 @@ use Rattle.transyt_net.specs.EditFaults.{edit_fault}
 use Rattle.transyt_net.specs.Edits.{with_edit, inverse}
 use Rattle.transyt_net.specs.Named.{node_edit}
 use Rattle.transyt_net.proofs.PlaceLaws.{written_here, numbered_here, place_is, keys_kept}
-use Rattle.transyt_net.proofs.ApplyLaws.{valid_edit, node_named, node_takes, node_done, node_back_done, node_numbers_kept}
+use Rattle.transyt_net.proofs.ApplyLaws.{valid_edit, node_named, node_takes, node_done, node_back_done}
+use Rattle.transyt_net.proofs.ApplyLaws.{node_numbers_kept}
 use Rattle.transyt_net.proofs.net.Net.change_node.Goals as goal
 
 pub unreachable-requires : goal.unreachable-requires
