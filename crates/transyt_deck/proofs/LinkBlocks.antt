@@ -120,7 +120,8 @@ moved g h done more l =
     ∙ append_assoc (map g done) (g l ∷ []) (map h more))
 
 -- the numbers of two lists, each changed in a way that keeps numbers
-pub numbers_two : (us us' vs vs' : List LinkValue) → link_numbers us ≡ link_numbers us' → link_numbers vs ≡ link_numbers vs'
+pub numbers_two : (us us' vs vs' : List LinkValue) → link_numbers us ≡ link_numbers us'
+    → link_numbers vs ≡ link_numbers vs'
     → link_numbers (us ++ vs) ≡ link_numbers (us' ++ vs')
 numbers_two us us' vs vs' e f =
     map-append link_number us vs ∙ (λ j. e j ++ f j) ∙ sym (map-append link_number us' vs')

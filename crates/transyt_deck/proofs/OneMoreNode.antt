@@ -14,7 +14,8 @@ behind_end [] x e = e
 behind_end (c ∷ cs) x e = ap (onto_stages c) (behind_end cs x e)
 
 -- the node of one card more, behind the nodes
-pub nodes_end : (cs : List Card) (x : Card) → onto_stages x [] ≡ [] → nodes_of (cs ++ x ∷ []) ≡ nodes_of cs ++ node_in x []
+pub nodes_end : (cs : List Card) (x : Card) → onto_stages x [] ≡ []
+    → nodes_of (cs ++ x ∷ []) ≡ nodes_of cs ++ node_in x []
 nodes_end [] x e = append-nil _
 nodes_end (c ∷ cs) x e =
     (λ j. node_in c (behind_end cs x e j) ++ nodes_end cs x e j)
