@@ -152,7 +152,7 @@ fn fault_of(alloc: Global, step: Step) -> Result<Option<DraftFault>, DraftFault>
     Ok(make(&mut draft, step).err())
 }
 
-/// In the full draft each row but the last of a call has a later fault too.
+/// In the full draft each row has a later fault of its call too, where there is one.
 #[test]
 fn faults_come_in_order(rt: HostRuntime) -> Result<(), Fail> {
     for (step, fault) in [
