@@ -15,11 +15,15 @@ same_lists (x ∷ xs) (y ∷ ys) len at =
     let first : 0 < length (y ∷ ys) = omega arith in
     (λ j. at 0 x first j ∷ same_lists xs ys (omega arith) (λ k d less. at (suc k) d (omega arith)) j)
 
+-- lists of one shape are equally long
+pub same_length : {A B : Type 0} (f : A → B) (xs ys : List A) → map f xs ≡ map f ys → length xs ≡ length ys
+same_length f xs ys same = sym (length-map xs f) ∙ ap length same ∙ length-map ys f
+
 -- where two lists have one shape, so have their elements
 pub same_at : {A B : Type 0} (f : A → B) (xs ys : List A) (i : ℕ) (x y : A) → map f xs ≡ map f ys → i < length xs
     → x ≡ get_or xs i x → y ≡ get_or ys i y → f x ≡ f y
 same_at f xs ys i x y same inside at_x at_y =
-    let len : length xs ≡ length ys = sym (length-map xs f) ∙ ap length same ∙ length-map ys f in
+    let len : length xs ≡ length ys = same_length f xs ys same in
     let there : i < length ys = omega arith in
     ap f at_x
     ∙ sym (get_or-map f xs i x (f x) inside)

@@ -32,7 +32,8 @@ pub not_all_places : (test : ℕ → Bool) (n k : ℕ) → k < n → test k ≡ 
 not_all_places test n k inside fails =
     let len = length-range_with_len 0 n in
     let same : 0 + k ≡ k = omega arith in
-    list_all_at test (range_with_len 0 n) k 0 (omega arith) (ap test (get_or-range_with_len 0 n k 0 inside ∙ same) ∙ fails)
+    list_all_at test (range_with_len 0 n) k 0 (omega arith)
+    (ap test (get_or-range_with_len 0 n k 0 inside ∙ same) ∙ fails)
 
 first_of_none : (a b : Option PlanFault) → first_of a b ≡ None → (a ≡ None) × (b ≡ None)
 first_of_none None b h = (refl, h)

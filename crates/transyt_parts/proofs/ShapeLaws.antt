@@ -47,20 +47,30 @@ numbers_tell xs ys h = list_tells (λ x. x) nat_eq eq-eqb xs ys (ap (map (λ x. 
 stage_told : (a b : Stage) → same_stage a b ≡ true → bare_stage a ≡ bare_stage b
 stage_told a b h =
     let both = and_parts (nat_eq a.intergreen b.intergreen) (nat_eq a.least b.least) h in
-    (λ j. record { change = 0; intergreen = eqb-true a.intergreen b.intergreen both.0 j; least = eqb-true a.least b.least both.1 j })
+    (λ j. record {
+      change = 0;
+      intergreen = eqb-true a.intergreen b.intergreen both.0 j;
+      least = eqb-true a.least b.least both.1 j;
+    })
 
 stage_tells : (a b : Stage) → bare_stage a ≡ bare_stage b → same_stage a b ≡ true
 stage_tells a b h =
-    and_from _ _ (eq-eqb a.intergreen b.intergreen (ap (λ s. s.intergreen) h)) (eq-eqb a.least b.least (ap (λ s. s.least) h))
+    and_from _ _ (eq-eqb a.intergreen b.intergreen (ap (λ s. s.intergreen) h))
+    (eq-eqb a.least b.least (ap (λ s. s.least) h))
 
 node_told : (a b : NodeValue) → same_node a b ≡ true → bare_node a ≡ bare_node b
 node_told a b h =
     let both = and_parts (nat_eq a.number b.number) (same_list same_stage a.stages b.stages) h in
-    (λ j. record { number = eqb-true a.number b.number both.0 j; offset = 0; stages = list_told bare_stage same_stage stage_told a.stages b.stages both.1 j })
+    (λ j. record {
+      number = eqb-true a.number b.number both.0 j;
+      offset = 0;
+      stages = list_told bare_stage same_stage stage_told a.stages b.stages both.1 j;
+    })
 
 node_tells : (a b : NodeValue) → bare_node a ≡ bare_node b → same_node a b ≡ true
 node_tells a b h =
-    and_from _ _ (eq-eqb a.number b.number (ap (λ n. n.number) h)) (list_tells bare_stage same_stage stage_tells a.stages b.stages (ap (λ n. n.stages) h))
+    and_from _ _ (eq-eqb a.number b.number (ap (λ n. n.number) h))
+    (list_tells bare_stage same_stage stage_tells a.stages b.stages (ap (λ n. n.stages) h))
 
 feed_told : (a b : Feed) → same_feed a b ≡ true → bare_feed a ≡ bare_feed b
 feed_told a b h = (λ j. record { feeder = eqb-true a.feeder b.feeder h j; flow = 0; cruise = 0 })
@@ -82,7 +92,8 @@ rule_tells None (Some b) h = absurd (cc)
 rule_tells (Some a) None h = absurd (cc)
 rule_tells (Some a) (Some b) h =
     let same : a ≡ b = cc in
-    and_from _ _ (eq-eqb a.other b.other (ap (λ r. r.other) same)) (eq-eqb a.percent b.percent (ap (λ r. r.percent) same))
+    and_from _ _ (eq-eqb a.other b.other (ap (λ r. r.other) same))
+    (eq-eqb a.percent b.percent (ap (λ r. r.percent) same))
 
 plan_told : (a b : Option PlanValue) → same_plan a b ≡ true → a ≡ b
 plan_told None None h = refl
@@ -98,7 +109,8 @@ plan_tells None (Some b) h = absurd (cc)
 plan_tells (Some a) None h = absurd (cc)
 plan_tells (Some a) (Some b) h =
     let same : a ≡ b = cc in
-    and_from _ _ (eq-eqb a.budget b.budget (ap (λ r. r.budget) same)) (numbers_tell a.sizes b.sizes (ap (λ r. r.sizes) same))
+    and_from _ _ (eq-eqb a.budget b.budget (ap (λ r. r.budget) same))
+    (numbers_tell a.sizes b.sizes (ap (λ r. r.sizes) same))
 
 -- the tests of a link, taken apart once
 record LinkTests (a b : LinkValue) : Type 0 where

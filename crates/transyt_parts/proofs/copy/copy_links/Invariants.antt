@@ -1,3 +1,4 @@
+-- The links so far are copied.
 use Rattle.std.proofs.Common.{◌≡◌, take}
 use Rattle.transyt_parts.proofs.copy.copy_links.Given as goal
 

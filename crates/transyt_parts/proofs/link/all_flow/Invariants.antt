@@ -1,3 +1,4 @@
+-- The entry flow and the flows of the feeds so far, and their bound.
 use Rattle.std.proofs.Common.{◌≡◌, ◌+◌, ◌*◌, ◌≤◌, take, sum_by}
 use Rattle.transyt_parts.proofs.link.all_flow.Given as goal
 

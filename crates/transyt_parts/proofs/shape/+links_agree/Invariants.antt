@@ -1,3 +1,4 @@
+-- Each call has one link fewer.
 use Rattle.std.proofs.Common.{length}
 use Rattle.transyt_parts.proofs.shape.+links_agree.Given as goal
 

@@ -1,3 +1,4 @@
+-- Each call has one node fewer.
 use Rattle.std.proofs.Common.{length}
 use Rattle.transyt_parts.proofs.shape.+nodes_agree.Given as goal
 

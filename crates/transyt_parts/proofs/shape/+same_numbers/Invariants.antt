@@ -1,3 +1,4 @@
+-- Each call has one number fewer.
 use Rattle.std.proofs.Common.{length}
 use Rattle.transyt_parts.proofs.shape.+same_numbers.Given as goal
 

@@ -1,28 +1,31 @@
+-- The links that are taken are those of the other list, place by place.
 use Rattle.std.proofs.Common.{◌≡◌, ◌<◌, ℕ, List, get_or, length, sym, ap, ◌∙◌, arith}
-use Rattle.std.proofs.lemmas.List.{length-map}
 use Rattle.transyt_parts.specs.Parts.{LinkValue}
 use Rattle.transyt_parts.specs.Shape.{bare_link}
-use Rattle.transyt_parts.proofs.CopyLaws.{same_lists, same_at, shape_more, agree_more}
+use Rattle.transyt_parts.proofs.CopyLaws.{same_lists, same_length, same_at, shape_more, agree_more}
 use Rattle.transyt_parts.proofs.shape.take_links.Goals as goal
 
+-- the two links at a place have one shape
 pub take_link-requires : goal.take_link-requires
 take_link-requires c =
     let xs : List LinkValue = c.loop-place.links in
     let ys : List LinkValue = c.args.from.now in
-    let len : length xs ≡ length ys =
-    sym (length-map xs bare_link) ∙ ap length c.loop-place.invariant.alike ∙ length-map ys bare_link in
-    let inside : c.loop-place.place < length xs = omega arith in
+    let len : length xs ≡ length ys = same_length bare_link xs ys c.loop-place.invariant.alike in
+    let p : ℕ = c.loop-place.place in
+    let x : LinkValue = c.index-links-place.result in
+    let y : LinkValue = c.index-from-place.result in
+    let inside : p < length xs = omega arith in
     ap bare_link (sym c.index-links-place.is)
-    ∙ same_at bare_link xs ys c.loop-place.place c.index-links-place.result c.index-from-place.result c.loop-place.invariant.alike inside c.index-links-place.is c.index-from-place.is
+    ∙ same_at bare_link xs ys p x y c.loop-place.invariant.alike inside c.index-links-place.is c.index-from-place.is
 
+-- one link more is taken, and the shape is kept
 pub loop-place-preserved : goal.loop-place-preserved
 loop-place-preserved c =
     let xs : List LinkValue = c.loop-place.links in
     let ys : List LinkValue = c.args.from.now in
     let p : ℕ = c.loop-place.place in
     let v : LinkValue = c.take_link.new.link in
-    let len : length xs ≡ length ys =
-    sym (length-map xs bare_link) ∙ ap length c.loop-place.invariant.alike ∙ length-map ys bare_link in
+    let len : length xs ≡ length ys = same_length bare_link xs ys c.loop-place.invariant.alike in
     let there : p < length ys = c.loop-place-test.true in
     let inside : p < length xs = omega arith in
     let at : v ≡ get_or ys p v =
@@ -34,10 +37,11 @@ loop-place-preserved c =
       alike = shape_more bare_link xs ys p v c.loop-place.invariant.alike at;
     }
 
+-- all links are taken
 pub returns : goal.returns
 returns c =
     let xs : List LinkValue = c.loop-place.links in
     let ys : List LinkValue = c.args.from.now in
-    let len : length xs ≡ length ys =
-    sym (length-map xs bare_link) ∙ ap length c.loop-place.invariant.alike ∙ length-map ys bare_link in
-    same_lists xs ys len (λ k d less. let before : k < c.loop-place.place = omega arith in c.loop-place.invariant.done k d before)
+    let len : length xs ≡ length ys = same_length bare_link xs ys c.loop-place.invariant.alike in
+    same_lists xs ys len
+    (λ k d less. let before : k < c.loop-place.place = omega arith in c.loop-place.invariant.done k d before)

@@ -1,3 +1,4 @@
+-- The nodes before the place are taken, and the two lists have one shape.
 use Rattle.std.proofs.Common.{◌≡◌, ◌<◌, ℕ, map, get_or}
 use Rattle.transyt_parts.specs.Parts.{NodeValue}
 use Rattle.transyt_parts.specs.Shape.{bare_node}

@@ -1,3 +1,4 @@
+-- Each call has one node fewer.
 use Rattle.std.proofs.Common.{length}
 use Rattle.transyt_parts.proofs.stage_plan.+first_fault.Given as goal
 

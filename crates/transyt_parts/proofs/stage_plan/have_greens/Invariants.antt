@@ -1,3 +1,4 @@
+-- The stages before the place have room for their greens.
 use Rattle.std.proofs.Common.{◌≡◌, true}
 use Rattle.std.specs.List.{range_with_len, list_all}
 use Rattle.transyt_parts.specs.Plan.{has_green}

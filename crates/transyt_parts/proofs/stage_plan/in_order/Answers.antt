@@ -1,8 +1,10 @@
+-- The sum of the lengths so far has one length more.
 use Rattle.std.proofs.Common.{◌≡◌, ℕ, ◌+◌, arith}
 use Rattle.std.proofs.lemmas.List.FromFn.{sum_by-map-range_with_len_more}
 use Rattle.transyt_parts.specs.Plan.{length_at}
 use Rattle.transyt_parts.proofs.stage_plan.in_order.Goals as goal
 
+-- the sum with one length more
 pub loop-place-preserved : goal.loop-place-preserved
 loop-place-preserved c =
     let p : ℕ = c.loop-place.place in

@@ -1,3 +1,4 @@
+-- The sum of the lengths so far, and its bound.
 use Rattle.std.proofs.Common.{◌≡◌, ◌≤◌, ◌*◌, ◌^◌, sum, map}
 use Rattle.std.specs.List.{range_with_len}
 use Rattle.transyt_parts.specs.Plan.{length_at}
