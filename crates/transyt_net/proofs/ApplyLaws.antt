@@ -47,7 +47,10 @@ plan_is steps stages two h =
     let ordered = no_fault (not (in_order steps stages)) StageOrder _ h in
     let greens = no_fault (not (have_greens steps stages)) LeastGreen _ ordered.1 in
     let enough : nat_le 2 (length stages) ≡ true = le-leb 2 (length stages) two in
-    (λ j. if not (enough j) then Some plan.FewStages else if not (not-false _ ordered.0 j) then Some plan.StageOrder else if not (not-false _ greens.0 j) then Some plan.LeastGreen else None)
+    (λ j. if not (enough j) then Some plan.FewStages
+    else if not (not-false _ ordered.0 j) then Some plan.StageOrder
+    else if not (not-false _ greens.0 j) then Some plan.LeastGreen
+    else None)
 
 -- what a plan without a fault tells
 pub plan_parts : (steps : ℕ) (stages : List Stage) → plan_fault steps stages ≡ None
@@ -57,14 +60,18 @@ plan_parts steps stages h =
     let ordered = no_fault (not (in_order steps stages)) plan.StageOrder _ many.1 in
     let greens = no_fault (not (have_greens steps stages)) plan.LeastGreen _ ordered.1 in (
       leb-true 2 (length stages) (not-false _ many.0),
-      (λ j. if not (not-false _ ordered.0 j) then Some StageOrder else if not (not-false _ greens.0 j) then Some LeastGreen else None),
+      (λ j. if not (not-false _ ordered.0 j) then Some StageOrder
+          else if not (not-false _ greens.0 j) then Some LeastGreen
+          else None),
     )
 
 -- a write to a link keeps a network valid
 link_valid : (net : Network) (f : LinkValue → LinkValue) (same : (l : LinkValue) → (f l).number ≡ l.number)
     (link : ℕ)
     → IsValid net
-    → ((l : LinkValue) → numbered link_number net.links link ≡ Some l → IsLink net.frame.step_count net.nodes (link_numbers net.links) l → IsLink net.frame.step_count net.nodes (link_numbers net.links) (f l))
+    → ((l : LinkValue) → numbered link_number net.links link ≡ Some l
+    → IsLink net.frame.step_count net.nodes (link_numbers net.links) l
+    → IsLink net.frame.step_count net.nodes (link_numbers net.links) (f l))
     → IsValid (record net { links = on_numbered link_number f net.links link })
 link_valid net f same link h keeps =
     record { sound = links_written net f same link h.sound keeps; planned = h.planned }
@@ -73,7 +80,8 @@ link_valid net f same link h keeps =
 feeds_written : (numbers : List ℕ) (f : Feed → Feed) (same : (x : Feed) → (f x).feeder ≡ x.feeder) (steps : ℕ)
     (nodes : List NodeValue) (feeder : ℕ) (l : LinkValue)
     → IsLink steps nodes numbers l
-    → ((x : Feed) → IsFeed numbers x → IsFeed numbers (f x)) → IsLink steps nodes numbers (record l { feeds = on_numbered feeder_of f l.feeds feeder })
+    → ((x : Feed) → IsFeed numbers x → IsFeed numbers (f x))
+    → IsLink steps nodes numbers (record l { feeds = on_numbered feeder_of f l.feeds feeder })
 feeds_written numbers f same steps nodes feeder l old good =
     let len = length_kept feeder_of f same l.feeds feeder in
     record {
@@ -101,9 +109,15 @@ valid_edit net (Offset node offset) h none =
     let both = ranged (is_among (node_numbers net.nodes) node) (nat_lt offset net.frame.step_count) none in
     record {
       sound = nodes_written net (set_offset offset) (λ n. refl) (λ n. refl) node h.sound
-          (λ n at old. record { number = old.number; offset = ltb-true offset net.frame.step_count both.1; stage_count = old.stage_count; stages = old.stages });
+          (λ n at old. record {
+            number = old.number;
+            offset = ltb-true offset net.frame.step_count both.1;
+            stage_count = old.stage_count;
+            stages = old.stages;
+          });
       planned =
-          all_on_numbered (λ n. plan_fault net.frame.step_count n.stages ≡ None) node_number (set_offset offset) net.nodes node (λ n at p. p) h.planned;
+          all_on_numbered (λ n. plan_fault net.frame.step_count n.stages ≡ None) node_number (set_offset offset)
+          net.nodes node (λ n at p. p) h.planned;
     }
 valid_edit net (Change node stage change) h none =
     let steps = net.frame.step_count in
@@ -123,14 +137,16 @@ valid_edit net (Change node stage change) h none =
             offset = old.offset;
             stage_count = omega (arith, old.stage_count);
             stages =
-                all_on_place (IsStage steps) (change_to change) n.stages (stage - 1) (λ s here is. record { change = below; intergreen = is.intergreen; least = is.least }) old.stages;
+                all_on_place (IsStage steps) (change_to change) n.stages (stage - 1)
+                (λ s here is. record { change = below; intergreen = is.intergreen; least = is.least }) old.stages;
           });
       planned =
           all_on_numbered (λ n. plan_fault steps n.stages ≡ None) node_number (set_change stage change) net.nodes node
           (λ n at p.
           let two = (plan_parts steps n.stages p).0 in
           let len = kept n in
-          plan_is steps (set_change stage change n).stages (omega arith) (ap (λ o. order_fault steps (set_change stage change (node_in o)).stages) (sym at) ∙ fits.1))
+          plan_is steps (set_change stage change n).stages (omega arith)
+          (ap (λ o. order_fault steps (set_change stage change (node_in o)).stages) (sym at) ∙ fits.1))
           h.planned;
     }
 valid_edit net (Entry link flow) h none =
@@ -160,7 +176,8 @@ valid_edit net (Part link feeder flow) h none =
     (λ x is. record { feeder = is.feeder; flow = leb-true flow 9999 all.2; cruise = is.cruise }))
 valid_edit net (Cruise link feeder seconds) h none =
     let all =
-    fed (is_link net link && is_link net feeder) (is_fed (feeds_at net.links link) feeder) (within 1 300 seconds) none in
+    fed (is_link net link && is_link net feeder) (is_fed (feeds_at net.links link) feeder) (within 1 300 seconds)
+    none in
     link_valid net (set_cruise feeder seconds) (λ l. refl) link h (λ l at old.
     feeds_written (link_numbers net.links) (cruise_to seconds) (λ f. refl) net.frame.step_count net.nodes feeder l old
     (λ x is. record { feeder = is.feeder; flow = is.flow; cruise = in_range 1 300 seconds all.2 }))
@@ -208,10 +225,13 @@ valid_edit net (Weight link delay stop) h none =
 pub node_named : (net : Network) (e : Edit) (k : ℕ) → NamesNode e k → edit_fault net e ≡ None
     → is_among (node_numbers net.nodes) k ≡ true
 node_named net (Offset node offset) k same none =
-    subst (λ n. is_among (node_numbers net.nodes) n ≡ true) same (ranged (is_among (node_numbers net.nodes) node) (nat_lt offset net.frame.step_count) none).0
+    subst (λ n. is_among (node_numbers net.nodes) n ≡ true) same
+    (ranged (is_among (node_numbers net.nodes) node) (nat_lt offset net.frame.step_count) none).0
 node_named net (Change node stage change) k same none =
     let known = no_fault (not (has_stage net node stage)) Unknown _ none in
-    subst (λ n. is_among (node_numbers net.nodes) n ≡ true) same (and_parts (is_among (node_numbers net.nodes) node) (within 1 (stages_at net.nodes node) stage) (not-false _ known.0)).0
+    subst (λ n. is_among (node_numbers net.nodes) n ≡ true) same
+    (and_parts (is_among (node_numbers net.nodes) node) (within 1 (stages_at net.nodes node) stage)
+    (not-false _ known.0)).0
 node_named net e k same none = elim same [ ]
 
 -- a link that an allowed edit names is there
@@ -220,9 +240,15 @@ pub link_named : (net : Network) (e : Edit) (k : ℕ) → NamesLink e k → edit
 link_named net (Entry link flow) k same none =
     subst (λ n. is_link net n ≡ true) same (ranged (is_link net link) (nat_le flow 9999) none).0
 link_named net (Part link feeder flow) k same none =
-    subst (λ n. is_link net n ≡ true) same (and_parts (is_link net link) (is_link net feeder) (fed (is_link net link && is_link net feeder) (is_fed (feeds_at net.links link) feeder) (nat_le flow 9999) none).0).0
+    subst (λ n. is_link net n ≡ true) same
+    (and_parts (is_link net link) (is_link net feeder)
+    (fed (is_link net link && is_link net feeder) (is_fed (feeds_at net.links link) feeder)
+    (nat_le flow 9999) none).0).0
 link_named net (Cruise link feeder seconds) k same none =
-    subst (λ n. is_link net n ≡ true) same (and_parts (is_link net link) (is_link net feeder) (fed (is_link net link && is_link net feeder) (is_fed (feeds_at net.links link) feeder) (within 1 300 seconds) none).0).0
+    subst (λ n. is_link net n ≡ true) same
+    (and_parts (is_link net link) (is_link net feeder)
+    (fed (is_link net link && is_link net feeder) (is_fed (feeds_at net.links link) feeder)
+    (within 1 300 seconds) none).0).0
 link_named net (Saturation link flow) k same none =
     subst (λ n. is_link net n ≡ true) same (ranged (is_link net link) (within 100 9999 flow) none).0
 link_named net (Weight link delay stop) k same none =
@@ -236,7 +262,8 @@ node_takes net (Offset node offset) k n same none at = tt
 node_takes net (Change node stage change) k n same none at =
     let known = no_fault (not (has_stage net node stage)) Unknown _ none in
     let parts =
-    and_parts (is_among (node_numbers net.nodes) node) (within 1 (stages_at net.nodes node) stage) (not-false _ known.0) in
+    and_parts (is_among (node_numbers net.nodes) node) (within 1 (stages_at net.nodes node) stage)
+    (not-false _ known.0) in
     let fits = in_range 1 (stages_at net.nodes node) stage parts.1 in
     let count : stages_at net.nodes node ≡ length n.stages = ap (stages_at net.nodes) same ∙ ap stage_total at in
     (fits.0, omega arith)
@@ -253,7 +280,8 @@ link_takes net (Part link feeder flow) k l same none at =
 link_takes net (Cruise link feeder seconds) k l same none at =
     ap (λ o. is_fed (feeds_in o) feeder) (sym at)
     ∙ ap (λ n. is_fed (feeds_at net.links n) feeder) (sym same)
-    ∙ (fed (is_link net link && is_link net feeder) (is_fed (feeds_at net.links link) feeder) (within 1 300 seconds) none).1
+    ∙ (fed (is_link net link && is_link net feeder) (is_fed (feeds_at net.links link) feeder) (within 1 300 seconds)
+    none).1
 link_takes net (Saturation link flow) k l same none at = tt
 link_takes net (Weight link delay stop) k l same none at = tt
 link_takes net e k l same none at = elim same [ ]
@@ -293,7 +321,8 @@ link_back_done net (Entry link flow) k l same at =
 link_back_done net (Part link feeder flow) k l same at =
     ap (λ o. link_back (Part link feeder flow) (link_in o)) (sym at ∙ ap (numbered link_number net.links) (sym same))
 link_back_done net (Cruise link feeder seconds) k l same at =
-    ap (λ o. link_back (Cruise link feeder seconds) (link_in o)) (sym at ∙ ap (numbered link_number net.links) (sym same))
+    ap (λ o. link_back (Cruise link feeder seconds) (link_in o))
+    (sym at ∙ ap (numbered link_number net.links) (sym same))
 link_back_done net (Saturation link flow) k l same at =
     ap (λ o. link_back (Saturation link flow) (link_in o)) (sym at ∙ ap (numbered link_number net.links) (sym same))
 link_back_done net (Weight link delay stop) k l same at =

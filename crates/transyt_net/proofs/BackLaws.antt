@@ -65,7 +65,10 @@ range_none known fits a b = (λ j. if not (a j) then Some Unknown else if not (b
 
 feed_none : (known feeds fits : Bool) → known ≡ true → feeds ≡ true → fits ≡ true → feed_fault known feeds fits ≡ None
 feed_none known feeds fits a b c =
-    (λ j. if not (a j) then Some Unknown else if not (b j) then Some NoFeeder else if not (c j) then Some Range else None)
+    (λ j. if not (a j) then Some Unknown
+    else if not (b j) then Some NoFeeder
+    else if not (c j) then Some Range
+    else None)
 
 within_true : (low high n : ℕ) → (low ≤ n) × (n ≤ high) → within low high n ≡ true
 within_true low high n h = and_from _ _ (le-leb low n h.0) (le-leb n high h.1)
@@ -80,7 +83,8 @@ still_link net f same link k h =
 good_link : (net : Network) (link : ℕ) (l : LinkValue) → IsValid net
     → numbered link_number net.links link ≡ Some l → IsLink net.frame.step_count net.nodes (link_numbers net.links) l
 good_link net link l h at =
-    all_numbered (IsLink net.frame.step_count net.nodes (link_numbers net.links)) link_number net.links link l h.sound.links at
+    all_numbered (IsLink net.frame.step_count net.nodes (link_numbers net.links)) link_number net.links link l
+    h.sound.links at
 
 -- a feed of a link keeps to its ranges
 good_feed : (net : Network) (link feeder : ℕ) (l : LinkValue) → IsValid net
@@ -89,7 +93,8 @@ good_feed : (net : Network) (link feeder : ℕ) (l : LinkValue) → IsValid net
 good_feed net link feeder l h at there =
     let found = some_numbered feeder_of l.feeds feeder (list_any_map feeder_of (nat_eq feeder) l.feeds ∙ there) in
     let good =
-    all_numbered (IsFeed (link_numbers net.links)) feeder_of l.feeds feeder found.0 (good_link net link l h at).feeds found.1 in
+    all_numbered (IsFeed (link_numbers net.links)) feeder_of l.feeds feeder found.0 (good_link net link l h at).feeds
+    found.1 in
     subst (λ o. IsFeed (link_numbers net.links) (feed_in o)) (sym found.1) good
 
 -- and is still fed after a write of its numbers
@@ -110,13 +115,15 @@ back_allowed net (Offset node offset) h none =
     let found = some_numbered node_number net.nodes node both.0 in
     let good = all_numbered (IsNode steps) node_number net.nodes node found.0 h.sound.nodes found.1 in
     range_none _ _
-    (subst (λ ks. is_among ks node ≡ true) (sym (keys_kept node_number (set_offset offset) (λ n. refl) net.nodes node)) both.0)
+    (subst (λ ks. is_among ks node ≡ true) (sym (keys_kept node_number (set_offset offset) (λ n. refl) net.nodes node))
+    both.0)
     (ap (λ o. nat_lt (node_in o).offset steps) found.1 ∙ lt-ltb found.0.offset steps good.offset)
 back_allowed net (Change node stage change) h none =
     let steps = net.frame.step_count in
     let known = no_fault (not (has_stage net node stage)) Unknown _ none in
     let parts =
-    and_parts (is_among (node_numbers net.nodes) node) (within 1 (stages_at net.nodes node) stage) (not-false _ known.0) in
+    and_parts (is_among (node_numbers net.nodes) node) (within 1 (stages_at net.nodes node) stage)
+    (not-false _ known.0) in
     let found = some_numbered node_number net.nodes node parts.0 in
     let n : NodeValue = found.0 in
     let good = all_numbered (IsNode steps) node_number net.nodes node n h.sound.nodes found.1 in
@@ -128,7 +135,8 @@ back_allowed net (Change node stage change) h none =
     let old : ℕ = (stage_of (the_node net node).stages (stage - 1)).change in
     let is_old : old ≡ (stage_of n.stages (stage - 1)).change =
     ap (λ o. (stage_of (node_in o).stages (stage - 1)).change) found.1 in
-    let after : numbered node_number (on_numbered node_number (set_change stage change) net.nodes node) node ≡ Some (set_change stage change n) =
+    let after : numbered node_number (on_numbered node_number (set_change stage change) net.nodes node) node
+    ≡ Some (set_change stage change n) =
     numbered_after node_number (set_change stage change) (λ m. refl) net.nodes node n found.1 in
     let kept : length (set_change stage change n).stages ≡ length n.stages =
     sym (length-map (on_place (change_to change) n.stages (stage - 1)) (λ s. s.least))
@@ -136,14 +144,18 @@ back_allowed net (Change node stage change) h none =
     ∙ length-map n.stages (λ s. s.least) in
     let has : has_stage (with_edit net (Change node stage change)) node stage ≡ true =
     and_from _ _
-    (subst (λ ks. is_among ks node ≡ true) (sym (keys_kept node_number (set_change stage change) (λ m. refl) net.nodes node)) parts.0)
-    (ap (λ o. within 1 (stage_total o) stage) after ∙ within_true 1 (length (set_change stage change n).stages) stage (fits.0, omega arith)) in
+    (subst (λ ks. is_among ks node ≡ true)
+    (sym (keys_kept node_number (set_change stage change) (λ m. refl) net.nodes node)) parts.0)
+    (ap (λ o. within 1 (stage_total o) stage) after
+    ∙ within_true 1 (length (set_change stage change n).stages) stage (fits.0, omega arith)) in
     let below : nat_lt old steps ≡ true =
     ap (λ x. nat_lt x steps) is_old
     ∙ lt-ltb (stage_of n.stages (stage - 1)).change steps (good.stages (stage - 1) no_stage inside).change in
     let order : order_fault steps (changed (with_edit net (Change node stage change)) node stage old) ≡ None =
     ap (λ o. order_fault steps (set_change stage old (node_in o)).stages) after
-    ∙ ap (λ x. order_fault steps (on_place (change_to x) (on_place (change_to change) n.stages (stage - 1)) (stage - 1))) is_old
+    ∙ ap (λ x. order_fault steps
+    (on_place (change_to x) (on_place (change_to change) n.stages (stage - 1)) (stage - 1)))
+    is_old
     ∙ ap (order_fault steps) (put_back_at n.stages (stage - 1) change)
     ∙ (plan_parts steps n.stages planned).1 in
     (λ j. if not (has j) then Some Unknown else if not (below j) then Some Range else order j)
@@ -151,7 +163,8 @@ back_allowed net (Entry link flow) h none =
     let both = ranged (is_link net link) (nat_le flow 9999) none in
     let found = some_numbered link_number net.links link both.0 in
     let good = good_link net link found.0 h found.1 in
-    range_none _ _ (still_link net (set_entry flow) (λ l. refl) link link both.0) (ap (λ o. nat_le (link_in o).entry 9999) found.1 ∙ le-leb found.0.entry 9999 good.entry)
+    range_none _ _ (still_link net (set_entry flow) (λ l. refl) link link both.0)
+    (ap (λ o. nat_le (link_in o).entry 9999) found.1 ∙ le-leb found.0.entry 9999 good.entry)
 back_allowed net (Part link feeder flow) h none =
     let all =
     fed (is_link net link && is_link net feeder) (is_fed (feeds_at net.links link) feeder) (nat_le flow 9999) none in
@@ -160,28 +173,41 @@ back_allowed net (Part link feeder flow) h none =
     let there : is_fed found.0.feeds feeder ≡ true = ap (λ o. is_fed (feeds_in o) feeder) (sym found.1) ∙ all.1 in
     let good = good_feed net link feeder found.0 h found.1 there in
     feed_none _ _ _
-    (and_from _ _ (still_link net (set_part feeder flow) (λ l. refl) link link links.0) (still_link net (set_part feeder flow) (λ l. refl) link feeder links.1))
-    (ap (λ o. is_fed (feeds_in o) feeder) (numbered_after link_number (set_part feeder flow) (λ l. refl) net.links link found.0 found.1) ∙ still_fed found.0.feeds (flow_to flow) (λ f. refl) feeder feeder there)
-    (ap (λ o. nat_le (the_feed (link_in o) feeder).flow 9999) found.1 ∙ le-leb (the_feed found.0 feeder).flow 9999 good.flow)
+    (and_from _ _ (still_link net (set_part feeder flow) (λ l. refl) link link links.0)
+    (still_link net (set_part feeder flow) (λ l. refl) link feeder links.1))
+    (ap (λ o. is_fed (feeds_in o) feeder)
+    (numbered_after link_number (set_part feeder flow) (λ l. refl) net.links link found.0 found.1)
+    ∙ still_fed found.0.feeds (flow_to flow) (λ f. refl) feeder feeder there)
+    (ap (λ o. nat_le (the_feed (link_in o) feeder).flow 9999) found.1
+    ∙ le-leb (the_feed found.0 feeder).flow 9999 good.flow)
 back_allowed net (Cruise link feeder seconds) h none =
     let all =
-    fed (is_link net link && is_link net feeder) (is_fed (feeds_at net.links link) feeder) (within 1 300 seconds) none in
+    fed (is_link net link && is_link net feeder) (is_fed (feeds_at net.links link) feeder) (within 1 300 seconds)
+    none in
     let links = and_parts (is_link net link) (is_link net feeder) all.0 in
     let found = some_numbered link_number net.links link links.0 in
     let there : is_fed found.0.feeds feeder ≡ true = ap (λ o. is_fed (feeds_in o) feeder) (sym found.1) ∙ all.1 in
     let good = good_feed net link feeder found.0 h found.1 there in
     feed_none _ _ _
-    (and_from _ _ (still_link net (set_cruise feeder seconds) (λ l. refl) link link links.0) (still_link net (set_cruise feeder seconds) (λ l. refl) link feeder links.1))
-    (ap (λ o. is_fed (feeds_in o) feeder) (numbered_after link_number (set_cruise feeder seconds) (λ l. refl) net.links link found.0 found.1) ∙ still_fed found.0.feeds (cruise_to seconds) (λ f. refl) feeder feeder there)
-    (ap (λ o. within 1 300 (the_feed (link_in o) feeder).cruise) found.1 ∙ within_true 1 300 (the_feed found.0 feeder).cruise good.cruise)
+    (and_from _ _ (still_link net (set_cruise feeder seconds) (λ l. refl) link link links.0)
+    (still_link net (set_cruise feeder seconds) (λ l. refl) link feeder links.1))
+    (ap (λ o. is_fed (feeds_in o) feeder)
+    (numbered_after link_number (set_cruise feeder seconds) (λ l. refl) net.links link found.0 found.1)
+    ∙ still_fed found.0.feeds (cruise_to seconds) (λ f. refl) feeder feeder there)
+    (ap (λ o. within 1 300 (the_feed (link_in o) feeder).cruise) found.1
+    ∙ within_true 1 300 (the_feed found.0 feeder).cruise good.cruise)
 back_allowed net (Saturation link flow) h none =
     let both = ranged (is_link net link) (within 100 9999 flow) none in
     let found = some_numbered link_number net.links link both.0 in
     let good = good_link net link found.0 h found.1 in
-    range_none _ _ (still_link net (set_saturation flow) (λ l. refl) link link both.0) (ap (λ o. within 100 9999 (link_in o).saturation) found.1 ∙ within_true 100 9999 found.0.saturation good.saturation)
+    range_none _ _ (still_link net (set_saturation flow) (λ l. refl) link link both.0)
+    (ap (λ o. within 100 9999 (link_in o).saturation) found.1
+    ∙ within_true 100 9999 found.0.saturation good.saturation)
 back_allowed net (Weight link delay stop) h none =
     let both = ranged (is_link net link) (nat_le delay 999 && nat_le stop 999) none in
     let found = some_numbered link_number net.links link both.0 in
     let good = good_link net link found.0 h found.1 in
     range_none _ _ (still_link net (set_weights delay stop) (λ l. refl) link link both.0)
-    (ap (λ o. nat_le (link_in o).delay_weight 999 && nat_le (link_in o).stop_weight 999) found.1 ∙ and_from _ _ (le-leb found.0.delay_weight 999 good.delay_weight) (le-leb found.0.stop_weight 999 good.stop_weight))
+    (ap (λ o. nat_le (link_in o).delay_weight 999 && nat_le (link_in o).stop_weight 999) found.1
+    ∙ and_from _ _ (le-leb found.0.delay_weight 999 good.delay_weight)
+    (le-leb found.0.stop_weight 999 good.stop_weight))

@@ -29,7 +29,8 @@ get_front (x ∷ xs) ys (suc p) d h = get_front xs ys p d (omega arith)
 
 -- the front of a longer list, with a change set in it
 pub changed_front : (items rest : List Stage) (p change : ℕ) (d : Stage) → p < length items
-    → take (length items) (set (items ++ rest) p (change_to change (get_or (items ++ rest) p d))) ≡ on_place (change_to change) items p
+    → take (length items) (set (items ++ rest) p (change_to change (get_or (items ++ rest) p d)))
+    ≡ on_place (change_to change) items p
 changed_front items rest p change d h =
     let new : Stage = change_to change (get_or items p d) in
     let len = length-set items p new in

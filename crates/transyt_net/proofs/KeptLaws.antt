@@ -33,23 +33,32 @@ node_shape : (net : Network) (f : NodeValue → NodeValue) (same : (n : NodeValu
     (node : ℕ)
     → shape (record net { nodes = on_numbered node_number f net.nodes node }) ≡ shape net
 node_shape net f same node =
-    ap (λ ns. record net { nodes = ns; links = map bare_link net.links }) (map_kept node_number f bare_node same net.nodes node)
+    ap (λ ns. record net { nodes = ns; links = map bare_link net.links })
+    (map_kept node_number f bare_node same net.nodes node)
 
 link_shape : (net : Network) (f : LinkValue → LinkValue) (same : (l : LinkValue) → bare_link (f l) ≡ bare_link l)
     (link : ℕ)
     → shape (record net { links = on_numbered link_number f net.links link }) ≡ shape net
 link_shape net f same link =
-    ap (λ ls. record net { nodes = map bare_node net.nodes; links = ls }) (map_kept link_number f bare_link same net.links link)
+    ap (λ ls. record net { nodes = map bare_node net.nodes; links = ls })
+    (map_kept link_number f bare_link same net.links link)
 
 -- an edit keeps the shape
 pub shape_kept : (net : Network) (e : Edit) → shape (with_edit net e) ≡ shape net
 shape_kept net (Offset node offset) = node_shape net (set_offset offset) (λ n. refl) node
 shape_kept net (Change node stage change) =
-    node_shape net (set_change stage change) (λ n. ap (λ ss. record (bare_node n) { stages = ss }) (map_kept_at change n.stages (stage - 1))) node
+    node_shape net (set_change stage change)
+    (λ n. ap (λ ss. record (bare_node n) { stages = ss }) (map_kept_at change n.stages (stage - 1))) node
 shape_kept net (Entry link flow) = link_shape net (set_entry flow) (λ l. refl) link
 shape_kept net (Part link feeder flow) =
-    link_shape net (set_part feeder flow) (λ l. ap (λ fs. record (bare_link l) { feeds = fs }) (map_kept feeder_of (flow_to flow) bare_feed (λ f. refl) l.feeds feeder)) link
+    link_shape net (set_part feeder flow)
+    (λ l. ap (λ fs. record (bare_link l) { feeds = fs })
+    (map_kept feeder_of (flow_to flow) bare_feed (λ f. refl) l.feeds feeder))
+    link
 shape_kept net (Cruise link feeder seconds) =
-    link_shape net (set_cruise feeder seconds) (λ l. ap (λ fs. record (bare_link l) { feeds = fs }) (map_kept feeder_of (cruise_to seconds) bare_feed (λ f. refl) l.feeds feeder)) link
+    link_shape net (set_cruise feeder seconds)
+    (λ l. ap (λ fs. record (bare_link l) { feeds = fs })
+    (map_kept feeder_of (cruise_to seconds) bare_feed (λ f. refl) l.feeds feeder))
+    link
 shape_kept net (Saturation link flow) = link_shape net (set_saturation flow) (λ l. refl) link
 shape_kept net (Weight link delay stop) = link_shape net (set_weights delay stop) (λ l. refl) link

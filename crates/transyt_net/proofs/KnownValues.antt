@@ -15,5 +15,7 @@ six_a_cycle : perstep frame 360 ≡ 600000
 six_a_cycle = refl
 
 -- the greatest flow in the longest steps
-greatest : perstep (record { cycle = 240; step_count = 10; sweeps = 1; period = 60; stop_penalty = 0; dispersion = 0 }) 100000 ≡ 666666666
+greatest : perstep (record { cycle = 240; step_count = 10; sweeps = 1; period = 60; stop_penalty = 0; dispersion = 0 })
+    100000
+    ≡ 666666666
 greatest = refl

@@ -122,12 +122,16 @@ pub all_on_numbered : {A : Type 0} (P : A → Type 0) (key : A → ℕ) (f : A �
     → ((x : A) → numbered key xs k ≡ Some x → P x → P (f x)) → All P xs → All P (on_numbered key f xs k)
 all_on_numbered P key f [] k h all = All-nil P
 all_on_numbered P key f (x ∷ xs) k h all =
-    by (nat_eq k (key x)) refl (λ none. all_on_numbered P key f xs k (λ y at good. h y (ap (λ b. cond b (Some x) (numbered key xs k)) none ∙ at) good) (All-tail P x xs all))
+    by (nat_eq k (key x)) refl
+    (λ none. all_on_numbered P key f xs k
+    (λ y at good. h y (ap (λ b. cond b (Some x) (numbered key xs k)) none ∙ at) good)
+    (All-tail P x xs all))
   where
     by : (b : Bool) → nat_eq k (key x) ≡ b → (nat_eq k (key x) ≡ false → All P (on_numbered key f xs k))
         → All P (if nat_eq k (key x) then f x ∷ xs else x ∷ on_numbered key f xs k)
     by true e rest = subst (λ b. All P (cond b (f x ∷ xs) (x ∷ on_numbered key f xs k))) (sym e)
-        (All-cons P (f x) xs (h x (ap (λ b. cond b (Some x) (numbered key xs k)) e) (All-head P x xs all)) (All-tail P x xs all))
+        (All-cons P (f x) xs (h x (ap (λ b. cond b (Some x) (numbered key xs k)) e) (All-head P x xs all))
+        (All-tail P x xs all))
     by false e rest = subst (λ b. All P (cond b (f x ∷ xs) (x ∷ on_numbered key f xs k))) (sym e)
         (All-cons P x (on_numbered key f xs k) (All-head P x xs all) (rest e))
 

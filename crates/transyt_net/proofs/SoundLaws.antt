@@ -41,19 +41,30 @@ sound_node net number offset h none =
     let below = ltb-true offset steps range.1 in
     let few : length net.nodes < 200 = grind (arith, nat_tests) in
     let longer = length-append net.nodes (new ∷ []) in
-    let among : (k : ℕ) → is_among (node_numbers net.nodes) k ≡ true → is_among (node_numbers (net.nodes ++ new ∷ [])) k ≡ true =
-    λ k a. subst (λ ks. is_among ks k ≡ true) (sym (map-append node_number net.nodes (new ∷ []))) (among_more (node_numbers net.nodes) (number ∷ []) k a) in
+    let among : (k : ℕ) → is_among (node_numbers net.nodes) k ≡ true
+    → is_among (node_numbers (net.nodes ++ new ∷ [])) k ≡ true =
+    λ k a. subst (λ ks. is_among ks k ≡ true) (sym (map-append node_number net.nodes (new ∷ [])))
+    (among_more (node_numbers net.nodes) (number ∷ []) k a) in
     record {
       frame = h.frame;
       node_count = omega arith;
       nodes_differ =
-          subst (λ ks. all_differ ks ≡ true) (sym (map-append node_number net.nodes (new ∷ []))) (all_differ-push (node_numbers net.nodes) number h.nodes_differ once.0);
+          subst (λ ks. all_differ ks ≡ true) (sym (map-append node_number net.nodes (new ∷ [])))
+          (all_differ-push (node_numbers net.nodes) number h.nodes_differ once.0);
       nodes =
-          All-push (IsNode steps) net.nodes new h.nodes (record { number = (low, high); offset = below; stage_count = omega arith; stages = All-nil (IsStage steps) });
+          All-push (IsNode steps) net.nodes new h.nodes
+          (record {
+            number = (low, high);
+            offset = below;
+            stage_count = omega arith;
+            stages = All-nil (IsStage steps);
+          });
       link_count = h.link_count;
       links_differ = h.links_differ;
       links = All-weaker _ (IsLink steps (net.nodes ++ new ∷ []) (link_numbers net.links))
-          (λ l. link_with_more_nodes steps net.nodes (net.nodes ++ new ∷ []) (link_numbers net.links) among (stages_more net.nodes new) l) net.links h.links;
+          (λ l. link_with_more_nodes steps net.nodes (net.nodes ++ new ∷ []) (link_numbers net.links) among
+          (stages_more net.nodes new) l)
+          net.links h.links;
       plan = h.plan;
     }
 
@@ -91,13 +102,19 @@ sound_stage net s h none =
           let few : length n.stages < 8 =
           leb-false 8 (length n.stages) (ap (λ o. nat_le 8 (stage_total o)) (sym at) ∙ room.0) in
           let longer = length-append n.stages (s ∷ []) in
-          record { number = good.number; offset = good.offset; stage_count = omega arith; stages = All-push (IsStage steps) n.stages s good.stages (stage_is steps s (not-false _ ranged.0)) })
+          record {
+            number = good.number;
+            offset = good.offset;
+            stage_count = omega arith;
+            stages = All-push (IsStage steps) n.stages s good.stages (stage_is steps s (not-false _ ranged.0));
+          })
           h.nodes;
       link_count = h.link_count;
       links_differ = h.links_differ;
       links = All-weaker _ (IsLink steps (on_place (add_stage s) net.nodes p) (link_numbers net.links))
           (λ l. link_with_more_nodes steps net.nodes (on_place (add_stage s) net.nodes p) (link_numbers net.links)
-          (λ k a. subst (λ ks. is_among ks k ≡ true) (sym numbers) a) (λ k. stages_more_at net.nodes s p k) l) net.links h.links;
+          (λ k a. subst (λ ks. is_among ks k ≡ true) (sym numbers) a) (λ k. stages_more_at net.nodes s p k)
+          l) net.links h.links;
       plan = h.plan;
     }
 
@@ -105,7 +122,8 @@ sound_stage net s h none =
 pub new_link_number : (net : Network) (l : LinkValue) → link_fault net l ≡ None
     → is_among (link_numbers net.links) l.number ≡ false
 new_link_number net l none =
-    (or_parts (is_among (link_numbers net.links) l.number) (not (all_differ l.stages)) (no_fault (is_among (link_numbers net.links) l.number || not (all_differ l.stages)) Twice _ none).0).0
+    (or_parts (is_among (link_numbers net.links) l.number) (not (all_differ l.stages))
+    (no_fault (is_among (link_numbers net.links) l.number || not (all_differ l.stages)) Twice _ none).0).0
 
 -- a draft with a new link is sound
 pub sound_link : (net : Network) (l : LinkValue) → IsSound net → (1 ≤ length l.stages) × (length l.stages ≤ 8)
@@ -122,13 +140,22 @@ sound_link net l h count no_feeds no_rule none =
     let apart = or_parts (is_among numbers l.number) (not (all_differ l.stages)) once.0 in
     let names = and_parts known runs (not-false _ unknown.0) in
     let r6 =
-    and_parts (within 1 99999 l.number && nat_le l.entry 9999 && within 100 9999 l.saturation && nat_le l.delay_weight 999 && nat_le l.stop_weight 999 && nat_lt l.start_lag steps) (nat_lt l.end_lag steps) (not-false _ ranged.0) in
+    and_parts
+    (within 1 99999 l.number && nat_le l.entry 9999 && within 100 9999 l.saturation && nat_le l.delay_weight 999
+    && nat_le l.stop_weight 999 && nat_lt l.start_lag steps)
+    (nat_lt l.end_lag steps) (not-false _ ranged.0) in
     let r5 =
-    and_parts (within 1 99999 l.number && nat_le l.entry 9999 && within 100 9999 l.saturation && nat_le l.delay_weight 999 && nat_le l.stop_weight 999) (nat_lt l.start_lag steps) r6.0 in
+    and_parts
+    (within 1 99999 l.number && nat_le l.entry 9999 && within 100 9999 l.saturation && nat_le l.delay_weight 999
+    && nat_le l.stop_weight 999)
+    (nat_lt l.start_lag steps) r6.0 in
     let r4 =
-    and_parts (within 1 99999 l.number && nat_le l.entry 9999 && within 100 9999 l.saturation && nat_le l.delay_weight 999) (nat_le l.stop_weight 999) r5.0 in
+    and_parts
+    (within 1 99999 l.number && nat_le l.entry 9999 && within 100 9999 l.saturation && nat_le l.delay_weight 999)
+    (nat_le l.stop_weight 999) r5.0 in
     let r3 =
-    and_parts (within 1 99999 l.number && nat_le l.entry 9999 && within 100 9999 l.saturation) (nat_le l.delay_weight 999) r4.0 in
+    and_parts (within 1 99999 l.number && nat_le l.entry 9999 && within 100 9999 l.saturation)
+    (nat_le l.delay_weight 999) r4.0 in
     let r2 = and_parts (within 1 99999 l.number && nat_le l.entry 9999) (within 100 9999 l.saturation) r3.0 in
     let r1 = and_parts (within 1 99999 l.number) (nat_le l.entry 9999) r2.0 in
     let few = leb-false 1000 (length net.links) room.0 in
@@ -152,7 +179,8 @@ sound_link net l h count no_feeds no_rule none =
       feed_count = subst (λ fs. length fs ≤ 8) (sym no_feeds) (omega arith);
       feeders_differ = subst (λ fs. all_differ (feeders fs) ≡ true) (sym no_feeds) refl;
       feeds =
-          subst (λ fs. All (IsFeed (link_numbers (net.links ++ l ∷ []))) fs) (sym no_feeds) (All-nil (IsFeed (link_numbers (net.links ++ l ∷ []))));
+          subst (λ fs. All (IsFeed (link_numbers (net.links ++ l ∷ []))) fs) (sym no_feeds)
+          (All-nil (IsFeed (link_numbers (net.links ++ l ∷ []))));
       rule = subst (λ o. IfSome o (IsRule (link_numbers (net.links ++ l ∷ [])))) (sym no_rule) tt;
     } in
     record {
@@ -165,7 +193,8 @@ sound_link net l h count no_feeds no_rule none =
           subst (λ ks. all_differ ks ≡ true) (sym keys) (all_differ-push numbers l.number h.links_differ apart.0);
       links = All-push (IsLink steps net.nodes (link_numbers (net.links ++ l ∷ []))) net.links l
           (All-weaker _ (IsLink steps net.nodes (link_numbers (net.links ++ l ∷ [])))
-          (λ x. link_with_more_numbers steps net.nodes numbers (link_numbers (net.links ++ l ∷ [])) among x) net.links h.links)
+          (λ x. link_with_more_numbers steps net.nodes numbers (link_numbers (net.links ++ l ∷ [])) among x) net.links
+          h.links)
           new;
       plan = h.plan;
     }
@@ -179,7 +208,8 @@ sound_feed net link f h none =
     let ranged = no_fault (not (feed_in_range f)) Range _ unknown.1 in
     let room = no_fault (nat_le 8 (length (feeds_at net.links link))) TooMany _ ranged.1 in
     let both =
-    and_parts (is_among (link_numbers net.links) link) (is_among (link_numbers net.links) f.feeder) (not-false _ unknown.0) in
+    and_parts (is_among (link_numbers net.links) link) (is_among (link_numbers net.links) f.feeder)
+    (not-false _ unknown.0) in
     let range = and_parts (nat_le f.flow 9999) (within 1 300 f.cruise) (not-false _ ranged.0) in
     let good : IsFeed (link_numbers net.links) f =
     record { feeder = both.1; flow = leb-true f.flow 9999 range.0; cruise = in_range 1 300 f.cruise range.1 } in
@@ -204,7 +234,8 @@ sound_feed net link f h none =
       stages = old.stages;
       feed_count = omega arith;
       feeders_differ =
-          subst (λ ks. all_differ ks ≡ true) (sym (map-append (λ x. x.feeder) l.feeds (f ∷ []))) (all_differ-push (feeders l.feeds) f.feeder old.feeders_differ absent);
+          subst (λ ks. all_differ ks ≡ true) (sym (map-append (λ x. x.feeder) l.feeds (f ∷ [])))
+          (all_differ-push (feeders l.feeds) f.feeder old.feeders_differ absent);
       feeds = All-push (IsFeed (link_numbers net.links)) l.feeds f old.feeds good;
       rule = old.rule;
     })
@@ -217,7 +248,8 @@ sound_rule net link r h none =
     let unknown = no_fault (not (are_links net link r.other)) Unknown _ once.1 in
     let ranged = no_fault (not (nat_le r.percent 400)) Range _ unknown.1 in
     let both =
-    and_parts (is_among (link_numbers net.links) link) (is_among (link_numbers net.links) r.other) (not-false _ unknown.0) in
+    and_parts (is_among (link_numbers net.links) link) (is_among (link_numbers net.links) r.other)
+    (not-false _ unknown.0) in
     let good : IsRule (link_numbers net.links) r =
     record { other = both.1; percent = leb-true r.percent 400 (not-false _ ranged.0) } in
     links_written net (set_rule r) (λ l. refl) link h (λ l at old. record {
@@ -259,6 +291,7 @@ sound_plan net p h count none =
         budget = in_range 1 1000000 p.budget range.0;
         size_count = count;
         sizes =
-            All-weaker (λ k. (1 ≤ k) × (k ≤ steps - 1)) (λ k. (1 ≤ k) × (k < steps)) (λ k both. (both.0, omega arith)) p.sizes (all_in_range 1 (steps - 1) p.sizes range.1);
+            All-weaker (λ k. (1 ≤ k) × (k ≤ steps - 1)) (λ k. (1 ≤ k) × (k < steps)) (λ k both. (both.0, omega arith))
+            p.sizes (all_in_range 1 (steps - 1) p.sizes range.1);
       };
     }

@@ -21,7 +21,8 @@ twice key f g same (x ∷ xs) k = by (nat_eq k (key x)) refl (twice key f g same
   where
     by : (b : Bool) → nat_eq k (key x) ≡ b
         → on_numbered key g (on_numbered key f xs k) k ≡ on_numbered key (λ x. g (f x)) xs k
-        → on_numbered key g (if nat_eq k (key x) then f x ∷ xs else x ∷ on_numbered key f xs k) k ≡ (if nat_eq k (key x) then g (f x) ∷ xs else x ∷ on_numbered key (λ x. g (f x)) xs k)
+        → on_numbered key g (if nat_eq k (key x) then f x ∷ xs else x ∷ on_numbered key f xs k) k
+        ≡ (if nat_eq k (key x) then g (f x) ∷ xs else x ∷ on_numbered key (λ x. g (f x)) xs k)
     by true e rest =
         ap (λ b. on_numbered key g (cond b (f x ∷ xs) (x ∷ on_numbered key f xs k)) k) e
         ∙ ap (λ b. cond b (g (f x) ∷ xs) (f x ∷ on_numbered key g xs k)) (ap (nat_eq k) (same x) ∙ e)
@@ -37,7 +38,8 @@ pub leaves : {A : Type 0} (key : A → ℕ) (h : A → A) (xs : List A) (k : ℕ
     → ((x : A) → numbered key xs k ≡ Some x → h x ≡ x) → on_numbered key h xs k ≡ xs
 leaves key h [] k same = refl
 leaves key h (x ∷ xs) k same =
-    by (nat_eq k (key x)) refl (λ e. leaves key h xs k (λ y at. same y (ap (λ b. cond b (Some x) (numbered key xs k)) e ∙ at)))
+    by (nat_eq k (key x)) refl
+    (λ e. leaves key h xs k (λ y at. same y (ap (λ b. cond b (Some x) (numbered key xs k)) e ∙ at)))
   where
     by : (b : Bool) → nat_eq k (key x) ≡ b → (nat_eq k (key x) ≡ false → on_numbered key h xs k ≡ xs)
         → (if nat_eq k (key x) then h x ∷ xs else x ∷ on_numbered key h xs k) ≡ x ∷ xs
@@ -60,39 +62,55 @@ put_back_at (s ∷ ss) (suc p) change = ap (λ xs. s ∷ xs) (put_back_at ss p c
 
 node_back_is : (net : Network) (node : ℕ) (f : NodeValue → NodeValue) (g : NodeValue → NodeValue → NodeValue)
     (same : (n : NodeValue) → (f n).number ≡ n.number) (back : (n : NodeValue) → g n (f n) ≡ n)
-    → on_numbered node_number (g (node_in (numbered node_number net.nodes node))) (on_numbered node_number f net.nodes node) node ≡ net.nodes
+    → on_numbered node_number (g (node_in (numbered node_number net.nodes node)))
+    (on_numbered node_number f net.nodes node) node
+    ≡ net.nodes
 node_back_is net node f g same back =
-    put_back node_number f (g (node_in (numbered node_number net.nodes node))) same net.nodes node (λ n at. ap (λ o. g (node_in o) (f n)) at ∙ back n)
+    put_back node_number f (g (node_in (numbered node_number net.nodes node))) same net.nodes node
+    (λ n at. ap (λ o. g (node_in o) (f n)) at ∙ back n)
 
 link_back_is : (net : Network) (link : ℕ) (f : LinkValue → LinkValue) (g : LinkValue → LinkValue → LinkValue)
     (same : (l : LinkValue) → (f l).number ≡ l.number) (back : (l : LinkValue) → g l (f l) ≡ l)
-    → on_numbered link_number (g (link_in (numbered link_number net.links link))) (on_numbered link_number f net.links link) link ≡ net.links
+    → on_numbered link_number (g (link_in (numbered link_number net.links link)))
+    (on_numbered link_number f net.links link) link
+    ≡ net.links
 link_back_is net link f g same back =
-    put_back link_number f (g (link_in (numbered link_number net.links link))) same net.links link (λ l at. ap (λ o. g (link_in o) (f l)) at ∙ back l)
+    put_back link_number f (g (link_in (numbered link_number net.links link))) same net.links link
+    (λ l at. ap (λ o. g (link_in o) (f l)) at ∙ back l)
 
 -- the inverse of an edit takes it back
 pub undone : (net : Network) (e : Edit) → with_edit (with_edit net e) (inverse net e) ≡ net
 undone net (Offset node offset) =
-    ap (λ ns. record net { nodes = ns }) (node_back_is net node (set_offset offset) (λ old. set_offset old.offset) (λ n. refl) (λ n. refl))
+    ap (λ ns. record net { nodes = ns })
+    (node_back_is net node (set_offset offset) (λ old. set_offset old.offset) (λ n. refl) (λ n. refl))
 undone net (Change node stage change) =
     ap (λ ns. record net { nodes = ns })
-    (node_back_is net node (set_change stage change) (λ old. set_change stage (stage_of old.stages (stage - 1)).change) (λ n. refl)
+    (node_back_is net node (set_change stage change) (λ old. set_change stage (stage_of old.stages (stage - 1)).change)
+    (λ n. refl)
     (λ n. ap (λ ss. record n { stages = ss }) (put_back_at n.stages (stage - 1) change)))
 undone net (Entry link flow) =
-    ap (λ ls. record net { links = ls }) (link_back_is net link (set_entry flow) (λ old. set_entry old.entry) (λ l. refl) (λ l. refl))
+    ap (λ ls. record net { links = ls })
+    (link_back_is net link (set_entry flow) (λ old. set_entry old.entry) (λ l. refl) (λ l. refl))
 undone net (Part link feeder flow) =
     ap (λ ls. record net { links = ls })
-    (link_back_is net link (set_part feeder flow) (λ old. set_part feeder (feed_in (numbered feeder_of old.feeds feeder)).flow) (λ l. refl)
+    (link_back_is net link (set_part feeder flow)
+    (λ old. set_part feeder (feed_in (numbered feeder_of old.feeds feeder)).flow) (λ l. refl)
     (λ l. ap (λ fs. record l { feeds = fs })
-    (put_back feeder_of (flow_to flow) (flow_to (feed_in (numbered feeder_of l.feeds feeder)).flow) (λ f. refl) l.feeds feeder
+    (put_back feeder_of (flow_to flow) (flow_to (feed_in (numbered feeder_of l.feeds feeder)).flow) (λ f. refl) l.feeds
+    feeder
     (λ f at. ap (λ o. record f { flow = (feed_in o).flow }) at))))
 undone net (Cruise link feeder seconds) =
     ap (λ ls. record net { links = ls })
-    (link_back_is net link (set_cruise feeder seconds) (λ old. set_cruise feeder (feed_in (numbered feeder_of old.feeds feeder)).cruise) (λ l. refl)
+    (link_back_is net link (set_cruise feeder seconds)
+    (λ old. set_cruise feeder (feed_in (numbered feeder_of old.feeds feeder)).cruise) (λ l. refl)
     (λ l. ap (λ fs. record l { feeds = fs })
-    (put_back feeder_of (cruise_to seconds) (cruise_to (feed_in (numbered feeder_of l.feeds feeder)).cruise) (λ f. refl) l.feeds feeder
+    (put_back feeder_of (cruise_to seconds) (cruise_to (feed_in (numbered feeder_of l.feeds feeder)).cruise) (λ f. refl)
+    l.feeds feeder
     (λ f at. ap (λ o. record f { cruise = (feed_in o).cruise }) at))))
 undone net (Saturation link flow) =
-    ap (λ ls. record net { links = ls }) (link_back_is net link (set_saturation flow) (λ old. set_saturation old.saturation) (λ l. refl) (λ l. refl))
+    ap (λ ls. record net { links = ls })
+    (link_back_is net link (set_saturation flow) (λ old. set_saturation old.saturation) (λ l. refl) (λ l. refl))
 undone net (Weight link delay stop) =
-    ap (λ ls. record net { links = ls }) (link_back_is net link (set_weights delay stop) (λ old. set_weights old.delay_weight old.stop_weight) (λ l. refl) (λ l. refl))
+    ap (λ ls. record net { links = ls })
+    (link_back_is net link (set_weights delay stop) (λ old. set_weights old.delay_weight old.stop_weight)
+    (λ l. refl) (λ l. refl))

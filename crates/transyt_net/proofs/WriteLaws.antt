@@ -37,7 +37,8 @@ all_in_range low high (x ∷ xs) h =
 pub stages_more : (nodes : List NodeValue) (n : NodeValue) (k : ℕ) → stages_at nodes k ≤ stages_at (nodes ++ n ∷ []) k
 stages_more [] n k = omega arith
 stages_more (x ∷ xs) n k =
-    (elim (nat_eq k x.number) as (λ b. stage_total (cond b (Some x) (numbered node_number xs k)) ≤ stage_total (cond b (Some x) (numbered node_number (xs ++ n ∷ []) k))) [
+    (elim (nat_eq k x.number) as (λ b. stage_total (cond b (Some x) (numbered node_number xs k))
+    ≤ stage_total (cond b (Some x) (numbered node_number (xs ++ n ∷ []) k))) [
       | true ↦ omega arith
       | false ↦ stages_more xs n k
     ])
@@ -47,12 +48,14 @@ pub stages_more_at : (nodes : List NodeValue) (s : Stage) (p k : ℕ)
 stages_more_at [] s p k = omega arith
 stages_more_at (x ∷ xs) s zero k =
     let longer = length-append x.stages (s ∷ []) in
-    (elim (nat_eq k x.number) as (λ b. stage_total (cond b (Some x) (numbered node_number xs k)) ≤ stage_total (cond b (Some (add_stage s x)) (numbered node_number xs k))) [
+    (elim (nat_eq k x.number) as (λ b. stage_total (cond b (Some x) (numbered node_number xs k))
+    ≤ stage_total (cond b (Some (add_stage s x)) (numbered node_number xs k))) [
       | true ↦ omega arith
       | false ↦ omega arith
     ])
 stages_more_at (x ∷ xs) s (suc p) k =
-    (elim (nat_eq k x.number) as (λ b. stage_total (cond b (Some x) (numbered node_number xs k)) ≤ stage_total (cond b (Some x) (numbered node_number (on_place (add_stage s) xs p) k))) [
+    (elim (nat_eq k x.number) as (λ b. stage_total (cond b (Some x) (numbered node_number xs k))
+    ≤ stage_total (cond b (Some x) (numbered node_number (on_place (add_stage s) xs p) k))) [
       | true ↦ omega arith
       | false ↦ stages_more_at xs s p k
     ])
@@ -100,7 +103,9 @@ link_with_more_numbers steps nodes numbers more among l h = record {
   feed_count = h.feed_count;
   feeders_differ = h.feeders_differ;
   feeds =
-      All-weaker (IsFeed numbers) (IsFeed more) (λ f good. record { feeder = among f.feeder good.feeder; flow = good.flow; cruise = good.cruise }) l.feeds h.feeds;
+      All-weaker (IsFeed numbers) (IsFeed more)
+      (λ f good. record { feeder = among f.feeder good.feeder; flow = good.flow; cruise = good.cruise }) l.feeds
+      h.feeds;
   rule = rule l.gives_way h.rule;
 }
   where
@@ -112,7 +117,9 @@ link_with_more_numbers steps nodes numbers more among l h = record {
 pub links_written : (net : Network) (f : LinkValue → LinkValue) (same : (l : LinkValue) → (f l).number ≡ l.number)
     (link : ℕ)
     → IsSound net
-    → ((l : LinkValue) → numbered link_number net.links link ≡ Some l → IsLink net.frame.step_count net.nodes (link_numbers net.links) l → IsLink net.frame.step_count net.nodes (link_numbers net.links) (f l))
+    → ((l : LinkValue) → numbered link_number net.links link ≡ Some l
+    → IsLink net.frame.step_count net.nodes (link_numbers net.links) l
+    → IsLink net.frame.step_count net.nodes (link_numbers net.links) (f l))
     → IsSound (record net { links = on_numbered link_number f net.links link })
 links_written net f same link h keeps =
     let numbers : link_numbers (on_numbered link_number f net.links link) ≡ link_numbers net.links =
@@ -126,8 +133,10 @@ links_written net f same link h keeps =
       link_count = omega arith;
       links_differ = subst (λ ks. all_differ ks ≡ true) (sym numbers) h.links_differ;
       links =
-          subst (λ ks. All (IsLink net.frame.step_count net.nodes ks) (on_numbered link_number f net.links link)) (sym numbers)
-          (all_on_numbered (IsLink net.frame.step_count net.nodes (link_numbers net.links)) link_number f net.links link keeps h.links);
+          subst (λ ks. All (IsLink net.frame.step_count net.nodes ks) (on_numbered link_number f net.links link))
+          (sym numbers)
+          (all_on_numbered (IsLink net.frame.step_count net.nodes (link_numbers net.links)) link_number f net.links
+          link keeps h.links);
       plan = h.plan;
     }
 
@@ -135,7 +144,8 @@ links_written net f same link h keeps =
 pub nodes_written : (net : Network) (f : NodeValue → NodeValue) (same : (n : NodeValue) → (f n).number ≡ n.number)
     (count : (n : NodeValue) → length (f n).stages ≡ length n.stages) (node : ℕ)
     → IsSound net
-    → ((n : NodeValue) → numbered node_number net.nodes node ≡ Some n → IsNode net.frame.step_count n → IsNode net.frame.step_count (f n))
+    → ((n : NodeValue) → numbered node_number net.nodes node ≡ Some n → IsNode net.frame.step_count n
+    → IsNode net.frame.step_count (f n))
     → IsSound (record net { nodes = on_numbered node_number f net.nodes node })
 nodes_written net f same count node h keeps =
     let steps = net.frame.step_count in
@@ -151,7 +161,8 @@ nodes_written net f same count node h keeps =
       links_differ = h.links_differ;
       links = All-weaker _ (IsLink steps after (link_numbers net.links))
           (λ l. link_with_more_nodes steps net.nodes after (link_numbers net.links)
-          (λ k a. subst (λ ks. is_among ks k ≡ true) (sym numbers) a) (λ k. stages_as_many net.nodes f same count node k) l) net.links h.links;
+          (λ k a. subst (λ ks. is_among ks k ≡ true) (sym numbers) a)
+          (λ k. stages_as_many net.nodes f same count node k) l) net.links h.links;
       plan = h.plan;
     }
   where
@@ -164,17 +175,24 @@ nodes_written net f same count node h keeps =
         let longer = count x in
         let rest = stages_as_many xs f same count node k in
         let here : stage_total (numbered node_number (x ∷ xs) k) ≤ stage_total (numbered node_number (f x ∷ xs) k) =
-        subst (λ m. stage_total (numbered node_number (x ∷ xs) k) ≤ stage_total (if nat_eq k m then Some (f x) else numbered node_number xs k)) (sym (same x))
-        (elim (nat_eq k x.number) as (λ b. stage_total (cond b (Some x) (numbered node_number xs k)) ≤ stage_total (cond b (Some (f x)) (numbered node_number xs k))) [
+        subst (λ m. stage_total (numbered node_number (x ∷ xs) k)
+        ≤ stage_total (if nat_eq k m then Some (f x) else numbered node_number xs k))
+        (sym (same x))
+        (elim (nat_eq k x.number) as (λ b. stage_total (cond b (Some x) (numbered node_number xs k))
+        ≤ stage_total (cond b (Some (f x)) (numbered node_number xs k))) [
           | true ↦ omega arith
           | false ↦ omega arith
         ]) in
-        let there : stage_total (numbered node_number (x ∷ xs) k) ≤ stage_total (numbered node_number (x ∷ on_numbered node_number f xs node) k) =
-        (elim (nat_eq k x.number) as (λ b. stage_total (cond b (Some x) (numbered node_number xs k)) ≤ stage_total (cond b (Some x) (numbered node_number (on_numbered node_number f xs node) k))) [
+        let there : stage_total (numbered node_number (x ∷ xs) k)
+        ≤ stage_total (numbered node_number (x ∷ on_numbered node_number f xs node) k) =
+        (elim (nat_eq k x.number) as (λ b. stage_total (cond b (Some x) (numbered node_number xs k))
+        ≤ stage_total (cond b (Some x) (numbered node_number (on_numbered node_number f xs node) k))) [
           | true ↦ omega arith
           | false ↦ rest
         ]) in
-        (elim (nat_eq node x.number) as (λ b. stage_total (numbered node_number (x ∷ xs) k) ≤ stage_total (numbered node_number (cond b (f x ∷ xs) (x ∷ on_numbered node_number f xs node)) k)) [
+        (elim (nat_eq node x.number) as (λ b. stage_total (numbered node_number (x ∷ xs) k)
+        ≤ stage_total
+        (numbered node_number (cond b (f x ∷ xs) (x ∷ on_numbered node_number f xs node)) k)) [
           | true ↦ here
           | false ↦ there
         ])

@@ -7,5 +7,6 @@ use Rattle.transyt_net.proofs.edit.feed_place.Goals as goal
 pub unreachable-requires : goal.unreachable-requires
 unreachable-requires c =
     let none : is_fed c.args.feeds.now c.args.feeder ≡ false =
-    list_any_none (λ f. nat_eq c.args.feeder f.feeder) c.args.feeds.now (λ k d inside. let before : k < c.loop-place.place = omega arith in c.loop-place.invariant k d before) in
+    list_any_none (λ f. nat_eq c.args.feeder f.feeder) c.args.feeds.now
+    (λ k d inside. let before : k < c.loop-place.place = omega arith in c.loop-place.invariant k d before) in
     both_ways _ none c.requires

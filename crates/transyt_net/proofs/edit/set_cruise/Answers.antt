@@ -12,9 +12,24 @@ returns-clause-value c =
     let p : ℕ = c.feed_place-place.result in
     let old : Feed = c.index_mut.result.now in
     let place : IsPlace feeder_of items c.args.feeder p = search rules in
-    let made : set items p (cruise_to c.args.seconds old) ≡ on_numbered feeder_of (cruise_to c.args.seconds) items c.args.feeder =
-    written_here feeder_of (cruise_to c.args.seconds) items c.args.feeder p old (cruise_to c.args.seconds old) place c.index_mut.ensures.value refl in
-    ap (λ (fs : List Feed). record { number = c.link.inside.number; node = c.link.inside.node; entry = c.link.inside.entry; saturation = c.link.inside.saturation; delay_weight = c.link.inside.delay_weight; stop_weight = c.link.inside.stop_weight; start_lag = c.link.inside.start_lag; end_lag = c.link.inside.end_lag; stages = c.link.inside.stages.items; feeds = fs; gives_way = c.link.inside.gives_way }) made
+    let made : set items p (cruise_to c.args.seconds old)
+    ≡ on_numbered feeder_of (cruise_to c.args.seconds) items c.args.feeder =
+    written_here feeder_of (cruise_to c.args.seconds) items c.args.feeder p old (cruise_to c.args.seconds old) place
+    c.index_mut.ensures.value refl in
+    ap (λ (fs : List Feed). record {
+      number = c.link.inside.number;
+      node = c.link.inside.node;
+      entry = c.link.inside.entry;
+      saturation = c.link.inside.saturation;
+      delay_weight = c.link.inside.delay_weight;
+      stop_weight = c.link.inside.stop_weight;
+      start_lag = c.link.inside.start_lag;
+      end_lag = c.link.inside.end_lag;
+      stages = c.link.inside.stages.items;
+      feeds = fs;
+      gives_way = c.link.inside.gives_way;
+    })
+    made
     ∙ ap (λ (l : LinkValue). set_cruise c.args.feeder c.args.seconds l) c.link.view_is
 
 pub returns-clause-before : goal.returns-clause-before

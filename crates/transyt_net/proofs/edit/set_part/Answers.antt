@@ -13,8 +13,22 @@ returns-clause-value c =
     let old : Feed = c.index_mut.result.now in
     let place : IsPlace feeder_of items c.args.feeder p = search rules in
     let made : set items p (flow_to c.args.flow old) ≡ on_numbered feeder_of (flow_to c.args.flow) items c.args.feeder =
-    written_here feeder_of (flow_to c.args.flow) items c.args.feeder p old (flow_to c.args.flow old) place c.index_mut.ensures.value refl in
-    ap (λ (fs : List Feed). record { number = c.link.inside.number; node = c.link.inside.node; entry = c.link.inside.entry; saturation = c.link.inside.saturation; delay_weight = c.link.inside.delay_weight; stop_weight = c.link.inside.stop_weight; start_lag = c.link.inside.start_lag; end_lag = c.link.inside.end_lag; stages = c.link.inside.stages.items; feeds = fs; gives_way = c.link.inside.gives_way }) made
+    written_here feeder_of (flow_to c.args.flow) items c.args.feeder p old (flow_to c.args.flow old) place
+    c.index_mut.ensures.value refl in
+    ap (λ (fs : List Feed). record {
+      number = c.link.inside.number;
+      node = c.link.inside.node;
+      entry = c.link.inside.entry;
+      saturation = c.link.inside.saturation;
+      delay_weight = c.link.inside.delay_weight;
+      stop_weight = c.link.inside.stop_weight;
+      start_lag = c.link.inside.start_lag;
+      end_lag = c.link.inside.end_lag;
+      stages = c.link.inside.stages.items;
+      feeds = fs;
+      gives_way = c.link.inside.gives_way;
+    })
+    made
     ∙ ap (λ (l : LinkValue). set_part c.args.feeder c.args.flow l) c.link.view_is
 
 pub returns-clause-before : goal.returns-clause-before

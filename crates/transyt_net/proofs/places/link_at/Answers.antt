@@ -9,7 +9,8 @@ pub returns-in-Some : goal.returns-in-Some
 returns-in-Some c =
     let at : place_of (link_numbers c.args.links.now) c.args.number ≡ Some c.in-Some.place = search rules in
     ap (λ (x : LinkValue). Some x) c.index-links-place.is
-    ∙ sym (numbered_here link_number c.args.links.now c.args.number c.in-Some.place c.index-links-place.result (place_is link_number c.args.links.now c.args.number c.in-Some.place at))
+    ∙ sym (numbered_here link_number c.args.links.now c.args.number c.in-Some.place c.index-links-place.result
+    (place_is link_number c.args.links.now c.args.number c.in-Some.place at))
 
 pub returns-in-None : goal.returns-in-None
 returns-in-None c =

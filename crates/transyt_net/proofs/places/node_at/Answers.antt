@@ -9,7 +9,8 @@ pub returns-in-Some : goal.returns-in-Some
 returns-in-Some c =
     let at : place_of (node_numbers c.args.nodes.now) c.args.number ≡ Some c.in-Some.place = search rules in
     ap (λ (x : NodeValue). Some x) c.index-nodes-place.is
-    ∙ sym (numbered_here node_number c.args.nodes.now c.args.number c.in-Some.place c.index-nodes-place.result (place_is node_number c.args.nodes.now c.args.number c.in-Some.place at))
+    ∙ sym (numbered_here node_number c.args.nodes.now c.args.number c.in-Some.place c.index-nodes-place.result
+    (place_is node_number c.args.nodes.now c.args.number c.in-Some.place at))
 
 pub returns-in-None : goal.returns-in-None
 returns-in-None c =

@@ -6,4 +6,7 @@ use Rattle.transyt_net.proofs.draft.Draft.close.Goals as goal
 pub of_parts-requires-clause-valid : goal.of_parts-requires-clause-valid
 of_parts-requires-clause-valid c =
     let none : first_fault c.self.inside.frame.step_count c.self.inside.nodes.items ≡ None = search rules in
-    record { sound = c.self.invariant.0; planned = all_planned c.self.inside.frame.step_count c.self.inside.nodes.items none }
+    record {
+      sound = c.self.invariant.0;
+      planned = all_planned c.self.inside.frame.step_count c.self.inside.nodes.items none;
+    }

@@ -12,13 +12,15 @@ use Rattle.transyt_net.proofs.draft.Draft.feed.Goals as goal
 
 -- the links as they are then
 written : (c : goal.In_ok-add_feed) → set c.self.inside.links.items c.in-Some-get_index_of.place c.add_feed.new.link
-    ≡ on_numbered link_number (add_feed (new_feed c.args.feeder c.args.flow c.args.cruise)) c.self.inside.links.items c.args.link
+    ≡ on_numbered link_number (add_feed (new_feed c.args.feeder c.args.flow c.args.cruise)) c.self.inside.links.items
+    c.args.link
 written c =
     let items : List LinkValue = c.self.inside.links.items in
     let p : ℕ = c.in-Some-get_index_of.place in
     let old : LinkValue = c.index_mut-owner.result.now in
     let at : place_of (link_numbers items) c.args.link ≡ Some p = search rules in
-    written_here link_number (add_feed (new_feed c.args.feeder c.args.flow c.args.cruise)) items c.args.link p old c.add_feed.new.link
+    written_here link_number (add_feed (new_feed c.args.feeder c.args.flow c.args.cruise)) items c.args.link p old
+    c.add_feed.new.link
     (place_is link_number items c.args.link p at) c.index_mut-owner.ensures.value c.in_ok-add_feed.ensures.ok
 
 pub invariant_of-self-2 : goal.invariant_of-self-2
@@ -27,7 +29,8 @@ invariant_of-self-2 c =
     c.self.inside.links.items c.self.inside.plan in
     let asked : Feed = new_feed c.args.feeder c.args.flow c.args.cruise in
     let none : feed_fault net c.args.link asked ≡ None = search rules in
-    let sound : IsSound (with_feed net c.args.link asked) = sound_feed net c.args.link asked c.self.invariant.0 none in (
+    let sound : IsSound (with_feed net c.args.link asked) =
+    sound_feed net c.args.link asked c.self.invariant.0 none in (
       subst (λ (ls : List LinkValue). IsSound (record net { links = ls })) (sym (written c)) sound,
       c.self.invariant.1,
       c.self.invariant.2

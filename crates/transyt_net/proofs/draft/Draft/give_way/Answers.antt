@@ -18,7 +18,8 @@ written c =
     let p : ℕ = c.in-Some-get_index_of.place in
     let old : LinkValue = c.index_mut-owner.result.now in
     let at : place_of (link_numbers items) c.args.link ≡ Some p = search rules in
-    written_here link_number (set_rule (new_rule c.args.other c.args.percent)) items c.args.link p old c.set_rule.new.link
+    written_here link_number (set_rule (new_rule c.args.other c.args.percent)) items c.args.link p old
+    c.set_rule.new.link
     (place_is link_number items c.args.link p at) c.index_mut-owner.ensures.value c.set_rule.ensures
 
 pub invariant_of-self : goal.invariant_of-self
@@ -27,7 +28,8 @@ invariant_of-self c =
     c.self.inside.links.items c.self.inside.plan in
     let asked : GiveWay = new_rule c.args.other c.args.percent in
     let none : rule_fault net c.args.link asked ≡ None = search rules in
-    let sound : IsSound (with_rule net c.args.link asked) = sound_rule net c.args.link asked c.self.invariant.0 none in (
+    let sound : IsSound (with_rule net c.args.link asked) =
+    sound_rule net c.args.link asked c.self.invariant.0 none in (
       subst (λ (ls : List LinkValue). IsSound (record net { links = ls })) (sym (written c)) sound,
       c.self.invariant.1,
       c.self.invariant.2

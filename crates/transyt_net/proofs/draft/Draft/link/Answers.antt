@@ -13,13 +13,19 @@ pub invariant_of-self-2 : goal.invariant_of-self-2
 invariant_of-self-2 c =
     let a = c.args in
     let net : Network =
-    record { frame = c.self.inside.frame; nodes = c.self.inside.nodes.items; links = c.self.inside.links.items; plan = c.self.inside.plan } in
+    record {
+      frame = c.self.inside.frame;
+      nodes = c.self.inside.nodes.items;
+      links = c.self.inside.links.items;
+      plan = c.self.inside.plan;
+    } in
     let link : LinkValue =
     new_link a.number a.node a.entry a.saturation a.delay_weight a.stop_weight a.start_lag a.end_lag a.stages.now in
     let none : link_fault net link ≡ None = search rules in
     let items : c.push.new.self.items ≡ net.links ++ link ∷ [] = search rules in
     let keys : c.add_number.new.places.keys ≡ link_numbers net.links ++ a.number ∷ [] = search rules in
-    let sound : IsSound (with_link net link) = sound_link net link c.self.invariant.0 (c.requires.some, c.requires.most) refl refl none in (
+    let sound : IsSound (with_link net link) =
+    sound_link net link c.self.invariant.0 (c.requires.some, c.requires.most) refl refl none in (
       subst (λ (ls : List LinkValue). IsSound (record net { links = ls })) (sym items) sound,
       c.self.invariant.1,
       keys ∙ sym (map-append link_number net.links (link ∷ [])) ∙ ap link_numbers (sym items),

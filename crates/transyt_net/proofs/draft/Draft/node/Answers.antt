@@ -12,11 +12,17 @@ use Rattle.transyt_net.proofs.draft.Draft.node.Goals as goal
 pub invariant_of-self-2 : goal.invariant_of-self-2
 invariant_of-self-2 c =
     let net : Network =
-    record { frame = c.self.inside.frame; nodes = c.self.inside.nodes.items; links = c.self.inside.links.items; plan = c.self.inside.plan } in
+    record {
+      frame = c.self.inside.frame;
+      nodes = c.self.inside.nodes.items;
+      links = c.self.inside.links.items;
+      plan = c.self.inside.plan;
+    } in
     let none : node_fault net c.args.number c.args.offset ≡ None = search rules in
     let items : c.push.new.self.items ≡ net.nodes ++ new_node c.args.number c.args.offset ∷ [] = search rules in
     let keys : c.add_number.new.places.keys ≡ node_numbers net.nodes ++ c.args.number ∷ [] = search rules in
-    let sound : IsSound (with_node net c.args.number c.args.offset) = sound_node net c.args.number c.args.offset c.self.invariant.0 none in (
+    let sound : IsSound (with_node net c.args.number c.args.offset) =
+    sound_node net c.args.number c.args.offset c.self.invariant.0 none in (
       subst (λ (ns : List NodeValue). IsSound (record net { nodes = ns })) (sym items) sound,
       keys
           ∙ sym (map-append node_number net.nodes (new_node c.args.number c.args.offset ∷ []))

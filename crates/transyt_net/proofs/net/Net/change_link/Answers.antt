@@ -49,14 +49,21 @@ invariant_of-self c =
     let found : numbered link_number net.links c.args.number ≡ Some old =
     numbered_here link_number net.links c.args.number p old place
     ∙ ap (λ (x : LinkValue). Some x) (sym c.index_mut-link.ensures.value) in
-    let written : set net.links p c.edit_link.new.link ≡ on_numbered link_number (link_edit c.args.e.now) net.links c.args.number =
-    written_here link_number (link_edit c.args.e.now) net.links c.args.number p old c.edit_link.new.link place c.index_mut-link.ensures.value c.edit_link.ensures.value in
+    let written : set net.links p c.edit_link.new.link
+    ≡ on_numbered link_number (link_edit c.args.e.now) net.links c.args.number =
+    written_here link_number (link_edit c.args.e.now) net.links c.args.number p old c.edit_link.new.link place
+    c.index_mut-link.ensures.value c.edit_link.ensures.value in
     let valid : IsValid (record net { links = set net.links p c.edit_link.new.link }) =
     subst (λ (xs : List LinkValue). IsValid (record net { links = xs })) (sym written)
-    (subst IsValid (sym (link_done net c.args.e.now c.args.number c.requires.names)) (valid_edit net c.args.e.now c.self.invariant.0 allowed)) in (
+    (subst IsValid (sym (link_done net c.args.e.now c.args.number c.requires.names))
+    (valid_edit net c.args.e.now c.self.invariant.0 allowed)) in (
       valid,
       c.self.invariant.1,
-      (c.self.invariant.2 ∙ sym (keys_kept link_number (link_edit c.args.e.now) (link_numbers_kept c.args.e.now) net.links c.args.number) ∙ ap link_numbers (sym written)),
+      (c.self.invariant.2
+          ∙ sym
+          (keys_kept link_number (link_edit c.args.e.now) (link_numbers_kept c.args.e.now) net.links
+          c.args.number)
+          ∙ ap link_numbers (sym written)),
     )
 
 pub returns-clause-value : goal.returns-clause-value
@@ -72,8 +79,10 @@ returns-clause-value c =
     let found : numbered link_number net.links c.args.number ≡ Some old =
     numbered_here link_number net.links c.args.number p old place
     ∙ ap (λ (x : LinkValue). Some x) (sym c.index_mut-link.ensures.value) in
-    let written : set net.links p c.edit_link.new.link ≡ on_numbered link_number (link_edit c.args.e.now) net.links c.args.number =
-    written_here link_number (link_edit c.args.e.now) net.links c.args.number p old c.edit_link.new.link place c.index_mut-link.ensures.value c.edit_link.ensures.value in
+    let written : set net.links p c.edit_link.new.link
+    ≡ on_numbered link_number (link_edit c.args.e.now) net.links c.args.number =
+    written_here link_number (link_edit c.args.e.now) net.links c.args.number p old c.edit_link.new.link place
+    c.index_mut-link.ensures.value c.edit_link.ensures.value in
     ap (λ (xs : List LinkValue). record net { links = xs }) written
     ∙ link_done net c.args.e.now c.args.number c.requires.names
     ∙ ap (λ (n : Network). with_edit n c.args.e.now) c.self.view_is

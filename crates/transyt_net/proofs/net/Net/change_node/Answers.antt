@@ -49,13 +49,20 @@ invariant_of-self c =
     let found : numbered node_number net.nodes c.args.number ≡ Some old =
     numbered_here node_number net.nodes c.args.number p old place
     ∙ ap (λ (x : NodeValue). Some x) (sym c.index_mut-node.ensures.value) in
-    let written : set net.nodes p c.edit_node.new.node ≡ on_numbered node_number (node_edit c.args.e.now) net.nodes c.args.number =
-    written_here node_number (node_edit c.args.e.now) net.nodes c.args.number p old c.edit_node.new.node place c.index_mut-node.ensures.value c.edit_node.ensures.value in
+    let written : set net.nodes p c.edit_node.new.node
+    ≡ on_numbered node_number (node_edit c.args.e.now) net.nodes c.args.number =
+    written_here node_number (node_edit c.args.e.now) net.nodes c.args.number p old c.edit_node.new.node place
+    c.index_mut-node.ensures.value c.edit_node.ensures.value in
     let valid : IsValid (record net { nodes = set net.nodes p c.edit_node.new.node }) =
     subst (λ (xs : List NodeValue). IsValid (record net { nodes = xs })) (sym written)
-    (subst IsValid (sym (node_done net c.args.e.now c.args.number c.requires.names)) (valid_edit net c.args.e.now c.self.invariant.0 allowed)) in (
+    (subst IsValid (sym (node_done net c.args.e.now c.args.number c.requires.names))
+    (valid_edit net c.args.e.now c.self.invariant.0 allowed)) in (
       valid,
-      (c.self.invariant.1 ∙ sym (keys_kept node_number (node_edit c.args.e.now) (node_numbers_kept c.args.e.now) net.nodes c.args.number) ∙ ap node_numbers (sym written)),
+      (c.self.invariant.1
+          ∙ sym
+          (keys_kept node_number (node_edit c.args.e.now) (node_numbers_kept c.args.e.now) net.nodes
+          c.args.number)
+          ∙ ap node_numbers (sym written)),
       c.self.invariant.2,
     )
 
@@ -72,8 +79,10 @@ returns-clause-value c =
     let found : numbered node_number net.nodes c.args.number ≡ Some old =
     numbered_here node_number net.nodes c.args.number p old place
     ∙ ap (λ (x : NodeValue). Some x) (sym c.index_mut-node.ensures.value) in
-    let written : set net.nodes p c.edit_node.new.node ≡ on_numbered node_number (node_edit c.args.e.now) net.nodes c.args.number =
-    written_here node_number (node_edit c.args.e.now) net.nodes c.args.number p old c.edit_node.new.node place c.index_mut-node.ensures.value c.edit_node.ensures.value in
+    let written : set net.nodes p c.edit_node.new.node
+    ≡ on_numbered node_number (node_edit c.args.e.now) net.nodes c.args.number =
+    written_here node_number (node_edit c.args.e.now) net.nodes c.args.number p old c.edit_node.new.node place
+    c.index_mut-node.ensures.value c.edit_node.ensures.value in
     ap (λ (xs : List NodeValue). record net { nodes = xs }) written
     ∙ node_done net c.args.e.now c.args.number c.requires.names
     ∙ ap (λ (n : Network). with_edit n c.args.e.now) c.self.view_is

@@ -9,5 +9,8 @@ pub returns : goal.returns
 returns c =
     let items : List Stage = c.args.stages.now in
     let rest : List Stage = drop (length items) (replicate 8 no_stage) in
-    ap (λ (front : List Stage). take (length items) (set (front ++ rest) c.args.place (change_to c.args.change (get_or (front ++ rest) c.args.place no_stage)))) c.copy_from_slice.ensures.after
+    ap (λ (front : List Stage). take (length items)
+    (set (front ++ rest) c.args.place
+    (change_to c.args.change (get_or (front ++ rest) c.args.place no_stage))))
+    c.copy_from_slice.ensures.after
     ∙ changed_front items rest c.args.place c.args.change no_stage c.requires.place
