@@ -32,13 +32,29 @@ ranged known fits h =
     (not-false _ once.0, not-false _ twice.0)
 
 -- what a feed's test without a fault tells
-pub fed : (known feeds fits : Bool) → feed_fault known feeds fits ≡ None
+fed : (known feeds fits : Bool) → feed_fault known feeds fits ≡ None
     → (known ≡ true) × (feeds ≡ true) × (fits ≡ true)
 fed known feeds fits h =
     let once = no_fault (not known) Unknown _ h in
     let twice = no_fault (not feeds) NoFeeder _ once.1 in
     let thrice = no_fault (not fits) Range _ twice.1 in
     (not-false _ once.0, not-false _ twice.0, not-false _ thrice.0)
+
+-- what an allowed edit of a flow from a feeder tells
+pub part_allowed : (net : Network) (link feeder flow : ℕ) → edit_fault net (Part link feeder flow) ≡ None
+    → ((is_link net link && is_link net feeder) ≡ true) × (is_fed (feeds_at net.links link) feeder ≡ true)
+    × (nat_le flow 9999 ≡ true)
+part_allowed net link feeder flow none =
+    fed (is_link net link && is_link net feeder) (is_fed (feeds_at net.links link) feeder) (nat_le flow 9999) none
+
+-- what an allowed edit of a cruise time from a feeder tells
+pub cruise_allowed : (net : Network) (link feeder seconds : ℕ)
+    → edit_fault net (Cruise link feeder seconds) ≡ None
+    → ((is_link net link && is_link net feeder) ≡ true) × (is_fed (feeds_at net.links link) feeder ≡ true)
+    × (within 1 300 seconds ≡ true)
+cruise_allowed net link feeder seconds none =
+    let timed = within 1 300 seconds in
+    fed (is_link net link && is_link net feeder) (is_fed (feeds_at net.links link) feeder) timed none
 
 -- a plan without a fault, from its parts and back
 plan_is : (steps : ℕ) (stages : List Stage) → 2 ≤ length stages → order_fault steps stages ≡ None
@@ -169,15 +185,12 @@ valid_edit net (Entry link flow) h none =
       rule = old.rule;
     })
 valid_edit net (Part link feeder flow) h none =
-    let all =
-    fed (is_link net link && is_link net feeder) (is_fed (feeds_at net.links link) feeder) (nat_le flow 9999) none in
+    let all = part_allowed net link feeder flow none in
     link_valid net (set_part feeder flow) (λ l. refl) link h (λ l at old.
     feeds_written (link_numbers net.links) (flow_to flow) (λ f. refl) net.frame.step_count net.nodes feeder l old
     (λ x is. record { feeder = is.feeder; flow = leb-true flow 9999 all.2; cruise = is.cruise }))
 valid_edit net (Cruise link feeder seconds) h none =
-    let all =
-    fed (is_link net link && is_link net feeder) (is_fed (feeds_at net.links link) feeder) (within 1 300 seconds)
-    none in
+    let all = cruise_allowed net link feeder seconds none in
     link_valid net (set_cruise feeder seconds) (λ l. refl) link h (λ l at old.
     feeds_written (link_numbers net.links) (cruise_to seconds) (λ f. refl) net.frame.step_count net.nodes feeder l old
     (λ x is. record { feeder = is.feeder; flow = is.flow; cruise = in_range 1 300 seconds all.2 }))
@@ -241,14 +254,10 @@ link_named net (Entry link flow) k same none =
     subst (λ n. is_link net n ≡ true) same (ranged (is_link net link) (nat_le flow 9999) none).0
 link_named net (Part link feeder flow) k same none =
     subst (λ n. is_link net n ≡ true) same
-    (and_parts (is_link net link) (is_link net feeder)
-    (fed (is_link net link && is_link net feeder) (is_fed (feeds_at net.links link) feeder)
-    (nat_le flow 9999) none).0).0
+    (and_parts (is_link net link) (is_link net feeder) (part_allowed net link feeder flow none).0).0
 link_named net (Cruise link feeder seconds) k same none =
     subst (λ n. is_link net n ≡ true) same
-    (and_parts (is_link net link) (is_link net feeder)
-    (fed (is_link net link && is_link net feeder) (is_fed (feeds_at net.links link) feeder)
-    (within 1 300 seconds) none).0).0
+    (and_parts (is_link net link) (is_link net feeder) (cruise_allowed net link feeder seconds none).0).0
 link_named net (Saturation link flow) k same none =
     subst (λ n. is_link net n ≡ true) same (ranged (is_link net link) (within 100 9999 flow) none).0
 link_named net (Weight link delay stop) k same none =
@@ -276,12 +285,11 @@ link_takes net (Entry link flow) k l same none at = tt
 link_takes net (Part link feeder flow) k l same none at =
     ap (λ o. is_fed (feeds_in o) feeder) (sym at)
     ∙ ap (λ n. is_fed (feeds_at net.links n) feeder) (sym same)
-    ∙ (fed (is_link net link && is_link net feeder) (is_fed (feeds_at net.links link) feeder) (nat_le flow 9999) none).1
+    ∙ (part_allowed net link feeder flow none).1
 link_takes net (Cruise link feeder seconds) k l same none at =
     ap (λ o. is_fed (feeds_in o) feeder) (sym at)
     ∙ ap (λ n. is_fed (feeds_at net.links n) feeder) (sym same)
-    ∙ (fed (is_link net link && is_link net feeder) (is_fed (feeds_at net.links link) feeder) (within 1 300 seconds)
-    none).1
+    ∙ (cruise_allowed net link feeder seconds none).1
 link_takes net (Saturation link flow) k l same none at = tt
 link_takes net (Weight link delay stop) k l same none at = tt
 link_takes net e k l same none at = elim same [ ]

@@ -22,7 +22,7 @@ use Rattle.transyt_net.proofs.PlaceLaws.{keys_kept, keys_kept_at, list_any_map}
 use Rattle.transyt_net.proofs.WriteLaws.{no_fault, in_range}
 use Rattle.transyt_net.proofs.EditLaws.{all_numbered}
 use Rattle.transyt_net.proofs.UndoLaws.{put_back_at}
-use Rattle.transyt_net.proofs.ApplyLaws.{ranged, fed, plan_parts}
+use Rattle.transyt_net.proofs.ApplyLaws.{ranged, part_allowed, cruise_allowed, plan_parts}
 
 -- a number that is there has its element
 some_numbered : {A : Type 0} (key : A → ℕ) (xs : List A) (k : ℕ) → is_among (map key xs) k ≡ true
@@ -166,8 +166,7 @@ back_allowed net (Entry link flow) h none =
     range_none _ _ (still_link net (set_entry flow) (λ l. refl) link link both.0)
     (ap (λ o. nat_le (link_in o).entry 9999) found.1 ∙ le-leb found.0.entry 9999 good.entry)
 back_allowed net (Part link feeder flow) h none =
-    let all =
-    fed (is_link net link && is_link net feeder) (is_fed (feeds_at net.links link) feeder) (nat_le flow 9999) none in
+    let all = part_allowed net link feeder flow none in
     let links = and_parts (is_link net link) (is_link net feeder) all.0 in
     let found = some_numbered link_number net.links link links.0 in
     let there : is_fed found.0.feeds feeder ≡ true = ap (λ o. is_fed (feeds_in o) feeder) (sym found.1) ∙ all.1 in
@@ -181,9 +180,7 @@ back_allowed net (Part link feeder flow) h none =
     (ap (λ o. nat_le (the_feed (link_in o) feeder).flow 9999) found.1
     ∙ le-leb (the_feed found.0 feeder).flow 9999 good.flow)
 back_allowed net (Cruise link feeder seconds) h none =
-    let all =
-    fed (is_link net link && is_link net feeder) (is_fed (feeds_at net.links link) feeder) (within 1 300 seconds)
-    none in
+    let all = cruise_allowed net link feeder seconds none in
     let links = and_parts (is_link net link) (is_link net feeder) all.0 in
     let found = some_numbered link_number net.links link links.0 in
     let there : is_fed found.0.feeds feeder ≡ true = ap (λ o. is_fed (feeds_in o) feeder) (sym found.1) ∙ all.1 in

@@ -3,10 +3,12 @@ use Rattle.std.proofs.Common.{◌≡◌, ℕ, suc, zero, ◌<◌, ◌≤◌, Boo
 use Rattle.std.proofs.Common.{get_or, set, Some, refl, sym, ap, subst, ◌∙◌, arith, nat_eq, All}
 use Rattle.std.proofs.lemmas.List.{set-append_left, take-append-le, length-set}
 use Rattle.std.proofs.lemmas.List.Elements.{All-head, All-tail}
-use Rattle.transyt_net.specs.Valid.{numbered, on_place}
+use Rattle.transyt_net.specs.Valid.{numbered, on_numbered, on_place, IsPlace}
 use Rattle.transyt_parts.specs.declared.node.Stage.{Stage}
-use Rattle.transyt_net.specs.Edits.{change_to}
-use Rattle.transyt_net.proofs.PlaceLaws.{on_place_here}
+use Rattle.transyt_parts.specs.declared.link.Feed.{Feed}
+use Rattle.transyt_parts.specs.Parts.{LinkValue}
+use Rattle.transyt_net.specs.Edits.{change_to, feeder_of, feed_in, the_feed}
+use Rattle.transyt_net.proofs.PlaceLaws.{found_here, on_place_here, written_here}
 
 -- what holds of each element holds of the one of a number
 pub all_numbered : {A : Type 0} (P : A → Type 0) (key : A → ℕ) (xs : List A) (k : ℕ) (y : A) → All P xs
@@ -21,6 +23,21 @@ all_numbered P key (x ∷ xs) k y all at =
         let same : x ≡ y = cc in
         subst P same (All-head P x xs all)
     by false e rest = rest (sym (ap (λ b. cond b (Some x) (numbered key xs k)) e) ∙ at)
+
+-- a link, with the feed at the place of a feeder written
+pub feed_written : {l was : LinkValue} (f : Feed → Feed) (feeder p : ℕ) (old : Feed) → l ≡ was
+    → IsPlace feeder_of l.feeds feeder p → old ≡ get_or l.feeds p old
+    → record l { feeds = set l.feeds p (f old) } ≡ record was { feeds = on_numbered feeder_of f was.feeds feeder }
+feed_written {l} f feeder p old same place read =
+    ap (λ fs. record l { feeds = fs }) (written_here feeder_of f l.feeds feeder p old (f old) place read refl)
+    ∙ ap (λ (m : LinkValue). record m { feeds = on_numbered feeder_of f m.feeds feeder }) same
+
+-- the feed at the place of a feeder is the feeder's
+pub feed_found : {l was : LinkValue} (feeder p : ℕ) (old : Feed) → l ≡ was → IsPlace feeder_of l.feeds feeder p
+    → old ≡ get_or l.feeds p old → old ≡ the_feed was feeder
+feed_found {l} feeder p old same place read =
+    ap feed_in (sym (found_here feeder_of l.feeds feeder p old place read))
+    ∙ ap (λ (m : LinkValue). the_feed m feeder) same
 
 get_front : {A : Type 0} (xs ys : List A) (p : ℕ) (d : A) → p < length xs → get_or (xs ++ ys) p d ≡ get_or xs p d
 get_front [] ys p d h = absurd (omega arith)

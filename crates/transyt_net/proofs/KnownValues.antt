@@ -3,6 +3,7 @@ use Rattle.std.proofs.Common.{◌≡◌, refl}
 use Rattle.transyt_parts.specs.declared.frame.Frame.{Frame}
 use Rattle.transyt_net.specs.Flow.{perstep}
 
+-- a cycle of 60 seconds in ten steps
 abbrev frame : Frame
 frame = record { cycle = 60; step_count = 10; sweeps = 1; period = 60; stop_penalty = 100; dispersion = 35 }
 
@@ -14,8 +15,10 @@ one_an_hour = refl
 six_a_cycle : perstep frame 360 ≡ 600000
 six_a_cycle = refl
 
+-- the longest steps: a cycle of 240 seconds in ten
+abbrev longest : Frame
+longest = record { cycle = 240; step_count = 10; sweeps = 1; period = 60; stop_penalty = 0; dispersion = 0 }
+
 -- the greatest flow in the longest steps
-greatest : perstep (record { cycle = 240; step_count = 10; sweeps = 1; period = 60; stop_penalty = 0; dispersion = 0 })
-    100000
-    ≡ 666666666
+greatest : perstep longest 100000 ≡ 666666666
 greatest = refl

@@ -61,6 +61,11 @@ numbered_here key (x ∷ xs) k (suc p) d h =
     ap (λ b. cond b (Some x) (numbered key xs k)) (h.first d 0 (omega arith))
     ∙ numbered_here key xs k p d (place_tail key x xs k p h)
 
+-- so it is what was read there
+pub found_here : {A : Type 0} (key : A → ℕ) (xs : List A) (k p : ℕ) (x : A) → IsPlace key xs k p
+    → x ≡ get_or xs p x → numbered key xs k ≡ Some x
+found_here key xs k p x place read = numbered_here key xs k p x place ∙ ap (λ y. Some y) (sym read)
+
 -- a write by number is a write at the place of the number
 pub on_numbered_here : {A : Type 0} (key : A → ℕ) (f : A → A) (xs : List A) (k p : ℕ) (d : A) → IsPlace key xs k p
     → on_numbered key f xs k ≡ set xs p (f (get_or xs p d))
@@ -121,17 +126,18 @@ length_kept_at key f same xs p =
 pub all_on_numbered : {A : Type 0} (P : A → Type 0) (key : A → ℕ) (f : A → A) (xs : List A) (k : ℕ)
     → ((x : A) → numbered key xs k ≡ Some x → P x → P (f x)) → All P xs → All P (on_numbered key f xs k)
 all_on_numbered P key f [] k h all = All-nil P
-all_on_numbered P key f (x ∷ xs) k h all =
-    by (nat_eq k (key x)) refl
-    (λ none. all_on_numbered P key f xs k
-    (λ y at good. h y (ap (λ b. cond b (Some x) (numbered key xs k)) none ∙ at) good)
-    (All-tail P x xs all))
+all_on_numbered {A} P key f (x ∷ xs) k h all =
+    by (nat_eq k (key x)) refl (λ none. all_on_numbered P key f xs k (later none) (All-tail P x xs all))
   where
+    later : nat_eq k (key x) ≡ false → (y : A) → numbered key xs k ≡ Some y → P y → P (f y)
+    later none y at good = h y (ap (λ b. cond b (Some x) (numbered key xs k)) none ∙ at) good
+
     by : (b : Bool) → nat_eq k (key x) ≡ b → (nat_eq k (key x) ≡ false → All P (on_numbered key f xs k))
         → All P (if nat_eq k (key x) then f x ∷ xs else x ∷ on_numbered key f xs k)
-    by true e rest = subst (λ b. All P (cond b (f x ∷ xs) (x ∷ on_numbered key f xs k))) (sym e)
-        (All-cons P (f x) xs (h x (ap (λ b. cond b (Some x) (numbered key xs k)) e) (All-head P x xs all))
-        (All-tail P x xs all))
+    by true e rest =
+        let found : numbered key (x ∷ xs) k ≡ Some x = ap (λ b. cond b (Some x) (numbered key xs k)) e in
+        subst (λ b. All P (cond b (f x ∷ xs) (x ∷ on_numbered key f xs k))) (sym e)
+        (All-cons P (f x) xs (h x found (All-head P x xs all)) (All-tail P x xs all))
     by false e rest = subst (λ b. All P (cond b (f x ∷ xs) (x ∷ on_numbered key f xs k))) (sym e)
         (All-cons P x (on_numbered key f xs k) (All-head P x xs all) (rest e))
 

@@ -41,15 +41,16 @@ sound_node net number offset h none =
     let below = ltb-true offset steps range.1 in
     let few : length net.nodes < 200 = grind (arith, nat_tests) in
     let longer = length-append net.nodes (new ∷ []) in
-    let among : (k : ℕ) → is_among (node_numbers net.nodes) k ≡ true
-    → is_among (node_numbers (net.nodes ++ new ∷ [])) k ≡ true =
-    λ k a. subst (λ ks. is_among ks k ≡ true) (sym (map-append node_number net.nodes (new ∷ [])))
-    (among_more (node_numbers net.nodes) (number ∷ []) k a) in
+    let after = net.nodes ++ new ∷ [] in
+    let keys : node_numbers after ≡ node_numbers net.nodes ++ number ∷ [] =
+    map-append node_number net.nodes (new ∷ []) in
+    let among : (k : ℕ) → is_among (node_numbers net.nodes) k ≡ true → is_among (node_numbers after) k ≡ true =
+    λ k a. subst (λ ks. is_among ks k ≡ true) (sym keys) (among_more (node_numbers net.nodes) (number ∷ []) k a) in
     record {
       frame = h.frame;
       node_count = omega arith;
       nodes_differ =
-          subst (λ ks. all_differ ks ≡ true) (sym (map-append node_number net.nodes (new ∷ [])))
+          subst (λ ks. all_differ ks ≡ true) (sym keys)
           (all_differ-push (node_numbers net.nodes) number h.nodes_differ once.0);
       nodes =
           All-push (IsNode steps) net.nodes new h.nodes
@@ -61,9 +62,8 @@ sound_node net number offset h none =
           });
       link_count = h.link_count;
       links_differ = h.links_differ;
-      links = All-weaker _ (IsLink steps (net.nodes ++ new ∷ []) (link_numbers net.links))
-          (λ l. link_with_more_nodes steps net.nodes (net.nodes ++ new ∷ []) (link_numbers net.links) among
-          (stages_more net.nodes new) l)
+      links = All-weaker _ (IsLink steps after (link_numbers net.links))
+          (λ l. link_with_more_nodes steps net.nodes after (link_numbers net.links) among (stages_more net.nodes new) l)
           net.links h.links;
       plan = h.plan;
     }
@@ -90,8 +90,11 @@ sound_stage net s h none =
     let p = last_place net.nodes in
     let ranged = no_fault (not (stage_in_range steps s)) Range _ none in
     let room = no_fault (nat_le 8 (stage_total (slice_get net.nodes p))) TooMany _ ranged.1 in
-    let numbers : node_numbers (on_place (add_stage s) net.nodes p) ≡ node_numbers net.nodes =
+    let after = on_place (add_stage s) net.nodes p in
+    let numbers : node_numbers after ≡ node_numbers net.nodes =
     keys_kept_at node_number (add_stage s) (λ x. refl) net.nodes p in
+    let among : (k : ℕ) → is_among (node_numbers net.nodes) k ≡ true → is_among (node_numbers after) k ≡ true =
+    λ k a. subst (λ ks. is_among ks k ≡ true) (sym numbers) a in
     let len = length_kept_at node_number (add_stage s) (λ x. refl) net.nodes p in
     record {
       frame = h.frame;
@@ -111,10 +114,10 @@ sound_stage net s h none =
           h.nodes;
       link_count = h.link_count;
       links_differ = h.links_differ;
-      links = All-weaker _ (IsLink steps (on_place (add_stage s) net.nodes p) (link_numbers net.links))
-          (λ l. link_with_more_nodes steps net.nodes (on_place (add_stage s) net.nodes p) (link_numbers net.links)
-          (λ k a. subst (λ ks. is_among ks k ≡ true) (sym numbers) a) (λ k. stages_more_at net.nodes s p k)
-          l) net.links h.links;
+      links = All-weaker _ (IsLink steps after (link_numbers net.links))
+          (λ l. link_with_more_nodes steps net.nodes after (link_numbers net.links) among
+          (λ k. stages_more_at net.nodes s p k) l)
+          net.links h.links;
       plan = h.plan;
     }
 
@@ -122,8 +125,9 @@ sound_stage net s h none =
 pub new_link_number : (net : Network) (l : LinkValue) → link_fault net l ≡ None
     → is_among (link_numbers net.links) l.number ≡ false
 new_link_number net l none =
-    (or_parts (is_among (link_numbers net.links) l.number) (not (all_differ l.stages))
-    (no_fault (is_among (link_numbers net.links) l.number || not (all_differ l.stages)) Twice _ none).0).0
+    let known = is_among (link_numbers net.links) l.number in
+    let twice = not (all_differ l.stages) in
+    (or_parts known twice (no_fault (known || twice) Twice _ none).0).0
 
 -- a draft with a new link is sound
 pub sound_link : (net : Network) (l : LinkValue) → IsSound net → (1 ≤ length l.stages) × (length l.stages ≤ 8)
@@ -139,32 +143,26 @@ sound_link net l h count no_feeds no_rule none =
     let room = no_fault (nat_le 1000 (length net.links)) TooMany _ ranged.1 in
     let apart = or_parts (is_among numbers l.number) (not (all_differ l.stages)) once.0 in
     let names = and_parts known runs (not-false _ unknown.0) in
-    let r6 =
-    and_parts
-    (within 1 99999 l.number && nat_le l.entry 9999 && within 100 9999 l.saturation && nat_le l.delay_weight 999
-    && nat_le l.stop_weight 999 && nat_lt l.start_lag steps)
-    (nat_lt l.end_lag steps) (not-false _ ranged.0) in
-    let r5 =
-    and_parts
-    (within 1 99999 l.number && nat_le l.entry 9999 && within 100 9999 l.saturation && nat_le l.delay_weight 999
-    && nat_le l.stop_weight 999)
-    (nat_lt l.start_lag steps) r6.0 in
-    let r4 =
-    and_parts
-    (within 1 99999 l.number && nat_le l.entry 9999 && within 100 9999 l.saturation && nat_le l.delay_weight 999)
-    (nat_le l.stop_weight 999) r5.0 in
-    let r3 =
-    and_parts (within 1 99999 l.number && nat_le l.entry 9999 && within 100 9999 l.saturation)
-    (nat_le l.delay_weight 999) r4.0 in
-    let r2 = and_parts (within 1 99999 l.number && nat_le l.entry 9999) (within 100 9999 l.saturation) r3.0 in
-    let r1 = and_parts (within 1 99999 l.number) (nat_le l.entry 9999) r2.0 in
+    let n = within 1 99999 l.number in
+    let e = nat_le l.entry 9999 in
+    let v = within 100 9999 l.saturation in
+    let d = nat_le l.delay_weight 999 in
+    let w = nat_le l.stop_weight 999 in
+    let b = nat_lt l.start_lag steps in
+    let r6 = and_parts (n && e && v && d && w && b) (nat_lt l.end_lag steps) (not-false _ ranged.0) in
+    let r5 = and_parts (n && e && v && d && w) b r6.0 in
+    let r4 = and_parts (n && e && v && d) w r5.0 in
+    let r3 = and_parts (n && e && v) d r4.0 in
+    let r2 = and_parts (n && e) v r3.0 in
+    let r1 = and_parts n e r2.0 in
     let few = leb-false 1000 (length net.links) room.0 in
     let longer = length-append net.links (l ∷ []) in
-    let keys : link_numbers (net.links ++ l ∷ []) ≡ numbers ++ l.number ∷ [] =
+    let after = link_numbers (net.links ++ l ∷ []) in
+    let keys : after ≡ numbers ++ l.number ∷ [] =
     map-append link_number net.links (l ∷ []) in
-    let among : (k : ℕ) → is_among numbers k ≡ true → is_among (link_numbers (net.links ++ l ∷ [])) k ≡ true =
+    let among : (k : ℕ) → is_among numbers k ≡ true → is_among after k ≡ true =
     λ k a. subst (λ ks. is_among ks k ≡ true) (sym keys) (among_more numbers (l.number ∷ []) k a) in
-    let new : IsLink steps net.nodes (link_numbers (net.links ++ l ∷ [])) l = record {
+    let new : IsLink steps net.nodes after l = record {
       number = in_range 1 99999 l.number r1.0;
       node = names.0;
       entry = leb-true l.entry 9999 r1.1;
@@ -179,9 +177,8 @@ sound_link net l h count no_feeds no_rule none =
       feed_count = subst (λ fs. length fs ≤ 8) (sym no_feeds) (omega arith);
       feeders_differ = subst (λ fs. all_differ (feeders fs) ≡ true) (sym no_feeds) refl;
       feeds =
-          subst (λ fs. All (IsFeed (link_numbers (net.links ++ l ∷ []))) fs) (sym no_feeds)
-          (All-nil (IsFeed (link_numbers (net.links ++ l ∷ []))));
-      rule = subst (λ o. IfSome o (IsRule (link_numbers (net.links ++ l ∷ [])))) (sym no_rule) tt;
+          subst (λ fs. All (IsFeed after) fs) (sym no_feeds) (All-nil (IsFeed after));
+      rule = subst (λ o. IfSome o (IsRule after)) (sym no_rule) tt;
     } in
     record {
       frame = h.frame;
@@ -191,10 +188,9 @@ sound_link net l h count no_feeds no_rule none =
       link_count = omega arith;
       links_differ =
           subst (λ ks. all_differ ks ≡ true) (sym keys) (all_differ-push numbers l.number h.links_differ apart.0);
-      links = All-push (IsLink steps net.nodes (link_numbers (net.links ++ l ∷ []))) net.links l
-          (All-weaker _ (IsLink steps net.nodes (link_numbers (net.links ++ l ∷ [])))
-          (λ x. link_with_more_numbers steps net.nodes numbers (link_numbers (net.links ++ l ∷ [])) among x) net.links
-          h.links)
+      links = All-push (IsLink steps net.nodes after) net.links l
+          (All-weaker _ (IsLink steps net.nodes after)
+          (λ x. link_with_more_numbers steps net.nodes numbers after among x) net.links h.links)
           new;
       plan = h.plan;
     }
@@ -203,15 +199,14 @@ sound_link net l h count no_feeds no_rule none =
 pub sound_feed : (net : Network) (link : ℕ) (f : Feed) → IsSound net → feed_fault net link f ≡ None
     → IsSound (with_feed net link f)
 sound_feed net link f h none =
+    let numbers = link_numbers net.links in
     let once = no_fault (is_fed (feeds_at net.links link) f.feeder) Twice _ none in
     let unknown = no_fault (not (are_links net link f.feeder)) Unknown _ once.1 in
     let ranged = no_fault (not (feed_in_range f)) Range _ unknown.1 in
     let room = no_fault (nat_le 8 (length (feeds_at net.links link))) TooMany _ ranged.1 in
-    let both =
-    and_parts (is_among (link_numbers net.links) link) (is_among (link_numbers net.links) f.feeder)
-    (not-false _ unknown.0) in
+    let both = and_parts (is_among numbers link) (is_among numbers f.feeder) (not-false _ unknown.0) in
     let range = and_parts (nat_le f.flow 9999) (within 1 300 f.cruise) (not-false _ ranged.0) in
-    let good : IsFeed (link_numbers net.links) f =
+    let good : IsFeed numbers f =
     record { feeder = both.1; flow = leb-true f.flow 9999 range.0; cruise = in_range 1 300 f.cruise range.1 } in
     links_written net (add_feed f) (λ l. refl) link h (λ l at old.
     let few = leb-false 8 (length l.feeds) (ap (λ o. nat_le 8 (length (feeds_in o))) (sym at) ∙ room.0) in
@@ -236,7 +231,7 @@ sound_feed net link f h none =
       feeders_differ =
           subst (λ ks. all_differ ks ≡ true) (sym (map-append (λ x. x.feeder) l.feeds (f ∷ [])))
           (all_differ-push (feeders l.feeds) f.feeder old.feeders_differ absent);
-      feeds = All-push (IsFeed (link_numbers net.links)) l.feeds f old.feeds good;
+      feeds = All-push (IsFeed numbers) l.feeds f old.feeds good;
       rule = old.rule;
     })
 
@@ -244,13 +239,12 @@ sound_feed net link f h none =
 pub sound_rule : (net : Network) (link : ℕ) (r : GiveWay) → IsSound net → rule_fault net link r ≡ None
     → IsSound (with_rule net link r)
 sound_rule net link r h none =
+    let numbers = link_numbers net.links in
     let once = no_fault (is_some (rule_at net.links link)) Twice _ none in
     let unknown = no_fault (not (are_links net link r.other)) Unknown _ once.1 in
     let ranged = no_fault (not (nat_le r.percent 400)) Range _ unknown.1 in
-    let both =
-    and_parts (is_among (link_numbers net.links) link) (is_among (link_numbers net.links) r.other)
-    (not-false _ unknown.0) in
-    let good : IsRule (link_numbers net.links) r =
+    let both = and_parts (is_among numbers link) (is_among numbers r.other) (not-false _ unknown.0) in
+    let good : IsRule numbers r =
     record { other = both.1; percent = leb-true r.percent 400 (not-false _ ranged.0) } in
     links_written net (set_rule r) (λ l. refl) link h (λ l at old. record {
       number = old.number;

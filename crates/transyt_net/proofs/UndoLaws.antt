@@ -63,8 +63,7 @@ put_back_at (s ∷ ss) (suc p) change = ap (λ xs. s ∷ xs) (put_back_at ss p c
 node_back_is : (net : Network) (node : ℕ) (f : NodeValue → NodeValue) (g : NodeValue → NodeValue → NodeValue)
     (same : (n : NodeValue) → (f n).number ≡ n.number) (back : (n : NodeValue) → g n (f n) ≡ n)
     → on_numbered node_number (g (node_in (numbered node_number net.nodes node)))
-    (on_numbered node_number f net.nodes node) node
-    ≡ net.nodes
+    (on_numbered node_number f net.nodes node) node ≡ net.nodes
 node_back_is net node f g same back =
     put_back node_number f (g (node_in (numbered node_number net.nodes node))) same net.nodes node
     (λ n at. ap (λ o. g (node_in o) (f n)) at ∙ back n)
@@ -72,8 +71,7 @@ node_back_is net node f g same back =
 link_back_is : (net : Network) (link : ℕ) (f : LinkValue → LinkValue) (g : LinkValue → LinkValue → LinkValue)
     (same : (l : LinkValue) → (f l).number ≡ l.number) (back : (l : LinkValue) → g l (f l) ≡ l)
     → on_numbered link_number (g (link_in (numbered link_number net.links link)))
-    (on_numbered link_number f net.links link) link
-    ≡ net.links
+    (on_numbered link_number f net.links link) link ≡ net.links
 link_back_is net link f g same back =
     put_back link_number f (g (link_in (numbered link_number net.links link))) same net.links link
     (λ l at. ap (λ o. g (link_in o) (f l)) at ∙ back l)

@@ -26,6 +26,7 @@ pub in_range : (low high n : ℕ) → within low high n ≡ true → (low ≤ n)
 in_range low high n h =
     let parts = and_parts (nat_le low n) (nat_le n high) h in (leb-true low n parts.0, leb-true n high parts.1)
 
+-- the same of each of a list
 pub all_in_range : (low high : ℕ) (xs : List ℕ) → list_all (within low high) xs ≡ true
     → All (λ k. (low ≤ k) × (k ≤ high)) xs
 all_in_range low high [] h = All-nil (λ k. (low ≤ k) × (k ≤ high))
@@ -37,25 +38,29 @@ all_in_range low high (x ∷ xs) h =
 pub stages_more : (nodes : List NodeValue) (n : NodeValue) (k : ℕ) → stages_at nodes k ≤ stages_at (nodes ++ n ∷ []) k
 stages_more [] n k = omega arith
 stages_more (x ∷ xs) n k =
-    (elim (nat_eq k x.number) as (λ b. stage_total (cond b (Some x) (numbered node_number xs k))
-    ≤ stage_total (cond b (Some x) (numbered node_number (xs ++ n ∷ []) k))) [
+    let rest = numbered node_number xs k in
+    let more = numbered node_number (xs ++ n ∷ []) k in
+    (elim (nat_eq k x.number) as (λ b. stage_total (cond b (Some x) rest) ≤ stage_total (cond b (Some x) more)) [
       | true ↦ omega arith
       | false ↦ stages_more xs n k
     ])
 
+-- and so does a new stage
 pub stages_more_at : (nodes : List NodeValue) (s : Stage) (p k : ℕ)
     → stages_at nodes k ≤ stages_at (on_place (add_stage s) nodes p) k
 stages_more_at [] s p k = omega arith
 stages_more_at (x ∷ xs) s zero k =
     let longer = length-append x.stages (s ∷ []) in
-    (elim (nat_eq k x.number) as (λ b. stage_total (cond b (Some x) (numbered node_number xs k))
-    ≤ stage_total (cond b (Some (add_stage s x)) (numbered node_number xs k))) [
+    let rest = numbered node_number xs k in
+    let y = add_stage s x in
+    (elim (nat_eq k x.number) as (λ b. stage_total (cond b (Some x) rest) ≤ stage_total (cond b (Some y) rest)) [
       | true ↦ omega arith
       | false ↦ omega arith
     ])
 stages_more_at (x ∷ xs) s (suc p) k =
-    (elim (nat_eq k x.number) as (λ b. stage_total (cond b (Some x) (numbered node_number xs k))
-    ≤ stage_total (cond b (Some x) (numbered node_number (on_place (add_stage s) xs p) k))) [
+    let rest = numbered node_number xs k in
+    let more = numbered node_number (on_place (add_stage s) xs p) k in
+    (elim (nat_eq k x.number) as (λ b. stage_total (cond b (Some x) rest) ≤ stage_total (cond b (Some x) more)) [
       | true ↦ omega arith
       | false ↦ stages_more_at xs s p k
     ])
@@ -122,7 +127,9 @@ pub links_written : (net : Network) (f : LinkValue → LinkValue) (same : (l : L
     → IsLink net.frame.step_count net.nodes (link_numbers net.links) (f l))
     → IsSound (record net { links = on_numbered link_number f net.links link })
 links_written net f same link h keeps =
-    let numbers : link_numbers (on_numbered link_number f net.links link) ≡ link_numbers net.links =
+    let steps = net.frame.step_count in
+    let after = on_numbered link_number f net.links link in
+    let numbers : link_numbers after ≡ link_numbers net.links =
     keys_kept link_number f same net.links link in
     let len = length_kept link_number f same net.links link in
     record {
@@ -133,10 +140,9 @@ links_written net f same link h keeps =
       link_count = omega arith;
       links_differ = subst (λ ks. all_differ ks ≡ true) (sym numbers) h.links_differ;
       links =
-          subst (λ ks. All (IsLink net.frame.step_count net.nodes ks) (on_numbered link_number f net.links link))
-          (sym numbers)
-          (all_on_numbered (IsLink net.frame.step_count net.nodes (link_numbers net.links)) link_number f net.links
-          link keeps h.links);
+          subst (λ ks. All (IsLink steps net.nodes ks) after) (sym numbers)
+          (all_on_numbered (IsLink steps net.nodes (link_numbers net.links)) link_number f net.links link
+          keeps h.links);
       plan = h.plan;
     }
 
@@ -162,7 +168,8 @@ nodes_written net f same count node h keeps =
       links = All-weaker _ (IsLink steps after (link_numbers net.links))
           (λ l. link_with_more_nodes steps net.nodes after (link_numbers net.links)
           (λ k a. subst (λ ks. is_among ks k ≡ true) (sym numbers) a)
-          (λ k. stages_as_many net.nodes f same count node k) l) net.links h.links;
+          (λ k. stages_as_many net.nodes f same count node k) l)
+          net.links h.links;
       plan = h.plan;
     }
   where
@@ -173,26 +180,22 @@ nodes_written net f same count node h keeps =
     stages_as_many [] f same count node k = omega arith
     stages_as_many (x ∷ xs) f same count node k =
         let longer = count x in
-        let rest = stages_as_many xs f same count node k in
-        let here : stage_total (numbered node_number (x ∷ xs) k) ≤ stage_total (numbered node_number (f x ∷ xs) k) =
-        subst (λ m. stage_total (numbered node_number (x ∷ xs) k)
-        ≤ stage_total (if nat_eq k m then Some (f x) else numbered node_number xs k))
-        (sym (same x))
-        (elim (nat_eq k x.number) as (λ b. stage_total (cond b (Some x) (numbered node_number xs k))
-        ≤ stage_total (cond b (Some (f x)) (numbered node_number xs k))) [
+        let y = f x in
+        let after = on_numbered node_number f xs node in
+        let rest = numbered node_number xs k in
+        let more = numbered node_number after k in
+        let here : stages_at (x ∷ xs) k ≤ stages_at (y ∷ xs) k =
+        subst (λ m. stages_at (x ∷ xs) k ≤ stage_total (if nat_eq k m then Some y else rest)) (sym (same x))
+        (elim (nat_eq k x.number) as (λ b. stage_total (cond b (Some x) rest) ≤ stage_total (cond b (Some y) rest)) [
           | true ↦ omega arith
           | false ↦ omega arith
         ]) in
-        let there : stage_total (numbered node_number (x ∷ xs) k)
-        ≤ stage_total (numbered node_number (x ∷ on_numbered node_number f xs node) k) =
-        (elim (nat_eq k x.number) as (λ b. stage_total (cond b (Some x) (numbered node_number xs k))
-        ≤ stage_total (cond b (Some x) (numbered node_number (on_numbered node_number f xs node) k))) [
+        let there : stages_at (x ∷ xs) k ≤ stages_at (x ∷ after) k =
+        (elim (nat_eq k x.number) as (λ b. stage_total (cond b (Some x) rest) ≤ stage_total (cond b (Some x) more)) [
           | true ↦ omega arith
-          | false ↦ rest
+          | false ↦ stages_as_many xs f same count node k
         ]) in
-        (elim (nat_eq node x.number) as (λ b. stage_total (numbered node_number (x ∷ xs) k)
-        ≤ stage_total
-        (numbered node_number (cond b (f x ∷ xs) (x ∷ on_numbered node_number f xs node)) k)) [
+        (elim (nat_eq node x.number) as (λ b. stages_at (x ∷ xs) k ≤ stages_at (cond b (y ∷ xs) (x ∷ after)) k) [
           | true ↦ here
           | false ↦ there
         ])

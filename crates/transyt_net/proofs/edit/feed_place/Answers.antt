@@ -1,9 +1,11 @@
+-- A feeder that feeds the link is found before the feeds end.
 use Rattle.std.proofs.Common.{◌≡◌, ◌<◌, false, nat_eq, arith}
 use Rattle.std.proofs.lemmas.Bool.{both_ways}
 use Rattle.std.proofs.lemmas.List.Folds.{list_any_none}
 use Rattle.transyt_parts.specs.Valid.{is_fed}
 use Rattle.transyt_net.proofs.edit.feed_place.Goals as goal
 
+-- else no feed would have the feeder
 pub unreachable-requires : goal.unreachable-requires
 unreachable-requires c =
     let none : is_fed c.args.feeds.now c.args.feeder ≡ false =

@@ -1,3 +1,4 @@
+-- No feed before the place has the feeder.
 use Rattle.std.proofs.Common.{◌≡◌, ◌<◌, ℕ, false, nat_eq, get_or}
 use Rattle.transyt_parts.specs.declared.link.Feed.{Feed}
 use Rattle.transyt_net.proofs.edit.feed_place.Given as goal

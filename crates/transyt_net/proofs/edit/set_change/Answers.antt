@@ -1,3 +1,4 @@
+-- The stage is written at its place.
 use Rattle.std.proofs.Common.{rules, ◌≡◌, ◌<◌, ◌-◌, ℕ, List, set, ap, sym, ◌∙◌, length}
 use Rattle.transyt_parts.specs.declared.node.Stage.{Stage}
 use Rattle.transyt_parts.specs.Parts.{NodeValue}
@@ -6,6 +7,7 @@ use Rattle.transyt_net.specs.Edits.{set_change, change_to}
 use Rattle.transyt_net.proofs.PlaceLaws.{on_place_here}
 use Rattle.transyt_net.proofs.edit.set_change.Goals as goal
 
+-- the change of the stage is set
 pub returns-clause-value : goal.returns-clause-value
 returns-clause-value c =
     let items : List Stage = c.node.inside.stages.items in

@@ -1,3 +1,4 @@
+-- The draft with the new feed is sound, and has no new number.
 use Rattle.std.proofs.Common.{rules, ◌≡◌, ℕ, List, Some, None, refl, sym, ap, ◌∙◌, subst, set}
 use Rattle.transyt_parts.specs.declared.link.Feed.{Feed}
 use Rattle.transyt_parts.specs.Parts.{LinkValue}
@@ -19,10 +20,11 @@ written c =
     let p : ℕ = c.in-Some-get_index_of.place in
     let old : LinkValue = c.index_mut-owner.result.now in
     let at : place_of (link_numbers items) c.args.link ≡ Some p = search rules in
-    written_here link_number (add_feed (new_feed c.args.feeder c.args.flow c.args.cruise)) items c.args.link p old
-    c.add_feed.new.link
+    let asked : Feed = new_feed c.args.feeder c.args.flow c.args.cruise in
+    written_here link_number (add_feed asked) items c.args.link p old c.add_feed.new.link
     (place_is link_number items c.args.link p at) c.index_mut-owner.ensures.value c.in_ok-add_feed.ensures.ok
 
+-- the new feed keeps the draft sound
 pub invariant_of-self-2 : goal.invariant_of-self-2
 invariant_of-self-2 c =
     let net : Network = network_of c.self.inside.frame c.self.inside.nodes.items
@@ -38,6 +40,7 @@ invariant_of-self-2 c =
           ∙ ap link_numbers (sym (written c)),
     )
 
+-- the network with the feed
 pub returns-clause-ok : goal.returns-clause-ok
 returns-clause-ok c =
     let net : Network = network_of c.self.inside.frame c.self.inside.nodes.items

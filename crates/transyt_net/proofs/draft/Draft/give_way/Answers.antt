@@ -1,3 +1,4 @@
+-- The draft with the new give-way rule is sound, and has no new number.
 use Rattle.std.proofs.Common.{rules, ◌≡◌, ℕ, List, Some, None, refl, sym, ap, ◌∙◌, subst, set}
 use Rattle.transyt_parts.specs.declared.link.GiveWay.{GiveWay}
 use Rattle.transyt_parts.specs.Parts.{LinkValue}
@@ -18,10 +19,11 @@ written c =
     let p : ℕ = c.in-Some-get_index_of.place in
     let old : LinkValue = c.index_mut-owner.result.now in
     let at : place_of (link_numbers items) c.args.link ≡ Some p = search rules in
-    written_here link_number (set_rule (new_rule c.args.other c.args.percent)) items c.args.link p old
-    c.set_rule.new.link
+    let asked : GiveWay = new_rule c.args.other c.args.percent in
+    written_here link_number (set_rule asked) items c.args.link p old c.set_rule.new.link
     (place_is link_number items c.args.link p at) c.index_mut-owner.ensures.value c.set_rule.ensures
 
+-- the new rule keeps the draft sound
 pub invariant_of-self : goal.invariant_of-self
 invariant_of-self c =
     let net : Network = network_of c.self.inside.frame c.self.inside.nodes.items
@@ -37,6 +39,7 @@ invariant_of-self c =
           ∙ ap link_numbers (sym (written c)),
     )
 
+-- the network with the rule
 pub returns-clause-ok : goal.returns-clause-ok
 returns-clause-ok c =
     let net : Network = network_of c.self.inside.frame c.self.inside.nodes.items

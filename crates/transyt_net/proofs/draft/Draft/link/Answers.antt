@@ -1,7 +1,8 @@
+-- The draft with the new link is sound, and has its number.
 use Rattle.std.proofs.Common.{rules, ◌≡◌, List, ◌++◌, ◌∷◌, [], None, refl, sym, ap, ◌∙◌, subst}
 use Rattle.std.proofs.lemmas.List.{map-append}
 use Rattle.transyt_parts.specs.Parts.{LinkValue}
-use Rattle.transyt_net.specs.Parts.{Network}
+use Rattle.transyt_net.specs.Parts.{Network, network_of}
 use Rattle.transyt_net.specs.Valid.{IsSound, link_numbers}
 use Rattle.transyt_parts.specs.Valid.{link_number}
 use Rattle.transyt_net.specs.Faults.{link_fault, with_link}
@@ -9,16 +10,12 @@ use Rattle.transyt_parts.specs.Made.{new_link}
 use Rattle.transyt_net.proofs.SoundLaws.{sound_link}
 use Rattle.transyt_net.proofs.draft.Draft.link.Goals as goal
 
+-- the new link keeps the draft sound
 pub invariant_of-self-2 : goal.invariant_of-self-2
 invariant_of-self-2 c =
     let a = c.args in
     let net : Network =
-    record {
-      frame = c.self.inside.frame;
-      nodes = c.self.inside.nodes.items;
-      links = c.self.inside.links.items;
-      plan = c.self.inside.plan;
-    } in
+    network_of c.self.inside.frame c.self.inside.nodes.items c.self.inside.links.items c.self.inside.plan in
     let link : LinkValue =
     new_link a.number a.node a.entry a.saturation a.delay_weight a.stop_weight a.start_lag a.end_lag a.stages.now in
     let none : link_fault net link ≡ None = search rules in

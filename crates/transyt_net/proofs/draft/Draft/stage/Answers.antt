@@ -1,3 +1,4 @@
+-- The draft with the new stage of its last node is sound, and has no new number.
 use Rattle.std.proofs.Common.{rules, ◌≡◌, ℕ, List, ◌<◌, ◌-◌, None, refl, sym, ap, ◌∙◌, subst, length, set, get_or}
 use Rattle.transyt_parts.specs.declared.node.Stage.{Stage}
 use Rattle.transyt_parts.specs.Parts.{NodeValue}
@@ -26,6 +27,7 @@ written c =
     ∙ ap (add_stage stage) (c.index_mut-node.ensures.value ∙ ap (λ (p : ℕ). get_or items p old) place) in
     (λ j. set items (place j) (node j)) ∙ sym (on_place_here (add_stage stage) items last old inside)
 
+-- the new stage keeps the draft sound
 pub invariant_of-self-2 : goal.invariant_of-self-2
 invariant_of-self-2 c =
     let net : Network = network_of c.self.inside.frame c.self.inside.nodes.items
@@ -41,6 +43,7 @@ invariant_of-self-2 c =
       c.self.invariant.2,
     )
 
+-- the network with the stage
 pub returns-clause-ok : goal.returns-clause-ok
 returns-clause-ok c =
     let net : Network = network_of c.self.inside.frame c.self.inside.nodes.items
@@ -49,6 +52,7 @@ returns-clause-ok c =
     ap (λ (ns : List NodeValue). record net { nodes = ns }) (written c)
     ∙ ap (λ (n : Network). with_stage n stage) c.self.view_is
 
+-- no node is added
 pub returns-clause-count : goal.returns-clause-count
 returns-clause-count c =
     let nodes : List NodeValue = c.args.self.now.nodes in

@@ -1,3 +1,4 @@
+-- The climb plan stays as it was.
 use Rattle.std.proofs.Common.{◌≡◌}
 use Rattle.transyt_net.proofs.tests.draft.add_feeds.Given as goal
 

@@ -1,3 +1,4 @@
+-- There is a node for the stages, and the climb plan stays as it was.
 use Rattle.std.proofs.Common.{◌≡◌, ◌<◌, length}
 use Rattle.transyt_net.proofs.tests.draft.add_stages.Given as goal
 
