@@ -1,5 +1,5 @@
 -- The feed at the place of its feeder is the one that is written, and the one whose time is given back.
-use Rattle.std.proofs.Common.{rules, ◌≡◌, ℕ, ap}
+use Rattle.std.proofs.Common.{rules, ℕ, ap}
 use Rattle.transyt_parts.specs.declared.link.Feed.{Feed}
 use Rattle.transyt_net.specs.Valid.{IsPlace}
 use Rattle.transyt_net.specs.Edits.{cruise_to, feeder_of}
