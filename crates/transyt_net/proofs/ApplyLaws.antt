@@ -22,7 +22,7 @@ use Rattle.transyt_net.specs.EditFaults.{edit_fault, range_fault, feed_fault, or
 use Rattle.transyt_net.specs.Named.{NamesNode, NamesLink, NodeTakes, LinkTakes, node_edit, link_edit, node_back}
 use Rattle.transyt_net.specs.Named.{link_back}
 use Rattle.transyt_net.proofs.PlaceLaws.{keys_kept, keys_kept_at, all_on_numbered, all_on_place, length_kept}
-use Rattle.transyt_net.proofs.WriteLaws.{no_fault, in_range, links_written, nodes_written}
+use Rattle.transyt_net.proofs.WriteLaws.{KeepsLink, no_fault, in_range, links_written, nodes_written}
 
 -- what a range test without a fault tells
 pub ranged : (known fits : Bool) → range_fault known fits ≡ None → (known ≡ true) × (fits ≡ true)
@@ -85,9 +85,7 @@ plan_parts steps stages h =
 link_valid : (net : Network) (f : LinkValue → LinkValue) (same : (l : LinkValue) → (f l).number ≡ l.number)
     (link : ℕ)
     → IsValid net
-    → ((l : LinkValue) → numbered link_number net.links link ≡ Some l
-    → IsLink net.frame.step_count net.nodes (link_numbers net.links) l
-    → IsLink net.frame.step_count net.nodes (link_numbers net.links) (f l))
+    → KeepsLink net link f
     → IsValid (record net { links = on_numbered link_number f net.links link })
 link_valid net f same link h keeps =
     record { sound = links_written net f same link h.sound keeps; planned = h.planned }
@@ -242,9 +240,9 @@ node_named net (Offset node offset) k same none =
     (ranged (is_among (node_numbers net.nodes) node) (nat_lt offset net.frame.step_count) none).0
 node_named net (Change node stage change) k same none =
     let known = no_fault (not (has_stage net node stage)) Unknown _ none in
+    let staged = within 1 (stages_at net.nodes node) stage in
     subst (λ n. is_among (node_numbers net.nodes) n ≡ true) same
-    (and_parts (is_among (node_numbers net.nodes) node) (within 1 (stages_at net.nodes node) stage)
-    (not-false _ known.0)).0
+    (and_parts (is_among (node_numbers net.nodes) node) staged (not-false _ known.0)).0
 node_named net e k same none = elim same [ ]
 
 -- a link that an allowed edit names is there

@@ -4,6 +4,7 @@ use Rattle.std.proofs.Common.{Some, None, refl, sym, ap, subst, ◌∙◌, arith
 use Rattle.std.proofs.Common.{inl, inr}
 use Rattle.std.proofs.lemmas.Bool.{and_parts, and_from, not-false, le-leb, lt-ltb, or_cases, true≢false}
 use Rattle.std.proofs.lemmas.List.{length-map}
+use Rattle.transyt_parts.specs.declared.node.Stage.{Stage}
 use Rattle.transyt_parts.specs.declared.link.Feed.{Feed}
 use Rattle.transyt_net.specs.declared.edit.Edit.{Edit}
 use Rattle.transyt_net.specs.declared.edit.Edit.TheVariants.{Offset, Change, Entry, Part, Cruise, Saturation, Weight}
@@ -114,9 +115,8 @@ back_allowed net (Offset node offset) h none =
     let both = ranged (is_among (node_numbers net.nodes) node) (nat_lt offset steps) none in
     let found = some_numbered node_number net.nodes node both.0 in
     let good = all_numbered (IsNode steps) node_number net.nodes node found.0 h.sound.nodes found.1 in
-    range_none _ _
-    (subst (λ ks. is_among ks node ≡ true) (sym (keys_kept node_number (set_offset offset) (λ n. refl) net.nodes node))
-    both.0)
+    let numbers = keys_kept node_number (set_offset offset) (λ n. refl) net.nodes node in
+    range_none _ _ (subst (λ ks. is_among ks node ≡ true) (sym numbers) both.0)
     (ap (λ o. nat_lt (node_in o).offset steps) found.1 ∙ lt-ltb found.0.offset steps good.offset)
 back_allowed net (Change node stage change) h none =
     let steps = net.frame.step_count in
@@ -142,20 +142,19 @@ back_allowed net (Change node stage change) h none =
     sym (length-map (on_place (change_to change) n.stages (stage - 1)) (λ s. s.least))
     ∙ ap length (keys_kept_at (λ s. s.least) (change_to change) (λ s. refl) n.stages (stage - 1))
     ∙ length-map n.stages (λ s. s.least) in
+    let numbers = keys_kept node_number (set_change stage change) (λ m. refl) net.nodes node in
     let has : has_stage (with_edit net (Change node stage change)) node stage ≡ true =
-    and_from _ _
-    (subst (λ ks. is_among ks node ≡ true)
-    (sym (keys_kept node_number (set_change stage change) (λ m. refl) net.nodes node)) parts.0)
+    and_from _ _ (subst (λ ks. is_among ks node ≡ true) (sym numbers) parts.0)
     (ap (λ o. within 1 (stage_total o) stage) after
     ∙ within_true 1 (length (set_change stage change n).stages) stage (fits.0, omega arith)) in
     let below : nat_lt old steps ≡ true =
     ap (λ x. nat_lt x steps) is_old
     ∙ lt-ltb (stage_of n.stages (stage - 1)).change steps (good.stages (stage - 1) no_stage inside).change in
+    let back : ℕ → List Stage =
+    λ x. on_place (change_to x) (on_place (change_to change) n.stages (stage - 1)) (stage - 1) in
     let order : order_fault steps (changed (with_edit net (Change node stage change)) node stage old) ≡ None =
     ap (λ o. order_fault steps (set_change stage old (node_in o)).stages) after
-    ∙ ap (λ x. order_fault steps
-    (on_place (change_to x) (on_place (change_to change) n.stages (stage - 1)) (stage - 1)))
-    is_old
+    ∙ ap (λ x. order_fault steps (back x)) is_old
     ∙ ap (order_fault steps) (put_back_at n.stages (stage - 1) change)
     ∙ (plan_parts steps n.stages planned).1 in
     (λ j. if not (has j) then Some Unknown else if not (below j) then Some Range else order j)
@@ -171,11 +170,10 @@ back_allowed net (Part link feeder flow) h none =
     let found = some_numbered link_number net.links link links.0 in
     let there : is_fed found.0.feeds feeder ≡ true = ap (λ o. is_fed (feeds_in o) feeder) (sym found.1) ∙ all.1 in
     let good = good_feed net link feeder found.0 h found.1 there in
-    feed_none _ _ _
-    (and_from _ _ (still_link net (set_part feeder flow) (λ l. refl) link link links.0)
-    (still_link net (set_part feeder flow) (λ l. refl) link feeder links.1))
-    (ap (λ o. is_fed (feeds_in o) feeder)
-    (numbered_after link_number (set_part feeder flow) (λ l. refl) net.links link found.0 found.1)
+    let still = still_link net (set_part feeder flow) (λ l. refl) link in
+    let after = numbered_after link_number (set_part feeder flow) (λ l. refl) net.links link found.0 found.1 in
+    feed_none _ _ _ (and_from _ _ (still link links.0) (still feeder links.1))
+    (ap (λ o. is_fed (feeds_in o) feeder) after
     ∙ still_fed found.0.feeds (flow_to flow) (λ f. refl) feeder feeder there)
     (ap (λ o. nat_le (the_feed (link_in o) feeder).flow 9999) found.1
     ∙ le-leb (the_feed found.0 feeder).flow 9999 good.flow)
@@ -185,11 +183,10 @@ back_allowed net (Cruise link feeder seconds) h none =
     let found = some_numbered link_number net.links link links.0 in
     let there : is_fed found.0.feeds feeder ≡ true = ap (λ o. is_fed (feeds_in o) feeder) (sym found.1) ∙ all.1 in
     let good = good_feed net link feeder found.0 h found.1 there in
-    feed_none _ _ _
-    (and_from _ _ (still_link net (set_cruise feeder seconds) (λ l. refl) link link links.0)
-    (still_link net (set_cruise feeder seconds) (λ l. refl) link feeder links.1))
-    (ap (λ o. is_fed (feeds_in o) feeder)
-    (numbered_after link_number (set_cruise feeder seconds) (λ l. refl) net.links link found.0 found.1)
+    let still = still_link net (set_cruise feeder seconds) (λ l. refl) link in
+    let after = numbered_after link_number (set_cruise feeder seconds) (λ l. refl) net.links link found.0 found.1 in
+    feed_none _ _ _ (and_from _ _ (still link links.0) (still feeder links.1))
+    (ap (λ o. is_fed (feeds_in o) feeder) after
     ∙ still_fed found.0.feeds (cruise_to seconds) (λ f. refl) feeder feeder there)
     (ap (λ o. within 1 300 (the_feed (link_in o) feeder).cruise) found.1
     ∙ within_true 1 300 (the_feed found.0 feeder).cruise good.cruise)

@@ -51,14 +51,14 @@ shape_kept net (Change node stage change) =
     (λ n. ap (λ ss. record (bare_node n) { stages = ss }) (map_kept_at change n.stages (stage - 1))) node
 shape_kept net (Entry link flow) = link_shape net (set_entry flow) (λ l. refl) link
 shape_kept net (Part link feeder flow) =
-    link_shape net (set_part feeder flow)
-    (λ l. ap (λ fs. record (bare_link l) { feeds = fs })
-    (map_kept feeder_of (flow_to flow) bare_feed (λ f. refl) l.feeds feeder))
-    link
+    let same : (l : LinkValue) → bare_link (set_part feeder flow l) ≡ bare_link l =
+    λ l. ap (λ fs. record (bare_link l) { feeds = fs })
+    (map_kept feeder_of (flow_to flow) bare_feed (λ f. refl) l.feeds feeder) in
+    link_shape net (set_part feeder flow) same link
 shape_kept net (Cruise link feeder seconds) =
-    link_shape net (set_cruise feeder seconds)
-    (λ l. ap (λ fs. record (bare_link l) { feeds = fs })
-    (map_kept feeder_of (cruise_to seconds) bare_feed (λ f. refl) l.feeds feeder))
-    link
+    let same : (l : LinkValue) → bare_link (set_cruise feeder seconds l) ≡ bare_link l =
+    λ l. ap (λ fs. record (bare_link l) { feeds = fs })
+    (map_kept feeder_of (cruise_to seconds) bare_feed (λ f. refl) l.feeds feeder) in
+    link_shape net (set_cruise feeder seconds) same link
 shape_kept net (Saturation link flow) = link_shape net (set_saturation flow) (λ l. refl) link
 shape_kept net (Weight link delay stop) = link_shape net (set_weights delay stop) (λ l. refl) link

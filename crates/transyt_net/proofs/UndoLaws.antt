@@ -11,7 +11,7 @@ use Rattle.transyt_parts.specs.Valid.{node_number, link_number}
 use Rattle.transyt_parts.specs.Plan.{stage_of}
 use Rattle.transyt_net.specs.Edits.{with_edit, inverse, set_offset, set_change, change_to, set_entry, set_saturation}
 use Rattle.transyt_net.specs.Edits.{set_weights, set_part, set_cruise, feeder_of, flow_to, cruise_to, node_in, link_in}
-use Rattle.transyt_net.specs.Edits.{feed_in}
+use Rattle.transyt_net.specs.Edits.{feed_in, the_feed}
 
 -- two writes at one number are one
 pub twice : {A : Type 0} (key : A → ℕ) (f g : A → A) (same : (x : A) → key (f x) ≡ key x) (xs : List A) (k : ℕ)
@@ -82,29 +82,27 @@ undone net (Offset node offset) =
     ap (λ ns. record net { nodes = ns })
     (node_back_is net node (set_offset offset) (λ old. set_offset old.offset) (λ n. refl) (λ n. refl))
 undone net (Change node stage change) =
+    let change_of : NodeValue → ℕ = λ old. (stage_of old.stages (stage - 1)).change in
     ap (λ ns. record net { nodes = ns })
-    (node_back_is net node (set_change stage change) (λ old. set_change stage (stage_of old.stages (stage - 1)).change)
-    (λ n. refl)
+    (node_back_is net node (set_change stage change) (λ old. set_change stage (change_of old)) (λ n. refl)
     (λ n. ap (λ ss. record n { stages = ss }) (put_back_at n.stages (stage - 1) change)))
 undone net (Entry link flow) =
     ap (λ ls. record net { links = ls })
     (link_back_is net link (set_entry flow) (λ old. set_entry old.entry) (λ l. refl) (λ l. refl))
 undone net (Part link feeder flow) =
-    ap (λ ls. record net { links = ls })
-    (link_back_is net link (set_part feeder flow)
-    (λ old. set_part feeder (feed_in (numbered feeder_of old.feeds feeder)).flow) (λ l. refl)
-    (λ l. ap (λ fs. record l { feeds = fs })
-    (put_back feeder_of (flow_to flow) (flow_to (feed_in (numbered feeder_of l.feeds feeder)).flow) (λ f. refl) l.feeds
-    feeder
-    (λ f at. ap (λ o. record f { flow = (feed_in o).flow }) at))))
+    let put : LinkValue → LinkValue → LinkValue = λ old. set_part feeder (the_feed old feeder).flow in
+    let back : (l : LinkValue) → put l (set_part feeder flow l) ≡ l =
+    λ l. ap (λ fs. record l { feeds = fs })
+    (put_back feeder_of (flow_to flow) (flow_to (the_feed l feeder).flow) (λ f. refl) l.feeds feeder
+    (λ f at. ap (λ o. record f { flow = (feed_in o).flow }) at)) in
+    ap (λ ls. record net { links = ls }) (link_back_is net link (set_part feeder flow) put (λ l. refl) back)
 undone net (Cruise link feeder seconds) =
-    ap (λ ls. record net { links = ls })
-    (link_back_is net link (set_cruise feeder seconds)
-    (λ old. set_cruise feeder (feed_in (numbered feeder_of old.feeds feeder)).cruise) (λ l. refl)
-    (λ l. ap (λ fs. record l { feeds = fs })
-    (put_back feeder_of (cruise_to seconds) (cruise_to (feed_in (numbered feeder_of l.feeds feeder)).cruise) (λ f. refl)
-    l.feeds feeder
-    (λ f at. ap (λ o. record f { cruise = (feed_in o).cruise }) at))))
+    let put : LinkValue → LinkValue → LinkValue = λ old. set_cruise feeder (the_feed old feeder).cruise in
+    let back : (l : LinkValue) → put l (set_cruise feeder seconds l) ≡ l =
+    λ l. ap (λ fs. record l { feeds = fs })
+    (put_back feeder_of (cruise_to seconds) (cruise_to (the_feed l feeder).cruise) (λ f. refl) l.feeds feeder
+    (λ f at. ap (λ o. record f { cruise = (feed_in o).cruise }) at)) in
+    ap (λ ls. record net { links = ls }) (link_back_is net link (set_cruise feeder seconds) put (λ l. refl) back)
 undone net (Saturation link flow) =
     ap (λ ls. record net { links = ls })
     (link_back_is net link (set_saturation flow) (λ old. set_saturation old.saturation) (λ l. refl) (λ l. refl))

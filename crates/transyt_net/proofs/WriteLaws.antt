@@ -118,13 +118,24 @@ link_with_more_numbers steps nodes numbers more among l h = record {
     rule None given = given
     rule (Some r) given = record { other = among r.other given.other; percent = given.percent }
 
+-- a link of a number that is written stays a link of the network
+abbrev pub KeepsLink : Network → ℕ → (LinkValue → LinkValue) → Type 0
+KeepsLink net link f =
+    (l : LinkValue) → numbered link_number net.links link ≡ Some l
+    → IsLink net.frame.step_count net.nodes (link_numbers net.links) l
+    → IsLink net.frame.step_count net.nodes (link_numbers net.links) (f l)
+
+-- a node of a number that is written stays a node of the network
+abbrev pub KeepsNode : Network → ℕ → (NodeValue → NodeValue) → Type 0
+KeepsNode net node f =
+    (n : NodeValue) → numbered node_number net.nodes node ≡ Some n → IsNode net.frame.step_count n
+    → IsNode net.frame.step_count (f n)
+
 -- a network whose links were written, each keeping its number
 pub links_written : (net : Network) (f : LinkValue → LinkValue) (same : (l : LinkValue) → (f l).number ≡ l.number)
     (link : ℕ)
     → IsSound net
-    → ((l : LinkValue) → numbered link_number net.links link ≡ Some l
-    → IsLink net.frame.step_count net.nodes (link_numbers net.links) l
-    → IsLink net.frame.step_count net.nodes (link_numbers net.links) (f l))
+    → KeepsLink net link f
     → IsSound (record net { links = on_numbered link_number f net.links link })
 links_written net f same link h keeps =
     let steps = net.frame.step_count in
@@ -150,8 +161,7 @@ links_written net f same link h keeps =
 pub nodes_written : (net : Network) (f : NodeValue → NodeValue) (same : (n : NodeValue) → (f n).number ≡ n.number)
     (count : (n : NodeValue) → length (f n).stages ≡ length n.stages) (node : ℕ)
     → IsSound net
-    → ((n : NodeValue) → numbered node_number net.nodes node ≡ Some n → IsNode net.frame.step_count n
-    → IsNode net.frame.step_count (f n))
+    → KeepsNode net node f
     → IsSound (record net { nodes = on_numbered node_number f net.nodes node })
 nodes_written net f same count node h keeps =
     let steps = net.frame.step_count in
