@@ -1,5 +1,7 @@
 //! std's readers and writers as a source and a sink: the trusted edge.
-ghost use Rattle.std.specs.Prelude.{◌≡◌, None};
+ghost use Rattle.std.specs.Prelude.{◌≡◌, ◌<◌, ◌≤◌, None, IfOk, OnOk, OnErr, length};
+ghost use Rattle.transyt_io.specs.Streams.{Reads, TellsLast, Writes, CountsFault};
+ghost use Rattle.transyt_io.specs.Memory.{next_count};
 
 use crate::streams::{Failed, Sink, Source};
 use std::io::{Read, Write};
@@ -38,7 +40,16 @@ impl<R: Read> Source for StdSource<R> {
 
     ghost faults = { λ count. count };
 
-    fn read(&mut self, buf: &mut [u8]) -> Result<usize, Failed> {
+    fn read(&mut self, buf: &mut [u8]) -> Result<usize, Failed>
+        requires { 0 < length buf.old }
+        ensures bound { IfOk result (λ n. n ≤ length buf.new) }
+        ensures bytes { Reads None None result buf.new }
+        ensures last { TellsLast None result }
+        ensures cause { CountsFault self.old self.new result }
+        ensures most { self.new ≤ 18446744073709551615 }
+        ensures ok { OnOk result (self.new ≡ self.old) }
+        ensures failed { OnErr result (self.new ≡ next_count self.old) }
+    {
         let faults = self.faults;
         match self.inner.read(buf) {
             Ok(n) => Ok(n),
@@ -81,7 +92,15 @@ impl<W: Write> Sink for StdSink<W> {
 
     ghost faults = { λ count. count };
 
-    fn write(&mut self, piece: &[u8]) -> Result<usize, Failed> {
+    fn write(&mut self, piece: &[u8]) -> Result<usize, Failed>
+        requires { 0 < length piece.now }
+        ensures bound { IfOk result (λ n. (0 < n) × (n ≤ length piece.now)) }
+        ensures bytes { Writes None None result piece.now }
+        ensures cause { CountsFault self.old self.new result }
+        ensures most { self.new ≤ 18446744073709551615 }
+        ensures ok { OnOk result (self.new ≡ self.old) }
+        ensures failed { OnErr result (self.new ≡ next_count self.old) }
+    {
         let faults = self.faults;
         match self.inner.write(piece) {
             Ok(n) if n > 0 => Ok(n),
