@@ -81,7 +81,7 @@ fn plain_outcome(alloc: Global, bytes: &[u8]) -> Result<(Vec<u8>, Option<ReadSto
 /// Whether a reader does so, by pieces of each size and from a source that gives all that it is asked for.
 fn gives_by_pieces(alloc: Global, bytes: &[u8]) -> Result<bool, AllocError> {
     let (wanted, why) = plain_outcome(alloc, bytes)?;
-    for piece in [1, 2, 3, 7, usize::MAX] {
+    for piece in [1, 2, 3, 7, 4096, usize::MAX] {
         let mut source = MemorySource::new(bytes.to_vec(alloc)?, piece, Vec::new(alloc));
         if !gives(alloc, &mut source, &wanted, why)? {
             return Ok(false);
@@ -318,13 +318,63 @@ fn a_failed_write_leaves_a_front_of_the_line(rt: HostRuntime) -> Result<(), Fail
     Ok(())
 }
 
-/// A reader of std that is interrupted.
+/// A reader and writer of std that is interrupted at its first call, and gives or takes all from then on.
 #[derive(Drop)]
-struct Interrupted;
+struct InterruptedOnce {
+    calls: usize,
+    written: usize,
+}
 
-impl io::Read for Interrupted {
-    fn read(&mut self, _buf: &mut [u8]) -> io::Result<usize> {
-        Err(io::ErrorKind::Interrupted.into())
+impl InterruptedOnce {
+    fn new() -> InterruptedOnce {
+        InterruptedOnce {
+            calls: 0,
+            written: 0,
+        }
+    }
+
+    /// Counts a call; the first is interrupted.
+    fn call(&mut self) -> io::Result<()> {
+        let calls = self.calls;
+        self.calls = calls.saturating_add(1);
+        if calls == 0 {
+            return Err(io::ErrorKind::Interrupted.into());
+        }
+        Ok(())
+    }
+}
+
+impl io::Read for InterruptedOnce {
+    fn read(&mut self, buf: &mut [u8]) -> io::Result<usize> {
+        self.call()?;
+        buf.fill(b'\n');
+        Ok(buf.len())
+    }
+}
+
+impl io::Write for InterruptedOnce {
+    fn write(&mut self, buf: &[u8]) -> io::Result<usize> {
+        self.call()?;
+        self.written = self.written.saturating_add(buf.len());
+        Ok(buf.len())
+    }
+
+    fn flush(&mut self) -> io::Result<()> {
+        Ok(())
+    }
+}
+
+/// A writer of std that fails at each call.
+#[derive(Drop)]
+struct Broken;
+
+impl io::Write for Broken {
+    fn write(&mut self, _buf: &[u8]) -> io::Result<usize> {
+        Err(io::ErrorKind::BrokenPipe.into())
+    }
+
+    fn flush(&mut self) -> io::Result<()> {
+        Ok(())
     }
 }
 
@@ -333,8 +383,14 @@ fn takes_the_ends_of_std(rt: HostRuntime) -> Result<(), Fail> {
     let alloc = rt.alloc();
     let mut bytes = StdSource::new(b"one\ntwo".as_slice());
     assert!(rt; gives(alloc, &mut bytes, b"one|two|", None)?);
-    let mut interrupted = StdSource::new(Interrupted);
-    assert!(rt; gives(alloc, &mut interrupted, b"", Some(ReadStop::Fault))?);
+    let mut interrupted = InterruptedOnce::new();
+    let fault = gives(
+        alloc,
+        &mut StdSource::new(&mut interrupted),
+        b"",
+        Some(ReadStop::Fault),
+    )?;
+    assert!(rt; fault && interrupted.calls == 1);
 
     let mut line = LineBuffer::open(alloc)?;
     line.put(b"DONE\n");
@@ -343,6 +399,10 @@ fn takes_the_ends_of_std(rt: HostRuntime) -> Result<(), Fail> {
     assert!(rt; whole && written.as_slice() == b"DONE\n".as_slice());
     let mut room = [0u8; 3];
     assert!(rt; write_line(&line, &mut StdSink::new(room.as_mut_slice())).is_err());
+    assert!(rt; write_line(&line, &mut StdSink::new(Broken)).is_err());
+    let mut interrupted = InterruptedOnce::new();
+    assert!(rt; write_line(&line, &mut StdSink::new(&mut interrupted)).is_err());
+    assert!(rt; interrupted.calls == 1 && interrupted.written == 0);
     Ok(())
 }
 
