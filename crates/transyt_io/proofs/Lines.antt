@@ -134,6 +134,7 @@ pub cut_open : (bytes : List ℕ) → 0 < length bytes → has_end bytes ≡ fal
 cut_open [] some none = absurd (omega arith)
 cut_open (b ∷ bs) some none = open_line b bs none
 
+-- at most n, where fewer are taken
 length_take_le : {X : Type 0} → (m n : ℕ) (xs : List X) → m < n → length (take m xs) ≤ n
 length_take_le m n xs h = let e = length-take m xs in omega arith
 
@@ -146,6 +147,7 @@ take_min m n xs = elim (cases_lt m n) [
       ap (λ (k : ℕ). take k xs) at ∙ sym (take-take n m xs h)
 ]
 
+-- a front of at most all
 pub take_min_length : {X : Type 0} → (n : ℕ) (xs : List X) → take (min (length xs) n) xs ≡ take n xs
 take_min_length n xs = take_min (length xs) n xs ∙ ap (λ ys. take n ys) (take_all (length xs) xs (omega arith))
 
@@ -177,9 +179,11 @@ take_onto n xs ys h =
     ap (λ (k : ℕ). take k (xs ++ ys)) all ∙ take-append-add xs ys (n - length xs)
     ∙ ap (λ rest. xs ++ rest) (sym (take_min_length (n - length xs) ys))
 
+-- at most n are kept
 pub length_kept : {X : Type 0} → (n : ℕ) (xs : List X) → length (take n xs) ≤ n
 length_kept n xs = let e = length-take n xs in omega arith
 
+-- a line is within what is kept
 pub length_line : (raw : List ℕ) → length (line_of raw) ≤ 4098
 length_line raw = let e = length_kept 4097 (strip_carriage_return raw) in omega arith
 

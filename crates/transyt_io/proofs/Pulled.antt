@@ -32,6 +32,7 @@ pub record Begun (old : Reading) (line : List ℕ) (taken : ℕ) : Type 0 where
   pub first : Gathers line old.held
   pub had : taken ≡ old.taken
 
+-- a reader that has not ended begins its line with what is held, and no line ends there
 pub begun : (old : Reading) (taken at upto : ℕ) (block seen line : List ℕ) (ended live : Bool) (told : Option (List ℕ))
     → read_as taken at upto block ended live told ≡ old → ended ≡ false → seen ≡ block
     → Gathered [] line (between at upto seen) None → Begun old line taken
@@ -121,6 +122,7 @@ pub record GatheredAll (old : Reading) (line_new front back : List ℕ) (taken_n
   pub gathers : Gathers line_new (old.held ++ (front ++ back))
   pub count : taken_new ≡ old.taken + length (front ++ back)
 
+-- behind what was held all belongs to the line, and is counted
 gathered_all : (old : Reading) (line line_new front back : List ℕ) (taken taken_new : ℕ) (left : Option (List ℕ))
     → Begun old line taken → PulledAll line line_new taken taken_new left front back
     → GatheredAll old line_new front back taken_new
@@ -138,14 +140,17 @@ gathered_all old line line_new front back taken taken_new left b a =
       count = omega arith;
     }
 
+-- nothing is kept of nothing alone
 nothing_kept : (n : ℕ) (xs : List ℕ) → take (suc n) xs ≡ [] → xs ≡ []
 nothing_kept n [] h = refl
 nothing_kept n (x ∷ xs) h = cc
 
+-- a list of no length is empty
 empty_list : (xs : List ℕ) → nat_lt 0 (length xs) ≡ false → xs ≡ []
 empty_list [] h = refl
 empty_list (x ∷ xs) h = absurd (grind (arith, nat_tests))
 
+-- a list of some length is not
 some_list : (xs : List ℕ) → nat_lt 0 (length xs) ≡ true → xs ≢ []
 some_list xs some empty = let h : false ≡ true = sym (ap (λ (ys : List ℕ). nat_lt 0 (length ys)) empty) ∙ some in cc
 

@@ -44,10 +44,12 @@ hand_on old new left left_new got line taken given going goes count fewer ends s
       few = omega arith;
     }
 
+-- bytes with no line end are one line
 open_lines : (raw : List ℕ) → has_end raw ≡ false → raw ≢ [] → lines raw ≡ line_of raw ∷ []
 open_lines [] none some = absurd (some refl)
 open_lines (b ∷ bs) none some = ap (map line_of) (open_line b bs none)
 
+-- a list that is not empty has a length
 pub some_length : (xs : List ℕ) → xs ≢ [] → 0 < length xs
 some_length [] h = absurd (h refl)
 some_length (x ∷ xs) h = omega arith

@@ -3,9 +3,9 @@ use Rattle.std.specs.Prelude.{ℕ, List, Bool, Option}
 
 -- a reader of lines
 pub record Reading : Type 0 where
-  -- how many bytes were taken
+  -- of a live reader: how many bytes were taken
   pub taken : ℕ
-  -- the bytes taken that no line handed out has
+  -- of a live reader: the bytes taken that no line handed out has
   pub held : List ℕ
   -- the source was read to its end
   pub ended : Bool

@@ -1,12 +1,12 @@
 //! Sources and sinks of bytes, and the lines and words of what a source gives.
 //!
 //! A contract sees a source by the bytes left, the size of the last piece and the count of faults (`left`, `last`,
-//! `faults`), and a sink by the bytes written and the count of faults (`written`, `faults`); the bytes are an `Option`,
-//! since not every end tells them. `specs/Streams` has the words for what a call did to them: cite `Takes`, `Adds`,
-//! `AddsFront`, `Rose` and `CountsFault` first. `specs/Lines` says what the lines of a list of bytes are (`lines`,
-//! `whole`), which are skipped (`is_skipped`) and what the words of a line are (`words`). `specs/Reading` ties a
-//! `LineReader` to all bytes taken and all lines handed out: `Stands` before and after a call of `next`, `Took` for the
-//! call. The lemmas on these words stand in `proofs/Told`, `proofs/Lines` and `proofs/Reading`.
+//! `faults`), and a sink by the bytes written and the count of faults (`written`, `faults`); all but the counts are an
+//! `Option`, since not every end tells them. `specs/Streams` has the words for what a call did to them: cite `Takes`,
+//! `Adds`, `AddsFront`, `Rose` and `CountsFault` first. `specs/Lines` says what the lines of a list of bytes are
+//! (`lines`, `whole`), which are skipped (`is_skipped`) and what the words of a line are (`words`). `specs/Reading`
+//! ties a `LineReader` to all bytes taken and all lines handed out: `Stands` before and after a call of `next`, `Took`
+//! for the call. The lemmas on these words stand in `proofs/Told`, `proofs/Lines` and `proofs/Reading`.
 #![tactic(auto)]
 
 mod calls;

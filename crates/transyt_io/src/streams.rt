@@ -1,5 +1,5 @@
 //! Where bytes come from, and where they go.
-ghost use Rattle.std.specs.Prelude.{◌≡◌, ◌<◌, ◌≤◌, ℕ, List, Option, IfOk, length, take};
+ghost use Rattle.std.specs.Prelude.{◌<◌, ◌≤◌, ℕ, List, Option, IfOk, length};
 ghost use Rattle.transyt_io.specs.Streams.{Reads, TellsLast, Writes, CountsFault};
 
 /// A read or write that did not happen: no byte was taken or given.

@@ -22,6 +22,7 @@ returns-in-Some-clause-cut c =
     cut_at true bytes i found.0.high (λ k below. found.0.before k (omega arith) below) here
     ∙ ap (λ (l : List ℕ). take i bytes ∷ cut true l) (sym (between_to_end bytes (i + 1) (length bytes) (omega arith)))
 
+-- and what is behind it begins right behind that place
 pub returns-in-Some-clause-behind : goal.returns-in-Some-clause-behind
 returns-in-Some-clause-behind c =
     let bytes = c.args.bytes.now in
@@ -38,6 +39,7 @@ returns-in-None-clause-cut c =
     let none : has_end bytes ≡ false = no_end_in bytes (λ k below. c.in-None.ensures k (omega arith) below) in
     cut_open bytes c.requires none ∙ ap (λ (l : List ℕ). bytes ∷ cut true l) (sym (none_behind bytes))
 
+-- and nothing is behind them
 pub returns-in-None-clause-behind : goal.returns-in-None-clause-behind
 returns-in-None-clause-behind c =
     let bytes = c.args.bytes.now in

@@ -6,9 +6,11 @@ use Rattle.transyt_io.proofs.Lines.{no_end_before, no_end_more, kept_more, line_
 use Rattle.transyt_io.proofs.Lines.{length_line}
 use Rattle.transyt_io.proofs.gather.gather.Goals as goal
 
+-- no more is kept than there is room for
 pub returns-in_default-clause-kept : goal.returns-in_default-clause-kept
 returns-in_default-clause-kept c = rw c.keep.ensures.line (length_kept 4098 (c.args.line.now.items ++ c.args.piece.now))
 
+-- a piece with no line end belongs to the line
 pub returns-in_default-clause-gathered : goal.returns-in_default-clause-gathered
 returns-in_default-clause-gathered c raw h =
     let piece = c.args.piece.now in
@@ -21,9 +23,11 @@ returns-in_default-clause-gathered c raw h =
       open_yet = no_end_more raw piece h.open_yet none;
     }
 
+-- a line is within what is kept
 pub returns-clause-kept : goal.returns-clause-kept
 returns-clause-kept c = rw c.close.ensures.line (length_line c.keep-2.new.line.items)
 
+-- the line ends at the first line end of the piece
 pub returns-clause-gathered : goal.returns-clause-gathered
 returns-clause-gathered c raw h keep ys =
     let piece = c.args.piece.now in

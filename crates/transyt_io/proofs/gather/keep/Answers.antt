@@ -3,6 +3,7 @@ use Rattle.std.proofs.Common.{refl, is_ok}
 use Rattle.transyt_io.proofs.Lines.{take_onto}
 use Rattle.transyt_io.proofs.gather.keep.Goals as goal
 
+-- as much of the piece is added as there is room for
 pub returns-clause-line : goal.returns-clause-line
 returns-clause-line c =
     let line = c.args.line.now in

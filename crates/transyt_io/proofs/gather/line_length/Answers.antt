@@ -3,6 +3,7 @@ use Rattle.std.proofs.Common.{if◌then◌else◌}
 use Rattle.transyt_io.proofs.Lines.{take_min, take_min_length}
 use Rattle.transyt_io.proofs.gather.line_length.Goals as goal
 
+-- a carriage return at the end is left out
 pub returns-then-ends_in_return-clause-line : goal.returns-then-ends_in_return-clause-line
 returns-then-ends_in_return-clause-line c =
     let raw = c.args.raw.now in
@@ -11,6 +12,7 @@ returns-then-ends_in_return-clause-line c =
     ap (λ (n : ℕ). take n raw) c.min.ensures ∙ take_min (length raw - 1) 4097 raw
     ∙ sym (ap (λ (b : Bool). take 4097 (if b then take (length raw - 1) raw else raw)) test)
 
+-- with none at the end all bytes are the line
 pub returns-clause-line : goal.returns-clause-line
 returns-clause-line c =
     let raw = c.args.raw.now in

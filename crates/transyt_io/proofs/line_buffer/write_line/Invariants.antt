@@ -12,5 +12,6 @@ invariant-loop-at g l =
       later : faults l.fn.sink ≤ faults l.sink;
     }
 
+-- how many bytes are left to write
 abbrev pub decreases-loop-at : goal.decreases-loop-at
 decreases-loop-at g l = length l.bytes - l.at

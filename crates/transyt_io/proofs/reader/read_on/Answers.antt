@@ -8,6 +8,7 @@ use Rattle.transyt_io.specs.Lines.{lines_by}
 use Rattle.transyt_io.proofs.Told.{takes_both}
 use Rattle.transyt_io.proofs.reader.read_on.Goals as goal
 
+-- the line ended in the last piece, and the block holds what came behind it
 pub returns-in-Some-clause-pulled : goal.returns-in-Some-clause-pulled
 returns-in-Some-clause-pulled g c =
     let front = c.loop-n.invariant.0 in
@@ -53,6 +54,7 @@ returns-in-Some-clause-pulled g c =
       };
     }
 
+-- a piece with no line end belongs to the line
 pub loop-n-preserved : goal.loop-n-preserved
 loop-n-preserved g c =
     let front = c.loop-n.invariant.0 in

@@ -3,6 +3,7 @@ use Rattle.transyt_io.specs.Streams.{Takes}
 use Rattle.transyt_io.specs.Gather.{Gathers}
 use Rattle.transyt_io.proofs.reader.read_on.Given as goal
 
+-- what was taken so far belongs to the line, which has not ended
 abbrev pub invariant-loop-n : goal.invariant-loop-n
 invariant-loop-n g l =
     let left = g.S.Source.left in
@@ -17,5 +18,6 @@ invariant-loop-n g l =
       later : faults l.fn.source ≤ faults l.source;
     }
 
+-- how many bytes may still come, with the one too many
 abbrev pub decreases-loop-n : goal.decreases-loop-n
 decreases-loop-n g l = 4194305 - l.taken

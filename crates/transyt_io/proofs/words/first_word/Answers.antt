@@ -5,6 +5,7 @@ use Rattle.transyt_io.specs.Lines.{words}
 use Rattle.transyt_io.proofs.WordParts.{words_at, words_alone, not_first}
 use Rattle.transyt_io.proofs.words.first_word.Goals as goal
 
+-- the word ends at the first blank
 pub returns-then-is_blank-clause-words : goal.returns-then-is_blank-clause-words
 returns-then-is_blank-clause-words c =
     let bytes = c.args.rest.now in
@@ -13,6 +14,7 @@ returns-then-is_blank-clause-words c =
     words_at bytes i (not_first bytes i c.requires.begins here) c.loop-i-test.true c.loop-i.invariant here
     ∙ ap (λ (l : List ℕ). take i bytes ∷ words l) (sym (between_to_end bytes i (length bytes) (omega arith)))
 
+-- with no blank all bytes are the word
 pub returns-clause-words : goal.returns-clause-words
 returns-clause-words c =
     let bytes = c.args.rest.now in

@@ -20,6 +20,7 @@ returns-in-Ok-Some-clause-took g c =
     let same = with_items_is c.self.inside.block c.read_on.new.block (c.read_on.auto.block ∙ c.deref_mut.ensures.len) in
     took_pulled_line _ _ _ _ _ _ _ _ _ _ _ _ c.in-Ok-Some.found _ _ b told.pulled c.if-self.false same refl
 
+-- the source was read where no line end was held
 pub returns-in-Ok-Some-clause-unread : goal.returns-in-Ok-Some-clause-unread
 returns-in-Ok-Some-clause-unread g c =
     let b = begun _ _ _ _ _ _ _ _ _ _ c.self.view_is c.if-self.false c.deref.ensures.value c.in_default.ensures.begun in
@@ -33,6 +34,7 @@ returns-then-close_last-clause-took g c =
     took_pulled_last _ _ _ _ _ _ _ _ _ _ _ _ _ b told.pulled (sym c.close_last.ensures.some ∙ c.if-close_last.true)
     c.close_last.ensures.line refl
 
+-- the last line leaves fewer that may come
 pub returns-then-close_last-clause-less : goal.returns-then-close_last-clause-less
 returns-then-close_last-clause-less g c =
     let b = begun _ _ _ _ _ _ _ _ _ _ c.self.view_is c.if-self.false c.deref.ensures.value c.in_default.ensures.begun in
@@ -40,6 +42,7 @@ returns-then-close_last-clause-less g c =
     λ _. less_at_last _ _ _ _ _ _ _ _ _ b told.pulled (sym c.close_last.ensures.some ∙ c.if-close_last.true)
     c.read_on.ensures.most
 
+-- the source was read where no line end was held
 pub returns-then-close_last-clause-unread : goal.returns-then-close_last-clause-unread
 returns-then-close_last-clause-unread g c =
     let b = begun _ _ _ _ _ _ _ _ _ _ c.self.view_is c.if-self.false c.deref.ensures.value c.in_default.ensures.begun in
@@ -53,6 +56,7 @@ returns-else-close_last-clause-took g c =
     took_pulled_end _ _ _ _ _ _ _ _ _ _ _ b told.pulled (sym c.close_last.ensures.some ∙ c.if-close_last.false)
     c.read_on.ensures.most
 
+-- the source was read where no line end was held
 pub returns-else-close_last-clause-unread : goal.returns-else-close_last-clause-unread
 returns-else-close_last-clause-unread g c =
     let b = begun _ _ _ _ _ _ _ _ _ _ c.self.view_is c.if-self.false c.deref.ensures.value c.in_default.ensures.begun in
@@ -64,6 +68,7 @@ returns-in-Err-clause-took g c =
     let b = begun _ _ _ _ _ _ _ _ _ _ c.self.view_is c.if-self.false c.deref.ensures.value c.in_default.ensures.begun in
     took_stop _ _ _ _ _ _ _ _ _ _ _ c.in-Err.stop b c.in-Err.ensures.pulled
 
+-- the source was read where no line end was held
 pub returns-in-Err-clause-unread : goal.returns-in-Err-clause-unread
 returns-in-Err-clause-unread g c =
     let b = begun _ _ _ _ _ _ _ _ _ _ c.self.view_is c.if-self.false c.deref.ensures.value c.in_default.ensures.begun in
