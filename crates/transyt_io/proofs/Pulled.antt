@@ -15,11 +15,11 @@ use Rattle.transyt_io.specs.Lines.{line_of, lines_by, has_end}
 use Rattle.transyt_io.specs.Gather.{Gathers, Gathered}
 use Rattle.transyt_io.specs.Model.{Reading}
 use Rattle.transyt_io.specs.Pull.{Pulled, PulledAll, PulledLine}
-use Rattle.transyt_io.specs.Reading.{Took, turns_left}
+use Rattle.transyt_io.specs.Reading.{Took, TellsReads, turns_left}
 use Rattle.transyt_io.proofs.Told.{takes_nothing}
 use Rattle.transyt_io.proofs.Lines.{line_of_kept}
-use Rattle.transyt_io.proofs.Reading.{Reads, all_given, took_line, took_last, took_end, took_fault, took_too_long}
-use Rattle.transyt_io.proofs.Reading.{some_length}
+use Rattle.transyt_io.proofs.Reading.{all_given, some_length, took_line, took_last, took_end, took_fault}
+use Rattle.transyt_io.proofs.Reading.{took_too_long}
 
 -- a reader as its fields tell it
 abbrev pub read_as : ℕ → ℕ → ℕ → List ℕ → Bool → Bool → Option (List ℕ) → Reading
@@ -87,7 +87,7 @@ took_held old new left last taken at upto n block seen line ended live told view
 pulled_reads : (old : Reading) (line line_new block : List ℕ) (taken taken_new : ℕ)
     (left left_new : Option (List ℕ)) (last last_new : Option ℕ) (result : Result (Option Pull) ReadStop)
     → Begun old line taken → (p : Pulled line line_new block taken taken_new left left_new last_new result)
-    → Reads old left last last_new p.front p.back
+    → TellsReads old left last last_new p.front p.back
 pulled_reads old line line_new block taken taken_new left left_new last last_new result b p =
     let none = p.no_end old.held b.first in
     inr (p.last_read, λ taken given stands. all_given old left p.front taken given b.going none stands)

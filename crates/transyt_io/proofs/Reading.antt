@@ -1,13 +1,13 @@
 -- The calls of `next`, by what was gathered.
-use Rattle.std.proofs.Common.{◌≡◌, ◌≢◌, ◌<◌, ◌≤◌, ◌⊎◌, ℕ, ◌+◌, ◌++◌, Bool, true, false, List, [], ◌∷◌}
-use Rattle.std.proofs.Common.{map, Option, Some, Ok, Err, IfSome, length, take, refl, sym, ◌∙◌, ap, subst}
+use Rattle.std.proofs.Common.{◌≡◌, ◌≢◌, ◌<◌, ◌≤◌, ℕ, ◌+◌, ◌++◌, Bool, true, false, List, [], ◌∷◌}
+use Rattle.std.proofs.Common.{map, Option, Some, Ok, Err, length, take, refl, sym, ◌∙◌, ap, subst}
 use Rattle.std.proofs.Common.{arith, append_assoc, length-append}
 use Rattle.std.proofs.lemmas.List.{append-nil, take_at}
 use Rattle.transyt_io.specs.declared.reader.Line.TheVariants.{Text, End}
 use Rattle.transyt_io.specs.declared.reader.ReadStop.TheVariants.{Fault, TooLong}
 use Rattle.transyt_io.specs.Lines.{line_of, lines_by, lines, whole, has_end}
 use Rattle.transyt_io.specs.Model.{Reading}
-use Rattle.transyt_io.specs.Reading.{Stands, Took}
+use Rattle.transyt_io.specs.Reading.{Stands, TellsReads, Took}
 use Rattle.transyt_io.specs.Streams.{Takes, IsAtEnd}
 use Rattle.transyt_io.proofs.Lines.{no_whole, open_line}
 
@@ -89,19 +89,12 @@ hand_last old new left left_new got taken given going ended empty count at_end n
       few = omega arith;
     }
 
--- what every call that read tells of its reads
-abbrev pub Reads : Reading → Option (List ℕ) → Option ℕ → Option ℕ → List ℕ → List ℕ → Type 0
-Reads old left last last_new front back =
-    ((front ≡ []) × (back ≡ []) × (last_new ≡ last))
-    ⊎ (IfSome last_new (λ n. n ≡ length back) × ((taken : List ℕ) (given : List (List ℕ))
-    → Stands old left taken given → given ≡ whole (taken ++ front)))
-
 -- a line ended
 pub took_line : (old new : Reading) (left left_new : Option (List ℕ)) (last last_new : Option ℕ)
     (front back line : List ℕ)
     → old.ended ≡ false → new.ended ≡ false → new.line ≡ Some line → new.taken ≡ old.taken + length (front ++ back)
     → length new.held < length old.held + length (front ++ back)
-    → Takes left left_new (front ++ back) → Reads old left last last_new front back
+    → Takes left left_new (front ++ back) → TellsReads old left last last_new front back
     → ((keep : Bool) (ys : List ℕ)
     → lines_by keep ((old.held ++ (front ++ back)) ++ ys) ≡ line ∷ lines_by keep (new.held ++ ys))
     → Took old new left left_new last last_new (Ok Text)
@@ -123,7 +116,7 @@ pub took_last : (old new : Reading) (left left_new : Option (List ℕ)) (last la
     → old.ended ≡ false → new.ended ≡ true → new.held ≡ [] → new.line ≡ Some line
     → line ≡ line_of (old.held ++ (front ++ back)) → new.taken ≡ old.taken + length (front ++ back)
     → IsAtEnd left_new → has_end (old.held ++ (front ++ back)) ≡ false → old.held ++ (front ++ back) ≢ []
-    → Takes left left_new (front ++ back) → Reads old left last last_new front back
+    → Takes left left_new (front ++ back) → TellsReads old left last last_new front back
     → Took old new left left_new last last_new (Ok Text)
 took_last old new left left_new last last_new front back line
     going ended empty told is count at_end none some takes reads = record {
@@ -144,7 +137,7 @@ pub took_end : (old new : Reading) (left left_new : Option (List ℕ)) (last las
     (front back : List ℕ)
     → old.ended ≡ false → IsAtEnd left_new → old.held ++ (front ++ back) ≡ []
     → old.taken + length (front ++ back) ≤ 4194304
-    → Takes left left_new (front ++ back) → Reads old left last last_new front back
+    → Takes left left_new (front ++ back) → TellsReads old left last last_new front back
     → Took old new left left_new last last_new (Ok End)
 took_end old new left left_new last last_new front back going at_end none most takes reads = record {
   front = front;
@@ -164,7 +157,7 @@ took_end old new left left_new last last_new front back going at_end none most t
 pub took_fault : (old new : Reading) (left left_new : Option (List ℕ)) (last last_new : Option ℕ)
     (front back : List ℕ)
     → old.ended ≡ false → back ≡ [] → old.taken + length front ≤ 4194304 → has_end (old.held ++ front) ≡ false
-    → Takes left left_new (front ++ back) → Reads old left last last_new front back
+    → Takes left left_new (front ++ back) → TellsReads old left last last_new front back
     → Took old new left left_new last last_new (Err Fault)
 took_fault old new left left_new last last_new front back going nothing most none takes reads = record {
   front = front;
@@ -186,7 +179,7 @@ took_fault old new left left_new last last_new front back going nothing most non
 pub took_too_long : (old new : Reading) (left left_new : Option (List ℕ)) (last last_new : Option ℕ)
     (front back : List ℕ)
     → old.ended ≡ false → length back ≡ 1 → old.taken + length front ≡ 4194304 → has_end (old.held ++ front) ≡ false
-    → Takes left left_new (front ++ back) → Reads old left last last_new front back
+    → Takes left left_new (front ++ back) → TellsReads old left last last_new front back
     → Took old new left left_new last last_new (Err TooLong)
 took_too_long old new left left_new last last_new front back going one most none takes reads = record {
   front = front;

@@ -35,15 +35,20 @@ abbrev pub StopSays : List ℕ → List (List ℕ) → ReadStop → Type 0
 StopSays taken given Fault = (given ≡ whole taken) × (length taken ≤ 4194304)
 StopSays taken given TooLong = (length taken ≡ 4194305) × (given ≡ whole (take 4194304 taken))
 
--- No read, or some: then front was taken, and then back by the last read, before which all whole lines were handed out.
+-- no read, and nothing taken; or some, and back came by the last, before which all whole lines were handed out
+abbrev pub TellsReads : Reading → Option (List ℕ) → Option ℕ → Option ℕ → List ℕ → List ℕ → Type 0
+TellsReads old left last last_new front back =
+    ((front ≡ []) × (back ≡ []) × (last_new ≡ last))
+    ⊎ (IfSome last_new (λ n. n ≡ length back) × ((taken : List ℕ) (given : List (List ℕ))
+    → Stands old left taken given → given ≡ whole (taken ++ front)))
+
+-- front was taken, and then back by the last read
 pub record Took (old new : Reading) (left left_new : Option (List ℕ)) (last last_new : Option ℕ)
     (result : Result Line ReadStop) : Type 0 where
   pub front : List ℕ
   pub back : List ℕ
   pub takes : Takes left left_new (front ++ back)
-  pub reads : ((front ≡ []) × (back ≡ []) × (last_new ≡ last))
-      ⊎ (IfSome last_new (λ n. n ≡ length back) × ((taken : List ℕ) (given : List (List ℕ))
-      → Stands old left taken given → given ≡ whole (taken ++ front)))
+  pub reads : TellsReads old left last last_new front back
   pub says : (taken : List ℕ) (given : List (List ℕ)) → Stands old left taken given
       → MatchResult result
       (AnswerSays new left_new (taken ++ (front ++ back)) given)

@@ -1,8 +1,7 @@
 use Rattle.std.proofs.Common.{◌≡◌, ◌∙◌, ◌+◌, sym, arith, ap, List, ℕ, false, length, take, drop, slice_index, ◌++◌, ◌∷◌}
-use Rattle.std.proofs.lemmas.List.{take_all}
 use Rattle.std.proofs.lemmas.Bool.{eqb-true}
 use Rattle.transyt_io.specs.Lines.{line_of, lines_by, has_end}
-use Rattle.transyt_io.proofs.Lines.{no_end_before, no_end_more, kept_more, line_of_kept, gathered_line, length_kept}
+use Rattle.transyt_io.proofs.Lines.{no_end_in, no_end_more, kept_more, line_of_kept, gathered_line, length_kept}
 use Rattle.transyt_io.proofs.Lines.{length_line}
 use Rattle.transyt_io.proofs.gather.gather.Goals as goal
 
@@ -15,9 +14,7 @@ pub returns-in_default-clause-gathered : goal.returns-in_default-clause-gathered
 returns-in_default-clause-gathered c raw h =
     let piece = c.args.piece.now in
     let none : has_end piece ≡ false =
-    sym (ap has_end (take_all (length piece) piece (omega arith)))
-    ∙ no_end_before (length piece) piece
-    (λ k below. (rw c.in_default.is at c.memchr.ensures) k (omega arith) below) (omega arith) in
+    no_end_in piece (λ k below. (rw c.in_default.is at c.memchr.ensures) k (omega arith) below) in
     record {
       first = c.keep.ensures.line ∙ ap (λ (xs : List ℕ). take 4098 (xs ++ piece)) h.first ∙ kept_more 4098 raw piece;
       open_yet = no_end_more raw piece h.open_yet none;
