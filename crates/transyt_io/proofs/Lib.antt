@@ -1,5 +1,6 @@
 pub mod Copies
 pub mod Lines
+pub mod Pieces
 pub mod Pulled
 pub mod Reading
 pub mod Told

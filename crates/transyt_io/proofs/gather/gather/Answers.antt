@@ -1,4 +1,4 @@
-use Rattle.std.proofs.Common.{◌≡◌, ◌∙◌, ◌+◌, sym, arith, ap, List, ℕ, false, length, take, drop, slice_index, ◌++◌, ◌∷◌}
+use Rattle.std.proofs.Common.{◌≡◌, ◌∙◌, ◌+◌, sym, arith, ap, List, ℕ, false, take, drop, slice_index, ◌++◌, ◌∷◌}
 use Rattle.std.proofs.lemmas.Bool.{eqb-true}
 use Rattle.transyt_io.specs.Lines.{line_of, lines_by, has_end}
 use Rattle.transyt_io.proofs.Lines.{no_end_in, no_end_more, kept_more, line_of_kept, gathered_line, length_kept}

@@ -1,10 +1,10 @@
-use Rattle.std.proofs.Common.{◌≡◌, ◌∙◌, ◌<◌, ◌≤◌, ◌+◌, ◌++◌, ◌∷◌, ℕ, List, length, take, drop, sym, ap, subst, arith}
-use Rattle.std.proofs.Common.{rules, append_assoc, IfSome}
-use Rattle.std.proofs.lemmas.List.{length-take-le, take-append-le, length-append}
+use Rattle.std.proofs.Common.{◌≡◌, ◌∙◌, ◌<◌, ◌+◌, ◌++◌, ◌∷◌, ℕ, List, length, take, drop, sym, ap, subst, arith, rules}
+use Rattle.std.proofs.Common.{append_assoc, IfSome}
 use Rattle.std.proofs.lemmas.Slice.{between_is}
 use Rattle.std.specs.List.{between}
 use Rattle.transyt_io.specs.Gather.{Gathers}
 use Rattle.transyt_io.specs.Lines.{lines_by}
+use Rattle.transyt_io.proofs.Pieces.{piece_read}
 use Rattle.transyt_io.proofs.Told.{takes_both}
 use Rattle.transyt_io.proofs.reader.read_on.Goals as goal
 
@@ -19,35 +19,28 @@ returns-in-Some-clause-pulled g c =
     let rest = drop c.room-want.result c.loop-n.block in
     let block = buf ++ rest in
     let back = take n buf in
-    let bound : n ≤ length buf = c.in-Ok.ensures.bound in
-    let want = c.room-want.result in
-    let full : length (take want c.loop-n.block) ≡ want =
-    length-take-le want c.loop-n.block c.room-want.ensures.within in
-    let asked : length buf ≡ want = c.read.auto.buf ∙ full in
-    let same : take n block ≡ back = take-append-le n buf rest bound in
-    let long : length back ≡ n = length-take-le n buf bound in
-    let both : length (front ++ back) ≡ length front + length back = length-append front back in
-    let blocks : length block ≡ length buf + length rest = length-append buf rest in
+    let piece = piece_read c.loop-n.block buf rest front n c.room-want.result c.read.auto.buf
+    c.room-want.ensures.within c.in-Ok.ensures.bound in
     let within : at < length (take n block) = c.in-Some.ensures.within in
-    let inside : at < n = omega (arith, ap length same) in
+    let inside : at < n = omega (arith, ap length piece.same, piece.long) in
     record {
       front = front;
       back = back;
       takes = takes_both _ _ _ front back sofar.takes c.in-Ok.ensures.bytes.0;
       last_read =
           let P : ℕ → Type 0 = λ k. IfSome (g.S.Source.last c.read.new.self) (λ m. m ≡ k) in
-          subst P (sym long) c.in-Ok.ensures.last;
+          subst P (sym piece.long) c.in-Ok.ensures.last;
       no_end = λ raw h. (sofar.gathers raw h).open_yet;
       answer = record {
         low = omega arith;
-        high = omega arith;
-        taken_now = omega arith;
-        less = omega arith;
+        high = omega (arith, piece.inside);
+        taken_now = omega (arith, piece.long);
+        less = omega (arith, piece.long);
         ends = λ raw h keep ys.
             let told = c.in-Some.ensures.gathered (raw ++ front) (sofar.gathers raw h) keep ys in
             let all : (raw ++ (front ++ back)) ++ ys ≡ ((raw ++ front) ++ take n block) ++ ys =
             ap (λ (xs : List ℕ). xs ++ ys) (sym (append_assoc raw front back)
-            ∙ ap (λ (xs : List ℕ). (raw ++ front) ++ xs) (sym same)) in
+            ∙ ap (λ (xs : List ℕ). (raw ++ front) ++ xs) (sym piece.same)) in
             let behind : drop (at + 1) (take n block) ++ ys ≡ between (at + 1) n block ++ ys =
             ap (λ (xs : List ℕ). xs ++ ys) (sym (between_is block (at + 1) n)) in
             ap (lines_by keep) all ∙ told ∙ ap (λ (xs : List ℕ). c.gather.new.line.items ∷ lines_by keep xs) behind;
@@ -62,28 +55,21 @@ loop-n-preserved g c =
     let n = c.in-Ok.n in
     let buf = c.read.new.buf in
     let rest = drop c.room-want.result c.loop-n.block in
-    let block = buf ++ rest in
     let back = take n buf in
-    let bound : n ≤ length buf = c.in-Ok.ensures.bound in
-    let want = c.room-want.result in
-    let full : length (take want c.loop-n.block) ≡ want =
-    length-take-le want c.loop-n.block c.room-want.ensures.within in
-    let asked : length buf ≡ want = c.read.auto.buf ∙ full in
-    let same : take n block ≡ back = take-append-le n buf rest bound in
-    let long : length back ≡ n = length-take-le n buf bound in
-    let both : length (front ++ back) ≡ length front + length back = length-append front back in (
+    let piece = piece_read c.loop-n.block buf rest front n c.room-want.result c.read.auto.buf
+    c.room-want.ensures.within c.in-Ok.ensures.bound in (
       front ++ back,
       record {
         takes = takes_both _ _ _ front back sofar.takes c.in-Ok.ensures.bytes.0;
         gathers = λ raw h.
-            let told : Gathers c.gather.new.line.items ((raw ++ front) ++ take n block) =
+            let told : Gathers c.gather.new.line.items ((raw ++ front) ++ take n (buf ++ rest)) =
             c.in_default.ensures.gathered (raw ++ front) (sofar.gathers raw h) in
-            let all : (raw ++ front) ++ take n block ≡ raw ++ (front ++ back) =
-            ap (λ (xs : List ℕ). (raw ++ front) ++ xs) same ∙ append_assoc raw front back in
+            let all : (raw ++ front) ++ take n (buf ++ rest) ≡ raw ++ (front ++ back) =
+            ap (λ (xs : List ℕ). (raw ++ front) ++ xs) piece.same ∙ append_assoc raw front back in
             let P : List ℕ → Type 0 = λ xs. Gathers c.gather.new.line.items xs in
             subst P all told;
-        count = omega arith;
-        most = omega arith;
+        count = omega (arith, piece.both);
+        most = omega (arith, piece.asked);
         room = c.gather.ensures.room;
         kept = c.gather.ensures.kept;
         later = search rules;
