@@ -22,16 +22,6 @@ use memchr::memchr;
 /// How many bytes of a line are kept: one more than a line that is too long stands for.
 pub(crate) const KEPT: usize = 4098;
 
-/// Whether the last byte is a carriage return.
-fn ends_in_return(raw: &[u8]) -> bool
-    ensures { result ≡ (slice_index raw.now (length raw.now - 1) == 13) }
-{
-    match raw.last() {
-        Some(b) => *b == b'\r',
-        None => false,
-    }
-}
-
 /// The length of the line that `raw` is: without a carriage return at its end, and of at most 4,097 bytes.
 pub(crate) fn line_length(raw: &[u8]) -> usize
     ensures line { take result raw.now ≡ line_of raw.now }
@@ -44,16 +34,13 @@ pub(crate) fn line_length(raw: &[u8]) -> usize
     raw.len().min(KEPT - 1)
 }
 
-/// Adds `piece` to what is kept of a line.
-fn keep(line: &mut Vec<u8>, piece: &[u8])
-    requires room { 4098 ≤ vec_capacity line.old }
-    requires kept { length line.old.items ≤ 4098 }
-    ensures line { line.new.items ≡ take 4098 (line.old.items ++ piece.now) }
-    ensures room { 4098 ≤ vec_capacity line.new }
+/// Whether the last byte is a carriage return.
+fn ends_in_return(raw: &[u8]) -> bool
+    ensures { result ≡ (slice_index raw.now (length raw.now - 1) == 13) }
 {
-    let n = piece.len().min(KEPT - line.len());
-    if line.extend_from_slice(&piece[..n]).is_err() {
-        unreachable!();
+    match raw.last() {
+        Some(b) => *b == b'\r',
+        None => false,
     }
 }
 
@@ -73,6 +60,19 @@ pub(crate) fn gather(line: &mut Vec<u8>, piece: &[u8]) -> Option<usize>
     keep(line, &piece[..at]);
     close(line);
     Some(at)
+}
+
+/// Adds `piece` to what is kept of a line.
+fn keep(line: &mut Vec<u8>, piece: &[u8])
+    requires room { 4098 ≤ vec_capacity line.old }
+    requires kept { length line.old.items ≤ 4098 }
+    ensures line { line.new.items ≡ take 4098 (line.old.items ++ piece.now) }
+    ensures room { 4098 ≤ vec_capacity line.new }
+{
+    let n = piece.len().min(KEPT - line.len());
+    if line.extend_from_slice(&piece[..n]).is_err() {
+        unreachable!();
+    }
 }
 
 /// Begins a line with `piece`, up to the piece's first line end, and answers where that is.

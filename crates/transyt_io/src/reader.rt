@@ -48,64 +48,6 @@ pub enum ReadStop {
     TooLong,
 }
 
-/// Where the block holds what came behind a line.
-#[derive(Debug, Drop)]
-struct Pull {
-    at: usize,
-    end: usize,
-}
-
-/// How many bytes to ask for: at most what may still come, and exactly one once all that may come was taken.
-fn room(taken: usize, block: usize) -> usize
-    requires some { 0 < block }
-    requires most { taken ≤ 4194304 }
-    ensures some { 0 < result }
-    ensures within { result ≤ block }
-    ensures most { taken + result ≤ 4194305 }
-    ensures exact { taken < 4194304 → taken + result ≤ 4194304 }
-{
-    (MOST - taken).max(1).min(block)
-}
-
-/// Reads on until the line or the source ends. The line so far is in `line`; what comes behind its end is in `block`.
-fn read_on<S: Source>(
-    source: &mut S,
-    block: &mut [u8],
-    line: &mut Vec<u8>,
-    taken: &mut usize,
-) -> Result<Option<Pull>, ReadStop>
-    requires some { 0 < length block.old }
-    requires most { taken.old ≤ 4194304 }
-    requires room { 4098 ≤ vec_capacity line.old }
-    requires kept { length line.old.items ≤ 4098 }
-    ensures room { 4098 ≤ vec_capacity line.new }
-    ensures kept { length line.new.items ≤ 4098 }
-    ensures pulled { Pulled line.old.items line.new.items block.new taken.old taken.new
-        (S.left source.old) (S.left source.new) (S.last source.new) result }
-    ensures most { taken.new ≤ 4194304 }
-    ensures later { S.faults source.old ≤ S.faults source.new }
-    ensures fault { IsErrOf result ReadStop.Fault →
-        Rose (S.faults source.old) (S.faults source.new) }
-{
-    loop {
-        let want = room(*taken, block.len());
-        let n = match source.read(&mut block[..want]) {
-            Ok(n) => n,
-            Err(Failed) => return Err(ReadStop::Fault),
-        };
-        if n == 0 {
-            return Ok(None);
-        }
-        if *taken == MOST {
-            return Err(ReadStop::TooLong);
-        }
-        *taken += n;
-        if let Some(at) = gather(line, &block[..n]) {
-            return Ok(Some(Pull { at: at + 1, end: n }));
-        }
-    }
-}
-
 /// The lines of a source, one at a time, however the reads cut them.
 ///
 /// Contracts see it as a `Reading`: of a live reader how many bytes were taken and those that no line handed out has;
@@ -236,4 +178,62 @@ impl LineReader {
             }
         }
     }
+}
+
+/// Where the block holds what came behind a line.
+#[derive(Debug, Drop)]
+struct Pull {
+    at: usize,
+    end: usize,
+}
+
+/// Reads on until the line or the source ends. The line so far is in `line`; what comes behind its end is in `block`.
+fn read_on<S: Source>(
+    source: &mut S,
+    block: &mut [u8],
+    line: &mut Vec<u8>,
+    taken: &mut usize,
+) -> Result<Option<Pull>, ReadStop>
+    requires some { 0 < length block.old }
+    requires most { taken.old ≤ 4194304 }
+    requires room { 4098 ≤ vec_capacity line.old }
+    requires kept { length line.old.items ≤ 4098 }
+    ensures room { 4098 ≤ vec_capacity line.new }
+    ensures kept { length line.new.items ≤ 4098 }
+    ensures pulled { Pulled line.old.items line.new.items block.new taken.old taken.new
+        (S.left source.old) (S.left source.new) (S.last source.new) result }
+    ensures most { taken.new ≤ 4194304 }
+    ensures later { S.faults source.old ≤ S.faults source.new }
+    ensures fault { IsErrOf result ReadStop.Fault →
+        Rose (S.faults source.old) (S.faults source.new) }
+{
+    loop {
+        let want = room(*taken, block.len());
+        let n = match source.read(&mut block[..want]) {
+            Ok(n) => n,
+            Err(Failed) => return Err(ReadStop::Fault),
+        };
+        if n == 0 {
+            return Ok(None);
+        }
+        if *taken == MOST {
+            return Err(ReadStop::TooLong);
+        }
+        *taken += n;
+        if let Some(at) = gather(line, &block[..n]) {
+            return Ok(Some(Pull { at: at + 1, end: n }));
+        }
+    }
+}
+
+/// How many bytes to ask for: at most what may still come, and exactly one once all that may come was taken.
+fn room(taken: usize, block: usize) -> usize
+    requires some { 0 < block }
+    requires most { taken ≤ 4194304 }
+    ensures some { 0 < result }
+    ensures within { result ≤ block }
+    ensures most { taken + result ≤ 4194305 }
+    ensures exact { taken < 4194304 → taken + result ≤ 4194304 }
+{
+    (MOST - taken).max(1).min(block)
 }

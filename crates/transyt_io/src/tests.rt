@@ -9,6 +9,9 @@ use std::alloc::{AllocError, Global};
 use std::io;
 use std::test::Fail;
 
+/// The most bytes that an input may have.
+const LIMIT: usize = 4_194_304;
+
 /// What a reader hands out until it stops, a bar behind each line, and why it stopped.
 fn read_text<S: Source>(
     alloc: Global,
@@ -41,9 +44,6 @@ fn gives<S: Source>(
     let (text, stop) = read_text(alloc, source)?;
     Ok(text.as_slice() == wanted && stop == why)
 }
-
-/// The most bytes that an input may have.
-const LIMIT: usize = 4_194_304;
 
 /// The same text by the rule itself, over all bytes at once: an LF ends a line, and the bytes behind the last one
 /// are a line where `unended` says so.
