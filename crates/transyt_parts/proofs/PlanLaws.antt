@@ -3,7 +3,7 @@ use Rattle.std.proofs.Common.{◌≡◌, ℕ, suc, zero, ◌+◌, ◌<◌, Bool,
 use Rattle.std.proofs.Common.{Some, refl, ap, ◌∙◌, arith}
 use Rattle.std.specs.List.{list_all, range_with_len}
 use Rattle.std.proofs.lemmas.List.Folds.{list_all-append, list_all_at}
-use Rattle.std.proofs.lemmas.List.Elements.{All-nil, All-cons}
+use Rattle.std.proofs.lemmas.List.Elements.{All-nil, All-cons, All-head, All-tail}
 use Rattle.std.proofs.lemmas.List.FromFn.{length-range_with_len, get_or-range_with_len}
 use Rattle.std.proofs.lemmas.Bool.{and_from}
 use Rattle.transyt_parts.specs.declared.stage_plan.PlanFault.{PlanFault}
@@ -46,3 +46,11 @@ all_planned steps [] h = All-nil (λ n. plan_fault steps n.stages ≡ None)
 all_planned steps (n ∷ ns) h =
     let both = first_of_none (plan_fault steps n.stages) (first_fault steps ns) h in
     All-cons (λ x. plan_fault steps x.stages ≡ None) n ns both.0 (all_planned steps ns both.1)
+
+-- none of the nodes has a fault: there is no first
+pub none_first : (steps : ℕ) (nodes : List NodeValue) → All (λ n. plan_fault steps n.stages ≡ None) nodes
+    → first_fault steps nodes ≡ None
+none_first steps [] all = refl
+none_first steps (n ∷ ns) all =
+    ap (λ o. first_of o (first_fault steps ns)) (All-head (λ x. plan_fault steps x.stages ≡ None) n ns all)
+    ∙ none_first steps ns (All-tail (λ x. plan_fault steps x.stages ≡ None) n ns all)

@@ -1,6 +1,6 @@
 //! Copies of the parts of a network.
 
-ghost use Rattle.std.specs.Prelude.{◌≡◌, IfOk, take};
+ghost use Rattle.std.specs.Prelude.{◌≡◌, IfOk};
 
 use crate::climb_plan::ClimbPlan;
 use crate::link::Link;

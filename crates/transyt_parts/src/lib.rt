@@ -5,8 +5,7 @@
 //! are seen as they are. Cite first: `within` and `is_frame` of `specs/Valid` for ranges, `IsNode`
 //! and its like there for what a part keeps to, `new_link` and its like of `specs/Made` for parts
 //! of given numbers, `length_at`, `plan_fault` and `first_fault` of `specs/Plan`, `total_flow` of
-//! `specs/Flow`, and `bare_node`, `bare_link` and `same_list` of `specs/Shape` for what no edit
-//! changes.
+//! `specs/Flow`, and `bare_node` and `bare_link` of `specs/Shape` for what no edit changes.
 //!
 //! The parts are those of Robertson's TRANSYT (LR 253); lags, give-way rules, climb plans and all
 //! limits are this project's own.

@@ -11,7 +11,8 @@ use std::marker::Model;
 pub struct Stage {
     /// The step of the cycle at which the stage begins, before the node's offset is added.
     pub change: u32,
-    /// The steps after the change in which only links of the stage before run too.
+    /// The steps after the change in which, of the stage's links, only those run that run in the
+    /// stage before too.
     pub intergreen: u32,
     /// The least green, at least 1.
     pub least: u32,
@@ -36,7 +37,8 @@ impl Model for Node {
     ghost view = { λ n. record { number = n.number; offset = n.offset; stages = n.stages.items } };
 }
 
-/// Adds a stage to a node, after those that it has. Where memory is wanting the node stays as it is.
+/// Adds a stage to a node, after those that it has. Where memory is wanting the node stays as it
+/// is.
 pub fn add_stage(node: &mut Node, stage: Stage) -> Result<(), AllocFailed<Stage>>
     ensures ok { OnOk result (node.new ≡ add_stage stage node.old) }
     ensures err { OnErr result (node.new ≡ node.old) }

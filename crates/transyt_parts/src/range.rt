@@ -1,6 +1,6 @@
 //! Whether numbers are in their ranges, and whether they differ.
 
-ghost use Rattle.std.specs.Prelude.{◌≡◌, length, []};
+ghost use Rattle.std.specs.Prelude.{◌≡◌, []};
 ghost use Rattle.std.specs.List.{list_all};
 ghost use Rattle.transyt_parts.specs.Valid.{is_frame, within, all_differ, node_in_range, stage_in_range, link_in_range, feed_in_range};
 ghost use Rattle.transyt_parts.specs.Made.{new_link};

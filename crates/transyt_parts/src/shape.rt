@@ -3,7 +3,7 @@
 //! An edit sets an offset, a change, a flow, a cruise time or a weight; all else is the shape. This
 //! project's own.
 
-ghost use Rattle.std.specs.Prelude.{◌≡◌, ◌↔◌, ℕ, IsTrue, length, map, nat_eq};
+ghost use Rattle.std.specs.Prelude.{◌≡◌, ◌↔◌, ℕ, IsTrue, map, nat_eq};
 ghost use Rattle.transyt_parts.specs.Shape.{bare_node, bare_link};
 ghost use Rattle.transyt_parts.specs.Alike.{same_list, same_stage, same_node, same_feed, same_rule, same_link, same_plan, same_frame};
 

@@ -1,6 +1,6 @@
 //! The stage plan of a node: the order of its stages and their greens.
 
-ghost use Rattle.std.specs.Prelude.{◌≡◌, ℕ, ◌+◌, ◌-◌, ◌%◌, ◌^◌, ◌<◌, ◌≤◌, length, sum, slice_index, All};
+ghost use Rattle.std.specs.Prelude.{◌≡◌, ℕ, ◌+◌, ◌-◌, ◌<◌, ◌≤◌, length, All};
 ghost use Rattle.transyt_cycle.specs.Cycle.{minus_mod};
 ghost use Rattle.transyt_parts.specs.Plan.{place_after, stage_of, length_at, in_order, have_greens, plan_fault, first_fault};
 
