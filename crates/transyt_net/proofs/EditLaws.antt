@@ -3,11 +3,13 @@ use Rattle.std.proofs.Common.{◌≡◌, ℕ, suc, zero, ◌<◌, ◌≤◌, Boo
 use Rattle.std.proofs.Common.{get_or, set, Some, refl, sym, ap, subst, ◌∙◌, arith, nat_eq, All}
 use Rattle.std.proofs.lemmas.List.{set-append_left, take-append-le, length-set}
 use Rattle.std.proofs.lemmas.List.Elements.{All-head, All-tail}
-use Rattle.transyt_net.specs.Valid.{numbered, on_numbered, on_place, IsPlace}
+use Rattle.transyt_net.specs.Valid.{numbered, on_numbered, on_place}
+use Rattle.transyt_net.specs.Named.{IsPlace}
 use Rattle.transyt_parts.specs.declared.node.Stage.{Stage}
 use Rattle.transyt_parts.specs.declared.link.Feed.{Feed}
 use Rattle.transyt_parts.specs.Parts.{LinkValue}
 use Rattle.transyt_net.specs.Edits.{change_to, feeder_of, feed_in, the_feed}
+use Rattle.transyt_net.proofs.CopyLaws.{take_whole}
 use Rattle.transyt_net.proofs.PlaceLaws.{found_here, on_place_here, written_here}
 
 -- what holds of each element holds of the one of a number
@@ -59,7 +61,3 @@ changed_front items rest p change d h =
     ∙ take-append-le (length items) (set items p new) rest fits
     ∙ whole
     ∙ sym (on_place_here (change_to change) items p d h)
-  where
-    take_whole : (xs : List Stage) → take (length xs) xs ≡ xs
-    take_whole [] = refl
-    take_whole (x ∷ xs) = ap (λ ys. x ∷ ys) (take_whole xs)

@@ -9,7 +9,8 @@ use Rattle.std.proofs.lemmas.Bool.Decides.{nat_tests}
 use Rattle.std.proofs.lemmas.List.Folds.{list_any-append}
 use Rattle.std.proofs.lemmas.List.Quantifiers.{position-Some}
 use Rattle.std.proofs.lemmas.List.{length-map, get_or-map}
-use Rattle.transyt_net.specs.Valid.{is_among, numbered, on_numbered, on_place, place_of, IsPlace}
+use Rattle.transyt_net.specs.Valid.{is_among, numbered, on_numbered, on_place, place_of}
+use Rattle.transyt_net.specs.Named.{IsPlace}
 use Rattle.transyt_parts.specs.Valid.{all_differ}
 
 -- a number that is among these is among more

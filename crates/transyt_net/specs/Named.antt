@@ -1,5 +1,5 @@
--- What an edit does to the one part that it names. No public clause cites these.
-use Rattle.std.specs.Prelude.{⊤, ◌≡◌, ℕ, ◌-◌, ◌≤◌, true, length}
+-- What an edit does to the one part that it names, and where a feed stands. No public clause cites these.
+use Rattle.std.specs.Prelude.{⊤, ◌≡◌, ℕ, ◌-◌, ◌<◌, ◌≤◌, true, false, nat_eq, List, length, slice_index_or}
 use Rattle.transyt_net.specs.declared.edit.Edit.{Edit}
 use Rattle.transyt_net.specs.declared.edit.Edit.TheVariants.{Offset, Change, Entry, Part, Cruise, Saturation, Weight}
 use Rattle.transyt_parts.specs.Parts.{NodeValue, LinkValue}
@@ -63,3 +63,9 @@ abbrev pub LinkTakes : Edit → LinkValue → Type 0
 LinkTakes (Part link feeder flow) l = is_fed l.feeds feeder ≡ true
 LinkTakes (Cruise link feeder seconds) l = is_fed l.feeds feeder ≡ true
 LinkTakes e l = ⊤
+
+-- p is the first place whose number is k
+pub record IsPlace {A : Type 0} (key : A → ℕ) (xs : List A) (k p : ℕ) : Type 0 where
+  pub inside : p < length xs
+  pub here : (d : A) → nat_eq k (key (slice_index_or xs p d)) ≡ true
+  pub first : (d : A) (i : ℕ) → i < p → nat_eq k (key (slice_index_or xs i d)) ≡ false

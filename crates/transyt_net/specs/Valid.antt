@@ -1,6 +1,6 @@
 -- What a network keeps to, and the part that a card number names.
-use Rattle.std.specs.Prelude.{suc, zero, ◌≡◌, ℕ, ◌<◌, ◌≤◌, Bool, true, false, nat_eq, List, [], ◌∷◌, length, map}
-use Rattle.std.specs.Prelude.{Option, Some, None, IfSome, All, position, IsTrue, if◌then◌else◌, slice_index_or}
+use Rattle.std.specs.Prelude.{suc, zero, ◌≡◌, ℕ, ◌<◌, ◌≤◌, Bool, nat_eq, List, [], ◌∷◌, length, map}
+use Rattle.std.specs.Prelude.{Option, Some, None, IfSome, All, position, IsTrue, if◌then◌else◌}
 use Rattle.std.specs.List.{list_any}
 use Rattle.transyt_parts.specs.declared.link.Feed.{Feed}
 use Rattle.transyt_parts.specs.declared.link.GiveWay.{GiveWay}
@@ -20,12 +20,6 @@ link_numbers links = map link_number links
 -- the first place of a number
 abbrev pub place_of : List ℕ → ℕ → Option ℕ
 place_of numbers number = position (nat_eq number) numbers
-
--- p is the first place whose number is k
-pub record IsPlace {A : Type 0} (key : A → ℕ) (xs : List A) (k p : ℕ) : Type 0 where
-  pub inside : p < length xs
-  pub here : (d : A) → nat_eq k (key (slice_index_or xs p d)) ≡ true
-  pub first : (d : A) (i : ℕ) → i < p → nat_eq k (key (slice_index_or xs i d)) ≡ false
 
 -- the first whose number this is
 abbrev pub numbered : {A : Type 0} → (A → ℕ) → List A → ℕ → Option A

@@ -1,9 +1,8 @@
 //! A network that is being made.
 
-ghost use Rattle.std.specs.Prelude.{◌≡◌, ℕ, ◌-◌, ◌<◌, ◌≤◌, length, IfSome, IfNone, IfErr, IfOk, OnOk, OnErr, IsTrue, IsOk, IsErrOf, ◌↔◌, ◌++◌, ◌∷◌, []};
-ghost use Rattle.transyt_net.specs.Valid.{node_numbers, link_numbers, place_of, is_among, IsValid};
+ghost use Rattle.std.specs.Prelude.{◌≡◌, ℕ, ◌-◌, ◌<◌, ◌≤◌, length, IfSome, IfNone, IfErr, IfOk, OnOk, OnErr, IsTrue, IsOk, IsErrOf, ◌↔◌};
+ghost use Rattle.transyt_net.specs.Valid.{node_numbers, link_numbers, IsValid};
 ghost use Rattle.transyt_parts.specs.Valid.{is_frame};
-ghost use Rattle.indexmap.specs.IndexSet.{spare};
 ghost use Rattle.transyt_parts.specs.Plan.{first_fault};
 ghost use Rattle.transyt_net.specs.Faults.{empty, node_fault, with_node, stage_fault, with_stage, link_fault, with_link, feed_fault, with_feed, rule_fault, with_rule, climb_fault, with_plan};
 ghost use Rattle.transyt_parts.specs.Made.{new_stage, new_link, new_feed, new_rule, new_plan};
@@ -23,7 +22,8 @@ use transyt_parts::{
 /// Why a draft refuses, in the order in which the faults are asked for.
 #[derive(Clone, Copy, Debug, PartialEq, Eq)]
 pub enum DraftFault {
-    /// The number, the feeder or the rule is there already (16).
+    /// The number, the feeder or the rule is there already, or a stage stands twice in one link
+    /// (16).
     Twice,
     /// The node, the stage or the link is unknown (17).
     Unknown,
@@ -287,6 +287,8 @@ impl Draft {
     }
 
     /// Sets the climb plan. `sizes` are in steps, each from 1 and below the number of steps.
+    ///
+    /// Range where the budget or a size isn't in its range.
     pub fn plan(&mut self, budget: u32, sizes: &[u32]) -> Result<(), DraftFault>
         requires unset { self.old.plan ≡ None }
         requires some { 1 ≤ length sizes.now }
@@ -306,9 +308,11 @@ impl Draft {
         Ok(())
     }
 
-    /// The first fault of the nodes' plans, node by node in order.
+    /// The first fault of the nodes' plans, node by node in order; none exactly where the draft is
+    /// a valid network.
     pub fn judge(&self) -> Option<PlanFault>
-        ensures { result ≡ first_fault self.now.frame.step_count self.now.nodes }
+        ensures value { result ≡ first_fault self.now.frame.step_count self.now.nodes }
+        ensures valid { result ≡ None ↔ IsValid self.now }
     {
         first_fault(self.frame.step_count, &self.nodes)
     }

@@ -2,7 +2,7 @@
 
 ghost use Rattle.std.specs.Prelude.{◌≡◌, ℕ, ◌+◌, ◌-◌, ◌<◌, ◌≤◌, length, true};
 ghost use Rattle.transyt_parts.specs.Valid.{is_fed};
-ghost use Rattle.transyt_net.specs.Valid.{IsPlace};
+ghost use Rattle.transyt_net.specs.Named.{IsPlace};
 ghost use Rattle.transyt_parts.specs.Plan.{stage_of};
 ghost use Rattle.transyt_net.specs.Edits.{feeder_of, set_offset, set_change, set_entry, set_saturation, set_weights, set_part, set_cruise, the_feed};
 ghost use Rattle.transyt_net.specs.Named.{node_edit, link_edit, node_back, link_back, NodeTakes, LinkTakes};
@@ -114,12 +114,16 @@ fn set_saturation(link: &mut Link, flow: u32) -> u32
     before
 }
 
-/// Sets the weights, and gives those before.
-fn set_weights(link: &mut Link, delay: u32, stop: u32) -> (u32, u32)
+/// Sets the weights, and gives the edit that sets those before of the link `number`.
+fn set_weights(link: &mut Link, number: u32, delay: u32, stop: u32) -> Edit
     ensures value { link.new ≡ set_weights delay stop link.old }
-    ensures before { result ≡ (link.old.delay_weight, link.old.stop_weight) }
+    ensures before { result ≡ Edit.Weight number link.old.delay_weight link.old.stop_weight }
 {
-    let before = (link.delay_weight, link.stop_weight);
+    let before = Edit::Weight {
+        link: number,
+        delay: link.delay_weight,
+        stop: link.stop_weight,
+    };
     link.delay_weight = delay;
     link.stop_weight = stop;
     before
@@ -226,14 +230,7 @@ pub(crate) fn edit_link(link: &mut Link, e: &Edit) -> Edit
             link: number,
             delay,
             stop,
-        } => {
-            let (delay, stop) = set_weights(link, delay, stop);
-            Edit::Weight {
-                link: number,
-                delay,
-                stop,
-            }
-        }
+        } => set_weights(link, number, delay, stop),
         other => other,
     }
 }

@@ -31,8 +31,8 @@ fn one_link(alloc: Global) -> Result<Draft, DraftFault>
     Ok(draft)
 }
 
-/// The network of the same. Its deck is CYCLE 60 10 1 60 100, NODE 1 0, STAGE 0 1 2, STAGE 5 1 2 and
-/// LINK 1 1 360 1800 1 1 1.
+/// The network of the same. Its deck is CYCLE 60 10 1 60 100, NODE 1 0, STAGE 0 1 2, STAGE 5 1 2
+/// and LINK 1 1 360 1800 1 1 1.
 fn junction(alloc: Global) -> Result<Net, Fail> {
     let draft = one_link(alloc)?;
     if draft.judge().is_some() {

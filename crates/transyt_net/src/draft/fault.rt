@@ -1,9 +1,7 @@
 //! The first fault of each call of a draft.
 
 ghost use Rattle.std.specs.Prelude.{is_some, ◌≡◌, ℕ, ◌-◌, ◌<◌, length, true, false, ◌&&◌};
-ghost use Rattle.std.specs.List.{list_all};
-ghost use Rattle.transyt_net.specs.Valid.{node_numbers, link_numbers, is_among, stages_at, feeds_at, rule_at};
-ghost use Rattle.transyt_parts.specs.Valid.{within, all_differ, is_fed};
+ghost use Rattle.transyt_net.specs.Valid.{feeds_at, rule_at};
 ghost use Rattle.transyt_net.specs.Faults.{node_fault, stage_fault, link_fault, are_links, feed_fault, rule_fault, climb_fault};
 ghost use Rattle.transyt_parts.specs.Made.{new_link, new_plan};
 

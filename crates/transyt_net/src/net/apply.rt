@@ -25,6 +25,7 @@ impl Net {
         ensures err { OnErr result (self.new ≡ self.old) }
         ensures valid { IsValid self.new }
     {
+        // This brings the type's invariant into scope: the network is valid before the edit.
         let _ = &self.frame;
         if let Some(fault) = self.judge(&e) {
             return Err(fault);

@@ -1,8 +1,7 @@
 //! The first fault of an edit.
 
 ghost use Rattle.std.specs.Prelude.{◌≡◌, ℕ, ◌-◌, ◌<◌, ◌≤◌, length, true, take};
-ghost use Rattle.transyt_net.specs.Valid.{node_numbers, link_numbers, is_among, feeds_at, stages_at, on_place};
-ghost use Rattle.transyt_parts.specs.Valid.{is_fed, within};
+ghost use Rattle.transyt_net.specs.Valid.{on_place};
 ghost use Rattle.transyt_net.specs.EditFaults.{range_fault, feed_fault, order_fault, change_fault, edit_fault, is_link, has_stage, changed};
 ghost use Rattle.transyt_net.specs.Edits.{change_to};
 

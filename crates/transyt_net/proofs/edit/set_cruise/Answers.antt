@@ -1,7 +1,7 @@
 -- The feed at the place of its feeder is the one that is written, and the one whose time is given back.
 use Rattle.std.proofs.Common.{rules, ℕ, ap}
 use Rattle.transyt_parts.specs.declared.link.Feed.{Feed}
-use Rattle.transyt_net.specs.Valid.{IsPlace}
+use Rattle.transyt_net.specs.Named.{IsPlace}
 use Rattle.transyt_net.specs.Edits.{cruise_to, feeder_of}
 use Rattle.transyt_net.proofs.EditLaws.{feed_written, feed_found}
 use Rattle.transyt_net.proofs.edit.set_cruise.Goals as goal

@@ -2,7 +2,8 @@
 use Rattle.std.proofs.Common.{rules, ◌≡◌, ℕ, List, Some, false, sym}
 use Rattle.transyt_parts.specs.Parts.{NodeValue}
 use Rattle.transyt_parts.specs.Valid.{node_number}
-use Rattle.transyt_net.specs.Valid.{node_numbers, place_of, is_among, IsPlace}
+use Rattle.transyt_net.specs.Valid.{node_numbers, place_of, is_among}
+use Rattle.transyt_net.specs.Named.{IsPlace}
 use Rattle.transyt_net.proofs.PlaceLaws.{place_is, found_here, numbered_none}
 use Rattle.transyt_net.proofs.places.node_at.Goals as goal
 

@@ -2,7 +2,8 @@
 use Rattle.std.proofs.Common.{rules, ◌≡◌, ℕ, List, Some, None, sym, ap, ◌∙◌, subst, set, true}
 use Rattle.transyt_parts.specs.Parts.{LinkValue}
 use Rattle.transyt_net.specs.Parts.{Network, network_of}
-use Rattle.transyt_net.specs.Valid.{link_numbers, on_numbered, numbered, place_of, is_among, IsPlace, IsValid}
+use Rattle.transyt_net.specs.Valid.{link_numbers, on_numbered, numbered, place_of, is_among, IsValid}
+use Rattle.transyt_net.specs.Named.{IsPlace}
 use Rattle.transyt_parts.specs.Valid.{link_number}
 use Rattle.transyt_net.specs.declared.edit.Edit.{Edit}
 use Rattle.transyt_net.specs.EditFaults.{edit_fault}
