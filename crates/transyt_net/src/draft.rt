@@ -1,7 +1,7 @@
 //! A network that is being made.
 
 ghost use Rattle.std.specs.Prelude.{◌≡◌, ℕ, ◌-◌, ◌<◌, ◌≤◌, length, IfSome, IfNone, IfErr, IfOk, OnOk, OnErr, IsTrue, IsOk, IsErrOf, ◌↔◌};
-ghost use Rattle.transyt_net.specs.Valid.{node_numbers, link_numbers, IsValid};
+ghost use Rattle.transyt_net.specs.Valid.{IsValid};
 ghost use Rattle.transyt_parts.specs.Valid.{is_frame};
 ghost use Rattle.transyt_parts.specs.Plan.{first_fault};
 ghost use Rattle.transyt_net.specs.Faults.{empty, node_fault, with_node, stage_fault, with_stage, link_fault, with_link, feed_fault, with_feed, rule_fault, with_rule, climb_fault, with_plan};

@@ -1,6 +1,6 @@
 //! The first fault of each call of a draft.
 
-ghost use Rattle.std.specs.Prelude.{is_some, ◌≡◌, ℕ, ◌-◌, ◌<◌, length, true, false, ◌&&◌};
+ghost use Rattle.std.specs.Prelude.{is_some, ◌≡◌, ◌-◌, ◌<◌, length};
 ghost use Rattle.transyt_net.specs.Valid.{feeds_at, rule_at};
 ghost use Rattle.transyt_net.specs.Faults.{node_fault, stage_fault, link_fault, are_links, feed_fault, rule_fault, climb_fault};
 ghost use Rattle.transyt_parts.specs.Made.{new_link, new_plan};
