@@ -4,8 +4,10 @@ pub mod CopyLaws
 pub mod EditLaws
 pub mod KeptLaws
 mod KnownValues
+pub mod NamedLaws
 pub mod PlaceLaws
 pub mod ShapeLaws
-pub mod SoundLaws
+pub mod SoundLinks
+pub mod SoundNodes
 pub mod UndoLaws
 pub mod WriteLaws

@@ -8,7 +8,7 @@ use Rattle.transyt_parts.specs.Parts.{NodeValue, LinkValue}
 use Rattle.transyt_net.specs.Parts.{Network}
 use Rattle.transyt_net.specs.Valid.{numbered, on_numbered, on_place}
 use Rattle.transyt_parts.specs.Valid.{node_number, link_number}
-use Rattle.transyt_net.specs.Flow.{no_node, no_link}
+use Rattle.transyt_net.specs.Parts.{no_node, no_link}
 use Rattle.transyt_parts.specs.Plan.{stage_of}
 
 -- the node with this offset

@@ -4,9 +4,9 @@ ghost use Rattle.std.specs.Prelude.{◌≡◌, ℕ, ◌+◌, ◌*◌, ◌/◌, �
 ghost use Rattle.std.specs.Option.{option_map};
 ghost use Rattle.transyt_net.specs.Valid.{node_numbers, link_numbers, place_of, is_among, IsValid};
 ghost use Rattle.transyt_net.specs.Shape.{SameShape};
-ghost use Rattle.transyt_net.specs.Flow.{node_of, link_of, perstep};
+ghost use Rattle.transyt_net.specs.Flow.{perstep};
 ghost use Rattle.transyt_parts.specs.Flow.{total_flow};
-ghost use Rattle.transyt_net.specs.Parts.{network_of, with_cycle};
+ghost use Rattle.transyt_net.specs.Parts.{network_of, with_cycle, node_of, link_of};
 
 mod apply;
 mod judge;

@@ -8,7 +8,7 @@ use Rattle.transyt_parts.specs.Valid.{link_number}
 use Rattle.transyt_net.specs.Faults.{feed_fault, with_feed}
 use Rattle.transyt_parts.specs.Made.{new_feed, add_feed}
 use Rattle.transyt_net.proofs.PlaceLaws.{written_here, place_is, keys_kept}
-use Rattle.transyt_net.proofs.SoundLaws.{sound_feed}
+use Rattle.transyt_net.proofs.SoundLinks.{sound_feed}
 use Rattle.transyt_net.proofs.draft.Draft.feed.Goals as goal
 
 -- the links as they are then

@@ -8,7 +8,7 @@ use Rattle.transyt_parts.specs.Valid.{link_number}
 use Rattle.transyt_net.specs.Faults.{rule_fault, with_rule}
 use Rattle.transyt_parts.specs.Made.{new_rule, set_rule}
 use Rattle.transyt_net.proofs.PlaceLaws.{written_here, place_is, keys_kept}
-use Rattle.transyt_net.proofs.SoundLaws.{sound_rule}
+use Rattle.transyt_net.proofs.SoundLinks.{sound_rule}
 use Rattle.transyt_net.proofs.draft.Draft.give_way.Goals as goal
 
 -- the links as they are then

@@ -11,6 +11,7 @@ pub returns-clause-valid : goal.returns-clause-valid
 returns-clause-valid c =
     let net : Network = c.args.self.now in
     let sound : IsSound net = subst IsSound c.self.view_is c.self.invariant.0 in
-    let same : c.first_fault.result ≡ first_fault net.frame.step_count net.nodes = search rules in
-    (λ none. record { sound = sound; planned = all_planned net.frame.step_count net.nodes (sym same ∙ none) },
-    λ valid. same ∙ none_first net.frame.step_count net.nodes valid.planned)
+    let same : c.first_fault.result ≡ first_fault net.frame.step_count net.nodes = search rules in (
+      λ none. record { sound = sound; planned = all_planned net.frame.step_count net.nodes (sym same ∙ none) },
+      λ valid. same ∙ none_first net.frame.step_count net.nodes valid.planned,
+    )

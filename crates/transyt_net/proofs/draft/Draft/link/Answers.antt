@@ -7,7 +7,7 @@ use Rattle.transyt_net.specs.Valid.{IsSound, link_numbers}
 use Rattle.transyt_parts.specs.Valid.{link_number}
 use Rattle.transyt_net.specs.Faults.{link_fault, with_link}
 use Rattle.transyt_parts.specs.Made.{new_link}
-use Rattle.transyt_net.proofs.SoundLaws.{sound_link}
+use Rattle.transyt_net.proofs.SoundLinks.{sound_link}
 use Rattle.transyt_net.proofs.draft.Draft.link.Goals as goal
 
 -- the new link keeps the draft sound

@@ -7,7 +7,7 @@ use Rattle.transyt_net.specs.Valid.{IsSound, node_numbers}
 use Rattle.transyt_parts.specs.Valid.{node_number}
 use Rattle.transyt_net.specs.Faults.{node_fault, with_node}
 use Rattle.transyt_parts.specs.Made.{new_node}
-use Rattle.transyt_net.proofs.SoundLaws.{sound_node}
+use Rattle.transyt_net.proofs.SoundNodes.{sound_node}
 use Rattle.transyt_net.proofs.draft.Draft.node.Goals as goal
 
 -- the new node keeps the draft sound

@@ -8,7 +8,7 @@ use Rattle.transyt_parts.specs.Valid.{node_number}
 use Rattle.transyt_net.specs.Faults.{stage_fault, with_stage, last_place}
 use Rattle.transyt_parts.specs.Made.{new_stage, add_stage}
 use Rattle.transyt_net.proofs.PlaceLaws.{on_place_here, keys_kept_at, length_kept_at}
-use Rattle.transyt_net.proofs.SoundLaws.{sound_stage}
+use Rattle.transyt_net.proofs.SoundNodes.{sound_stage}
 use Rattle.transyt_net.proofs.draft.Draft.stage.Goals as goal
 
 -- the nodes as they are then

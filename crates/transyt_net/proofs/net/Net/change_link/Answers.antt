@@ -10,8 +10,9 @@ use Rattle.transyt_net.specs.EditFaults.{edit_fault}
 use Rattle.transyt_net.specs.Edits.{with_edit, inverse}
 use Rattle.transyt_net.specs.Named.{link_edit}
 use Rattle.transyt_net.proofs.PlaceLaws.{written_here, found_here, place_is, keys_kept}
-use Rattle.transyt_net.proofs.ApplyLaws.{valid_edit, link_named, link_takes, link_done, link_back_done}
-use Rattle.transyt_net.proofs.ApplyLaws.{link_numbers_kept}
+use Rattle.transyt_net.proofs.ApplyLaws.{valid_edit}
+use Rattle.transyt_net.proofs.NamedLaws.{link_named, link_takes, link_done, link_back_done}
+use Rattle.transyt_net.proofs.NamedLaws.{link_numbers_kept}
 use Rattle.transyt_net.proofs.net.Net.change_link.Goals as goal
 
 -- the link that an allowed edit names is there

@@ -10,8 +10,9 @@ use Rattle.transyt_net.specs.EditFaults.{edit_fault}
 use Rattle.transyt_net.specs.Edits.{with_edit, inverse}
 use Rattle.transyt_net.specs.Named.{node_edit}
 use Rattle.transyt_net.proofs.PlaceLaws.{written_here, found_here, place_is, keys_kept}
-use Rattle.transyt_net.proofs.ApplyLaws.{valid_edit, node_named, node_takes, node_done, node_back_done}
-use Rattle.transyt_net.proofs.ApplyLaws.{node_numbers_kept}
+use Rattle.transyt_net.proofs.ApplyLaws.{valid_edit}
+use Rattle.transyt_net.proofs.NamedLaws.{node_named, node_takes, node_done, node_back_done}
+use Rattle.transyt_net.proofs.NamedLaws.{node_numbers_kept}
 use Rattle.transyt_net.proofs.net.Net.change_node.Goals as goal
 
 -- the node that an allowed edit names is there

@@ -2,7 +2,7 @@
 use Rattle.std.proofs.Common.{rules, ◌≡◌}
 use Rattle.transyt_parts.specs.Valid.{node_number}
 use Rattle.transyt_net.specs.Valid.{node_numbers, place_of}
-use Rattle.transyt_net.specs.Flow.{no_node}
+use Rattle.transyt_net.specs.Parts.{no_node}
 use Rattle.transyt_net.proofs.PlaceLaws.{found_place}
 use Rattle.transyt_net.proofs.net.Net.node_place.Goals as goal
 
