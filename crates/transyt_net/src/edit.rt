@@ -114,7 +114,7 @@ fn set_saturation(link: &mut Link, flow: u32) -> u32
     before
 }
 
-/// Sets the weights, and gives the edit that sets those before of the link `number`.
+/// Sets the weights of the link `number`, and gives the edit that takes them back.
 fn set_weights(link: &mut Link, number: u32, delay: u32, stop: u32) -> Edit
     ensures value { link.new ≡ set_weights delay stop link.old }
     ensures before { result ≡ Edit.Weight number link.old.delay_weight link.old.stop_weight }
