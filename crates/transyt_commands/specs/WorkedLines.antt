@@ -4,12 +4,17 @@ use Rattle.transyt_net.specs.declared.edit.Edit.TheVariants as e
 use Rattle.transyt_commands.specs.declared.command.Command.{Command}
 use Rattle.transyt_commands.specs.declared.command.Command.TheVariants as c
 
--- a command of each kind, the limits of a line, and each code before the one that follows it
+-- a command of each kind, the limits of a line, each code before the one that follows it, and each command with a code
 abbrev pub worked : List (List ℕ × Result (Option Command) ℕ)
 worked =
     (codes "OFFSET 1 9", Ok (Some (c.Edit (e.Offset 1 9))))
     ∷ (codes "OFFSET\t1  000000010", Ok (Some (c.Edit (e.Offset 1 10))))
+    ∷ (codes "OFFSET 1 10", Ok (Some (c.Edit (e.Offset 1 10))))
+    ∷ (codes "CHANGE 1 2 2", Ok (Some (c.Edit (e.Change 1 2 2))))
+    ∷ (codes "CHANGE 1 2 0", Ok (Some (c.Edit (e.Change 1 2 0))))
+    ∷ (codes "CHANGE 1 3 0", Ok (Some (c.Edit (e.Change 1 3 0))))
     ∷ (codes "CHANGE 1 2 10", Ok (Some (c.Edit (e.Change 1 2 10))))
+    ∷ (codes "ENTRY 9 10", Ok (Some (c.Edit (e.Entry 9 10))))
     ∷ (codes "ENTRY 9 10000", Ok (Some (c.Edit (e.Entry 9 10000))))
     ∷ (codes "PART 1 1 10", Ok (Some (c.Edit (e.Part 1 1 10))))
     ∷ (codes "CRUISE 2 1 20", Ok (Some (c.Edit (e.Cruise 2 1 20))))
@@ -45,4 +50,24 @@ worked =
     ∷ (codes "STOP 1", Err 12)
     ∷ (codes "OFFSET 1 -1", Err 13)
     ∷ (codes "QUEUE 0000000001", Err 13)
+    ∷ (codes "OFFSET 1 x", Err 13)
+    ∷ (codes "CHANGE 1 1 x", Err 13)
+    ∷ (codes "ENTRY 1 x", Err 13)
+    ∷ (codes "PART 1 1 x", Err 13)
+    ∷ (codes "CRUISE 1 1 x", Err 13)
+    ∷ (codes "SATURATION 1 x", Err 13)
+    ∷ (codes "WEIGHT 1 1 x", Err 13)
+    ∷ (codes "PROFILE x", Err 13)
+    ∷ (codes "PLOT x", Err 13)
+    ∷ (codes "QUEUE x", Err 13)
+    ∷ (codes "TRIAL 1", Err 12)
+    ∷ (codes "BACK 1", Err 12)
+    ∷ (codes "KEEP 1", Err 12)
+    ∷ (codes "CLIMB 1", Err 12)
+    ∷ (codes "CERT 1", Err 12)
+    ∷ (codes "INDEX 1", Err 12)
+    ∷ (codes "LINKS 1", Err 12)
+    ∷ (codes "TIMING 1", Err 12)
+    ∷ (codes "WORK 1", Err 12)
+    ∷ (codes "DECK 1", Err 12)
     ∷ []

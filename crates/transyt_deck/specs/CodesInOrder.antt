@@ -25,7 +25,7 @@ upto_rule = upto_link ++ codes "YIELD 1 1 0" ∷ []
 -- 1,001st link have code 20 are too large to be computed.
 abbrev pub in_order : List (List (List ℕ) × List ℕ × ℕ)
 in_order =
-    ([], codes "FORM" ++ replicate 4093 1, 11)
+    ([], codes "FORM 1 " ++ replicate 4090 1, 11)
     ∷ ([], codes "FORM 1 " ++ 1 ∷ [], 10)
     ∷ ([], codes "FORM x x", 12)
     ∷ (upto_link, codes "FORM x", 13)
@@ -87,7 +87,7 @@ in_order =
     ∷ ([], codes "STEPS 1 x", 13)
     ∷ (upto_link ++ codes "STEPS 1 1" ∷ [], codes "STEPS 0 1", 15)
     ∷ (upto_link, codes "STEPS 0 1", 14)
-    ∷ ([], codes "END" ++ replicate 4094 1, 11)
+    ∷ ([], codes "END " ++ replicate 4093 1, 11)
     ∷ ([], codes "END " ++ 1 ∷ [], 10)
     ∷ ([], codes "END x", 12)
     ∷ ([], codes "END", 15)

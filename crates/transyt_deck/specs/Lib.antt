@@ -8,4 +8,5 @@ pub mod Next
 pub mod Stops
 pub mod Reader
 pub mod WorkedDecks
+pub mod WorkedLimits
 pub mod CodesInOrder
