@@ -11,10 +11,9 @@ use Rattle.transyt_deck.specs.declared.places.Places.{Places}
 use Rattle.transyt_deck.specs.declared.reader.Progress.{Progress}
 use Rattle.transyt_deck.specs.Rows.{card_of, row_of}
 use Rattle.transyt_deck.specs.InPlace.{in_place, is_end}
-use Rattle.transyt_deck.specs.Deck.{Seen, card_code, code_at, counts_of, fault_code, fault_in, is_end_line, plan_code}
+use Rattle.transyt_deck.specs.Deck.{Seen, card_code, codes_in, code_at, counts_of, fault_code, fault_in, is_end_line, plan_code}
 use Rattle.transyt_deck.specs.Deck.{plan_fault_in}
 use Rattle.transyt_deck.specs.Next.{draft_with, form_with, next, next_card, places_with, seen_with}
-use Rattle.transyt_deck.specs.Stops.{codes_in}
 use Rattle.transyt_deck.specs.Reader.{Accepts, ReaderValue, Refuses, Takes, reading}
 use Rattle.transyt_deck.proofs.After.{after_next}
 use Rattle.transyt_deck.specs.declared.reader.CardStop.TheVariants as refusal
@@ -42,7 +41,7 @@ pub code_of_place : (s : Seen) (line : List ℕ) (word : CardWord) (ns : List �
 code_of_place s line word ns is out =
     let card = card_of s.form word ns in
     code_of_row s line word ns is
-    ∙ (λ j. first_found (when (not (out j)) 15 ∷ option_map fault_code (fault_in card s.draft)
+    ∙ (λ j. first_found (when (not (out j)) 15 ∷ option_and_then fault_code (fault_in card s.draft)
     ∷ option_map plan_code (plan_fault_in card s.draft) ∷ []))
 
 pub code_of_card : (s : Seen) (line : List ℕ) (word : CardWord) (ns : List ℕ) → IsRow s line word ns
@@ -50,7 +49,7 @@ pub code_of_card : (s : Seen) (line : List ℕ) (word : CardWord) (ns : List ℕ
 code_of_card s line word ns is here =
     let card = card_of s.form word ns in
     code_of_row s line word ns is
-    ∙ (λ j. first_found (when (not (here j)) 15 ∷ option_map fault_code (fault_in card s.draft)
+    ∙ (λ j. first_found (when (not (here j)) 15 ∷ option_and_then fault_code (fault_in card s.draft)
     ∷ option_map plan_code (plan_fault_in card s.draft) ∷ []))
 
 pub next_of_row : (s : Seen) (line : List ℕ) (word : CardWord) (ns : List ℕ) → IsRow s line word ns

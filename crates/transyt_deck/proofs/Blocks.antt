@@ -1,7 +1,7 @@
 -- The NODE and STAGE cards of a valid network make its nodes again.
 use Rattle.std.proofs.Common.{◌≡◌, ℕ, ◌+◌, ◌-◌, ◌<◌, ◌≤◌, nat_le, List, [], ◌∷◌, ◌++◌, map, length, Bool, true, false}
 use Rattle.std.proofs.Common.{cond, not, ◌&&◌, Some, None, refl, sym, ◌∙◌, ap, arith, append_assoc, flat_map}
-use Rattle.std.proofs.Common.{length-append, slice_get, All}
+use Rattle.std.proofs.Common.{length-append, slice_get, All, option_and_then}
 use Rattle.std.specs.List.{list_all}
 use Rattle.std.specs.Option.{option_map}
 use Rattle.std.proofs.lemmas.List.{append-nil}
@@ -29,7 +29,7 @@ pub code_none : (s : Seen) (card : Card) → in_place s.places card ≡ true →
     → plan_fault_in card s.draft ≡ None
     → card_code s card ≡ None
 code_none s card e f p = λ j.
-    first_found (when (not (e j)) 15 ∷ option_map fault_code (f j) ∷ option_map plan_code (p j) ∷ [])
+    first_found (when (not (e j)) 15 ∷ option_and_then fault_code (f j) ∷ option_map plan_code (p j) ∷ [])
 
 -- facts as tests
 pub within_true : (low high n : ℕ) → low ≤ n → n ≤ high → within low high n ≡ true

@@ -1,6 +1,6 @@
 -- A refusal of the network as a stop of the reader.
 use Rattle.std.proofs.Common.{◌≡◌, ℕ, List, [], ◌∷◌, Bool, true, false, cond, Option, Some, None, Result, Ok, Err}
-use Rattle.std.proofs.Common.{refl, sym, subst, ◌∙◌, ap, IfSome, IfNone, IfErr, OnOk, OnErr, IsOk, IsErrOf}
+use Rattle.std.proofs.Common.{refl, sym, subst, ◌∙◌, ap, IfSome, IfNone, IfErr, OnOk, OnErr, IsOk, IsErrOf, option_and_then}
 use Rattle.std.specs.Option.{option_map}
 use Rattle.transyt_net.specs.declared.draft.DraftFault.{DraftFault}
 use Rattle.transyt_parts.specs.declared.link.Feed.{Feed}
@@ -13,9 +13,9 @@ use Rattle.transyt_net.specs.Faults.{feed_fault, link_fault, rule_fault, with_fe
 use Rattle.transyt_syntax.specs.Findings.{first_found}
 use Rattle.transyt_deck.specs.Cards.{Card, FeedOf, LinkOf, Yield}
 use Rattle.transyt_deck.specs.Rows.{link_read}
-use Rattle.transyt_deck.specs.Deck.{fault_code, fault_in, plan_code, plan_fault_in}
+use Rattle.transyt_deck.specs.Deck.{codes_in, fault_code, fault_in, plan_code, plan_fault_in}
 use Rattle.transyt_deck.specs.Next.{draft_with}
-use Rattle.transyt_deck.specs.Stops.{HasRoomFor, Puts, Stops, codes_in, stop_of, stopped}
+use Rattle.transyt_deck.specs.Stops.{HasRoomFor, Puts, Stops, stop_of, stopped}
 use Rattle.transyt_deck.proofs.LinkNumbers.{onto_first_link}
 use Rattle.transyt_deck.specs.declared.keyword.CardWord.TheVariants as w
 
@@ -63,10 +63,10 @@ no_first (Some fault) x h = absurd (cc)
 
 codes_by : (card : Card) (old : Network) (first : Option DraftFault) → fault_in card (Some old) ≡ first
     → plan_fault_in card (Some old) ≡ None
-    → codes_in card (Some old) ≡ first_found (option_map fault_code first ∷ None ∷ [])
-codes_by card old first e p = λ j. first_found (option_map fault_code (e j) ∷ option_map plan_code (p j) ∷ [])
+    → codes_in card (Some old) ≡ first_found (option_and_then fault_code first ∷ None ∷ [])
+codes_by card old first e p = λ j. first_found (option_and_then fault_code (e j) ∷ option_map plan_code (p j) ∷ [])
 
-same_stop : (a b : DraftFault) → b ≡ a → NoMemory (Some b) → Stops (Some (fault_code b)) (stop_of a)
+same_stop : (a b : DraftFault) → b ≡ a → NoMemory (Some b) → Stops (first_found (fault_code b ∷ None ∷ [])) (stop_of a)
 same_stop a Twice e h = subst (λ (f : DraftFault). Stops (Some 16) (stop_of f)) e refl
 same_stop a Unknown e h = subst (λ (f : DraftFault). Stops (Some 17) (stop_of f)) e refl
 same_stop a Range e h = subst (λ (f : DraftFault). Stops (Some 14) (stop_of f)) e refl
@@ -78,7 +78,7 @@ error_is T a b h = cc
 
 stops_by : (T : Type 0) (first : Option DraftFault) (fault : DraftFault) → NoMemory first
     → IfSome first (λ f. IsErrOf {T = T} (Err fault) f) → IfNone first (fault ≡ Memory)
-    → Stops (first_found (option_map fault_code first ∷ None ∷ [])) (stop_of fault)
+    → Stops (first_found (option_and_then fault_code first ∷ None ∷ [])) (stop_of fault)
 stops_by T None fault h some wanting = subst (λ (f : DraftFault). Stops None (stop_of f)) (sym wanting) refl
 stops_by T (Some first) fault h some wanting = same_stop fault first (error_is T fault first some) h
 
@@ -90,7 +90,7 @@ pub puts_by : {T : Type 0} (card : Card) (old new after : Network) (first : Opti
     → Puts card (Some old) (Some new) (stopped r)
 puts_by card old new after first (Ok x) f p a sound some wanting ok err =
     let fine : codes_in card (Some old) ≡ None = codes_by card old first f p
-    ∙ ap (λ (o : Option DraftFault). first_found (option_map fault_code o ∷ None ∷ [])) (no_first first x some) in
+    ∙ ap (λ (o : Option DraftFault). first_found (option_and_then fault_code o ∷ None ∷ [])) (no_first first x some) in
     (fine, ap Some ok ∙ sym a)
 puts_by card old new after first (Err fault) f p a sound some wanting ok err = (
   subst (λ (o : Option ℕ). Stops o (stop_of fault)) (sym (codes_by card old first f p))

@@ -2,11 +2,11 @@
 use Rattle.std.proofs.lemmas.Bool.{and_parts, not-true, or_parts}
 use Rattle.std.proofs.lemmas.List.{map-append}
 use Rattle.std.proofs.Common.{◌≡◌, ℕ, ◌<◌, zero, suc, ◌||◌, List, [], ◌∷◌, ◌++◌, length, Bool, true, false, cond, not}
-use Rattle.std.proofs.Common.{Option, Some, None, refl, ◌∙◌, ap, arith, length-append}
+use Rattle.std.proofs.Common.{Option, Some, None, refl, ◌∙◌, ap, arith, length-append, option_and_then}
 use Rattle.std.specs.Option.{option_map}
 use Rattle.transyt_net.specs.declared.draft.DraftFault.{DraftFault}
 use Rattle.transyt_parts.specs.declared.stage_plan.PlanFault.{PlanFault}
-use Rattle.transyt_net.specs.declared.draft.DraftFault.TheVariants.{Twice}
+use Rattle.transyt_net.specs.declared.draft.DraftFault.TheVariants.{Twice, Unknown, Range, TooMany, Memory}
 use Rattle.transyt_parts.specs.Parts.{LinkValue}
 use Rattle.transyt_net.specs.Parts.{Network}
 use Rattle.transyt_parts.specs.Valid.{all_differ, link_number}
@@ -21,10 +21,11 @@ use Rattle.transyt_deck.specs.declared.places.Places.{Places}
 use Rattle.transyt_deck.specs.Cards.{Card}
 use Rattle.transyt_deck.specs.Rows.{card_of}
 use Rattle.transyt_deck.specs.InPlace.{in_place}
-use Rattle.transyt_deck.specs.Deck.{fault_code, plan_code}
+use Rattle.transyt_deck.specs.Deck.{codes_in, fault_code, plan_code}
 use Rattle.transyt_deck.specs.Next.{draft_with, places_with}
-use Rattle.transyt_deck.specs.Stops.{HasRoomFor, IsTied, codes_in}
+use Rattle.transyt_deck.specs.Stops.{HasRoomFor, IsTied}
 use Rattle.transyt_deck.proofs.LinkNumbers.{numbers_kept}
+use Rattle.transyt_deck.proofs.Refusals.{NoMemory, link_refusal}
 use Rattle.transyt_deck.specs.Cards as c
 use Rattle.transyt_deck.specs.declared.keyword.CardWord.TheVariants as w
 
@@ -72,9 +73,13 @@ first_test : {F : Type 0} (b : Bool) (fault : F) (rest : Option F) → cond b (S
 first_test true fault rest h = absurd (cc)
 first_test false fault rest h = refl
 
-fault_free : (o : Option DraftFault) → or_else (option_map fault_code o) None ≡ None → o ≡ None
-fault_free None h = refl
-fault_free (Some fault) h = absurd (cc)
+fault_free : (o : Option DraftFault) → NoMemory o → or_else (option_and_then fault_code o) None ≡ None → o ≡ None
+fault_free None is h = refl
+fault_free (Some Twice) is h = absurd (cc)
+fault_free (Some Unknown) is h = absurd (cc)
+fault_free (Some Range) is h = absurd (cc)
+fault_free (Some TooMany) is h = absurd (cc)
+fault_free (Some Memory) is h = absurd is.is
 
 plan_free : (o : Option PlanFault) → or_else (option_map plan_code o) None ≡ None → o ≡ None
 plan_free None h = refl
@@ -85,7 +90,7 @@ new_link_number : (d : Network) (l : LinkValue) → codes_in (c.LinkOf l) (Some 
     → all_differ (link_numbers d.links) ≡ true
     → all_differ (link_numbers (d.links ++ record l { feeds = []; gives_way = None } ∷ [])) ≡ true
 new_link_number d l none once =
-    let fine = fault_free (link_fault d l) none in
+    let fine = fault_free (link_fault d l) (link_refusal d l) none in
     let new = (or_parts (is_among (link_numbers d.links) l.number) (not (all_differ l.stages))
     (first_test _ Twice _ fine)).0 in
     ap all_differ (map-append link_number d.links (record l { feeds = []; gives_way = None } ∷ []))

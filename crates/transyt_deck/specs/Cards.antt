@@ -61,9 +61,13 @@ cards_text cards = flat_map (λ card. card_text card ++ 10 ∷ []) cards
 abbrev pub node_cards : NodeValue → List Card
 node_cards n = Node n.number n.offset ∷ map StageOf n.stages
 
+-- a link without its feeds and its give-way rule
+abbrev pub bare_link : LinkValue → LinkValue
+bare_link l = record l { feeds = []; gives_way = None }
+
 -- the LINK card of a link
 abbrev pub link_card : LinkValue → Card
-link_card l = LinkOf (record l { feeds = []; gives_way = None })
+link_card l = LinkOf (bare_link l)
 
 -- the FEED cards of a link
 abbrev pub feed_cards : LinkValue → List Card

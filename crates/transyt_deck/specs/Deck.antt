@@ -4,7 +4,7 @@ use Rattle.std.specs.Prelude.{None, unwrap_or, option_and_then}
 use Rattle.std.specs.Option.{option_map}
 use Rattle.transyt_io.specs.Lines.{is_skipped}
 use Rattle.transyt_syntax.specs.Syntax.{syntax_code}
-use Rattle.transyt_syntax.specs.Findings.{when, first_found}
+use Rattle.transyt_syntax.specs.Findings.{when, or_else, first_found}
 use Rattle.transyt_net.specs.declared.draft.DraftFault.{DraftFault}
 use Rattle.transyt_net.specs.declared.draft.DraftFault.TheVariants.{Twice, Unknown, Range, TooMany, Memory}
 use Rattle.transyt_parts.specs.declared.stage_plan.PlanFault.{PlanFault}
@@ -51,12 +51,12 @@ plan_fault_in End draft = option_and_then (λ d. first_fault d.frame.step_count 
 plan_fault_in _ draft = None
 
 -- the code of a fault; want of memory has none
-abbrev pub fault_code : DraftFault → ℕ
-fault_code Twice = 16
-fault_code Unknown = 17
-fault_code Range = 14
-fault_code TooMany = 20
-fault_code Memory = 0
+abbrev pub fault_code : DraftFault → Option ℕ
+fault_code Twice = Some 16
+fault_code Unknown = Some 17
+fault_code Range = Some 14
+fault_code TooMany = Some 20
+fault_code Memory = None
 
 -- the code of a stage plan's fault
 abbrev pub plan_code : PlanFault → ℕ
@@ -64,13 +64,14 @@ plan_code FewStages = 22
 plan_code StageOrder = 18
 plan_code LeastGreen = 19
 
+-- the first code that holds of a card in its place: that of a fault
+abbrev pub codes_in : Card → Option Network → Option ℕ
+codes_in card draft =
+    first_found (option_and_then fault_code (fault_in card draft) ∷ option_map plan_code (plan_fault_in card draft) ∷ [])
+
 -- the first code that holds of a card: out of its place, or a fault
 abbrev pub card_code : Seen → Card → Option ℕ
-card_code s card = first_found (
-    when (not (in_place s.places card)) 15
-    ∷ option_map fault_code (fault_in card s.draft)
-    ∷ option_map plan_code (plan_fault_in card s.draft)
-    ∷ [])
+card_code s card = or_else (when (not (in_place s.places card)) 15) (codes_in card s.draft)
 
 -- how many numbers a line's keyword takes, if it is one of cards
 abbrev pub counts_of : ℕ → List ℕ → Option (ℕ × ℕ)
@@ -91,7 +92,7 @@ code_at s line =
 abbrev pub code : List (List ℕ) → List ℕ → Option ℕ
 code before line = code_at (seen before) line
 
--- a line that is an END card
+-- a line that is an END card; which cards are END, and that it has no numbers, is the same in both forms
 abbrev pub is_end_line : List ℕ → Bool
 is_end_line line = unwrap_or (option_map is_end (card_in 1 line)) false
 

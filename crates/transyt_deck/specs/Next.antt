@@ -6,7 +6,7 @@ use Rattle.transyt_net.specs.Parts.{Network}
 use Rattle.transyt_net.specs.Faults.{empty, with_node, with_stage, with_link, with_plan}
 use Rattle.transyt_parts.specs.Made.{add_feed, set_rule}
 use Rattle.transyt_deck.specs.declared.places.Places.{Places}
-use Rattle.transyt_deck.specs.Cards.{Card, Form, Cycle, Node, StageOf, LinkOf, FeedOf, Yield, Steps, End}
+use Rattle.transyt_deck.specs.Cards.{Card, Form, Cycle, Node, StageOf, LinkOf, FeedOf, Yield, Steps, End, bare_link}
 use Rattle.transyt_deck.specs.InPlace.{is_form, is_cycle, is_link, is_feed_or_rule, is_steps, is_of_node, is_end}
 use Rattle.transyt_deck.specs.Deck.{Seen, card_in}
 
@@ -42,8 +42,7 @@ draft_with (Form f) draft = draft
 draft_with (Cycle f) draft = Some (empty f)
 draft_with (Node number offset) draft = option_map (λ (d : Network). with_node d number offset) draft
 draft_with (StageOf s) draft = option_map (λ (d : Network). with_stage d s) draft
-draft_with (LinkOf l) draft =
-    option_map (λ (d : Network). with_link d (record l { feeds = []; gives_way = None })) draft
+draft_with (LinkOf l) draft = option_map (λ (d : Network). with_link d (bare_link l)) draft
 draft_with (FeedOf link f) draft = option_map (with_links link (add_feed f)) draft
 draft_with (Yield link g) draft = option_map (with_links link (set_rule g)) draft
 draft_with (Steps p) draft = option_map (λ (d : Network). with_plan d p) draft

@@ -1,5 +1,5 @@
 -- What a reader of cards stands for.
-use Rattle.std.specs.Prelude.{ℕ, ◌≡◌, ◌+◌, Bool, true, false, List, [], ◌∷◌, ◌++◌, length, Some, None, Result, Ok, Err}
+use Rattle.std.specs.Prelude.{ℕ, ◌≡◌, ◌+◌, Bool, true, false, ◌||◌, List, [], ◌∷◌, ◌++◌, length, Some, None, Result, Ok, Err}
 use Rattle.transyt_deck.specs.declared.reader.CardStop.{CardStop}
 use Rattle.transyt_deck.specs.declared.reader.CardStop.TheVariants as stop
 use Rattle.transyt_deck.specs.declared.reader.Progress.{Progress}
@@ -36,6 +36,14 @@ Takes before line new progress.Complete =
 abbrev pub Refuses : List (List ℕ) → List ℕ → CardStop → Type 0
 Refuses before line (stop.Refused card n) = (code before line ≡ Some n) × (card ≡ length before + 1)
 Refuses before line stop.Memory = code before line ≡ None
+
+-- a reader behind a refusal: no line may be taken, and all else is as before
+abbrev pub refusing : ReaderValue → ReaderValue
+refusing reader = record reader { live = false }
+
+-- whether a reader may finish: the next line may be taken, or END was accepted
+abbrev pub may_finish : ReaderValue → Bool
+may_finish reader = reader.live || reader.seen.places.end
 
 -- whether a reader is live after this outcome
 abbrev pub goes_on : Result Progress CardStop → Bool

@@ -1,9 +1,6 @@
 -- What putting a card into a network comes to. Only private contracts cite these words.
 use Rattle.std.specs.Prelude.{◌≡◌, ◌<◌, ℕ, true, false, [], ◌∷◌, length, Option, Some, None, Result, Ok, Err, IfSome}
-use Rattle.std.specs.Option.{option_map}
-use Rattle.transyt_syntax.specs.Findings.{first_found}
 use Rattle.transyt_net.specs.declared.draft.DraftFault.{DraftFault}
-use Rattle.transyt_net.specs.declared.draft.DraftFault.TheVariants.{Twice, Unknown, Range, TooMany, Memory}
 use Rattle.transyt_net.specs.Parts.{Network}
 use Rattle.transyt_parts.specs.Valid.{all_differ}
 use Rattle.transyt_net.specs.Valid.{link_numbers}
@@ -14,21 +11,17 @@ use Rattle.transyt_deck.specs.declared.places.Places.{Places}
 use Rattle.transyt_deck.specs.declared.put.Stop.{Stop}
 use Rattle.transyt_deck.specs.declared.put.Stop.TheVariants as stop
 use Rattle.transyt_deck.specs.Cards.{Card}
-use Rattle.transyt_deck.specs.Deck.{fault_in, plan_fault_in, fault_code, plan_code}
+use Rattle.transyt_deck.specs.Deck.{codes_in, fault_code}
 use Rattle.transyt_deck.specs.Next.{draft_with}
 
--- the code of a card in its place, or none
-abbrev pub codes_in : Card → Option Network → Option ℕ
-codes_in card draft =
-    first_found (option_map fault_code (fault_in card draft) ∷ option_map plan_code (plan_fault_in card draft) ∷ [])
+-- a code as a stop; what has none is want of memory
+abbrev pub stop_with : Option ℕ → Stop
+stop_with None = stop.Memory
+stop_with (Some code) = stop.Code code
 
 -- a fault as a stop
 abbrev pub stop_of : DraftFault → Stop
-stop_of Memory = stop.Memory
-stop_of Twice = stop.Code 16
-stop_of Unknown = stop.Code 17
-stop_of Range = stop.Code 14
-stop_of TooMany = stop.Code 20
+stop_of fault = stop_with (fault_code fault)
 
 -- an outcome with its fault as a stop
 abbrev pub stopped : {T : Type 0} → Result T DraftFault → Result T Stop

@@ -1,9 +1,9 @@
 //! The deck at the front of bytes, and where it ends.
-ghost use Rattle.std.specs.Prelude.{◌≡◌, ◌≤◌, ◌+◌, ℕ, List, [], ◌∷◌, ◌++◌, length, IfOk, IfErr, Ok, Err, Some};
+ghost use Rattle.std.specs.Prelude.{◌≡◌, ◌≤◌, ◌+◌, ℕ, List, [], ◌∷◌, ◌++◌, length, IsTrue, IfOk, IfErr, Ok, Err, Some};
 ghost use Rattle.transyt_net.specs.Parts.{Network};
 ghost use Rattle.transyt_deck.specs.declared.reader.CardStop.TheVariants as stop;
 ghost use Rattle.transyt_deck.specs.Deck.{seen};
-ghost use Rattle.transyt_deck.specs.Reader.{reading, ended, Ends};
+ghost use Rattle.transyt_deck.specs.Reader.{reading, ended, Ends, may_finish};
 ghost use Rattle.transyt_deck.specs.Cut.{cut_of, RefusesDeck};
 
 use crate::reader::{CardReader, CardStop, Progress};
@@ -46,6 +46,7 @@ pub fn cut_deck(alloc: Global, input: &[u8]) -> Result<Cut, CardStop>
 
 /// The cut behind the lines that a reader has taken, with so many bytes.
 fn close(reader: CardReader, rest: usize) -> Result<Cut, CardStop>
+    requires { IsTrue (may_finish reader) }
     ensures complete { (before : List (List ℕ)) (line : List ℕ) (net : Network) → Ends before line
         → reader ≡ ended (before ++ line ∷ []) → (seen before).draft ≡ Some net
         → result ≡ Ok (record { net = net; line = length before + 1; rest = rest }) }

@@ -1,7 +1,8 @@
 //! The places of cards: which card may stand behind which.
 ghost use Rattle.std.specs.Prelude.{◌≡◌, ℕ, List, []};
 ghost use Rattle.transyt_deck.specs.Rows.{card_of};
-ghost use Rattle.transyt_deck.specs.InPlace.{in_place, places_of, is_form, is_cycle, is_link, is_feed_or_rule, is_steps, is_of_node, is_end};
+ghost use Rattle.transyt_deck.specs.InPlace.{in_place, places_of, is_form, is_cycle, is_link, is_feed_or_rule};
+ghost use Rattle.transyt_deck.specs.InPlace.{is_steps, is_of_node, is_end};
 ghost use Rattle.transyt_deck.specs.Next.{places_with};
 
 use crate::keyword::CardWord;

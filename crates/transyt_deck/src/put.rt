@@ -4,7 +4,7 @@ ghost use Rattle.transyt_net.specs.Parts.{Network};
 ghost use Rattle.transyt_parts.specs.Made.{new_stage, new_feed, new_rule, new_plan};
 ghost use Rattle.transyt_net.specs.Faults.{link_fault, with_link};
 ghost use Rattle.transyt_syntax.specs.Syntax.{is_count};
-ghost use Rattle.transyt_deck.specs.declared.keyword.CardWord.TheVariants as w;
+ghost use Rattle.transyt_deck.specs.declared.keyword.CardWord.TheVariants as card;
 ghost use Rattle.transyt_deck.specs.Cards.{Form, Cycle, Node, StageOf, LinkOf, FeedOf, Yield, Steps, End};
 ghost use Rattle.transyt_deck.specs.Rows.{card_of, card_counts, link_read};
 ghost use Rattle.transyt_deck.specs.Deck.{plan_code};
@@ -58,6 +58,7 @@ fn plan_code(fault: PlanFault) -> u32
 fn put_form(form: &mut u32, number: u32) -> Result<(), Stop>
     ensures puts { (draft : Option Network) → Puts (Form number) draft draft result }
     ensures form { OnOk result (form.new ≡ number) }
+    ensures kept { OnErr result (form.new ≡ form.old) }
 {
     if number < 1 || number > 2 {
         return Err(Stop::Code(14));
@@ -83,7 +84,7 @@ fn put_node(draft: &mut Option<Draft>, number: u32, offset: u32) -> Result<(), S
 {
     match draft {
         None => Ok(()),
-        Some(d) => stopped(d.node(number, offset)),
+        Some(network) => stopped(network.node(number, offset)),
     }
 }
 
@@ -93,48 +94,59 @@ fn put_stage(
     intergreen: u32,
     least: u32,
 ) -> Result<(), Stop>
-    requires { HasRoomFor w.Stage draft.old }
+    requires { HasRoomFor card.Stage draft.old }
     ensures { Puts (StageOf (new_stage change intergreen least)) draft.old draft.new result }
 {
     match draft {
         None => Ok(()),
-        Some(d) => stopped(d.stage(change, intergreen, least)),
+        Some(network) => stopped(network.stage(change, intergreen, least)),
     }
 }
 
-fn put_link(draft: &mut Option<Draft>, form: u32, ns: &[u32]) -> Result<(), Stop>
-    requires { is_count (card_counts form w.Link) (length ns.now) ≡ true }
-    ensures { Puts (LinkOf (link_read form ns.now)) draft.old draft.new result }
+fn put_link(draft: &mut Option<Draft>, form: u32, numbers: &[u32]) -> Result<(), Stop>
+    requires { is_count (card_counts form card.Link) (length numbers.now) ≡ true }
+    ensures { Puts (LinkOf (link_read form numbers.now)) draft.old draft.new result }
 {
     match draft {
         None => Ok(()),
-        Some(d) => stopped(add_link(d, form, ns)),
+        Some(network) => stopped(add_link(network, form, numbers)),
     }
 }
 
 /// Adds the link of a LINK card's numbers: the lags stand behind the sixth in form 2, and are 0 in form 1.
-fn add_link(draft: &mut Draft, form: u32, ns: &[u32]) -> Result<(), DraftFault>
-    requires { is_count (card_counts form w.Link) (length ns.now) ≡ true }
-    ensures fault { IfSome (link_fault draft.old (link_read form ns.now)) (λ fault. IsErrOf result fault) }
-    ensures memory { IfNone (link_fault draft.old (link_read form ns.now))
+fn add_link(draft: &mut Draft, form: u32, numbers: &[u32]) -> Result<(), DraftFault>
+    requires { is_count (card_counts form card.Link) (length numbers.now) ≡ true }
+    ensures fault { IfSome (link_fault draft.old (link_read form numbers.now))
+        (λ fault. IsErrOf result fault) }
+    ensures memory { IfNone (link_fault draft.old (link_read form numbers.now))
         (IfErr result (λ fault. fault ≡ DraftFault.Memory)) }
-    ensures ok { OnOk result (draft.new ≡ with_link draft.old (link_read form ns.now)) }
+    ensures ok { OnOk result (draft.new ≡ with_link draft.old (link_read form numbers.now)) }
     ensures err { OnErr result (draft.new ≡ draft.old) }
 {
     if form == 2 {
         draft.link(
-            ns[0],
-            ns[1],
-            ns[2],
-            ns[3],
-            ns[4],
-            ns[5],
-            ns[6],
-            ns[7],
-            &ns[8..],
+            numbers[0],
+            numbers[1],
+            numbers[2],
+            numbers[3],
+            numbers[4],
+            numbers[5],
+            numbers[6],
+            numbers[7],
+            &numbers[8..],
         )
     } else {
-        draft.link(ns[0], ns[1], ns[2], ns[3], ns[4], ns[5], 0, 0, &ns[6..])
+        draft.link(
+            numbers[0],
+            numbers[1],
+            numbers[2],
+            numbers[3],
+            numbers[4],
+            numbers[5],
+            0,
+            0,
+            &numbers[6..],
+        )
     }
 }
 
@@ -145,34 +157,34 @@ fn put_feed(
     flow: u32,
     cruise: u32,
 ) -> Result<(), Stop>
-    requires { HasRoomFor w.Feed draft.old }
+    requires { HasRoomFor card.Feed draft.old }
     ensures { Puts (FeedOf link (new_feed feeder flow cruise)) draft.old draft.new result }
 {
     match draft {
         None => Ok(()),
-        Some(d) => stopped(d.feed(link, feeder, flow, cruise)),
+        Some(network) => stopped(network.feed(link, feeder, flow, cruise)),
     }
 }
 
 fn put_rule(draft: &mut Option<Draft>, link: u32, other: u32, percent: u32) -> Result<(), Stop>
-    requires { HasRoomFor w.Yield draft.old }
+    requires { HasRoomFor card.Yield draft.old }
     ensures { Puts (Yield link (new_rule other percent)) draft.old draft.new result }
 {
     match draft {
         None => Ok(()),
-        Some(d) => stopped(d.give_way(link, other, percent)),
+        Some(network) => stopped(network.give_way(link, other, percent)),
     }
 }
 
 fn put_plan(draft: &mut Option<Draft>, budget: u32, sizes: &[u32]) -> Result<(), Stop>
-    requires unset { HasRoomFor w.Steps draft.old }
+    requires unset { HasRoomFor card.Steps draft.old }
     requires some { 1 ≤ length sizes.now }
     requires most { length sizes.now ≤ 16 }
     ensures { Puts (Steps (new_plan budget sizes.now)) draft.old draft.new result }
 {
     match draft {
         None => Ok(()),
-        Some(d) => stopped(d.plan(budget, sizes)),
+        Some(network) => stopped(network.plan(budget, sizes)),
     }
 }
 
@@ -181,7 +193,7 @@ fn put_end(draft: &Option<Draft>) -> Result<(), Stop>
 {
     match draft {
         None => Ok(()),
-        Some(d) => match d.judge() {
+        Some(network) => match network.judge() {
             None => Ok(()),
             Some(fault) => Err(Stop::Code(plan_code(fault))),
         },
@@ -194,32 +206,33 @@ pub fn put(
     form: &mut u32,
     draft: &mut Option<Draft>,
     word: CardWord,
-    ns: &[u32],
+    numbers: &[u32],
 ) -> Result<(), Stop>
-    requires count { is_count (card_counts form.old word) (length ns.now) ≡ true }
+    requires count { is_count (card_counts form.old word) (length numbers.now) ≡ true }
     requires room { HasRoomFor word draft.old }
-    ensures puts { Puts (card_of form.old word ns.now) draft.old draft.new result }
-    ensures form { OnOk result (form.new ≡ form_with (card_of form.old word ns.now) form.old) }
+    ensures puts { Puts (card_of form.old word numbers.now) draft.old draft.new result }
+    ensures form { OnOk result (form.new ≡ form_with (card_of form.old word numbers.now) form.old) }
+    ensures kept { OnErr result (form.new ≡ form.old) }
 {
     match word {
-        CardWord::Form => put_form(form, ns[0]),
+        CardWord::Form => put_form(form, numbers[0]),
         CardWord::Cycle => {
             let frame = Frame {
-                cycle: ns[0],
-                step_count: ns[1],
-                sweeps: ns[2],
-                period: ns[3],
-                stop_penalty: ns[4],
-                dispersion: if ns.len() > 5 { ns[5] } else { 35 },
+                cycle: numbers[0],
+                step_count: numbers[1],
+                sweeps: numbers[2],
+                period: numbers[3],
+                stop_penalty: numbers[4],
+                dispersion: if numbers.len() > 5 { numbers[5] } else { 35 },
             };
             put_cycle(alloc, draft, frame)
         }
-        CardWord::Node => put_node(draft, ns[0], ns[1]),
-        CardWord::Stage => put_stage(draft, ns[0], ns[1], ns[2]),
-        CardWord::Link => put_link(draft, *form, ns),
-        CardWord::Feed => put_feed(draft, ns[0], ns[1], ns[2], ns[3]),
-        CardWord::Yield => put_rule(draft, ns[0], ns[1], ns[2]),
-        CardWord::Steps => put_plan(draft, ns[0], &ns[1..]),
+        CardWord::Node => put_node(draft, numbers[0], numbers[1]),
+        CardWord::Stage => put_stage(draft, numbers[0], numbers[1], numbers[2]),
+        CardWord::Link => put_link(draft, *form, numbers),
+        CardWord::Feed => put_feed(draft, numbers[0], numbers[1], numbers[2], numbers[3]),
+        CardWord::Yield => put_rule(draft, numbers[0], numbers[1], numbers[2]),
+        CardWord::Steps => put_plan(draft, numbers[0], &numbers[1..]),
         CardWord::End => put_end(draft),
     }
 }

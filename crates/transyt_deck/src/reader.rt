@@ -1,10 +1,12 @@
 //! Cards, taken line by line.
-ghost use Rattle.std.specs.Prelude.{◌≡◌, ◌<◌, ◌+◌, ℕ, List, [], ◌∷◌, ◌++◌, length, IsTrue, OnErr, IfErr, IfOk, Some, Ok, Err, false};
+ghost use Rattle.std.specs.Prelude.{◌≡◌, ◌<◌, ◌+◌, ℕ, List, [], ◌∷◌, ◌++◌, length};
+ghost use Rattle.std.specs.Prelude.{IsTrue, OnOk, OnErr, IfErr, IfOk, Some, Ok, Err};
 ghost use Rattle.transyt_net.specs.Parts.{Network};
 ghost use Rattle.transyt_deck.specs.declared.reader.CardStop.TheVariants as stop;
 ghost use Rattle.transyt_deck.specs.Deck.{code_at, seen};
 ghost use Rattle.transyt_deck.specs.Stops.{Stops};
-ghost use Rattle.transyt_deck.specs.Reader.{reading, ended, Ends, Takes, Refuses, Accepts, goes_on};
+ghost use Rattle.transyt_deck.specs.Reader.{reading, ended, Ends, Takes, Refuses, Accepts};
+ghost use Rattle.transyt_deck.specs.Reader.{refusing, may_finish, goes_on};
 
 use crate::places::{Places, is_end};
 use crate::put::{Stop, put};
@@ -24,7 +26,7 @@ pub enum CardStop {
         /// Its first code.
         code: u32,
     },
-    /// Memory was wanting, at a line that has no code.
+    /// Memory was wanting. Of `CardReader::take` it comes only at a line that has no code.
     Memory,
 }
 
@@ -99,7 +101,7 @@ impl CardReader {
     }
 
     /// Takes the next line, or refuses it with its number and the first code that holds of it behind the lines
-    /// before it. After `Complete` or an error the reader is no longer live.
+    /// before it. After `Complete` or an error the reader is no longer live; an error changes nothing else.
     #[tactic(auto, using(crate::proofs::After::after_next))]
     pub fn take(&mut self, line: &[u8]) -> Result<Progress, CardStop>
         requires live { IsTrue self.old.live }
@@ -109,6 +111,8 @@ impl CardReader {
         ensures refused { (before : List (List ℕ)) → self.old ≡ reading before
             → IfErr result (λ stop. Refuses before line.now stop) }
         ensures live { self.new.live ≡ goes_on result }
+        ensures whole { OnOk result (IsTrue (may_finish self.new)) }
+        ensures unchanged { OnErr result (self.new ≡ refusing self.old) }
     {
         match self.accept(line) {
             Ok(progress) => return Ok(progress),
@@ -122,10 +126,13 @@ impl CardReader {
         }
     }
 
-    /// The network where END was accepted; else code 21 at the number of lines taken plus 1. It takes no memory.
+    /// The network where END was accepted; else code 21 at the number of lines taken plus 1. No line was refused
+    /// before. It takes no memory.
     pub fn finish(self) -> Result<Net, CardStop>
-        ensures network { (before : List (List ℕ)) (line : List ℕ) (net : Network) → Ends before line
-            → self ≡ ended (before ++ line ∷ []) → (seen before).draft ≡ Some net → result ≡ Ok net }
+        requires whole { IsTrue (may_finish self) }
+        ensures network { (before : List (List ℕ)) (line : List ℕ) (net : Network)
+            → Ends before line → self ≡ ended (before ++ line ∷ [])
+            → (seen before).draft ≡ Some net → result ≡ Ok net }
         ensures open { (before : List (List ℕ)) → self ≡ reading before
             → result ≡ Err (stop.Refused (length before + 1) 21) }
     {
@@ -146,8 +153,8 @@ impl CardReader {
         requires few { self.old.taken < 4294967294 }
         ensures taken { IfOk result (λ progress. Accepts self.old line.now self.new progress) }
         ensures refused { IfErr result (Stops (code_at self.old.seen line.now)) }
-        ensures dead { OnErr result (self.new.live ≡ false) }
-        ensures count { OnErr result (self.new.taken ≡ self.old.taken) }
+        ensures whole { OnOk result (IsTrue (may_finish self.new)) }
+        ensures unchanged { OnErr result (self.new ≡ refusing self.old) }
     {
         if is_skipped(line) {
             self.taken += 1;
@@ -155,7 +162,7 @@ impl CardReader {
         }
         self.live = false;
         let mut numbers = [0u32; 17];
-        let (word, n) = match read_row(line, self.form, &mut numbers) {
+        let (word, count) = match read_row(line, self.form, &mut numbers) {
             Ok(row) => row,
             Err(code) => return Err(Stop::Code(code)),
         };
@@ -167,7 +174,7 @@ impl CardReader {
             &mut self.form,
             &mut self.draft,
             word,
-            &numbers[..n],
+            &numbers[..count],
         ) {
             Ok(()) => {
                 self.places = self.places.with(word);

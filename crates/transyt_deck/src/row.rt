@@ -21,15 +21,15 @@ pub fn read_row(line: &[u8], form: u32, out: &mut [u32; 17]) -> Result<(CardWord
     let (first, rest) = first_of(line);
     let word = card_word(first);
     let counts = match word {
-        Some(w) => Some(card_counts(form, w)),
+        Some(known) => Some(card_counts(form, known)),
         None => None,
     };
-    let n = match read_line(line, rest, counts, out) {
-        Ok(n) => n,
+    let count = match read_line(line, rest, counts, out) {
+        Ok(count) => count,
         Err(code) => return Err(code),
     };
     match word {
-        Some(w) => Ok((w, n)),
+        Some(known) => Ok((known, count)),
         None => Err(10),
     }
 }

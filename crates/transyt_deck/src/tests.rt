@@ -1,6 +1,6 @@
 //! What no clause says: that the codes are those of the format, that a call comes to an end with ample memory,
 //! and decks that are too large to be computed beside the definitions.
-use super::{CardStop, cut_deck};
+use super::{CardReader, CardStop, Progress, cut_deck};
 use std::alloc::{AllocError, Global};
 use std::test::Fail;
 
@@ -345,6 +345,90 @@ fn each_card_has_each_code_before_the_next(rt: HostRuntime) -> Result<(), Fail> 
         }
     }
     Ok(())
+}
+
+#[test]
+fn a_line_of_4096_bytes_may_end_with_cr_lf(rt: HostRuntime) -> Result<(), Fail> {
+    for (blanks, want) in [(4_088, (3, 21)), (4_089, (2, 11))] {
+        let mut text = format!(in rt.alloc(); "CYCLE 60 10 1 60 100\nNODE 1 0")?;
+        for _ in 0..blanks {
+            text.push(' ')?;
+        }
+        text.push_str("\r\n")?;
+        assert_eq!(rt; found(rt.alloc(), text.as_str()), want, "at {blanks}");
+    }
+    Ok(())
+}
+
+/// What comes of the next line; nothing where the reader isn't live.
+fn take(reader: &mut CardReader, line: &[u8]) -> Option<Result<Progress, CardStop>> {
+    if reader.is_live() && reader.taken() < 100 {
+        Some(reader.take(line))
+    } else {
+        None
+    }
+}
+
+#[test]
+fn a_deck_is_taken_line_by_line(rt: HostRuntime) {
+    let mut reader = CardReader::new(rt.alloc());
+    for (line, count) in [
+        (b"CYCLE 60 10 1 60 100".as_slice(), 0),
+        (b"NODE 1 0".as_slice(), 1),
+        (b"STAGE 0 1 2".as_slice(), 2),
+        (b"STAGE 5 1 2".as_slice(), 3),
+        (b"LINK 1 1 360 1800 1 1 1".as_slice(), 4),
+    ] {
+        assert_eq!(rt; reader.taken(), count);
+        assert_eq!(rt;
+            take(&mut reader, line),
+            Some(Ok(Progress::More)),
+            "at {line:?}"
+        );
+    }
+    assert!(rt; reader.is_live() && reader.taken() < 100);
+    let progress = reader.take(b"END");
+    assert_eq!(rt; progress, Ok(Progress::Complete));
+    assert!(rt; !reader.is_live());
+    assert_eq!(rt; reader.taken(), 6);
+    match reader.finish() {
+        Ok(net) => {
+            assert_eq!(rt; net.nodes().len(), 1);
+            assert_eq!(rt; net.links().len(), 1);
+        }
+        Err(_) => assert!(rt; false),
+    }
+}
+
+#[test]
+fn a_refused_line_ends_the_reader(rt: HostRuntime) {
+    let mut reader = CardReader::new(rt.alloc());
+    for line in [b"CYCLE 60 10 1 60 100".as_slice(), b"* town".as_slice()] {
+        assert_eq!(rt;
+            take(&mut reader, line),
+            Some(Ok(Progress::More)),
+            "at {line:?}"
+        );
+    }
+    let refused = CardStop::Refused { card: 3, code: 14 };
+    assert_eq!(rt; take(&mut reader, b"NODE 0 0"), Some(Err(refused)));
+    assert!(rt; !reader.is_live());
+    assert_eq!(rt; reader.taken(), 2);
+}
+
+#[test]
+fn an_open_reader_has_no_deck(rt: HostRuntime) {
+    let mut reader = CardReader::new(rt.alloc());
+    for line in [b"CYCLE 60 10 1 60 100".as_slice(), b"NODE 1 0".as_slice()] {
+        assert_eq!(rt;
+            take(&mut reader, line),
+            Some(Ok(Progress::More)),
+            "at {line:?}"
+        );
+    }
+    assert!(rt; reader.is_live());
+    let stop = reader.finish().err();
+    assert_eq!(rt; stop, Some(CardStop::Refused { card: 3, code: 21 }));
 }
 
 #[test]

@@ -8,5 +8,5 @@ use Rattle.transyt_deck.proofs.put.put.Goals as goal
 pub returns-in-Form-clause-puts : goal.returns-in-Form-clause-puts
 returns-in-Form-clause-puts c =
     let draft = c.args.draft.now in
-    subst (λ (word : CardWord). Puts (card_of c.args.form.now word c.args.ns.now) draft draft c.put_form.result)
+    subst (λ (word : CardWord). Puts (card_of c.args.form.now word c.args.numbers.now) draft draft c.put_form.result)
     (sym c.in-Form.is) (c.put_form.ensures.puts draft)

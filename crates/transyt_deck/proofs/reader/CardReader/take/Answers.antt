@@ -13,7 +13,7 @@ returns-in-Ok-clause-taken c =
 pub returns-in-Err-Code-clause-refused : goal.returns-in-Err-Code-clause-refused
 returns-in-Err-Code-clause-refused c = λ before is.
     refused_by before c.args.line.now c.args.self.now c.self.inside.taken c.in-Err-Code.code is
-    (ap (λ (r : ReaderValue). r.taken) c.self.view_is ∙ c.in-Err-Code.ensures.count)
+    (ap (λ (r : ReaderValue). r.taken) (c.self.view_is ∙ c.in-Err-Code.ensures.unchanged))
     (subst (λ (s : Stop). Stops (code_at c.args.self.now.seen c.args.line.now) s) c.in-Err-Code.field-0-is
     c.in-Err-Code.ensures.refused)
 
