@@ -11,8 +11,8 @@ use Rattle.transyt_deck.specs.declared.places.Places.{Places}
 use Rattle.transyt_deck.specs.declared.reader.Progress.{Progress}
 use Rattle.transyt_deck.specs.Rows.{card_of, row_of}
 use Rattle.transyt_deck.specs.InPlace.{in_place, is_end}
-use Rattle.transyt_deck.specs.Deck.{Seen, card_code, codes_in, code_at, counts_of, fault_code, fault_in, is_end_line, plan_code}
-use Rattle.transyt_deck.specs.Deck.{plan_fault_in}
+use Rattle.transyt_deck.specs.Deck.{Seen, card_code, codes_in, code_at, counts_of, fault_code, fault_in}
+use Rattle.transyt_deck.specs.Deck.{is_end_line, plan_code, plan_fault_in}
 use Rattle.transyt_deck.specs.Next.{draft_with, form_with, next, next_card, places_with, seen_with}
 use Rattle.transyt_deck.specs.Reader.{Accepts, ReaderValue, Refuses, Takes, reading}
 use Rattle.transyt_deck.proofs.After.{after_next}
@@ -29,6 +29,7 @@ pub record IsRow (s : Seen) (line : List ℕ) (word : CardWord) (ns : List ℕ) 
   pub syntax : syntax_code (counts_of s.form line) line ≡ None
   pub row : row_of line ≡ Some (word, ns)
 
+-- the code of a line is that of its card
 pub code_of_row : (s : Seen) (line : List ℕ) (word : CardWord) (ns : List ℕ) → IsRow s line word ns
     → code_at s line ≡ card_code s (card_of s.form word ns)
 code_of_row s line word ns is =
@@ -36,6 +37,7 @@ code_of_row s line word ns is =
     (is.syntax j ∷ option_and_then (card_code s) (option_map (λ row. card_of s.form row.0 row.1) (is.row j)) ∷ [])))
     ∙ or_none (card_code s (card_of s.form word ns))
 
+-- a card that is out of its place has code 15
 pub code_of_place : (s : Seen) (line : List ℕ) (word : CardWord) (ns : List ℕ) → IsRow s line word ns
     → in_place s.places (card_of s.form word ns) ≡ false → code_at s line ≡ Some 15
 code_of_place s line word ns is out =
@@ -44,6 +46,7 @@ code_of_place s line word ns is out =
     ∙ (λ j. first_found (when (not (out j)) 15 ∷ option_and_then fault_code (fault_in card s.draft)
     ∷ option_map plan_code (plan_fault_in card s.draft) ∷ []))
 
+-- a card in its place has the code that holds of it there
 pub code_of_card : (s : Seen) (line : List ℕ) (word : CardWord) (ns : List ℕ) → IsRow s line word ns
     → in_place s.places (card_of s.form word ns) ≡ true → code_at s line ≡ codes_in (card_of s.form word ns) s.draft
 code_of_card s line word ns is here =
@@ -52,11 +55,13 @@ code_of_card s line word ns is here =
     ∙ (λ j. first_found (when (not (here j)) 15 ∷ option_and_then fault_code (fault_in card s.draft)
     ∷ option_map plan_code (plan_fault_in card s.draft) ∷ []))
 
+-- the state behind a line is that behind its card
 pub next_of_row : (s : Seen) (line : List ℕ) (word : CardWord) (ns : List ℕ) → IsRow s line word ns
     → next s line ≡ seen_with (card_of s.form word ns) s
 next_of_row s line word ns is =
     ap (λ (o : Option (CardWord × List ℕ)). next_card (option_map (λ row. card_of s.form row.0 row.1) o) s) is.row
 
+-- a line is END where its card is
 pub end_of_row : (s : Seen) (line : List ℕ) (word : CardWord) (ns : List ℕ) → IsRow s line word ns
     → is_end_line line ≡ is_end (card_of 1 word ns)
 end_of_row s line word ns is =
@@ -66,6 +71,7 @@ end_of_row s line word ns is =
 longer : (before : List (List ℕ)) (line : List ℕ) → length before + 1 ≡ length (before ++ line ∷ [])
 longer before line = omega (arith, length-append before (line ∷ []))
 
+-- a line that is accepted behind lines is taken behind them
 pub takes_by : (before : List (List ℕ)) (line : List ℕ) (old new : ReaderValue) (p : Progress) → old ≡ reading before
     → Accepts old line new p → Takes before line new p
 takes_by before line old new progress.More is h =
@@ -85,6 +91,7 @@ takes_by before line old new progress.Complete is h =
           { seen = after_next before line here.0 j; taken = longer before line j; live = false }),
     )
 
+-- a line with a code is refused with the number behind those taken
 pub refused_by : (before : List (List ℕ)) (line : List ℕ) (old : ReaderValue) (number : ℕ) (n : ℕ)
     → old ≡ reading before → number ≡ old.taken → code_at old.seen line ≡ Some n
     → Refuses before line (refusal.Refused (number + 1) n)

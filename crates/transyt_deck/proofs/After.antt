@@ -132,6 +132,7 @@ by_skip : (b : Bool) (s : Option ℕ) (r : Option ℕ) → cond b None (first_fo
 by_skip true s r e = inl refl
 by_skip false s r e = inr ((found_none s r e).1)
 
+-- what lines have come to behind one more that has no code, line by line or from them all
 pub after_next : (before : List (List ℕ)) (line : List ℕ) → code before line ≡ None
     → next (seen before) line ≡ seen (before ++ line ∷ [])
 after_next before line e =

@@ -35,6 +35,7 @@ code_none s card e f p = λ j.
 pub within_true : (low high n : ℕ) → low ≤ n → n ≤ high → within low high n ≡ true
 within_true low high n a b = and_from (nat_le low n) (nat_le n high) (le-leb low n a) (le-leb n high b)
 
+-- the same of each number of a list
 pub all_within : (low high : ℕ) (ns : List ℕ) → All (λ n. (low ≤ n) × (n ≤ high)) ns
     → list_all (within low high) ns ≡ true
 all_within low high [] h = refl

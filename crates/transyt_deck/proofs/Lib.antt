@@ -6,6 +6,7 @@ pub mod After
 pub mod LinkNumbers
 pub mod Refusals
 pub mod Accepting
+pub mod ReadRows
 pub mod AcceptedEnd
 pub mod TiedPlaces
 pub mod BehindLines

@@ -34,6 +34,7 @@ pub key_apart : {A : Type 0} (key : A → ℕ) (xs ys : List A) (x : A)
     → all_differ (map key (xs ++ x ∷ ys)) ≡ true → is_among (map key xs) (key x) ≡ false
 key_apart key xs ys x h = apart (map key xs) (map key ys) (key x) (ap all_differ (sym (map-append key xs (x ∷ ys))) ∙ h)
 
+-- nor is it among the keys behind it
 pub key_apart_later : {A : Type 0} (key : A → ℕ) (xs ys : List A) (x : A)
     → all_differ (map key (xs ++ x ∷ ys)) ≡ true → is_among (map key ys) (key x) ≡ false
 key_apart_later key xs ys x h =
@@ -45,9 +46,11 @@ pub any_key : {A : Type 0} (key : A → ℕ) (xs : List A) (n : ℕ)
 any_key key [] n = refl
 any_key key (x ∷ xs) n = ap (λ (b : Bool). nat_eq n (key x) || b) (any_key key xs n)
 
+-- a number equals itself
 pub is_itself : (n : ℕ) → nat_eq n n ≡ true
 is_itself n = eq-eqb n n refl
 
+-- the key of an element is among the keys
 pub key_among : {A : Type 0} (key : A → ℕ) (xs ys : List A) (x : A) → is_among (map key (xs ++ x ∷ ys)) (key x) ≡ true
 key_among key xs ys x =
     ap (λ ks. is_among ks (key x)) (map-append key xs (x ∷ ys))

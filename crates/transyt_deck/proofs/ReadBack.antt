@@ -154,6 +154,7 @@ last_line net =
     ap (λ (l : List Card). length l) (cards_are net) in
     omega (arith, cards, length-append (inside net) (End ∷ []), length-map (inside net) card_text)
 
+-- the deck text of a valid network is the deck of that network, complete at its last line
 pub deck_read_back : (net : Network) → IsValid net
     → deck (lines (deck_text net)) ≡ Complete (length (deck_cards net)) net
 deck_read_back net h =

@@ -1,6 +1,7 @@
 -- A refusal of the network as a stop of the reader.
 use Rattle.std.proofs.Common.{◌≡◌, ℕ, List, [], ◌∷◌, Bool, true, false, cond, Option, Some, None, Result, Ok, Err}
-use Rattle.std.proofs.Common.{refl, sym, subst, ◌∙◌, ap, IfSome, IfNone, IfErr, OnOk, OnErr, IsOk, IsErrOf, option_and_then}
+use Rattle.std.proofs.Common.{refl, sym, subst, ◌∙◌, ap, IfSome, IfNone, IfErr, OnOk, OnErr, IsOk, IsErrOf}
+use Rattle.std.proofs.Common.{option_and_then}
 use Rattle.std.specs.Option.{option_map}
 use Rattle.transyt_net.specs.declared.draft.DraftFault.{DraftFault}
 use Rattle.transyt_parts.specs.declared.link.Feed.{Feed}
@@ -28,6 +29,7 @@ IsFault (Some Range) = Unit {0}
 IsFault (Some TooMany) = Unit {0}
 IsFault (Some Memory) = ⊥
 
+-- a first fault, if there is one, is no want of memory
 pub record NoMemory (first : Option DraftFault) : Type 0 where
   pub is : IsFault first
 
@@ -39,13 +41,16 @@ by_test : (b : Bool) (fault : DraftFault) (rest : Option DraftFault) → IsFault
 by_test true fault rest h r = record { is = h }
 by_test false fault rest h r = r
 
+-- the faults of a feed are no want of memory
 pub feed_refusal : (d : Network) (link : ℕ) (f : Feed) → NoMemory (feed_fault d link f)
 feed_refusal d link f =
     by_test _ Twice _ tt (by_test _ Unknown _ tt (by_test _ Range _ tt (by_test _ TooMany _ tt none)))
 
+-- nor are those of a give-way rule
 pub rule_refusal : (d : Network) (link : ℕ) (g : GiveWay) → NoMemory (rule_fault d link g)
 rule_refusal d link g = by_test _ Twice _ tt (by_test _ Unknown _ tt (by_test _ Range _ tt none))
 
+-- nor are those of a link
 pub link_refusal : (d : Network) (l : LinkValue) → NoMemory (link_fault d l)
 link_refusal d l = by_test _ Twice _ tt (by_test _ Unknown _ tt (by_test _ Range _ tt (by_test _ TooMany _ tt none)))
 

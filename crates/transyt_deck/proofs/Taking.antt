@@ -25,6 +25,7 @@ abbrev pub go : Option ℕ → Option Seen → Option Seen
 go None later = later
 go (Some code) later = None
 
+-- the state behind cards, or none where some card has a code
 abbrev pub goes : Seen → List Card → Option Seen
 goes s [] = Some s
 goes s (card ∷ cards) = go (card_code s card) (goes (seen_with card s) cards)
@@ -38,6 +39,7 @@ both_step : (o : Option ℕ) (a b : Option Seen) (t : Seen) (more : List Card) �
 both_step None a b t more e f = f e
 both_step (Some x) a b t more e f = absurd (cc)
 
+-- cards are accepted behind others
 pub goes_both : (s t : Seen) (cards more : List Card) → goes s cards ≡ Some t → goes s (cards ++ more) ≡ goes t more
 goes_both s t [] more e = ap (λ (o : Option Seen). goes_from o more) e
 goes_both s t (c ∷ cards) more e =
@@ -62,6 +64,7 @@ code_card s card fits e =
     code_by (is_skipped (card_text card)) _ _ (syntax_card s.form card fits)
     (ap (option_and_then (card_code s)) (card_back s.form card fits) ∙ e)
 
+-- what lines have come to behind the line of an accepted card
 pub seen_card : (before : List (List ℕ)) (card : Card) → Fits (seen before).form card
     → card_code (seen before) card ≡ None → seen (before ++ card_text card ∷ []) ≡ seen_with card (seen before)
 seen_card before card fits e =
@@ -107,6 +110,7 @@ pub record IsInside (card : Card) : Type 0 where
   pub form : form_with card 2 ≡ 2
   pub last : is_end card ≡ false
 
+-- each of these cards may stand between FORM and END
 abbrev pub AreInside : List Card → Type 0
 AreInside [] = Unit {0}
 AreInside (card ∷ cards) = IsInside card × AreInside cards
@@ -178,11 +182,13 @@ line_same bs h short =
     (plain_at bs (length bs - 1) h))
     ∙ take_all 4097 bs (omega arith)
 
+-- each of these cards has at most 17 numbers, each with at most 9 digits
 abbrev pub AreShort : List Card → Type 0
 AreShort [] = Unit {0}
 AreShort (card ∷ cards) =
     (list_all is_small (numbers_in card) ≡ true) × (length (numbers_in card) ≤ 17) × AreShort cards
 
+-- the lines of the text of cards are their own lines
 pub lines_text : (cards : List Card) → AreShort cards → lines (cards_text cards) ≡ map card_text cards
 lines_text [] short = refl
 lines_text (card ∷ cards) short =

@@ -2,7 +2,8 @@
 use Rattle.std.proofs.lemmas.Bool.{and_parts, not-true, or_parts}
 use Rattle.std.proofs.lemmas.List.{map-append}
 use Rattle.std.proofs.Common.{◌≡◌, ℕ, ◌<◌, zero, suc, ◌||◌, List, [], ◌∷◌, ◌++◌, length, Bool, true, false, cond, not}
-use Rattle.std.proofs.Common.{Option, Some, None, refl, ◌∙◌, ap, arith, length-append, option_and_then}
+use Rattle.std.proofs.Common.{Option, Some, None, refl, sym, subst, ◌∙◌, ap, arith, length-append}
+use Rattle.std.proofs.Common.{option_and_then}
 use Rattle.std.specs.Option.{option_map}
 use Rattle.transyt_net.specs.declared.draft.DraftFault.{DraftFault}
 use Rattle.transyt_parts.specs.declared.stage_plan.PlanFault.{PlanFault}
@@ -150,3 +151,12 @@ tied_next p (Some d) c.End h l e n = (
   h.2,
   λ x. plan_free (first_fault d.frame.step_count d.nodes) n,
 )
+
+-- the same of places and a network that are those behind the card
+pub tied_by : (p q : Places) (draft new : Option Network) (card : Card) → IsTied p draft → p.end ≡ false
+    → in_place p card ≡ true → q ≡ places_with card p → (codes_in card draft ≡ None) × (new ≡ draft_with card draft)
+    → IsTied q new
+tied_by p q draft new card tied open_yet placed same puts =
+    subst (λ (q : Places). IsTied q new) (sym same)
+    (subst (λ (d : Option Network). IsTied (places_with card p) d) (sym puts.1)
+    (tied_next p draft card tied open_yet placed puts.0))

@@ -6,13 +6,13 @@ use Rattle.transyt_deck.specs.WorkedLimits.{worked_limits}
 use Rattle.transyt_deck.specs.CodesInOrder.{in_order}
 
 -- each worked deck comes out as it is written
-pub all_worked : map (λ row. deck row.0) worked ≡ map (λ row. row.1) worked
-all_worked = refl
+pub decks : map (λ row. deck row.0) worked ≡ map (λ row. row.1) worked
+decks = refl
 
 -- so does each deck at the limits of the format
-pub all_limits : map (λ row. deck row.0) worked_limits ≡ map (λ row. row.1) worked_limits
-all_limits = refl
+pub limits : map (λ row. deck row.0) worked_limits ≡ map (λ row. row.1) worked_limits
+limits = refl
 
 -- each line has the code that is written beside it
-pub all_in_order : map (λ row. code row.0 row.1) in_order ≡ map (λ row. Some row.2) in_order
-all_in_order = refl
+pub line_codes : map (λ row. code row.0 row.1) in_order ≡ map (λ row. Some row.2) in_order
+line_codes = refl

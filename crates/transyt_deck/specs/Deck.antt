@@ -67,7 +67,8 @@ plan_code LeastGreen = 19
 -- the first code that holds of a card in its place: that of a fault
 abbrev pub codes_in : Card → Option Network → Option ℕ
 codes_in card draft =
-    first_found (option_and_then fault_code (fault_in card draft) ∷ option_map plan_code (plan_fault_in card draft) ∷ [])
+    first_found (
+    option_and_then fault_code (fault_in card draft) ∷ option_map plan_code (plan_fault_in card draft) ∷ [])
 
 -- the first code that holds of a card: out of its place, or a fault
 abbrev pub card_code : Seen → Card → Option ℕ

@@ -1,5 +1,5 @@
 -- One card more, by what stands already. `Deck` picks from whole lists; only private contracts cite these words.
-use Rattle.std.specs.Prelude.{ℕ, true, ◌&&◌, ◌||◌, ◌==◌, if◌then◌else◌, List, [], map, Option, Some, None}
+use Rattle.std.specs.Prelude.{ℕ, true, ◌&&◌, ◌||◌, ◌==◌, if◌then◌else◌, List, map, Option, Some, None}
 use Rattle.std.specs.Option.{option_map}
 use Rattle.transyt_parts.specs.Parts.{LinkValue}
 use Rattle.transyt_net.specs.Parts.{Network}

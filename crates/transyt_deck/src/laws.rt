@@ -18,7 +18,7 @@ pub fn text_reads_back()
 
 /// The worked decks come out as they are written beside the definitions, those at the limits of the format too, and
 /// each line of `in_order` has its code.
-#[tactic(auto, using(crate::proofs::Worked::all_worked, crate::proofs::Worked::all_limits, crate::proofs::Worked::all_in_order))]
+#[tactic(auto, using(crate::proofs::Worked::decks, crate::proofs::Worked::limits, crate::proofs::Worked::line_codes))]
 pub fn worked_decks()
     ensures decks { map (λ row. deck row.0) worked ≡ map (λ row. row.1) worked }
     ensures limits { map (λ row. deck row.0) worked_limits ≡ map (λ row. row.1) worked_limits }
