@@ -1,11 +1,12 @@
 //! The keywords of commands, and how many numbers stand behind each.
 ghost use Rattle.std.specs.Prelude.{◌≡◌, ◌≤◌};
 ghost use Rattle.transyt_syntax.specs.Syntax.{named};
-ghost use Rattle.transyt_commands.specs.Commands.{edit_words, control_words, report_words, command_named, command_counts};
+ghost use Rattle.transyt_commands.specs.Commands.{edit_words, control_words, report_words};
+ghost use Rattle.transyt_commands.specs.Commands.{command_named, command_counts};
 
 /// The keyword of a command, with the numbers that stand behind it.
 #[derive(Clone, Copy, Debug, PartialEq, Eq)]
-pub enum CommandWord {
+pub(crate) enum CommandWord {
     /// `OFFSET node offset`: sets a node's offset.
     Offset,
     /// `CHANGE node stage change`: sets the change of a node's stage.

@@ -15,7 +15,6 @@ mod laws;
 mod reading;
 
 pub use command::Command;
-pub use keyword::CommandWord;
 pub use laws::worked_lines;
 pub use reading::read_command;
 

@@ -17,7 +17,8 @@ use transyt_syntax::{first_of, read_line};
 pub fn read_command(line: &[u8]) -> Result<Option<Command>, u32>
     ensures command { result ≡ command_in line.now }
     ensures nothing { (result ≡ Ok None) ↔ IsTrue (is_skipped line.now) }
-    ensures refused { IfErr result (λ code. syntax_code (command_counts_of line.now) line.now ≡ Some code) }
+    ensures refused { IfErr result (λ code.
+        syntax_code (command_counts_of line.now) line.now ≡ Some code) }
 {
     if is_skipped(line) {
         return Ok(None);
@@ -25,16 +26,16 @@ pub fn read_command(line: &[u8]) -> Result<Option<Command>, u32>
     let (first, rest) = first_of(line);
     let word = command_word(first);
     let counts = match word {
-        Some(w) => Some(command_counts(w)),
+        Some(known) => Some(command_counts(known)),
         None => None,
     };
     let mut numbers = [0u32; 17];
-    let n = match read_line(line, rest, counts, &mut numbers) {
-        Ok(n) => n,
+    let count = match read_line(line, rest, counts, &mut numbers) {
+        Ok(count) => count,
         Err(code) => return Err(code),
     };
     match word {
-        Some(w) => Ok(Some(command_of(w, &numbers[..n]))),
+        Some(known) => Ok(Some(command_of(known, &numbers[..count]))),
         None => Err(10),
     }
 }
