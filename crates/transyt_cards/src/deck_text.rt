@@ -4,7 +4,8 @@ ghost use Rattle.std.specs.Option.{option_map};
 ghost use Rattle.transyt_io.specs.Lines.{lines};
 ghost use Rattle.transyt_io.specs.Streams.{Adds, AddsFront, CountsFault};
 ghost use Rattle.transyt_parts.specs.Parts.{LinkValue};
-ghost use Rattle.transyt_deck.specs.Cards.{Form, Cycle, StageOf, FeedOf, End, node_cards, link_card, feed_cards, rule_cards, plan_cards, cards_text, deck_cards, deck_text};
+ghost use Rattle.transyt_deck.specs.Cards.{Form, Cycle, StageOf, FeedOf, End, node_cards, link_card, feed_cards};
+ghost use Rattle.transyt_deck.specs.Cards.{rule_cards, plan_cards, cards_text, deck_cards, deck_text};
 ghost use Rattle.transyt_deck.specs.Deck.{deck, Complete};
 
 use crate::card_line::print_card;
