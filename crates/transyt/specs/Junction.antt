@@ -6,7 +6,8 @@ use Rattle.transyt_cycle.specs.Cycle.{minus_mod}
 use Rattle.transyt_parts.specs.Parts.{NodeValue}
 use Rattle.transyt_net.specs.Parts.{Network}
 use Rattle.transyt_parts.specs.Plan.{stage_of, length_at}
-use Rattle.transyt_net.specs.Flow.{node_of, link_of, perstep}
+use Rattle.transyt_net.specs.Parts.{node_of, link_of}
+use Rattle.transyt_net.specs.Flow.{perstep}
 use Rattle.transyt_profile.specs.Profile.{uniform}
 use Rattle.transyt_stopline.specs.Cut.{arrivals_of}
 use Rattle.transyt_stopline.specs.Queue.{queues}

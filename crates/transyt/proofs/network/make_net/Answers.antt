@@ -12,7 +12,7 @@ pub returns-then-is_some : goal.returns-then-is_some
 returns-then-is_some c =
     let cards = c.args.cards.now in
     let is : c.judge.result ≡ plan_fault (steps_in cards) (node_in cards).stages =
-    judged_is cards c.draw.new.draft c.judge.result c.in-Ok-draw.ensures.ok c.judge.ensures in
+    judged_is cards c.draw.new.draft c.judge.result c.in-Ok-draw.ensures.ok c.judge.ensures.value in
     record { made = plan_refused cards c.judge.result is (sym c.is_some.ensures ∙ c.if-is_some.true) }
 
 -- the draft was closed
@@ -20,7 +20,7 @@ pub returns-in-Ok-draw : goal.returns-in-Ok-draw
 returns-in-Ok-draw c =
     let cards = c.args.cards.now in
     let is : c.judge.result ≡ plan_fault (steps_in cards) (node_in cards).stages =
-    judged_is cards c.draw.new.draft c.judge.result c.in-Ok-draw.ensures.ok c.judge.ensures in
+    judged_is cards c.draw.new.draft c.judge.result c.in-Ok-draw.ensures.ok c.judge.ensures.value in
     let framed : is_frame (frame_of (numbers_at cards 0)) ≡ true =
     ap is_frame (sym (c.frame_of.ensures ∙ ap frame_of c.numbers_at.ensures)) ∙ c.in-Ok.ensures.fault.0 refl in
     record {
