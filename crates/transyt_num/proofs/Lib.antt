@@ -1,3 +1,4 @@
 pub mod RootLaws
 pub mod NumberLaws
 mod Digits
+pub mod ReciprocalLaws

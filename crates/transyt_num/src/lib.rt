@@ -6,11 +6,13 @@
 //! `proofs/RootLaws` and `proofs/NumberLaws`. Everything here is this project's own.
 #![tactic(auto)]
 
+mod dividing;
 mod quotient;
 mod reading;
 mod square_root;
 mod writing;
 
+pub use dividing::{divided, divided_near, reciprocal};
 pub use quotient::mul_div;
 pub use reading::read_number;
 pub use square_root::isqrt;

@@ -1,1 +1,2 @@
 pub mod Platoon
+pub mod Travels

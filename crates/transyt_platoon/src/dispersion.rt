@@ -1,8 +1,9 @@
 //! The dispersion of a platoon.
 
-ghost use Rattle.std.specs.Prelude.{◌≡◌, ℕ, ◌+◌, ◌-◌, ◌*◌, ◌%◌, ◌^◌, ◌<◌, ◌≤◌, length, replicate, slice_index, All};
+ghost use Rattle.std.specs.Prelude.{◌≡◌, ℕ, ◌+◌, ◌-◌, ◌*◌, ◌/◌, ◌%◌, ◌^◌, ◌<◌, ◌≤◌, length, replicate, slice_index, sum, All};
 ghost use Rattle.transyt_platoon.specs.Platoon.{mixed, smoothed, dispersed};
 
+use crate::quick::{most_of, travel_by};
 use transyt_profile::total;
 
 /// Writes the profile of a platoon at the end of its travel, in millionths of a vehicle per step.
@@ -25,8 +26,48 @@ pub fn disperse(x: &[u64], t: u32, percent: u32, out: &mut [u64])
     ensures small { All (λ v. v < 2 ^ 44) out.new }
     ensures uniform { (v : ℕ) → x.now ≡ replicate (length x.now) v → out.new ≡ x.now }
 {
+    let whole = total(x);
+    let mean = whole / x.len() as u64;
+    let most = most_of(u64::from(percent) * u64::from(t));
+    go_round(x, t, percent, whole, mean, most, out);
+}
+
+// twice round the cycle from the mean
+fn go_round(x: &[u64], t: u32, percent: u32, whole: u64, mean: u64, most: u64, out: &mut [u64])
+    requires steps { 0 < length x.now }
+    requires lengths { length x.now ≡ length out.old }
+    requires fit { All (λ v. v < 2 ^ 44) x.now }
+    requires travel { t ≤ 960 }
+    requires percent { percent ≤ 100 }
+    requires mean { mean ≡ sum x.now / length x.now }
+    requires mean_fits { mean < 2 ^ 44 }
+    requires whole { whole ≡ sum x.now }
+    requires most { most * (100 + percent * t) * (100 + percent * t) ≤ 2 ^ 64 }
+    requires most_fits { most < 2 ^ 44 }
+    ensures { (m : ℕ) → m < length x.now → slice_index out.new ((m + t) % length x.now)
+        ≡ smoothed x.now (percent * t) (length x.now + 1 + m) }
+{
+    if whole < most && 0 < percent && 0 < t {
+        travel_by(x, t, percent, mean, most, out);
+    } else {
+        travel(x, t, percent, mean, out);
+    }
+}
+
+// twice round the cycle, with a division in each step
+fn travel(x: &[u64], t: u32, percent: u32, mean: u64, out: &mut [u64])
+    requires steps { 0 < length x.now }
+    requires lengths { length x.now ≡ length out.old }
+    requires fit { All (λ v. v < 2 ^ 44) x.now }
+    requires travel { t ≤ 960 }
+    requires percent { percent ≤ 100 }
+    requires mean { mean ≡ sum x.now / length x.now }
+    requires mean_fits { mean < 2 ^ 44 }
+    ensures { (m : ℕ) → m < length x.now → slice_index out.new ((m + t) % length x.now)
+        ≡ smoothed x.now (percent * t) (length x.now + 1 + m) }
+{
     let weight = u64::from(percent) * u64::from(t);
-    let mut value = total(x) / x.len() as u64;
+    let mut value = mean;
     'first: for i in 0..x.len() {
         value = mix(weight, x[i], value);
     }
@@ -50,7 +91,7 @@ fn mix(weight: u64, starting: u64, before: u64) -> u64
 }
 
 // the step after a step, round the cycle
-fn after(step_count: usize, step: usize) -> usize
+pub(crate) fn after(step_count: usize, step: usize) -> usize
     requires { step < step_count }
     ensures value { result ≡ (step + 1) % step_count }
     ensures below { result < step_count }

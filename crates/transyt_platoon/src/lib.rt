@@ -6,9 +6,12 @@
 #![tactic(auto)]
 
 mod dispersion;
+mod quick;
+mod three;
 mod travel;
 
 pub use dispersion::disperse;
+pub use three::{Travel, disperse_three, travel_of};
 pub use travel::travel_steps;
 
 #[cfg(test)]

@@ -19,5 +19,5 @@ mod totals;
 pub use adding::add_into;
 pub use comparing::same;
 pub use filling::fill_uniform;
-pub use sharing::share_into;
+pub use sharing::{Part, part_of, share_into, share_part};
 pub use totals::total;

@@ -1,7 +1,8 @@
 -- Sums of scaled lists.
-use Rattle.std.proofs.Common.{◌≡◌, ℕ, ◌*◌, ◌<◌, ◌≤◌, List, [], ◌∷◌, length, get_or, ap, sym, ◌∙◌, arith, sum, map}
+use Rattle.std.proofs.Common.{◌≡◌, ℕ, ◌*◌, ◌/◌, ◌^◌, ◌<◌, ◌≤◌, List, [], ◌∷◌, length, get_or, ap, sym, ◌∙◌, arith, sum, map}
 use Rattle.std.proofs.lemmas.List.Sums.{sum_by-cons}
 use Rattle.std.proofs.Math.Nat.{mul-le-mul_left, div-le_of_le-mul, le_of_mul-le-mul_right, div-mul-le_self}
+use Rattle.std.proofs.lemmas.Nat.{mul-lt}
 use Rattle.std.proofs.lemmas.List.{ext_get_or, length-map, get_or-map}
 use Rattle.transyt_stopline.specs.Cut.{scaled}
 
@@ -38,3 +39,12 @@ pub cut_total : (xs go ys : List ℕ) → sum go < sum xs → length ys ≡ leng
     → ((k : ℕ) → k < length xs → get_or ys k 0 ≡ scaled (sum xs) (sum go) (get_or xs k 0)) → sum ys ≤ sum go
 cut_total xs go ys above same_length at_each =
     omega (arith, ap sum (mapped (scaled (sum xs) (sum go)) xs ys same_length at_each), scaled_total (sum go) xs above)
+
+-- a part of what comes times what is served fits where what comes is below 2^32
+pub product_fits : (value served come : ℕ) → value ≤ come → served < come → come < 2 ^ 32 → value * served < 2 ^ 64
+product_fits value served come part less fits =
+    omega (arith, mul-lt value served (2 ^ 32) (2 ^ 32) (omega arith) (omega arith))
+
+-- what is scaled down is no more than it was
+pub scaled_part : (a b value : ℕ) → b < a → value * b / a ≤ value
+scaled_part a b value less = scaled-le a b value (omega arith)

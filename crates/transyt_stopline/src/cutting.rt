@@ -1,7 +1,7 @@
-ghost use Rattle.std.specs.Prelude.{◌≡◌, ℕ, ◌^◌, ◌<◌, ◌≤◌, length, sum, slice_index, All};
-ghost use Rattle.transyt_stopline.specs.Cut.{arrivals_of};
+ghost use Rattle.std.specs.Prelude.{◌≡◌, ℕ, ◌^◌, ◌*◌, ◌<◌, ◌≤◌, length, sum, slice_index, All};
+ghost use Rattle.transyt_stopline.specs.Cut.{arrivals_of, scaled};
 
-use transyt_num::mul_div;
+use transyt_num::{divided_near, mul_div};
 use transyt_profile::total;
 
 /// What reaches the stop line of what comes to it.
@@ -23,10 +23,68 @@ pub fn cut_arrivals(x: &[u64], go: &[u64], out: &mut [u64])
     let come = total(x);
     let served = total(go);
     if served < come {
-        for i in 0..x.len() {
-            out[i] = mul_div(x[i], served, come) as u64;
-        }
+        scale(x, served, come, out);
     } else {
         out.copy_from_slice(x);
     }
+}
+
+// each step scaled down to `served` of `come`, the sum of all steps
+fn scale(x: &[u64], served: u64, come: u64, out: &mut [u64])
+    requires lengths { length out.old ≡ length x.now }
+    requires whole { come ≡ sum x.now }
+    requires part { served < come }
+    ensures { (k : ℕ) → k < length x.now → slice_index out.new k ≡ scaled come served (slice_index x.now k) }
+{
+    if come < 4294967296 {
+        scale_near(x, served, come, out);
+    } else {
+        scale_each(x, served, come, out);
+    }
+}
+
+// the same with one division for all steps
+fn scale_near(x: &[u64], served: u64, come: u64, out: &mut [u64])
+    requires lengths { length out.old ≡ length x.now }
+    requires whole { come ≡ sum x.now }
+    requires part { served < come }
+    requires fits { come < 2 ^ 32 }
+    ensures { (k : ℕ) → k < length x.now → slice_index out.new k ≡ scaled come served (slice_index x.now k) }
+{
+    let near = u64::MAX / come;
+    for step in 0..x.len() {
+        out[step] = scaled_near(x[step], served, come, near);
+    }
+}
+
+#[tactic(auto, using(crate::proofs::CutLaws::product_fits))]
+fn scaled_near(value: u64, served: u64, come: u64, near: u64) -> u64
+    requires value { value ≤ come }
+    requires part { served < come }
+    requires fits { come < 2 ^ 32 }
+    requires near { near * come < 2 ^ 64 }
+    ensures { result ≡ scaled come served value }
+{
+    divided_near(value * served, come, near)
+}
+
+// the same with a division at each step
+fn scale_each(x: &[u64], served: u64, come: u64, out: &mut [u64])
+    requires lengths { length out.old ≡ length x.now }
+    requires whole { come ≡ sum x.now }
+    requires part { served < come }
+    ensures { (k : ℕ) → k < length x.now → slice_index out.new k ≡ scaled come served (slice_index x.now k) }
+{
+    for i in 0..x.len() {
+        out[i] = scale_one(x[i], served, come);
+    }
+}
+
+#[tactic(auto, using(crate::proofs::CutLaws::scaled_part))]
+fn scale_one(value: u64, served: u64, come: u64) -> u64
+    requires value { value ≤ come }
+    requires part { served < come }
+    ensures { result ≡ scaled come served value }
+{
+    mul_div(value, served, come) as u64
 }

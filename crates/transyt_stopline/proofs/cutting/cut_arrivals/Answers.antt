@@ -7,21 +7,21 @@ use Rattle.transyt_stopline.proofs.CutLaws.{cut_total, scaled-le}
 use Rattle.transyt_stopline.proofs.cutting.cut_arrivals.Goals as goal
 
 -- each step is scaled, so they sum to at most what the green lets pass
-pub returns-after-loop-i-clause-total : goal.returns-after-loop-i-clause-total
-returns-after-loop-i-clause-total c =
-    cut_total c.args.x.now c.args.go.now c.loop-i.out (omega (arith, c.if-served-come.true)) (omega arith)
-    (λ k below. grind (arith, common_steps, c.loop-i.invariant k))
+pub returns-then-served-come-clause-total : goal.returns-then-served-come-clause-total
+returns-then-served-come-clause-total c =
+    cut_total c.args.x.now c.args.go.now c.scale.new.out (omega (arith, c.if-served-come.true)) (omega arith)
+    (λ k below. grind (arith, common_steps, c.scale.ensures k))
 
 -- what is scaled down is no more than it was
-pub returns-after-loop-i-clause-small : goal.returns-after-loop-i-clause-small
-returns-after-loop-i-clause-small c = λ k d below.
+pub returns-then-served-come-clause-small : goal.returns-then-served-come-clause-small
+returns-then-served-come-clause-small c = λ k d below.
     let small : get_or c.args.x.now k 0 < 2 ^ 48 = c.requires.fit k 0 (omega arith) in
     let less : sum c.args.go.now ≤ sum c.args.x.now = omega (arith, c.if-served-come.true) in
-    let here : get_or c.loop-i.out k 0 ≡ scaled (sum c.args.x.now) (sum c.args.go.now) (get_or c.args.x.now k 0) =
-    grind (arith, common_steps, c.loop-i.invariant k) in
+    let here : get_or c.scale.new.out k 0 ≡ scaled (sum c.args.x.now) (sum c.args.go.now) (get_or c.args.x.now k 0) =
+    grind (arith, common_steps, c.scale.ensures k) in
     omega (
       arith,
-      get_or_default c.loop-i.out k d 0 below,
+      get_or_default c.scale.new.out k d 0 below,
       here,
       scaled-le (sum c.args.x.now) (sum c.args.go.now) (get_or c.args.x.now k 0) less,
     )

@@ -1,7 +1,7 @@
 -- Arrivals are scaled step by step.
 use Rattle.std.proofs.Common.{◌≡◌, ℕ, ◌<◌, get_or}
 use Rattle.transyt_stopline.specs.Cut.{scaled}
-use Rattle.transyt_stopline.proofs.cutting.cut_arrivals.Given as goal
+use Rattle.transyt_stopline.proofs.cutting.scale_each.Given as goal
 
 -- the steps passed are scaled
 abbrev pub invariant-loop-i : goal.invariant-loop-i

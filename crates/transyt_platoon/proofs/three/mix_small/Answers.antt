@@ -1,0 +1,25 @@
+-- The product is the mean, and it fits.
+use Rattle.std.proofs.Common.{◌≡◌, ◌+◌, ◌-◌, ◌*◌, ◌/◌, ◌^◌, ◌<◌, ◌≤◌, ap, ◌∙◌, arith}
+use Rattle.std.proofs.lemmas.Nat.{mul-le}
+use Rattle.transyt_platoon.proofs.Parts.{mixed_by}
+use Rattle.transyt_platoon.proofs.Mixing.{mixed-le}
+use Rattle.transyt_platoon.proofs.three.mix_small.Goals as goal
+
+-- by the law of the reciprocal
+pub returns-clause-value : goal.returns-clause-value
+returns-clause-value c =
+    let r = c.requires in
+    rw (r.is.ours, r.is.theirs)
+    (mixed_by c.args.mixer.now.weight c.args.mixer.now.by c.args.starting c.args.before c.args.mixer.now.most
+    1099511627776 r.is.least r.is.close r.is.room r.starting r.before)
+
+-- a mean of numbers below a limit
+pub returns-clause-small : goal.returns-clause-small
+returns-clause-small c =
+    let mean = returns-clause-value c in
+    omega (
+      arith,
+      mean,
+      mixed-le c.args.mixer.now.weight c.args.starting c.args.before (c.args.mixer.now.most - 1) (omega arith)
+          (omega arith),
+    )
