@@ -1,6 +1,7 @@
 -- What an allowed edit does: a valid network stays valid.
 use Rattle.std.proofs.Common.{◌≡◌, ℕ, ◌-◌, ◌≤◌, Bool, true, not, ◌&&◌, List, length, Some, None, refl, sym, ap, subst}
-use Rattle.std.proofs.Common.{◌∙◌, arith, nat_le, nat_lt, if◌then◌else◌}
+use Rattle.std.proofs.Common.{All, map, ◌∙◌, arith, nat_le, nat_lt, if◌then◌else◌}
+use Rattle.std.proofs.lemmas.Bool.Decides.{nat_tests}
 use Rattle.std.proofs.lemmas.Bool.{and_parts, not-false, leb-true, ltb-true, le-leb}
 use Rattle.std.proofs.lemmas.List.{length-map}
 use Rattle.transyt_parts.specs.declared.node.Stage.{Stage}
@@ -95,24 +96,11 @@ feeds_written : (numbers : List ℕ) (f : Feed → Feed) (same : (x : Feed) → 
     → IsLink steps nodes numbers (record l { feeds = on_numbered feeder_of f l.feeds feeder })
 feeds_written numbers f same steps nodes feeder l old good =
     let len = length_kept feeder_of f same l.feeds feeder in
-    record {
-      number = old.number;
-      node = old.node;
-      entry = old.entry;
-      saturation = old.saturation;
-      delay_weight = old.delay_weight;
-      stop_weight = old.stop_weight;
-      start_lag = old.start_lag;
-      end_lag = old.end_lag;
-      stage_count = old.stage_count;
-      stages_differ = old.stages_differ;
-      stages = old.stages;
-      feed_count = omega (arith, old.feed_count);
-      feeders_differ =
-          subst (λ ks. all_differ ks ≡ true) (sym (keys_kept feeder_of f same l.feeds feeder)) old.feeders_differ;
-      feeds = all_on_numbered (IsFeed numbers) feeder_of f l.feeds feeder (λ x at is. good x is) old.feeds;
-      rule = old.rule;
-    }
+    let differ : all_differ (map feeder_of (on_numbered feeder_of f l.feeds feeder)) ≡ true =
+    ap all_differ (keys_kept feeder_of f same l.feeds feeder) ∙ old.feeders_differ in
+    let fed_still : All (IsFeed numbers) (on_numbered feeder_of f l.feeds feeder) =
+    all_on_numbered (IsFeed numbers) feeder_of f l.feeds feeder (λ x at is. good x is) old.feeds in
+    grind (arith, nat_tests)
 
 -- an allowed edit keeps a network valid
 pub valid_edit : (net : Network) (e : Edit) → IsValid net → edit_fault net e ≡ None → IsValid (with_edit net e)
@@ -162,23 +150,7 @@ valid_edit net (Change node stage change) h none =
     }
 valid_edit net (Entry link flow) h none =
     let both = ranged (is_link net link) (nat_le flow 9999) none in
-    link_valid net (set_entry flow) (λ l. refl) link h (λ l at old. record {
-      number = old.number;
-      node = old.node;
-      entry = leb-true flow 9999 both.1;
-      saturation = old.saturation;
-      delay_weight = old.delay_weight;
-      stop_weight = old.stop_weight;
-      start_lag = old.start_lag;
-      end_lag = old.end_lag;
-      stage_count = old.stage_count;
-      stages_differ = old.stages_differ;
-      stages = old.stages;
-      feed_count = old.feed_count;
-      feeders_differ = old.feeders_differ;
-      feeds = old.feeds;
-      rule = old.rule;
-    })
+    link_valid net (set_entry flow) (λ l. refl) link h (λ l at old. grind (arith, nat_tests))
 valid_edit net (Part link feeder flow) h none =
     let all = part_allowed net link feeder flow none in
     link_valid net (set_part feeder flow) (λ l. refl) link h (λ l at old.
@@ -191,40 +163,8 @@ valid_edit net (Cruise link feeder seconds) h none =
     (λ x is. record { feeder = is.feeder; flow = is.flow; cruise = in_range 1 300 seconds all.2 }))
 valid_edit net (Saturation link flow) h none =
     let both = ranged (is_link net link) (within 100 9999 flow) none in
-    link_valid net (set_saturation flow) (λ l. refl) link h (λ l at old. record {
-      number = old.number;
-      node = old.node;
-      entry = old.entry;
-      saturation = in_range 100 9999 flow both.1;
-      delay_weight = old.delay_weight;
-      stop_weight = old.stop_weight;
-      start_lag = old.start_lag;
-      end_lag = old.end_lag;
-      stage_count = old.stage_count;
-      stages_differ = old.stages_differ;
-      stages = old.stages;
-      feed_count = old.feed_count;
-      feeders_differ = old.feeders_differ;
-      feeds = old.feeds;
-      rule = old.rule;
-    })
+    link_valid net (set_saturation flow) (λ l. refl) link h (λ l at old. grind (arith, nat_tests))
 valid_edit net (Weight link delay stop) h none =
     let both = ranged (is_link net link) (nat_le delay 999 && nat_le stop 999) none in
     let weights = and_parts (nat_le delay 999) (nat_le stop 999) both.1 in
-    link_valid net (set_weights delay stop) (λ l. refl) link h (λ l at old. record {
-      number = old.number;
-      node = old.node;
-      entry = old.entry;
-      saturation = old.saturation;
-      delay_weight = leb-true delay 999 weights.0;
-      stop_weight = leb-true stop 999 weights.1;
-      start_lag = old.start_lag;
-      end_lag = old.end_lag;
-      stage_count = old.stage_count;
-      stages_differ = old.stages_differ;
-      stages = old.stages;
-      feed_count = old.feed_count;
-      feeders_differ = old.feeders_differ;
-      feeds = old.feeds;
-      rule = old.rule;
-    })
+    link_valid net (set_weights delay stop) (λ l. refl) link h (λ l at old. grind (arith, nat_tests))

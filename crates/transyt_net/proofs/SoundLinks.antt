@@ -1,5 +1,5 @@
 -- A draft stays sound with a new link, feed and give-way rule.
-use Rattle.std.proofs.Common.{[], ◌≡◌, ℕ, ◌≤◌, true, false, not, ◌&&◌, ◌||◌, ◌∷◌, ◌++◌, length, None, refl}
+use Rattle.std.proofs.Common.{◌<◌, [], ◌≡◌, ℕ, ◌≤◌, true, false, not, ◌&&◌, ◌||◌, ◌∷◌, ◌++◌, length, None, refl}
 use Rattle.std.proofs.Common.{sym, ap, subst, ◌∙◌, arith, nat_eq, nat_le, nat_lt, is_some, length-append, All, IfSome}
 use Rattle.std.specs.List.{list_all}
 use Rattle.std.proofs.lemmas.Bool.{and_parts, or_parts, leb-true, leb-false, ltb-true, not-false}
@@ -17,10 +17,17 @@ use Rattle.transyt_parts.specs.Valid.{link_in_range, feed_in_range}
 use Rattle.transyt_net.specs.Faults.{link_fault, with_link}
 use Rattle.transyt_net.specs.Faults.{are_links, feed_fault, with_feed, rule_fault, with_rule}
 use Rattle.transyt_parts.specs.Made.{add_feed, set_rule}
+use Rattle.std.proofs.lemmas.Bool.Decides.{nat_tests}
 use Rattle.transyt_net.proofs.PlaceLaws.{among_more, all_differ-push}
 use Rattle.transyt_net.proofs.PlaceLaws.{list_any_map}
 use Rattle.transyt_net.proofs.WriteLaws.{no_fault, in_range, all_in_range}
 use Rattle.transyt_net.proofs.WriteLaws.{link_with_more_numbers, links_written}
+
+-- what the test of a link's numbers tells
+range_facts : (steps : ℕ) (l : LinkValue) → link_in_range steps l ≡ true
+    → ((1 ≤ l.number) × (l.number ≤ 99999)) × (l.entry ≤ 9999) × ((100 ≤ l.saturation) × (l.saturation ≤ 9999))
+    × (l.delay_weight ≤ 999) × (l.stop_weight ≤ 999) × (l.start_lag < steps) × (l.end_lag < steps)
+range_facts steps l h = grind (arith, nat_tests)
 
 -- a draft with a new link is sound
 pub sound_link : (net : Network) (l : LinkValue) → IsSound net → (1 ≤ length l.stages) × (length l.stages ≤ 8)
@@ -36,18 +43,7 @@ sound_link net l h count no_feeds no_rule none =
     let room = no_fault (nat_le 1000 (length net.links)) TooMany _ ranged.1 in
     let apart = or_parts (is_among numbers l.number) (not (all_differ l.stages)) once.0 in
     let names = and_parts known runs (not-false _ unknown.0) in
-    let n = within 1 99999 l.number in
-    let e = nat_le l.entry 9999 in
-    let v = within 100 9999 l.saturation in
-    let d = nat_le l.delay_weight 999 in
-    let w = nat_le l.stop_weight 999 in
-    let b = nat_lt l.start_lag steps in
-    let r6 = and_parts (n && e && v && d && w && b) (nat_lt l.end_lag steps) (not-false _ ranged.0) in
-    let r5 = and_parts (n && e && v && d && w) b r6.0 in
-    let r4 = and_parts (n && e && v && d) w r5.0 in
-    let r3 = and_parts (n && e && v) d r4.0 in
-    let r2 = and_parts (n && e) v r3.0 in
-    let r1 = and_parts n e r2.0 in
+    let range = range_facts steps l (not-false _ ranged.0) in
     let few = leb-false 1000 (length net.links) room.0 in
     let longer = length-append net.links (l ∷ []) in
     let after = link_numbers (net.links ++ l ∷ []) in
@@ -55,24 +51,15 @@ sound_link net l h count no_feeds no_rule none =
     map-append link_number net.links (l ∷ []) in
     let among : (k : ℕ) → is_among numbers k ≡ true → is_among after k ≡ true =
     λ k a. subst (λ ks. is_among ks k ≡ true) (sym keys) (among_more numbers (l.number ∷ []) k a) in
-    let new : IsLink steps net.nodes after l = record {
-      number = in_range 1 99999 l.number r1.0;
-      node = names.0;
-      entry = leb-true l.entry 9999 r1.1;
-      saturation = in_range 100 9999 l.saturation r2.1;
-      delay_weight = leb-true l.delay_weight 999 r3.1;
-      stop_weight = leb-true l.stop_weight 999 r4.1;
-      start_lag = ltb-true l.start_lag steps r5.1;
-      end_lag = ltb-true l.end_lag steps r6.1;
-      stage_count = count;
-      stages_differ = not-false _ apart.1;
-      stages = all_in_range 1 (stages_at net.nodes l.node) l.stages names.1;
-      feed_count = subst (λ fs. length fs ≤ 8) (sym no_feeds) (omega arith);
-      feeders_differ = subst (λ fs. all_differ (feeders fs) ≡ true) (sym no_feeds) refl;
-      feeds =
-          subst (λ fs. All (IsFeed after) fs) (sym no_feeds) (All-nil (IsFeed after));
-      rule = subst (λ o. IfSome o (IsRule after)) (sym no_rule) tt;
-    } in
+    let differ : all_differ l.stages ≡ true = not-false _ apart.1 in
+    let staged = all_in_range 1 (stages_at net.nodes l.node) l.stages names.1 in
+    let no_fed : All (IsFeed after) [] = All-nil (IsFeed after) in
+    let fed : All (IsFeed after) l.feeds = subst (λ fs. All (IsFeed after) fs) (sym no_feeds) no_fed in
+    let fed_differ : all_differ (feeders l.feeds) ≡ true =
+    subst (λ fs. all_differ (feeders fs) ≡ true) (sym no_feeds) refl in
+    let fed_few : length l.feeds ≤ 8 = subst (λ fs. length fs ≤ 8) (sym no_feeds) (omega arith) in
+    let rule : IfSome l.gives_way (IsRule after) = subst (λ o. IfSome o (IsRule after)) (sym no_rule) tt in
+    let new : IsLink steps net.nodes after l = grind arith in
     record {
       frame = h.frame;
       node_count = h.node_count;
@@ -108,25 +95,12 @@ sound_feed net link f h none =
     list_any_map (λ x. x.feeder) (nat_eq f.feeder) l.feeds
     ∙ ap (λ o. is_fed (feeds_in o) f.feeder) (sym at)
     ∙ once.0 in
-    record {
-      number = old.number;
-      node = old.node;
-      entry = old.entry;
-      saturation = old.saturation;
-      delay_weight = old.delay_weight;
-      stop_weight = old.stop_weight;
-      start_lag = old.start_lag;
-      end_lag = old.end_lag;
-      stage_count = old.stage_count;
-      stages_differ = old.stages_differ;
-      stages = old.stages;
-      feed_count = omega arith;
-      feeders_differ =
-          subst (λ ks. all_differ ks ≡ true) (sym (map-append (λ x. x.feeder) l.feeds (f ∷ [])))
-          (all_differ-push (feeders l.feeds) f.feeder old.feeders_differ absent);
-      feeds = All-push (IsFeed numbers) l.feeds f old.feeds good;
-      rule = old.rule;
-    })
+    let one_more : length (l.feeds ++ f ∷ []) ≤ 8 = omega arith in
+    let differ : all_differ (feeders (l.feeds ++ f ∷ [])) ≡ true =
+    subst (λ ks. all_differ ks ≡ true) (sym (map-append (λ x. x.feeder) l.feeds (f ∷ [])))
+    (all_differ-push (feeders l.feeds) f.feeder old.feeders_differ absent) in
+    let fed : All (IsFeed numbers) (l.feeds ++ f ∷ []) = All-push (IsFeed numbers) l.feeds f old.feeds good in
+    grind (arith, nat_tests))
 
 -- a draft with a new give-way rule is sound
 pub sound_rule : (net : Network) (link : ℕ) (r : GiveWay) → IsSound net → rule_fault net link r ≡ None
@@ -139,20 +113,4 @@ sound_rule net link r h none =
     let both = and_parts (is_among numbers link) (is_among numbers r.other) (not-false _ unknown.0) in
     let good : IsRule numbers r =
     record { other = both.1; percent = leb-true r.percent 400 (not-false _ ranged.0) } in
-    links_written net (set_rule r) (λ l. refl) link h (λ l at old. record {
-      number = old.number;
-      node = old.node;
-      entry = old.entry;
-      saturation = old.saturation;
-      delay_weight = old.delay_weight;
-      stop_weight = old.stop_weight;
-      start_lag = old.start_lag;
-      end_lag = old.end_lag;
-      stage_count = old.stage_count;
-      stages_differ = old.stages_differ;
-      stages = old.stages;
-      feed_count = old.feed_count;
-      feeders_differ = old.feeders_differ;
-      feeds = old.feeds;
-      rule = good;
-    })
+    links_written net (set_rule r) (λ l. refl) link h (λ l at old. grind (arith, nat_tests))

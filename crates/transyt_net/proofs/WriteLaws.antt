@@ -3,6 +3,7 @@ use Rattle.std.proofs.Common.{[], ◌≡◌, ℕ, suc, zero, ◌≤◌, Bool, tr
 use Rattle.std.proofs.Common.{Some, None, refl, sym, subst, arith, nat_eq, nat_le, length-append, All, IfSome}
 use Rattle.std.proofs.Common.{if◌then◌else◌}
 use Rattle.std.specs.List.{list_all}
+use Rattle.std.proofs.lemmas.Bool.Decides.{nat_tests}
 use Rattle.std.proofs.lemmas.Bool.{and_parts, leb-true}
 use Rattle.std.proofs.lemmas.List.Elements.{All-cons, All-weaker, All-nil}
 use Rattle.transyt_parts.specs.declared.node.Stage.{Stage}
@@ -70,49 +71,22 @@ pub link_with_more_nodes : (steps : ℕ) (nodes more : List NodeValue) (numbers 
     → ((k : ℕ) → is_among (node_numbers nodes) k ≡ true → is_among (node_numbers more) k ≡ true)
     → ((k : ℕ) → stages_at nodes k ≤ stages_at more k)
     → (l : LinkValue) → IsLink steps nodes numbers l → IsLink steps more numbers l
-link_with_more_nodes steps nodes more numbers among stages l h = record {
-  number = h.number;
-  node = among l.node h.node;
-  entry = h.entry;
-  saturation = h.saturation;
-  delay_weight = h.delay_weight;
-  stop_weight = h.stop_weight;
-  start_lag = h.start_lag;
-  end_lag = h.end_lag;
-  stage_count = h.stage_count;
-  stages_differ = h.stages_differ;
-  stages =
-      λ i d inside. let old = h.stages i d inside in let more_stages = stages l.node in (omega arith, omega arith);
-  feed_count = h.feed_count;
-  feeders_differ = h.feeders_differ;
-  feeds = h.feeds;
-  rule = h.rule;
-}
+link_with_more_nodes steps nodes more numbers among stages l h =
+    let node = among l.node h.node in
+    let staged : All (λ k. (1 ≤ k) × (k ≤ stages_at more l.node)) l.stages = λ i d inside.
+    let old = h.stages i d inside in let more_stages = stages l.node in (omega arith, omega arith) in
+    grind (arith, nat_tests)
 
 -- more link numbers hurt no link
 pub link_with_more_numbers : (steps : ℕ) (nodes : List NodeValue) (numbers more : List ℕ)
     → ((k : ℕ) → is_among numbers k ≡ true → is_among more k ≡ true)
     → (l : LinkValue) → IsLink steps nodes numbers l → IsLink steps nodes more l
-link_with_more_numbers steps nodes numbers more among l h = record {
-  number = h.number;
-  node = h.node;
-  entry = h.entry;
-  saturation = h.saturation;
-  delay_weight = h.delay_weight;
-  stop_weight = h.stop_weight;
-  start_lag = h.start_lag;
-  end_lag = h.end_lag;
-  stage_count = h.stage_count;
-  stages_differ = h.stages_differ;
-  stages = h.stages;
-  feed_count = h.feed_count;
-  feeders_differ = h.feeders_differ;
-  feeds =
-      All-weaker (IsFeed numbers) (IsFeed more)
-      (λ f good. record { feeder = among f.feeder good.feeder; flow = good.flow; cruise = good.cruise }) l.feeds
-      h.feeds;
-  rule = rule l.gives_way h.rule;
-}
+link_with_more_numbers steps nodes numbers more among l h =
+    let feeds : All (IsFeed more) l.feeds = All-weaker (IsFeed numbers) (IsFeed more)
+    (λ f good. record { feeder = among f.feeder good.feeder; flow = good.flow; cruise = good.cruise }) l.feeds
+    h.feeds in
+    let given = rule l.gives_way h.rule in
+    grind (arith, nat_tests)
   where
     rule : (o : Option GiveWay) → IfSome o (IsRule numbers) → IfSome o (IsRule more)
     rule None given = given

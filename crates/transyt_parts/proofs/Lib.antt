@@ -1,4 +1,3 @@
 pub mod CopyLaws
 mod KnownValues
 pub mod PlanLaws
-pub mod ShapeLaws

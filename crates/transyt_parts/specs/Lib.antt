@@ -1,4 +1,3 @@
-pub mod Alike
 pub mod Parts
 pub mod Valid
 pub mod Made

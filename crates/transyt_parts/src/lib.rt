@@ -14,6 +14,7 @@
 mod climb_plan;
 mod copy;
 mod frame;
+mod laws;
 mod link;
 mod node;
 mod range;
@@ -23,6 +24,7 @@ mod stage_plan;
 pub use climb_plan::ClimbPlan;
 pub use copy::{copy_links, copy_nodes, copy_plan};
 pub use frame::Frame;
+pub use laws::tests_tell;
 pub use link::{Feed, GiveWay, Link, add_feed, all_flow, has_feeder, set_rule};
 pub use node::{Node, Stage, add_stage};
 pub use range::{

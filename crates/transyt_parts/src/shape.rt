@@ -3,132 +3,104 @@
 //! An edit sets an offset, a change, a flow, a cruise time or a weight; all else is the shape. This
 //! project's own.
 
-ghost use Rattle.std.specs.Prelude.{◌≡◌, ◌↔◌, ℕ, IsTrue, map, nat_eq};
-ghost use Rattle.transyt_parts.specs.Shape.{bare_node, bare_link};
-ghost use Rattle.transyt_parts.specs.Alike.{same_list, same_stage, same_node, same_feed, same_rule, same_link, same_plan, same_frame};
+ghost use Rattle.std.specs.Prelude.{◌≡◌, ◌↔◌, ℕ, IsTrue, map};
+ghost use Rattle.transyt_parts.specs.Shape.{bare_stage, bare_node, bare_feed, bare_link};
 
 use crate::climb_plan::ClimbPlan;
 use crate::frame::Frame;
-use crate::link::{Feed, GiveWay, Link};
+use crate::link::{Feed, Link};
 use crate::node::{Node, Stage};
 
 /// Whether two frames are equal.
-#[tactic(auto, using(crate::proofs::ShapeLaws::frames_decide))]
 pub fn same_frame(a: Frame, b: Frame) -> bool
     ensures { IsTrue result ↔ a ≡ b }
 {
-    a.cycle == b.cycle
-        && a.step_count == b.step_count
-        && a.sweeps == b.sweeps
-        && a.period == b.period
-        && a.stop_penalty == b.stop_penalty
-        && a.dispersion == b.dispersion
+    a == b
 }
 
-fn same_numbers(a: &[u32], b: &[u32]) -> bool
-    ensures { result ≡ same_list nat_eq a.now b.now }
+fn bare_stage(stage: Stage) -> Stage
+    ensures { result ≡ bare_stage stage }
 {
-    match (a, b) {
-        ([], []) => true,
-        ([x, xs @ ..], [y, ys @ ..]) => *x == *y && same_numbers(xs, ys),
-        _ => false,
+    Stage { change: 0, ..stage }
+}
+
+fn bare_feed(feed: Feed) -> Feed
+    ensures { result ≡ bare_feed feed }
+{
+    Feed {
+        flow: 0,
+        cruise: 0,
+        ..feed
     }
 }
 
 fn same_stages(a: &[Stage], b: &[Stage]) -> bool
-    ensures { result ≡ same_list same_stage a.now b.now }
+    ensures { IsTrue result ↔ map bare_stage a.now ≡ map bare_stage b.now }
 {
     match (a, b) {
         ([], []) => true,
-        ([x, xs @ ..], [y, ys @ ..]) => {
-            x.intergreen == y.intergreen && x.least == y.least && same_stages(xs, ys)
-        }
+        ([x, xs @ ..], [y, ys @ ..]) => bare_stage(*x) == bare_stage(*y) && same_stages(xs, ys),
         _ => false,
     }
 }
 
 fn same_feeds(a: &[Feed], b: &[Feed]) -> bool
-    ensures { result ≡ same_list same_feed a.now b.now }
+    ensures { IsTrue result ↔ map bare_feed a.now ≡ map bare_feed b.now }
 {
     match (a, b) {
         ([], []) => true,
-        ([x, xs @ ..], [y, ys @ ..]) => x.feeder == y.feeder && same_feeds(xs, ys),
-        _ => false,
-    }
-}
-
-fn same_rule(a: Option<GiveWay>, b: Option<GiveWay>) -> bool
-    ensures { result ≡ same_rule a b }
-{
-    match (a, b) {
-        (None, None) => true,
-        (Some(a), Some(b)) => a.other == b.other && a.percent == b.percent,
+        ([x, xs @ ..], [y, ys @ ..]) => bare_feed(*x) == bare_feed(*y) && same_feeds(xs, ys),
         _ => false,
     }
 }
 
 fn same_node(a: &Node, b: &Node) -> bool
-    ensures { result ≡ same_node a.now b.now }
+    ensures { IsTrue result ↔ bare_node a.now ≡ bare_node b.now }
 {
     a.number == b.number && same_stages(&a.stages, &b.stages)
 }
 
 fn same_link(a: &Link, b: &Link) -> bool
-    ensures { result ≡ same_link a.now b.now }
+    ensures { IsTrue result ↔ bare_link a.now ≡ bare_link b.now }
 {
     a.number == b.number
         && a.node == b.node
         && a.start_lag == b.start_lag
         && a.end_lag == b.end_lag
-        && same_numbers(&a.stages, &b.stages)
+        && a.stages == b.stages
         && same_feeds(&a.feeds, &b.feeds)
-        && same_rule(a.gives_way, b.gives_way)
-}
-
-fn nodes_agree(a: &[Node], b: &[Node]) -> bool
-    ensures { result ≡ same_list same_node a.now b.now }
-{
-    match (a, b) {
-        ([], []) => true,
-        ([x, xs @ ..], [y, ys @ ..]) => same_node(x, y) && nodes_agree(xs, ys),
-        _ => false,
-    }
-}
-
-fn links_agree(a: &[Link], b: &[Link]) -> bool
-    ensures { result ≡ same_list same_link a.now b.now }
-{
-    match (a, b) {
-        ([], []) => true,
-        ([x, xs @ ..], [y, ys @ ..]) => same_link(x, y) && links_agree(xs, ys),
-        _ => false,
-    }
+        && a.gives_way == b.gives_way
 }
 
 /// Whether two lists of nodes differ at most in numbers that an edit sets.
-#[tactic(auto, using(crate::proofs::ShapeLaws::nodes_decide))]
 pub fn same_nodes(a: &[Node], b: &[Node]) -> bool
     ensures { IsTrue result ↔ map bare_node a.now ≡ map bare_node b.now }
 {
-    nodes_agree(a, b)
+    match (a, b) {
+        ([], []) => true,
+        ([x, xs @ ..], [y, ys @ ..]) => same_node(x, y) && same_nodes(xs, ys),
+        _ => false,
+    }
 }
 
 /// Whether two lists of links differ at most in numbers that an edit sets.
-#[tactic(auto, using(crate::proofs::ShapeLaws::links_decide))]
 pub fn same_links(a: &[Link], b: &[Link]) -> bool
     ensures { IsTrue result ↔ map bare_link a.now ≡ map bare_link b.now }
 {
-    links_agree(a, b)
+    match (a, b) {
+        ([], []) => true,
+        ([x, xs @ ..], [y, ys @ ..]) => same_link(x, y) && same_links(xs, ys),
+        _ => false,
+    }
 }
 
 /// Whether two climb plans are equal, or there is none on either side.
-#[tactic(auto, using(crate::proofs::ShapeLaws::plans_decide))]
 pub fn same_plan(a: &Option<ClimbPlan>, b: &Option<ClimbPlan>) -> bool
     ensures { IsTrue result ↔ a.now ≡ b.now }
 {
     match (a, b) {
         (None, None) => true,
-        (Some(a), Some(b)) => a.budget == b.budget && same_numbers(&a.sizes, &b.sizes),
+        (Some(a), Some(b)) => a.budget == b.budget && a.sizes == b.sizes,
         _ => false,
     }
 }
