@@ -1,46 +1,28 @@
 -- An accepted END, and the deck behind a line.
-use Rattle.std.proofs.Common.{◌≡◌, ℕ, ◌+◌, ◌||◌, List, [], ◌∷◌, ◌++◌, length, Bool, true, false, cond, not, Option}
-use Rattle.std.proofs.Common.{Some, None, refl, sym, ◌∙◌, ap, unwrap_or, option_and_then}
+use Rattle.std.proofs.Common.{◌≡◌, ℕ, ◌+◌, List, [], ◌∷◌, ◌++◌, length, Bool, true, false, cond, not, Option}
+use Rattle.std.proofs.Common.{Some, None, refl, sym, ◌∙◌, ap, unwrap_or, option_and_then, is_some, nat_le}
 use Rattle.std.specs.Option.{option_map}
-use Rattle.std.specs.List.{list_any, filter_map}
+use Rattle.std.proofs.lemmas.Bool.{and_parts}
 use Rattle.transyt_io.specs.Lines.{is_skipped}
-use Rattle.transyt_parts.specs.declared.frame.Frame.{Frame}
 use Rattle.transyt_net.specs.Parts.{Network}
 use Rattle.transyt_syntax.specs.Findings.{first_found, or_else, when}
 use Rattle.transyt_syntax.specs.Syntax.{syntax_code}
 use Rattle.transyt_deck.specs.declared.keyword.CardWord.{CardWord}
 use Rattle.transyt_deck.specs.Cards.{Card}
 use Rattle.transyt_deck.specs.Rows.{card_of, row_of}
-use Rattle.transyt_deck.specs.Picks.{cards_of, draft_of, frame_in, last_of, network_with}
-use Rattle.transyt_deck.specs.InPlace.{in_place, is_cycle, is_end}
+use Rattle.transyt_deck.specs.InPlace.{in_place, is_end}
 use Rattle.transyt_deck.specs.Deck.{Complete, Seen, card_code, card_in, code, code_at, counts_of, deck_after}
 use Rattle.transyt_deck.specs.Deck.{deck_step, fault_code, fault_in, is_end_line, plan_code, plan_fault_in, seen}
-use Rattle.transyt_deck.specs.Next.{next_card, seen_with}
+use Rattle.transyt_deck.specs.Deck.{next_card, seen_with}
 use Rattle.transyt_deck.specs.Reader.{Ends}
 use Rattle.transyt_deck.proofs.After.{after_next}
 use Rattle.transyt_deck.specs.Cards as c
 use Rattle.transyt_deck.specs.declared.keyword.CardWord.TheVariants as w
 use Rattle.transyt_deck.specs.Deck as d
 
-some_last : {A : Type 0} (o : Option A) (x : A) → (y : A) × (or_else o (Some x) ≡ Some y)
-some_last None x = (x, refl)
-some_last (Some y) x = (y, refl)
-
-cycle_frame : (cs : List Card) → list_any is_cycle cs ≡ true → (f : Frame) × (last_of (filter_map frame_in cs) ≡ Some f)
-cycle_frame [] h = absurd (cc)
-cycle_frame (c.Form n ∷ cs) h = cycle_frame cs h
-cycle_frame (c.Cycle f ∷ cs) h = some_last (last_of (filter_map frame_in cs)) f
-cycle_frame (c.Node n o ∷ cs) h = cycle_frame cs h
-cycle_frame (c.StageOf s ∷ cs) h = cycle_frame cs h
-cycle_frame (c.LinkOf l ∷ cs) h = cycle_frame cs h
-cycle_frame (c.FeedOf l f ∷ cs) h = cycle_frame cs h
-cycle_frame (c.Yield l g ∷ cs) h = cycle_frame cs h
-cycle_frame (c.Steps p ∷ cs) h = cycle_frame cs h
-cycle_frame (c.End ∷ cs) h = cycle_frame cs h
-
--- the cards behind a CYCLE have a network
-pub cycle_draft : (cs : List Card) → list_any is_cycle cs ≡ true → (net : Network) × (draft_of cs ≡ Some net)
-cycle_draft cs h = let f = cycle_frame cs h in (network_with cs f.0, ap (option_map (network_with cs)) f.1)
+some_of : (o : Option Network) → is_some o ≡ true → (net : Network) × (o ≡ Some net)
+some_of None h = absurd (cc)
+some_of (Some net) h = (net, refl)
 
 end_word : (word : CardWord) (ns : List ℕ) → is_end (card_of 1 word ns) ≡ true → word ≡ w.End
 end_word w.Form ns h = absurd (cc)
@@ -85,10 +67,10 @@ end_has_draft before line none ends =
     let fine : option_and_then (card_code s) (card_in s.form line) ≡ None =
     fine_card (is_skipped line) (syntax_code (counts_of s.form line) line) _ (not_kept (is_skipped line) _ ends)
     none in
-    let placed : in_place s.places c.End ≡ true =
-    placed_end (in_place s.places c.End) _ (ap (option_and_then (card_code s)) (sym card) ∙ fine) in
-    let found = cycle_draft (cards_of before) placed in
-    let after : seen (before ++ line ∷ []) ≡ seen_with c.End s = sym (after_next before line none)
+    let placed : in_place s.part s.draft c.End ≡ true =
+    placed_end (in_place s.part s.draft c.End) _ (ap (option_and_then (card_code s)) (sym card) ∙ fine) in
+    let found = some_of s.draft ((and_parts (is_some s.draft) (nat_le s.part 6) placed).0) in
+    let after : seen (before ++ line ∷ []) ≡ seen_with c.End s = sym (after_next before line)
     ∙ ap (λ (o : Option Card). next_card o s) card in
     (found.0, found.1, ap (λ (s : Seen). s.draft) after ∙ found.1)
 
@@ -96,18 +78,12 @@ end_has_draft before line none ends =
 pub end_seen : (before : List (List ℕ)) (line : List ℕ) → Ends before line
     → seen (before ++ line ∷ []) ≡ seen_with c.End (seen before)
 end_seen before line ends =
-    sym (after_next before line ends.0)
+    sym (after_next before line)
     ∙ ap (λ (o : Option Card). next_card o (seen before)) (end_card (seen before).form (row_of line) ends.1)
 
-or_true : (b : Bool) → (b || true) ≡ true
-or_true true = refl
-or_true false = refl
-
--- behind an accepted END the places say so
-pub end_placed : (before : List (List ℕ)) (line : List ℕ) → Ends before line
-    → (seen (before ++ line ∷ [])).places.end ≡ true
-end_placed before line ends =
-    ap (λ (s : Seen). s.places.end) (end_seen before line ends) ∙ or_true (seen before).places.end
+-- behind an accepted END the deck has come to its last part
+pub end_placed : (before : List (List ℕ)) (line : List ℕ) → Ends before line → (seen (before ++ line ∷ [])).part ≡ 7
+end_placed before line ends = ap (λ (s : Seen). s.part) (end_seen before line ends)
 
 -- END leaves the network
 pub end_draft : (before : List (List ℕ)) (line : List ℕ) → Ends before line

@@ -7,13 +7,13 @@ use Rattle.transyt_net.specs.Parts.{Network}
 use Rattle.transyt_syntax.specs.Findings.{first_found, or_else, when}
 use Rattle.transyt_syntax.specs.Syntax.{syntax_code}
 use Rattle.transyt_deck.specs.declared.keyword.CardWord.{CardWord}
-use Rattle.transyt_deck.specs.declared.places.Places.{Places}
 use Rattle.transyt_deck.specs.declared.reader.Progress.{Progress}
 use Rattle.transyt_deck.specs.Rows.{card_of, row_of}
-use Rattle.transyt_deck.specs.InPlace.{in_place, is_end}
+use Rattle.transyt_deck.specs.InPlace.{in_place, part_of, is_end}
 use Rattle.transyt_deck.specs.Deck.{Seen, card_code, codes_in, code_at, counts_of, fault_code, fault_in}
 use Rattle.transyt_deck.specs.Deck.{is_end_line, plan_code, plan_fault_in}
-use Rattle.transyt_deck.specs.Next.{draft_with, form_with, next, next_card, places_with, seen_with}
+use Rattle.transyt_deck.specs.Next.{draft_with, form_with}
+use Rattle.transyt_deck.specs.Deck.{next, next_card, seen_with}
 use Rattle.transyt_deck.specs.Reader.{Accepts, ReaderValue, Refuses, Takes, reading}
 use Rattle.transyt_deck.proofs.After.{after_next}
 use Rattle.transyt_deck.specs.declared.reader.CardStop.TheVariants as refusal
@@ -39,7 +39,7 @@ code_of_row s line word ns is =
 
 -- a card that is out of its place has code 15
 pub code_of_place : (s : Seen) (line : List ℕ) (word : CardWord) (ns : List ℕ) → IsRow s line word ns
-    → in_place s.places (card_of s.form word ns) ≡ false → code_at s line ≡ Some 15
+    → in_place s.part s.draft (card_of s.form word ns) ≡ false → code_at s line ≡ Some 15
 code_of_place s line word ns is out =
     let card = card_of s.form word ns in
     code_of_row s line word ns is
@@ -48,7 +48,7 @@ code_of_place s line word ns is out =
 
 -- a card in its place has the code that holds of it there
 pub code_of_card : (s : Seen) (line : List ℕ) (word : CardWord) (ns : List ℕ) → IsRow s line word ns
-    → in_place s.places (card_of s.form word ns) ≡ true → code_at s line ≡ codes_in (card_of s.form word ns) s.draft
+    → in_place s.part s.draft (card_of s.form word ns) ≡ true → code_at s line ≡ codes_in (card_of s.form word ns) s.draft
 code_of_card s line word ns is here =
     let card = card_of s.form word ns in
     code_of_row s line word ns is
@@ -80,7 +80,7 @@ takes_by before line old new progress.More is h =
       here.0,
       here.1,
       here.2 ∙ (λ j. record
-          { seen = after_next before line here.0 j; taken = longer before line j; live = true }),
+          { seen = after_next before line j; taken = longer before line j; live = true }),
     )
 takes_by before line old new progress.Complete is h =
     let here : Accepts (reading before) line new progress.Complete =
@@ -88,7 +88,7 @@ takes_by before line old new progress.Complete is h =
       here.0,
       here.1,
       here.2 ∙ (λ j. record
-          { seen = after_next before line here.0 j; taken = longer before line j; live = false }),
+          { seen = after_next before line j; taken = longer before line j; live = false }),
     )
 
 -- a line with a code is refused with the number behind those taken
@@ -102,12 +102,12 @@ refused_by before line old number n is same h = (
 )
 
 -- the parts of a state behind a card, put together
-pub seen_new : (s now : Seen) (line : List ℕ) (word : CardWord) (ns : List ℕ) (form : ℕ) (places : Places)
+pub seen_new : (s now : Seen) (line : List ℕ) (word : CardWord) (ns : List ℕ) (form part : ℕ)
     (draft : Option Network)
     → s ≡ now → IsRow s line word ns
-    → form ≡ form_with (card_of s.form word ns) s.form → places ≡ places_with (card_of s.form word ns) s.places
+    → form ≡ form_with (card_of s.form word ns) s.form → part ≡ part_of (card_of s.form word ns)
     → draft ≡ draft_with (card_of s.form word ns) s.draft
-    → ◌≡◌ {A = Seen} (record { form = form; places = places; draft = draft }) (next now line)
-seen_new s now line word ns form places draft e is f p d =
-    (λ j. record { form = f j; places = p j; draft = d j }) ∙ sym (next_of_row s line word ns is)
+    → ◌≡◌ {A = Seen} (record { form = form; part = part; draft = draft }) (next now line)
+seen_new s now line word ns form part draft e is f p d =
+    (λ j. record { form = f j; part = p j; draft = d j }) ∙ sym (next_of_row s line word ns is)
     ∙ ap (λ (s : Seen). next s line) e

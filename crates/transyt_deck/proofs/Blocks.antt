@@ -1,5 +1,5 @@
 -- The NODE and STAGE cards of a valid network make its nodes again.
-use Rattle.std.proofs.Common.{◌≡◌, ℕ, ◌+◌, ◌-◌, ◌<◌, ◌≤◌, nat_le, List, [], ◌∷◌, ◌++◌, map, length, Bool, true, false}
+use Rattle.std.proofs.Common.{◌≡◌, ℕ, ◌+◌, ◌-◌, ◌<◌, ◌≤◌, nat_le, List, [], ◌∷◌, ◌++◌, map, length, true, false}
 use Rattle.std.proofs.Common.{cond, not, ◌&&◌, Some, None, refl, sym, ◌∙◌, ap, arith, append_assoc, flat_map}
 use Rattle.std.proofs.Common.{length-append, slice_get, All, option_and_then}
 use Rattle.std.specs.List.{list_all}
@@ -7,6 +7,7 @@ use Rattle.std.specs.Option.{option_map}
 use Rattle.std.proofs.lemmas.List.{append-nil}
 use Rattle.std.proofs.lemmas.List.Elements.{All-head, All-tail}
 use Rattle.std.proofs.lemmas.Bool.{and_from, le-leb, lt-ltb, lt-leb}
+use Rattle.std.proofs.lemmas.Bool.Decides.{nat_tests}
 use Rattle.transyt_parts.specs.declared.frame.Frame.{Frame}
 use Rattle.transyt_net.specs.declared.draft.DraftFault.TheVariants.{Range, TooMany, Twice}
 use Rattle.transyt_parts.specs.declared.node.Stage.{Stage}
@@ -17,7 +18,6 @@ use Rattle.transyt_net.specs.Valid.{is_among, node_numbers, on_place, stage_tota
 use Rattle.transyt_parts.specs.Made.{add_stage}
 use Rattle.transyt_net.specs.Faults.{last_place}
 use Rattle.transyt_syntax.specs.Findings.{first_found, when}
-use Rattle.transyt_deck.specs.declared.places.Places.{Places}
 use Rattle.transyt_deck.specs.Cards.{Card, Node, StageOf, node_cards}
 use Rattle.transyt_deck.specs.InPlace.{in_place}
 use Rattle.transyt_deck.specs.Deck.{Seen, card_code, fault_code, fault_in, plan_code, plan_fault_in}
@@ -25,7 +25,7 @@ use Rattle.transyt_deck.proofs.LinkNumbers.{key_apart}
 use Rattle.transyt_deck.proofs.Taking.{goes, goes_both, goes_one}
 
 -- a card in its place without a fault has no code
-pub code_none : (s : Seen) (card : Card) → in_place s.places card ≡ true → fault_in card s.draft ≡ None
+pub code_none : (s : Seen) (card : Card) → in_place s.part s.draft card ≡ true → fault_in card s.draft ≡ None
     → plan_fault_in card s.draft ≡ None
     → card_code s card ≡ None
 code_none s card e f p = λ j.
@@ -57,41 +57,26 @@ get_last (y ∷ done) x = get_last done x
 last_is : {A : Type 0} (done : List A) (x : A) → length (done ++ x ∷ []) - 1 ≡ length done
 last_is done x = omega (arith, length-append done (x ∷ []))
 
--- the places while nodes are added
-abbrev pub at_nodes : Bool → Places
-at_nodes last = record {
-  some = true;
-  only_forms = false;
-  cycle = true;
-  link = false;
-  feed_or_rule = false;
-  steps = false;
-  node_last = last;
-  end = false;
-}
-
 -- the state when these nodes are added
-abbrev pub nodes_state : Frame → Bool → List NodeValue → Seen
-nodes_state f last done = record { form = 2; places = at_nodes last; draft = Some (network_of f done [] None) }
+abbrev pub nodes_state : Frame → ℕ → List NodeValue → Seen
+nodes_state f part done = record { form = 2; part = part; draft = Some (network_of f done [] None) }
 
 abbrev node : ℕ → ℕ → List Stage → NodeValue
 node number offset stages = record { number = number; offset = offset; stages = stages }
 
 stage_true : (steps : ℕ) (s : Stage) → IsStage steps s → stage_in_range steps s ≡ true
-stage_true steps s h = λ j.
-    lt-ltb s.change steps h.change j && lt-ltb s.intergreen steps h.intergreen j
-    && within_true 1 steps s.least h.least.0 h.least.1 j
+stage_true steps s h = grind (arith, nat_tests)
 
 stages_go : (f : Frame) (done : List NodeValue) (number offset : ℕ) (ss more : List Stage)
     → length ss + length more ≤ 8 → All (IsStage f.step_count) more
-    → goes (nodes_state f true (done ++ node number offset ss ∷ [])) (map StageOf more)
-    ≡ Some (nodes_state f true (done ++ node number offset (ss ++ more) ∷ []))
+    → goes (nodes_state f 3 (done ++ node number offset ss ∷ [])) (map StageOf more)
+    ≡ Some (nodes_state f 3 (done ++ node number offset (ss ++ more) ∷ []))
 stages_go f done number offset ss [] few fine =
-    ap (λ (l : List Stage). Some (nodes_state f true (done ++ node number offset l ∷ []))) (sym (append-nil ss))
+    ap (λ (l : List Stage). Some (nodes_state f 3 (done ++ node number offset l ∷ []))) (sym (append-nil ss))
 stages_go f done number offset ss (s ∷ more) few fine =
     let last = node number offset ss in
     let nodes = done ++ last ∷ [] in
-    let state = nodes_state f true nodes in
+    let state = nodes_state f 3 nodes in
     let range = stage_true f.step_count s (All-head (IsStage f.step_count) s more fine) in
     let found : slice_get nodes (last_place nodes) ≡ Some last = ap (slice_get nodes) (last_is done last)
     ∙ get_last done last in
@@ -103,39 +88,40 @@ stages_go f done number offset ss (s ∷ more) few fine =
     ap (on_place (add_stage s) nodes) (last_is done last) ∙ on_last (add_stage s) done last in
     goes_one state state (StageOf s) (map StageOf more) _
     (code_none state (StageOf s) refl (λ j. cond (not (range j)) (Some Range) (cond (room j) (Some TooMany) None)) refl)
-    (ap (λ (ns : List NodeValue). goes (nodes_state f true ns) (map StageOf more)) added
+    (ap (λ (ns : List NodeValue). goes (nodes_state f 3 ns) (map StageOf more)) added
     ∙ stages_go f done number offset (ss ++ s ∷ []) more (omega (arith, length-append ss (s ∷ [])))
     (All-tail (IsStage f.step_count) s more fine)
-    ∙ ap (λ (l : List Stage). Some (nodes_state f true (done ++ node number offset l ∷ [])))
+    ∙ ap (λ (l : List Stage). Some (nodes_state f 3 (done ++ node number offset l ∷ [])))
     (append_assoc ss (s ∷ []) more))
 
 node_true : (steps : ℕ) (n : NodeValue) → IsNode steps n → node_in_range steps n.number n.offset ≡ true
-node_true steps n h = λ j. within_true 1 99999 n.number h.number.0 h.number.1 j && lt-ltb n.offset steps h.offset j
+node_true steps n h = grind (arith, nat_tests)
 
 -- the cards of nodes behind those of other nodes
-pub nodes_go : (f : Frame) (last : Bool) (done more : List NodeValue)
+pub nodes_go : (f : Frame) (p : ℕ) (done more : List NodeValue) → p ≤ 3
     → all_differ (node_numbers (done ++ more)) ≡ true → length done + length more ≤ 200 → All (IsNode f.step_count) more
-    → (b : Bool) × (goes (nodes_state f last done) (flat_map node_cards more) ≡ Some (nodes_state f b (done ++ more)))
-nodes_go f last done [] once few fine =
-    (last, ap (λ (l : List NodeValue). Some (nodes_state f last l)) (sym (append-nil done)))
-nodes_go f last done (n ∷ more) once few fine =
+    → (q : ℕ) × (q ≤ 3) × (goes (nodes_state f p done) (flat_map node_cards more) ≡ Some (nodes_state f q (done ++ more)))
+nodes_go f p done [] low once few fine =
+    (p, low, ap (λ (l : List NodeValue). Some (nodes_state f p l)) (sym (append-nil done)))
+nodes_go f p done (n ∷ more) here once few fine =
     let is = All-head (IsNode f.step_count) n more fine in
     let new : is_among (node_numbers done) n.number ≡ false = key_apart node_number done more n once in
     let range = node_true f.step_count n is in
     let low : length done < 200 = omega arith in
     let room : nat_le 200 (length done) ≡ false = lt-leb 200 (length done) low in
-    let state = nodes_state f last done in
+    let state = nodes_state f p done in
     let joined : (done ++ n ∷ []) ++ more ≡ done ++ (n ∷ more) = append_assoc done (n ∷ []) more in
     let few_stages : length n.stages ≤ 8 = is.stage_count in
-    let rest = nodes_go f true (done ++ n ∷ []) more
+    let rest = nodes_go f 3 (done ++ n ∷ []) more (omega arith)
     (ap (λ (l : List NodeValue). all_differ (node_numbers l)) joined ∙ once)
     (omega (arith, length-append done (n ∷ []))) (All-tail (IsNode f.step_count) n more fine) in (
       rest.0,
+      rest.1,
       goes_one state state (Node n.number n.offset) (map StageOf n.stages ++ flat_map node_cards more) _
-          (code_none state (Node n.number n.offset) refl
+          (code_none state (Node n.number n.offset) (le-leb p 3 here)
           (λ j. cond (new j) (Some Twice) (cond (not (range j)) (Some Range) (cond (room j) (Some TooMany) None))) refl)
           (goes_both _ _ (map StageOf n.stages) (flat_map node_cards more)
           (stages_go f done n.number n.offset [] n.stages (omega arith) is.stages)
-          ∙ rest.1
+          ∙ rest.2
           ∙ ap (λ (l : List NodeValue). Some (nodes_state f rest.0 l)) joined),
     )

@@ -1,10 +1,11 @@
 -- The FEED cards of a valid network make the feeds of its links again.
-use Rattle.std.proofs.Common.{◌≡◌, ℕ, ◌+◌, ◌<◌, ◌≤◌, nat_le, List, [], ◌∷◌, ◌++◌, map, length, Bool, true, false}
-use Rattle.std.proofs.Common.{cond, not, ◌&&◌, ◌||◌, Some, None, refl, sym, ◌∙◌, ap, arith, append_assoc, flat_map}
+use Rattle.std.proofs.Common.{◌≡◌, ℕ, ◌+◌, ◌<◌, ◌≤◌, nat_le, List, [], ◌∷◌, ◌++◌, map, length, true, false}
+use Rattle.std.proofs.Common.{cond, not, ◌&&◌, Some, None, refl, sym, ◌∙◌, ap, arith, append_assoc, flat_map}
 use Rattle.std.proofs.Common.{length-append, All}
 use Rattle.std.proofs.lemmas.List.{append-nil, map-append}
 use Rattle.std.proofs.lemmas.List.Elements.{All-head, All-tail}
 use Rattle.std.proofs.lemmas.Bool.{le-leb, lt-leb}
+use Rattle.std.proofs.lemmas.Bool.Decides.{nat_tests}
 use Rattle.transyt_parts.specs.declared.link.Feed.{Feed}
 use Rattle.transyt_net.specs.declared.draft.DraftFault.TheVariants.{Range, TooMany, Twice, Unknown}
 use Rattle.transyt_parts.specs.Parts.{LinkValue}
@@ -12,12 +13,9 @@ use Rattle.transyt_net.specs.Parts.{Network}
 use Rattle.transyt_net.specs.Valid.{IsFeed, feeds_at, feeds_in, is_among, link_numbers}
 use Rattle.transyt_parts.specs.Valid.{all_differ, feeders, is_fed, link_number, feed_in_range}
 use Rattle.transyt_parts.specs.Made.{add_feed}
-use Rattle.transyt_deck.specs.declared.places.Places.{Places}
 use Rattle.transyt_deck.specs.Cards.{FeedOf, feed_cards}
-use Rattle.transyt_deck.specs.Next.{places_with}
 use Rattle.transyt_deck.proofs.Blocks.{code_none, within_true}
-use Rattle.transyt_deck.proofs.LinkNumbers.{any_key, key_apart, numbered_one, onto_one}
-use Rattle.transyt_deck.proofs.OneMore.{map_twice}
+use Rattle.transyt_deck.proofs.LinkNumbers.{any_key, key_apart, numbered_one, on_one, map_twice}
 use Rattle.transyt_deck.proofs.Taking.{goes, goes_both, goes_one}
 use Rattle.transyt_deck.proofs.LinkBlocks.{AreLinks, IsOne, Names, TakesFeeds, bare, fed, middle, moved, numbers_two}
 use Rattle.transyt_deck.proofs.LinkBlocks.{part, state}
@@ -28,14 +26,14 @@ names_part net us vs l fs gs names =
     map-append link_number us (part l gs ∷ vs) ∙ sym (map-append link_number us (part l fs ∷ vs)) ∙ names
 
 feed_true : (numbers : List ℕ) (f : Feed) → IsFeed numbers f → feed_in_range f ≡ true
-feed_true numbers f h = λ j. le-leb f.flow 9999 h.flow j && within_true 1 300 f.cruise h.cruise.0 h.cruise.1 j
+feed_true numbers f h = grind (arith, nat_tests)
 
 -- the FEED cards of one link
-feeds_one : (net : Network) (p : Places) (us vs : List LinkValue) (l : LinkValue) (fs gs : List Feed)
+feeds_one : (net : Network) (p : ℕ) (us vs : List LinkValue) (l : LinkValue) (fs gs : List Feed)
     → TakesFeeds p → is_among (link_numbers us) l.number ≡ false → is_among (link_numbers vs) l.number ≡ false
     → Names net (us ++ part l fs ∷ vs) → is_among (link_numbers net.links) l.number ≡ true
     → all_differ (feeders (fs ++ gs)) ≡ true → length fs + length gs ≤ 8 → All (IsFeed (link_numbers net.links)) gs
-    → (q : Places) × TakesFeeds q
+    → (q : ℕ) × TakesFeeds q
     × (goes (state net p (us ++ part l fs ∷ vs)) (map (λ f. FeedOf l.number f) gs)
     ≡ Some (state net q (us ++ part l (fs ++ gs) ∷ vs)))
 feeds_one net p us vs l fs [] free a b names there once few fine =
@@ -53,30 +51,28 @@ feeds_one net p us vs l fs (g ∷ gs) free a b names there once few fine =
     let low : length fs < 8 = omega arith in
     let room : nat_le 8 (length (feeds_at links l.number)) ≡ false = ap (λ (k : List Feed). nat_le 8 (length k)) found
     ∙ lt-leb 8 (length fs) low in
-    let next : Places = places_with (FeedOf l.number g) p in
-    let free_next : TakesFeeds next = (ap (λ (b : Bool). b || false) free.0, ap (λ (b : Bool). b || false) free.1) in
     let joined : (fs ++ g ∷ []) ++ gs ≡ fs ++ (g ∷ gs) = append_assoc fs (g ∷ []) gs in
-    let rest = feeds_one net next us vs l (fs ++ g ∷ []) gs free_next a b
+    let rest = feeds_one net 5 us vs l (fs ++ g ∷ []) gs (omega arith) a b
     (names_part net us vs l fs (fs ++ g ∷ []) names) there
     (ap (λ (k : List Feed). all_differ (feeders k)) joined ∙ once) (omega (arith, length-append fs (g ∷ [])))
     (All-tail (IsFeed (link_numbers net.links)) g gs fine) in (
       rest.0,
       rest.1,
       goes_one now now (FeedOf l.number g) (map (λ f. FeedOf l.number f) gs) _
-          (code_none now (FeedOf l.number g) (λ j. free.0 j && not (free.1 j))
+          (code_none now (FeedOf l.number g) (le-leb p 5 free)
           (λ j. cond (new j) (Some Twice)
           (cond (not (known j)) (Some Unknown)
           (cond (not (range j)) (Some Range) (cond (room j) (Some TooMany) None)))) refl)
-          (ap (λ (ls : List LinkValue). goes (state net next ls) (map (λ f. FeedOf l.number f) gs))
-          (onto_one l.number (add_feed g) us vs (part l fs) refl a b)
+          (ap (λ (ls : List LinkValue). goes (state net 5 ls) (map (λ f. FeedOf l.number f) gs))
+          (on_one l.number (add_feed g) us vs (part l fs) refl a)
           ∙ rest.2
           ∙ ap (λ (k : List Feed). Some (state net rest.0 (us ++ part l k ∷ vs))) joined),
     )
 
 -- the FEED cards of links behind those of other links
-pub feeds_go : (net : Network) (p : Places) (done more : List LinkValue) → TakesFeeds p
+pub feeds_go : (net : Network) (p : ℕ) (done more : List LinkValue) → TakesFeeds p
     → done ++ more ≡ net.links → all_differ (link_numbers net.links) ≡ true → AreLinks net more
-    → (q : Places) × TakesFeeds q
+    → (q : ℕ) × TakesFeeds q
     × (goes (state net p (map fed done ++ map bare more)) (flat_map feed_cards more)
     ≡ Some (state net q (map fed (done ++ more))))
 feeds_go net p done [] free whole once fine = (

@@ -4,6 +4,7 @@ use Rattle.std.proofs.Common.{Some, None, refl, arith, flat_map, All, IfSome}
 use Rattle.std.specs.List.{list_all}
 use Rattle.std.proofs.lemmas.List.Elements.{All-head, All-tail}
 use Rattle.std.proofs.lemmas.Bool.{and_from, le-leb, lt-ltb}
+use Rattle.std.proofs.lemmas.Bool.Decides.{nat_tests}
 use Rattle.transyt_parts.specs.declared.frame.Frame.{Frame}
 use Rattle.transyt_parts.specs.declared.node.Stage.{Stage}
 use Rattle.transyt_parts.specs.Parts.{NodeValue, PlanValue}
@@ -14,7 +15,7 @@ use Rattle.transyt_deck.proofs.Taking.{AreInside, IsInside}
 
 -- a number up to a small one is small
 pub small_le : (k n : ℕ) → n ≤ k → k < 1000000000 → is_small n ≡ true
-small_le k n h low = lt-ltb n 1000000000 (omega arith)
+small_le k n h low = grind (arith, nat_tests)
 
 -- so are all numbers of a list
 pub small_all : (k : ℕ) → k < 1000000000 → (ns : List ℕ) → All (λ n. (1 ≤ n) × (n ≤ k)) ns → list_all is_small ns ≡ true
@@ -30,42 +31,18 @@ inside_both (c ∷ cs) ds a b = (a.0, inside_both cs ds a.1 b)
 
 -- the CYCLE card
 pub cycle_inside : (f : Frame) → IsFrame f → IsInside (Cycle f)
-cycle_inside f is =
-    let cycle = small_le 240 f.cycle is.cycle.1 (omega arith) in
-    let steps = small_le 120 f.step_count is.step_count.1 (omega arith) in
-    let sweeps = small_le 8 f.sweeps is.sweeps.1 (omega arith) in
-    let period = small_le 120 f.period is.period.1 (omega arith) in
-    let penalty = small_le 9999 f.stop_penalty is.stop_penalty (omega arith) in
-    let dispersion = small_le 100 f.dispersion is.dispersion (omega arith) in
-    record {
-      fits = record {
-        small = λ j. cycle j && (steps j && (sweeps j && (period j && (penalty j && (dispersion j && true)))));
-        count = refl;
-        few = omega arith;
-        back = refl;
-      };
-      form = refl;
-      last = refl;
-    }
+cycle_inside f is = record {
+  fits = record { small = grind (arith, nat_tests); count = refl; few = omega arith; back = refl };
+  form = refl;
+  last = refl;
+}
 
 stages_inside : (n : ℕ) → n ≤ 120 → (ss : List Stage) → All (IsStage n) ss → AreInside (map StageOf ss)
 stages_inside n low [] h = tt
 stages_inside n low (s ∷ ss) h =
-    let is = All-head (IsStage n) s ss h in
-    let below_change : s.change < n = is.change in
-    let below_intergreen : s.intergreen < n = is.intergreen in
-    let most_least : s.least ≤ n = is.least.1 in
-    let change = small_le 120 s.change (omega arith) (omega arith) in
-    let intergreen = small_le 120 s.intergreen (omega arith) (omega arith) in
-    let least = small_le 120 s.least (omega arith) (omega arith) in (
+    let is = All-head (IsStage n) s ss h in (
       record {
-        fits = record {
-          small = λ j. change j
-              && (intergreen j && (least j && true));
-          count = refl;
-          few = omega arith;
-          back = refl;
-        };
+        fits = record { small = grind (arith, nat_tests); count = refl; few = omega arith; back = refl };
         form = refl;
         last = refl;
       },
@@ -77,12 +54,9 @@ pub nodes_inside : (n : ℕ) → n ≤ 120 → (nodes : List NodeValue) → All 
     → AreInside (flat_map node_cards nodes)
 nodes_inside n low [] h = tt
 nodes_inside n low (node ∷ nodes) h =
-    let is = All-head (IsNode n) node nodes h in
-    let below_offset : node.offset < n = is.offset in
-    let number = small_le 99999 node.number is.number.1 (omega arith) in
-    let offset = small_le 120 node.offset (omega arith) (omega arith) in (
+    let is = All-head (IsNode n) node nodes h in (
       record {
-        fits = record { small = λ j. number j && (offset j && true); count = refl; few = omega arith; back = refl };
+        fits = record { small = grind (arith, nat_tests); count = refl; few = omega arith; back = refl };
         form = refl;
         last = refl;
       },
@@ -91,7 +65,7 @@ nodes_inside n low (node ∷ nodes) h =
     )
 
 plan_count : (n : ℕ) → 1 ≤ n → n ≤ 16 → (nat_le 2 (suc n) && nat_le (suc n) 17) ≡ true
-plan_count n x y = and_from _ _ (le-leb 2 (suc n) (omega arith)) (le-leb (suc n) 17 (omega arith))
+plan_count n x y = grind (arith, nat_tests)
 
 sizes_small : (n : ℕ) → n ≤ 120 → (hs : List ℕ) → All (λ h. (1 ≤ h) × (h < n)) hs → list_all is_small hs ≡ true
 sizes_small n low [] a = refl

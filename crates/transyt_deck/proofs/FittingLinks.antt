@@ -4,6 +4,7 @@ use Rattle.std.proofs.Common.{cond, ◌&&◌, Option, Some, None, refl, ◌∙�
 use Rattle.std.specs.List.{list_all}
 use Rattle.std.proofs.lemmas.List.Elements.{All-head, All-tail}
 use Rattle.std.proofs.lemmas.Bool.{and_from, or_cases, eqb-true, le-leb}
+use Rattle.std.proofs.lemmas.Bool.Decides.{nat_tests}
 use Rattle.transyt_parts.specs.declared.link.Feed.{Feed}
 use Rattle.transyt_parts.specs.declared.link.GiveWay.{GiveWay}
 use Rattle.transyt_parts.specs.Parts.{LinkValue, NodeValue}
@@ -42,9 +43,7 @@ few_stages n x (node ∷ nodes) h =
 link_count : (n : ℕ) → 1 ≤ n → n ≤ 8
     → (nat_le 9 (suc (suc (suc (suc (suc (suc (suc (suc n))))))))
     && nat_le (suc (suc (suc (suc (suc (suc (suc (suc n)))))))) 16) ≡ true
-link_count n x y =
-    and_from _ _ (le-leb 9 (suc (suc (suc (suc (suc (suc (suc (suc n)))))))) (omega arith))
-    (le-leb (suc (suc (suc (suc (suc (suc (suc (suc n)))))))) 16 (omega arith))
+link_count n x y = grind (arith, nat_tests)
 
 -- the numbers of a valid link's card are small
 link_small : (net : Network) → net.frame.step_count ≤ 120 → All (IsNode net.frame.step_count) net.nodes
@@ -52,20 +51,10 @@ link_small : (net : Network) → net.frame.step_count ≤ 120 → All (IsNode ne
     → IsLink net.frame.step_count net.nodes (link_numbers net.links) l
     → list_all is_small (numbers_in (link_card l)) ≡ true
 link_small net low nodes l is =
-    let below_start : l.start_lag < net.frame.step_count = is.start_lag in
-    let below_end : l.end_lag < net.frame.step_count = is.end_lag in
     let most : stages_at net.nodes l.node ≤ 8 = few_stages net.frame.step_count l.node net.nodes nodes in
-    let number = small_le 99999 l.number is.number.1 (omega arith) in
     let node = node_named net.frame.step_count l.node net.nodes nodes is.node in
-    let entry = small_le 9999 l.entry is.entry (omega arith) in
-    let saturation = small_le 9999 l.saturation is.saturation.1 (omega arith) in
-    let delay = small_le 999 l.delay_weight is.delay_weight (omega arith) in
-    let stop = small_le 999 l.stop_weight is.stop_weight (omega arith) in
-    let start = small_le 120 l.start_lag (omega arith) (omega arith) in
-    let end = small_le 120 l.end_lag (omega arith) (omega arith) in
     let stages = small_all (stages_at net.nodes l.node) (omega arith) l.stages is.stages in
-    λ j. number j && (node j && (entry j
-    && (saturation j && (delay j && (stop j && (start j && (end j && stages j)))))))
+    grind (arith, nat_tests)
 
 -- the LINK cards
 pub links_inside : (net : Network) → net.frame.step_count ≤ 120 → All (IsNode net.frame.step_count) net.nodes
@@ -107,17 +96,9 @@ feeds_inside net n small v [] h = tt
 feeds_inside net n small v (f ∷ fs) h =
     let P = IsFeed (link_numbers net.links) in
     let is = All-head P f fs h in
-    let feeder = link_named net f.feeder net.links v is.feeder in
-    let flow = small_le 9999 f.flow is.flow (omega arith) in
-    let cruise = small_le 300 f.cruise is.cruise.1 (omega arith) in (
+    let feeder = link_named net f.feeder net.links v is.feeder in (
       record {
-        fits = record {
-          small = λ j. small j
-              && (feeder j && (flow j && (cruise j && true)));
-          count = refl;
-          few = omega arith;
-          back = refl;
-        };
+        fits = record { small = grind (arith, nat_tests); count = refl; few = omega arith; back = refl };
         form = refl;
         last = refl;
       },

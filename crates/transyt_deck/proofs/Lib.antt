@@ -1,7 +1,3 @@
-pub mod OneMore
-pub mod OneMoreNode
-pub mod OneMoreLink
-pub mod OneMoreCard
 pub mod After
 pub mod LinkNumbers
 pub mod Refusals

@@ -6,19 +6,17 @@ use Rattle.std.specs.List.{list_all}
 use Rattle.std.proofs.lemmas.List.{append-nil, map-append, length-map}
 use Rattle.std.proofs.lemmas.List.Elements.{All-head, All-tail}
 use Rattle.std.proofs.lemmas.Bool.{le-leb, lt-ltb, lt-leb}
+use Rattle.std.proofs.lemmas.Bool.Decides.{nat_tests}
 use Rattle.transyt_parts.specs.declared.link.Feed.{Feed}
 use Rattle.transyt_net.specs.declared.draft.DraftFault.TheVariants.{Range, TooMany, Twice, Unknown}
 use Rattle.transyt_parts.specs.Parts.{LinkValue, NodeValue}
 use Rattle.transyt_net.specs.Parts.{Network, network_of}
 use Rattle.transyt_net.specs.Valid.{IsLink, is_among, link_numbers, node_numbers, stages_at}
 use Rattle.transyt_parts.specs.Valid.{all_differ, link_number, within, link_in_range}
-use Rattle.transyt_deck.specs.declared.places.Places.{Places}
 use Rattle.transyt_deck.specs.Cards.{link_card}
 use Rattle.transyt_deck.specs.Deck.{Seen}
-use Rattle.transyt_deck.specs.Next.{places_with}
 use Rattle.transyt_deck.proofs.Blocks.{all_within, code_none, within_true}
-use Rattle.transyt_deck.proofs.LinkNumbers.{key_among, key_apart, key_apart_later}
-use Rattle.transyt_deck.proofs.OneMore.{map_twice}
+use Rattle.transyt_deck.proofs.LinkNumbers.{key_among, key_apart, key_apart_later, map_twice}
 use Rattle.transyt_deck.proofs.Taking.{goes, goes_one}
 
 -- a link without its feeds and its rule
@@ -34,16 +32,16 @@ abbrev pub part : LinkValue → List Feed → LinkValue
 part l fs = record l { feeds = fs; gives_way = None }
 
 -- while links are added
-abbrev pub TakesLinks : Places → Type 0
-TakesLinks p = (p.cycle ≡ true) × (p.feed_or_rule ≡ false) × (p.steps ≡ false)
+abbrev pub TakesLinks : ℕ → Type 0
+TakesLinks p = p ≤ 4
 
 -- while feeds and rules are added
-abbrev pub TakesFeeds : Places → Type 0
-TakesFeeds p = (p.cycle ≡ true) × (p.steps ≡ false)
+abbrev pub TakesFeeds : ℕ → Type 0
+TakesFeeds p = p ≤ 5
 
 -- the state with all nodes of a network and these links
-abbrev pub state : Network → Places → List LinkValue → Seen
-state net p ls = record { form = 2; places = p; draft = Some (network_of net.frame net.nodes ls None) }
+abbrev pub state : Network → ℕ → List LinkValue → Seen
+state net p ls = record { form = 2; part = p; draft = Some (network_of net.frame net.nodes ls None) }
 
 -- the links of the network, as its validity sees them
 abbrev pub AreLinks : Network → List LinkValue → Type 0
@@ -58,16 +56,12 @@ or_false a b x y = λ j. x j || not (y j)
 
 link_true : (steps : ℕ) (nodes : List NodeValue) (numbers : List ℕ) (l : LinkValue) → IsLink steps nodes numbers l
     → link_in_range steps l ≡ true
-link_true steps nodes numbers l h = λ j.
-    within_true 1 99999 l.number h.number.0 h.number.1 j && le-leb l.entry 9999 h.entry j
-    && within_true 100 9999 l.saturation h.saturation.0 h.saturation.1 j
-    && le-leb l.delay_weight 999 h.delay_weight j && le-leb l.stop_weight 999 h.stop_weight j
-    && lt-ltb l.start_lag steps h.start_lag j && lt-ltb l.end_lag steps h.end_lag j
+link_true steps nodes numbers l h = grind (arith, nat_tests)
 
 -- the cards of links behind those of other links
-pub links_go : (net : Network) (p : Places) (done more : List LinkValue) → TakesLinks p
+pub links_go : (net : Network) (p : ℕ) (done more : List LinkValue) → TakesLinks p
     → all_differ (link_numbers (done ++ more)) ≡ true → length done + length more ≤ 1000 → AreLinks net more
-    → (q : Places) × TakesLinks q ×
+    → (q : ℕ) × TakesLinks q ×
     (goes (state net p (map bare done)) (map link_card more) ≡ Some (state net q (map bare (done ++ more))))
 links_go net p done [] free once few fine =
     (p, free, ap (λ (l : List LinkValue). Some (state net p (map bare l))) (sym (append-nil done)))
@@ -84,25 +78,18 @@ links_go net p done (l ∷ more) free once few fine =
     let room : nat_le 1000 (length (map bare done)) ≡ false = ap (nat_le 1000) (length-map done bare)
     ∙ lt-leb 1000 (length done) low in
     let now = state net p (map bare done) in
-    let next : Places = places_with (link_card l) p in
-    let free_next : TakesLinks next = (
-      ap (λ (b : Bool). b || false) free.0,
-      ap (λ (b : Bool). b || false) free.1,
-      ap (λ (b : Bool). b || false)
-          free.2,
-    ) in
     let joined : (done ++ l ∷ []) ++ more ≡ done ++ (l ∷ more) = append_assoc done (l ∷ []) more in
-    let rest = links_go net next (done ++ l ∷ []) more free_next
+    let rest = links_go net 4 (done ++ l ∷ []) more (omega arith)
     (ap (λ (ls : List LinkValue). all_differ (link_numbers ls)) joined ∙ once)
     (omega (arith, length-append done (l ∷ []))) (All-tail (IsOne net) l more fine) in (
       rest.0,
       rest.1,
       goes_one now now (link_card l) (map link_card more) _
-          (code_none now (link_card l) (λ j. free.0 j && not (free.1 j || free.2 j))
+          (code_none now (link_card l) (le-leb p 4 free)
           (λ j. cond (new j) (Some Twice)
           (cond (not (known j)) (Some Unknown)
           (cond (not (range j)) (Some Range) (cond (room j) (Some TooMany) None)))) refl)
-          (ap (λ (ls : List LinkValue). goes (state net next ls) (map link_card more))
+          (ap (λ (ls : List LinkValue). goes (state net 4 ls) (map link_card more))
           (sym (map-append bare done (l ∷ [])))
           ∙ rest.2
           ∙ ap (λ (l : List LinkValue). Some (state net rest.0 (map bare l))) joined),

@@ -1,15 +1,14 @@
 -- Links by their numbers, each of which stands once.
-use Rattle.std.proofs.Common.{◌≡◌, ℕ, ◌==◌, ◌||◌, nat_eq, List, [], ◌∷◌, ◌++◌, map, Bool, true, false, cond, not}
+use Rattle.std.proofs.Common.{◌≡◌, ℕ, ◌||◌, nat_eq, List, [], ◌∷◌, ◌++◌, map, Bool, true, false, cond, not}
 use Rattle.std.proofs.Common.{Some, refl, sym, ◌∙◌, ap, arith}
 use Rattle.std.specs.List.{list_any}
 use Rattle.std.proofs.lemmas.List.{map-append}
 use Rattle.std.proofs.lemmas.List.Folds.{list_any-append}
-use Rattle.std.proofs.lemmas.Bool.{and_parts, or_parts, or_right, or_left, not-true, eqb-true, eq-eqb}
+use Rattle.std.proofs.lemmas.Bool.{and_parts, or_parts, or_right, or_left, not-true, eq-eqb}
 use Rattle.std.proofs.lemmas.Bool.Decides.{nat_tests}
 use Rattle.transyt_parts.specs.Parts.{LinkValue}
 use Rattle.transyt_parts.specs.Valid.{all_differ, link_number}
 use Rattle.transyt_net.specs.Valid.{is_among, link_numbers, numbered, on_numbered}
-use Rattle.transyt_deck.specs.Next.{onto_links}
 
 turned : (a b : ℕ) → nat_eq a b ≡ false → nat_eq b a ≡ false
 turned a b h = grind (arith, nat_tests)
@@ -57,48 +56,15 @@ key_among key xs ys x =
     ∙ list_any-append (nat_eq (key x)) (map key xs) (key x ∷ map key ys)
     ∙ or_right _ _ (or_left _ _ (is_itself (key x)))
 
--- a change of no link
-pub onto_none : (n : ℕ) (f : LinkValue → LinkValue) (ls : List LinkValue) → is_among (link_numbers ls) n ≡ false
-    → onto_links n f ls ≡ ls
-onto_none n f [] h = refl
-onto_none n f (l ∷ ls) h =
-    let both = or_parts (nat_eq n l.number) (is_among (link_numbers ls) n) h in
-    λ j. cond (both.0 j) (f l) l ∷ onto_none n f ls both.1 j
-
 -- a change of the one link in the middle
-pub onto_one : (n : ℕ) (f : LinkValue → LinkValue) (us vs : List LinkValue) (l : LinkValue) → n ≡ l.number
-    → is_among (link_numbers us) n ≡ false → is_among (link_numbers vs) n ≡ false
-    → onto_links n f (us ++ l ∷ vs) ≡ us ++ f l ∷ vs
-onto_one n f us vs l e before behind =
-    map-append (λ l. cond (n == l.number) (f l) l) us (l ∷ vs)
-    ∙ (λ j. onto_none n f us before j ++ cond (eq-eqb n l.number e j) (f l) l ∷ onto_none n f vs behind j)
-
-number_by : (f : LinkValue → LinkValue) → ((l : LinkValue) → (f l).number ≡ l.number) → (b : Bool) (l : LinkValue)
-    → link_number (cond b (f l) l) ≡ l.number
-number_by f same true l = same l
-number_by f same false l = refl
-
--- a change that keeps the number keeps all numbers
-pub numbers_kept : (n : ℕ) (f : LinkValue → LinkValue) → ((l : LinkValue) → (f l).number ≡ l.number)
-    → (ls : List LinkValue) → link_numbers (onto_links n f ls) ≡ link_numbers ls
-numbers_kept n f same [] = refl
-numbers_kept n f same (l ∷ ls) = λ j. number_by f same (nat_eq n l.number) l j ∷ numbers_kept n f same ls j
-
-once_by : (b : Bool) (n : ℕ) (f : LinkValue → LinkValue) (l : LinkValue) (ls : List LinkValue) → nat_eq n l.number ≡ b
-    → is_among (link_numbers ls) l.number ≡ false → on_numbered link_number f ls n ≡ onto_links n f ls
-    → cond b (f l ∷ ls) (l ∷ on_numbered link_number f ls n) ≡ cond b (f l) l ∷ onto_links n f ls
-once_by true n f l ls e none rest =
-    let same : n ≡ l.number = eqb-true n l.number e in
-    ap (λ ks. f l ∷ ks) (sym (onto_none n f ls (ap (is_among (link_numbers ls)) same ∙ none)))
-once_by false n f l ls e none rest = ap (λ ks. l ∷ ks) rest
-
--- the first link with a number is each link with it, where numbers differ
-pub onto_first_link : (n : ℕ) (f : LinkValue → LinkValue) (ls : List LinkValue) → all_differ (link_numbers ls) ≡ true
-    → on_numbered link_number f ls n ≡ onto_links n f ls
-onto_first_link n f [] h = refl
-onto_first_link n f (l ∷ ls) h =
-    let parts = and_parts (not (list_any (nat_eq l.number) (link_numbers ls))) (all_differ (link_numbers ls)) h in
-    once_by (nat_eq n l.number) n f l ls refl (not-true _ parts.0) (onto_first_link n f ls parts.1)
+pub on_one : (n : ℕ) (f : LinkValue → LinkValue) (us vs : List LinkValue) (l : LinkValue) → n ≡ l.number
+    → is_among (link_numbers us) n ≡ false → on_numbered link_number f (us ++ l ∷ vs) n ≡ us ++ f l ∷ vs
+on_one n f [] vs l e before =
+    ap (λ (b : Bool). cond b (f l ∷ vs) (l ∷ on_numbered link_number f vs n)) (eq-eqb n l.number e)
+on_one n f (u ∷ us) vs l e before =
+    let both = or_parts (nat_eq n u.number) (is_among (link_numbers us) n) before in
+    ap (λ (b : Bool). cond b (f u ∷ (us ++ l ∷ vs)) (u ∷ on_numbered link_number f (us ++ l ∷ vs) n)) both.0
+    ∙ ap (λ (ls : List LinkValue). u ∷ ls) (on_one n f us vs l e both.1)
 
 -- the link of a number in the middle
 pub numbered_one : (us vs : List LinkValue) (l : LinkValue) → is_among (link_numbers us) l.number ≡ false
@@ -108,3 +74,8 @@ numbered_one (u ∷ us) vs l h =
     let both = or_parts (nat_eq l.number u.number) (is_among (link_numbers us) l.number) h in
     ap (λ (b : Bool). cond b (Some u) (numbered link_number (us ++ l ∷ vs) l.number)) both.0
     ∙ numbered_one us vs l both.1
+
+-- one function behind another, along a list
+pub map_twice : {A B C : Type 0} (g : B → C) (f : A → B) (xs : List A) → map g (map f xs) ≡ map (λ x. g (f x)) xs
+map_twice g f [] = refl
+map_twice g f (x ∷ xs) = ap (λ (l : List _). g (f x) ∷ l) (map_twice g f xs)

@@ -1,11 +1,12 @@
 -- The deck text of a valid network is the deck of that network.
-use Rattle.std.proofs.Common.{◌≡◌, ℕ, ◌+◌, ◌-◌, ◌<◌, ◌≤◌, List, [], ◌∷◌, ◌++◌, map, length, Bool, true, false, cond}
-use Rattle.std.proofs.Common.{not, ◌&&◌, ◌||◌, Option, Some, None, refl, ◌∙◌, ap, arith, append_assoc, flat_map}
+use Rattle.std.proofs.Common.{◌≡◌, ℕ, ◌+◌, ◌-◌, ◌<◌, ◌≤◌, List, [], ◌∷◌, ◌++◌, map, length, true, cond}
+use Rattle.std.proofs.Common.{not, ◌&&◌, Option, Some, None, refl, ◌∙◌, ap, arith, append_assoc, flat_map}
 use Rattle.std.proofs.Common.{length-append, All, IfSome}
 use Rattle.std.specs.List.{list_all}
 use Rattle.std.proofs.lemmas.List.{map-append, length-map}
 use Rattle.std.proofs.lemmas.List.Elements.{All-head, All-tail}
 use Rattle.std.proofs.lemmas.Bool.{and_from, le-leb}
+use Rattle.std.proofs.lemmas.Bool.Decides.{nat_tests}
 use Rattle.transyt_io.specs.Lines.{lines}
 use Rattle.transyt_parts.specs.declared.frame.Frame.{Frame}
 use Rattle.transyt_net.specs.declared.draft.DraftFault.TheVariants.{Range}
@@ -15,12 +16,11 @@ use Rattle.transyt_parts.specs.Valid.{IsFrame, IsPlan, is_frame, within}
 use Rattle.transyt_net.specs.Valid.{IsSound, IsValid}
 use Rattle.transyt_parts.specs.Plan.{first_fault, first_of, plan_fault}
 use Rattle.transyt_syntax.specs.Findings.{when}
-use Rattle.transyt_deck.specs.declared.places.Places.{Places}
 use Rattle.transyt_deck.specs.Cards.{Card, Cycle, End, Form, Steps, card_text, cards_text, deck_cards, deck_text}
 use Rattle.transyt_deck.specs.Cards.{feed_cards, link_card, node_cards, plan_cards, rule_cards}
 use Rattle.transyt_deck.specs.Deck.{Complete, Seen, card_code, complete, deck, seen}
-use Rattle.transyt_deck.specs.Next.{places_with, seen_with}
-use Rattle.transyt_deck.proofs.Blocks.{at_nodes, code_none, nodes_go, within_true}
+use Rattle.transyt_deck.specs.Deck.{seen_with}
+use Rattle.transyt_deck.proofs.Blocks.{code_none, nodes_go, within_true}
 use Rattle.transyt_deck.proofs.CardTexts.{Fits}
 use Rattle.transyt_deck.proofs.Fitting.{cycle_inside, inside_both, nodes_inside, plan_inside}
 use Rattle.transyt_deck.proofs.FittingLinks.{all_feeds_inside, all_rules_inside, links_inside}
@@ -71,8 +71,8 @@ abbrev after_form : Seen
 after_form = seen_with (Form 2) (seen [])
 
 -- the state when all is added
-abbrev done_state : Network → Places → Seen
-done_state net p = record { form = 2; places = p; draft = Some net }
+abbrev done_state : Network → ℕ → Seen
+done_state net p = record { form = 2; part = p; draft = Some net }
 
 sizes_within : (n : ℕ) (hs : List ℕ) → All (λ h. (1 ≤ h) × (h < n)) hs → list_all (within 1 (n - 1)) hs ≡ true
 sizes_within n [] a = refl
@@ -82,36 +82,34 @@ sizes_within n (h ∷ hs) a =
     let below : h < n = here.1 in
     and_from _ _ (within_true 1 (n - 1) h here.0 (omega arith)) (sizes_within n hs (All-tail P h hs a))
 
-plan_go : (net : Network) (p : Places) (o : Option PlanValue) → TakesFeeds p → IfSome o (IsPlan net.frame.step_count)
-    → (q : Places) × (q.cycle ≡ true)
+plan_go : (net : Network) (p : ℕ) (o : Option PlanValue) → TakesFeeds p → IfSome o (IsPlan net.frame.step_count)
+    → (q : ℕ) × (q ≤ 6)
     × (goes (state net p net.links) (plan_cards o) ≡ Some (done_state (record net { plan = o }) q))
-plan_go net p None free h = (p, free.0, refl)
+plan_go net p None free h = let low : p ≤ 6 = omega arith in (p, low, refl)
 plan_go net p (Some v) free h =
     let now = state net p net.links in
     let budget = within_true 1 1000000 v.budget h.budget.0 h.budget.1 in
-    let sizes = sizes_within net.frame.step_count v.sizes h.sizes in (
-      places_with (Steps v) p,
-      ap (λ (b : Bool). b || false) free.0,
+    let sizes = sizes_within net.frame.step_count v.sizes h.sizes in
+    let six : 6 ≤ 6 = omega arith in (
+      6,
+      six,
       goes_one now now (Steps v) [] _
-          (code_none now (Steps v) (λ j. free.0 j && not (free.1 j))
+          (code_none now (Steps v) (le-leb p 5 free)
           (λ j. cond (not (budget j && sizes j)) (Some Range) None) refl) refl,
     )
 
 frame_true : (f : Frame) → IsFrame f → is_frame f ≡ true
-frame_true f h = λ j.
-    within_true 30 240 f.cycle h.cycle.0 h.cycle.1 j && within_true 10 120 f.step_count h.step_count.0 h.step_count.1 j
-    && within_true 1 8 f.sweeps h.sweeps.0 h.sweeps.1 j && within_true 15 120 f.period h.period.0 h.period.1 j
-    && le-leb f.stop_penalty 9999 h.stop_penalty j && le-leb f.dispersion 100 h.dispersion j
+frame_true f h = grind (arith, nat_tests)
 
 all_go : (net : Network) → IsSound net
-    → (q : Places) × (q.cycle ≡ true) × (goes after_form (inside net) ≡ Some (done_state net q))
+    → (q : ℕ) × (q ≤ 6) × (goes after_form (inside net) ≡ Some (done_state net q))
 all_go net is =
     let few_nodes : length net.nodes ≤ 200 = is.node_count in
     let few_links : length net.links ≤ 1000 = is.link_count in
-    let nodes = nodes_go net.frame false [] net.nodes is.nodes_differ (omega arith) is.nodes in
-    let links = links_go net (at_nodes nodes.0) [] net.links (refl, refl, refl) is.links_differ (omega arith)
+    let nodes = nodes_go net.frame 2 [] net.nodes (omega arith) is.nodes_differ (omega arith) is.nodes in
+    let links = links_go net nodes.0 [] net.links (omega (arith, nodes.1)) is.links_differ (omega arith)
     is.links in
-    let feeds = feeds_go net links.0 [] net.links (links.1.0, links.1.2) refl is.links_differ is.links in
+    let feeds = feeds_go net links.0 [] net.links (omega (arith, links.1)) refl is.links_differ is.links in
     let rules = rules_go net feeds.0 [] net.links feeds.1 refl is.links_differ is.links in
     let plan = plan_go net rules.0 net.plan rules.1 is.plan in
     let rule_list = flat_map rule_cards net.links ++ plan_cards net.plan in
@@ -123,7 +121,7 @@ all_go net is =
       plan.0,
       plan.1,
       goes_one after_form after_form (Cycle net.frame) (flat_map node_cards net.nodes ++ link_list) _ fine
-          (goes_both _ _ (flat_map node_cards net.nodes) link_list nodes.1
+          (goes_both _ _ (flat_map node_cards net.nodes) link_list nodes.2
           ∙ goes_both _ _ (map link_card net.links) feed_list links.2
           ∙ goes_both _ _ (flat_map feed_cards net.links) rule_list feeds.2
           ∙ goes_both _ _ (flat_map rule_cards net.links) (plan_cards net.plan) rules.2
@@ -171,7 +169,7 @@ deck_read_back net h =
     (ap (λ (s : Seen). s.form) began)
     (ap (λ (s : Seen). goes s (inside net)) began ∙ all.2) in
     let last = first_line ++ map card_text (inside net) in
-    let fine = code_none (done_state net all.0) End all.1 refl
+    let fine = code_none (done_state net all.0) End (le-leb all.0 6 all.1) refl
     (no_plan_fault net.frame.step_count net.nodes h.planned) in
     let ended : card_code (seen last) End ≡ None = ap (λ (s : Seen). card_code s End) ran.1 ∙ fine in
     ap (λ (cs : List Card). deck (lines (cards_text cs))) (cards_are net)

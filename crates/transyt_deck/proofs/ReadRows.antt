@@ -4,11 +4,11 @@ use Rattle.transyt_io.specs.Lines.{is_skipped}
 use Rattle.transyt_net.specs.Parts.{Network}
 use Rattle.transyt_syntax.specs.Syntax.{syntax_code}
 use Rattle.transyt_deck.specs.declared.keyword.CardWord.{CardWord}
-use Rattle.transyt_deck.specs.declared.places.Places.{Places}
 use Rattle.transyt_deck.specs.Rows.{card_of, row_of}
-use Rattle.transyt_deck.specs.InPlace.{in_place, is_end}
+use Rattle.transyt_deck.specs.InPlace.{in_place, part_of, is_end}
 use Rattle.transyt_deck.specs.Deck.{Seen, code_at, codes_in, counts_of, is_end_line}
-use Rattle.transyt_deck.specs.Next.{draft_with, form_with, next, places_with}
+use Rattle.transyt_deck.specs.Next.{draft_with, form_with}
+use Rattle.transyt_deck.specs.Deck.{next}
 use Rattle.transyt_deck.specs.Reader.{ReaderValue}
 use Rattle.transyt_deck.proofs.Accepting.{IsRow, code_of_place, code_of_card, end_of_row, seen_new}
 
@@ -27,13 +27,13 @@ reads line same skip kept syntax row =
 
 -- a card that is out of its place
 pub read_out : {held old : ReaderValue} {line : List ℕ} {word : CardWord} {ns : List ℕ} → Reads held old line word ns
-    → in_place held.seen.places (card_of held.seen.form word ns) ≡ false → code_at old.seen line ≡ Some 15
+    → in_place held.seen.part held.seen.draft (card_of held.seen.form word ns) ≡ false → code_at old.seen line ≡ Some 15
 read_out {held} {old} {line} {word} {ns} is out =
     ap (λ (r : ReaderValue). code_at r.seen line) (sym is.same) ∙ code_of_place held.seen line word ns is.row out
 
 -- the code of a card that is in its place
 pub read_in : {held old : ReaderValue} {line : List ℕ} {word : CardWord} {ns : List ℕ} → Reads held old line word ns
-    → in_place held.seen.places (card_of held.seen.form word ns) ≡ true
+    → in_place held.seen.part held.seen.draft (card_of held.seen.form word ns) ≡ true
     → code_at old.seen line ≡ codes_in (card_of held.seen.form word ns) held.seen.draft
 read_in {held} {old} {line} {word} {ns} is here =
     ap (λ (r : ReaderValue). code_at r.seen line) (sym is.same) ∙ code_of_card held.seen line word ns is.row here
@@ -44,19 +44,19 @@ pub read_end : {held old : ReaderValue} {line : List ℕ} {word : CardWord} {ns 
 read_end {held} {old} {line} {word} {ns} is = end_of_row held.seen line word ns is.row
 
 -- a card that is put in: its line has no code, what the lines have come to, and how many they are
-pub read_taken : {held old : ReaderValue} {line : List ℕ} {word : CardWord} {ns : List ℕ} {form : ℕ} {places : Places}
+pub read_taken : {held old : ReaderValue} {line : List ℕ} {word : CardWord} {ns : List ℕ} {form part : ℕ}
     {draft : Option Network} → Reads held old line word ns
-    → in_place held.seen.places (card_of held.seen.form word ns) ≡ true
+    → in_place held.seen.part held.seen.draft (card_of held.seen.form word ns) ≡ true
     → (codes_in (card_of held.seen.form word ns) held.seen.draft ≡ None)
     × (draft ≡ draft_with (card_of held.seen.form word ns) held.seen.draft)
     → form ≡ form_with (card_of held.seen.form word ns) held.seen.form
-    → places ≡ places_with (card_of held.seen.form word ns) held.seen.places
+    → part ≡ part_of (card_of held.seen.form word ns)
     → (code_at old.seen line ≡ None)
-    × (◌≡◌ {A = Seen} (record { form = form; places = places; draft = draft }) (next old.seen line))
+    × (◌≡◌ {A = Seen} (record { form = form; part = part; draft = draft }) (next old.seen line))
     × (held.taken + 1 ≡ old.taken + 1)
-read_taken {held} {old} {line} {word} {ns} {form} {places} {draft} is here puts f p = (
+read_taken {held} {old} {line} {word} {ns} {form} {part} {draft} is here puts f p = (
   read_in is here ∙ puts.0,
-  seen_new held.seen old.seen line word ns form places draft (ap (λ (r : ReaderValue). r.seen) is.same) is.row f p
+  seen_new held.seen old.seen line word ns form part draft (ap (λ (r : ReaderValue). r.seen) is.same) is.row f p
       puts.1,
   ap (λ (r : ReaderValue). r.taken + 1) is.same,
 )

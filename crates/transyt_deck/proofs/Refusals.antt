@@ -9,16 +9,13 @@ use Rattle.transyt_parts.specs.declared.link.GiveWay.{GiveWay}
 use Rattle.transyt_net.specs.declared.draft.DraftFault.TheVariants.{Memory, Range, TooMany, Twice, Unknown}
 use Rattle.transyt_parts.specs.Parts.{LinkValue}
 use Rattle.transyt_net.specs.Parts.{Network}
-use Rattle.transyt_parts.specs.Made.{add_feed, set_rule}
 use Rattle.transyt_net.specs.Faults.{feed_fault, link_fault, rule_fault, with_feed, with_link, with_rule}
 use Rattle.transyt_syntax.specs.Findings.{first_found}
 use Rattle.transyt_deck.specs.Cards.{Card, FeedOf, LinkOf, Yield}
 use Rattle.transyt_deck.specs.Rows.{link_read}
 use Rattle.transyt_deck.specs.Deck.{codes_in, fault_code, fault_in, plan_code, plan_fault_in}
 use Rattle.transyt_deck.specs.Next.{draft_with}
-use Rattle.transyt_deck.specs.Stops.{HasRoomFor, Puts, Stops, stop_of, stopped}
-use Rattle.transyt_deck.proofs.LinkNumbers.{onto_first_link}
-use Rattle.transyt_deck.specs.declared.keyword.CardWord.TheVariants as w
+use Rattle.transyt_deck.specs.Stops.{Puts, Stops, stop_of, stopped}
 
 -- a fault that is no want of memory
 abbrev IsFault : Option DraftFault → Type 0
@@ -117,35 +114,27 @@ put_link_by draft d new form ns r is some wanting ok err =
     subst P (sym is) (puts_by (LinkOf l) d new (with_link d l) (link_fault d l) r refl refl refl (link_refusal d l)
     some wanting ok err)
 
--- a FEED card, where no link number stands twice
+-- a FEED card
 pub put_feed_by : {T : Type 0} (draft : Option Network) (d new : Network) (link : ℕ) (f : Feed)
     (r : Result T DraftFault)
-    → draft ≡ Some d → HasRoomFor w.Feed draft
+    → draft ≡ Some d
     → IfSome (feed_fault d link f) (λ fault. IsErrOf r fault)
     → IfNone (feed_fault d link f) (IfErr r (λ fault. fault ≡ Memory))
     → OnOk r (new ≡ with_feed d link f) → OnErr r (new ≡ d)
     → Puts (FeedOf link f) draft (Some new) (stopped r)
-put_feed_by draft d new link f r is room some wanting ok err =
-    let P : Option Network → Type 0 = λ o. HasRoomFor w.Feed o → Puts (FeedOf link f) o (Some new) (stopped r) in
-    let network : List LinkValue → Network = λ ls. record d { links = ls } in
-    subst P (sym is)
-    (λ once. puts_by (FeedOf link f) d new (with_feed d link f) (feed_fault d link f) r refl refl
-    (ap (λ ls. Some (network ls)) (sym (onto_first_link link (add_feed f) d.links once))) (feed_refusal d link f) some
-    wanting ok err)
-    room
+put_feed_by draft d new link f r is some wanting ok err =
+    let P : Option Network → Type 0 = λ o. Puts (FeedOf link f) o (Some new) (stopped r) in
+    subst P (sym is) (puts_by (FeedOf link f) d new (with_feed d link f) (feed_fault d link f) r refl refl refl
+    (feed_refusal d link f) some wanting ok err)
 
--- a YIELD card, where no link number stands twice
+-- a YIELD card
 pub put_rule_by : {T : Type 0} (draft : Option Network) (d new : Network) (link : ℕ) (g : GiveWay)
     (r : Result T DraftFault)
-    → draft ≡ Some d → HasRoomFor w.Yield draft
+    → draft ≡ Some d
     → IfSome (rule_fault d link g) (λ fault. IsErrOf r fault) → IfNone (rule_fault d link g) (IsOk r)
     → OnOk r (new ≡ with_rule d link g) → OnErr r (new ≡ d)
     → Puts (Yield link g) draft (Some new) (stopped r)
-put_rule_by draft d new link g r is room some free ok err =
-    let P : Option Network → Type 0 = λ o. HasRoomFor w.Yield o → Puts (Yield link g) o (Some new) (stopped r) in
-    let network : List LinkValue → Network = λ ls. record d { links = ls } in
-    subst P (sym is)
-    (λ once. puts_by (Yield link g) d new (with_rule d link g) (rule_fault d link g) r refl refl
-    (ap (λ ls. Some (network ls)) (sym (onto_first_link link (set_rule g) d.links once))) (rule_refusal d link g) some
-    (never_memory (rule_fault d link g) r free) ok err)
-    room
+put_rule_by draft d new link g r is some free ok err =
+    let P : Option Network → Type 0 = λ o. Puts (Yield link g) o (Some new) (stopped r) in
+    subst P (sym is) (puts_by (Yield link g) d new (with_rule d link g) (rule_fault d link g) r refl refl refl
+    (rule_refusal d link g) some (never_memory (rule_fault d link g) r free) ok err)

@@ -1,5 +1,5 @@
 -- The YIELD cards of a valid network make the rules of its links again.
-use Rattle.std.proofs.Common.{◌≡◌, List, [], ◌∷◌, ◌++◌, map, Bool, true, false, cond, not, ◌&&◌, ◌||◌, Option, Some}
+use Rattle.std.proofs.Common.{◌≡◌, ℕ, ◌≤◌, arith, List, [], ◌∷◌, ◌++◌, map, true, false, cond, not, ◌&&◌, Option, Some}
 use Rattle.std.proofs.Common.{None, refl, sym, ◌∙◌, ap, is_some, append_assoc, flat_map, IfSome}
 use Rattle.std.proofs.lemmas.List.Elements.{All-head, All-tail}
 use Rattle.std.proofs.lemmas.Bool.{le-leb}
@@ -10,21 +10,18 @@ use Rattle.transyt_net.specs.Parts.{Network}
 use Rattle.transyt_net.specs.Valid.{rule_in, IsRule, is_among, link_numbers, rule_at}
 use Rattle.transyt_parts.specs.Valid.{all_differ, link_number}
 use Rattle.transyt_parts.specs.Made.{set_rule}
-use Rattle.transyt_deck.specs.declared.places.Places.{Places}
 use Rattle.transyt_deck.specs.Cards.{Yield, rule_cards}
-use Rattle.transyt_deck.specs.Next.{places_with}
 use Rattle.transyt_deck.proofs.Blocks.{code_none}
-use Rattle.transyt_deck.proofs.LinkNumbers.{numbered_one, onto_one}
-use Rattle.transyt_deck.proofs.OneMore.{map_twice}
+use Rattle.transyt_deck.proofs.LinkNumbers.{numbered_one, on_one, map_twice}
 use Rattle.transyt_deck.proofs.Taking.{goes, goes_both, goes_one}
 use Rattle.transyt_deck.proofs.LinkBlocks.{AreLinks, IsOne, Names, TakesFeeds, fed, middle, numbers_two, state}
 
 -- the YIELD card of one link, if it has one
-rule_one : (net : Network) (p : Places) (us vs : List LinkValue) (l : LinkValue) (o : Option GiveWay)
+rule_one : (net : Network) (p : ℕ) (us vs : List LinkValue) (l : LinkValue) (o : Option GiveWay)
     → TakesFeeds p → is_among (link_numbers us) l.number ≡ false → is_among (link_numbers vs) l.number ≡ false
     → Names net (us ++ fed l ∷ vs) → is_among (link_numbers net.links) l.number ≡ true
     → IfSome o (IsRule (link_numbers net.links))
-    → (q : Places) × TakesFeeds q
+    → (q : ℕ) × TakesFeeds q
     × (goes (state net p (us ++ fed l ∷ vs)) (elim o [ None ↦ [] | Some g ↦ Yield l.number g ∷ [] ])
     ≡ Some (state net q (us ++ record l { gives_way = o } ∷ vs)))
 rule_one net p us vs l None free a b names there fine = (p, free, refl)
@@ -35,21 +32,21 @@ rule_one net p us vs l (Some g) free a b names there fine =
     let known : (is_among (link_numbers links) l.number && is_among (link_numbers links) g.other) ≡ true =
     λ j. (ap (λ ks. is_among ks l.number) names ∙ there) j && (ap (λ ks. is_among ks g.other) names ∙ fine.other) j in
     let range = le-leb g.percent 400 fine.percent in
-    let next : Places = places_with (Yield l.number g) p in (
-      next,
-      (ap (λ (b : Bool). b || false) free.0, ap (λ (b : Bool). b || false) free.1),
+    let five : 5 ≤ 5 = omega arith in (
+      5,
+      five,
       goes_one now now (Yield l.number g) [] _
-          (code_none now (Yield l.number g) (λ j. free.0 j && not (free.1 j))
+          (code_none now (Yield l.number g) (le-leb p 5 free)
           (λ j. cond (new j) (Some Twice)
           (cond (not (known j)) (Some Unknown) (cond (not (range j)) (Some Range) None))) refl)
-          (ap (λ (ls : List LinkValue). Some (state net next ls))
-          (onto_one l.number (set_rule g) us vs (fed l) refl a b)),
+          (ap (λ (ls : List LinkValue). Some (state net 5 ls))
+          (on_one l.number (set_rule g) us vs (fed l) refl a)),
     )
 
 -- the YIELD cards of links behind those of other links
-pub rules_go : (net : Network) (p : Places) (done more : List LinkValue) → TakesFeeds p
+pub rules_go : (net : Network) (p : ℕ) (done more : List LinkValue) → TakesFeeds p
     → done ++ more ≡ net.links → all_differ (link_numbers net.links) ≡ true → AreLinks net more
-    → (q : Places) × TakesFeeds q
+    → (q : ℕ) × TakesFeeds q
     × (goes (state net p (done ++ map fed more)) (flat_map rule_cards more) ≡ Some (state net q (done ++ more)))
 rules_go net p done [] free whole once fine = (p, free, refl)
 rules_go net p done (l ∷ more) free whole once fine =

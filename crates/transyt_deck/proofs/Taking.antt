@@ -15,7 +15,8 @@ use Rattle.transyt_deck.specs.Cards.{cards_text, numbers_in}
 use Rattle.transyt_deck.specs.Rows.{card_of}
 use Rattle.transyt_deck.specs.InPlace.{is_end}
 use Rattle.transyt_deck.specs.Deck.{Seen, card_code, code, code_at, complete, deck_after, deck_step, is_end_line, seen}
-use Rattle.transyt_deck.specs.Next.{form_with, next_card, seen_with}
+use Rattle.transyt_deck.specs.Next.{form_with}
+use Rattle.transyt_deck.specs.Deck.{next_card, seen_with}
 use Rattle.transyt_deck.proofs.After.{after_next}
 use Rattle.transyt_deck.proofs.NumberTexts.{is_small}
 use Rattle.transyt_deck.proofs.CardTexts.{Fits, card_back, card_plain, card_short, row_card, syntax_card, word_in}
@@ -68,7 +69,7 @@ code_card s card fits e =
 pub seen_card : (before : List (List ℕ)) (card : Card) → Fits (seen before).form card
     → card_code (seen before) card ≡ None → seen (before ++ card_text card ∷ []) ≡ seen_with card (seen before)
 seen_card before card fits e =
-    sym (after_next before (card_text card) (code_card (seen before) card fits e))
+    sym (after_next before (card_text card))
     ∙ ap (λ (o : Option Card). next_card o (seen before)) (card_back (seen before).form card fits)
 
 end_same : (card : Card) → is_end (card_of 1 (word_in card) (numbers_in card)) ≡ is_end card

@@ -2,6 +2,7 @@
 use Rattle.std.specs.Prelude.{ℕ, ◌+◌, Bool, false, not, if◌then◌else◌, List, [], ◌∷◌, ◌++◌, length, Option, Some}
 use Rattle.std.specs.Prelude.{None, unwrap_or, option_and_then}
 use Rattle.std.specs.Option.{option_map}
+use Rattle.std.specs.List.{fold}
 use Rattle.transyt_io.specs.Lines.{is_skipped}
 use Rattle.transyt_syntax.specs.Syntax.{syntax_code}
 use Rattle.transyt_syntax.specs.Findings.{when, or_else, first_found}
@@ -13,25 +14,46 @@ use Rattle.transyt_net.specs.Parts.{Network}
 use Rattle.transyt_parts.specs.Valid.{within, is_frame}
 use Rattle.transyt_parts.specs.Plan.{first_fault}
 use Rattle.transyt_net.specs.Faults.{node_fault, stage_fault, link_fault, feed_fault, rule_fault, climb_fault}
-use Rattle.transyt_deck.specs.declared.places.Places.{Places}
 use Rattle.transyt_deck.specs.Cards.{Card, Form, Cycle, Node, StageOf, LinkOf, FeedOf, Yield, Steps, End}
-use Rattle.transyt_deck.specs.Rows.{card_word, card_counts, card_of, row_of, rows_of}
-use Rattle.transyt_deck.specs.Picks.{form_of, cards_of, draft_of}
-use Rattle.transyt_deck.specs.InPlace.{places_of, in_place, is_end}
+use Rattle.transyt_deck.specs.Rows.{card_word, card_counts, card_of, row_of}
+use Rattle.transyt_deck.specs.Next.{form_with, draft_with}
+use Rattle.transyt_deck.specs.InPlace.{in_place, part_of, is_end}
 
--- what lines have come to, each part a pick from all of them: the form, the cards' places, the network so far
+-- what lines have come to: the form, the part of the deck, the network so far
 pub record Seen : Type 0 where
   pub form : ℕ
-  pub places : Places
+  pub part : ℕ
   pub draft : Option Network
 
--- what cards have come to
-abbrev pub seen_of : ℕ → List Card → Seen
-seen_of form cards = record { form = form; places = places_of cards; draft = draft_of cards }
+-- before the first line
+abbrev pub start : Seen
+start = record { form = 1; part = 0; draft = None }
 
--- what lines have come to
+-- the same behind a card
+abbrev pub seen_with : Card → Seen → Seen
+seen_with card s = record {
+  form = form_with card s.form;
+  part = part_of card;
+  draft = draft_with card s.draft;
+}
+
+-- the card of a line
+abbrev pub card_in : ℕ → List ℕ → Option Card
+card_in form line = option_map (λ row. card_of form row.0 row.1) (row_of line)
+
+-- the same behind a card, where there is one
+abbrev pub next_card : Option Card → Seen → Seen
+next_card None s = s
+next_card (Some card) s = seen_with card s
+
+-- what lines have come to, behind one more
+abbrev pub next : Seen → List ℕ → Seen
+next s line = next_card (card_in s.form line) s
+
+-- what lines have come to, one after another. Only lines before which none has a code are looked at, so that each of
+-- their cards is accepted.
 abbrev pub seen : List (List ℕ) → Seen
-seen before = seen_of (form_of (rows_of before)) (cards_of before)
+seen before = fold next start before
 
 -- the first fault of a card's own part: given twice, unknown, out of range, too many
 abbrev pub fault_in : Card → Option Network → Option DraftFault
@@ -72,15 +94,11 @@ codes_in card draft =
 
 -- the first code that holds of a card: out of its place, or a fault
 abbrev pub card_code : Seen → Card → Option ℕ
-card_code s card = or_else (when (not (in_place s.places card)) 15) (codes_in card s.draft)
+card_code s card = or_else (when (not (in_place s.part s.draft card)) 15) (codes_in card s.draft)
 
 -- how many numbers a line's keyword takes, if it is one of cards
 abbrev pub counts_of : ℕ → List ℕ → Option (ℕ × ℕ)
 counts_of form line = option_map (card_counts form) (card_word line)
-
--- the card of a line
-abbrev pub card_in : ℕ → List ℕ → Option Card
-card_in form line = option_map (λ row. card_of form row.0 row.1) (row_of line)
 
 -- the first code that holds of a line, by what the lines before it have come to; a skipped line has none
 abbrev pub code_at : Seen → List ℕ → Option ℕ

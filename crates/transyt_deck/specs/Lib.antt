@@ -1,6 +1,5 @@
 pub mod Cards
 pub mod Rows
-pub mod Picks
 pub mod InPlace
 pub mod Deck
 pub mod Cut

@@ -1,12 +1,12 @@
 -- What a reader of cards stands for.
-use Rattle.std.specs.Prelude.{ℕ, ◌≡◌, ◌+◌, Bool, true, false, ◌||◌, List, [], ◌∷◌, ◌++◌, length}
+use Rattle.std.specs.Prelude.{ℕ, ◌≡◌, ◌+◌, Bool, true, false, ◌||◌, nat_eq, List, [], ◌∷◌, ◌++◌, length}
 use Rattle.std.specs.Prelude.{Some, None, Result, Ok, Err}
 use Rattle.transyt_deck.specs.declared.reader.CardStop.{CardStop}
 use Rattle.transyt_deck.specs.declared.reader.CardStop.TheVariants as stop
 use Rattle.transyt_deck.specs.declared.reader.Progress.{Progress}
 use Rattle.transyt_deck.specs.declared.reader.Progress.TheVariants as progress
 use Rattle.transyt_deck.specs.Deck.{Seen, seen, code, code_at, is_end_line}
-use Rattle.transyt_deck.specs.Next.{next}
+use Rattle.transyt_deck.specs.Deck.{next}
 
 -- what the lines taken have come to, how many they are, and whether the next may be taken
 pub record ReaderValue : Type 0 where
@@ -44,7 +44,7 @@ refusing reader = record reader { live = false }
 
 -- whether a reader may finish: the next line may be taken, or END was accepted
 abbrev pub may_finish : ReaderValue → Bool
-may_finish reader = reader.live || reader.seen.places.end
+may_finish reader = reader.live || nat_eq reader.seen.part 7
 
 -- whether a reader is live after this outcome
 abbrev pub goes_on : Result Progress CardStop → Bool

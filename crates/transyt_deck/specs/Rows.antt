@@ -1,7 +1,6 @@
 -- A line as a card's keyword and its numbers.
 use Rattle.std.specs.Prelude.{ℕ, ◌==◌, if◌then◌else◌, List, [], ◌∷◌, drop, get_or, codes, Option, None, option_and_then}
 use Rattle.std.specs.Option.{option_map}
-use Rattle.std.specs.List.{filter_map}
 use Rattle.transyt_io.specs.Lines.{words, is_skipped}
 use Rattle.transyt_syntax.specs.Syntax.{named, first_word, numbers_of, at}
 use Rattle.transyt_parts.specs.Parts.{LinkValue}
@@ -64,7 +63,3 @@ abbrev pub row_of : List ℕ → Option (CardWord × List ℕ)
 row_of line =
     if is_skipped line then None
     else option_and_then (λ word. option_map (λ ns. (word, ns)) (numbers_of line)) (card_word line)
-
--- the keywords and numbers of lines, in order
-abbrev pub rows_of : List (List ℕ) → List (CardWord × List ℕ)
-rows_of before = filter_map row_of before

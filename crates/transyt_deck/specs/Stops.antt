@@ -1,13 +1,10 @@
 -- What putting a card into a network comes to. Only private contracts cite these words.
-use Rattle.std.specs.Prelude.{◌≡◌, ◌<◌, ℕ, true, false, length, Option, Some, None, Result, Ok, Err, IfSome}
+use Rattle.std.specs.Prelude.{◌≡◌, ◌<◌, ◌≤◌, ℕ, length, Option, Some, None, Result, Ok, Err, IfSome}
 use Rattle.transyt_net.specs.declared.draft.DraftFault.{DraftFault}
 use Rattle.transyt_net.specs.Parts.{Network}
-use Rattle.transyt_parts.specs.Valid.{all_differ}
-use Rattle.transyt_net.specs.Valid.{link_numbers}
 use Rattle.transyt_parts.specs.Plan.{first_fault}
 use Rattle.transyt_deck.specs.declared.keyword.CardWord.{CardWord}
 use Rattle.transyt_deck.specs.declared.keyword.CardWord.TheVariants as w
-use Rattle.transyt_deck.specs.declared.places.Places.{Places}
 use Rattle.transyt_deck.specs.declared.put.Stop.{Stop}
 use Rattle.transyt_deck.specs.declared.put.Stop.TheVariants as stop
 use Rattle.transyt_deck.specs.Cards.{Card}
@@ -38,18 +35,15 @@ abbrev pub Puts : {T : Type 0} → Card → Option Network → Option Network �
 Puts card old new (Ok x) = (codes_in card old ≡ None) × (new ≡ draft_with card old)
 Puts card old new (Err s) = Stops (codes_in card old) s × (new ≡ old)
 
--- a STAGE card finds a node, a FEED and a YIELD card no link number twice, and a STEPS card no plan
+-- a STAGE card finds a node, and a STEPS card no plan
 abbrev pub HasRoomFor : CardWord → Option Network → Type 0
 HasRoomFor w.Stage draft = IfSome draft (λ d. 0 < length d.nodes)
-HasRoomFor w.Feed draft = IfSome draft (λ d. all_differ (link_numbers d.links) ≡ true)
-HasRoomFor w.Yield draft = IfSome draft (λ d. all_differ (link_numbers d.links) ≡ true)
 HasRoomFor w.Steps draft = IfSome draft (λ d. d.plan ≡ None)
 HasRoomFor _ draft = Unit {0}
 
--- what the places say of the network so far
-abbrev pub IsTied : Places → Option Network → Type 0
-IsTied p draft = IfSome draft (λ d.
-    (p.node_last ≡ true → 0 < length d.nodes)
-    × (p.steps ≡ false → d.plan ≡ None)
-    × (all_differ (link_numbers d.links) ≡ true)
-    × (p.end ≡ true → first_fault d.frame.step_count d.nodes ≡ None))
+-- what the part of a deck says of the network so far
+abbrev pub IsTied : ℕ → Option Network → Type 0
+IsTied part draft = IfSome draft (λ d.
+    (part ≡ 3 → 0 < length d.nodes)
+    × (part ≤ 5 → d.plan ≡ None)
+    × (part ≡ 7 → first_fault d.frame.step_count d.nodes ≡ None))

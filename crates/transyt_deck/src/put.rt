@@ -157,7 +157,6 @@ fn put_feed(
     flow: u32,
     cruise: u32,
 ) -> Result<(), Stop>
-    requires { HasRoomFor card.Feed draft.old }
     ensures { Puts (FeedOf link (new_feed feeder flow cruise)) draft.old draft.new result }
 {
     match draft {
@@ -167,7 +166,6 @@ fn put_feed(
 }
 
 fn put_rule(draft: &mut Option<Draft>, link: u32, other: u32, percent: u32) -> Result<(), Stop>
-    requires { HasRoomFor card.Yield draft.old }
     ensures { Puts (Yield link (new_rule other percent)) draft.old draft.new result }
 {
     match draft {

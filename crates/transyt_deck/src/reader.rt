@@ -8,7 +8,7 @@ ghost use Rattle.transyt_deck.specs.Stops.{Stops};
 ghost use Rattle.transyt_deck.specs.Reader.{reading, ended, Ends, Takes, Refuses, Accepts};
 ghost use Rattle.transyt_deck.specs.Reader.{refusing, may_finish, goes_on};
 
-use crate::places::{Places, is_end};
+use crate::places::{allow, is_end, part_of};
 use crate::put::{Stop, put};
 use crate::row::read_row;
 use std::alloc::Global;
@@ -46,28 +46,28 @@ pub enum Progress {
 pub struct CardReader {
     alloc: Global,
     form: u32,
-    places: Places,
+    part: u32,
     draft: Option<Draft>,
     taken: u32,
     live: bool,
 }
 
 impl Model for CardReader {
-    ghost use Rattle.std.specs.Prelude.{◌≡◌, ◌≤◌, true, false};
+    ghost use Rattle.std.specs.Prelude.{◌≡◌, ◌≤◌, true};
     ghost use Rattle.transyt_deck.specs.Reader.{ReaderValue};
     ghost use Rattle.transyt_deck.specs.Stops.{IsTied};
 
     ghost Value = { ReaderValue };
 
     ghost view = { λ r. record {
-      seen = record { form = r.form; places = r.places; draft = r.draft };
+      seen = record { form = r.form; part = r.part; draft = r.draft };
       taken = r.taken;
       live = r.live;
     } };
 
     ghost invariant = { λ r.
-        IsTied r.places r.draft
-        × (r.live ≡ true → r.places.end ≡ false)
+        IsTied r.part r.draft
+        × (r.live ≡ true → r.part ≤ 6)
         × (r.taken ≤ 4294967294) };
 }
 
@@ -79,7 +79,7 @@ impl CardReader {
         CardReader {
             alloc,
             form: 1,
-            places: Places::none(),
+            part: 0,
             draft: None,
             taken: 0,
             live: true,
@@ -137,7 +137,7 @@ impl CardReader {
             → result ≡ Err (stop.Refused (length before + 1) 21) }
     {
         let number = self.taken + 1;
-        let complete = if self.places.end { self.draft } else { None };
+        let complete = if self.part == 7 { self.draft } else { None };
         match complete {
             Some(draft) => Ok(draft.close()),
             None => Err(CardStop::Refused {
@@ -166,7 +166,7 @@ impl CardReader {
             Ok(row) => row,
             Err(code) => return Err(Stop::Code(code)),
         };
-        if !self.places.allow(word) {
+        if !allow(self.part, &self.draft, word) {
             return Err(Stop::Code(15));
         }
         match put(
@@ -177,7 +177,7 @@ impl CardReader {
             &numbers[..count],
         ) {
             Ok(()) => {
-                self.places = self.places.with(word);
+                self.part = part_of(word);
                 self.taken += 1;
                 if is_end(word) {
                     return Ok(Progress::Complete);

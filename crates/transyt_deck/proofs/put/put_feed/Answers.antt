@@ -10,6 +10,5 @@ returns-in-Some c =
     let feed = new_feed c.args.feeder c.args.flow c.args.cruise in
     let puts = put_feed_by c.args.draft.now c.in-Some.network c.feed.new.self c.args.link feed c.feed.result
     c.in-Some.is
-    c.requires
     c.feed.ensures.fault c.feed.ensures.memory c.feed.ensures.ok c.feed.ensures.err in
     subst (λ r. Puts (FeedOf c.args.link feed) c.args.draft.now (Some c.feed.new.self) r) (sym c.stopped.ensures) puts

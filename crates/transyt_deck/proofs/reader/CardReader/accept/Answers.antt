@@ -1,12 +1,9 @@
-use Rattle.std.proofs.Common.{◌≡◌, ℕ, take, Option, true, false, sym, subst, ◌∙◌, ap, arith}
-use Rattle.std.proofs.lemmas.Bool.{or_from}
+use Rattle.std.proofs.Common.{◌≡◌, ℕ, take, Option, false, sym, subst, ◌∙◌, ap, arith}
 use Rattle.transyt_deck.specs.Stops.{Stops}
 use Rattle.transyt_deck.specs.Cards.{Card}
 use Rattle.transyt_deck.specs.Rows.{card_of}
-use Rattle.transyt_deck.specs.Next.{places_with}
-use Rattle.transyt_deck.specs.declared.places.Places.{Places}
 use Rattle.transyt_deck.specs.Reader.{ReaderValue}
-use Rattle.transyt_deck.proofs.TiedPlaces.{room_at, tied_by}
+use Rattle.transyt_deck.proofs.TiedPlaces.{before_end, room_at, tied_by}
 use Rattle.transyt_deck.proofs.ReadRows.{reads, read_out, read_in, read_taken, read_end}
 use Rattle.transyt_deck.proofs.reader.CardReader.accept.Goals as goal
 
@@ -35,7 +32,7 @@ returns-then-is_end-clause-taken c =
     c.in-Ok.ensures.row in
     let placed = sym (c.allow.ensures c.self.inside.form ns) ∙ c.if-not-allow.false in
     let new = read_taken is placed c.in-Ok-put.ensures.puts c.in-Ok-put.ensures.form
-    (c.with-self-inside.ensures c.self.inside.form ns) in (
+    (c.part_of-self-inside.ensures c.self.inside.form ns) in (
       new.0,
       read_end is ∙ sym (c.is_end.ensures 1 ns) ∙ c.if-is_end.true,
       λ j. record { seen = new.1 j; taken = new.2 j; live = false },
@@ -49,7 +46,7 @@ returns-else-is_end-clause-taken c =
     c.in-Ok.ensures.row in
     let placed = sym (c.allow.ensures c.self.inside.form ns) ∙ c.if-not-allow.false in
     let new = read_taken is placed c.in-Ok-put.ensures.puts c.in-Ok-put.ensures.form
-    (c.with-self-inside.ensures c.self.inside.form ns) in (
+    (c.part_of-self-inside.ensures c.self.inside.form ns) in (
       new.0,
       read_end is ∙ sym (c.is_end.ensures 1 ns) ∙ c.if-is_end.false,
       λ j. record { seen = new.1 j; taken = new.2 j; live = sym c.requires.live j },
@@ -59,22 +56,18 @@ returns-else-is_end-clause-taken c =
 pub put-requires-clause-room : goal.put-requires-clause-room
 put-requires-clause-room c =
     let ns = take c.in-Ok.row.1 c.read_row.new.out in
-    room_at c.self.inside.places c.self.inside.draft c.self.inside.form c.in-Ok.row.0 ns c.self.invariant.0
+    room_at c.self.inside.part c.self.inside.draft c.self.inside.form c.in-Ok.row.0 ns c.self.invariant.0
     (sym (c.allow.ensures c.self.inside.form ns) ∙ c.if-not-allow.false)
 
--- the places go on to say what is so of the network, and END is still to come
+-- the part goes on to say what is so of the network, and END is still to come
 pub invariant_of-self-in-Ok-put : goal.invariant_of-self-in-Ok-put
 invariant_of-self-in-Ok-put c =
     let ns = take c.in-Ok.row.1 c.read_row.new.out in
     let form = c.self.inside.form in
-    let places = c.self.inside.places in
     let card : Card = card_of form c.in-Ok.row.0 ns in
-    let live : c.self.inside.live ≡ true = ap (λ (r : ReaderValue). r.live) c.self.view_is ∙ c.requires.live in
-    let open_yet : places.end ≡ false = c.self.invariant.1 live in
     let placed = sym (c.allow.ensures form ns) ∙ c.if-not-allow.false in
-    let same : c.with-self-inside.result ≡ places_with card places = c.with-self-inside.ensures form ns in
     let more : c.self.inside.taken ≡ c.args.self.now.taken = ap (λ (r : ReaderValue). r.taken) c.self.view_is in (
-      tied_by places _ _ _ card c.self.invariant.0 open_yet placed same c.in-Ok-put.ensures.puts,
-      λ x. ap (λ (p : Places). p.end) same ∙ or_from _ _ open_yet (sym (c.is_end.ensures form ns) ∙ c.if-is_end.false),
+      tied_by c.self.inside.part _ _ _ card c.self.invariant.0 placed (c.part_of-self-inside.ensures form ns) c.in-Ok-put.ensures.puts,
+      λ x. before_end card (c.part_of-self-inside.ensures form ns) (sym (c.is_end.ensures form ns) ∙ c.if-is_end.false),
       omega (arith, more, c.requires.few),
     )
