@@ -1,21 +1,18 @@
--- What a line adds to the progress, on plain lists.
-use Rattle.std.proofs.Common.{◌≡◌, ◌≤◌, ℕ, suc, ◌+◌, ◌++◌, ◌||◌, not, Bool, true, false, if◌then◌else◌, List, [], ◌∷◌}
-use Rattle.std.proofs.Common.{length, Option, None, Some, is_some, refl, sym, ◌∙◌, ap, subst, arith, append_assoc}
-use Rattle.std.proofs.Common.{length-append}
+-- What a line adds to the progress: a turn, by the definition of the report.
+use Rattle.std.proofs.Common.{◌≡◌, ℕ, ◌++◌, not, Bool, true, false, if◌then◌else◌, List, [], ◌∷◌, length, nat_lt, Option}
+use Rattle.std.proofs.Common.{None, Some, is_some, refl, sym, ◌∙◌, ap, subst, append_assoc}
 use Rattle.std.proofs.lemmas.List.{append-nil}
-use Rattle.std.proofs.lemmas.List.Elements.{filter-append}
-use Rattle.std.proofs.lemmas.Bool.Decides.{nat_tests}
+use Rattle.std.proofs.lemmas.List.Sums.{fold-append}
 use Rattle.transyt_io.specs.Lines.{is_skipped}
+use Rattle.transyt_io.specs.Streams.{Adds, AddsFront}
 use Rattle.transyt.specs.declared.said.Said.{Said}
 use Rattle.transyt.specs.declared.said.Said.TheVariants.{Nothing}
-use Rattle.transyt.specs.Cards.{spoken}
+use Rattle.transyt.specs.Cards.{card_at}
 use Rattle.transyt.specs.Junction.{JunctionValue}
-use Rattle.transyt_io.specs.Streams.{Adds, AddsFront}
 use Rattle.transyt.specs.Turns.{answers_after, unless_ended, AnsweredWhole}
-use Rattle.transyt.specs.Report.{card_refused, is_open, is_next_card, spoken_text, text, ends, closing, refused_at_end}
-use Rattle.transyt.specs.Progress.{ProgressValue, Turn, turn_of, spoken_turn, counted_on, turn, said_at_end, said_text}
-use Rattle.transyt.specs.Progress.{said_ends, Reached, HasHeard, new_progress}
-use Rattle.transyt.proofs.Speaking.{Speaks, speaks, closed}
+use Rattle.transyt.specs.Report.{text, ends, closing, refused_at_end, progress_of, HasHeard}
+use Rattle.transyt.specs.Progress.{ProgressValue, Turn, turn_of, spoken_turn, card_turn, end_turn, opened_by, counted_on}
+use Rattle.transyt.specs.Progress.{turn, said_at_end, said_text, said_ends, new_progress}
 
 -- what is said of a line is its text, and the progress after it is that of the lines with it
 pub record Follows (before : List (List ℕ)) (line : List ℕ) (t : Turn) : Type 0 where
@@ -25,23 +22,49 @@ pub record Follows (before : List (List ℕ)) (line : List ℕ) (t : Turn) : Typ
 
 -- no line came
 pub heard_new : HasHeard new_progress []
-heard_new = record {
-  lines = refl;
-  reached = (refl, omega arith);
-  quiet = λ _ more. refl;
-}
+heard_new = record { is = refl; quiet = λ _ more. refl }
 
--- the lines that aren't skipped, with a line that is, or isn't
-flipped : (b : Bool) (line : List ℕ) → (if not b then line ∷ [] else []) ≡ (if b then [] else line ∷ [])
-flipped true line = refl
-flipped false line = refl
+-- a turn that opens no junction and goes on writes nothing
+abbrev IsQuiet : Turn → Type 0
+IsQuiet t = t.after.junction ≡ None → said_ends t.said ≡ None → said_text t.after.junction t.said ≡ []
 
-spoken-append : (before : List (List ℕ)) (line : List ℕ) (b : Bool) → is_skipped line ≡ b
-    → spoken (before ++ line ∷ []) ≡ spoken before ++ (if b then [] else line ∷ [])
-spoken-append before line b e =
-    filter-append (λ l. not (is_skipped l)) before (line ∷ [])
-    ∙ ap (λ (s : Bool). spoken before ++ (if not s then line ∷ [] else [])) e
-    ∙ ap (λ (ls : List (List ℕ)). spoken before ++ ls) (flipped b line)
+end_quiet : (q : ProgressValue) (o : Option JunctionValue) → IsQuiet (end_turn q o)
+end_quiet q None = λ none goes. absurd (cc)
+end_quiet q (Some junction) = λ none goes. absurd (cc)
+
+card_quiet : (q : ProgressValue) (o : Option (List ℕ)) → IsQuiet (card_turn q o)
+card_quiet q None = λ none goes. absurd (cc)
+card_quiet q (Some card) =
+    let first : Turn = turn_of Nothing (record q { cards = q.cards ++ card ∷ [] }) in
+    let by : (b : Bool) → IsQuiet (if b then first else end_turn q (opened_by q.cards)) =
+    elim [ true ↦ λ none goes. refl | false ↦ end_quiet q (opened_by q.cards) ] in
+    by (nat_lt (length q.cards) 5)
+
+spoken_quiet : (q : ProgressValue) (line : List ℕ) (j : Option JunctionValue) → q.junction ≡ j
+    → IsQuiet (spoken_turn q line j)
+spoken_quiet q line None e = card_quiet q (card_at (length q.cards) line)
+spoken_quiet q line (Some j) e = λ none goes. absurd (let f : None ≡ Some j = sym none ∙ e in cc)
+
+turn_quiet : (p : ProgressValue) (line : List ℕ) → IsQuiet (turn p line)
+turn_quiet p line =
+    let by : (b : Bool)
+    → IsQuiet (if b then turn_of Nothing (counted_on p) else spoken_turn (counted_on p) line p.junction) =
+    elim [ true ↦ λ none goes. refl | false ↦ spoken_quiet (counted_on p) line p.junction refl ] in
+    by (is_skipped line)
+
+spoken_unopened : (q : ProgressValue) (line : List ℕ) (j : Option JunctionValue) → q.junction ≡ j
+    → (spoken_turn q line j).after.junction ≡ None → q.junction ≡ None
+spoken_unopened q line None e none = e
+spoken_unopened q line (Some j) e none = none
+
+-- a junction is never closed
+turn_unopened : (p : ProgressValue) (line : List ℕ) → (turn p line).after.junction ≡ None → p.junction ≡ None
+turn_unopened p line =
+    let by : (b : Bool)
+    → (if b then turn_of Nothing (counted_on p) else spoken_turn (counted_on p) line p.junction).after.junction ≡ None
+    → p.junction ≡ None =
+    elim [ true ↦ λ none. none | false ↦ spoken_unopened (counted_on p) line p.junction refl ] in
+    by (is_skipped line)
 
 -- after a line that writes nothing the lines still write nothing
 quiet_on : (before : List (List ℕ)) (line : List ℕ)
@@ -59,81 +82,34 @@ quiet_on before line quiet nothing goes more =
 pub heard_turn : (p : ProgressValue) (before : List (List ℕ)) (line : List ℕ) → HasHeard p before
     → Follows before line (turn p line)
 heard_turn p before line heard =
-    let number : p.lines + 1 ≡ length before + 1 = ap (λ (n : ℕ). n + 1) heard.lines in
-    let longer : length (before ++ line ∷ []) ≡ length before + 1 = length-append before (line ∷ []) in
-    let said : Speaks p.junction (p.lines + 1) (spoken before) line (spoken_turn (counted_on p) line p.junction) =
-    speaks (counted_on p) (spoken before) line p.junction refl heard.reached in
-    let t : Turn = spoken_turn (counted_on p) line p.junction in
-    let cases : (b : Bool) → is_skipped line ≡ b
-    → Follows before line (if b then turn_of Nothing (counted_on p) else t) = elim [
-      | true ↦ λ e.
-          let nothing : text before line ≡ [] =
-          ap (λ (b : Bool). if b then [] else spoken_text (length before + 1) (spoken before) line) e in
-          let goes : ends before line ≡ None =
-          ap (λ (b : Bool).
-          if b || is_open (spoken before) || is_next_card (spoken before) line then None else Some true) e in
-          let same : spoken (before ++ line ∷ []) ≡ spoken before =
-          spoken-append before line true e ∙ append-nil (spoken before) in
-          let P : List (List ℕ) → Type 0 = λ ls. Reached p.cards p.junction ls in
-          record {
-            text_is = sym nothing;
-            ends_is = sym goes;
-            goes_on = λ _. record {
-              lines = omega arith;
-              reached = subst P (sym same) heard.reached;
-              quiet = λ none. quiet_on before line (heard.quiet none) nothing goes;
-            };
-          }
-      | false ↦ λ e.
-          let told : text before line ≡ spoken_text (p.lines + 1) (spoken before) line =
-          ap (λ (b : Bool). if b then [] else spoken_text (length before + 1) (spoken before) line) e
-          ∙ ap (λ (n : ℕ). spoken_text n (spoken before) line) (sym number) in
-          let turns : ends before line ≡ said_ends t.said =
-          ap (λ (b : Bool).
-          if b || is_open (spoken before) || is_next_card (spoken before) line then None else Some true) e
-          ∙ sym said.ends_is in
-          let more : spoken (before ++ line ∷ []) ≡ spoken before ++ line ∷ [] = spoken-append before line false e in
-          record {
-            text_is = said.text_is ∙ sym told;
-            ends_is = sym turns;
-            goes_on = λ goes. record {
-              lines = let had : suc t.after.lines ≡ suc (p.lines + 1) = said.lines_is in omega arith;
-              reached =
-                  let P : List (List ℕ) → Type 0 = λ ls. Reached t.after.cards t.after.junction ls in
-                  subst P (sym more) (said.reached goes);
-              quiet = λ none.
-                  quiet_on before line (heard.quiet (said.unopened none)) (told ∙ said.silent none goes) (turns ∙ goes);
-            };
-          }
-    ] in cases (is_skipped line) refl
+    let same : turn p line ≡ turn (progress_of before) line = ap (λ (q : ProgressValue). turn q line) heard.is in
+    let told : said_text (turn p line).after.junction (turn p line).said ≡ text before line =
+    ap (λ (t : Turn). said_text t.after.junction t.said) same in
+    let turns : said_ends (turn p line).said ≡ ends before line = ap (λ (t : Turn). said_ends t.said) same in
+    record {
+      text_is = told;
+      ends_is = turns;
+      goes_on = λ goes. record {
+        is = ap (λ (t : Turn). t.after) same
+            ∙ sym (fold-append (λ (q : ProgressValue) (l : List ℕ). (turn q l).after) new_progress before (line ∷ []));
+        quiet = λ none.
+            quiet_on before line (heard.quiet (turn_unopened p line none)) (sym told ∙ turn_quiet p line none goes)
+            (sym turns ∙ goes);
+      };
+    }
 
 -- what is said of the end of the input is its text, and tells whether that is a refusal
 pub record Closes (before : List (List ℕ)) (junction : Option JunctionValue) (said : Said) : Type 0 where
   pub text_is : said_text junction said ≡ closing before
   pub refused_is : not (is_some junction) ≡ refused_at_end before
 
-closes_by : (p : ProgressValue) (before : List (List ℕ)) (junction : Option JunctionValue) → p.lines ≡ length before
-    → Reached p.cards junction (spoken before) → Closes before junction (said_at_end p junction)
-closes_by p before None lines reached =
-    let open_yet : is_open (spoken before) ≡ false = closed (spoken before) reached.1 in
-    record {
-      text_is =
-          ap (λ (n : ℕ). card_refused (n + 1) 21) lines
-          ∙ sym (ap (λ (b : Bool). if b then [] else card_refused (length before + 1) 21) open_yet);
-      refused_is = sym (ap not open_yet);
-    }
-closes_by p before (Some junction) lines reached =
-    let many : 6 ≤ length (spoken before) = reached.1 in
-    let open_yet : is_open (spoken before) ≡ true = grind (arith, nat_tests) in
-    record {
-      text_is = sym (ap (λ (b : Bool). if b then [] else card_refused (length before + 1) 21) open_yet);
-      refused_is = sym (ap not open_yet);
-    }
-
 -- so it is after any lines
 pub heard_end : (p : ProgressValue) (before : List (List ℕ)) → HasHeard p before
     → Closes before p.junction (said_at_end p p.junction)
-heard_end p before heard = closes_by p before p.junction heard.lines heard.reached
+heard_end p before heard = record {
+  text_is = ap (λ (q : ProgressValue). said_text q.junction (said_at_end q q.junction)) heard.is;
+  refused_is = ap (λ (q : ProgressValue). not (is_some q.junction)) heard.is;
+}
 
 -- until END nothing was written
 pub heard_nothing : (p : ProgressValue) (before : List (List ℕ)) → HasHeard p before → p.junction ≡ None

@@ -7,6 +7,5 @@ pub mod LastLine
 pub mod MoreBytes
 pub mod NoSteps
 pub mod SoFar
-pub mod Speaking
 pub mod UnderWayLaws
 pub mod ValidLaws

@@ -31,24 +31,14 @@ within_true : (low high n : ℕ) → (low ≤ n) × (n ≤ high) → within low 
 within_true low high n h = λ i. le_true low n h.0 i && le_true n high h.1 i
 
 frame_true : (f : Frame) → IsFrame f → is_frame f ≡ true
-frame_true f v = λ i.
-    within_true 30 240 f.cycle v.cycle i && within_true 10 120 f.step_count v.step_count i
-    && within_true 1 8 f.sweeps v.sweeps i
-    && within_true 15 120 f.period v.period i && le_true f.stop_penalty 9999 v.stop_penalty i
-    && le_true f.dispersion 100 v.dispersion i
+frame_true f v = grind (arith, nat_tests)
 
 stage_true : (steps : ℕ) (s : Stage) → IsStage steps s → stage_in_range steps s ≡ true
-stage_true steps s v =
-    λ i. lt_true s.change steps v.change i && lt_true s.intergreen steps v.intergreen i
-    && within_true 1 steps s.least v.least i
+stage_true steps s v = grind (arith, nat_tests)
 
 link_range_true : (steps : ℕ) (nodes : List NodeValue) (numbers : List ℕ) (l : LinkValue)
     → IsLink steps nodes numbers l → link_in_range steps l ≡ true
-link_range_true steps nodes numbers l v = λ i.
-    within_true 1 99999 l.number v.number i && le_true l.entry 9999 v.entry i
-    && within_true 100 9999 l.saturation v.saturation i
-    && le_true l.delay_weight 999 v.delay_weight i && le_true l.stop_weight 999 v.stop_weight i
-    && lt_true l.start_lag steps v.start_lag i && lt_true l.end_lag steps v.end_lag i
+link_range_true steps nodes numbers l v = grind (arith, nat_tests)
 
 or_false : (b : Bool) → (b || false) ≡ true → b ≡ true
 or_false true h = refl
@@ -105,30 +95,10 @@ within_of low high n h =
     let both = both_of (nat_le low n) (nat_le n high) h in (le_of low n both.0, le_of n high both.1)
 
 frame_of_true : (f : Frame) → is_frame f ≡ true → IsFrame f
-frame_of_true f h =
-    let six = both_of _ (nat_le f.dispersion 100) h in
-    let five = both_of _ (nat_le f.stop_penalty 9999) six.0 in
-    let four = both_of _ (within 15 120 f.period) five.0 in
-    let three = both_of _ (within 1 8 f.sweeps) four.0 in
-    let two = both_of (within 30 240 f.cycle) (within 10 120 f.step_count) three.0 in
-    record {
-      cycle = within_of 30 240 f.cycle two.0;
-      step_count = within_of 10 120 f.step_count two.1;
-      sweeps = within_of 1 8 f.sweeps three.1;
-      period = within_of 15 120 f.period four.1;
-      stop_penalty = le_of f.stop_penalty 9999 five.1;
-      dispersion = le_of f.dispersion 100 six.1;
-    }
+frame_of_true f h = grind (arith, nat_tests)
 
 stage_of_true : (steps : ℕ) (s : Stage) → stage_in_range steps s ≡ true → IsStage steps s
-stage_of_true steps s h =
-    let three = both_of _ (within 1 steps s.least) h in
-    let two = both_of (nat_lt s.change steps) (nat_lt s.intergreen steps) three.0 in
-    record {
-      change = lt_of s.change steps two.0;
-      intergreen = lt_of s.intergreen steps two.1;
-      least = within_of 1 steps s.least three.1;
-    }
+stage_of_true steps s h = grind (arith, nat_tests)
 
 node_of_true : (cards : List (List ℕ)) → is_node (steps_in cards) (node_in cards) ≡ true
     → IsNode (steps_in cards) (node_in cards)
@@ -148,6 +118,12 @@ node_of_true cards h =
           (All-cons (IsStage steps) two [] (stage_of_true steps two second.0) (all_nil (IsStage steps)));
     }
 
+-- what the test of a link's numbers tells
+range_facts : (steps : ℕ) (l : LinkValue) → link_in_range steps l ≡ true
+    → ((1 ≤ l.number) × (l.number ≤ 99999)) × ((l.entry ≤ 9999) × (((100 ≤ l.saturation) × (l.saturation ≤ 9999))
+    × ((l.delay_weight ≤ 999) × ((l.stop_weight ≤ 999) × ((l.start_lag < steps) × (l.end_lag < steps))))))
+range_facts steps l h = grind (arith, nat_tests)
+
 link_of_true : (cards : List (List ℕ))
     → is_link (steps_in cards) (node_in cards) (link_of_card (numbers_at cards 4)) ≡ true
     → IsLink (steps_in cards) (node_in cards ∷ []) ((link_of_card (numbers_at cards 4)).number ∷ [])
@@ -158,32 +134,29 @@ link_of_true cards h =
     let l = link_of_card (numbers_at cards 4) in
     let last = both_of (range_test cards && name_test cards) (stage_test cards) h in
     let parts = both_of (range_test cards) (name_test cards) last.0 in
-    let seven = both_of _ (nat_lt l.end_lag steps) parts.0 in
-    let six = both_of _ (nat_lt l.start_lag steps) seven.0 in
-    let five = both_of _ (nat_le l.stop_weight 999) six.0 in
-    let four = both_of _ (nat_le l.delay_weight 999) five.0 in
-    let three = both_of _ (within 100 9999 l.saturation) four.0 in
-    let two = both_of (within 1 99999 l.number) (nat_le l.entry 9999) three.0 in
+    let range = range_facts steps l parts.0 in
     let named : name_test cards ≡ true = parts.1 in
     let count : stages_at (node ∷ []) l.node ≡ 2 =
     ap (λ (b : Bool). stage_total (if b then Some node else None)) named in
     let runs = both_of (within 1 2 (slice_index (numbers_at cards 4) 6)) true last.1 in
-    let range : (1 ≤ slice_index (numbers_at cards 4) 6) × (slice_index (numbers_at cards 4) 6 ≤ 2) =
+    let staged : (1 ≤ slice_index (numbers_at cards 4) 6) × (slice_index (numbers_at cards 4) 6 ≤ 2) =
     within_of 1 2 _ runs.0 in
+    let node_there : (name_test cards || false) ≡ true = λ i. named i || false in
+    let stages : All (λ k. (1 ≤ k) × (k ≤ stages_at (node ∷ []) l.node)) (slice_index (numbers_at cards 4) 6 ∷ []) =
+    All-cons (λ k. (1 ≤ k) × (k ≤ stages_at (node ∷ []) l.node)) (slice_index (numbers_at cards 4) 6) []
+    (staged.0, omega arith) (all_nil (λ k. (1 ≤ k) × (k ≤ stages_at (node ∷ []) l.node))) in
     record {
-      number = within_of 1 99999 l.number two.0;
-      node = λ i. named i || false;
-      entry = le_of l.entry 9999 two.1;
-      saturation = within_of 100 9999 l.saturation three.1;
-      delay_weight = le_of l.delay_weight 999 four.1;
-      stop_weight = le_of l.stop_weight 999 five.1;
-      start_lag = lt_of l.start_lag steps six.1;
-      end_lag = lt_of l.end_lag steps seven.1;
+      number = range.0;
+      node = node_there;
+      entry = range.1.0;
+      saturation = range.1.1.0;
+      delay_weight = range.1.1.1.0;
+      stop_weight = range.1.1.1.1.0;
+      start_lag = range.1.1.1.1.1.0;
+      end_lag = range.1.1.1.1.1.1;
       stage_count = (omega arith, omega arith);
       stages_differ = refl;
-      stages = All-cons (λ k. (1 ≤ k) × (k ≤ stages_at (node ∷ []) l.node)) (slice_index (numbers_at cards 4) 6) []
-          (range.0, omega arith)
-          (all_nil (λ k. (1 ≤ k) × (k ≤ stages_at (node ∷ []) l.node)));
+      stages = stages;
       feed_count = omega arith;
       feeders_differ = refl;
       feeds = all_nil (IsFeed (l.number ∷ []));

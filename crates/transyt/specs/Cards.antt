@@ -36,20 +36,6 @@ card_at place line =
     else if place == 4 then card_numbers (codes "LINK") 7 7 line
     else card_numbers (codes "END") 0 0 line
 
--- the numbers of a card, none where there is no card
-abbrev pub or_none : Option (List ℕ) → List ℕ
-or_none None = []
-or_none (Some numbers) = numbers
-
--- the numbers of the cards that these lines are, the first of them at this place
-abbrev pub cards_from : ℕ → List (List ℕ) → List (List ℕ)
-cards_from place [] = []
-cards_from place (line ∷ more) = or_none (card_at place line) ∷ cards_from (place + 1) more
-
--- the lines that aren't skipped
-abbrev pub spoken : List (List ℕ) → List (List ℕ)
-spoken lines = filter (λ line. not (is_skipped line)) lines
-
 -- the numbers of the card at a place
 abbrev pub numbers_at : List (List ℕ) → ℕ → List ℕ
 numbers_at cards place = slice_index_or cards place []

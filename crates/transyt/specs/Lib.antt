@@ -9,3 +9,4 @@ pub mod Turns
 pub mod UnderWay
 pub mod Validity
 pub mod Words
+pub mod Texts

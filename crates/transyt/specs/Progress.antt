@@ -1,4 +1,4 @@
--- What the code knows of the lines before, and its judgement of a line. No public clause cites it.
+-- What the lines before have come to, and what is said of a line.
 use Rattle.std.specs.Prelude.{◌≡◌, ◌≤◌, ℕ, ◌+◌, ◌++◌, ◌==◌, Bool, true, nat_le, nat_lt, List, [], ◌∷◌, length, Option}
 use Rattle.std.specs.Prelude.{None, Some, if◌then◌else◌}
 use Rattle.transyt_io.specs.Lines.{words, is_skipped}
@@ -6,11 +6,10 @@ use Rattle.transyt_net.specs.Parts.{Network}
 use Rattle.transyt.specs.declared.said.Said.{Said}
 use Rattle.transyt.specs.declared.said.Said.TheVariants.{Nothing, CardRefused, Unfinished, Accepted, NoCommand}
 use Rattle.transyt.specs.declared.said.Said.TheVariants.{UnknownLink, Queue}
-use Rattle.transyt.specs.Cards.{card_at, cards_from, spoken, network_of_cards}
+use Rattle.transyt.specs.Cards.{card_at, network_of_cards}
 use Rattle.transyt.specs.Validity.{is_valid_deck}
 use Rattle.transyt.specs.Junction.{JunctionValue, junction_of}
-use Rattle.transyt.specs.Turns.{answers_after}
-use Rattle.transyt.specs.Report.{accepted, card_refused, refused, queue_text, queue_number, opened, text, ends}
+use Rattle.transyt.specs.Texts.{accepted, card_refused, refused, queue_text, queue_number}
 
 -- how many lines came, the numbers of the cards that were accepted, and from END on what commands are answered by
 pub record ProgressValue : Type 0 where
@@ -95,18 +94,6 @@ said_text junction Queue = queue_text_of junction
 abbrev pub said_ends : Said → Option Bool
 said_ends (CardRefused card) = Some true
 said_ends said = None
-
--- how far these lines, which aren't skipped, have come: to some cards, or to commands
-abbrev pub Reached : List (List ℕ) → Option JunctionValue → List (List ℕ) → Type 0
-Reached cards None lines = (cards ≡ cards_from 0 lines) × (length lines ≤ 5)
-Reached cards (Some junction) lines = (junction ≡ opened lines) × (6 ≤ length lines)
-
--- the progress of these lines, none of which ends the run: until END they write nothing
-pub record HasHeard (p : ProgressValue) (before : List (List ℕ)) : Type 0 where
-  pub lines : p.lines ≡ length before
-  pub reached : Reached p.cards p.junction (spoken before)
-  pub quiet : p.junction ≡ None
-      → (more : List (List ℕ)) → answers_after text ends [] (before ++ more) ≡ answers_after text ends before more
 
 -- no line came
 abbrev pub new_progress : ProgressValue

@@ -1,7 +1,6 @@
 //! What answers the lines of a deck and its commands.
 ghost use Rattle.std.specs.Prelude.{◌≡◌, [], IfOk};
-ghost use Rattle.transyt.specs.Report.{text, ends, closing, refused_at_end, cost};
-ghost use Rattle.transyt.specs.Progress.{HasHeard};
+ghost use Rattle.transyt.specs.Report.{text, ends, closing, refused_at_end, cost, HasHeard};
 
 use crate::answerer::{Answerer, Stop};
 use crate::progress::Progress;

@@ -8,7 +8,7 @@ ghost use Rattle.transyt_stopline.specs.Cut.{arrivals_of};
 ghost use Rattle.transyt_stopline.specs.Queue.{queues};
 ghost use Rattle.transyt.specs.Junction.{is_green, passed_at, junction_of, IsJunction};
 ghost use Rattle.transyt.specs.Progress.{command_said};
-ghost use Rattle.transyt.specs.Report.{queue_number};
+ghost use Rattle.transyt.specs.Texts.{queue_number};
 
 use crate::said::Said;
 use std::alloc::{AllocError, Global};

@@ -1,7 +1,7 @@
 //! What is said of a line, and the writing of it.
 ghost use Rattle.std.specs.Prelude.{◌≡◌, ◌≤◌, ◌+◌, ◌*◌, ◌++◌, [], length, OnOk, OnErr};
 ghost use Rattle.transyt_io.specs.Streams.{Adds, AddsFront, CountsFault};
-ghost use Rattle.transyt.specs.Report.{card_refused, accepted, refused, queue_text, values_text};
+ghost use Rattle.transyt.specs.Texts.{card_refused, accepted, refused, queue_text, values_text};
 ghost use Rattle.transyt.specs.Progress.{said_text, said_ends};
 
 use crate::junction::Junction;

@@ -1,6 +1,6 @@
 -- The values so far.
 use Rattle.std.proofs.Common.{◌≡◌, ◌≤◌, ◌+◌, ◌*◌, ◌++◌, length, drop}
-use Rattle.transyt.specs.Report.{values_text}
+use Rattle.transyt.specs.Texts.{values_text}
 use Rattle.transyt.proofs.said.put_values.Given as goal
 
 -- the line so far and the values to come are the whole line; each value takes at most 21 bytes
