@@ -7,7 +7,7 @@ ghost use Rattle.transyt.specs.Validity.{are_drawn, is_valid_deck};
 
 use crate::cards::{Card, frame_of, number, numbers_at};
 use std::alloc::{AllocError, Global};
-use transyt_net::{Draft, DraftFault, Net};
+use transyt_net::{Draft, DraftFault, Net, NewLink};
 
 /// Adds the node of a NODE card.
 fn add_node(draft: &mut Draft, card: &[u32]) -> Result<(), DraftFault>
@@ -39,14 +39,16 @@ fn add_link(draft: &mut Draft, card: &[u32]) -> Result<(), DraftFault>
     ensures ok { OnOk result (draft.new ≡ with_link draft.old (link_of_card card.now)) }
 {
     draft.link(
-        number(card, 0),
-        number(card, 1),
-        number(card, 2),
-        number(card, 3),
-        number(card, 4),
-        number(card, 5),
-        0,
-        0,
+        NewLink {
+            number: number(card, 0),
+            node: number(card, 1),
+            entry: number(card, 2),
+            saturation: number(card, 3),
+            delay_weight: number(card, 4),
+            stop_weight: number(card, 5),
+            start_lag: 0,
+            end_lag: 0,
+        },
         &[number(card, 6)],
     )
 }

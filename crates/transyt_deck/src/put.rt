@@ -13,7 +13,7 @@ ghost use Rattle.transyt_deck.specs.Stops.{Puts, HasRoomFor, stopped, stop_of};
 
 use crate::keyword::CardWord;
 use std::alloc::Global;
-use transyt_net::{Draft, DraftFault, Frame, PlanFault};
+use transyt_net::{Draft, DraftFault, Frame, NewLink, PlanFault};
 
 /// Why a card isn't taken.
 #[derive(Clone, Copy, Debug, PartialEq, Eq)]
@@ -125,26 +125,30 @@ fn add_link(draft: &mut Draft, form: u32, numbers: &[u32]) -> Result<(), DraftFa
 {
     if form == 2 {
         draft.link(
-            numbers[0],
-            numbers[1],
-            numbers[2],
-            numbers[3],
-            numbers[4],
-            numbers[5],
-            numbers[6],
-            numbers[7],
+            NewLink {
+                number: numbers[0],
+                node: numbers[1],
+                entry: numbers[2],
+                saturation: numbers[3],
+                delay_weight: numbers[4],
+                stop_weight: numbers[5],
+                start_lag: numbers[6],
+                end_lag: numbers[7],
+            },
             &numbers[8..],
         )
     } else {
         draft.link(
-            numbers[0],
-            numbers[1],
-            numbers[2],
-            numbers[3],
-            numbers[4],
-            numbers[5],
-            0,
-            0,
+            NewLink {
+                number: numbers[0],
+                node: numbers[1],
+                entry: numbers[2],
+                saturation: numbers[3],
+                delay_weight: numbers[4],
+                stop_weight: numbers[5],
+                start_lag: 0,
+                end_lag: 0,
+            },
             &numbers[6..],
         )
     }

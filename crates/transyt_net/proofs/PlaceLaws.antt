@@ -9,9 +9,11 @@ use Rattle.std.proofs.lemmas.Bool.Decides.{nat_tests}
 use Rattle.std.proofs.lemmas.List.Folds.{list_any-append}
 use Rattle.std.proofs.lemmas.List.Quantifiers.{position-Some}
 use Rattle.std.proofs.lemmas.List.{length-map, get_or-map}
-use Rattle.transyt_net.specs.Valid.{is_among, numbered, on_numbered, on_place, place_of}
+use Rattle.transyt_net.specs.Parts.{Network}
+use Rattle.transyt_net.specs.Valid.{is_among, numbered, on_numbered, on_place, place_of, link_numbers, found_or_first}
+use Rattle.transyt_net.specs.Valid.{link_place}
 use Rattle.transyt_net.specs.Named.{IsPlace}
-use Rattle.transyt_parts.specs.Valid.{all_differ}
+use Rattle.transyt_parts.specs.Valid.{all_differ, link_number}
 
 -- a number that is among these is among more
 pub among_more : (xs ys : List ℕ) (k : ℕ) → is_among xs k ≡ true → is_among (xs ++ ys) k ≡ true
@@ -44,6 +46,14 @@ place_is key xs k p h =
       here = λ d. ap (nat_eq k) (sym (get_or-map key xs p d 0 inside)) ∙ at.1;
       first = λ d i less. ap (nat_eq k) (sym (get_or-map key xs i d 0 (omega arith))) ∙ at.2 i less;
     }
+
+-- where there are links, each number is given the place of one
+pub link_place-lt : (net : Network) (number : ℕ) → 0 < length net.links → link_place net number < length net.links
+link_place-lt net number some = by (place_of (link_numbers net.links) number) refl
+  where
+    by : (o : Option ℕ) → place_of (link_numbers net.links) number ≡ o → found_or_first o < length net.links
+    by None at = some
+    by (Some p) at = (place_is link_number net.links number p at).inside
 
 place_tail : {A : Type 0} (key : A → ℕ) (x : A) (xs : List A) (k p : ℕ) → IsPlace key (x ∷ xs) k (suc p)
     → IsPlace key xs k p

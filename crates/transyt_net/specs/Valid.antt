@@ -21,6 +21,15 @@ link_numbers links = map link_number links
 abbrev pub place_of : List ℕ → ℕ → Option ℕ
 place_of numbers number = position (nat_eq number) numbers
 
+-- a place that was found, else the first
+abbrev pub found_or_first : Option ℕ → ℕ
+found_or_first None = 0
+found_or_first (Some p) = p
+
+-- the place of the link of this number; 0 where there is none
+abbrev pub link_place : Network → ℕ → ℕ
+link_place net number = found_or_first (place_of (link_numbers net.links) number)
+
 -- the first whose number this is
 abbrev pub numbered : {A : Type 0} → (A → ℕ) → List A → ℕ → Option A
 numbered key [] k = None

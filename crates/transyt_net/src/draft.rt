@@ -5,7 +5,7 @@ ghost use Rattle.transyt_net.specs.Valid.{IsValid};
 ghost use Rattle.transyt_parts.specs.Valid.{is_frame};
 ghost use Rattle.transyt_parts.specs.Plan.{first_fault};
 ghost use Rattle.transyt_net.specs.Faults.{empty, node_fault, with_node, stage_fault, with_stage, link_fault, with_link, feed_fault, with_feed, rule_fault, with_rule, climb_fault, with_plan};
-ghost use Rattle.transyt_parts.specs.Made.{new_stage, new_link, new_feed, new_rule, new_plan};
+ghost use Rattle.transyt_parts.specs.Made.{new_stage, link_from, new_feed, new_rule, new_plan};
 
 mod fault;
 
@@ -15,7 +15,7 @@ use indexmap::IndexSet;
 use std::alloc::{AllocError, AllocFailed, Global};
 use std::marker::Model;
 use transyt_parts::{
-    ClimbPlan, Feed, Frame, GiveWay, Link, Node, PlanFault, Stage, add_feed, add_stage,
+    ClimbPlan, Feed, Frame, GiveWay, Link, NewLink, Node, PlanFault, Stage, add_feed, add_stage,
     first_fault, is_frame_in_range, set_rule,
 };
 
@@ -166,70 +166,43 @@ impl Draft {
 
     /// Adds a link, which has neither feeds nor a rule yet.
     ///
-    /// Flows are in vehicles per hour, lags in steps, and `stages` are the stages of `node`, each
-    /// from 1. Twice where a link has this number or a stage stands twice; Unknown where there is
+    /// Flows are in vehicles per hour, lags in steps, and `stages` are the stages of its node in
+    /// which it runs, each from 1. Twice where a link has this number or a stage stands twice; Unknown where there is
     /// no such node, or it hasn't one of the stages; Range; TooMany where there are 1,000 links; in
     /// this order.
-    pub fn link(
-        &mut self,
-        number: u32,
-        node: u32,
-        entry: u32,
-        saturation: u32,
-        delay_weight: u32,
-        stop_weight: u32,
-        start_lag: u32,
-        end_lag: u32,
-        stages: &[u32],
-    ) -> Result<(), DraftFault>
+    pub fn link(&mut self, link: NewLink, stages: &[u32]) -> Result<(), DraftFault>
         requires some { 1 ≤ length stages.now }
         requires most { length stages.now ≤ 8 }
-        ensures fault { IfSome (link_fault self.old
-            (new_link number node entry saturation delay_weight stop_weight
-            start_lag end_lag stages.now))
+        ensures fault { IfSome (link_fault self.old (link_from link stages.now))
             (λ fault. IsErrOf result fault) }
-        ensures memory { IfNone (link_fault self.old
-            (new_link number node entry saturation delay_weight stop_weight
-            start_lag end_lag stages.now))
+        ensures memory { IfNone (link_fault self.old (link_from link stages.now))
             (IfErr result (λ fault. fault ≡ DraftFault.Memory)) }
-        ensures ok { OnOk result (self.new ≡ with_link self.old
-            (new_link number node entry saturation delay_weight stop_weight
-            start_lag end_lag stages.now)) }
+        ensures ok { OnOk result (self.new ≡ with_link self.old (link_from link stages.now)) }
         ensures err { OnErr result (self.new ≡ self.old) }
     {
-        if let Some(fault) = self.link_fault(
-            number,
-            node,
-            entry,
-            saturation,
-            delay_weight,
-            stop_weight,
-            start_lag,
-            end_lag,
-            stages,
-        ) {
+        if let Some(fault) = self.link_fault(link, stages) {
             return Err(fault);
         }
         let stages = Vec::from_slice(self.alloc, stages)?;
         self.links.reserve(1)?;
         self.link_places.reserve(1)?;
-        let link = Link {
-            number,
-            node,
-            entry,
-            saturation,
-            delay_weight,
-            stop_weight,
-            start_lag,
-            end_lag,
+        let added = Link {
+            number: link.number,
+            node: link.node,
+            entry: link.entry,
+            saturation: link.saturation,
+            delay_weight: link.delay_weight,
+            stop_weight: link.stop_weight,
+            start_lag: link.start_lag,
+            end_lag: link.end_lag,
             stages,
             feeds: Vec::new(self.alloc),
             gives_way: None,
         };
-        if self.links.push(link).is_err() {
+        if self.links.push(added).is_err() {
             unreachable!();
         }
-        add_number(&mut self.link_places, number);
+        add_number(&mut self.link_places, link.number);
         Ok(())
     }
 

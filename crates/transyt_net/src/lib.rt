@@ -21,7 +21,7 @@ pub use draft::{Draft, DraftFault};
 pub use edit::{Edit, EditFault};
 pub use net::Net;
 pub use transyt_parts::{
-    ClimbPlan, Feed, Frame, GiveWay, Link, Node, PlanFault, Stage, stage_length,
+    ClimbPlan, Feed, Frame, GiveWay, Link, NewLink, Node, PlanFault, Stage, stage_length,
 };
 
 #[cfg(test)]

@@ -2,16 +2,18 @@
 
 ghost use Rattle.std.specs.Prelude.{◌≡◌, ℕ, ◌+◌, ◌*◌, ◌/◌, ◌<◌, ◌≤◌, ◌^◌, length, IfSome, IfNone, IfOk, ◌↔◌, IsTrue, false};
 ghost use Rattle.std.specs.Option.{option_map};
-ghost use Rattle.transyt_net.specs.Valid.{node_numbers, link_numbers, place_of, is_among, IsValid};
+ghost use Rattle.transyt_net.specs.Valid.{node_numbers, link_numbers, place_of, is_among, IsLink, IsValid};
 ghost use Rattle.transyt_net.specs.Shape.{SameShape};
 ghost use Rattle.transyt_net.specs.Flow.{perstep};
 ghost use Rattle.transyt_parts.specs.Flow.{total_flow};
 ghost use Rattle.transyt_net.specs.Parts.{network_of, with_cycle, node_of, link_of};
+ghost use Rattle.transyt_net.specs.Edits.{the_node};
+ghost use Rattle.transyt_parts.specs.Valid.{IsNode};
 
 mod apply;
 mod judge;
 
-use crate::places::copy_numbers;
+use crate::places::{copy_numbers, node_at};
 use indexmap::IndexSet;
 use std::alloc::{AllocError, Global};
 use std::marker::Model;
@@ -97,6 +99,28 @@ impl Net {
         ensures valid { IsValid self.now }
     {
         &self.links
+    }
+
+    /// The link at a place, from 0 in card order.
+    pub fn link(&self, place: usize) -> &Link
+        requires { place < length self.now.links }
+        ensures value { result.now ≡ link_of self.now place }
+        ensures kept { IsLink self.now.frame.step_count self.now.nodes
+            (link_numbers self.now.links) result.now }
+    {
+        &self.links[place]
+    }
+
+    /// The node at whose stop line the link at a place ends.
+    pub fn node_of(&self, link: usize) -> &Node
+        requires { link < length self.now.links }
+        ensures value { result.now ≡ the_node self.now (link_of self.now link).node }
+        ensures kept { IsNode self.now.frame.step_count result.now }
+    {
+        match node_at(&self.node_places, &self.nodes, self.link(link).node) {
+            Some(node) => node,
+            None => unreachable!(),
+        }
     }
 
     /// The climb plan, if there is one.

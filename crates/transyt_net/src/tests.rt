@@ -6,7 +6,7 @@ ghost use Rattle.std.specs.Prelude.{◌≡◌, IfOk};
 mod draft;
 mod edits;
 
-use crate::{Draft, DraftFault, Frame, Net};
+use crate::{Draft, DraftFault, Frame, Net, NewLink};
 use std::alloc::Global;
 use std::test::Fail;
 
@@ -19,6 +19,25 @@ const FRAME: Frame = Frame {
     dispersion: 35,
 };
 
+const FIRST: NewLink = NewLink {
+    number: 1,
+    node: 1,
+    entry: 360,
+    saturation: 1800,
+    delay_weight: 1,
+    stop_weight: 1,
+    start_lag: 0,
+    end_lag: 0,
+};
+
+const SECOND: NewLink = NewLink {
+    number: 2,
+    entry: 0,
+    start_lag: 2,
+    end_lag: 1,
+    ..FIRST
+};
+
 /// One node of two stages and one link.
 fn one_link(alloc: Global) -> Result<Draft, DraftFault>
     ensures { IfOk result (λ draft. draft.plan ≡ None) }
@@ -27,7 +46,7 @@ fn one_link(alloc: Global) -> Result<Draft, DraftFault>
     draft.node(1, 0)?;
     draft.stage(0, 1, 2)?;
     draft.stage(5, 1, 2)?;
-    draft.link(1, 1, 360, 1800, 1, 1, 0, 0, &[1])?;
+    draft.link(FIRST, &[1])?;
     Ok(draft)
 }
 
@@ -44,7 +63,7 @@ fn junction(alloc: Global) -> Result<Net, Fail> {
 /// The same with a second link, which the first feeds, and a climb plan.
 fn two_links(alloc: Global) -> Result<Net, Fail> {
     let mut draft = one_link(alloc)?;
-    draft.link(2, 1, 0, 1800, 1, 1, 2, 1, &[1, 2])?;
+    draft.link(SECOND, &[1, 2])?;
     draft.feed(2, 1, 100, 15)?;
     draft.give_way(2, 1, 50)?;
     draft.plan(100, &[1, 2])?;
@@ -52,4 +71,13 @@ fn two_links(alloc: Global) -> Result<Net, Fail> {
         return Err(Fail::from("a plan has a fault"));
     }
     Ok(draft.close())
+}
+
+/// Takes what threads may hand on and share.
+fn is_shared<T: Send + Sync>(_value: &T) {}
+
+#[test]
+fn networks_are_shared(rt: HostRuntime) -> Result<(), Fail> {
+    is_shared(&junction(rt.alloc())?);
+    Ok(())
 }

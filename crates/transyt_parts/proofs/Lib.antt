@@ -1,3 +1,4 @@
+pub mod BelowLaws
 pub mod CopyLaws
 mod KnownValues
 pub mod PlanLaws

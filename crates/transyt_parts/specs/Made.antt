@@ -4,6 +4,7 @@ use Rattle.transyt_parts.specs.Parts.{NodeValue, LinkValue, PlanValue}
 use Rattle.transyt_parts.specs.declared.node.Stage.{Stage}
 use Rattle.transyt_parts.specs.declared.link.Feed.{Feed}
 use Rattle.transyt_parts.specs.declared.link.GiveWay.{GiveWay}
+use Rattle.transyt_parts.specs.declared.link.NewLink.{NewLink}
 
 -- a node with no stage yet
 abbrev pub new_node : ℕ → ℕ → NodeValue
@@ -33,6 +34,11 @@ new_link number node entry saturation delay_weight stop_weight start_lag end_lag
       feeds = [];
       gives_way = None;
     }
+
+-- the link of a new link's numbers and these stages, with neither feeds nor a rule yet
+abbrev pub link_from : NewLink → List ℕ → LinkValue
+link_from l stages =
+    new_link l.number l.node l.entry l.saturation l.delay_weight l.stop_weight l.start_lag l.end_lag stages
 
 -- a feed of these numbers
 abbrev pub new_feed : ℕ → ℕ → ℕ → Feed

@@ -3,7 +3,7 @@
 //! A contract sees a node, a link and a climb plan as the records of `specs/Parts`, with a list in
 //! place of each vector: `NodeValue`, `LinkValue` and `PlanValue`; frames, stages, feeds and rules
 //! are seen as they are. Cite first: `within` and `is_frame` of `specs/Valid` for ranges, `IsNode`
-//! and its like there for what a part keeps to, `new_link` and its like of `specs/Made` for parts
+//! and its like there for what a part keeps to, `link_from` and its like of `specs/Made` for parts
 //! of given numbers, `length_at`, `plan_fault` and `first_fault` of `specs/Plan`, `total_flow` of
 //! `specs/Flow`, and `bare_node` and `bare_link` of `specs/Shape` for what no edit changes.
 //!
@@ -25,7 +25,7 @@ pub use climb_plan::ClimbPlan;
 pub use copy::{copy_links, copy_nodes, copy_plan};
 pub use frame::Frame;
 pub use laws::tests_tell;
-pub use link::{Feed, GiveWay, Link, add_feed, all_flow, has_feeder, set_rule};
+pub use link::{Feed, GiveWay, Link, NewLink, add_feed, all_flow, has_feeder, set_rule};
 pub use node::{Node, Stage, add_stage};
 pub use range::{
     all_differ, all_within, is_feed_in_range, is_frame_in_range, is_link_in_range,

@@ -28,6 +28,27 @@ pub struct GiveWay {
     pub percent: u32,
 }
 
+/// The numbers of a new link: all of it but its stages, its feeds and its rule.
+#[derive(Clone, Copy, Debug, PartialEq, Eq)]
+pub struct NewLink {
+    /// The link's card number, 1 to 99,999.
+    pub number: u32,
+    /// The card number of the node at its end.
+    pub node: u32,
+    /// The flow that enters the network here, in vehicles per hour, at most 9,999.
+    pub entry: u32,
+    /// The saturation flow in vehicles per hour, 100 to 9,999.
+    pub saturation: u32,
+    /// The weight of its delay, at most 999.
+    pub delay_weight: u32,
+    /// The weight of its stops, at most 999.
+    pub stop_weight: u32,
+    /// The steps that are lost when it is opened.
+    pub start_lag: u32,
+    /// The steps that are won when it is closed.
+    pub end_lag: u32,
+}
+
 /// A link: one stream of traffic up to the stop line of a node.
 #[derive(Debug, Drop)]
 pub struct Link {

@@ -3,10 +3,10 @@
 ghost use Rattle.std.specs.Prelude.{◌≡◌, []};
 ghost use Rattle.std.specs.List.{list_all};
 ghost use Rattle.transyt_parts.specs.Valid.{is_frame, within, all_differ, node_in_range, stage_in_range, link_in_range, feed_in_range};
-ghost use Rattle.transyt_parts.specs.Made.{new_link};
+ghost use Rattle.transyt_parts.specs.Made.{link_from};
 
 use crate::frame::Frame;
-use crate::link::Feed;
+use crate::link::{Feed, NewLink};
 use crate::node::Stage;
 
 /// Whether a number is one of `low..=high`.
@@ -60,29 +60,19 @@ pub fn is_stage_in_range(steps: u32, stage: Stage) -> bool
     stage.change < steps && stage.intergreen < steps && is_within(1, steps, stage.least)
 }
 
-/// Whether a link's numbers are in their ranges, those of its node, stages and feeds apart.
+/// Whether a link's numbers are in their ranges, that of its node apart.
 ///
 /// Flows are in vehicles per hour. Lags are in steps, and below `steps`.
-pub fn is_link_in_range(
-    steps: u32,
-    number: u32,
-    entry: u32,
-    saturation: u32,
-    delay_weight: u32,
-    stop_weight: u32,
-    start_lag: u32,
-    end_lag: u32,
-) -> bool
-    ensures { result ≡ link_in_range steps
-        (new_link number 0 entry saturation delay_weight stop_weight start_lag end_lag []) }
+pub fn is_link_in_range(steps: u32, link: NewLink) -> bool
+    ensures { result ≡ link_in_range steps (link_from link []) }
 {
-    is_within(1, 99_999, number)
-        && entry <= 9999
-        && is_within(100, 9999, saturation)
-        && delay_weight <= 999
-        && stop_weight <= 999
-        && start_lag < steps
-        && end_lag < steps
+    is_within(1, 99_999, link.number)
+        && link.entry <= 9999
+        && is_within(100, 9999, link.saturation)
+        && link.delay_weight <= 999
+        && link.stop_weight <= 999
+        && link.start_lag < steps
+        && link.end_lag < steps
 }
 
 /// Whether the flow and the cruise time of a feed are in their ranges; its feeder isn't looked at.

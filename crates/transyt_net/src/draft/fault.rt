@@ -3,12 +3,12 @@
 ghost use Rattle.std.specs.Prelude.{is_some, ◌≡◌, ◌-◌, ◌<◌, length};
 ghost use Rattle.transyt_net.specs.Valid.{feeds_at, rule_at};
 ghost use Rattle.transyt_net.specs.Faults.{node_fault, stage_fault, link_fault, are_links, feed_fault, rule_fault, climb_fault};
-ghost use Rattle.transyt_parts.specs.Made.{new_link, new_plan};
+ghost use Rattle.transyt_parts.specs.Made.{link_from, new_plan};
 
 use super::{Draft, DraftFault};
 use crate::places::{is_fed, link_at, stages_at};
 use transyt_parts::{
-    Feed, GiveWay, Stage, all_differ, all_within, is_feed_in_range, is_link_in_range,
+    Feed, GiveWay, NewLink, Stage, all_differ, all_within, is_feed_in_range, is_link_in_range,
     is_node_in_range, is_stage_in_range, is_within,
 };
 
@@ -72,39 +72,17 @@ impl Draft {
     }
 
     /// The first fault of a new link.
-    pub(super) fn link_fault(
-        &self,
-        number: u32,
-        node: u32,
-        entry: u32,
-        saturation: u32,
-        delay_weight: u32,
-        stop_weight: u32,
-        start_lag: u32,
-        end_lag: u32,
-        stages: &[u32],
-    ) -> Option<DraftFault>
-        ensures { result ≡ link_fault self.now
-            (new_link number node entry saturation delay_weight stop_weight
-            start_lag end_lag stages.now) }
+    pub(super) fn link_fault(&self, link: NewLink, stages: &[u32]) -> Option<DraftFault>
+        ensures { result ≡ link_fault self.now (link_from link stages.now) }
     {
-        if self.link_places.contains(&number) || !all_differ(stages) {
+        if self.link_places.contains(&link.number) || !all_differ(stages) {
             return Some(DraftFault::Twice);
         }
-        let count = stages_at(&self.node_places, &self.nodes, node);
-        if !(self.node_places.contains(&node) && all_within(1, count, stages)) {
+        let count = stages_at(&self.node_places, &self.nodes, link.node);
+        if !(self.node_places.contains(&link.node) && all_within(1, count, stages)) {
             return Some(DraftFault::Unknown);
         }
-        if !is_link_in_range(
-            self.frame.step_count,
-            number,
-            entry,
-            saturation,
-            delay_weight,
-            stop_weight,
-            start_lag,
-            end_lag,
-        ) {
+        if !is_link_in_range(self.frame.step_count, link) {
             return Some(DraftFault::Range);
         }
         if self.links.len() >= 1000 {

@@ -5,7 +5,7 @@ ghost use Rattle.std.specs.Prelude.{◌≡◌, ℕ, ◌<◌, ◌≤◌, length, 
 use self::Step::{Feed, Link, Node, Plan, Rule, Stage};
 use super::{FRAME, one_link};
 use crate::DraftFault::{Range, TooMany, Twice, Unknown};
-use crate::{Draft, DraftFault, Frame, PlanFault};
+use crate::{Draft, DraftFault, Frame, NewLink, PlanFault};
 use std::alloc::Global;
 use std::test::Fail;
 
@@ -61,9 +61,30 @@ enum Step {
 }
 
 /// Adds a link with these numbers, in the order of `Step::Link`.
-fn add_link(draft: &mut Draft, numbers: [u32; 8], stages: [u32; 2]) -> Result<(), DraftFault> {
-    let [number, node, entry, flow, delay, stop, start, end] = numbers;
-    draft.link(number, node, entry, flow, delay, stop, start, end, &stages)
+fn add_link(draft: &mut Draft, numbers: [u32; 8], stages: [u32; 2]) -> Result<(), DraftFault>
+    ensures { draft.new.plan ≡ draft.old.plan }
+{
+    let [
+        number,
+        node,
+        entry,
+        saturation,
+        delay_weight,
+        stop_weight,
+        start_lag,
+        end_lag,
+    ] = numbers;
+    let link = NewLink {
+        number,
+        node,
+        entry,
+        saturation,
+        delay_weight,
+        stop_weight,
+        start_lag,
+        end_lag,
+    };
+    draft.link(link, &stages)
 }
 
 /// Sets a climb plan of two sizes.
@@ -115,7 +136,7 @@ fn add_links(draft: &mut Draft, first: u32, end: u32) -> Result<(), DraftFault>
     ensures { draft.new.plan ≡ draft.old.plan }
 {
     for number in first..end {
-        draft.link(number, 1, 9999, 9999, 999, 999, 9, 9, &[2, 1])?;
+        add_link(draft, [number, 1, 9999, 9999, 999, 999, 9, 9], [2, 1])?;
     }
     Ok(())
 }

@@ -1,7 +1,7 @@
 -- The stages before the place have room for their greens; the first that has none ends the search.
 use Rattle.std.proofs.Common.{rules, ◌≡◌, ℕ, Bool, false, true, sym, length}
 use Rattle.transyt_parts.specs.Plan.{has_green}
-use Rattle.transyt_parts.proofs.PlanLaws.{all_places_more, not_all_places}
+use Rattle.transyt_parts.proofs.BelowLaws.{all_places_more, not_all_places}
 use Rattle.transyt_parts.proofs.stage_plan.have_greens.Goals as goal
 
 -- a stage with no room for its greens

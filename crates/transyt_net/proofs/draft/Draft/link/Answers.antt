@@ -6,7 +6,7 @@ use Rattle.transyt_net.specs.Parts.{Network, network_of}
 use Rattle.transyt_net.specs.Valid.{IsSound, link_numbers}
 use Rattle.transyt_parts.specs.Valid.{link_number}
 use Rattle.transyt_net.specs.Faults.{link_fault, with_link}
-use Rattle.transyt_parts.specs.Made.{new_link}
+use Rattle.transyt_parts.specs.Made.{link_from}
 use Rattle.transyt_net.proofs.SoundLinks.{sound_link}
 use Rattle.transyt_net.proofs.draft.Draft.link.Goals as goal
 
@@ -16,11 +16,10 @@ invariant_of-self-2 c =
     let a = c.args in
     let net : Network =
     network_of c.self.inside.frame c.self.inside.nodes.items c.self.inside.links.items c.self.inside.plan in
-    let link : LinkValue =
-    new_link a.number a.node a.entry a.saturation a.delay_weight a.stop_weight a.start_lag a.end_lag a.stages.now in
+    let link : LinkValue = link_from a.link a.stages.now in
     let none : link_fault net link ≡ None = search rules in
     let items : c.push.new.self.items ≡ net.links ++ link ∷ [] = search rules in
-    let keys : c.add_number.new.places.keys ≡ link_numbers net.links ++ a.number ∷ [] = search rules in
+    let keys : c.add_number.new.places.keys ≡ link_numbers net.links ++ a.link.number ∷ [] = search rules in
     let sound : IsSound (with_link net link) =
     sound_link net link c.self.invariant.0 (c.requires.some, c.requires.most) refl refl none in (
       subst (λ (ls : List LinkValue). IsSound (record net { links = ls })) (sym items) sound,
