@@ -1,0 +1,3 @@
+pub mod AnyBelow
+pub mod ShownLaws
+pub mod GreenLaws

@@ -1,0 +1,4 @@
+pub mod Green
+pub mod GiveWay
+pub mod ThreeJunctions
+pub mod WorkedGreens

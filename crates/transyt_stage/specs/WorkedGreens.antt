@@ -1,0 +1,38 @@
+-- Worked greens: those of the three junctions, and what is left of a green where a link gives way.
+use Rattle.std.specs.Prelude.{ℕ, List, [], ◌∷◌, ◌++◌, replicate, Bool, true, false}
+
+-- what the green of each link of the three junctions lets pass in each step
+abbrev pub greens : List (List ℕ)
+greens =
+    (replicate 8 0 ++ replicate 6 2406944 ++ replicate 4 0)
+    ∷ (replicate 7 2248611 ++ replicate 7 0 ++ replicate 4 2248611)
+    ∷ (replicate 4 2606944 ++ replicate 14 0)
+    ∷ (replicate 7 0 ++ replicate 8 2015277 ++ replicate 3 0)
+    ∷ (replicate 1 2776388 ++ replicate 5 0 ++ replicate 2 2776388 ++ replicate 8 0 ++ replicate 2 2776388)
+    ∷ (replicate 10 0 ++ replicate 4 1668055 ++ replicate 4 0)
+    ∷ (replicate 5 0 ++ replicate 4 1843055 ++ replicate 9 0)
+    ∷ replicate 18 1259722
+    ∷ []
+
+-- at which steps the fifth of them is green
+abbrev pub green_steps : List Bool
+green_steps =
+    replicate 1 true ++ replicate 5 false ++ replicate 2 true ++ replicate 8 false ++ replicate 2 true
+
+-- at which of four steps a link is shown, its start lag and its end lag, and at which steps it is green: one with
+-- neither lag, one that loses all its green, one that is shown at every step, and one whose lags lead past the cycle
+abbrev pub lagging : List (List Bool × ℕ × ℕ × List Bool)
+lagging =
+    (true ∷ true ∷ false ∷ false ∷ [], 0, 0, true ∷ true ∷ false ∷ false ∷ [])
+    ∷ (true ∷ true ∷ false ∷ false ∷ [], 2, 0, replicate 4 false)
+    ∷ (replicate 4 true, 3, 1, replicate 4 true)
+    ∷ (true ∷ false ∷ false ∷ true ∷ [], 1, 1, true ∷ true ∷ false ∷ false ∷ [])
+    ∷ []
+
+-- a percentage, what leaves the other link, what could go, and what can
+abbrev pub yields : List (ℕ × List ℕ × List ℕ × List ℕ)
+yields =
+    (150, 1001 ∷ 700 ∷ 700 ∷ 5 ∷ [], 2000 ∷ 1000 ∷ 0 ∷ 9 ∷ [], 499 ∷ 1 ∷ 0 ∷ 2 ∷ [])
+    ∷ (35, 999 ∷ 2 ∷ [], 1000 ∷ 1 ∷ [], 651 ∷ 1 ∷ [])
+    ∷ (0, 9 ∷ [], 4 ∷ [], 4 ∷ [])
+    ∷ []

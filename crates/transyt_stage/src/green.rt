@@ -1,0 +1,248 @@
+//! When a link is green, and what its green lets pass.
+
+ghost use Rattle.std.specs.Prelude.{◌≡◌, ℕ, ◌^◌, ◌+◌, ◌<◌, ◌≤◌, ◌&&◌, ◌||◌, nat_le, nat_lt, length, map, All};
+ghost use Rattle.std.specs.Prelude.{slice_index_or, false, if◌then◌else◌, IsTrue, ◌↔◌};
+ghost use Rattle.std.specs.List.{range_with_len};
+ghost use Rattle.transyt_cycle.specs.Cycle.{minus_mod};
+ghost use Rattle.transyt_parts.specs.Plan.{stage_of};
+ghost use Rattle.transyt_parts.specs.Valid.{IsNode};
+ghost use Rattle.transyt_net.specs.Parts.{link_of};
+ghost use Rattle.transyt_net.specs.Edits.{the_node};
+ghost use Rattle.transyt_stage.specs.Green.{since_change, runs_in, shows, is_shown, shown_of, opens, is_held};
+ghost use Rattle.transyt_stage.specs.Green.{is_starting};
+ghost use Rattle.transyt_stage.specs.Green.{green_at, is_green, passed_at, signal, IsGreen};
+
+use transyt_cycle::{minus_mod, step_before};
+use transyt_net::{Net, Node, Stage, stage_length};
+
+/// The most steps that a cycle has.
+const MOST_STEPS: usize = 120;
+
+/// Whether the link at a place is green at a step.
+///
+/// It is where it is shown at the step or at one of the steps of its end lag before it, and none of the steps of its
+/// start lag, up to the step, opens it. Links are numbered in card order and steps in time, both from 0. Stages and
+/// intergreens are those of LR 253; lags and the green through a shared intergreen are this project's own.
+pub fn is_green(net: &Net, link: usize, step: u32) -> bool
+    requires link { link < length net.now.links }
+    requires step { step < net.now.frame.step_count }
+    ensures value { result ≡ is_green net.now link step }
+    // the same as a fact: some stage shows it within the end lag, and no step within the start lag opens it
+    ensures by_stage { IsTrue result ↔ IsGreen net.now link step }
+{
+    test_green(net, link, step)
+}
+
+/// The test of `is_green`.
+fn test_green(net: &Net, link: usize, step: u32) -> bool
+    requires link { link < length net.now.links }
+    requires step { step < net.now.frame.step_count }
+    ensures { result ≡ is_green net.now link step }
+{
+    let step_count = net.frame().step_count;
+    let node = node_of_link(net, link);
+    let link = &net.links()[link];
+    let mut shown = [false; MOST_STEPS];
+    let shown = &mut shown[..step_count as usize];
+    fill_shown(step_count, node, &link.stages, shown);
+    green_at(shown, link.start_lag, link.end_lag, step as usize)
+}
+
+/// Fills `out` with what the green of the link at a place lets pass in each step, in millionths of a vehicle.
+///
+/// `out` has one value for each step of the cycle; what stood there is overwritten. It is the saturation flow of a
+/// step, rounded down, in each step of green, and 0 in the others.
+pub fn fill_go(net: &Net, link: usize, out: &mut [u64])
+    requires link { link < length net.now.links }
+    requires steps { length out.old ≡ net.now.frame.step_count }
+    ensures value { out.new ≡ signal net.now link }
+    ensures small { All (λ v. v < 2 ^ 30) out.new }
+{
+    let step_count = net.frame().step_count;
+    let node = node_of_link(net, link);
+    let link = &net.links()[link];
+    let mut shown = [false; MOST_STEPS];
+    let shown = &mut shown[..step_count as usize];
+    fill_shown(step_count, node, &link.stages, shown);
+    let room = net.per_step(link.saturation);
+    fill_passed(shown, link.start_lag, link.end_lag, room, out);
+}
+
+/// Gives each step what the green lets pass in it: `room` in a step of green, else nothing.
+fn fill_passed(shown: &[bool], start_lag: u32, end_lag: u32, room: u64, out: &mut [u64])
+    requires steps { length out.old ≡ length shown.now }
+    requires most { length shown.now ≤ 120 }
+    requires end_lag { end_lag < length shown.now }
+    requires room { room < 2 ^ 30 }
+    ensures value { out.new ≡ map (passed_at shown.now start_lag end_lag room) (range_with_len 0 (length out.old)) }
+    ensures small { All (λ v. v < 2 ^ 30) out.new }
+{
+    for i in 0..out.len() {
+        out[i] = passed_at(shown, start_lag, end_lag, room, i);
+    }
+}
+
+/// What the green lets pass in a step.
+fn passed_at(shown: &[bool], start_lag: u32, end_lag: u32, room: u64, step: usize) -> u64
+    requires step { step < length shown.now }
+    requires most { length shown.now ≤ 120 }
+    requires end_lag { end_lag < length shown.now }
+    requires room { room < 2 ^ 30 }
+    ensures value { result ≡ passed_at shown.now start_lag end_lag room step }
+    ensures small { result < 2 ^ 30 }
+{
+    if green_at(shown, start_lag, end_lag, step) {
+        room
+    } else {
+        0
+    }
+}
+
+/// Whether a link is green at a step, where `shown` tells at which steps it is shown.
+fn green_at(shown: &[bool], start_lag: u32, end_lag: u32, step: usize) -> bool
+    requires step { step < length shown.now }
+    requires most { length shown.now ≤ 120 }
+    requires end_lag { end_lag < length shown.now }
+    ensures { result ≡ green_at shown.now start_lag end_lag step }
+{
+    let held = is_held(shown, end_lag, step);
+    let starting = is_starting(shown, start_lag, step);
+    held && !starting
+}
+
+/// Whether the link is shown at a step or at one of the steps of its end lag before it.
+fn is_held(shown: &[bool], end_lag: u32, step: usize) -> bool
+    requires step { step < length shown.now }
+    requires most { length shown.now ≤ 120 }
+    requires end_lag { end_lag < length shown.now }
+    ensures { result ≡ is_held shown.now end_lag step }
+{
+    for back in 0..end_lag + 1 {
+        if shown[step_back(shown.len(), step, back)] {
+            return true;
+        }
+    }
+    false
+}
+
+/// Whether one of the steps of the start lag, up to a step, opens the link.
+fn is_starting(shown: &[bool], start_lag: u32, step: usize) -> bool
+    requires step { step < length shown.now }
+    requires most { length shown.now ≤ 120 }
+    ensures { result ≡ is_starting shown.now start_lag step }
+{
+    for back in 0..start_lag {
+        if opens(shown, step_back(shown.len(), step, back)) {
+            return true;
+        }
+    }
+    false
+}
+
+/// Whether a step opens the link: it is shown at it, and not at the step before.
+fn opens(shown: &[bool], step: usize) -> bool
+    requires { step < length shown.now }
+    ensures { result ≡ opens shown.now step }
+{
+    let before = step_before(shown.len() as u64, step as u64) as usize;
+    shown[step] && !shown[before]
+}
+
+/// The step that comes so many steps before a step, round the cycle.
+fn step_back(step_count: usize, step: usize, back: u32) -> usize
+    requires steps { 0 < step_count }
+    ensures value { result ≡ minus_mod step_count step back }
+    ensures below { result < step_count }
+{
+    minus_mod(step_count as u64, step as u64, u64::from(back)) as usize
+}
+
+/// Tells for each step whether a link that runs in these stages is shown at it.
+fn fill_shown(step_count: u32, node: &Node, stages: &[u32], shown: &mut [bool])
+    requires node { IsNode step_count node.now }
+    requires steps { length shown.old ≡ step_count }
+    requires some { 0 < step_count }
+    requires most { step_count ≤ 120 }
+    ensures { shown.new ≡ shown_of step_count node.now stages.now }
+{
+    shown.fill(false);
+    for place in 0..node.stages.len() {
+        show_stage(step_count, node, stages, place, shown);
+    }
+}
+
+/// Adds the steps at which the stage at a place shows a link that runs in these stages.
+fn show_stage(step_count: u32, node: &Node, stages: &[u32], place: usize, shown: &mut [bool])
+    requires node { IsNode step_count node.now }
+    requires place { place < length node.now.stages }
+    requires steps { length shown.old ≡ step_count }
+    requires some { 0 < step_count }
+    requires most { step_count ≤ 120 }
+    ensures { (i : ℕ) → i < step_count → slice_index_or shown.new i false
+        ≡ (slice_index_or shown.old i false || shows step_count node.now stages.now i place) }
+{
+    if !runs_in(stages, place) {
+        return;
+    }
+    let stage = stage_at(node, place);
+    let before = step_before(node.stages.len() as u64, place as u64) as usize;
+    let from = first_shown(stages, before, stage.intergreen);
+    let to = stage_length(node, step_count, place as u32 + 1);
+    show_steps(node.offset + stage.change, from, to, shown);
+}
+
+/// The step of a stage from which it shows a link: its first where the link runs in the stage before too, else the
+/// first after its intergreen.
+fn first_shown(stages: &[u32], before: usize, intergreen: u32) -> u32
+    ensures { result ≡ (if runs_in stages.now before then 0 else intergreen) }
+{
+    if runs_in(stages, before) {
+        0
+    } else {
+        intergreen
+    }
+}
+
+/// Adds the steps that come at least `from` and fewer than `to` steps after the change.
+fn show_steps(change: u32, from: u32, to: u32, shown: &mut [bool])
+    requires some { 0 < length shown.old }
+    requires most { length shown.old ≤ 120 }
+    requires change { change ≤ 240 }
+    requires to { to ≤ length shown.old }
+    ensures { (i : ℕ) → i < length shown.old → slice_index_or shown.new i false
+        ≡ (slice_index_or shown.old i false || (nat_le from (minus_mod (length shown.old) i change)
+        && nat_lt (minus_mod (length shown.old) i change) to)) }
+{
+    for since in from..to {
+        let step = (since + change) as usize % shown.len();
+        shown[step] = true;
+    }
+}
+
+/// Whether a link that runs in these stages runs in the stage at a place; stages are numbered from 1.
+fn runs_in(stages: &[u32], place: usize) -> bool
+    ensures { result ≡ runs_in stages.now place }
+{
+    stages.iter().any(|stage| *stage as usize > 0 && place == *stage as usize - 1)
+}
+
+/// The stage at a place.
+fn stage_at(node: &Node, place: usize) -> Stage
+    requires { place < length node.now.stages }
+    ensures { result ≡ stage_of node.now.stages place }
+{
+    node.stages[place]
+}
+
+/// The node at the end of the link at a place.
+fn node_of_link(net: &Net, link: usize) -> &Node
+    requires { link < length net.now.links }
+    ensures value { result.now ≡ the_node net.now (link_of net.now link).node }
+    ensures node { IsNode net.now.frame.step_count result.now }
+{
+    let link = &net.links()[link];
+    match net.node_place(link.node) {
+        Some(place) => &net.nodes()[place],
+        None => unreachable!(),
+    }
+}
