@@ -1,0 +1,119 @@
+-- The rows while the links are worked out one after another.
+use Rattle.std.proofs.Common.{◌≡◌, ℕ, ◌+◌, ◌*◌, ◌<◌, ◌≤◌, true, false, cond, List, length, ap, sym, ◌∙◌, arith}
+use Rattle.std.proofs.Common.{◌⊎◌, inl, inr, if◌then◌else◌}
+use Rattle.std.proofs.lemmas.Bool.{cases_eq}
+use Rattle.std.proofs.lemmas.Bool.Decides.{nat_tests}
+use Rattle.std.proofs.lemmas.List.{length-set}
+use Rattle.transyt_delay.specs.declared.figures.Figures.{Figures}
+use Rattle.transyt_net.specs.Parts.{Network}
+use Rattle.transyt_sweep.specs.Cell.{worked}
+use Rattle.transyt_sweep.specs.Sweeps.{read_at, out_of, read_of, worked_at}
+use Rattle.transyt_sweep.specs.Rows.{RowsValue, row, out_at, read_in, with_out, with_shown}
+use Rattle.transyt_sweep.specs.Rows.{AreRows}
+use Rattle.transyt_sweep.specs.Front.{AreMixed, is_before}
+use Rattle.transyt_sweep.proofs.PairLaws.{out_here, out_elsewhere}
+use Rattle.transyt_sweep.proofs.ReadLaws.{worked_same}
+
+-- what is read stands before the link, at its sweep or the one before
+read_within : (s l j sweeps : ℕ) → s ≤ sweeps → read_at s l j ≤ sweeps
+read_within s l j sweeps swept = grind (arith, nat_tests)
+
+read_before : (s l j : ℕ) → 1 ≤ s → is_before (read_at s l j) j s l ≡ true
+read_before s l j first = grind (arith, nat_tests)
+
+pub before_self : (s l : ℕ) → is_before s l s (l + 1) ≡ true
+before_self s l = grind (arith, nat_tests)
+
+pub before_other : (t k s l : ℕ) → (t ≡ s → k ≡ l → ⊥) → is_before t k s (l + 1) ≡ is_before t k s l
+before_other t k s l apart = grind (arith, nat_tests)
+
+pub before_turn : (t k s links : ℕ) → k < links → is_before t k s links ≡ is_before t k (s + 1) 0
+before_turn t k s links inside = grind (arith, nat_tests)
+
+pub before_end : (t k sweeps : ℕ) → t ≤ sweeps → is_before t k (sweeps + 1) 0 ≡ true
+before_end t k sweeps swept = grind (arith, nat_tests)
+
+-- the rest of the last sweep doesn't move what leaves
+pub out_shown : (rows : RowsValue) (l : ℕ) (a g q : List ℕ) (f : Figures) (t k : ℕ)
+    → out_at (with_shown rows l a g q f) t k ≡ out_at rows t k
+out_shown rows l a g q f t k = ap (λ n. row rows.step_count rows.outs (t * n + k)) (length-set rows.figures l f)
+
+module _ (net : Network) (f g : ℕ → ℕ → List ℕ) (s l : ℕ) (rows : RowsValue) (mixed : AreMixed net f g s l rows) where
+  -- one link more
+  pub mixed_put : AreRows rows → (x : List ℕ) → s ≤ net.frame.sweeps → l < length net.links
+      → length x ≡ net.frame.step_count → x ≡ f s l → AreMixed net f g s (l + 1) (with_out rows s l x)
+  mixed_put kept x swept inside len made = record {
+    fits = record {
+      step_count = mixed.fits.step_count;
+      sweeps = mixed.fits.sweeps;
+      link_count = mixed.fits.link_count;
+    };
+    outs = λ t k within there. by t k within there (cases_eq t s) (cases_eq k l);
+  }
+    where
+      long : length x ≡ rows.step_count
+      long = len ∙ sym mixed.fits.step_count
+
+      swept_in : s ≤ rows.sweeps
+      swept_in = omega (arith, mixed.fits.sweeps)
+
+      inside_in : l < length rows.figures
+      inside_in = omega (arith, mixed.fits.link_count)
+
+      elsewhere : (t k : ℕ) → t ≤ net.frame.sweeps → k < length net.links → (t ≡ s → k ≡ l → ⊥)
+          → out_at (with_out rows s l x) t k ≡ (if is_before t k s (l + 1) then f t k else g t k)
+      elsewhere t k within there apart =
+          out_elsewhere rows kept s l x swept_in inside_in long t k (omega (arith, mixed.fits.link_count)) apart
+          ∙ mixed.outs t k within there
+          ∙ ap (λ b. cond b (f t k) (g t k)) (sym (before_other t k s l apart))
+
+      by : (t k : ℕ) → t ≤ net.frame.sweeps → k < length net.links → (t ≡ s) ⊎ (t ≡ s → ⊥) → (k ≡ l) ⊎ (k ≡ l → ⊥)
+          → out_at (with_out rows s l x) t k ≡ (if is_before t k s (l + 1) then f t k else g t k)
+      by t k within there (inl sweep) (inl link) =
+          ap (λ u. out_at (with_out rows s l x) u k) sweep
+          ∙ ap (out_at (with_out rows s l x) s) link
+          ∙ out_here rows kept s l x swept_in inside_in long
+          ∙ made
+          ∙ ap (f s) (sym link)
+          ∙ ap (λ u. f u k) (sym sweep)
+          ∙ sym (ap (λ b. cond b (f t k) (g t k))
+          (ap (λ u. is_before u k s (l + 1)) sweep ∙ ap (λ u. is_before s u s (l + 1)) link ∙ before_self s l))
+      by t k within there (inl sweep) (inr other) = elsewhere t k within there (λ _ e. other e)
+      by t k within there (inr other) _ = elsewhere t k within there (λ e _. other e)
+
+  -- with the rest of the last sweep written, what leaves is the same
+  pub mixed_shown : (m : ℕ) (a b q : List ℕ) (w : Figures) → AreMixed net f g s l (with_shown rows m a b q w)
+  mixed_shown m a b q w = record {
+    fits = record {
+      step_count = mixed.fits.step_count;
+      sweeps = mixed.fits.sweeps;
+      link_count = length-set rows.figures m w ∙ mixed.fits.link_count;
+    };
+    outs = λ t k within there. out_shown rows m a b q w t k ∙ mixed.outs t k within there;
+  }
+
+-- at the end of a sweep the next begins
+pub mixed_turn : (net : Network) (f g : ℕ → ℕ → List ℕ) (s links : ℕ) (rows : RowsValue) → length net.links ≡ links
+    → AreMixed net f g s links rows → AreMixed net f g (s + 1) 0 rows
+mixed_turn net f g s links rows all mixed = record {
+  fits = mixed.fits;
+  outs = λ t k within there. mixed.outs t k within there
+      ∙ ap (λ b. cond b (f t k) (g t k)) (before_turn t k s links (omega (arith, there, all)));
+}
+
+-- what a link reads of these rows is what it reads
+pub cell_is : (net : Network) (g : ℕ → ℕ → List ℕ) (s l : ℕ) (rows : RowsValue) → AreMixed net (out_of net) g s l rows
+    → 1 ≤ s → s ≤ net.frame.sweeps → l < length net.links → worked net (read_in rows s l) l ≡ worked_at net s l
+cell_is net g s l rows mixed first swept inside =
+    worked_same net (read_in rows s l) (read_of net s l) (omega arith)
+    (λ j there. mixed.outs (read_at s l j) j (read_within s l j net.frame.sweeps swept) there
+    ∙ ap (λ b. cond b (read_of net s l j) (g (read_at s l j) j)) (read_before s l j first))
+    l
+
+-- at an earlier sweep nothing of a later one is worked out
+pub not_before : (t k s l : ℕ) → s < t → is_before t k s l ≡ false
+not_before t k s l later = grind (arith, nat_tests)
+
+-- nor at the first link of its own
+pub not_before_first : (t k s : ℕ) → s ≤ t → is_before t k s 0 ≡ false
+not_before_first t k s later = grind (arith, nat_tests)

@@ -1,0 +1,51 @@
+-- A link is worked out of the departures of links that there are.
+use Rattle.std.proofs.Common.{◌≡◌, ℕ, ◌<◌, List, [], ◌∷◌, length, Option, Some, None, refl, ap, ◌∙◌}
+use Rattle.transyt_profile.specs.Profile.{uniform, added, shared}
+use Rattle.transyt_platoon.specs.Platoon.{travel_steps, dispersed}
+use Rattle.transyt_parts.specs.declared.link.Feed.{Feed}
+use Rattle.transyt_parts.specs.declared.link.GiveWay.{GiveWay}
+use Rattle.transyt_parts.specs.Flow.{total_flow}
+use Rattle.transyt_parts.specs.Valid.{link_number}
+use Rattle.transyt_net.specs.Parts.{Network, link_of}
+use Rattle.transyt_net.specs.Valid.{place_of, link_numbers}
+use Rattle.transyt_net.proofs.PlaceLaws.{place_is}
+use Rattle.transyt_stage.specs.Green.{signal}
+use Rattle.transyt_stage.specs.GiveWay.{yielding}
+use Rattle.transyt_net.specs.Flow.{perstep}
+use Rattle.std.specs.Prelude.{fold}
+use Rattle.transyt_sweep.specs.Cell.{link_place, found_or_first, brought, inflow, under_rule, go, cell_of, worked}
+
+-- where there are links, each name is given the place of one
+pub link_place-lt : (net : Network) (number : ℕ) → 0 < length net.links → link_place net number < length net.links
+link_place-lt net number some = by (place_of (link_numbers net.links) number) refl
+  where
+    by : (o : Option ℕ) → place_of (link_numbers net.links) number ≡ o → found_or_first o < length net.links
+    by None at = some
+    by (Some p) at = (place_is link_number net.links number p at).inside
+
+module _ (net : Network) (x y : ℕ → List ℕ) (some : 0 < length net.links)
+    (same : (j : ℕ) → j < length net.links → x j ≡ y j) where
+  brought_same : (f : Feed) → brought net x f ≡ brought net y f
+  brought_same f =
+      ap (λ o. dispersed (shared f.flow (total_flow (link_of net (link_place net f.feeder))) o)
+      (travel_steps f.cruise net.frame.step_count net.frame.cycle) net.frame.dispersion)
+      (same (link_place net f.feeder) (link_place-lt net f.feeder some))
+
+  gathered_same : (feeds : List Feed) (come : List ℕ)
+      → fold (λ c f. added c (brought net x f)) come feeds ≡ fold (λ c f. added c (brought net y f)) come feeds
+  gathered_same [] come = refl
+  gathered_same (f ∷ fs) come =
+      ap (λ c. fold (λ d g. added d (brought net x g)) c fs) (ap (added come) (brought_same f))
+      ∙ gathered_same fs (added come (brought net y f))
+
+  under_rule_same : (rule : Option GiveWay) (green : List ℕ) → under_rule net x rule green ≡ under_rule net y rule green
+  under_rule_same None green = refl
+  under_rule_same (Some rule) green =
+      ap (λ o. yielding rule.percent o green) (same (link_place net rule.other) (link_place-lt net rule.other some))
+
+  -- equal departures of all links give equal work
+  pub worked_same : (l : ℕ) → worked net x l ≡ worked net y l
+  worked_same l =
+      ap (λ c. cell_of net l c (go net x l))
+      (gathered_same (link_of net l).feeds (uniform net.frame.step_count (perstep net.frame (link_of net l).entry)))
+      ∙ ap (cell_of net l (inflow net y l)) (under_rule_same (link_of net l).gives_way (signal net l))

@@ -1,0 +1,22 @@
+-- After the last sweep the rows are the evaluation.
+use Rattle.std.proofs.Common.{◌≡◌, ◌+◌, subst, ap, arith, rules}
+use Rattle.transyt_parts.specs.declared.frame.Frame.{Frame}
+use Rattle.transyt_sweep.specs.Front.{AreFilled}
+use Rattle.transyt_sweep.proofs.FilledLaws.{filled_end, opened_filled}
+use Rattle.transyt_sweep.proofs.whole.fill.Goals as goal
+
+-- before the first sweep they are opened
+pub loop-sweep-init : goal.loop-sweep-init
+loop-sweep-init g c = record {
+  filled = opened_filled c.args.net.now c.args.rows.now c.frame-sweep-end.ensures.valid.sound.frame.sweeps.0
+      c.requires.opened;
+  step_count = search rules;
+  steps = omega arith;
+}
+
+pub returns-clause-rows : goal.returns-clause-rows
+returns-clause-rows g c =
+    let all : c.loop-sweep.sweep ≡ c.args.net.now.frame.sweeps + 1 =
+    omega (arith, ap (λ (f : Frame). f.sweeps) c.frame-sweep-end.ensures.value) in
+    filled_end c.args.net.now c.loop-sweep.rows
+    (subst (λ s. AreFilled c.args.net.now s 0 c.loop-sweep.rows) all c.loop-sweep.invariant.filled)

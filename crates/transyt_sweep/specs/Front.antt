@@ -1,0 +1,61 @@
+-- The rows while the links are worked out one after another, and the rows of an evaluation.
+use Rattle.std.specs.Prelude.{◌≡◌, ℕ, ◌+◌, ◌*◌, ◌<◌, ◌≤◌, ◌==◌, Bool, true, ◌&&◌, ◌||◌, nat_lt, List, length, replicate}
+use Rattle.std.specs.Prelude.{if◌then◌else◌}
+use Rattle.transyt_profile.specs.Profile.{uniform}
+use Rattle.transyt_net.specs.Parts.{Network}
+use Rattle.transyt_sweep.specs.Sweeps.{out_of, evaluated}
+use Rattle.transyt_sweep.specs.Rows.{RowsValue, rows_of, out_at, shown_at, no_figures, Fits}
+
+-- whether link k at sweep t is worked out before link l at sweep s
+abbrev pub is_before : ℕ → ℕ → ℕ → ℕ → Bool
+is_before t k s l = nat_lt t s || ((t == s) && nat_lt k l)
+
+-- the departures are those of f before link l at sweep s, and those of g from it on
+pub record AreMixed (net : Network) (f g : ℕ → ℕ → List ℕ) (s l : ℕ) (rows : RowsValue) : Type 0 where
+  pub fits : Fits net rows
+  pub outs : (t k : ℕ) → t ≤ net.frame.sweeps → k < length net.links
+      → out_at rows t k ≡ (if is_before t k s l then f t k else g t k)
+
+-- link k at the last sweep is that of the evaluation, where it is worked out before link l at sweep s
+abbrev pub AreShown : Network → ℕ → ℕ → RowsValue → Type 0
+AreShown net s l rows = (k : ℕ) → k < length net.links → is_before net.frame.sweeps k s l ≡ true
+    → shown_at rows k ≡ evaluated net k
+
+-- the rows are the evaluation of the network
+pub record AreEvaluation (net : Network) (rows : RowsValue) : Type 0 where
+  pub fits : Fits net rows
+  pub outs : (s l : ℕ) → s ≤ net.frame.sweeps → l < length net.links → out_at rows s l ≡ out_of net s l
+  pub shown : (l : ℕ) → l < length net.links → shown_at rows l ≡ evaluated net l
+
+-- nothing leaves
+abbrev pub empty_out : Network → ℕ → ℕ → List ℕ
+empty_out net s l = uniform net.frame.step_count 0
+
+-- rows in which all is 0
+abbrev pub empty_rows : Network → RowsValue
+empty_rows net =
+    rows_of net.frame.step_count net.frame.sweeps
+    (replicate ((net.frame.sweeps + 1) * length net.links * net.frame.step_count) 0)
+    (replicate (length net.links * net.frame.step_count) 0) (replicate (length net.links * net.frame.step_count) 0)
+    (replicate (length net.links * net.frame.step_count) 0) (replicate (length net.links) no_figures)
+
+-- new rows: before the first sweep the total flow of each link leaves, and all else is 0
+pub record AreOpened (net : Network) (rows : RowsValue) : Type 0 where
+  pub outs : AreMixed net (out_of net) (empty_out net) 1 0 rows
+  pub arrivals : rows.arrivals ≡ replicate (length net.links * net.frame.step_count) 0
+  pub go : rows.go ≡ replicate (length net.links * net.frame.step_count) 0
+  pub queue : rows.queue ≡ replicate (length net.links * net.frame.step_count) 0
+  pub figures : rows.figures ≡ replicate (length net.links) no_figures
+
+-- before the first sweep the links before link l have their total flow, and all else is 0
+pub record AreStarted (net : Network) (l : ℕ) (rows : RowsValue) : Type 0 where
+  pub outs : AreMixed net (out_of net) (empty_out net) 0 l rows
+  pub arrivals : rows.arrivals ≡ replicate (length net.links * net.frame.step_count) 0
+  pub go : rows.go ≡ replicate (length net.links * net.frame.step_count) 0
+  pub queue : rows.queue ≡ replicate (length net.links * net.frame.step_count) 0
+  pub figures : rows.figures ≡ replicate (length net.links) no_figures
+
+-- the rows are the evaluation as far as link l at sweep s
+pub record AreFilled (net : Network) (s l : ℕ) (rows : RowsValue) : Type 0 where
+  pub outs : AreMixed net (out_of net) (empty_out net) s l rows
+  pub shown : AreShown net s l rows

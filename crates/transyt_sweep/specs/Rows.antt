@@ -1,0 +1,136 @@
+-- The rows of an evaluation: the departures of each link at each sweep, and the rest of the last sweep.
+use Rattle.std.specs.Prelude.{◌≡◌, ℕ, ◌+◌, ◌*◌, ◌^◌, ◌<◌, ◌≤◌, ◌==◌, List, length, take, drop, ◌++◌}
+use Rattle.std.specs.Prelude.{slice_range, slice_set, slice_index_or, All, sum_by, if◌then◌else◌}
+use Rattle.transyt_delay.specs.declared.figures.Figures.{Figures}
+use Rattle.transyt_delay.specs.Index.{index_of}
+use Rattle.transyt_net.specs.Parts.{Network, link_of}
+use Rattle.transyt_sweep.specs.Cell.{CellValue}
+use Rattle.transyt_sweep.specs.Sweeps.{read_at}
+
+-- row p of rows of n values each
+abbrev pub row : ℕ → List ℕ → ℕ → List ℕ
+row n rows p = slice_range rows (p * n) (p * n + n)
+
+-- the rows with x as row p
+abbrev pub put_row : ℕ → List ℕ → ℕ → List ℕ → List ℕ
+put_row n rows p x = take (p * n) rows ++ (x ++ drop n (drop (p * n) rows))
+
+-- The rows: `outs` has a row for each link of each sweep, from sweep 0 on, in order; the others have one for each link.
+pub record RowsValue : Type 0 where
+  pub step_count : ℕ
+  pub sweeps : ℕ
+  pub outs : List ℕ
+  pub arrivals : List ℕ
+  pub go : List ℕ
+  pub queue : List ℕ
+  pub figures : List Figures
+
+-- which of the rows is that of link l at sweep s
+abbrev pub pair_place : RowsValue → ℕ → ℕ → ℕ
+pair_place rows s l = s * length rows.figures + l
+
+-- what leaves link l at sweep s
+abbrev pub out_at : RowsValue → ℕ → ℕ → List ℕ
+out_at rows s l = row rows.step_count rows.outs (pair_place rows s l)
+
+-- what stands where there are no figures
+abbrev pub no_figures : Figures
+no_figures = record { uniform = 0; random = 0; stops = 0; index = 0 }
+
+-- link l: what leaves at sweep s, and the rest of the last sweep
+abbrev pub pair_in : RowsValue → ℕ → ℕ → CellValue
+pair_in rows s l = record {
+  arrivals = row rows.step_count rows.arrivals l;
+  go = row rows.step_count rows.go l;
+  queue = row rows.step_count rows.queue l;
+  out = out_at rows s l;
+  figures = slice_index_or rows.figures l no_figures;
+}
+
+-- link l at the last sweep
+abbrev pub shown_at : RowsValue → ℕ → CellValue
+shown_at rows l = pair_in rows rows.sweeps l
+
+-- what link l, at sweep s, reads of link j in these rows
+abbrev pub read_in : RowsValue → ℕ → ℕ → ℕ → List ℕ
+read_in rows s l j = out_at rows (read_at s l j) j
+
+-- the rows with x as what leaves link l at sweep s
+abbrev pub with_out : RowsValue → ℕ → ℕ → List ℕ → RowsValue
+with_out rows s l x = record rows { outs = put_row rows.step_count rows.outs (pair_place rows s l) x }
+
+-- the rows with these figures of link l
+abbrev pub with_figures : RowsValue → ℕ → Figures → RowsValue
+with_figures rows l f = record rows { figures = slice_set rows.figures l f }
+
+-- the rows with this of link l at the last sweep, what leaves apart
+abbrev pub with_shown : RowsValue → ℕ → List ℕ → List ℕ → List ℕ → Figures → RowsValue
+with_shown rows l arrivals go queue f = record rows {
+  arrivals = put_row rows.step_count rows.arrivals l arrivals;
+  go = put_row rows.step_count rows.go l go;
+  queue = put_row rows.step_count rows.queue l queue;
+  figures = slice_set rows.figures l f;
+}
+
+-- the rows with link l at sweep s; at the last sweep all of it is kept
+abbrev pub placed : RowsValue → ℕ → ℕ → CellValue → RowsValue
+placed rows s l c =
+    if s == rows.sweeps then with_shown (with_out rows s l c.out) l c.arrivals c.go c.queue c.figures
+    else with_out rows s l c.out
+
+-- the figures with the index that these weights give
+abbrev pub reweighed : Network → ℕ → Figures → Figures
+reweighed net l f = record f {
+  index = index_of f.uniform f.random f.stops net.frame.stop_penalty (link_of net l).delay_weight
+      (link_of net l).stop_weight;
+}
+
+-- the rows with link l weighed anew
+abbrev pub with_weights : RowsValue → Network → ℕ → RowsValue
+with_weights rows net l = with_figures rows l (reweighed net l (slice_index_or rows.figures l no_figures))
+
+-- the sum of the links' indexes
+abbrev pub index_in : RowsValue → ℕ
+index_in rows = sum_by (λ f. f.index) rows.figures
+
+-- the rows have this many steps, sweeps and links
+pub record Fits (net : Network) (rows : RowsValue) : Type 0 where
+  pub step_count : rows.step_count ≡ net.frame.step_count
+  pub sweeps : rows.sweeps ≡ net.frame.sweeps
+  pub link_count : length rows.figures ≡ length net.links
+
+-- two have the same numbers of steps, sweeps and links
+pub record SameSize (a b : RowsValue) : Type 0 where
+  pub step_count : a.step_count ≡ b.step_count
+  pub sweeps : a.sweeps ≡ b.sweeps
+  pub link_count : length a.figures ≡ length b.figures
+
+-- figures that can be weighed and summed
+pub record AreSmall (f : Figures) : Type 0 where
+  pub uniform : f.uniform < 2 ^ 63
+  pub random : f.random < 2 ^ 63
+  pub index : f.index < 2 ^ 89
+
+-- what rows keep to
+pub record AreRows (rows : RowsValue) : Type 0 where
+  pub steps : rows.step_count ≤ 120
+  pub sweeps : rows.sweeps ≤ 8
+  pub links : length rows.figures ≤ 1000
+  pub outs : length rows.outs ≡ (rows.sweeps + 1) * length rows.figures * rows.step_count
+  pub arrivals : length rows.arrivals ≡ length rows.figures * rows.step_count
+  pub go : length rows.go ≡ length rows.figures * rows.step_count
+  pub queue : length rows.queue ≡ length rows.figures * rows.step_count
+  pub small : All (λ v. v < 2 ^ 30) rows.outs
+  pub figures : All AreSmall rows.figures
+
+-- rows of these parts
+abbrev pub rows_of : ℕ → ℕ → List ℕ → List ℕ → List ℕ → List ℕ → List Figures → RowsValue
+rows_of step_count sweeps outs arrivals go queue figures = record {
+  step_count = step_count;
+  sweeps = sweeps;
+  outs = outs;
+  arrivals = arrivals;
+  go = go;
+  queue = queue;
+  figures = figures;
+}

@@ -1,0 +1,46 @@
+-- The sweeps: the links are worked out one after another, in card order, so many times.
+use Rattle.std.specs.Prelude.{ℕ, zero, suc, ◌-◌, ◌==◌, nat_lt, List, length, map, sum, if◌then◌else◌}
+use Rattle.std.specs.List.{range_with_len}
+use Rattle.transyt_profile.specs.Profile.{uniform}
+use Rattle.transyt_parts.specs.Flow.{total_flow}
+use Rattle.transyt_net.specs.Parts.{Network, link_of}
+use Rattle.transyt_net.specs.Flow.{perstep}
+use Rattle.transyt_sweep.specs.Cell.{CellValue, worked}
+
+-- the sweep at which link l, at sweep s, reads link j: one that stands before it was worked out in this sweep
+abbrev pub read_at : ℕ → ℕ → ℕ → ℕ
+read_at s l j = if nat_lt j l then s else s - 1
+
+-- what leaves a link before the first sweep: its total flow at each step
+abbrev pub start : Network → ℕ → List ℕ
+start net l = uniform net.frame.step_count (perstep net.frame (total_flow (link_of net l)))
+
+-- what leaves link j when the links before l have been worked out in a sweep; `before` is what left in the one before
+unfoldable pub seen : Network → (ℕ → List ℕ) → ℕ → ℕ → List ℕ
+seen net before zero j = before j
+seen net before (suc l) j = if j == l then (worked net (seen net before l) l).out else seen net before l j
+
+-- what leaves link l at sweep s
+unfoldable pub out_of : Network → ℕ → ℕ → List ℕ
+out_of net zero l = start net l
+out_of net (suc s) l = (worked net (seen net (out_of net s) l) l).out
+
+-- what link l, at sweep s, reads of link j
+abbrev pub read_of : Network → ℕ → ℕ → ℕ → List ℕ
+read_of net s l j = out_of net (read_at s l j) j
+
+-- link l worked out at sweep s
+abbrev pub worked_at : Network → ℕ → ℕ → CellValue
+worked_at net s l = worked net (read_of net s l) l
+
+-- the evaluation of link l: the link worked out at the last sweep
+unfoldable pub evaluated : Network → ℕ → CellValue
+evaluated net l = worked_at net net.frame.sweeps l
+
+-- the index of link l
+abbrev pub index_at : Network → ℕ → ℕ
+index_at net l = (evaluated net l).figures.index
+
+-- the index of a network: the sum of its links' indexes
+abbrev pub index : Network → ℕ
+index net = sum (map (index_at net) (range_with_len 0 (length net.links)))

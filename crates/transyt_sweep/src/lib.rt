@@ -1,0 +1,29 @@
+//! The sweeps: each link worked out at each sweep, one after another, and the rows that this gives.
+//!
+//! `Rows` are seen as the record `RowsValue` of `specs/Rows`, whose lists hold one row after another, and `Scratch`
+//! as the `CellValue` of `specs/Cell`: all of one link at one sweep. Profiles are in millionths of a vehicle per step.
+//! Cite first: `out_of` of `specs/Sweeps` for what leaves a link at a sweep, `evaluated` and `index` there for the
+//! evaluation, `worked` of `specs/Cell` for one link's work from the departures that it reads, `out_at` of `specs/Rows`
+//! for a row, and `AreEvaluation` of `specs/Front`. `climb` of `specs/Climb` is what a climb over the moves of
+//! `transyt_moves` comes to, and `tried_at` what a try of one move finds; no code of them stands here.
+//!
+//! The histograms of LR 253 are worked out link by link; the sweeps, their uniform start and which sweep a link reads
+//! are this project's own.
+#![tactic(auto)]
+
+mod inflow;
+mod laws;
+mod row;
+mod rows;
+mod scratch;
+mod whole;
+mod working;
+
+pub use laws::{rule_of_climbs, rule_of_evaluation, rule_of_sweeps};
+pub use rows::Rows;
+pub use scratch::Scratch;
+pub use whole::full;
+pub use working::cell;
+
+#[cfg(test)]
+mod tests;

@@ -1,0 +1,293 @@
+//! The rows of an evaluation, and what is read of them and written in them.
+
+ghost use Rattle.std.specs.Prelude.{◌≡◌, ◌+◌, ◌*◌, ◌<◌, ◌≤◌, ◌^◌, ℕ, length, All, sum_by, slice_index_or, IfOk};
+ghost use Rattle.transyt_delay.specs.declared.figures.Figures.{Figures};
+ghost use Rattle.transyt_sweep.specs.Rows.{RowsValue, row, out_at, read_in, pair_place, pair_in, index_in, no_figures};
+ghost use Rattle.transyt_sweep.specs.Rows.{with_out, with_weights, with_figures, with_shown, placed};
+ghost use Rattle.transyt_sweep.specs.Rows.{Fits, SameSize, AreRows, AreSmall};
+ghost use Rattle.transyt_sweep.specs.Front.{AreOpened, empty_rows};
+ghost use Rattle.transyt_sweep.specs.Sweeps.{read_at, start};
+
+use crate::inflow::link_at;
+use crate::row::{fill_row, put_row, row};
+use crate::scratch::Scratch;
+use std::alloc::{AllocError, Global};
+use std::marker::Model;
+use transyt_delay::{Figures, weigh};
+use transyt_net::Net;
+
+/// The departures of each link at each sweep, and all of the last sweep.
+///
+/// Sweeps count from 0, which is the uniform start, and links in card order from 0. A profile has one value for each
+/// step of the cycle. That a link has profiles which repeat each cycle is from LR 253; the sweeps are this project's
+/// own.
+#[derive(Drop)]
+pub struct Rows {
+    step_count: usize,
+    sweeps: u32,
+    outs: Vec<u64>,
+    arrivals: Vec<u64>,
+    go: Vec<u64>,
+    queue: Vec<u64>,
+    figures: Vec<Figures>,
+    index: u128,
+}
+
+impl Model for Rows {
+    ghost use Rattle.std.specs.Prelude.{◌≡◌, sum_by};
+    ghost use Rattle.transyt_sweep.specs.Rows.{RowsValue, AreRows, index_in, rows_of};
+
+    ghost Value = { RowsValue };
+
+    ghost view = { λ r.
+        rows_of r.step_count r.sweeps r.outs.items r.arrivals.items r.go.items r.queue.items r.figures.items };
+
+    // the kept index is the sum of the figures' indexes
+    ghost invariant = { λ r.
+        AreRows (rows_of r.step_count r.sweeps r.outs.items r.arrivals.items r.go.items r.queue.items r.figures.items)
+        × (r.index ≡ sum_by (λ f. f.index) r.figures.items) };
+}
+
+/// The sweep at which a link, at a sweep, reads another.
+fn read_at(sweep: u32, link: usize, other: usize) -> u32
+    ensures value { result ≡ read_at sweep link other }
+    ensures within { result ≤ sweep }
+{
+    if other < link {
+        sweep
+    } else {
+        sweep.saturating_sub(1)
+    }
+}
+
+/// Starts each link.
+fn fill_starts(net: &Net, rows: &mut Rows)
+    requires { rows.old ≡ empty_rows net.now }
+    ensures { AreOpened net.now rows.new }
+{
+    for link in 0..net.links().len() {
+        rows.start(net, link);
+    }
+}
+
+impl Rows {
+    /// What leaves a link at a sweep, in millionths of a vehicle per step.
+    pub fn out(&self, sweep: u32, link: usize) -> &[u64]
+        requires sweep { sweep ≤ self.now.sweeps }
+        requires link { link < length self.now.figures }
+        ensures value { result.now ≡ out_at self.now sweep link }
+        ensures steps { length result.now ≡ self.now.step_count }
+        ensures small { All (λ v. v < 2 ^ 30) result.now }
+    {
+        let place = self.pair_place(sweep, link);
+        row(&self.outs, self.step_count, place)
+    }
+
+    /// What a link, at a sweep, reads of another: what left that at this sweep where it stands earlier, else at the one
+    /// before.
+    pub(crate) fn read(&self, sweep: u32, link: usize, other: usize) -> &[u64]
+        requires sweep { sweep ≤ self.now.sweeps }
+        requires other { other < length self.now.figures }
+        ensures value { result.now ≡ read_in self.now sweep link other }
+        ensures steps { length result.now ≡ self.now.step_count }
+        ensures small { All (λ v. v < 2 ^ 30) result.now }
+    {
+        self.out(read_at(sweep, link, other), other)
+    }
+
+    /// Which of the rows of departures is that of a link at a sweep.
+    fn pair_place(&self, sweep: u32, link: usize) -> usize
+        requires sweep { sweep ≤ self.now.sweeps }
+        requires link { link < length self.now.figures }
+        ensures value { result ≡ pair_place self.now sweep link }
+        ensures room { result * self.now.step_count + self.now.step_count ≤ length self.now.outs }
+    {
+        sweep as usize * self.figures.len() + link
+    }
+
+    /// What comes to a link at the last sweep, before any cut, in millionths of a vehicle per step.
+    pub fn arrivals(&self, link: usize) -> &[u64]
+        requires { link < length self.now.figures }
+        ensures value { result.now ≡ row self.now.step_count self.now.arrivals link }
+        ensures steps { length result.now ≡ self.now.step_count }
+    {
+        row(&self.arrivals, self.step_count, link)
+    }
+
+    /// What can go of a link at the last sweep, in millionths of a vehicle per step.
+    pub fn go(&self, link: usize) -> &[u64]
+        requires { link < length self.now.figures }
+        ensures value { result.now ≡ row self.now.step_count self.now.go link }
+        ensures steps { length result.now ≡ self.now.step_count }
+    {
+        row(&self.go, self.step_count, link)
+    }
+
+    /// The queue at the end of each step of the last sweep, in millionths of a vehicle.
+    pub fn queue(&self, link: usize) -> &[u64]
+        requires { link < length self.now.figures }
+        ensures value { result.now ≡ row self.now.step_count self.now.queue link }
+        ensures steps { length result.now ≡ self.now.step_count }
+    {
+        row(&self.queue, self.step_count, link)
+    }
+
+    /// The figures of a link at the last sweep, in millionths as those of `transyt_delay`.
+    pub fn figures(&self, link: usize) -> Figures
+        requires { link < length self.now.figures }
+        ensures value { result ≡ slice_index_or self.now.figures link no_figures }
+        ensures small { AreSmall result }
+    {
+        self.figures[link]
+    }
+
+    /// The index of the network: the sum of its links' indexes.
+    pub fn index(&self) -> u128
+        ensures value { result ≡ index_in self.now }
+        ensures kept { AreRows self.now }
+    {
+        self.index
+    }
+
+    /// Rows for the network. Before the first sweep the total flow of each link leaves it, and all else is 0.
+    pub fn open(alloc: Global, net: &Net) -> Result<Rows, AllocError>
+        ensures { IfOk result (λ rows. AreOpened net.now rows) }
+    {
+        let mut rows = Rows::empty(alloc, net)?;
+        fill_starts(net, &mut rows);
+        Ok(rows)
+    }
+
+    /// Rows for the network in which all is 0.
+    fn empty(alloc: Global, net: &Net) -> Result<Rows, AllocError>
+        ensures { IfOk result (λ rows. rows ≡ empty_rows net.now) }
+    {
+        let frame = net.frame();
+        let step_count = frame.step_count as usize;
+        let link_count = net.links().len();
+        let none = Figures {
+            uniform: 0,
+            random: 0,
+            stops: 0,
+            index: 0,
+        };
+        Ok(Rows {
+            step_count,
+            sweeps: frame.sweeps,
+            outs: vec![in alloc; 0; (frame.sweeps as usize + 1) * link_count * step_count]?,
+            arrivals: vec![in alloc; 0; link_count * step_count]?,
+            go: vec![in alloc; 0; link_count * step_count]?,
+            queue: vec![in alloc; 0; link_count * step_count]?,
+            figures: vec![in alloc; none; link_count]?,
+            index: 0,
+        })
+    }
+
+    /// The departures of the link before the first sweep become the uniform profile of its total flow.
+    pub fn start(&mut self, net: &Net, link: usize)
+        requires fits { Fits net.now self.old }
+        requires link { link < length net.now.links }
+        ensures value { self.new ≡ with_out self.old 0 link (start net.now link) }
+        ensures kept { AreRows self.old }
+    {
+        let value = net.per_step(net.total_flow(link));
+        fill_row(&mut self.outs, self.step_count, link, value);
+    }
+
+    /// Keeps a link at a sweep: what leaves it, and at the last sweep all of it.
+    pub fn place(&mut self, sweep: u32, link: usize, scratch: &Scratch)
+        requires last { sweep ≤ self.old.sweeps }
+        requires link { link < length self.old.figures }
+        requires steps { length scratch.now.arrivals ≡ self.old.step_count }
+        ensures value { self.new ≡ placed self.old sweep link scratch.now }
+        ensures kept { AreRows self.old }
+    {
+        self.put_out(sweep, link, &scratch.out);
+        if sweep == self.sweeps {
+            self.show(
+                link,
+                &scratch.arrivals,
+                &scratch.go,
+                &scratch.queue,
+                scratch.figures,
+            );
+        }
+    }
+
+    /// A link at a sweep becomes that of other rows: what leaves it, and at the last sweep all of it.
+    pub fn take_pair(&mut self, sweep: u32, link: usize, from: &Rows)
+        requires last { sweep ≤ self.old.sweeps }
+        requires link { link < length self.old.figures }
+        requires size { SameSize self.old from.now }
+        ensures { self.new ≡ placed self.old sweep link (pair_in from.now sweep link) }
+    {
+        self.put_out(sweep, link, from.out(sweep, link));
+        if sweep == self.sweeps {
+            self.show(
+                link,
+                from.arrivals(link),
+                from.go(link),
+                from.queue(link),
+                from.figures(link),
+            );
+        }
+    }
+
+    /// The index of a link becomes that of the network's stop penalty and the link's weights. It is no step.
+    pub fn reweigh(&mut self, net: &Net, link: usize)
+        requires fits { Fits net.now self.old }
+        requires link { link < length net.now.links }
+        ensures { self.new ≡ with_weights self.old net.now link }
+    {
+        let at = link_at(net, link);
+        let figures = self.figures(link);
+        let index = weigh(
+            figures.uniform,
+            figures.random,
+            figures.stops,
+            net.frame().stop_penalty,
+            at.delay_weight,
+            at.stop_weight,
+        );
+        self.put_figures(link, Figures { index, ..figures });
+    }
+
+    /// Keeps what leaves a link at a sweep.
+    fn put_out(&mut self, sweep: u32, link: usize, values: &[u64])
+        requires last { sweep ≤ self.old.sweeps }
+        requires link { link < length self.old.figures }
+        requires steps { length values.now ≡ self.old.step_count }
+        requires small { All (λ v. v < 2 ^ 30) values.now }
+        ensures value { self.new ≡ with_out self.old sweep link values.now }
+        ensures kept { AreRows self.old }
+    {
+        let place = self.pair_place(sweep, link);
+        put_row(&mut self.outs, place, values);
+    }
+
+    /// Keeps the rest of a link at the last sweep.
+    fn show(&mut self, link: usize, arrivals: &[u64], go: &[u64], queue: &[u64], figures: Figures)
+        requires link { link < length self.old.figures }
+        requires arrivals { length arrivals.now ≡ self.old.step_count }
+        requires go { length go.now ≡ self.old.step_count }
+        requires queue { length queue.now ≡ self.old.step_count }
+        requires figures { AreSmall figures }
+        ensures { self.new ≡ with_shown self.old link arrivals.now go.now queue.now figures }
+    {
+        put_row(&mut self.arrivals, link, arrivals);
+        put_row(&mut self.go, link, go);
+        put_row(&mut self.queue, link, queue);
+        self.put_figures(link, figures);
+    }
+
+    /// Keeps the figures of a link; the index of the network stays the sum.
+    fn put_figures(&mut self, link: usize, figures: Figures)
+        requires link { link < length self.old.figures }
+        requires figures { AreSmall figures }
+        ensures { self.new ≡ with_figures self.old link figures }
+    {
+        let index = self.index - self.figures[link].index + figures.index;
+        self.figures[link] = figures;
+        self.index = index;
+    }
+}

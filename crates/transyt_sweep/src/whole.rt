@@ -1,0 +1,85 @@
+//! The whole evaluation of a network.
+
+ghost use Rattle.std.specs.Prelude.{◌≡◌, ◌+◌, ◌*◌, ◌<◌, ◌≤◌, length, IfOk, OnOk, OnErr};
+ghost use Rattle.transyt_sweep.specs.Sweeps.{index};
+ghost use Rattle.transyt_sweep.specs.Rows.{index_in};
+ghost use Rattle.transyt_sweep.specs.Front.{AreOpened, AreFilled, AreEvaluation};
+
+use crate::rows::Rows;
+use crate::scratch::Scratch;
+use crate::working::cell;
+use std::alloc::{AllocError, Global};
+use std::sync::ledger::Ledger;
+use transyt_net::Net;
+use transyt_steps::Steps;
+
+/// The whole evaluation of a network: each link at each sweep, one after another.
+///
+/// All memory is taken before the first cell is worked out, so an error costs no step.
+#[tactic(auto, using(crate::proofs::IndexLaws::index_is))]
+pub fn full<L: Ledger>(alloc: Global, net: &Net, steps: &mut Steps<L>) -> Result<Rows, AllocError>
+    ensures rows { IfOk result (λ rows. AreEvaluation net.now rows) }
+    ensures index { IfOk result (λ rows. index_in rows ≡ index net.now) }
+    ensures ok { OnOk result (steps.new ≡ steps.old + net.now.frame.sweeps * length net.now.links) }
+    ensures err { OnErr result (steps.new ≡ steps.old) }
+{
+    let mut rows = Rows::open(alloc, net)?;
+    let mut scratch = Scratch::open(alloc, net)?;
+    fill(net, &mut rows, &mut scratch, steps);
+    Ok(rows)
+}
+
+/// Works out each link at each sweep.
+fn fill<L: Ledger>(net: &Net, rows: &mut Rows, scratch: &mut Scratch, steps: &mut Steps<L>)
+    requires opened { AreOpened net.now rows.old }
+    requires step_count { length scratch.old.arrivals ≡ net.now.frame.step_count }
+    ensures rows { AreEvaluation net.now rows.new }
+    ensures steps { steps.new ≡ steps.old + net.now.frame.sweeps * length net.now.links }
+{
+    for sweep in 1..net.frame().sweeps + 1 {
+        fill_sweep(net, sweep, rows, scratch, steps);
+    }
+}
+
+/// Works out each link at one sweep.
+fn fill_sweep<L: Ledger>(
+    net: &Net,
+    sweep: u32,
+    rows: &mut Rows,
+    scratch: &mut Scratch,
+    steps: &mut Steps<L>,
+)
+    requires first { 1 ≤ sweep }
+    requires last { sweep ≤ net.now.frame.sweeps }
+    requires filled { AreFilled net.now sweep 0 rows.old }
+    requires step_count { length scratch.old.arrivals ≡ net.now.frame.step_count }
+    ensures filled { AreFilled net.now (sweep + 1) 0 rows.new }
+    ensures step_count { length scratch.new.arrivals ≡ net.now.frame.step_count }
+    ensures steps { steps.new ≡ steps.old + length net.now.links }
+{
+    for link in 0..net.links().len() {
+        fill_cell(net, link, sweep, rows, scratch, steps);
+    }
+}
+
+/// Works out one link at one sweep.
+fn fill_cell<L: Ledger>(
+    net: &Net,
+    link: usize,
+    sweep: u32,
+    rows: &mut Rows,
+    scratch: &mut Scratch,
+    steps: &mut Steps<L>,
+)
+    requires link { link < length net.now.links }
+    requires first { 1 ≤ sweep }
+    requires last { sweep ≤ net.now.frame.sweeps }
+    requires filled { AreFilled net.now sweep link rows.old }
+    requires step_count { length scratch.old.arrivals ≡ net.now.frame.step_count }
+    ensures filled { AreFilled net.now sweep (link + 1) rows.new }
+    ensures step_count { length scratch.new.arrivals ≡ net.now.frame.step_count }
+    ensures steps { steps.new ≡ steps.old + 1 }
+{
+    cell(net, link, sweep, rows, scratch, steps);
+    rows.place(sweep, link, scratch);
+}

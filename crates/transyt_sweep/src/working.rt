@@ -1,0 +1,156 @@
+//! One link at one sweep: the cell of which an evaluation is made.
+
+ghost use Rattle.std.specs.Prelude.{◌≡◌, ◌+◌, ◌-◌, ◌*◌, ◌^◌, ◌<◌, ◌≤◌, ℕ, length, All};
+ghost use Rattle.transyt_delay.specs.Figures.{figures};
+ghost use Rattle.transyt_stopline.specs.Cut.{arrivals_of};
+ghost use Rattle.transyt_stopline.specs.Queue.{queues};
+ghost use Rattle.transyt_sweep.specs.Cell.{go, terms_of, worked};
+ghost use Rattle.transyt_sweep.specs.Rows.{Fits, read_in, AreSmall};
+
+use crate::inflow::{fill_inflow, link_at, link_place};
+use crate::rows::Rows;
+use crate::scratch::Scratch;
+use std::sync::ledger::Ledger;
+use transyt_delay::{Figures, Terms, TermsFrame, figures_of};
+use transyt_net::Net;
+use transyt_profile::total;
+use transyt_stage::{fill_go, give_way};
+use transyt_steps::Steps;
+use transyt_stopline::{cut_arrivals, queue, stopped};
+
+/// Works out one link at one sweep, from the rows that it reads. It takes no memory.
+///
+/// What comes, what can go, the queue, what leaves and the figures are left in `scratch`, whatever the sweep. It is
+/// one step of the counter. The queue at the stop line is from LR 253; the order of the sweeps, the cut and the rule of
+/// giving way are this project's own.
+pub fn cell<L: Ledger>(
+    net: &Net,
+    link: usize,
+    sweep: u32,
+    rows: &Rows,
+    scratch: &mut Scratch,
+    steps: &mut Steps<L>,
+)
+    requires link { link < length net.now.links }
+    requires first { 1 ≤ sweep }
+    requires last { sweep ≤ net.now.frame.sweeps }
+    requires fits { Fits net.now rows.now }
+    requires step_count { length scratch.old.arrivals ≡ net.now.frame.step_count }
+    ensures value { scratch.new ≡ worked net.now (read_in rows.now sweep link) link }
+    ensures steps { steps.new ≡ steps.old + 1 }
+{
+    scratch.figures = work_out(
+        net,
+        link,
+        sweep,
+        rows,
+        &mut scratch.shared,
+        &mut scratch.brought,
+        &mut scratch.reaching,
+        &mut scratch.arrivals,
+        &mut scratch.go,
+        &mut scratch.queue,
+        &mut scratch.out,
+    );
+    steps.tick();
+}
+
+/// Works out the link at a place at a sweep, and returns its figures. `shared`, `brought` and `reaching` are room.
+fn work_out(
+    net: &Net,
+    link: usize,
+    sweep: u32,
+    rows: &Rows,
+    shared: &mut [u64],
+    brought: &mut [u64],
+    reaching: &mut [u64],
+    come: &mut [u64],
+    room: &mut [u64],
+    standing: &mut [u64],
+    leaving: &mut [u64],
+) -> Figures
+    requires link { link < length net.now.links }
+    requires sweep { sweep ≤ net.now.frame.sweeps }
+    requires fits { Fits net.now rows.now }
+    requires shared_len { length shared.old ≡ net.now.frame.step_count }
+    requires brought_len { length brought.old ≡ net.now.frame.step_count }
+    requires reaching_len { length reaching.old ≡ net.now.frame.step_count }
+    requires come_len { length come.old ≡ net.now.frame.step_count }
+    requires room_len { length room.old ≡ net.now.frame.step_count }
+    requires standing_len { length standing.old ≡ net.now.frame.step_count }
+    requires leaving_len { length leaving.old ≡ net.now.frame.step_count }
+    ensures come { come.new ≡ (worked net.now (read_in rows.now sweep link) link).arrivals }
+    ensures room { room.new ≡ (worked net.now (read_in rows.now sweep link) link).go }
+    ensures standing { standing.new ≡ (worked net.now (read_in rows.now sweep link) link).queue }
+    ensures leaving { leaving.new ≡ (worked net.now (read_in rows.now sweep link) link).out }
+    ensures figures { result ≡ (worked net.now (read_in rows.now sweep link) link).figures }
+    ensures small { All (λ v. v < 2 ^ 30) leaving.new }
+    ensures figures_small { AreSmall result }
+{
+    net.frame();
+    fill_inflow(net, link, sweep, rows, shared, brought, come);
+    fill_room(net, link, sweep, rows, room);
+    cut_arrivals(come, room, reaching);
+    queue(reaching, room, standing, leaving);
+    figures_at(net, link, come, room, reaching, standing)
+}
+
+/// Fills `out` with what can go of the link at a place: its green, and what its rule leaves of it.
+fn fill_room(net: &Net, link: usize, sweep: u32, rows: &Rows, out: &mut [u64])
+    requires link { link < length net.now.links }
+    requires sweep { sweep ≤ net.now.frame.sweeps }
+    requires fits { Fits net.now rows.now }
+    requires out_len { length out.old ≡ net.now.frame.step_count }
+    ensures value { out.new ≡ go net.now (read_in rows.now sweep link) link }
+    ensures small { All (λ v. v < 2 ^ 30) out.new }
+{
+    fill_go(net, link, out);
+    let at = link_at(net, link);
+    if let Some(rule) = at.gives_way {
+        let other = link_place(net, rule.other);
+        give_way(rows.read(sweep, link, other), rule.percent, out);
+    }
+}
+
+/// The figures of the link at a place: `come` comes and `go` can go, `reaching` reaches the stop line and `queue`
+/// stands there.
+fn figures_at(
+    net: &Net,
+    link: usize,
+    come: &[u64],
+    go: &[u64],
+    reaching: &[u64],
+    queue: &[u64],
+) -> Figures
+    requires link { link < length net.now.links }
+    requires come_len { length come.now ≡ net.now.frame.step_count }
+    requires go_len { length go.now ≡ net.now.frame.step_count }
+    requires come_small { All (λ v. v < 2 ^ 48) come.now }
+    requires go_small { All (λ v. v < 2 ^ 30) go.now }
+    requires reaching_small { All (λ v. v < 2 ^ 48) reaching.now }
+    requires queue_small { All (λ v. v < 2 ^ 37) queue.now }
+    requires reaching { reaching.now ≡ arrivals_of come.now go.now }
+    requires queue { queue.now ≡ queues reaching.now go.now }
+    requires reaching_len { length reaching.now ≡ net.now.frame.step_count }
+    requires queue_len { length queue.now ≡ net.now.frame.step_count }
+    ensures value { result ≡ figures (terms_of net.now link come.now go.now) }
+    ensures small { AreSmall result }
+{
+    let frame = net.frame();
+    let link = link_at(net, link);
+    let terms = Terms {
+        arrivals: total(come),
+        room: total(go),
+        queued: total(queue),
+        stopped: stopped(reaching, queue),
+        frame: TermsFrame {
+            cycle: frame.cycle,
+            step_count: frame.step_count,
+            period: frame.period,
+            stop_penalty: frame.stop_penalty,
+        },
+        delay_weight: link.delay_weight,
+        stop_weight: link.stop_weight,
+    };
+    figures_of(&terms)
+}
