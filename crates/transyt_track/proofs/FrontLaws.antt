@@ -1,0 +1,194 @@
+-- THE LAW OF THE FRONT: each turn keeps it.
+use Rattle.std.proofs.Common.{◌≡◌, ◌≢◌, ℕ, ◌+◌, ◌<◌, ◌≤◌, Bool, true, false, cond, not, ◌||◌, List, [], ◌∷◌, length, set, All, Option, Some, None, IfSome, refl, ap, sym, subst, ◌∙◌, arith}
+use Rattle.std.proofs.Common.{◌==◌, ◌⊎◌, inl, inr, if◌then◌else◌}
+use Rattle.std.specs.Str.{bytes_eq}
+use Rattle.std.specs.List.{list_any}
+use Rattle.std.proofs.lemmas.Bool.{cases_eq}
+use Rattle.std.proofs.lemmas.Bool.Decides.{nat_tests}
+use Rattle.std.proofs.lemmas.Slice.Eq.{bytes_eq-Decides}
+use Rattle.std.proofs.lemmas.List.{length-set, get_or-set_other}
+use Rattle.std.proofs.lemmas.List.Elements.{All-head, All-tail}
+use Rattle.std.proofs.lemmas.Grind.{get_or-set_at}
+use Rattle.transyt_net.specs.Parts.{Network}
+use Rattle.transyt_net.specs.Shape.{SameShape}
+use Rattle.transyt_parts.specs.declared.frame.Frame.{Frame}
+use Rattle.transyt_sweep.specs.Cell.{CellValue, HasSteps}
+use Rattle.transyt_sweep.specs.Sweeps.{out_of, read_at, read_of, worked_at, evaluated}
+use Rattle.transyt_sweep.specs.Rows.{RowsValue, out_at, shown_at, with_weights, reweighed, placed}
+use Rattle.transyt_sweep.specs.Rows.{AreRows}
+use Rattle.transyt_sweep.specs.Front.{AreMixed, AreEvaluation}
+use Rattle.transyt_sweep.proofs.SweepLaws.{out_of_pair, evaluated_is}
+use Rattle.transyt_sweep.proofs.StepLaws.{worked_steps}
+use Rattle.transyt_sweep.proofs.FrontLaws.{mixed_turn, before_end}
+use Rattle.transyt_track.specs.Own.{PlacesValue, places_at, own, same_own}
+use Rattle.transyt_track.specs.Due.{differs, read_differs, is_due, is_some_and}
+use Rattle.transyt_track.specs.Front.{AreShownMixed, flag, AreAt, left_at}
+use Rattle.transyt_track.proofs.PlacedLaws.{figures_here, figures_elsewhere}
+use Rattle.transyt_track.proofs.MixedLaws.{mixed_here, mixed_left, mixed_placed, mixed_figures, shown_moved, shown_now, shown_placed, shown_turn}
+use Rattle.transyt_track.proofs.DueLaws.{differs_is}
+use Rattle.transyt_track.proofs.LeftLaws.{left_out, left_worked}
+use Rattle.transyt_track.proofs.ShapeLaws.{shape_count, shape_frame}
+
+-- the link at the front is read at its sweep by the next one, any other as before
+read_here : (s l : ℕ) → read_at s (l + 1) l ≡ s
+read_here s l = grind (arith, nat_tests)
+
+read_other : (s l m : ℕ) → m ≢ l → read_at s (l + 1) m ≡ read_at s l m
+read_other s l m other = grind (arith, nat_tests)
+
+read_turn : (s links m : ℕ) → m < links → read_at s links m ≡ read_at (s + 1) 0 m
+read_turn s links m inside = grind (arith, nat_tests)
+
+same_test : (s sweeps : ℕ) → sweeps ≡ s → (s == sweeps) ≡ true
+same_test s sweeps same = grind (arith, nat_tests)
+
+other_test : (s sweeps : ℕ) → (sweeps ≡ s → ⊥) → (s == sweeps) ≡ false
+other_test s sweeps other = let apart : sweeps ≢ s = other in grind (arith, nat_tests)
+
+-- one flag more is set
+pub flag_more : (flags : List Bool) (l : ℕ) (d : Bool) (test : ℕ → Bool) → l < length flags
+    → ((m : ℕ) → m < l → flag flags m ≡ test m) → d ≡ test l → (m : ℕ) → m < l + 1 → flag (set flags l d) m ≡ test m
+flag_more flags l d test inside before is m within = by (cases_eq m l)
+  where
+    by : (m ≡ l) ⊎ (m ≡ l → ⊥) → flag (set flags l d) m ≡ test m
+    by (inl here) = get_or-set_at flags l m d false here inside ∙ is ∙ sym (ap test here)
+    by (inr other) =
+        let apart : m ≢ l = other in
+        get_or-set_other flags l m d false other ∙ before m (omega arith)
+
+any_flagged : (flags : List Bool) (test : ℕ → Bool) (count : ℕ)
+    → ((m : ℕ) → m < count → flag flags m ≡ test m) → (js : List ℕ) → All (λ j. j < count) js
+    → list_any (flag flags) js ≡ list_any test js
+any_flagged flags test count same [] all = refl
+any_flagged flags test count same (j ∷ js) all =
+    ap (λ b. b || list_any (flag flags) js) (same j (All-head (λ k. k < count) j js all))
+    ∙ ap (λ b. test j || b) (any_flagged flags test count same js (All-tail (λ k. k < count) j js all))
+
+one_flagged : (flags : List Bool) (test : ℕ → Bool) (count : ℕ)
+    → ((m : ℕ) → m < count → flag flags m ≡ test m) → (o : Option ℕ) → IfSome o (λ j. j < count)
+    → is_some_and (flag flags) o ≡ is_some_and test o
+one_flagged flags test count same None inside = refl
+one_flagged flags test count same (Some j) inside = same j inside
+
+module _ (a b : Network) (s l : ℕ) (rows : RowsValue) (changed : List Bool) (at : AreAt a b s l rows changed) where
+  -- what the flags say is whether the link at the front is due
+  pub flags_tell : (moved : Bool) (places : PlacesValue) → places ≡ places_at a l
+      → moved ≡ not (same_own (own a l) (own b l))
+      → All (λ j. j < length b.links) places.feeders → IfSome places.rule (λ j. j < length b.links)
+      → (moved || list_any (flag changed) places.feeders || is_some_and (flag changed) places.rule) ≡ is_due a b s l
+  flags_tell moved places is own_differs feeders rule =
+      ap (λ x. x || list_any (flag changed) places.feeders || is_some_and (flag changed) places.rule) own_differs
+      ∙ ap (λ x. not (same_own (own a l) (own b l)) || x || is_some_and (flag changed) places.rule)
+      (any_flagged changed (read_differs a b s l) (length b.links) at.flagged places.feeders feeders)
+      ∙ ap (λ x. not (same_own (own a l) (own b l)) || list_any (read_differs a b s l) places.feeders || x)
+      (one_flagged changed (read_differs a b s l) (length b.links) at.flagged places.rule rule)
+      ∙ ap (λ (p : PlacesValue). not (same_own (own a l) (own b l)) || list_any (read_differs a b s l) p.feeders || is_some_and (read_differs a b s l) p.rule) is
+
+  flags_put : (d : Bool) → d ≡ differs a b s l → (m : ℕ) → m < length b.links
+      → flag (set changed l d) m ≡ read_differs a b s (l + 1) m
+  flags_put d is m inside = by (cases_eq m l)
+    where
+      by : (m ≡ l) ⊎ (m ≡ l → ⊥) → flag (set changed l d) m ≡ read_differs a b s (l + 1) m
+      by (inl here) =
+          get_or-set_at changed l m d false here (omega (arith, at.count))
+          ∙ is
+          ∙ sym (ap (λ t. differs a b t l) (read_here s l))
+          ∙ sym (ap (read_differs a b s (l + 1)) here)
+      by (inr other) =
+          get_or-set_other changed l m d false other
+          ∙ at.flagged m inside
+          ∙ sym (ap (λ t. differs a b t m) (read_other s l m other))
+
+  -- at the end of a sweep the next begins
+  pub turned_sweep : length b.links ≡ l → AreAt a b (s + 1) 0 rows changed
+  turned_sweep all = record {
+    outs = mixed_turn b (out_of b) (out_of a) s l rows all at.outs;
+    shown = shown_turn b (evaluated b) (evaluated a) s l rows at.shown all;
+    count = at.count;
+    flagged = λ m inside. at.flagged m inside ∙ ap (λ t. differs a b t m) (read_turn s l m (omega (arith, inside, all)));
+  }
+
+  module _ (same : SameShape a b) (first : 1 ≤ s) (swept : s ≤ b.frame.sweeps) (inside : l < length b.links) where
+    -- the row at the front is that of a
+    pub row_before : out_at rows s l ≡ out_of a s l
+    row_before = mixed_here b (out_of b) (out_of a) s l rows at.outs swept inside
+
+    -- a link that is due is worked out
+    pub turned_worked : AreRows rows → (c : CellValue) → c ≡ worked_at b s l → (d : Bool)
+        → d ≡ not (bytes_eq (out_at rows s l) c.out)
+        → AreAt a b s (l + 1) (placed rows s l c) (set changed l d)
+    turned_worked kept c made d told =
+        let long : HasSteps b.frame.step_count c = subst (HasSteps b.frame.step_count) (sym made) (worked_steps b (read_of b s l) l) in
+        let out : c.out ≡ out_of b s l = ap (λ (v : CellValue). v.out) made ∙ sym (out_of_pair b s l first) in
+        record {
+          outs = mixed_placed b (out_of b) (out_of a) s l rows at.outs kept c swept inside long out;
+          shown = shown_placed b (evaluated b) (evaluated a) s l rows at.shown at.outs.fits kept c swept inside
+              (subst (λ n. HasSteps n c) (sym at.outs.fits.step_count) long)
+              (λ last. made ∙ ap (λ t. worked_at b t l) (sym last) ∙ sym (evaluated_is b l));
+          count = length-set changed l d ∙ at.count;
+          flagged = flags_put d (told ∙ ap (λ x. not (bytes_eq x c.out)) row_before ∙ ap (λ x. not (bytes_eq (out_of a s l) x)) out ∙ sym (differs_is a b s l));
+        }
+
+    module _ (none : is_due a b s l ≡ false) where
+      inside_before : l < length a.links
+      inside_before = omega (arith, shape_count a b same)
+
+      same_leaving : out_of a s l ≡ out_of b s l
+      same_leaving = left_out a b s l same inside_before none first
+
+      -- nothing of it differs
+      not_differs : false ≡ differs a b s l
+      not_differs =
+          sym (differs_is a b s l ∙ ap (λ x. not (bytes_eq x (out_of b s l))) same_leaving ∙ equal (out_of b s l))
+        where
+          equal : (xs : List ℕ) → not (bytes_eq xs xs) ≡ false
+          equal xs = ap not ((bytes_eq-Decides xs xs).1 refl)
+
+      weighed_here : b.frame.sweeps ≡ s → shown_at (with_weights rows b l) l ≡ evaluated b l
+      weighed_here last =
+          let now : shown_at rows l ≡ evaluated a l = shown_now b (evaluated b) (evaluated a) s l rows at.shown last inside in
+          let last_before : a.frame.sweeps ≡ s = ap (λ (f : Frame). f.sweeps) (shape_frame a b same) ∙ last in
+          figures_here rows l (reweighed b l (shown_at rows l).figures) (omega (arith, at.outs.fits.link_count))
+          ∙ ap (λ (v : CellValue). record v { figures = reweighed b l v.figures }) (now ∙ evaluated_is a l ∙ ap (λ t. worked_at a t l) last_before)
+          ∙ left_worked a b s l same inside_before none
+          ∙ ap (λ t. worked_at b t l) (sym last)
+          ∙ sym (evaluated_is b l)
+
+      -- a link that isn't due is left
+      pub turned_left : AreAt a b s (l + 1) (left_at b s l rows) (set changed l false)
+      turned_left = record {
+        outs = outs (s == b.frame.sweeps);
+        shown = shown (cases_eq b.frame.sweeps s);
+        count = length-set changed l false ∙ at.count;
+        flagged = flags_put false not_differs;
+      }
+        where
+          outs : (w : Bool) → AreMixed b (out_of b) (out_of a) s (l + 1) (if w then with_weights rows b l else rows)
+          outs true =
+              mixed_figures b (out_of b) (out_of a) s (l + 1) rows
+              (mixed_left b (out_of b) (out_of a) s l rows at.outs (sym same_leaving)) l (reweighed b l (shown_at rows l).figures)
+          outs false = mixed_left b (out_of b) (out_of a) s l rows at.outs (sym same_leaving)
+
+          shown : (b.frame.sweeps ≡ s) ⊎ (b.frame.sweeps ≡ s → ⊥)
+              → AreShownMixed b (evaluated b) (evaluated a) s (l + 1) (left_at b s l rows)
+          shown (inl last) =
+              let test : (s == b.frame.sweeps) ≡ true = same_test s b.frame.sweeps last in
+              subst (λ w. AreShownMixed b (evaluated b) (evaluated a) s (l + 1) (if w then with_weights rows b l else rows)) (sym test)
+              (shown_moved b (evaluated b) (evaluated a) s l rows at.shown (with_weights rows b l) inside
+              weighed_here
+              (λ k there apart. figures_elsewhere rows l (reweighed b l (shown_at rows l).figures) k (λ e. apart last e)))
+          shown (inr earlier) =
+              let test : (s == b.frame.sweeps) ≡ false = other_test s b.frame.sweeps earlier in
+              subst (λ w. AreShownMixed b (evaluated b) (evaluated a) s (l + 1) (if w then with_weights rows b l else rows)) (sym test)
+              (shown_moved b (evaluated b) (evaluated a) s l rows at.shown rows inside (λ last. absurd (earlier last)) (λ k there apart. refl))
+
+-- after the last sweep the rows are the evaluation
+pub ended : (a b : Network) (rows : RowsValue) (changed : List Bool) → AreAt a b (b.frame.sweeps + 1) 0 rows changed
+    → AreEvaluation b rows
+ended a b rows changed at = record {
+  fits = at.outs.fits;
+  outs = λ s l swept inside. at.outs.outs s l swept inside
+      ∙ ap (λ w. cond w (out_of b s l) (out_of a s l)) (before_end s l b.frame.sweeps swept);
+  shown = λ l inside. at.shown.shown l inside
+      ∙ ap (λ w. cond w (evaluated b l) (evaluated a l)) (before_end b.frame.sweeps l b.frame.sweeps (omega arith));
+}

@@ -1,0 +1,69 @@
+-- A link that isn't due leaves what it left; its figures are weighed anew.
+use Rattle.std.proofs.Common.{◌≡◌, ℕ, ◌<◌, ◌≤◌, false, List, length, sum, ap, sym, ◌∙◌}
+use Rattle.transyt_delay.specs.declared.figures.Figures.{Figures}
+use Rattle.transyt_delay.specs.Figures.{figures}
+use Rattle.transyt_stopline.specs.Cut.{arrivals_of}
+use Rattle.transyt_stopline.specs.Queue.{queues}
+use Rattle.transyt_stopline.specs.Stops.{stopped_of}
+use Rattle.transyt_parts.specs.declared.frame.Frame.{Frame}
+use Rattle.transyt_net.specs.Parts.{Network, link_of}
+use Rattle.transyt_net.specs.Shape.{SameShape}
+use Rattle.transyt_sweep.specs.Cell.{CellValue, inflow, go, terms_frame, terms_of, cell_of}
+use Rattle.transyt_sweep.specs.Sweeps.{out_of, read_of, worked_at, evaluated}
+use Rattle.transyt_sweep.specs.Rows.{reweighed}
+use Rattle.transyt_sweep.proofs.SweepLaws.{out_of_pair, evaluated_is}
+use Rattle.transyt_track.specs.Due.{is_due}
+use Rattle.transyt_track.proofs.DataLaws.{SameData, inflow_same, go_same}
+use Rattle.transyt_track.proofs.OwnLaws.{same_data}
+use Rattle.transyt_track.proofs.ShapeLaws.{shape_frame}
+use Rattle.transyt_track.proofs.DueLaws.{own_equal, reads_equal}
+
+abbrev figures_by : Frame → ℕ → ℕ → List ℕ → List ℕ → Figures
+figures_by frame delay_weight stop_weight come room = figures (record {
+  arrivals = sum come;
+  room = sum room;
+  queued = sum (queues (arrivals_of come room) room);
+  stopped = stopped_of (arrivals_of come room) (queues (arrivals_of come room) room);
+  frame = terms_frame frame;
+  delay_weight = delay_weight;
+  stop_weight = stop_weight;
+})
+
+-- by the same frame, weights alone make a difference
+figures_weighed : (a b : Network) (l : ℕ) → a.frame ≡ b.frame → (come room : List ℕ)
+    → reweighed b l (figures (terms_of a l come room)) ≡ figures (terms_of b l come room)
+figures_weighed a b l frame come room =
+    ap (λ (f : Frame). reweighed b l (figures_by f (link_of a l).delay_weight (link_of a l).stop_weight come room)) frame
+
+-- an evaluation weighed anew stays
+pub weighed_self : (net : Network) (l : ℕ)
+    → record (evaluated net l) { figures = reweighed net l (evaluated net l).figures } ≡ evaluated net l
+weighed_self net l =
+    ap (λ (c : CellValue). record c { figures = reweighed net l c.figures }) (evaluated_is net l) ∙ sym (evaluated_is net l)
+
+module _ (a b : Network) (s l : ℕ) (same : SameShape a b) (inside : l < length a.links)
+    (none : is_due a b s l ≡ false) where
+  data_same : SameData a b l
+  data_same = same_data a b l same inside (own_equal a b s l none)
+
+  come_same : inflow a (read_of a s l) l ≡ inflow b (read_of b s l) l
+  come_same = inflow_same a b l (read_of a s l) (read_of b s l) data_same (reads_equal a b s l none)
+
+  room_same : go a (read_of a s l) l ≡ go b (read_of b s l) l
+  room_same = go_same a b l (read_of a s l) (read_of b s l) data_same (reads_equal a b s l none)
+
+  -- its work is the same, but for its weights
+  pub left_worked : record (worked_at a s l) { figures = reweighed b l (worked_at a s l).figures } ≡ worked_at b s l
+  left_worked =
+      let come : List ℕ = inflow a (read_of a s l) l in
+      let room : List ℕ = go a (read_of a s l) l in
+      let weighed : reweighed b l (figures (terms_of a l come room)) ≡ figures (terms_of b l come room) =
+      figures_weighed a b l (shape_frame a b same) come room in
+      ap (λ (f : Figures). record (cell_of a l come room) { figures = f }) weighed
+      ∙ ap (λ c. cell_of b l c room) come_same
+      ∙ ap (cell_of b l (inflow b (read_of b s l) l)) room_same
+
+  -- so it leaves what it left
+  pub left_out : 1 ≤ s → out_of a s l ≡ out_of b s l
+  left_out first =
+      out_of_pair a s l first ∙ ap (λ (c : CellValue). c.out) left_worked ∙ sym (out_of_pair b s l first)

@@ -1,0 +1,16 @@
+pub mod WorkedLaws
+pub mod DataLaws
+pub mod OwnLaws
+pub mod ShapeLaws
+pub mod PlaceLaws
+pub mod PlacedLaws
+pub mod MixedLaws
+pub mod DueLaws
+pub mod DueBounds
+pub mod LeftLaws
+pub mod FrontLaws
+pub mod StartLaws
+pub mod SavedLaws
+pub mod BackLaws
+pub mod TrackLaws
+pub mod RuleLaws

@@ -1,0 +1,108 @@
+-- The node of a link stands at its place.
+use Rattle.std.proofs.Common.{◌≡◌, ℕ, ◌<◌, true, false, List, [], ◌∷◌, ◌++◌, ◌+◌, take, length, Option, Some, None, map, All, IfSome, refl, ap, sym, subst, ◌∙◌, get_or, nat_eq, ◌≤◌, arith}
+use Rattle.std.proofs.lemmas.List.FromFn.{length-map-range_with_len, get_or-map-range_with_len}
+use Rattle.std.specs.List.{position_or_len}
+use Rattle.std.proofs.lemmas.List.{get_or_default, map-append, take_more}
+use Rattle.std.proofs.lemmas.List.Folds.{list_any_none}
+use Rattle.std.proofs.lemmas.List.Sums.{fails_before_first}
+use Rattle.std.proofs.lemmas.Grind.{common_steps}
+use Rattle.std.proofs.lemmas.List.Elements.{All-nil, All-cons}
+use Rattle.transyt_parts.specs.declared.link.Feed.{Feed}
+use Rattle.transyt_parts.specs.declared.link.GiveWay.{GiveWay}
+use Rattle.transyt_sweep.proofs.ReadLaws.{link_place-lt}
+use Rattle.transyt_parts.specs.Parts.{NodeValue}
+use Rattle.transyt_parts.specs.Valid.{node_number}
+use Rattle.transyt_net.specs.Parts.{Network, link_of, node_of, no_link, no_node}
+use Rattle.transyt_net.specs.Edits.{the_node, node_in}
+use Rattle.transyt_net.specs.Valid.{IsValid, place_of, node_numbers, is_among}
+use Rattle.transyt_net.proofs.PlaceLaws.{place_is, numbered_here}
+use Rattle.transyt_sweep.specs.Cell.{found_or_first}
+use Rattle.transyt_track.specs.Own.{node_place, feeder_place, rule_place, places_at, no_places, PlacesValue, all_places, ArePlaces}
+
+-- a number that is among these is found
+found_among : (ns : List ℕ) (number : ℕ) → is_among ns number ≡ true → place_of ns number ≡ None → ⊥
+found_among ns number among none =
+    let all : length ns ≤ position_or_len (nat_eq number) ns = grind (arith, common_steps) in
+    let absent : is_among ns number ≡ false =
+    list_any_none (nat_eq number) ns (λ k d h. fails_before_first (nat_eq number) ns k d (omega arith)) in
+    absurd (cc)
+
+node_at_place : (net : Network) (number : ℕ) → is_among (node_numbers net.nodes) number ≡ true
+    → (node_place net number < length net.nodes) × (the_node net number ≡ node_of net (node_place net number))
+node_at_place net number among = by (place_of (node_numbers net.nodes) number) refl
+  where
+    by : (o : Option ℕ) → place_of (node_numbers net.nodes) number ≡ o
+        → (found_or_first o < length net.nodes) × (the_node net number ≡ node_of net (found_or_first o))
+    by None at = absurd (found_among (node_numbers net.nodes) number among at)
+    by (Some p) at =
+        let place = place_is node_number net.nodes number p at in
+        (place.inside, ap node_in (numbered_here node_number net.nodes number p no_node place))
+
+-- in a valid network each link's node stands at its place
+node_here : (net : Network) (l : ℕ) → IsValid net → l < length net.links
+    → ((places_at net l).node < length net.nodes)
+    × (the_node net (link_of net l).node ≡ node_of net (places_at net l).node)
+node_here net l valid inside =
+    let link = valid.sound.links l no_link inside in
+    node_at_place net (link_of net l).node link.node
+
+pub node_inside : (net : Network) (l : ℕ) (places : PlacesValue) → IsValid net → l < length net.links
+    → places ≡ places_at net l → places.node < length net.nodes
+node_inside net l places valid inside is =
+    let here = node_here net l valid inside in
+    omega (arith, here.0, ap (λ (p : PlacesValue). p.node) is)
+
+pub node_stands : (net : Network) (l : ℕ) (places : PlacesValue) → IsValid net → l < length net.links
+    → places ≡ places_at net l → (n : NodeValue) → n ≡ get_or net.nodes places.node n
+    → n ≡ the_node net (link_of net l).node
+node_stands net l places valid inside is n at =
+    let here = node_here net l valid inside in
+    let p : places.node ≡ (places_at net l).node = ap (λ (q : PlacesValue). q.node) is in
+    let there : places.node < length net.nodes = node_inside net l places valid inside is in
+    at ∙ get_or_default net.nodes places.node n no_node there ∙ ap (node_of net) p ∙ sym here.1
+
+-- the table of all places
+pub all_places_are : (net : Network) → ArePlaces net (all_places net)
+all_places_are net = record {
+  count = length-map-range_with_len (places_at net) 0 (length net.links);
+  at = λ l inside. get_or-map-range_with_len (places_at net) 0 (length net.links) l l no_places inside (omega arith);
+}
+
+all_inside : (net : Network) → 0 < length net.links → (feeds : List Feed)
+    → All (λ j. j < length net.links) (map (feeder_place net) feeds)
+all_inside net some [] = All-nil (λ j. j < length net.links)
+all_inside net some (f ∷ fs) =
+    All-cons (λ j. j < length net.links) (feeder_place net f) (map (feeder_place net) fs) (link_place-lt net f.feeder some)
+    (all_inside net some fs)
+
+-- what a link reads is a link
+pub feeders_inside : (net : Network) (l count : ℕ) (places : PlacesValue) → 0 < length net.links
+    → length net.links ≡ count → places ≡ places_at net l → All (λ j. j < count) places.feeders
+feeders_inside net l count places some same is =
+    subst (λ n. All (λ j. j < n) places.feeders) same
+    (subst (λ (p : PlacesValue). All (λ j. j < length net.links) p.feeders) (sym is) (all_inside net some (link_of net l).feeds))
+
+rule_there : (net : Network) → 0 < length net.links → (rule : Option GiveWay)
+    → IfSome (rule_place net rule) (λ j. j < length net.links)
+rule_there net some None = tt
+rule_there net some (Some rule) = link_place-lt net rule.other some
+
+pub rule_inside : (net : Network) (l count : ℕ) (places : PlacesValue) → 0 < length net.links
+    → length net.links ≡ count → places ≡ places_at net l → IfSome places.rule (λ j. j < count)
+rule_inside net l count places some same is =
+    subst (λ n. IfSome places.rule (λ j. j < n)) same
+    (subst (λ (p : PlacesValue). IfSome p.rule (λ j. j < length net.links)) (sym is) (rule_there net some (link_of net l).gives_way))
+
+-- what was read of the table at a place is the place's
+pub place_read : (net : Network) (table : List PlacesValue) (l : ℕ) (p : PlacesValue) → ArePlaces net table
+    → l < length net.links → p ≡ get_or table l p → p ≡ places_at net l
+place_read net table l p all inside at =
+    at ∙ get_or_default table l p no_places (omega (arith, all.count)) ∙ all.at l inside
+
+-- a list of values of the first elements, with one more
+pub map_more : {A : Type 0} {B : Type 0} (f : A → B) (xs : List A) (i : ℕ) (d : A) (y : B) → i < length xs
+    → y ≡ f (get_or xs i d) → map f (take i xs) ++ y ∷ [] ≡ map f (take (i + 1) xs)
+map_more f xs i d y inside is =
+    ap (λ z. map f (take i xs) ++ z ∷ []) is
+    ∙ sym (map-append f (take i xs) (get_or xs i d ∷ []))
+    ∙ sym (ap (map f) (take_more xs i d inside))

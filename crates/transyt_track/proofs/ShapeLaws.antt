@@ -1,0 +1,77 @@
+-- What networks of one shape share.
+use Rattle.std.proofs.Common.{◌≡◌, ℕ, ◌<◌, List, [], ◌∷◌, length, map, Option, Some, None, refl, ap, ◌∙◌, arith}
+use Rattle.transyt_parts.specs.declared.link.Feed.{Feed}
+use Rattle.transyt_parts.specs.declared.link.GiveWay.{GiveWay}
+use Rattle.transyt_parts.specs.Parts.{NodeValue, LinkValue}
+use Rattle.transyt_parts.specs.Shape.{bare_node, bare_feed, bare_link}
+use Rattle.transyt_parts.specs.Valid.{node_number}
+use Rattle.transyt_parts.proofs.CopyLaws.{same_length}
+use Rattle.transyt_net.specs.Parts.{Network, link_of}
+use Rattle.transyt_net.specs.Shape.{SameShape}
+use Rattle.transyt_net.specs.Valid.{place_of}
+use Rattle.transyt_sweep.specs.Cell.{found_or_first, link_place}
+use Rattle.transyt_track.specs.Own.{feeder_place, rule_place, node_place, places_at, ArePlaces, PlacesValue}
+use Rattle.transyt_track.proofs.OwnLaws.{numbers_same, bare_at}
+
+node_numbers_same : (xs ys : List NodeValue) → map bare_node xs ≡ map bare_node ys
+    → map node_number xs ≡ map node_number ys
+node_numbers_same [] [] h = refl
+node_numbers_same [] (y ∷ ys) h = absurd (cc)
+node_numbers_same (x ∷ xs) [] h = absurd (cc)
+node_numbers_same (x ∷ xs) (y ∷ ys) h =
+    let bare : bare_node x ≡ bare_node y = cc in
+    let rest : map bare_node xs ≡ map bare_node ys = cc in
+    (λ j. ap (λ (n : NodeValue). n.number) bare j ∷ node_numbers_same xs ys rest j)
+
+feeder_places_same : (a b : Network) → ((number : ℕ) → link_place a number ≡ link_place b number)
+    → (fs gs : List Feed) → map bare_feed fs ≡ map bare_feed gs
+    → map (feeder_place a) fs ≡ map (feeder_place b) gs
+feeder_places_same a b place [] [] h = refl
+feeder_places_same a b place [] (g ∷ gs) h = absurd (cc)
+feeder_places_same a b place (f ∷ fs) [] h = absurd (cc)
+feeder_places_same a b place (f ∷ fs) (g ∷ gs) h =
+    let bare : bare_feed f ≡ bare_feed g = cc in
+    let rest : map bare_feed fs ≡ map bare_feed gs = cc in
+    let here : feeder_place a f ≡ feeder_place b g =
+    place f.feeder ∙ ap (λ (x : Feed). link_place b x.feeder) bare in
+    (λ j. here j ∷ feeder_places_same a b place fs gs rest j)
+
+rule_place_same : (a b : Network) → ((number : ℕ) → link_place a number ≡ link_place b number)
+    → (rule : Option GiveWay) → rule_place a rule ≡ rule_place b rule
+rule_place_same a b place None = refl
+rule_place_same a b place (Some rule) = ap (λ p. Some p) (place rule.other)
+
+module _ (a b : Network) (same : SameShape a b) where
+  pub shape_frame : a.frame ≡ b.frame
+  shape_frame = ap (λ (n : Network). n.frame) same
+
+  pub shape_count : length a.links ≡ length b.links
+  shape_count = same_length bare_link a.links b.links (ap (λ (n : Network). n.links) same)
+
+  pub shape_link_place : (number : ℕ) → link_place a number ≡ link_place b number
+  shape_link_place number =
+      ap (λ ns. found_or_first (place_of ns number)) (numbers_same a.links b.links (ap (λ (n : Network). n.links) same))
+
+  shape_node_place : (number : ℕ) → node_place a number ≡ node_place b number
+  shape_node_place number =
+      ap (λ ns. found_or_first (place_of ns number)) (node_numbers_same a.nodes b.nodes (ap (λ (n : Network). n.nodes) same))
+
+  -- the places of their links
+  pub shape_places : (l : ℕ) → l < length a.links → places_at a l ≡ places_at b l
+  shape_places l inside =
+      let bare : bare_link (link_of a l) ≡ bare_link (link_of b l) =
+      bare_at a.links b.links l (ap (λ (n : Network). n.links) same) inside in
+      let node : node_place a (link_of a l).node ≡ node_place b (link_of b l).node =
+      shape_node_place (link_of a l).node ∙ ap (λ (x : LinkValue). node_place b x.node) bare in
+      let feeders = feeder_places_same a b shape_link_place (link_of a l).feeds (link_of b l).feeds
+      (ap (λ (x : LinkValue). x.feeds) bare) in
+      let rule : rule_place a (link_of a l).gives_way ≡ rule_place b (link_of b l).gives_way =
+      rule_place_same a b shape_link_place (link_of a l).gives_way ∙ ap (λ (x : LinkValue). rule_place b x.gives_way) bare in
+      (λ j. record { node = node j; feeders = feeders j; rule = rule j })
+
+  -- so a table of places serves both
+  pub shape_table : (places : List PlacesValue) → ArePlaces a places → ArePlaces b places
+  shape_table places all = record {
+    count = all.count ∙ shape_count;
+    at = λ l inside. all.at l (omega (arith, shape_count)) ∙ shape_places l (omega (arith, shape_count));
+  }

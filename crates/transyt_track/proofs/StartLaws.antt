@@ -1,0 +1,140 @@
+-- Before the first sweep: the links whose total flow lets another profile go are started anew.
+use Rattle.std.proofs.Common.{◌≡◌, ◌≢◌, ℕ, ◌+◌, ◌<◌, ◌≤◌, Bool, true, false, cond, not, List, length, set, get_or, refl, ap, sym, ◌∙◌, arith, nat_eq}
+use Rattle.std.proofs.Common.{◌⊎◌, inl, inr}
+use Rattle.std.specs.Str.{bytes_eq}
+use Rattle.std.specs.Cmp.Lexicographic.{same_text}
+use Rattle.std.proofs.lemmas.Slice.Eq.{bytes_eq-Decides}
+use Rattle.std.proofs.lemmas.Bool.{cases_eq}
+use Rattle.std.proofs.lemmas.Bool.Decides.{nat_tests}
+use Rattle.std.proofs.lemmas.List.{length-set, length-replicate, get_or-replicate, get_or-set_other}
+use Rattle.std.proofs.lemmas.Grind.{get_or-set_at}
+use Rattle.transyt_profile.specs.Profile.{uniform}
+use Rattle.transyt_parts.specs.declared.frame.Frame.{Frame}
+use Rattle.transyt_parts.specs.Flow.{total_flow}
+use Rattle.transyt_net.specs.Parts.{Network, link_of}
+use Rattle.transyt_net.specs.Shape.{SameShape}
+use Rattle.transyt_net.specs.Flow.{perstep}
+use Rattle.transyt_sweep.specs.Sweeps.{out_of, start, read_at, evaluated}
+use Rattle.transyt_sweep.specs.Rows.{RowsValue, shown_at, with_out, AreRows}
+use Rattle.transyt_sweep.specs.Front.{AreEvaluation}
+use Rattle.transyt_sweep.proofs.SweepLaws.{out_of_start}
+use Rattle.transyt_sweep.proofs.PairLaws.{out_elsewhere}
+use Rattle.transyt_sweep.proofs.FrontLaws.{mixed_put, mixed_turn, not_before_first}
+use Rattle.transyt_track.specs.Due.{differs}
+use Rattle.transyt_track.specs.Front.{flag, AreAt, AreStarting}
+use Rattle.transyt_track.proofs.MixedLaws.{mixed_left, shown_moved, shown_turn}
+use Rattle.transyt_track.proofs.DueLaws.{same_out, differs_is}
+use Rattle.transyt_track.proofs.ShapeLaws.{shape_count, shape_frame}
+
+read_first : (m : ℕ) → read_at 1 0 m ≡ 0
+read_first m = grind (arith, nat_tests)
+
+-- two uniform profiles differ where their values do
+uniform_told : (n x y : ℕ) → 1 ≤ n → bytes_eq (uniform n x) (uniform n y) ≡ nat_eq x y
+uniform_told n x y some = by (cases_eq x y) (bytes_eq (uniform n x) (uniform n y)) refl
+  where
+    by : (x ≡ y) ⊎ (x ≡ y → ⊥) → (b : Bool) → bytes_eq (uniform n x) (uniform n y) ≡ b → b ≡ nat_eq x y
+    by (inl same) b e =
+        let test : nat_eq x y ≡ true = grind (arith, nat_tests) in
+        sym e ∙ (bytes_eq-Decides (uniform n x) (uniform n y)).1 (ap (uniform n) same) ∙ sym test
+    by (inr other) true e =
+        let value : get_or (uniform n x) 0 0 ≡ get_or (uniform n y) 0 0 =
+        ap (λ xs. get_or xs 0 0) (same_text (uniform n x) (uniform n y) (sym e)) in
+        absurd (other (sym (get_or-replicate n 0 x 0 (omega arith)) ∙ value ∙ get_or-replicate n 0 y 0 (omega arith)))
+    by (inr other) false e = let apart : x ≢ y = other in grind (arith, nat_tests)
+
+module _ (a b : Network) (same : SameShape a b) where
+  -- whether what leaves link l before the first sweep differs
+  pub start_differs : (l : ℕ) → 1 ≤ b.frame.step_count
+      → not (nat_eq (perstep a.frame (total_flow (link_of a l))) (perstep b.frame (total_flow (link_of b l)))) ≡ differs a b 0 l
+  start_differs l some =
+      let steps : a.frame.step_count ≡ b.frame.step_count = ap (λ (f : Frame). f.step_count) (shape_frame a b same) in
+      sym (differs_is a b 0 l
+      ∙ ap (λ xs. not (bytes_eq xs (out_of b 0 l))) (out_of_start a l)
+      ∙ ap (λ xs. not (bytes_eq (start a l) xs)) (out_of_start b l)
+      ∙ ap (λ n. not (bytes_eq (uniform n (perstep a.frame (total_flow (link_of a l)))) (start b l))) steps
+      ∙ ap not (uniform_told b.frame.step_count (perstep a.frame (total_flow (link_of a l))) (perstep b.frame (total_flow (link_of b l))) some))
+
+  -- before any link is started
+  pub started_none : (rows : RowsValue) (changed : List Bool) → AreEvaluation a rows → length changed ≡ length b.links
+      → AreStarting a b 0 rows changed
+  started_none rows changed evaluation count = record {
+    outs = record {
+      fits = record {
+        step_count = evaluation.fits.step_count ∙ ap (λ (f : Frame). f.step_count) (shape_frame a b same);
+        sweeps = evaluation.fits.sweeps ∙ sweeps;
+        link_count = evaluation.fits.link_count ∙ shape_count a b same;
+      };
+      outs = λ t k within there.
+          evaluation.outs t k (omega (arith, sweeps)) (omega (arith, shape_count a b same))
+          ∙ sym (ap (λ w. cond w (out_of b t k) (out_of a t k)) (not_before_first t k 0 (omega arith)));
+    };
+    shown = record {
+      shown = λ k there.
+          evaluation.shown k (omega (arith, shape_count a b same))
+          ∙ sym (ap (λ w. cond w (evaluated b k) (evaluated a k)) (not_before_first b.frame.sweeps k 0 (omega arith)));
+    };
+    count = count;
+    flagged = λ m none. absurd (omega arith);
+  }
+    where
+      sweeps : a.frame.sweeps ≡ b.frame.sweeps
+      sweeps = ap (λ (f : Frame). f.sweeps) (shape_frame a b same)
+
+  module _ (l : ℕ) (rows : RowsValue) (changed : List Bool) (starting : AreStarting a b l rows changed)
+      (inside : l < length b.links) (some : 1 ≤ b.frame.sweeps) where
+    flags_more : (d : Bool) → d ≡ differs a b 0 l → (m : ℕ) → m < l + 1 → flag (set changed l d) m ≡ differs a b 0 m
+    flags_more d is m before = by (cases_eq m l)
+      where
+        by : (m ≡ l) ⊎ (m ≡ l → ⊥) → flag (set changed l d) m ≡ differs a b 0 m
+        by (inl here) =
+            get_or-set_at changed l m d false here (omega (arith, starting.count)) ∙ is ∙ sym (ap (differs a b 0) here)
+        by (inr other) =
+            let apart : m ≢ l = other in
+            get_or-set_other changed l m d false other ∙ starting.flagged m (omega arith)
+
+    shown_out : (k : ℕ) → k < length b.links → AreRows rows
+        → shown_at (with_out rows 0 l (start b l)) k ≡ shown_at rows k
+    shown_out k there kept =
+        let out = out_elsewhere rows kept 0 l (start b l) (omega arith) (omega (arith, starting.outs.fits.link_count))
+        (length-replicate b.frame.step_count _ ∙ sym starting.outs.fits.step_count) rows.sweeps k
+        (omega (arith, starting.outs.fits.link_count)) (λ e _. absurd (omega (arith, e, starting.outs.fits.sweeps))) in
+        (λ j. record {
+          arrivals = (shown_at rows k).arrivals;
+          go = (shown_at rows k).go;
+          queue = (shown_at rows k).queue;
+          out = out j;
+          figures = (shown_at rows k).figures;
+        })
+
+    -- one link more, which is started where it differs
+    pub started_put : AreRows rows → differs a b 0 l ≡ true
+        → AreStarting a b (l + 1) (with_out rows 0 l (start b l)) (set changed l true)
+    started_put kept moves = record {
+      outs = mixed_put b (out_of b) (out_of a) 0 l rows starting.outs kept (start b l) (omega arith) inside
+          (length-replicate b.frame.step_count _) (sym (out_of_start b l));
+      shown = shown_moved b (evaluated b) (evaluated a) 0 l rows starting.shown (with_out rows 0 l (start b l)) inside
+          (λ last. absurd (omega (arith, last))) (λ k there _. shown_out k there kept);
+      count = length-set changed l true ∙ starting.count;
+      flagged = flags_more true (sym moves);
+    }
+
+    -- and else left
+    pub started_left : differs a b 0 l ≡ false → AreStarting a b (l + 1) rows (set changed l false)
+    started_left none = record {
+      outs = mixed_left b (out_of b) (out_of a) 0 l rows starting.outs (sym (same_out a b 0 l none));
+      shown = shown_moved b (evaluated b) (evaluated a) 0 l rows starting.shown rows inside
+          (λ last. absurd (omega (arith, last))) (λ k there _. refl);
+      count = length-set changed l false ∙ starting.count;
+      flagged = flags_more false (sym none);
+    }
+
+  -- behind the last link the first sweep begins
+  pub started_end : (l : ℕ) (rows : RowsValue) (changed : List Bool) → length b.links ≡ l
+      → AreStarting a b l rows changed → AreAt a b 1 0 rows changed
+  started_end l rows changed all starting = record {
+    outs = mixed_turn b (out_of b) (out_of a) 0 l rows all starting.outs;
+    shown = shown_turn b (evaluated b) (evaluated a) 0 l rows starting.shown all;
+    count = starting.count;
+    flagged = λ m inside. starting.flagged m (omega (arith, all)) ∙ sym (ap (λ t. differs a b t m) (read_first m));
+  }

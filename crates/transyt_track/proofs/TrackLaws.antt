@@ -1,0 +1,136 @@
+-- What a tracker keeps to stays.
+use Rattle.std.proofs.Common.{◌≡◌, ℕ, ◌+◌, ◌*◌, ◌<◌, ◌≤◌, Bool, true, false, List, length, replicate, get_or, None, IsSome, refl, ap, sym, subst, ◌∙◌, arith}
+use Rattle.std.proofs.Common.{◌⊎◌, inl, inr, if◌then◌else◌}
+use Rattle.std.proofs.lemmas.Bool.{cases_lt}
+use Rattle.std.proofs.lemmas.List.{get_or-replicate, length-replicate}
+use Rattle.std.proofs.Math.ListN.{get_or-eq_default}
+use Rattle.transyt_parts.specs.declared.frame.Frame.{Frame}
+use Rattle.transyt_net.specs.Parts.{Network}
+use Rattle.transyt_net.specs.Shape.{shape, SameShape}
+use Rattle.transyt_sweep.specs.Cell.{CellValue}
+use Rattle.transyt_sweep.specs.Rows.{RowsValue, Fits, out_at, shown_at}
+use Rattle.transyt_sweep.specs.Front.{AreEvaluation}
+use Rattle.transyt_track.specs.Own.{PlacesValue, ArePlaces, all_places}
+use Rattle.transyt_track.specs.Front.{unweighed}
+use Rattle.transyt_track.specs.Saved.{SavedValue, is_saved, begun, settled, Carries}
+use Rattle.transyt_track.specs.Tracker.{mark_of, IsTracking}
+use Rattle.transyt_track.proofs.ShapeLaws.{shape_frame, shape_count, shape_table}
+use Rattle.transyt_track.proofs.PlaceLaws.{all_places_are}
+use Rattle.transyt_track.proofs.SavedLaws.{back_carried}
+
+-- rows that fit one network fit each of its shape
+pub fits_shape : (a b : Network) → SameShape a b → (rows : RowsValue) → Fits a rows → Fits b rows
+fits_shape a b same rows fits = record {
+  step_count = fits.step_count ∙ ap (λ (f : Frame). f.step_count) (shape_frame a b same);
+  sweeps = fits.sweeps ∙ ap (λ (f : Frame). f.sweeps) (shape_frame a b same);
+  link_count = fits.link_count ∙ shape_count a b same;
+}
+
+-- an open mark tells so
+pub live_of : (live : Bool) (marked : Network) → IsSome (mark_of live marked) → live ≡ true
+live_of true marked some = refl
+live_of false marked none = absurd (cc)
+
+-- and no mark too
+pub not_live_of : (live : Bool) (marked : Network) → mark_of live marked ≡ None → live ≡ false
+not_live_of true marked e = absurd (cc)
+not_live_of false marked e = refl
+
+no_flag : (n p : ℕ) → get_or (replicate n false) p false ≡ false
+no_flag n p = by (cases_lt p n)
+  where
+    by : (p < n) ⊎ (n ≤ p) → get_or (replicate n false) p false ≡ false
+    by (inl inside) = get_or-replicate n p false false inside
+    by (inr past) = get_or-eq_default (replicate n false) false (omega (arith, length-replicate n false))
+
+-- nothing is saved when a mark is set
+none_saved : (saved : SavedValue) (t k : ℕ) → is_saved (begun saved) t k ≡ false
+none_saved saved t k = no_flag (length saved.flags) (t * saved.link_count + k)
+
+-- a new tracker
+pub opened_tracks : (net marked : Network) (rows : RowsValue) (saved : SavedValue) (places : List PlacesValue)
+    (own_changed changed : List Bool) (scratch : CellValue) → marked ≡ net → AreEvaluation net rows → saved.live ≡ false
+    → Fits net saved.rows → saved.link_count ≡ length net.links → places ≡ all_places net
+    → length own_changed ≡ length net.links → length changed ≡ length net.links
+    → length scratch.arrivals ≡ net.frame.step_count → IsTracking net marked rows saved places own_changed changed scratch
+opened_tracks net marked rows saved places own_changed changed scratch copied evaluation none fits links all own_len changed_len steps = record {
+  shape = sym (ap shape copied);
+  evaluation = evaluation;
+  fits = record {
+    size = record {
+      step_count = fits.step_count ∙ sym evaluation.fits.step_count;
+      sweeps = fits.sweeps ∙ sym evaluation.fits.sweeps;
+      link_count = fits.link_count ∙ sym evaluation.fits.link_count;
+    };
+    links = links ∙ sym evaluation.fits.link_count;
+  };
+  back = record { outs = λ live t k within there. absurd (cc); shown = λ live k there. absurd (cc) };
+  table = subst (ArePlaces net) (sym all) (all_places_are net);
+  own_count = own_len;
+  changed_count = changed_len;
+  steps = steps;
+}
+
+module _ (net marked : Network) (rows : RowsValue) (saved : SavedValue) (places : List PlacesValue)
+    (own_changed changed : List Bool) (scratch : CellValue) (tracking : IsTracking net marked rows saved places own_changed changed scratch) where
+  -- the rows have gone over to another network
+  pub followed_tracks : (after : Network) → SameShape net after → (rows1 : RowsValue) (saved1 : SavedValue)
+      (own_changed1 changed1 : List Bool) (scratch1 : CellValue) → AreEvaluation after rows1 → Carries rows saved rows1 saved1
+      → length own_changed1 ≡ length after.links → length changed1 ≡ length after.links
+      → length scratch1.arrivals ≡ after.frame.step_count
+      → IsTracking after marked rows1 saved1 places own_changed1 changed1 scratch1
+  followed_tracks after same rows1 saved1 own_changed1 changed1 scratch1 evaluation carries own_len changed_len steps = record {
+    shape = sym same ∙ tracking.shape;
+    evaluation = evaluation;
+    fits = carries.fits;
+    back = back_carried marked rows saved rows1 saved1 (fits_shape net marked tracking.shape rows tracking.evaluation.fits)
+        tracking.back carries;
+    table = shape_table net after same places tracking.table;
+    own_count = own_len;
+    changed_count = changed_len;
+    steps = steps;
+  }
+
+  -- a mark is set
+  pub begun_tracks : IsTracking net net rows (begun saved) places own_changed changed scratch
+  begun_tracks = record {
+    shape = refl;
+    evaluation = tracking.evaluation;
+    fits = record { size = tracking.fits.size; links = tracking.fits.links };
+    back = record {
+      outs = λ live t k within there.
+          ap (λ b. if b then out_at saved.rows t k else out_at rows t k) (none_saved saved t k)
+          ∙ tracking.evaluation.outs t k within there;
+      shown = λ live k there.
+          ap (λ b. unweighed (if b then shown_at saved.rows k else shown_at rows k)) (none_saved saved rows.sweeps k)
+          ∙ ap unweighed (tracking.evaluation.shown k there);
+    };
+    table = tracking.table;
+    own_count = tracking.own_count;
+    changed_count = tracking.changed_count;
+    steps = tracking.steps;
+  }
+
+  -- the rows have gone back to the marked network
+  pub restored_tracks : (rows1 : RowsValue) → AreEvaluation marked rows1
+      → IsTracking marked marked rows1 (settled saved) places own_changed changed scratch
+  restored_tracks rows1 evaluation =
+      let frame = shape_frame net marked tracking.shape in
+      let count = shape_count net marked tracking.shape in
+      record {
+        shape = refl;
+        evaluation = evaluation;
+        fits = record {
+          size = record {
+            step_count = tracking.fits.size.step_count ∙ tracking.evaluation.fits.step_count ∙ ap (λ (f : Frame). f.step_count) frame ∙ sym evaluation.fits.step_count;
+            sweeps = tracking.fits.size.sweeps ∙ tracking.evaluation.fits.sweeps ∙ ap (λ (f : Frame). f.sweeps) frame ∙ sym evaluation.fits.sweeps;
+            link_count = tracking.fits.size.link_count ∙ tracking.evaluation.fits.link_count ∙ count ∙ sym evaluation.fits.link_count;
+          };
+          links = tracking.fits.links ∙ tracking.evaluation.fits.link_count ∙ count ∙ sym evaluation.fits.link_count;
+        };
+        back = record { outs = λ live t k within there. absurd (cc); shown = λ live k there. absurd (cc) };
+        table = shape_table net marked tracking.shape places tracking.table;
+        own_count = tracking.own_count ∙ count;
+        changed_count = tracking.changed_count ∙ count;
+        steps = tracking.steps ∙ ap (λ (f : Frame). f.step_count) frame;
+      }

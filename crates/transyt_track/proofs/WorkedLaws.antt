@@ -1,0 +1,25 @@
+-- The worked networks, computed from the definitions.
+use Rattle.std.proofs.Common.{◌≡◌, map, refl}
+use Rattle.transyt_platoon.specs.Platoon.{smoothed}
+use Rattle.transyt_stopline.specs.LastSteps.{sum_back, greatest}
+use Rattle.transyt_sweep.specs.Sweeps.{seen, out_of}
+use Rattle.transyt_moves.specs.Moves.{move}
+use Rattle.transyt_track.specs.Due.{differs, due_in, due_through, due}
+use Rattle.transyt_track.specs.Work.{edit_work, cert_work}
+use Rattle.transyt_track.specs.WorkedWork.{junctions, worked_edits, loop_of_three}
+
+-- each edit has the work that is written beside it
+pub edits : map (λ row. edit_work junctions row.0) worked_edits ≡ map (λ row. row.1) worked_edits
+unfolding sum_back greatest smoothed seen out_of differs due_in due_through due
+edits = refl
+
+-- the certificate of its twelve moves
+pub certificate : cert_work junctions 12 ≡ 66
+unfolding sum_back greatest smoothed seen out_of differs due_in due_through due move
+certificate = refl
+
+-- the third link of the loop is due at each sweep for itself, the second for the share that it has of it, and the first
+-- at the last sweep, the first at which what leaves the second differs
+pub loop_work : due (loop_of_three 360) (loop_of_three 3420) ≡ 7
+unfolding sum_back greatest smoothed seen out_of differs due_in due_through due
+loop_work = refl

@@ -1,0 +1,67 @@
+-- One sweep more.
+use Rattle.std.proofs.Common.{◌≡◌, ◌+◌, ◌-◌, sym, subst, ap, ◌∙◌, arith}
+use Rattle.transyt_parts.specs.declared.frame.Frame.{Frame}
+use Rattle.transyt_track.specs.Due.{due_through}
+use Rattle.transyt_track.specs.Front.{AreAt}
+use Rattle.transyt_track.proofs.ShapeLaws.{shape_table, shape_frame}
+use Rattle.transyt_track.proofs.DueLaws.{due_through_none, due_through_more, due_is}
+use Rattle.transyt_track.proofs.SavedLaws.{carries_more}
+use Rattle.transyt_track.proofs.FrontLaws.{ended}
+use Rattle.transyt_track.proofs.front.follow_rows.Goals as goal
+
+pub flag_own-requires-clause-places_after : goal.flag_own-requires-clause-places_after
+flag_own-requires-clause-places_after g c =
+    shape_table c.args.before.now c.args.after.now c.requires.shape c.args.places.now c.requires.places
+
+pub loop-sweep-init : goal.loop-sweep-init
+loop-sweep-init g c = record {
+  at = c.start_links.ensures.at;
+  carries = c.start_links.ensures.carries;
+  step_count = c.requires.step_count;
+  count = sym (due_through_none c.args.before.now c.args.after.now);
+  few = omega arith;
+  steps = omega arith;
+}
+
+pub loop-sweep-preserved : goal.loop-sweep-preserved
+loop-sweep-preserved g c =
+    let a = c.args.before.now in
+    let b = c.args.after.now in
+    let s = c.loop-sweep.sweep in
+    let last : s + 1 - 1 ≡ s = omega arith in
+    let more : c.loop-sweep.count + c.sweep_links-count.result ≡ due_through a b s =
+    omega (arith, c.loop-sweep.invariant.count, c.sweep_links-count.ensures.count, due_through_more a b s c.loop-sweep.auto.sweep) in
+    record {
+      at = c.sweep_links-count.ensures.at;
+      carries = carries_more c.args.rows.now c.args.saved.now c.loop-sweep.rows c.loop-sweep.saved
+          c.sweep_links-count.new.rows c.sweep_links-count.new.saved c.loop-sweep.invariant.carries
+          c.sweep_links-count.ensures.carries;
+      step_count = c.sweep_links-count.ensures.step_count;
+      count = more ∙ sym (ap (due_through a b) last);
+      few = omega (arith, c.loop-sweep.invariant.few, c.sweep_links-count.ensures.few, c.loop-sweep.auto.sweep);
+      steps = omega (arith, c.loop-sweep.invariant.steps, c.sweep_links-count.ensures.steps);
+    }
+
+pub returns-clause-rows : goal.returns-clause-rows
+returns-clause-rows g c =
+    let b = c.args.after.now in
+    let all : c.loop-sweep.sweep ≡ b.frame.sweeps + 1 = omega (arith, ap (λ (f : Frame). f.sweeps) c.frame-sweep-end.ensures.value) in
+    ended c.args.before.now b c.loop-sweep.rows c.loop-sweep.changed.items
+    (subst (λ s. AreAt c.args.before.now b s 0 c.loop-sweep.rows c.loop-sweep.changed.items) all c.loop-sweep.invariant.at)
+
+pub returns-clause-count : goal.returns-clause-count
+returns-clause-count g c =
+    let a = c.args.before.now in
+    let b = c.args.after.now in
+    let all : c.loop-sweep.sweep - 1 ≡ a.frame.sweeps =
+    omega (arith, ap (λ (f : Frame). f.sweeps) c.frame-sweep-end.ensures.value, ap (λ (f : Frame). f.sweeps) (shape_frame a b c.requires.shape)) in
+    c.loop-sweep.invariant.count ∙ ap (due_through a b) all ∙ due_is a b
+
+pub returns-clause-few : goal.returns-clause-few
+returns-clause-few g c =
+    omega (
+      arith,
+      c.loop-sweep.invariant.few,
+      ap (λ (f : Frame). f.sweeps) c.frame-sweep-end.ensures.value,
+      c.frame-sweep-end.ensures.valid.sound.frame.sweeps,
+    )

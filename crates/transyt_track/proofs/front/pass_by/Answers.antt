@@ -1,0 +1,9 @@
+-- A link that isn't due leaves what it left.
+use Rattle.transyt_track.proofs.FrontLaws.{turned_left}
+use Rattle.transyt_track.proofs.front.pass_by.Goals as goal
+
+pub returns-clause-at : goal.returns-clause-at
+returns-clause-at c =
+    let r = c.requires in
+    rw c.leave.ensures.value (turned_left c.args.before.now c.args.after.now c.args.sweep c.args.link c.args.rows.now
+    c.args.changed.now.items r.at r.shape r.first r.last r.link r.none)

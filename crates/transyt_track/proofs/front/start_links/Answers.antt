@@ -1,0 +1,38 @@
+-- One link more.
+use Rattle.std.proofs.Common.{not, nat_eq, length, ap, ◌∙◌, arith}
+use Rattle.transyt_parts.specs.Flow.{total_flow}
+use Rattle.transyt_net.specs.Parts.{link_of}
+use Rattle.transyt_net.specs.Flow.{perstep}
+use Rattle.transyt_track.proofs.SavedLaws.{carries_same, carries_more}
+use Rattle.transyt_track.proofs.StartLaws.{start_differs, started_none, started_end}
+use Rattle.transyt_track.proofs.front.start_links.Goals as goal
+
+pub loop-link-init : goal.loop-link-init
+loop-link-init c = record {
+  starting = started_none c.args.before.now c.args.after.now c.requires.shape c.args.rows.now c.args.changed.now.items
+      c.requires.rows c.requires.count;
+  carries = carries_same c.args.rows.now c.args.saved.now c.requires.fits;
+}
+
+pub start_link-requires-clause-moves : goal.start_link-requires-clause-moves
+start_link-requires-clause-moves c =
+    let a = c.args.before.now in
+    let b = c.args.after.now in
+    let l = c.loop-link.link in
+    ap (λ n. not (nat_eq n c.per_step-in-loop-link.result))
+    (c.per_step.ensures.value ∙ ap (perstep a.frame) c.total_flow.ensures.value)
+    ∙ ap (λ n. not (nat_eq (perstep a.frame (total_flow (link_of a l))) n))
+    (c.per_step-in-loop-link.ensures.value ∙ ap (perstep b.frame) c.total_flow-in-loop-link.ensures.value)
+    ∙ start_differs a b c.requires.shape l (omega (arith, c.frame.ensures.valid.sound.frame.step_count.0))
+
+pub loop-link-preserved : goal.loop-link-preserved
+loop-link-preserved c = record {
+  starting = c.start_link.ensures.starting;
+  carries = carries_more c.args.rows.now c.args.saved.now c.loop-link.rows c.loop-link.saved c.start_link.new.rows
+      c.start_link.new.saved c.loop-link.invariant.carries c.start_link.ensures.carries;
+}
+
+pub returns-clause-at : goal.returns-clause-at
+returns-clause-at c =
+    started_end c.args.before.now c.args.after.now c.requires.shape c.loop-link.link c.loop-link.rows
+    c.loop-link.changed.items (omega (arith, ap length c.links-link-end.ensures.value)) c.loop-link.invariant.starting

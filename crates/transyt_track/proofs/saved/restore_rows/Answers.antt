@@ -1,0 +1,33 @@
+-- One pair more.
+use Rattle.std.proofs.Common.{◌≡◌, ◌+◌, ◌<◌, ◌≤◌, length, ap, subst, arith}
+use Rattle.transyt_parts.specs.declared.frame.Frame.{Frame}
+use Rattle.transyt_sweep.specs.Rows.{out_at, shown_at}
+use Rattle.transyt_track.specs.Front.{AreBetween}
+use Rattle.transyt_track.specs.Saved.{old_out, old_shown}
+use Rattle.transyt_track.proofs.BackLaws.{back_put, between_turn}
+use Rattle.transyt_track.proofs.saved.restore_rows.Goals as goal
+
+pub loop-link-preserved : goal.loop-link-preserved
+loop-link-preserved c =
+    let net = c.args.net.now in
+    let swept : c.loop-sweep.sweep ≤ net.frame.sweeps =
+    omega (arith, c.loop-sweep-test.true, ap (λ (f : Frame). f.sweeps) c.frame-sweep-end.ensures.value) in
+    let inside : c.loop-link.link < length net.links = omega (arith, c.loop-link-test.true, ap length c.links-link-end.ensures.value) in
+    rw c.restore.ensures.value (back_put net c.args.saved.now c.args.rows.now c.loop-sweep.sweep c.loop-link.link
+    c.loop-link.rows c.requires.fits c.requires.fits_saved c.loop-link.invariant c.restore.ensures.rows c.restore.ensures.saved
+    swept inside)
+
+pub loop-sweep-preserved : goal.loop-sweep-preserved
+loop-sweep-preserved c =
+    let old = c.args.rows.now in
+    between_turn c.args.net.now (old_out c.args.saved.now old) (old_shown c.args.saved.now old) (out_at old) (shown_at old)
+    c.loop-sweep.sweep c.loop-link.link c.loop-link.rows c.loop-link.invariant
+    (omega (arith, ap length c.links-link-end.ensures.value))
+
+pub returns : goal.returns
+returns c =
+    let old = c.args.rows.now in
+    let all : c.loop-sweep.sweep ≡ c.args.net.now.frame.sweeps + 1 =
+    omega (arith, ap (λ (f : Frame). f.sweeps) c.frame-sweep-end.ensures.value) in
+    subst (λ s. AreBetween c.args.net.now (old_out c.args.saved.now old) (old_shown c.args.saved.now old) (out_at old)
+    (shown_at old) s 0 c.loop-sweep.rows) all c.loop-sweep.invariant

@@ -1,0 +1,65 @@
+-- The rows while they go over from the evaluation of one network to that of another of its shape.
+use Rattle.std.specs.Prelude.{◌≡◌, ℕ, ◌<◌, ◌≤◌, ◌==◌, Bool, false, not, List, length, slice_index_or, if◌then◌else◌}
+use Rattle.transyt_net.specs.Parts.{Network}
+use Rattle.transyt_sweep.specs.Cell.{CellValue}
+use Rattle.transyt_sweep.specs.Sweeps.{out_of, evaluated}
+use Rattle.transyt_sweep.specs.Rows.{RowsValue, out_at, shown_at, with_weights, Fits}
+use Rattle.transyt_sweep.specs.Front.{AreMixed, is_before}
+use Rattle.transyt_track.specs.Own.{own, same_own}
+use Rattle.transyt_track.specs.Due.{differs, read_differs}
+
+-- the last sweep is `early` before a link at a sweep, and `late` from it on
+pub record AreShownMixed (net : Network) (early late : ℕ → CellValue) (sweep link : ℕ) (rows : RowsValue) : Type 0
+  where
+    pub shown : (other : ℕ) → other < length net.links
+        → shown_at rows other ≡ (if is_before net.frame.sweeps other sweep link then early other else late other)
+
+-- all of a link but its index
+abbrev pub unweighed : CellValue → CellValue
+unweighed cell = record cell { figures = record cell.figures { index = 0 } }
+
+-- whether the flag of a link is up
+abbrev pub flag : List Bool → ℕ → Bool
+flag flags link = slice_index_or flags link false
+
+-- a flag for each link: up where its own data differ
+pub record AreOwnFlags (before after : Network) (flags : List Bool) : Type 0 where
+  pub count : length flags ≡ length after.links
+  pub flagged : (link : ℕ) → link < length after.links
+      → flag flags link ≡ not (same_own (own before link) (own after link))
+
+-- THE LAW OF THE FRONT: before a link at a sweep the rows are those of the network after, from it on those of the
+-- network before; the flag of each link is up where what the link at the front would read of it differs
+pub record AreAt (before after : Network) (sweep link : ℕ) (rows : RowsValue) (changed : List Bool) : Type 0 where
+  pub outs : AreMixed after (out_of after) (out_of before) sweep link rows
+  pub shown : AreShownMixed after (evaluated after) (evaluated before) sweep link rows
+  pub count : length changed ≡ length after.links
+  pub flagged : (other : ℕ) → other < length after.links
+      → flag changed other ≡ read_differs before after sweep link other
+
+-- before the first sweep, where the flags of the links before the front alone are known
+pub record AreStarting (before after : Network) (link : ℕ) (rows : RowsValue) (changed : List Bool) : Type 0 where
+  pub outs : AreMixed after (out_of after) (out_of before) 0 link rows
+  pub shown : AreShownMixed after (evaluated after) (evaluated before) 0 link rows
+  pub count : length changed ≡ length after.links
+  pub flagged : (other : ℕ) → other < link → flag changed other ≡ differs before after 0 other
+
+-- the rows with a link that isn't due left at a sweep: at the last sweep it is weighed anew
+abbrev pub left_at : Network → ℕ → ℕ → RowsValue → RowsValue
+left_at net sweep link rows = if sweep == net.frame.sweeps then with_weights rows net link else rows
+
+-- the rows are `early` before a link at a sweep, and `late` from it on; `early_shown` and `late_shown` are their last
+-- sweeps
+pub record AreBetween (net : Network) (early : ℕ → ℕ → List ℕ) (early_shown : ℕ → CellValue)
+    (late : ℕ → ℕ → List ℕ) (late_shown : ℕ → CellValue) (sweep link : ℕ) (rows : RowsValue) : Type 0 where
+  pub outs : AreMixed net early late sweep link rows
+  pub shown : AreShownMixed net early_shown late_shown sweep link rows
+
+-- what leaves is that of the network, and the last sweep too: whole before a link, and but for the weights from it on
+pub record AreWeighed (net : Network) (link : ℕ) (rows : RowsValue) : Type 0 where
+  pub fits : Fits net rows
+  pub outs : (sweep other : ℕ) → sweep ≤ net.frame.sweeps → other < length net.links
+      → out_at rows sweep other ≡ out_of net sweep other
+  pub weighed : (other : ℕ) → other < link → other < length net.links → shown_at rows other ≡ evaluated net other
+  pub others : (other : ℕ) → other < length net.links
+      → unweighed (shown_at rows other) ≡ unweighed (evaluated net other)

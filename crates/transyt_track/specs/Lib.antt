@@ -1,0 +1,7 @@
+pub mod Own
+pub mod Due
+pub mod Work
+pub mod WorkedWork
+pub mod Front
+pub mod Saved
+pub mod Tracker

@@ -1,0 +1,109 @@
+-- What a link's work is made of that edits change, departures and weights apart, and which links it reads.
+use Rattle.std.specs.Prelude.{◌≡◌, ℕ, ◌<◌, Bool, true, false, ◌&&◌, nat_eq, List, [], ◌∷◌, length, map, Option, Some, None, slice_index_or}
+use Rattle.std.specs.Str.{bytes_eq}
+use Rattle.std.specs.List.{range_with_len}
+use Rattle.transyt_parts.specs.declared.node.Stage.{Stage}
+use Rattle.transyt_parts.specs.declared.link.Feed.{Feed}
+use Rattle.transyt_parts.specs.declared.link.GiveWay.{GiveWay}
+use Rattle.transyt_parts.specs.Flow.{total_flow}
+use Rattle.transyt_net.specs.Parts.{Network, link_of}
+use Rattle.transyt_net.specs.Edits.{the_node}
+use Rattle.transyt_net.specs.Valid.{place_of, node_numbers}
+use Rattle.transyt_sweep.specs.Cell.{found_or_first, link_place}
+
+-- of a feed: its flow, its cruise time and the feeder's total flow
+pub record Part : Type 0 where
+  pub flow : ℕ
+  pub cruise : ℕ
+  pub whole : ℕ
+
+-- the own data of a link; the offset and the changes are those of its node, the parts those of its feeds in order
+pub record Own : Type 0 where
+  pub entry : ℕ
+  pub saturation : ℕ
+  pub offset : ℕ
+  pub changes : List ℕ
+  pub parts : List Part
+
+-- a stage's change
+abbrev pub change_of : Stage → ℕ
+change_of stage = stage.change
+
+-- the place of the link that a feed comes from
+abbrev pub feeder_place : Network → Feed → ℕ
+feeder_place net feed = link_place net feed.feeder
+
+-- what counts of a feed
+abbrev pub part_of : Network → Feed → Part
+part_of net feed = record {
+  flow = feed.flow;
+  cruise = feed.cruise;
+  whole = total_flow (link_of net (feeder_place net feed));
+}
+
+-- the own data of the link at a place
+abbrev pub own : Network → ℕ → Own
+own net link = record {
+  entry = (link_of net link).entry;
+  saturation = (link_of net link).saturation;
+  offset = (the_node net (link_of net link).node).offset;
+  changes = map change_of (the_node net (link_of net link).node).stages;
+  parts = map (part_of net) (link_of net link).feeds;
+}
+
+-- two feeds have equal flows, cruise times and total flows of their feeders
+abbrev pub same_part : Part → Part → Bool
+same_part one other = nat_eq one.flow other.flow && nat_eq one.cruise other.cruise && nat_eq one.whole other.whole
+
+-- two lists have equal parts, one after another
+abbrev pub same_parts : List Part → List Part → Bool
+same_parts [] [] = true
+same_parts [] (y ∷ ys) = false
+same_parts (x ∷ xs) [] = false
+same_parts (x ∷ xs) (y ∷ ys) = same_part x y && same_parts xs ys
+
+-- two links have equal own data, their feeds apart
+abbrev pub same_timing : Own → Own → Bool
+same_timing one other =
+    nat_eq one.entry other.entry && nat_eq one.saturation other.saturation && nat_eq one.offset other.offset
+    && bytes_eq one.changes other.changes
+
+-- two links have equal own data
+abbrev pub same_own : Own → Own → Bool
+same_own one other = same_timing one other && same_parts one.parts other.parts
+
+-- the place of the link to which a rule gives way
+abbrev pub rule_place : Network → Option GiveWay → Option ℕ
+rule_place net None = None
+rule_place net (Some rule) = Some (link_place net rule.other)
+
+-- the place of a node's number
+abbrev pub node_place : Network → ℕ → ℕ
+node_place net number = found_or_first (place_of (node_numbers net.nodes) number)
+
+-- where the node of a link stands, its feeders in order, and the link to which it gives way
+pub record PlacesValue : Type 0 where
+  pub node : ℕ
+  pub feeders : List ℕ
+  pub rule : Option ℕ
+
+-- what stands where there is no link
+abbrev pub no_places : PlacesValue
+no_places = record { node = 0; feeders = []; rule = None }
+
+-- the places of the link at a place
+abbrev pub places_at : Network → ℕ → PlacesValue
+places_at net link = record {
+  node = node_place net (link_of net link).node;
+  feeders = map (feeder_place net) (link_of net link).feeds;
+  rule = rule_place net (link_of net link).gives_way;
+}
+
+-- the places of all links
+abbrev pub all_places : Network → List PlacesValue
+all_places net = map (places_at net) (range_with_len 0 (length net.links))
+
+-- these are the places of the links, one after another
+pub record ArePlaces (net : Network) (places : List PlacesValue) : Type 0 where
+  pub count : length places ≡ length net.links
+  pub at : (link : ℕ) → link < length net.links → slice_index_or places link no_places ≡ places_at net link

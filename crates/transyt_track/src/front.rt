@@ -1,0 +1,284 @@
+//! The front: the rows go over from one network to another of its shape, a link at a sweep at a time, in order.
+
+ghost use Rattle.std.specs.Prelude.{◌≡◌, ◌+◌, ◌<◌, ◌≤◌, ◌||◌, false, length, if◌then◌else◌, All, IfSome, slice_index_or};
+ghost use Rattle.std.specs.List.{list_any};
+ghost use Rattle.transyt_net.specs.Shape.{SameShape};
+ghost use Rattle.transyt_sweep.specs.Front.{AreEvaluation};
+ghost use Rattle.transyt_track.specs.Own.{ArePlaces, no_places, places_at, own, same_own};
+ghost use Rattle.transyt_track.specs.Due.{is_due, is_some_and, due_at, due, differs};
+ghost use Rattle.transyt_track.specs.Front.{flag, AreOwnFlags, AreAt, AreStarting};
+ghost use Rattle.transyt_track.specs.Saved.{FitsRows, Carries};
+
+use crate::own::{Places, same_own};
+use crate::replacing::{leave, place, start};
+use crate::saved::Saved;
+use std::sync::ledger::Ledger;
+use transyt_net::Net;
+use transyt_steps::Steps;
+use transyt_sweep::{Rows, Scratch, cell};
+
+/// Whether the flag of one of these is up.
+fn any_changed(changed: &[bool], places: &[usize]) -> bool
+    requires { All (λ p. p < length changed.now) places.now }
+    ensures { result ≡ list_any (flag changed.now) places.now }
+{
+    places.iter().any(|place| changed[*place])
+}
+
+/// Whether the flag of this one is up.
+fn is_changed(changed: &[bool], place: Option<usize>) -> bool
+    requires { IfSome place (λ p. p < length changed.now) }
+    ensures { result ≡ is_some_and (flag changed.now) place }
+{
+    match place {
+        None => false,
+        Some(place) => changed[place],
+    }
+}
+
+/// Whether a link's own data own_changed, or the flag of a link that it reads is up.
+fn is_flagged(own_changed: bool, changed: &[bool], places: &Places) -> bool
+    requires feeders { All (λ p. p < length changed.now) places.now.feeders }
+    requires rule { IfSome places.now.rule (λ p. p < length changed.now) }
+    ensures { result ≡ (own_changed || list_any (flag changed.now) places.now.feeders || is_some_and (flag changed.now) places.now.rule) }
+{
+    own_changed || any_changed(changed, &places.feeders) || is_changed(changed, places.rule)
+}
+
+/// The link at the front is due: it is worked out.
+fn work_out<L: Ledger>(
+    before: &Net,
+    after: &Net,
+    sweep: u32,
+    link: usize,
+    rows: &mut Rows,
+    saved: &mut Saved,
+    changed: &mut Vec<bool>,
+    scratch: &mut Scratch,
+    steps: &mut Steps<L>,
+)
+    requires shape { SameShape before.now after.now }
+    requires first { 1 ≤ sweep }
+    requires last { sweep ≤ after.now.frame.sweeps }
+    requires link { link < length after.now.links }
+    requires at { AreAt before.now after.now sweep link rows.old changed.old.items }
+    requires fits { FitsRows rows.old saved.old }
+    requires step_count { length scratch.old.arrivals ≡ after.now.frame.step_count }
+    ensures at { AreAt before.now after.now sweep (link + 1) rows.new changed.new.items }
+    ensures carries { Carries rows.old saved.old rows.new saved.new }
+    ensures step_count { length scratch.new.arrivals ≡ after.now.frame.step_count }
+    ensures steps { steps.new ≡ steps.old + 1 }
+{
+    cell(after, link, sweep, rows, scratch, steps);
+    changed[link] = rows.out(sweep, link) != scratch.out();
+    place(sweep, link, rows, saved, scratch);
+}
+
+/// The link at the front isn't due: it is left.
+fn pass_by(
+    before: &Net,
+    after: &Net,
+    sweep: u32,
+    link: usize,
+    rows: &mut Rows,
+    saved: &Saved,
+    changed: &mut Vec<bool>,
+)
+    requires shape { SameShape before.now after.now }
+    requires first { 1 ≤ sweep }
+    requires last { sweep ≤ after.now.frame.sweeps }
+    requires link { link < length after.now.links }
+    requires none { is_due before.now after.now sweep link ≡ false }
+    requires at { AreAt before.now after.now sweep link rows.old changed.old.items }
+    requires fits { FitsRows rows.old saved.now }
+    ensures at { AreAt before.now after.now sweep (link + 1) rows.new changed.new.items }
+    ensures carries { Carries rows.old saved.now rows.new saved.now }
+{
+    changed[link] = false;
+    leave(after, sweep, link, rows, saved);
+}
+
+/// One turn: the link at the front is worked out if it is due. It answers 1 where it was.
+fn turn<L: Ledger>(
+    before: &Net,
+    after: &Net,
+    sweep: u32,
+    link: usize,
+    due: bool,
+    rows: &mut Rows,
+    saved: &mut Saved,
+    changed: &mut Vec<bool>,
+    scratch: &mut Scratch,
+    steps: &mut Steps<L>,
+) -> u64
+    requires shape { SameShape before.now after.now }
+    requires first { 1 ≤ sweep }
+    requires last { sweep ≤ after.now.frame.sweeps }
+    requires link { link < length after.now.links }
+    requires due { due ≡ is_due before.now after.now sweep link }
+    requires at { AreAt before.now after.now sweep link rows.old changed.old.items }
+    requires fits { FitsRows rows.old saved.old }
+    requires step_count { length scratch.old.arrivals ≡ after.now.frame.step_count }
+    ensures at { AreAt before.now after.now sweep (link + 1) rows.new changed.new.items }
+    ensures carries { Carries rows.old saved.old rows.new saved.new }
+    ensures step_count { length scratch.new.arrivals ≡ after.now.frame.step_count }
+    ensures count { result ≡ (if is_due before.now after.now sweep link then 1 else 0) }
+    ensures steps { steps.new ≡ steps.old + result }
+{
+    if due {
+        work_out(
+            before, after, sweep, link, rows, saved, changed, scratch, steps,
+        );
+        1
+    } else {
+        pass_by(before, after, sweep, link, rows, saved, changed);
+        0
+    }
+}
+
+/// One sweep: a turn for each link in order. It answers how many were due.
+fn sweep_links<L: Ledger>(
+    before: &Net,
+    after: &Net,
+    places: &[Places],
+    own_changed: &[bool],
+    sweep: u32,
+    rows: &mut Rows,
+    saved: &mut Saved,
+    changed: &mut Vec<bool>,
+    scratch: &mut Scratch,
+    steps: &mut Steps<L>,
+) -> u64
+    requires shape { SameShape before.now after.now }
+    requires places { ArePlaces before.now places.now }
+    requires own_changed { AreOwnFlags before.now after.now own_changed.now }
+    requires first { 1 ≤ sweep }
+    requires last { sweep ≤ after.now.frame.sweeps }
+    requires at { AreAt before.now after.now sweep 0 rows.old changed.old.items }
+    requires fits { FitsRows rows.old saved.old }
+    requires step_count { length scratch.old.arrivals ≡ after.now.frame.step_count }
+    ensures at { AreAt before.now after.now (sweep + 1) 0 rows.new changed.new.items }
+    ensures carries { Carries rows.old saved.old rows.new saved.new }
+    ensures step_count { length scratch.new.arrivals ≡ after.now.frame.step_count }
+    ensures count { result ≡ due_at before.now after.now sweep }
+    ensures few { result ≤ 1000 }
+    ensures steps { steps.new ≡ steps.old + result }
+{
+    let mut count = 0;
+    for link in 0..after.links().len() {
+        let due = is_flagged(own_changed[link], changed, &places[link]);
+        count += turn(
+            before, after, sweep, link, due, rows, saved, changed, scratch, steps,
+        );
+    }
+    count
+}
+
+/// Marks the links whose own data differ.
+fn flag_own(before: &Net, after: &Net, places: &[Places], own_changed: &mut Vec<bool>)
+    requires places { ArePlaces before.now places.now }
+    requires places_after { ArePlaces after.now places.now }
+    requires links { length before.now.links ≡ length after.now.links }
+    requires count { length own_changed.old.items ≡ length after.now.links }
+    ensures { AreOwnFlags before.now after.now own_changed.new.items }
+{
+    for link in 0..after.links().len() {
+        own_changed[link] = !same_own(before, after, link, &places[link]);
+    }
+}
+
+/// Starts a link anew where what leaves it before the first sweep differs.
+fn start_link(
+    before: &Net,
+    after: &Net,
+    link: usize,
+    moves: bool,
+    rows: &mut Rows,
+    saved: &mut Saved,
+    changed: &mut Vec<bool>,
+)
+    requires shape { SameShape before.now after.now }
+    requires link { link < length after.now.links }
+    requires moves { moves ≡ differs before.now after.now 0 link }
+    requires some { 1 ≤ after.now.frame.sweeps }
+    requires starting { AreStarting before.now after.now link rows.old changed.old.items }
+    requires fits { FitsRows rows.old saved.old }
+    ensures starting { AreStarting before.now after.now (link + 1) rows.new changed.new.items }
+    ensures carries { Carries rows.old saved.old rows.new saved.new }
+{
+    changed[link] = moves;
+    if moves {
+        start(after, link, rows, saved);
+    }
+}
+
+/// Starts the links anew whose departures before the first sweep differ.
+fn start_links(
+    before: &Net,
+    after: &Net,
+    rows: &mut Rows,
+    saved: &mut Saved,
+    changed: &mut Vec<bool>,
+)
+    requires shape { SameShape before.now after.now }
+    requires rows { AreEvaluation before.now rows.old }
+    requires fits { FitsRows rows.old saved.old }
+    requires count { length changed.old.items ≡ length after.now.links }
+    ensures at { AreAt before.now after.now 1 0 rows.new changed.new.items }
+    ensures carries { Carries rows.old saved.old rows.new saved.new }
+{
+    after.frame();
+    for link in 0..after.links().len() {
+        let moves = before.per_step(before.total_flow(link))
+            != after.per_step(after.total_flow(link));
+        start_link(before, after, link, moves, rows, saved, changed);
+    }
+}
+
+/// The rows go over from one network to another. It answers how many links at how many sweeps were due.
+pub(crate) fn follow_rows<L: Ledger>(
+    before: &Net,
+    after: &Net,
+    places: &[Places],
+    rows: &mut Rows,
+    saved: &mut Saved,
+    own_changed: &mut Vec<bool>,
+    changed: &mut Vec<bool>,
+    scratch: &mut Scratch,
+    steps: &mut Steps<L>,
+) -> u64
+    requires shape { SameShape before.now after.now }
+    requires places { ArePlaces before.now places.now }
+    requires rows { AreEvaluation before.now rows.old }
+    requires fits { FitsRows rows.old saved.old }
+    requires own_changed { length own_changed.old.items ≡ length after.now.links }
+    requires changed { length changed.old.items ≡ length after.now.links }
+    requires step_count { length scratch.old.arrivals ≡ after.now.frame.step_count }
+    ensures rows { AreEvaluation after.now rows.new }
+    ensures carries { Carries rows.old saved.old rows.new saved.new }
+    ensures own_changed { length own_changed.new.items ≡ length after.now.links }
+    ensures changed { length changed.new.items ≡ length after.now.links }
+    ensures step_count { length scratch.new.arrivals ≡ after.now.frame.step_count }
+    ensures count { result ≡ due before.now after.now }
+    ensures few { result ≤ 8000 }
+    ensures steps { steps.new ≡ steps.old + result }
+{
+    flag_own(before, after, places, own_changed);
+    start_links(before, after, rows, saved, changed);
+    let mut count = 0;
+    for sweep in 1..after.frame().sweeps + 1 {
+        count += sweep_links(
+            before,
+            after,
+            places,
+            own_changed,
+            sweep,
+            rows,
+            saved,
+            changed,
+            scratch,
+            steps,
+        );
+    }
+    count
+}

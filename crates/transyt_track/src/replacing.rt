@@ -1,0 +1,53 @@
+//! The writes of rows. Each saves the row that it writes over, so what the saved rows lead back to stays.
+
+ghost use Rattle.std.specs.Prelude.{◌≡◌, ◌<◌, ◌≤◌, length};
+ghost use Rattle.transyt_sweep.specs.Cell.{HasSteps};
+ghost use Rattle.transyt_sweep.specs.Rows.{Fits, AreRows, placed, with_out};
+ghost use Rattle.transyt_sweep.specs.Sweeps.{start};
+ghost use Rattle.transyt_track.specs.Front.{left_at};
+ghost use Rattle.transyt_track.specs.Saved.{FitsRows, Carries};
+
+use crate::saved::Saved;
+use transyt_net::Net;
+use transyt_sweep::{Rows, Scratch};
+
+/// A link at a sweep becomes what was worked out.
+pub(crate) fn place(sweep: u32, link: usize, rows: &mut Rows, saved: &mut Saved, scratch: &Scratch)
+    requires fits { FitsRows rows.old saved.old }
+    requires sweep { sweep ≤ rows.old.sweeps }
+    requires link { link < length rows.old.figures }
+    requires steps { HasSteps rows.old.step_count scratch.now }
+    ensures value { rows.new ≡ placed rows.old sweep link scratch.now }
+    ensures carries { Carries rows.old saved.old rows.new saved.new }
+    ensures rows { AreRows rows.old }
+{
+    saved.save(sweep, link, rows);
+    rows.place(sweep, link, scratch);
+}
+
+/// The departures of a link before the first sweep become those of its total flow.
+pub(crate) fn start(net: &Net, link: usize, rows: &mut Rows, saved: &mut Saved)
+    requires fits { Fits net.now rows.old }
+    requires fits_saved { FitsRows rows.old saved.old }
+    requires link { link < length net.now.links }
+    ensures value { rows.new ≡ with_out rows.old 0 link (start net.now link) }
+    ensures carries { Carries rows.old saved.old rows.new saved.new }
+    ensures rows { AreRows rows.old }
+{
+    saved.save(0, link, rows);
+    rows.start(net, link);
+}
+
+/// A link that isn't due is weighed anew at the last sweep.
+#[tactic(auto, using(crate::proofs::SavedLaws::carries_left))]
+pub(crate) fn leave(net: &Net, sweep: u32, link: usize, rows: &mut Rows, saved: &Saved)
+    requires fits { Fits net.now rows.old }
+    requires fits_saved { FitsRows rows.old saved.now }
+    requires link { link < length net.now.links }
+    ensures value { rows.new ≡ left_at net.now sweep link rows.old }
+    ensures carries { Carries rows.old saved.now rows.new saved.now }
+{
+    if sweep == net.frame().sweeps {
+        rows.reweigh(net, link);
+    }
+}

@@ -1,0 +1,183 @@
+//! The rows that are saved while a mark is open, and how all rows become what was saved, or a copy.
+
+ghost use Rattle.std.specs.Prelude.{◌≡◌, ◌+◌, ◌*◌, ◌<◌, ◌≤◌, false, true, length, replicate, IfOk};
+ghost use Rattle.transyt_sweep.specs.Rows.{Fits, AreRows, out_at, shown_at, pair_in, placed};
+ghost use Rattle.transyt_sweep.specs.Front.{AreEvaluation};
+ghost use Rattle.transyt_track.specs.Front.{AreBetween, AreWeighed};
+ghost use Rattle.transyt_track.specs.Saved.{is_saved, saved_at, restored_at, old_out, old_shown, begun, settled, FitsRows, AreSaved};
+
+use std::alloc::{AllocError, Global};
+use std::marker::Model;
+use transyt_net::Net;
+use transyt_sweep::Rows;
+
+/// The rows that were there when a mark was set, as far as they changed since.
+#[derive(Drop)]
+pub(crate) struct Saved {
+    live: bool,
+    link_count: usize,
+    flags: Vec<bool>,
+    rows: Rows,
+}
+
+impl Model for Saved {
+    ghost use Rattle.transyt_track.specs.Saved.{SavedValue, AreSaved};
+
+    ghost Value = { SavedValue };
+
+    ghost view = { λ s. record { live = s.live; link_count = s.link_count; flags = s.flags.items; rows = s.rows } };
+
+    ghost invariant = { λ s. AreSaved s.link_count s.flags.items s.rows };
+}
+
+impl Saved {
+    /// Whether a mark is open.
+    pub(crate) fn is_live(&self) -> bool
+        ensures { result ≡ self.now.live }
+    {
+        self.live
+    }
+
+    /// The place of a pair's flag.
+    fn place(&self, sweep: u32, link: usize) -> usize
+        requires sweep { sweep ≤ self.now.rows.sweeps }
+        requires link { link < self.now.link_count }
+        ensures value { result ≡ sweep * self.now.link_count + link }
+        ensures within { result < length self.now.flags }
+    {
+        sweep as usize * self.link_count + link
+    }
+
+    /// Whether the row of a link at a sweep is saved.
+    pub(crate) fn is_saved(&self, sweep: u32, link: usize) -> bool
+        requires sweep { sweep ≤ self.now.rows.sweeps }
+        requires link { link < self.now.link_count }
+        ensures { result ≡ is_saved self.now sweep link }
+    {
+        self.flags[self.place(sweep, link)]
+    }
+
+    /// Saves the row of a link at a sweep, if a mark is open and none is saved.
+    pub(crate) fn save(&mut self, sweep: u32, link: usize, rows: &Rows)
+        requires fits { FitsRows rows.now self.old }
+        requires sweep { sweep ≤ rows.now.sweeps }
+        requires link { link < length rows.now.figures }
+        ensures value { self.new ≡ saved_at self.old rows.now sweep link }
+        ensures rows { AreRows self.old.rows }
+        ensures room { AreSaved self.old.link_count self.old.flags self.old.rows }
+    {
+        self.rows.index();
+        if self.live && !self.is_saved(sweep, link) {
+            let place = self.place(sweep, link);
+            self.flags[place] = true;
+            self.rows.take_pair(sweep, link, rows);
+        }
+    }
+
+    /// A link at a sweep becomes what was saved of it, if anything was.
+    fn restore(&self, sweep: u32, link: usize, rows: &mut Rows)
+        requires fits { FitsRows rows.old self.now }
+        requires sweep { sweep ≤ rows.old.sweeps }
+        requires link { link < length rows.old.figures }
+        ensures value { rows.new ≡ restored_at self.now sweep link rows.old }
+        ensures rows { AreRows rows.old }
+        ensures saved { AreRows self.now.rows }
+    {
+        rows.index();
+        self.rows.index();
+        if self.is_saved(sweep, link) {
+            rows.take_pair(sweep, link, &self.rows);
+        }
+    }
+
+    /// Room to save the rows of a network. No mark is open.
+    pub(crate) fn open(alloc: Global, net: &Net) -> Result<Saved, AllocError>
+        ensures live { IfOk result (λ saved. saved.live ≡ false) }
+        ensures fits { IfOk result (λ saved. Fits net.now saved.rows) }
+        ensures links { IfOk result (λ saved. saved.link_count ≡ length net.now.links) }
+    {
+        let link_count = net.links().len();
+        let pairs = (net.frame().sweeps as usize + 1) * link_count;
+        let rows = Rows::open(alloc, net)?;
+        Ok(Saved {
+            live: false,
+            link_count,
+            flags: vec![in alloc; false; pairs]?,
+            rows,
+        })
+    }
+
+    /// Sets a mark: none of the rows is saved.
+    pub(crate) fn begin(&mut self)
+        ensures { self.new ≡ begun self.old }
+    {
+        clear(&mut self.flags);
+        self.live = true;
+    }
+
+    /// The mark is gone.
+    pub(crate) fn settle(&mut self)
+        ensures { self.new ≡ settled self.old }
+    {
+        self.live = false;
+    }
+}
+
+/// All flags go down.
+fn clear(flags: &mut Vec<bool>)
+    ensures { flags.new.items ≡ replicate (length flags.old.items) false }
+{
+    flags.fill(false);
+}
+
+/// All rows become what was saved of them, if anything was.
+pub(crate) fn restore_rows(net: &Net, rows: &mut Rows, saved: &Saved)
+    requires fits { Fits net.now rows.old }
+    requires fits_saved { FitsRows rows.old saved.now }
+    ensures { AreBetween net.now (old_out saved.now rows.old) (old_shown saved.now rows.old) (out_at rows.old)
+        (shown_at rows.old) (net.now.frame.sweeps + 1) 0 rows.new }
+{
+    for sweep in 0..net.frame().sweeps + 1 {
+        for link in 0..net.links().len() {
+            saved.restore(sweep, link, rows);
+        }
+    }
+}
+
+/// All rows become those of an evaluation of the network.
+pub(crate) fn copy_rows(net: &Net, from: &Rows, rows: &mut Rows)
+    requires fits { Fits net.now rows.old }
+    requires from { AreEvaluation net.now from.now }
+    ensures { AreEvaluation net.now rows.new }
+{
+    for sweep in 0..net.frame().sweeps + 1 {
+        for link in 0..net.links().len() {
+            copy_pair(net, sweep, link, from, rows);
+        }
+    }
+}
+
+/// A link at a sweep becomes that of other rows.
+fn copy_pair(net: &Net, sweep: u32, link: usize, from: &Rows, rows: &mut Rows)
+    requires fits { Fits net.now rows.old }
+    requires fits_from { Fits net.now from.now }
+    requires sweep { sweep ≤ net.now.frame.sweeps }
+    requires link { link < length net.now.links }
+    ensures value { rows.new ≡ placed rows.old sweep link (pair_in from.now sweep link) }
+    ensures rows { AreRows rows.old }
+    ensures from { AreRows from.now }
+{
+    rows.index();
+    from.index();
+    rows.take_pair(sweep, link, from);
+}
+
+/// All links are weighed anew.
+pub(crate) fn weigh_all(net: &Net, rows: &mut Rows)
+    requires { AreWeighed net.now 0 rows.old }
+    ensures { AreEvaluation net.now rows.new }
+{
+    for link in 0..net.links().len() {
+        rows.reweigh(net, link);
+    }
+}

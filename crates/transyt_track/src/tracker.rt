@@ -1,0 +1,235 @@
+ghost use Rattle.std.specs.Prelude.{◌≡◌, ◌+◌, ◌*◌, ◌≤◌, ◌<◌, length, IfOk, OnOk, OnErr, None, Some, IsSome, false};
+ghost use Rattle.std.specs.Option.{is_some};
+ghost use Rattle.transyt_net.specs.Shape.{SameShape};
+ghost use Rattle.transyt_sweep.specs.Front.{AreEvaluation};
+ghost use Rattle.transyt_sweep.specs.Sweeps.{out_of, evaluated, index};
+ghost use Rattle.transyt_track.specs.Due.{due};
+ghost use Rattle.transyt_track.specs.Tracker.{tracker_of, IsTracking};
+
+use crate::front::follow_rows;
+use crate::own::{Places, all_places};
+use crate::saved::{Saved, copy_rows, restore_rows, weigh_all};
+use std::alloc::{AllocError, Global};
+use std::marker::Model;
+use std::sync::ledger::Ledger;
+use transyt_delay::Figures;
+use transyt_net::Net;
+use transyt_steps::Steps;
+use transyt_sweep::{Rows, Scratch, full};
+
+/// The evaluation of a network, which follows its edits.
+#[derive(Drop)]
+pub struct Tracker {
+    net: Net,
+    // the network that the last mark stands for
+    marked: Net,
+    places: Vec<Places>,
+    rows: Rows,
+    saved: Saved,
+    // a flag for each link, set by `follow`: its own data differ
+    own_changed: Vec<bool>,
+    // and: what the link at the front would read of it differs
+    changed: Vec<bool>,
+    scratch: Scratch,
+}
+
+impl Model for Tracker {
+    ghost use Rattle.transyt_track.specs.Tracker.{TrackerValue, IsTracking, tracker_of};
+
+    ghost Value = { TrackerValue };
+
+    ghost view = { λ t. tracker_of t.net t.saved.live t.marked };
+
+    ghost invariant = { λ t. IsTracking t.net t.marked t.rows t.saved t.places.items t.own_changed.items t.changed.items t.scratch };
+}
+
+impl Tracker {
+    /// A tracker of the network, with no mark. It works out each link at each sweep.
+    pub fn open<L: Ledger>(
+        alloc: Global,
+        net: &Net,
+        steps: &mut Steps<L>,
+    ) -> Result<Tracker, AllocError>
+        ensures value { IfOk result (λ tracker. tracker ≡ tracker_of net.now false net.now) }
+        ensures ok { OnOk result (steps.new ≡ steps.old + net.now.frame.sweeps * length net.now.links) }
+        ensures err { OnErr result (steps.new ≤ steps.old + net.now.frame.sweeps * length net.now.links) }
+    {
+        let rows = full(alloc, net, steps)?;
+        Tracker::around(alloc, net, rows)
+    }
+
+    /// A tracker of the same network, with no mark. It works out no link.
+    pub fn twin(&self, alloc: Global) -> Result<Tracker, AllocError>
+        requires { self.now.mark ≡ None }
+        ensures { IfOk result (λ tracker. tracker ≡ self.now) }
+    {
+        let mut rows = Rows::open(alloc, &self.net)?;
+        copy_rows(&self.net, &self.rows, &mut rows);
+        Tracker::around(alloc, &self.net, rows)
+    }
+
+    /// A tracker of the network around the rows of its evaluation.
+    fn around(alloc: Global, net: &Net, rows: Rows) -> Result<Tracker, AllocError>
+        requires { AreEvaluation net.now rows }
+        ensures { IfOk result (λ tracker. tracker ≡ tracker_of net.now false net.now) }
+    {
+        let saved = Saved::open(alloc, net)?;
+        let places = all_places(alloc, net)?;
+        let flags = Tracker::flags(alloc, net)?;
+        let scratch = Scratch::open(alloc, net)?;
+        let own = net.copy(alloc)?;
+        let marked = net.copy(alloc)?;
+        Ok(Tracker::of_parts(own, marked, places, rows, saved, flags.0, flags.1, scratch))
+    }
+
+    /// Two flags for each link.
+    fn flags(alloc: Global, net: &Net) -> Result<(Vec<bool>, Vec<bool>), AllocError>
+        ensures first { IfOk result (λ flags. length flags.0.items ≡ length net.now.links) }
+        ensures second { IfOk result (λ flags. length flags.1.items ≡ length net.now.links) }
+    {
+        let links = net.links().len();
+        let first = vec![in alloc; false; links]?;
+        let second = vec![in alloc; false; links]?;
+        Ok((first, second))
+    }
+
+    /// The tracker of these parts.
+    fn of_parts(
+        net: Net,
+        marked: Net,
+        places: Vec<Places>,
+        rows: Rows,
+        saved: Saved,
+        own_changed: Vec<bool>,
+        changed: Vec<bool>,
+        scratch: Scratch,
+    ) -> Tracker
+        requires { IsTracking net marked rows saved places.items own_changed.items changed.items scratch }
+        ensures { result ≡ tracker_of net saved.live marked }
+    {
+        Tracker {
+            net,
+            marked,
+            places,
+            rows,
+            saved,
+            own_changed,
+            changed,
+            scratch,
+        }
+    }
+
+    /// Whether a mark is open.
+    pub fn is_marked(&self) -> bool
+        ensures { result ≡ is_some self.now.mark }
+    {
+        self.saved.is_live()
+    }
+
+    /// What leaves a link at a sweep, in millionths of a vehicle per step.
+    pub fn out(&self, sweep: u32, link: usize) -> &[u64]
+        requires sweep { sweep ≤ self.now.net.frame.sweeps }
+        requires link { link < length self.now.net.links }
+        ensures { result.now ≡ out_of self.now.net sweep link }
+    {
+        self.rows.out(sweep, link)
+    }
+
+    /// What comes to a link at the last sweep, before any cut, in millionths of a vehicle per step.
+    pub fn arrivals(&self, link: usize) -> &[u64]
+        requires { link < length self.now.net.links }
+        ensures { result.now ≡ (evaluated self.now.net link).arrivals }
+    {
+        self.rows.arrivals(link)
+    }
+
+    /// What can go of a link at the last sweep, in millionths of a vehicle per step.
+    pub fn go(&self, link: usize) -> &[u64]
+        requires { link < length self.now.net.links }
+        ensures { result.now ≡ (evaluated self.now.net link).go }
+    {
+        self.rows.go(link)
+    }
+
+    /// The queue at the end of each step of the last sweep, in millionths of a vehicle.
+    pub fn queue(&self, link: usize) -> &[u64]
+        requires { link < length self.now.net.links }
+        ensures { result.now ≡ (evaluated self.now.net link).queue }
+    {
+        self.rows.queue(link)
+    }
+
+    /// The figures of a link.
+    pub fn figures(&self, link: usize) -> Figures
+        requires { link < length self.now.net.links }
+        ensures { result ≡ (evaluated self.now.net link).figures }
+    {
+        self.rows.figures(link)
+    }
+
+    /// The index of the network.
+    pub fn index(&self) -> u128
+        ensures { result ≡ index self.now.net }
+    {
+        self.rows.index()
+    }
+
+    /// Follows edits: stands for `after` then, and returns how many pairs of a link and a sweep were due.
+    ///
+    /// Each of them is worked out once, in one step, and no other is. The mark stays. It takes no memory.
+    #[tactic(auto, using(crate::proofs::DueBounds::due_most))]
+    pub fn follow<L: Ledger>(&mut self, after: &Net, steps: &mut Steps<L>) -> u64
+        requires { SameShape self.old.net after.now }
+        ensures net { self.new.net ≡ after.now }
+        ensures mark { self.new.mark ≡ self.old.mark }
+        ensures due { result ≡ due self.old.net after.now }
+        ensures most { result ≤ self.old.net.frame.sweeps * length self.old.net.links }
+        ensures few { result ≤ 8000 }
+        ensures steps { steps.new ≡ steps.old + result }
+    {
+        let due = follow_rows(
+            &self.net,
+            after,
+            &self.places,
+            &mut self.rows,
+            &mut self.saved,
+            &mut self.own_changed,
+            &mut self.changed,
+            &mut self.scratch,
+            steps,
+        );
+        self.net.take_numbers(after);
+        due
+    }
+
+    /// Marks the network that it stands for. It takes no memory.
+    pub fn begin(&mut self)
+        requires { self.old.mark ≡ None }
+        ensures net { self.new.net ≡ self.old.net }
+        ensures mark { self.new.mark ≡ Some self.old.net }
+    {
+        self.marked.take_numbers(&self.net);
+        self.saved.begin();
+    }
+
+    /// Stands for the marked network again, and the mark is gone. It takes no memory and no step.
+    pub fn restore(&mut self)
+        requires { IsSome self.old.mark }
+        ensures net { self.old.mark ≡ Some self.new.net }
+        ensures mark { self.new.mark ≡ None }
+    {
+        restore_rows(&self.marked, &mut self.rows, &self.saved);
+        weigh_all(&self.marked, &mut self.rows);
+        self.net.take_numbers(&self.marked);
+        self.saved.settle();
+    }
+
+    /// The mark is gone, and all else stays.
+    pub fn settle(&mut self)
+        requires { IsSome self.old.mark }
+        ensures net { self.new.net ≡ self.old.net }
+        ensures mark { self.new.mark ≡ None }
+    {
+        self.saved.settle();
+    }
+}
