@@ -1,0 +1,4 @@
+pub mod FormLaws
+pub mod LoopLaws
+pub mod PrintLaws
+pub mod Worked
