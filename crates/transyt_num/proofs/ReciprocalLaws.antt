@@ -1,5 +1,5 @@
 -- Division by a product: the reciprocal of a divisor is the least number that times it reaches a power of two.
-use Rattle.std.proofs.Common.{◌≡◌, ℕ, ◌+◌, ◌-◌, ◌*◌, ◌/◌, ◌^◌, ◌<◌, ◌≤◌, arith, sym, ◌∙◌}
+use Rattle.std.proofs.Common.{◌≡◌, ℕ, ◌+◌, ◌-◌, ◌*◌, ◌/◌, ◌<◌, ◌≤◌, arith, sym}
 use Rattle.std.proofs.Math.Nat.{
   div-eq_of_lt-le,
   div-mul-le_self,
@@ -10,11 +10,11 @@ use Rattle.std.proofs.Math.Nat.{
   le_of_mul-le-mul_right,
 }
 
--- the number behind the quotient of the number before a power reaches it
+-- the number after the quotient of p by d reaches the number after p, times d
 pub reciprocal_least : (p d : ℕ) → 0 < d → p + 1 ≤ (p / d + 1) * d
 reciprocal_least p d some = let over : p < p / d * d + d = lt-div-mul-add some in omega (arith, over)
 
--- and no smaller one does
+-- and goes past it by at most d
 pub reciprocal_close : (p d : ℕ) → 0 < d → (p / d + 1) * d < p + 1 + d
 reciprocal_close p d some = omega (arith, div-mul-le_self p d)
 
@@ -33,7 +33,7 @@ from_above n d m p some close small =
     mul-le-mul_right p (let over : n < n / d * d + d = lt-div-mul-add some in omega (arith, over)) in
     lt_of_mul-lt-mul_right d (omega (arith, most, next))
 
--- so the product over the power is the quotient
+-- THE LAW: where n times d is below the power, the product by the reciprocal over the power is the quotient
 pub by_reciprocal : (n d m p : ℕ) → 0 < d → p ≤ m * d → m * d < p + d → n * d < p → n * m / p ≡ n / d
 by_reciprocal n d m p some least close small =
     div-eq_of_lt-le p (from_below n d m p least) (from_above n d m p some close small)

@@ -1,8 +1,11 @@
-//! Divisions by one number, many times.
+//! Divisions of many numbers by one: a product takes the place of each.
 
 ghost use Rattle.std.specs.Prelude.{◌≡◌, ◌+◌, ◌*◌, ◌/◌, ◌^◌, ◌<◌, ◌≤◌};
 
-/// The least m with m · `d` at least 2^64: `divided` divides by it with one product.
+/// The reciprocal of `d`: the least m with m · `d` at least 2^64.
+///
+/// Where n · `d` is below 2^64, n over `d`, rounded down, is n · m / 2^64: one product in place of a division
+/// (`by_reciprocal` of `proofs/ReciprocalLaws`).
 #[tactic(auto, using(crate::proofs::ReciprocalLaws::reciprocal_least, crate::proofs::ReciprocalLaws::reciprocal_close))]
 pub fn reciprocal(d: u64) -> u64
     requires { 1 < d }
@@ -12,21 +15,9 @@ pub fn reciprocal(d: u64) -> u64
     u64::MAX / d + 1
 }
 
-/// `n` over `d`, rounded down, where `m` is the reciprocal of `d`.
-#[tactic(auto, using(crate::proofs::ReciprocalLaws::by_reciprocal))]
-pub fn divided(n: u64, d: u64, m: u64) -> u64
-    requires some { 1 < d }
-    requires small { n * d < 2 ^ 64 }
-    requires least { 2 ^ 64 ≤ m * d }
-    requires close { m * d < 2 ^ 64 + d }
-    ensures { result ≡ n / d }
-{
-    let _ = d;
-    ((u128::from(n) * u128::from(m)) >> 64) as u64
-}
-
-/// `n` over `d`, rounded down, by a number `near` that times `d` is below 2^64. With the greatest such number it
-/// almost never divides.
+/// `n` over `d`, rounded down, by a number `near` that times `d` is below 2^64.
+///
+/// With the greatest such number, `u64::MAX / d`, it almost never divides.
 #[tactic(auto, using(crate::proofs::ReciprocalLaws::never_above, crate::proofs::ReciprocalLaws::is_quotient))]
 pub fn divided_near(n: u64, d: u64, near: u64) -> u64
     requires some { 0 < d }

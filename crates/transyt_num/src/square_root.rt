@@ -18,7 +18,7 @@ pub fn isqrt(v: u128) -> u128
     root_near(v, guess(v))
 }
 
-/// The root of `v`, at once where `near` is it or the number after it.
+/// The root of `v`: with no search where `near` is the root or the number after it.
 fn root_near(v: u128, near: u64) -> u128
     ensures floor { result * result ≤ v }
     ensures next { v < (result + 1) * (result + 1) }
@@ -43,7 +43,7 @@ fn is_root(v: u128, r: u64) -> bool
     square <= v && v - square <= 2 * root
 }
 
-/// A number near the root of `v`. Nothing rests on how near.
+/// A number near the root of `v`, by floats. Nothing rests on how near: `root_near` tests it.
 fn guess(v: u128) -> u64 {
     let high = nearest_u64_to_f64((v >> 64) as u64);
     let low = nearest_u64_to_f64((v % 18446744073709551616) as u64);

@@ -3,9 +3,9 @@
 ghost use Rattle.std.specs.Prelude.{◌≡◌, ℕ, ◌^◌, ◌<◌, ◌≤◌, take, drop, decimal, Some};
 ghost use Rattle.transyt_num.specs.Number.{number_of, IsShortest};
 
-/// Writes the shortest decimal text of `v` at the front of `out`, and answers its length, 1 to 39.
+/// Writes the shortest decimal text of `v` at the front of `out`, and returns its length, 1 to 39.
 ///
-/// The bytes of `out` behind the text stay. The text of a `u64` has at most 20 bytes.
+/// The bytes of `out` after the text stay. The text of a `u64` has at most 20 bytes.
 pub fn put_number(v: u128, out: &mut [u8; 39]) -> usize
     ensures text { take result out.new ≡ decimal v }
     ensures shortest { IsShortest v (take result out.new) }

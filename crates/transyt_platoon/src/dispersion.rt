@@ -32,7 +32,7 @@ pub fn disperse(x: &[u64], t: u32, percent: u32, out: &mut [u64])
     go_round(x, t, percent, whole, mean, most, out);
 }
 
-// twice round the cycle from the mean
+/// Twice round the cycle from the mean: by products where the values leave room for them, else by divisions.
 fn go_round(x: &[u64], t: u32, percent: u32, whole: u64, mean: u64, most: u64, out: &mut [u64])
     requires steps { 0 < length x.now }
     requires lengths { length x.now ≡ length out.old }
@@ -54,7 +54,7 @@ fn go_round(x: &[u64], t: u32, percent: u32, whole: u64, mean: u64, most: u64, o
     }
 }
 
-// twice round the cycle, with a division in each step
+/// Twice round the cycle with a division in each step: the second turn is written.
 fn travel(x: &[u64], t: u32, percent: u32, mean: u64, out: &mut [u64])
     requires steps { 0 < length x.now }
     requires lengths { length x.now ≡ length out.old }
@@ -79,7 +79,7 @@ fn travel(x: &[u64], t: u32, percent: u32, mean: u64, out: &mut [u64])
     }
 }
 
-// what goes by in one step: 100 parts of what set out and `weight` parts of what went by before
+/// What goes by in one step: 100 parts of what set out and `weight` parts of what went by a step before.
 fn mix(weight: u64, starting: u64, before: u64) -> u64
     requires weight { weight ≤ 96000 }
     requires starting { starting < 2 ^ 44 }
@@ -90,7 +90,7 @@ fn mix(weight: u64, starting: u64, before: u64) -> u64
     (100 * starting + weight * before) / (100 + weight)
 }
 
-// the step after a step, round the cycle
+/// The step after a step, round the cycle.
 pub(crate) fn after(step_count: usize, step: usize) -> usize
     requires { step < step_count }
     ensures value { result ≡ (step + 1) % step_count }

@@ -1,3 +1,5 @@
+//! Platoons worked out outside, at dispersions and travel times of all kinds.
+
 use super::*;
 
 // ten vehicles in the first of ten steps, after so many steps of travel and with so much dispersion

@@ -1,3 +1,5 @@
+//! The sum of two profiles.
+
 ghost use Rattle.std.specs.Prelude.{◌≡◌, ℕ, ◌+◌, ◌-◌, ◌^◌, ◌<◌, length, All};
 ghost use Rattle.transyt_profile.specs.Profile.{added};
 

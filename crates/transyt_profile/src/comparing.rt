@@ -1,3 +1,5 @@
+//! Two profiles compared.
+
 ghost use Rattle.std.specs.Prelude.{◌≡◌, ◌↔◌, IsTrue};
 
 /// Whether two profiles have the same number of steps and the same value at each. The values are compared exactly.

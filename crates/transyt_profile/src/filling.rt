@@ -1,3 +1,5 @@
+//! A profile of one value.
+
 ghost use Rattle.std.specs.Prelude.{◌≡◌, ℕ, ◌<◌, length, All};
 ghost use Rattle.transyt_profile.specs.Profile.{uniform};
 

@@ -1,3 +1,5 @@
+//! Each call at values worked out by hand.
+
 use super::*;
 
 // one row: two profiles, the part and the whole of a share, and what each call gives

@@ -1,3 +1,5 @@
+//! The total of a profile over the cycle.
+
 ghost use Rattle.std.specs.Prelude.{◌≡◌, ℕ, ◌*◌, ◌^◌, ◌<◌, ◌≤◌, length, sum, All};
 
 /// The sum of a profile's values over the cycle, exact: `x` holds one for each step, and the sum is in their unit.

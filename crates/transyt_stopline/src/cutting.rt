@@ -1,3 +1,5 @@
+//! What reaches the stop line of what comes to it.
+
 ghost use Rattle.std.specs.Prelude.{◌≡◌, ℕ, ◌^◌, ◌*◌, ◌<◌, ◌≤◌, length, sum, slice_index, All};
 ghost use Rattle.transyt_stopline.specs.Cut.{arrivals_of, scaled};
 
@@ -29,21 +31,21 @@ pub fn cut_arrivals(x: &[u64], go: &[u64], out: &mut [u64])
     }
 }
 
-// each step scaled down to `served` of `come`, the sum of all steps
+/// Scales each step down to `served` of `come`, the sum of all steps.
 fn scale(x: &[u64], served: u64, come: u64, out: &mut [u64])
     requires lengths { length out.old ≡ length x.now }
     requires whole { come ≡ sum x.now }
     requires part { served < come }
     ensures { (k : ℕ) → k < length x.now → slice_index out.new k ≡ scaled come served (slice_index x.now k) }
 {
-    if come < 4294967296 {
+    if come < 1 << 32 {
         scale_near(x, served, come, out);
     } else {
         scale_each(x, served, come, out);
     }
 }
 
-// the same with one division for all steps
+/// The same with one division for all steps, where the sum has 32 bits.
 fn scale_near(x: &[u64], served: u64, come: u64, out: &mut [u64])
     requires lengths { length out.old ≡ length x.now }
     requires whole { come ≡ sum x.now }
@@ -57,6 +59,7 @@ fn scale_near(x: &[u64], served: u64, come: u64, out: &mut [u64])
     }
 }
 
+/// One step scaled down, by a number near the reciprocal of `come`.
 #[tactic(auto, using(crate::proofs::CutLaws::product_fits))]
 fn scaled_near(value: u64, served: u64, come: u64, near: u64) -> u64
     requires value { value ≤ come }
@@ -68,7 +71,7 @@ fn scaled_near(value: u64, served: u64, come: u64, near: u64) -> u64
     divided_near(value * served, come, near)
 }
 
-// the same with a division at each step
+/// The same with a division at each step.
 fn scale_each(x: &[u64], served: u64, come: u64, out: &mut [u64])
     requires lengths { length out.old ≡ length x.now }
     requires whole { come ≡ sum x.now }
@@ -80,6 +83,7 @@ fn scale_each(x: &[u64], served: u64, come: u64, out: &mut [u64])
     }
 }
 
+/// One step scaled down, by a division.
 #[tactic(auto, using(crate::proofs::CutLaws::scaled_part))]
 fn scale_one(value: u64, served: u64, come: u64) -> u64
     requires value { value ≤ come }

@@ -1,3 +1,5 @@
+//! The queue at the stop line, and what leaves.
+
 ghost use Rattle.std.specs.Prelude.{◌≡◌, ℕ, ◌+◌, ◌-◌, ◌^◌, ◌<◌, ◌≤◌, length, sum, slice_index, All};
 ghost use Rattle.transyt_cycle.specs.Cycle.{step_before};
 ghost use Rattle.transyt_stopline.specs.Queue.{queues, outs, IsQueue};

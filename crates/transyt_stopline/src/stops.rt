@@ -1,3 +1,5 @@
+//! The vehicles that stop.
+
 ghost use Rattle.std.specs.Prelude.{◌≡◌, ◌^◌, ◌<◌, ◌≤◌, length, All};
 ghost use Rattle.transyt_stopline.specs.Stops.{stopping, stopped_of};
 
@@ -19,7 +21,7 @@ pub fn stopped(arrivals: &[u64], queue: &[u64]) -> u64
     all
 }
 
-// what stops of one step's arrivals
+/// What stops of one step's arrivals: all of them where a queue stands at the step's end.
 fn stopping(arrival: u64, queue: u64) -> u64
     ensures value { result ≡ stopping arrival queue }
     ensures part { result ≤ arrival }

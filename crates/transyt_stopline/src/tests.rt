@@ -1,3 +1,5 @@
+//! Cycles worked out by hand.
+
 use super::*;
 
 // one cycle of ten steps: what comes, what the green lets pass, and what follows

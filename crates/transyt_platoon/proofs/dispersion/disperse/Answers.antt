@@ -1,5 +1,5 @@
 -- The two turns write the dispersed profile.
-use Rattle.std.proofs.Common.{◌≡◌, ℕ, ◌+◌, ◌-◌, ◌*◌, ◌/◌, rules, ◌^◌, List, length, ap, sym, ◌∙◌, arith}
+use Rattle.std.proofs.Common.{◌-◌, ◌^◌, length, ◌∙◌, arith}
 use Rattle.std.proofs.Math.Nat.{div-le_of_le-mul}
 use Rattle.transyt_platoon.proofs.Mixing.{dispersed_uniform, placed_all, placed_by_step, placed_small}
 use Rattle.transyt_platoon.proofs.dispersion.disperse.Goals as goal

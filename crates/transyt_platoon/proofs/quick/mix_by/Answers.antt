@@ -1,5 +1,5 @@
 -- The product is the mean.
-use Rattle.std.proofs.Common.{◌≡◌, ◌+◌, ◌-◌, ◌*◌, ◌/◌, ◌^◌, ◌<◌, ap, ◌∙◌, arith}
+use Rattle.std.proofs.Common.{◌-◌, ◌^◌, arith}
 use Rattle.transyt_platoon.proofs.Parts.{mixed_by}
 use Rattle.transyt_platoon.proofs.Mixing.{mixed-le}
 use Rattle.transyt_platoon.proofs.quick.mix_by.Goals as goal
@@ -8,8 +8,8 @@ use Rattle.transyt_platoon.proofs.quick.mix_by.Goals as goal
 pub returns-clause-value : goal.returns-clause-value
 returns-clause-value c =
     let r = c.requires in
-    rw (c.from.ensures, c.from-2.ensures, c.from-3.ensures, c.from-4.ensures, r.ours, r.theirs)
-    (mixed_by c.args.weight c.args.by c.args.starting c.args.before c.args.most (2 ^ 64) r.least r.close r.most r.starting
+    rw (c.from.ensures, c.from-2.ensures, c.from-3.ensures, c.from-4.ensures, r.starting_factor, r.before_factor)
+    (mixed_by c.args.weight c.args.reciprocal c.args.starting c.args.before c.args.most (2 ^ 64) r.least r.close r.most r.starting
     r.before)
 
 -- a mean of numbers below a limit

@@ -1,9 +1,8 @@
 -- The two turns write the dispersed profile.
-use Rattle.std.proofs.Common.{◌≡◌, ℕ, ◌+◌, ◌-◌, ◌*◌, ◌/◌, rules, ◌^◌, List, length, ap, sym, ◌∙◌, arith}
-use Rattle.std.proofs.Math.Nat.{div-le_of_le-mul}
+use Rattle.std.proofs.Common.{◌≡◌, ℕ, ◌+◌, ◌*◌, rules, List, length, ap, sym, ◌∙◌, arith}
 use Rattle.transyt_platoon.specs.Platoon.{smoothed}
-use Rattle.transyt_platoon.proofs.Mixing.{smoothed_none, first_more, second_more, dispersed_uniform}
-use Rattle.transyt_platoon.proofs.Mixing.{placed_all, placed_by_step, placed_small, placed_more, place_more, Placed}
+use Rattle.transyt_platoon.proofs.Mixing.{smoothed_none, first_more, second_more}
+use Rattle.transyt_platoon.proofs.Mixing.{placed_more, place_more}
 use Rattle.transyt_platoon.proofs.quick.travel_by.Goals as goal
 
 -- both turns begin with the mean

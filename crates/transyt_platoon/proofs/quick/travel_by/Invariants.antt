@@ -1,5 +1,5 @@
 -- A profile goes by twice, step by step.
-use Rattle.std.proofs.Common.{◌≡◌, ◌+◌, ◌*◌, ◌%◌, ◌^◌, ◌<◌, length}
+use Rattle.std.proofs.Common.{◌≡◌, ◌+◌, ◌*◌, ◌%◌, ◌<◌, length}
 use Rattle.transyt_platoon.specs.Platoon.{smoothed}
 use Rattle.transyt_platoon.proofs.Mixing.{Placed}
 use Rattle.transyt_platoon.proofs.quick.travel_by.Given as goal

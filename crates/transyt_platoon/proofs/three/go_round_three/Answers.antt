@@ -1,5 +1,5 @@
 -- The two turns write the three dispersed profiles.
-use Rattle.std.proofs.Common.{◌≡◌, ℕ, ◌+◌, ◌-◌, ◌*◌, ◌/◌, ◌%◌, rules, ◌^◌, ◌<◌, List, length, ap, sym, ◌∙◌, arith, get_or}
+use Rattle.std.proofs.Common.{◌≡◌, ℕ, ◌+◌, ◌*◌, ◌%◌, ◌^◌, length, ap, sym, ◌∙◌, arith}
 use Rattle.transyt_platoon.specs.Platoon.{smoothed, mixed}
 use Rattle.transyt_platoon.proofs.Mixing.{smoothed_none, first_more, second_more}
 use Rattle.transyt_platoon.proofs.Mixing.{placed_all, placed_small, placed_more, place_more, Placed}
@@ -15,9 +15,9 @@ weighed w v x z r same mix = mix ∙ ap (λ k. mixed k x z) same
 
 -- the next value of the smoothed profile
 one_now : (c : goal.After-after-three_place) → c.mix_small-one-in-second.result
-    ≡ smoothed c.args.x.now (c.args.a.now.percent * c.args.a.now.time) (length c.args.x.now + 1 + c.second.i)
+    ≡ smoothed c.args.x.now (c.args.x_travel.now.percent * c.args.x_travel.now.time) (length c.args.x.now + 1 + c.second.i)
 one_now c =
-    second_more c.args.x.now (c.args.a.now.percent * c.args.a.now.time) c.second.i c.second.one _ (omega arith)
+    second_more c.args.x.now (c.args.x_travel.now.percent * c.args.x_travel.now.time) c.second.i c.second.one _ (omega arith)
     c.second.invariant.one (weighed _ _ _ _ _ c.requires.x_travel.weight c.mix_small-one-in-second.ensures.value)
 
 -- its next place
@@ -26,9 +26,9 @@ one_after c = c.after-one_place.ensures.value ∙ ap (λ n. (c.second.one_place 
 
 -- the next value of the smoothed profile
 two_now : (c : goal.After-after-three_place) → c.mix_small-two-in-second.result
-    ≡ smoothed c.args.y.now (c.args.b.now.percent * c.args.b.now.time) (length c.args.y.now + 1 + c.second.i)
+    ≡ smoothed c.args.y.now (c.args.y_travel.now.percent * c.args.y_travel.now.time) (length c.args.y.now + 1 + c.second.i)
 two_now c =
-    second_more c.args.y.now (c.args.b.now.percent * c.args.b.now.time) c.second.i c.second.two _ (omega arith)
+    second_more c.args.y.now (c.args.y_travel.now.percent * c.args.y_travel.now.time) c.second.i c.second.two _ (omega arith)
     c.second.invariant.two (weighed _ _ _ _ _ c.requires.y_travel.weight c.mix_small-two-in-second.ensures.value)
 
 -- its next place
@@ -37,9 +37,9 @@ two_after c = c.after-two_place.ensures.value ∙ ap (λ n. (c.second.two_place 
 
 -- the next value of the smoothed profile
 three_now : (c : goal.After-after-three_place) → c.mix_small-three-in-second.result
-    ≡ smoothed c.args.z.now (c.args.c.now.percent * c.args.c.now.time) (length c.args.z.now + 1 + c.second.i)
+    ≡ smoothed c.args.z.now (c.args.z_travel.now.percent * c.args.z_travel.now.time) (length c.args.z.now + 1 + c.second.i)
 three_now c =
-    second_more c.args.z.now (c.args.c.now.percent * c.args.c.now.time) c.second.i c.second.three _ (omega arith)
+    second_more c.args.z.now (c.args.z_travel.now.percent * c.args.z_travel.now.time) c.second.i c.second.three _ (omega arith)
     c.second.invariant.three (weighed _ _ _ _ _ c.requires.z_travel.weight c.mix_small-three-in-second.ensures.value)
 
 -- its next place
@@ -50,24 +50,24 @@ three_after c = c.after-three_place.ensures.value ∙ ap (λ n. (c.second.three_
 pub first-init : goal.first-init
 first-init c = record {
   one_small = omega (arith, c.mean-one.ensures.small);
-  one = c.mean-one.ensures.value ∙ sym (smoothed_none c.args.x.now (c.args.a.now.percent * c.args.a.now.time));
+  one = c.mean-one.ensures.value ∙ sym (smoothed_none c.args.x.now (c.args.x_travel.now.percent * c.args.x_travel.now.time));
   two_small = omega (arith, c.mean-two.ensures.small);
-  two = c.mean-two.ensures.value ∙ sym (smoothed_none c.args.y.now (c.args.b.now.percent * c.args.b.now.time));
+  two = c.mean-two.ensures.value ∙ sym (smoothed_none c.args.y.now (c.args.y_travel.now.percent * c.args.y_travel.now.time));
   three_small = omega (arith, c.mean-three.ensures.small);
-  three = c.mean-three.ensures.value ∙ sym (smoothed_none c.args.z.now (c.args.c.now.percent * c.args.c.now.time));
+  three = c.mean-three.ensures.value ∙ sym (smoothed_none c.args.z.now (c.args.z_travel.now.percent * c.args.z_travel.now.time));
 }
 
 -- one step of the first turn
 pub first-preserved : goal.first-preserved
 first-preserved c = record {
   one_small = c.mix_small-one.ensures.small;
-  one = first_more c.args.x.now (c.args.a.now.percent * c.args.a.now.time) c.first.i c.first.one _ (omega arith)
+  one = first_more c.args.x.now (c.args.x_travel.now.percent * c.args.x_travel.now.time) c.first.i c.first.one _ (omega arith)
       c.first.invariant.one (weighed _ _ _ _ _ c.requires.x_travel.weight c.mix_small-one.ensures.value);
   two_small = c.mix_small-two.ensures.small;
-  two = first_more c.args.y.now (c.args.b.now.percent * c.args.b.now.time) c.first.i c.first.two _ (omega arith)
+  two = first_more c.args.y.now (c.args.y_travel.now.percent * c.args.y_travel.now.time) c.first.i c.first.two _ (omega arith)
       c.first.invariant.two (weighed _ _ _ _ _ c.requires.y_travel.weight c.mix_small-two.ensures.value);
   three_small = c.mix_small-three.ensures.small;
-  three = first_more c.args.z.now (c.args.c.now.percent * c.args.c.now.time) c.first.i c.first.three _ (omega arith)
+  three = first_more c.args.z.now (c.args.z_travel.now.percent * c.args.z_travel.now.time) c.first.i c.first.three _ (omega arith)
       c.first.invariant.three (weighed _ _ _ _ _ c.requires.z_travel.weight c.mix_small-three.ensures.value);
 }
 
@@ -75,60 +75,60 @@ first-preserved c = record {
 pub second-preserved : goal.second-preserved
 second-preserved c = record {
   one_small = c.mix_small-one-in-second.ensures.small;
-  one = one_now c ∙ ap (smoothed c.args.x.now (c.args.a.now.percent * c.args.a.now.time)) (next (length c.args.x.now) c.second.i);
-  one_place = place_more (length c.args.x.now) c.second.i c.args.a.now.time c.second.one_place _ c.second.invariant.one_place
+  one = one_now c ∙ ap (smoothed c.args.x.now (c.args.x_travel.now.percent * c.args.x_travel.now.time)) (next (length c.args.x.now) c.second.i);
+  one_place = place_more (length c.args.x.now) c.second.i c.args.x_travel.now.time c.second.one_place _ c.second.invariant.one_place
       (one_after c);
-  one_placed = placed_more c.args.x.now c.second.x_out c.args.a.now.time c.args.a.now.percent c.second.i c.second.one_place _
+  one_placed = placed_more c.args.x.now c.second.x_out c.args.x_travel.now.time c.args.x_travel.now.percent c.second.i c.second.one_place _
       (omega arith) (omega arith) c.second.invariant.one_place c.second.invariant.one_placed (one_now c);
   two_small = c.mix_small-two-in-second.ensures.small;
-  two = two_now c ∙ ap (smoothed c.args.y.now (c.args.b.now.percent * c.args.b.now.time)) (next (length c.args.y.now) c.second.i);
-  two_place = place_more (length c.args.y.now) c.second.i c.args.b.now.time c.second.two_place _ c.second.invariant.two_place
+  two = two_now c ∙ ap (smoothed c.args.y.now (c.args.y_travel.now.percent * c.args.y_travel.now.time)) (next (length c.args.y.now) c.second.i);
+  two_place = place_more (length c.args.y.now) c.second.i c.args.y_travel.now.time c.second.two_place _ c.second.invariant.two_place
       (two_after c);
-  two_placed = placed_more c.args.y.now c.second.y_out c.args.b.now.time c.args.b.now.percent c.second.i c.second.two_place _
+  two_placed = placed_more c.args.y.now c.second.y_out c.args.y_travel.now.time c.args.y_travel.now.percent c.second.i c.second.two_place _
       (omega arith) (omega arith) c.second.invariant.two_place c.second.invariant.two_placed (two_now c);
   three_small = c.mix_small-three-in-second.ensures.small;
-  three = three_now c ∙ ap (smoothed c.args.z.now (c.args.c.now.percent * c.args.c.now.time)) (next (length c.args.z.now) c.second.i);
-  three_place = place_more (length c.args.z.now) c.second.i c.args.c.now.time c.second.three_place _ c.second.invariant.three_place
+  three = three_now c ∙ ap (smoothed c.args.z.now (c.args.z_travel.now.percent * c.args.z_travel.now.time)) (next (length c.args.z.now) c.second.i);
+  three_place = place_more (length c.args.z.now) c.second.i c.args.z_travel.now.time c.second.three_place _ c.second.invariant.three_place
       (three_after c);
-  three_placed = placed_more c.args.z.now c.second.z_out c.args.c.now.time c.args.c.now.percent c.second.i c.second.three_place _
+  three_placed = placed_more c.args.z.now c.second.z_out c.args.z_travel.now.time c.args.z_travel.now.percent c.second.i c.second.three_place _
       (omega arith) (omega arith) c.second.invariant.three_place c.second.invariant.three_placed (three_now c);
 }
 
 -- at its end the whole turn is placed
-one_whole : (c : goal.After-second) → Placed c.args.x.now c.second.x_out c.args.a.now.time c.args.a.now.percent (length c.args.x.now)
+one_whole : (c : goal.After-second) → Placed c.args.x.now c.second.x_out c.args.x_travel.now.time c.args.x_travel.now.percent (length c.args.x.now)
 one_whole c k below = c.second.invariant.one_placed k (omega arith)
 
 pub returns-clause-x_value : goal.returns-clause-x_value
 returns-clause-x_value c =
-    placed_all c.args.x.now c.second.x_out c.args.a.now.time c.args.a.now.percent (omega arith) (one_whole c)
+    placed_all c.args.x.now c.second.x_out c.args.x_travel.now.time c.args.x_travel.now.percent (omega arith) (one_whole c)
 
 pub returns-clause-x_small : goal.returns-clause-x_small
 returns-clause-x_small c =
-    placed_small c.args.x.now c.second.x_out c.args.a.now.time c.args.a.now.percent (2 ^ 44) (omega arith) (one_whole c)
+    placed_small c.args.x.now c.second.x_out c.args.x_travel.now.time c.args.x_travel.now.percent (2 ^ 44) (omega arith) (one_whole c)
     (λ k d h. omega (arith, c.requires.x_fit k d h, c.requires.x_travel.small))
 
 -- at its end the whole turn is placed
-two_whole : (c : goal.After-second) → Placed c.args.y.now c.second.y_out c.args.b.now.time c.args.b.now.percent (length c.args.y.now)
+two_whole : (c : goal.After-second) → Placed c.args.y.now c.second.y_out c.args.y_travel.now.time c.args.y_travel.now.percent (length c.args.y.now)
 two_whole c k below = c.second.invariant.two_placed k (omega arith)
 
 pub returns-clause-y_value : goal.returns-clause-y_value
 returns-clause-y_value c =
-    placed_all c.args.y.now c.second.y_out c.args.b.now.time c.args.b.now.percent (omega arith) (two_whole c)
+    placed_all c.args.y.now c.second.y_out c.args.y_travel.now.time c.args.y_travel.now.percent (omega arith) (two_whole c)
 
 pub returns-clause-y_small : goal.returns-clause-y_small
 returns-clause-y_small c =
-    placed_small c.args.y.now c.second.y_out c.args.b.now.time c.args.b.now.percent (2 ^ 44) (omega arith) (two_whole c)
+    placed_small c.args.y.now c.second.y_out c.args.y_travel.now.time c.args.y_travel.now.percent (2 ^ 44) (omega arith) (two_whole c)
     (λ k d h. omega (arith, c.requires.y_fit k d h, c.requires.y_travel.small))
 
 -- at its end the whole turn is placed
-three_whole : (c : goal.After-second) → Placed c.args.z.now c.second.z_out c.args.c.now.time c.args.c.now.percent (length c.args.z.now)
+three_whole : (c : goal.After-second) → Placed c.args.z.now c.second.z_out c.args.z_travel.now.time c.args.z_travel.now.percent (length c.args.z.now)
 three_whole c k below = c.second.invariant.three_placed k (omega arith)
 
 pub returns-clause-z_value : goal.returns-clause-z_value
 returns-clause-z_value c =
-    placed_all c.args.z.now c.second.z_out c.args.c.now.time c.args.c.now.percent (omega arith) (three_whole c)
+    placed_all c.args.z.now c.second.z_out c.args.z_travel.now.time c.args.z_travel.now.percent (omega arith) (three_whole c)
 
 pub returns-clause-z_small : goal.returns-clause-z_small
 returns-clause-z_small c =
-    placed_small c.args.z.now c.second.z_out c.args.c.now.time c.args.c.now.percent (2 ^ 44) (omega arith) (three_whole c)
+    placed_small c.args.z.now c.second.z_out c.args.z_travel.now.time c.args.z_travel.now.percent (2 ^ 44) (omega arith) (three_whole c)
     (λ k d h. omega (arith, c.requires.z_fit k d h, c.requires.z_travel.small))

@@ -1,6 +1,5 @@
 -- The product is the mean, and it fits.
-use Rattle.std.proofs.Common.{◌≡◌, ◌+◌, ◌-◌, ◌*◌, ◌/◌, ◌^◌, ◌<◌, ◌≤◌, ap, ◌∙◌, arith}
-use Rattle.std.proofs.lemmas.Nat.{mul-le}
+use Rattle.std.proofs.Common.{◌-◌, arith}
 use Rattle.transyt_platoon.proofs.Parts.{mixed_by}
 use Rattle.transyt_platoon.proofs.Mixing.{mixed-le}
 use Rattle.transyt_platoon.proofs.three.mix_small.Goals as goal
@@ -9,8 +8,8 @@ use Rattle.transyt_platoon.proofs.three.mix_small.Goals as goal
 pub returns-clause-value : goal.returns-clause-value
 returns-clause-value c =
     let r = c.requires in
-    rw (r.is.ours, r.is.theirs)
-    (mixed_by c.args.mixer.now.weight c.args.mixer.now.by c.args.starting c.args.before c.args.mixer.now.most
+    rw (r.is.starting_factor, r.is.before_factor)
+    (mixed_by c.args.travel.now.weight c.args.travel.now.reciprocal c.args.starting c.args.before c.args.travel.now.limit
     1099511627776 r.is.least r.is.close r.is.room r.starting r.before)
 
 -- a mean of numbers below a limit
@@ -20,6 +19,6 @@ returns-clause-small c =
     omega (
       arith,
       mean,
-      mixed-le c.args.mixer.now.weight c.args.starting c.args.before (c.args.mixer.now.most - 1) (omega arith)
+      mixed-le c.args.travel.now.weight c.args.starting c.args.before (c.args.travel.now.limit - 1) (omega arith)
           (omega arith),
     )

@@ -1,5 +1,5 @@
 -- A step is at most the whole.
-use Rattle.std.proofs.Common.{◌≡◌, ◌≤◌, get_or, sum, arith}
+use Rattle.std.proofs.Common.{arith}
 use Rattle.std.proofs.lemmas.List.Sums.{get_or-le-sum_by}
 use Rattle.transyt_stopline.proofs.cutting.scale_near.Goals as goal
 

@@ -1,7 +1,7 @@
 -- How large a share can be.
 use Rattle.std.proofs.Common.{arith}
 use Rattle.std.proofs.lemmas.List.{get_or_default}
-use Rattle.transyt_profile.proofs.sharing.share_by.Goals as goal
+use Rattle.transyt_profile.proofs.sharing.share_quick.Goals as goal
 
 -- each step passed was below its limit, and all are passed
 pub returns-clause-small : goal.returns-clause-small
