@@ -1,9 +1,9 @@
 -- Tests of the numbers below a limit: whether all of them pass, and whether one does.
 use Rattle.std.proofs.Common.{◌≡◌, ℕ, suc, zero, ◌+◌, ◌<◌, Bool, true, false, [], ◌∷◌, ◌++◌, ◌||◌, refl, sym, ap, ◌∙◌}
-use Rattle.std.proofs.Common.{arith, zero-add}
+use Rattle.std.proofs.Common.{arith, zero-add, ◌⊎◌, inl, inr}
 use Rattle.std.specs.List.{list_all, list_any, range_with_len, Any}
 use Rattle.std.proofs.Math.Bool.{or-false}
-use Rattle.std.proofs.lemmas.Bool.{and_from}
+use Rattle.std.proofs.lemmas.Bool.{and_from, true_from_ne_false, both_ways, true≢false, cases_Bool}
 use Rattle.std.proofs.lemmas.List.Folds.{list_all-append, list_all_at, list_any_none, list_any_at, list_any-append}
 use Rattle.std.proofs.lemmas.List.Folds.{Any-from_list_any}
 use Rattle.std.proofs.lemmas.List.FromFn.{length-range_with_len, get_or-range_with_len}
@@ -33,6 +33,39 @@ not_all_places test n k inside fails =
     let same : 0 + k ≡ k = omega arith in
     list_all_at test (range_with_len 0 n) k 0 (omega arith)
     (ap test (get_or-range_with_len 0 n k 0 inside ∙ same) ∙ fails)
+
+-- each passes where all do
+pub all_below : (test : ℕ → Bool) (n : ℕ) → list_all test (range_with_len 0 n) ≡ true → (k : ℕ) → k < n
+    → test k ≡ true
+all_below test n all k inside =
+    true_from_ne_false (test k) (λ fails. both_ways _ (not_all_places test n k inside fails) all)
+
+-- all pass where each does
+pub each_below : (test : ℕ → Bool) (n : ℕ) → ((k : ℕ) → k < n → test k ≡ true)
+    → list_all test (range_with_len 0 n) ≡ true
+each_below test zero each = refl
+each_below test (suc n) each =
+    let next : suc n ≡ n + 1 = omega arith in
+    ap (λ m. list_all test (range_with_len 0 m)) next
+    ∙ all_places_more test n (each_below test n (λ k less. each k (omega arith))) (each n (omega arith))
+
+-- one that does not pass
+pub lacks_below : (test : ℕ → Bool) (n : ℕ) → list_all test (range_with_len 0 n) ≡ false
+    → (k : ℕ) × (k < n) × (test k ≡ false)
+lacks_below test zero fails = absurd (true≢false fails)
+lacks_below test (suc n) fails = by (cases_Bool (list_all test (range_with_len 0 n))) (cases_Bool (test n)) (lacks_below test n)
+  where
+    next : suc n ≡ n + 1
+    next = omega arith
+
+    by : (list_all test (range_with_len 0 n) ≡ true) ⊎ (list_all test (range_with_len 0 n) ≡ false)
+        → (test n ≡ true) ⊎ (test n ≡ false)
+        → (list_all test (range_with_len 0 n) ≡ false → (k : ℕ) × (k < n) × (test k ≡ false))
+        → (k : ℕ) × (k < suc n) × (test k ≡ false)
+    by before (inr here) rest = (n, omega arith, here)
+    by (inr before) (inl here) rest = let found = rest before in (found.0, omega (arith, found.1), found.2)
+    by (inl before) (inl here) rest =
+        absurd (both_ways _ fails (ap (λ m. list_all test (range_with_len 0 m)) next ∙ all_places_more test n before here))
 
 -- where none passes
 pub none_below : (p : ℕ → Bool) (m : ℕ) → ((j : ℕ) → j < m → p j ≡ false) → list_any p (range_with_len 0 m) ≡ false

@@ -1,4 +1,6 @@
 pub mod BelowLaws
 pub mod CopyLaws
-mod KnownValues
+pub mod KeptLaws
+pub mod PlanFacts
 pub mod PlanLaws
+pub mod Worked

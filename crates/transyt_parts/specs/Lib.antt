@@ -1,6 +1,9 @@
 pub mod Parts
 pub mod Valid
+pub mod WorkedParts
+pub mod WorkedPlans
 pub mod Made
 pub mod Flow
 pub mod Plan
+pub mod Ranges
 pub mod Shape

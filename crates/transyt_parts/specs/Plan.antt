@@ -1,4 +1,5 @@
 -- The plan of a node: its stages in order round the cycle, each with room for its greens. Lengths are in steps.
+use Rattle.std.specs.Prelude.{◌≡◌, ◌<◌, ◌≤◌}
 use Rattle.std.specs.Prelude.{ℕ, ◌+◌, ◌==◌, Bool, not, nat_le, List, [], ◌∷◌, length, map, sum, slice_index_or, Option}
 use Rattle.std.specs.Prelude.{Some, None, if◌then◌else◌}
 use Rattle.std.specs.List.{list_all, range_with_len}
@@ -38,9 +39,26 @@ abbrev pub has_green : ℕ → List Stage → ℕ → Bool
 has_green steps stages k =
     nat_le ((stage_of stages k).intergreen + (stage_of stages k).least) (length_at steps stages k)
 
+-- the stage at a place is at least as long as its intergreen and least green
+abbrev pub HasGreen : ℕ → List Stage → ℕ → Type 0
+HasGreen steps stages k = (stage_of stages k).intergreen + (stage_of stages k).least ≤ length_at steps stages k
+
 -- whether each stage has that room
 abbrev pub have_greens : ℕ → List Stage → Bool
 have_greens steps stages = list_all (has_green steps stages) (range_with_len 0 (length stages))
+
+-- some stage is shorter than its intergreen and least green
+abbrev pub LacksGreen : ℕ → List Stage → Type 0
+LacksGreen steps stages =
+    (k : ℕ) × (k < length stages)
+    × (length_at steps stages k < (stage_of stages k).intergreen + (stage_of stages k).least)
+
+-- The plan of a node: at least two stages, which come one after another within one cycle, each at least as long as its
+-- intergreen and least green.
+pub record IsPlanned (steps : ℕ) (stages : List Stage) : Type 0 where
+  pub two : 2 ≤ length stages
+  pub in_order : sum (stage_lengths steps stages) ≡ steps
+  pub greens : (k : ℕ) → k < length stages → HasGreen steps stages k
 
 -- the first fault of a node's plan: too few stages, their order, a stage too short
 abbrev pub plan_fault : ℕ → List Stage → Option PlanFault

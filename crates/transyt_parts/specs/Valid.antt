@@ -6,6 +6,10 @@ use Rattle.transyt_parts.specs.declared.frame.Frame.{Frame}
 use Rattle.transyt_parts.specs.declared.node.Stage.{Stage}
 use Rattle.transyt_parts.specs.declared.link.Feed.{Feed}
 use Rattle.transyt_parts.specs.Parts.{NodeValue, LinkValue, PlanValue}
+use Rattle.transyt_parts.specs.Ranges.{is_in, IsIn, IsWithin, cycle_range, step_count_range, sweeps_range, period_range}
+use Rattle.transyt_parts.specs.Ranges.{most_penalty, most_dispersion, number_range, most_flow, saturation_range}
+use Rattle.transyt_parts.specs.Ranges.{most_weight, cruise_range, budget_range, most_stages, most_sizes}
+pub use Rattle.transyt_parts.specs.Ranges.{within}
 
 -- a node's card number
 abbrev pub node_number : NodeValue → ℕ
@@ -14,10 +18,6 @@ node_number n = n.number
 -- a link's card number
 abbrev pub link_number : LinkValue → ℕ
 link_number l = l.number
-
--- whether a number is one of low to high
-abbrev pub within : ℕ → ℕ → ℕ → Bool
-within low high n = nat_le low n && nat_le n high
 
 -- no number stands twice
 abbrev pub all_differ : List ℕ → Bool
@@ -35,12 +35,12 @@ is_fed feeds feeder = list_any (λ f. nat_eq feeder f.feeder) feeds
 -- whether each number of a frame is in its range
 abbrev pub is_frame : Frame → Bool
 is_frame f =
-    within 30 240 f.cycle && within 10 120 f.step_count && within 1 8 f.sweeps && within 15 120 f.period
-    && nat_le f.stop_penalty 9999 && nat_le f.dispersion 100
+    is_in cycle_range f.cycle && is_in step_count_range f.step_count && is_in sweeps_range f.sweeps
+    && is_in period_range f.period && nat_le f.stop_penalty most_penalty && nat_le f.dispersion most_dispersion
 
 -- whether the numbers of a node are in their ranges
 abbrev pub node_in_range : ℕ → ℕ → ℕ → Bool
-node_in_range steps number offset = within 1 99999 number && nat_lt offset steps
+node_in_range steps number offset = is_in number_range number && nat_lt offset steps
 
 -- whether the numbers of a stage are in their ranges
 abbrev pub stage_in_range : ℕ → Stage → Bool
@@ -49,38 +49,48 @@ stage_in_range steps s = nat_lt s.change steps && nat_lt s.intergreen steps && w
 -- whether the numbers of a link are in their ranges, its names apart
 abbrev pub link_in_range : ℕ → LinkValue → Bool
 link_in_range steps l =
-    within 1 99999 l.number && nat_le l.entry 9999 && within 100 9999 l.saturation
-    && nat_le l.delay_weight 999 && nat_le l.stop_weight 999
+    is_in number_range l.number && nat_le l.entry most_flow && is_in saturation_range l.saturation
+    && nat_le l.delay_weight most_weight && nat_le l.stop_weight most_weight
     && nat_lt l.start_lag steps && nat_lt l.end_lag steps
 
 -- whether the numbers of a feed are in their ranges, its name apart
 abbrev pub feed_in_range : Feed → Bool
-feed_in_range f = nat_le f.flow 9999 && within 1 300 f.cruise
+feed_in_range f = nat_le f.flow most_flow && is_in cruise_range f.cruise
 
 -- what a stage keeps to
 pub record IsStage (steps : ℕ) (s : Stage) : Type 0 where
   pub change : s.change < steps
   pub intergreen : s.intergreen < steps
-  pub least : (1 ≤ s.least) × (s.least ≤ steps)
+  pub least : IsWithin 1 steps s.least
 
 -- what a node keeps to, its plan apart
 pub record IsNode (steps : ℕ) (n : NodeValue) : Type 0 where
-  pub number : (1 ≤ n.number) × (n.number ≤ 99999)
+  pub number : IsIn number_range n.number
   pub offset : n.offset < steps
-  pub stage_count : length n.stages ≤ 8
+  pub stage_count : length n.stages ≤ most_stages
   pub stages : All (IsStage steps) n.stages
+
+-- what the numbers of a link keep to, its names apart
+pub record HasRanges (steps : ℕ) (l : LinkValue) : Type 0 where
+  pub number : IsIn number_range l.number
+  pub entry : l.entry ≤ most_flow
+  pub saturation : IsIn saturation_range l.saturation
+  pub delay_weight : l.delay_weight ≤ most_weight
+  pub stop_weight : l.stop_weight ≤ most_weight
+  pub start_lag : l.start_lag < steps
+  pub end_lag : l.end_lag < steps
 
 -- what a climb plan keeps to
 pub record IsPlan (steps : ℕ) (p : PlanValue) : Type 0 where
-  pub budget : (1 ≤ p.budget) × (p.budget ≤ 1000000)
-  pub size_count : (1 ≤ length p.sizes) × (length p.sizes ≤ 16)
+  pub budget : IsIn budget_range p.budget
+  pub size_count : IsWithin 1 most_sizes (length p.sizes)
   pub sizes : All (λ h. (1 ≤ h) × (h < steps)) p.sizes
 
 -- what a frame keeps to
 pub record IsFrame (f : Frame) : Type 0 where
-  pub cycle : (30 ≤ f.cycle) × (f.cycle ≤ 240)
-  pub step_count : (10 ≤ f.step_count) × (f.step_count ≤ 120)
-  pub sweeps : (1 ≤ f.sweeps) × (f.sweeps ≤ 8)
-  pub period : (15 ≤ f.period) × (f.period ≤ 120)
-  pub stop_penalty : f.stop_penalty ≤ 9999
-  pub dispersion : f.dispersion ≤ 100
+  pub cycle : IsIn cycle_range f.cycle
+  pub step_count : IsIn step_count_range f.step_count
+  pub sweeps : IsIn sweeps_range f.sweeps
+  pub period : IsIn period_range f.period
+  pub stop_penalty : f.stop_penalty ≤ most_penalty
+  pub dispersion : f.dispersion ≤ most_dispersion

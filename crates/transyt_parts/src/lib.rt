@@ -2,8 +2,8 @@
 //!
 //! A contract sees a node, a link and a climb plan as the records of `specs/Parts`, with a list in
 //! place of each vector: `NodeValue`, `LinkValue` and `PlanValue`; frames, stages, feeds and rules
-//! are seen as they are. Cite first: `within` and `is_frame` of `specs/Valid` for ranges, `IsNode`
-//! and its like there for what a part keeps to, `link_from` and its like of `specs/Made` for parts
+//! are seen as they are. Cite first: `is_in` and `IsIn` of `specs/Ranges` for ranges, `IsNode`
+//! and its like of `specs/Valid` for what a part keeps to, `link_from` and its like of `specs/Made` for parts
 //! of given numbers, `length_at`, `plan_fault` and `first_fault` of `specs/Plan`, `total_flow` of
 //! `specs/Flow`, and `bare_node` and `bare_link` of `specs/Shape` for what no edit changes.
 //!
@@ -24,12 +24,13 @@ mod stage_plan;
 pub use climb_plan::ClimbPlan;
 pub use copy::{copy_links, copy_nodes, copy_plan};
 pub use frame::Frame;
-pub use laws::tests_tell;
+pub use laws::{plans_are_judged, tests_tell, worked_parts};
 pub use link::{Feed, GiveWay, Link, NewLink, add_feed, all_flow, has_feeder, set_rule};
 pub use node::{Node, Stage, add_stage};
 pub use range::{
-    all_differ, all_within, is_feed_in_range, is_frame_in_range, is_link_in_range,
-    is_node_in_range, is_stage_in_range, is_within,
+    all_differ, all_within, is_budget, is_cruise, is_feed_in_range, is_flow, is_frame_in_range,
+    is_link_in_range, is_node_in_range, is_number, is_percent, is_saturation, is_stage_in_range,
+    is_weight, is_within,
 };
 pub use shape::{same_frame, same_links, same_nodes, same_plan, take_links, take_nodes};
 pub use stage_plan::{PlanFault, first_fault, have_greens, in_order, plan_fault, stage_length};
