@@ -15,7 +15,7 @@ use Rattle.transyt_net.specs.Parts.{Network, link_of}
 use Rattle.transyt_net.specs.Edits.{the_node}
 use Rattle.transyt_stage.specs.Green.{since_change, runs_in, shows, is_shown, shown_link, shown_back, opens}
 use Rattle.transyt_stage.specs.Green.{is_green, Shows, IsShown, Opens, IsGreen}
-use Rattle.transyt_stage.proofs.AnyBelow.{some_below, found_below}
+use Rattle.transyt_parts.proofs.BelowLaws.{some_below, found_below}
 
 -- some number below a limit passes a test that decides a fact
 Decides-any : (p : ℕ → Bool) (P : ℕ → Type 0) → ((k : ℕ) → Decides (p k) (P k)) → (m : ℕ)

@@ -1,3 +1,2 @@
-pub mod AnyBelow
 pub mod ShownLaws
 pub mod GreenLaws

@@ -1,6 +1,6 @@
 -- The steps at which a link is shown.
 use Rattle.std.proofs.Common.{◌≡◌, ◌≢◌, ℕ, ◌+◌, ◌%◌, ◌<◌, ◌≤◌, Bool, true, false, ◌&&◌, ◌||◌, List, length, get_or, set}
-use Rattle.std.proofs.Common.{nat_lt, nat_le, ap, sym, ◌∙◌, arith, ◌⊎◌, inl, inr, Some, map}
+use Rattle.std.proofs.Common.{nat_lt, nat_le, ap, sym, ◌∙◌, arith, ◌⊎◌, inl, inr}
 use Rattle.std.proofs.lemmas.Bool.{cases_eq, cases_lt}
 use Rattle.std.proofs.lemmas.Bool.Decides.{nat_tests}
 use Rattle.std.proofs.lemmas.List.{get_or-set_other}
@@ -9,12 +9,6 @@ use Rattle.std.proofs.Math.Bool.{or-true}
 use Rattle.std.proofs.Math.Nat.{mod-eq_of_lt}
 use Rattle.transyt_cycle.specs.Cycle.{minus_mod}
 use Rattle.transyt_cycle.proofs.CycleLaws.{minus_mod-of_add, minus_mod-add}
-use Rattle.transyt_parts.specs.Parts.{NodeValue}
-use Rattle.transyt_parts.specs.Valid.{node_number}
-use Rattle.transyt_net.specs.Parts.{Network}
-use Rattle.transyt_net.specs.Valid.{place_of}
-use Rattle.transyt_net.specs.Edits.{the_node, node_in}
-use Rattle.transyt_net.proofs.PlaceLaws.{place_is, found_here}
 
 -- whether a step comes at least `from` and fewer than `to` steps after the change
 abbrev pub between : ℕ → ℕ → ℕ → Bool
@@ -66,10 +60,3 @@ added_step shown first n change from s place len within start at so_far i below 
         ∙ ap (λ m. (m + change) % n) e ∙ sym there) in
         get_or-set_other shown place i true false apart ∙ so_far i below
         ∙ ap (λ b. get_or first i false || b) (between_more from s (minus_mod n i change) elsewhere)
-
--- what stands at the place of a node's number is the node of that number
-pub node_is : (net : Network) (number p : ℕ) (n : NodeValue) → Some p ≡ place_of (map node_number net.nodes) number
-    → n ≡ get_or net.nodes p n → n ≡ the_node net number
-node_is net number p n place at =
-    sym (ap node_in (found_here node_number net.nodes number p n (place_is node_number net.nodes number p (sym place))
-    at))

@@ -21,8 +21,12 @@ abbrev pub its_nodes : List NodeValue
 its_nodes =
     record { number = 21; offset = 4; stages = new_stage 2 1 3 ∷ new_stage 8 2 4 ∷ new_stage 15 0 1 ∷ [] }
     ∷ record { number = 7; offset = 17; stages = new_stage 5 3 2 ∷ new_stage 16 1 5 ∷ [] }
-    ∷ record { number = 300; offset = 11; stages = new_stage 3 1 2 ∷ new_stage 7 2 3 ∷ new_stage 12 0 1
-        ∷ new_stage 14 3 4 ∷ [] }
+    ∷ record {
+      number = 300;
+      offset = 11;
+      stages = new_stage 3 1 2 ∷ new_stage 7 2 3 ∷ new_stage 12 0 1
+          ∷ new_stage 14 3 4 ∷ [];
+    }
     ∷ []
 
 -- its links: one reads a later one, one feeds itself, two give way, and five have lags

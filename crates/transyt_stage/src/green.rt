@@ -6,8 +6,6 @@ ghost use Rattle.std.specs.List.{range_with_len};
 ghost use Rattle.transyt_cycle.specs.Cycle.{minus_mod};
 ghost use Rattle.transyt_parts.specs.Plan.{stage_of};
 ghost use Rattle.transyt_parts.specs.Valid.{IsNode};
-ghost use Rattle.transyt_net.specs.Parts.{link_of};
-ghost use Rattle.transyt_net.specs.Edits.{the_node};
 ghost use Rattle.transyt_stage.specs.Green.{since_change, runs_in, shows, is_shown, shown_of, opens, is_held};
 ghost use Rattle.transyt_stage.specs.Green.{is_starting};
 ghost use Rattle.transyt_stage.specs.Green.{green_at, is_green, passed_at, signal, IsGreen};
@@ -40,8 +38,8 @@ fn test_green(net: &Net, link: usize, step: u32) -> bool
     ensures { result ≡ is_green net.now link step }
 {
     let step_count = net.frame().step_count;
-    let node = node_of_link(net, link);
-    let link = &net.links()[link];
+    let node = net.node_of(link);
+    let link = net.link(link);
     let mut shown = [false; MOST_STEPS];
     let shown = &mut shown[..step_count as usize];
     fill_shown(step_count, node, &link.stages, shown);
@@ -59,8 +57,8 @@ pub fn fill_go(net: &Net, link: usize, out: &mut [u64])
     ensures small { All (λ v. v < 2 ^ 30) out.new }
 {
     let step_count = net.frame().step_count;
-    let node = node_of_link(net, link);
-    let link = &net.links()[link];
+    let node = net.node_of(link);
+    let link = net.link(link);
     let mut shown = [false; MOST_STEPS];
     let shown = &mut shown[..step_count as usize];
     fill_shown(step_count, node, &link.stages, shown);
@@ -232,17 +230,4 @@ fn stage_at(node: &Node, place: usize) -> Stage
     ensures { result ≡ stage_of node.now.stages place }
 {
     node.stages[place]
-}
-
-/// The node at the end of the link at a place.
-fn node_of_link(net: &Net, link: usize) -> &Node
-    requires { link < length net.now.links }
-    ensures value { result.now ≡ the_node net.now (link_of net.now link).node }
-    ensures node { IsNode net.now.frame.step_count result.now }
-{
-    let link = &net.links()[link];
-    match net.node_place(link.node) {
-        Some(place) => &net.nodes()[place],
-        None => unreachable!(),
-    }
 }

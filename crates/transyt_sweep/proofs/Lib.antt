@@ -8,5 +8,7 @@ pub mod FrontLaws
 pub mod StepLaws
 pub mod ShownLaws
 pub mod FilledLaws
-mod KnownValues
+pub mod SmallLaws
 pub mod ClimbLaws
+pub mod WorkedFigures
+pub mod WorkedMove

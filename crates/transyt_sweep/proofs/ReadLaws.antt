@@ -5,23 +5,14 @@ use Rattle.transyt_platoon.specs.Platoon.{travel_steps, dispersed}
 use Rattle.transyt_parts.specs.declared.link.Feed.{Feed}
 use Rattle.transyt_parts.specs.declared.link.GiveWay.{GiveWay}
 use Rattle.transyt_parts.specs.Flow.{total_flow}
-use Rattle.transyt_parts.specs.Valid.{link_number}
 use Rattle.transyt_net.specs.Parts.{Network, link_of}
-use Rattle.transyt_net.specs.Valid.{place_of, link_numbers}
-use Rattle.transyt_net.proofs.PlaceLaws.{place_is}
+use Rattle.transyt_net.specs.Valid.{link_place}
+use Rattle.transyt_net.proofs.PlaceLaws.{link_place-lt}
 use Rattle.transyt_stage.specs.Green.{signal}
 use Rattle.transyt_stage.specs.GiveWay.{yielding}
 use Rattle.transyt_net.specs.Flow.{perstep}
 use Rattle.std.specs.Prelude.{fold}
-use Rattle.transyt_sweep.specs.Cell.{link_place, found_or_first, brought, inflow, under_rule, go, cell_of, worked}
-
--- where there are links, each name is given the place of one
-pub link_place-lt : (net : Network) (number : ℕ) → 0 < length net.links → link_place net number < length net.links
-link_place-lt net number some = by (place_of (link_numbers net.links) number) refl
-  where
-    by : (o : Option ℕ) → place_of (link_numbers net.links) number ≡ o → found_or_first o < length net.links
-    by None at = some
-    by (Some p) at = (place_is link_number net.links number p at).inside
+use Rattle.transyt_sweep.specs.Cell.{brought, inflow, under_rule, go, cell_of, worked}
 
 module _ (net : Network) (x y : ℕ → List ℕ) (some : 0 < length net.links)
     (same : (j : ℕ) → j < length net.links → x j ≡ y j) where

@@ -43,7 +43,8 @@ length-under_rule net read (Some rule) green = length-map-range_with_len _ 0 (le
 pub length-go : (net : Network) (read : ℕ → List ℕ) (l : ℕ) → length (go net read l) ≡ net.frame.step_count
 length-go net read l = length-under_rule net read (link_of net l).gives_way (signal net l) ∙ length-signal net l
 
-length-cut : (f : ℕ → ℕ) (come : List ℕ) (b : Bool) → length (if b then map f come else come) ≡ length come
+-- a value of what reaches the stop line for each that comes
+pub length-cut : (f : ℕ → ℕ) (come : List ℕ) (b : Bool) → length (if b then map f come else come) ≡ length come
 length-cut f come true = length-map come f
 length-cut f come false = refl
 

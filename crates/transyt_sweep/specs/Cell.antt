@@ -14,19 +14,10 @@ use Rattle.transyt_parts.specs.declared.link.Feed.{Feed}
 use Rattle.transyt_parts.specs.declared.link.GiveWay.{GiveWay}
 use Rattle.transyt_parts.specs.Flow.{total_flow}
 use Rattle.transyt_net.specs.Parts.{Network, link_of}
-use Rattle.transyt_net.specs.Valid.{place_of, link_numbers}
+use Rattle.transyt_net.specs.Valid.{link_place}
 use Rattle.transyt_net.specs.Flow.{perstep}
 use Rattle.transyt_stage.specs.Green.{signal}
 use Rattle.transyt_stage.specs.GiveWay.{yielding}
-
--- a place that was found, else the first
-abbrev pub found_or_first : Option ℕ → ℕ
-found_or_first None = 0
-found_or_first (Some p) = p
-
--- the place of the link of this number
-abbrev pub link_place : Network → ℕ → ℕ
-link_place net number = found_or_first (place_of (link_numbers net.links) number)
 
 -- What one feed brings: its part of what leaves the feeder, after its travel. `read` gives the departures that are
 -- read of each link.

@@ -4,3 +4,7 @@ pub mod Rows
 pub mod Front
 pub mod Scratch
 pub mod Climb
+pub mod WorkedLinks
+pub mod WorkedSweeps
+pub mod WorkedRows
+pub mod WorkedClimbs

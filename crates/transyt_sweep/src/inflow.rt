@@ -2,13 +2,12 @@
 
 ghost use Rattle.std.specs.Prelude.{◌≡◌, ◌+◌, ◌-◌, ◌*◌, ◌^◌, ◌<◌, ◌≤◌, ℕ, length, All};
 ghost use Rattle.transyt_parts.specs.declared.link.Feed.{Feed};
-ghost use Rattle.transyt_net.specs.Parts.{link_of};
-ghost use Rattle.transyt_net.specs.Valid.{IsLink, link_numbers};
-ghost use Rattle.transyt_sweep.specs.Cell.{link_place, brought, inflow, inflow_of};
+ghost use Rattle.transyt_net.specs.Valid.{link_place};
+ghost use Rattle.transyt_sweep.specs.Cell.{brought, inflow};
 ghost use Rattle.transyt_sweep.specs.Rows.{Fits, read_in};
 
 use crate::rows::Rows;
-use transyt_net::{Feed, Link, Net};
+use transyt_net::{Feed, Net};
 use transyt_platoon::{disperse, travel_steps};
 use transyt_profile::{add_into, fill_uniform, share_into};
 
@@ -22,15 +21,6 @@ pub(crate) fn link_place(net: &Net, number: u32) -> usize
         Some(place) => place,
         None => 0,
     }
-}
-
-/// The link at a place.
-pub(crate) fn link_at(net: &Net, link: usize) -> &Link
-    requires { link < length net.now.links }
-    ensures value { result.now ≡ link_of net.now link }
-    ensures kept { IsLink net.now.frame.step_count net.now.nodes (link_numbers net.now.links) result.now }
-{
-    &net.links()[link]
 }
 
 /// What one feed brings, in millionths of a vehicle per step. `shared` is room for its part of what leaves the feeder.
@@ -81,7 +71,7 @@ pub(crate) fn fill_inflow(
     ensures value { come.new ≡ inflow net.now (read_in rows.now sweep link) link }
     ensures small { All (λ v. v < 2 ^ 48) come.new }
 {
-    let at = link_at(net, link);
+    let at = net.link(link);
     fill_uniform(net.per_step(at.entry), come);
     for feed in &at.feeds {
         bring(net, *feed, link, sweep, rows, shared, brought);

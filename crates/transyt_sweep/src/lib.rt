@@ -19,7 +19,10 @@ mod scratch;
 mod whole;
 mod working;
 
-pub use laws::{rule_of_climbs, rule_of_evaluation, rule_of_sweeps};
+pub use laws::{
+    rule_of_climbs, rule_of_departures, rule_of_evaluation, rule_of_sweeps, worked_climbs,
+    worked_figures, worked_links, worked_rows, worked_sweeps,
+};
 pub use rows::Rows;
 pub use scratch::Scratch;
 pub use whole::full;

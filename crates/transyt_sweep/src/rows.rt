@@ -8,7 +8,6 @@ ghost use Rattle.transyt_sweep.specs.Rows.{Fits, SameSize, AreRows, AreSmall};
 ghost use Rattle.transyt_sweep.specs.Front.{AreOpened, empty_rows};
 ghost use Rattle.transyt_sweep.specs.Sweeps.{read_at, start};
 
-use crate::inflow::link_at;
 use crate::row::{fill_row, put_row, row};
 use crate::scratch::Scratch;
 use std::alloc::{AllocError, Global};
@@ -239,7 +238,7 @@ impl Rows {
         requires link { link < length net.now.links }
         ensures { self.new ≡ with_weights self.old net.now link }
     {
-        let at = link_at(net, link);
+        let at = net.link(link);
         let figures = self.figures(link);
         let index = weigh(
             figures.uniform,

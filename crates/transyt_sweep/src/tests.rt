@@ -1,13 +1,17 @@
-//! Whole evaluations: the index of networks that were worked out apart.
+//! Whole evaluations: each profile and figure of three networks, and the index of some links alone.
 
-ghost use Rattle.std.specs.Prelude.{◌≡◌, ◌<◌};
+ghost use Rattle.std.specs.Prelude.{◌≡◌, ◌<◌, ◌≤◌, length};
 
+mod shown;
+
+use self::shown::{GIVING_WAY, THREE_JUNCTIONS, TWO_JUNCTIONS};
 use crate::full;
-use std::alloc::Global;
+use std::alloc::{AllocError, Global};
 use std::marker::Brand;
 use std::sync::ledger::{Blank, Ledger};
 use std::test::Fail;
-use transyt_net::{Draft, DraftFault, Frame, Net};
+use transyt_delay::Figures;
+use transyt_net::{Draft, DraftFault, Frame, Net, NewLink};
 use transyt_steps::Steps;
 
 /// A draft with one node of two stages in a cycle of ten steps.
@@ -35,6 +39,34 @@ fn closed(draft: Draft) -> Option<Net> {
     Some(draft.close())
 }
 
+/// Adds a link of these numbers: its own, its node's, both flows, both weights and both lags.
+fn put_link(draft: &mut Draft, numbers: [u32; 8], stages: &[u32]) -> Result<(), DraftFault>
+    requires some { 1 ≤ length stages.now }
+    requires most { length stages.now ≤ 8 }
+{
+    let [
+        number,
+        node,
+        entry,
+        saturation,
+        delay_weight,
+        stop_weight,
+        start_lag,
+        end_lag,
+    ] = numbers;
+    let link = NewLink {
+        number,
+        node,
+        entry,
+        saturation,
+        delay_weight,
+        stop_weight,
+        start_lag,
+        end_lag,
+    };
+    draft.link(link, stages)
+}
+
 /// One link of entry flow `entry`, with these lags.
 fn one_link(
     alloc: Global,
@@ -43,37 +75,194 @@ fn one_link(
     end_lag: u32,
 ) -> Result<Option<Net>, DraftFault> {
     let mut draft = junction(alloc, 1)?;
-    draft.link(1, 1, entry, 1800, 1, 1, start_lag, end_lag, &[1])?;
+    put_link(
+        &mut draft,
+        [1, 1, entry, 1800, 1, 1, start_lag, end_lag],
+        &[1],
+    )?;
     Ok(closed(draft))
 }
 
 /// Two links, of which the second gives way to the first.
 fn giving_way(alloc: Global) -> Result<Option<Net>, DraftFault> {
     let mut draft = junction(alloc, 1)?;
-    draft.link(1, 1, 360, 1800, 1, 1, 0, 0, &[1])?;
-    draft.link(2, 1, 360, 1800, 1, 1, 0, 0, &[1, 2])?;
+    put_link(&mut draft, [1, 1, 360, 1800, 1, 1, 0, 0], &[1])?;
+    put_link(&mut draft, [2, 1, 360, 1800, 1, 1, 0, 0], &[1, 2])?;
     draft.give_way(2, 1, 100)?;
     Ok(closed(draft))
 }
 
-/// The index of a network, by a whole evaluation with a counter of its own.
-fn index_in<L: Ledger>(alloc: Global, net: &Net, blank: Blank) -> Option<u128>
+/// Two junctions, of which the second is fed by the first.
+fn two_junctions(alloc: Global) -> Result<Option<Net>, DraftFault> {
+    let mut draft = junction(alloc, 1)?;
+    draft.node(2, 3)?;
+    draft.stage(0, 1, 2)?;
+    draft.stage(5, 1, 2)?;
+    put_link(&mut draft, [1, 1, 360, 1800, 1, 1, 0, 0], &[1])?;
+    put_link(&mut draft, [2, 2, 0, 1800, 1, 1, 0, 0], &[1])?;
+    draft.feed(2, 1, 360, 15)?;
+    Ok(closed(draft))
+}
+
+/// Adds three junctions of three, two and four stages.
+fn put_junctions(draft: &mut Draft) -> Result<(), DraftFault> {
+    draft.node(21, 4)?;
+    draft.stage(2, 1, 3)?;
+    draft.stage(8, 2, 4)?;
+    draft.stage(15, 0, 1)?;
+    draft.node(7, 17)?;
+    draft.stage(5, 3, 2)?;
+    draft.stage(16, 1, 5)?;
+    draft.node(300, 11)?;
+    draft.stage(3, 1, 2)?;
+    draft.stage(7, 2, 3)?;
+    draft.stage(12, 0, 1)?;
+    draft.stage(14, 3, 4)
+}
+
+/// Adds the links of the three junctions.
+fn put_links(draft: &mut Draft) -> Result<(), DraftFault> {
+    put_link(draft, [5, 21, 431, 1733, 3, 2, 1, 2], &[1])?;
+    put_link(draft, [2, 21, 97, 1619, 5, 7, 0, 1], &[2, 3])?;
+    put_link(draft, [9, 7, 613, 1877, 2, 11, 2, 0], &[2])?;
+    put_link(draft, [4, 7, 0, 1451, 4, 1, 0, 0], &[1])?;
+    put_link(draft, [8, 300, 229, 1999, 6, 5, 1, 1], &[1, 3])?;
+    put_link(draft, [3, 300, 877, 1201, 1, 9, 0, 0], &[4])?;
+    put_link(draft, [6, 300, 53, 1327, 7, 3, 3, 4], &[2])?;
+    put_link(draft, [11, 21, 151, 907, 9, 4, 0, 0], &[1, 2, 3])
+}
+
+/// Adds what feeds them, and to which they give way.
+fn put_feeds(draft: &mut Draft) -> Result<(), DraftFault> {
+    draft.feed(5, 8, 173, 38)?;
+    draft.feed(4, 5, 311, 23)?;
+    draft.feed(4, 2, 77, 61)?;
+    draft.feed(8, 9, 402, 47)?;
+    draft.feed(8, 3, 219, 300)?;
+    draft.feed(6, 6, 41, 17)?;
+    draft.feed(11, 4, 88, 9)?;
+    draft.feed(11, 3, 60, 111)?;
+    draft.give_way(11, 5, 150)?;
+    draft.give_way(4, 9, 35)
+}
+
+/// Three junctions, no number of which is neutral.
+fn three_junctions(alloc: Global) -> Result<Option<Net>, DraftFault> {
+    let frame = Frame {
+        cycle: 90,
+        step_count: 18,
+        sweeps: 3,
+        period: 45,
+        stop_penalty: 37,
+        dispersion: 40,
+    };
+    let mut draft = Draft::new(alloc, frame)?;
+    put_junctions(&mut draft)?;
+    put_links(&mut draft)?;
+    put_feeds(&mut draft)?;
+    Ok(closed(draft))
+}
+
+/// What an evaluation shows of a link: its profiles, and its figures.
+#[derive(Drop)]
+struct LinkShown {
+    arrivals: Vec<u64>,
+    go: Vec<u64>,
+    queue: Vec<u64>,
+    out: Vec<u64>,
+    figures: Figures,
+}
+
+/// What the whole evaluation of a network shows, with a counter of its own.
+fn shown_in<L: Ledger>(
+    alloc: Global,
+    net: &Net,
+    blank: Blank,
+) -> Result<(Vec<LinkShown>, u128), AllocError>
     requires name { blank.name ≡ L.name }
     requires parts { blank.parts ≡ L.parts }
     requires some { 0 < L.parts }
 {
     let mut steps = Steps::<L>::begin(blank);
-    match full(alloc, net, &mut steps) {
-        Ok(rows) => Some(rows.index()),
-        Err(_) => None,
+    let rows = full(alloc, net, &mut steps)?;
+    let sweeps = net.frame().sweeps;
+    let mut links = Vec::new(alloc);
+    for link in 0..net.links().len() {
+        let shown = LinkShown {
+            arrivals: Vec::from_slice(alloc, rows.arrivals(link))?,
+            go: Vec::from_slice(alloc, rows.go(link))?,
+            queue: Vec::from_slice(alloc, rows.queue(link))?,
+            out: Vec::from_slice(alloc, rows.out(sweeps, link))?,
+            figures: rows.figures(link),
+        };
+        links.push(shown)?;
+    }
+    Ok((links, rows.index()))
+}
+
+/// What the whole evaluation of a network shows, where there is one: its links, and its index.
+fn shown(alloc: Global, net: Result<Option<Net>, DraftFault>) -> Option<(Vec<LinkShown>, u128)> {
+    match net {
+        Ok(Some(net)) => shown_in::<Brand>(alloc, &net, Blank::new(1)).ok(),
+        _ => None,
     }
 }
 
 /// The index of a network, where there is one.
 fn index_of(alloc: Global, net: Result<Option<Net>, DraftFault>) -> Option<u128> {
-    match net {
-        Ok(Some(net)) => index_in::<Brand>(alloc, &net, Blank::new(1)),
-        _ => None,
+    let (_, index) = shown(alloc, net)?;
+    Some(index)
+}
+
+/// Whether a link has these profiles: what comes, what can go, the queue and what leaves; and these figures.
+fn is_shown(link: &LinkShown, profiles: [&[u64]; 4], figures: Figures) -> bool {
+    let [arrivals, go, queue, out] = profiles;
+    link.arrivals.as_slice() == arrivals
+        && link.go.as_slice() == go
+        && link.queue.as_slice() == queue
+        && link.out.as_slice() == out
+        && link.figures == figures
+}
+
+#[test]
+fn three_junctions_are_evaluated(rt: HostRuntime) {
+    let Some((links, index)) = shown(rt.alloc(), three_junctions(rt.alloc())) else {
+        assert!(rt; false);
+        return;
+    };
+    assert_eq!(rt; links.len(), 8);
+    assert_eq!(rt; index, 556223009);
+    for (link, (profiles, figures)) in links.iter().zip(THREE_JUNCTIONS.iter()) {
+        let [arrivals, go, queue, out] = profiles;
+        assert!(rt; is_shown(link, [arrivals, go, queue, out], *figures));
+    }
+}
+
+#[test]
+fn a_fed_link_is_evaluated(rt: HostRuntime) {
+    let Some((links, index)) = shown(rt.alloc(), two_junctions(rt.alloc())) else {
+        assert!(rt; false);
+        return;
+    };
+    assert_eq!(rt; links.len(), 2);
+    assert_eq!(rt; index, 2887260);
+    for (link, (profiles, figures)) in links.iter().zip(TWO_JUNCTIONS.iter()) {
+        let [arrivals, go, queue, out] = profiles;
+        assert!(rt; is_shown(link, [arrivals, go, queue, out], *figures));
+    }
+}
+
+#[test]
+fn a_link_gives_way(rt: HostRuntime) {
+    let Some((links, index)) = shown(rt.alloc(), giving_way(rt.alloc())) else {
+        assert!(rt; false);
+        return;
+    };
+    assert_eq!(rt; links.len(), 2);
+    assert_eq!(rt; index, 2185232);
+    for (link, (profiles, figures)) in links.iter().zip(GIVING_WAY.iter()) {
+        let [arrivals, go, queue, out] = profiles;
+        assert!(rt; is_shown(link, [arrivals, go, queue, out], *figures));
     }
 }
 
@@ -89,9 +278,4 @@ fn one_link_is_evaluated(rt: HostRuntime) {
         let net = one_link(rt.alloc(), entry, start_lag, end_lag);
         assert_eq!(rt; index_of(rt.alloc(), net), Some(want));
     }
-}
-
-#[test]
-fn a_link_gives_way(rt: HostRuntime) {
-    assert_eq!(rt; index_of(rt.alloc(), giving_way(rt.alloc())), Some(2185232));
 }

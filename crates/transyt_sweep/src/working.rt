@@ -7,7 +7,7 @@ ghost use Rattle.transyt_stopline.specs.Queue.{queues};
 ghost use Rattle.transyt_sweep.specs.Cell.{go, terms_of, worked};
 ghost use Rattle.transyt_sweep.specs.Rows.{Fits, read_in, AreSmall};
 
-use crate::inflow::{fill_inflow, link_at, link_place};
+use crate::inflow::{fill_inflow, link_place};
 use crate::rows::Rows;
 use crate::scratch::Scratch;
 use std::sync::ledger::Ledger;
@@ -105,7 +105,7 @@ fn fill_room(net: &Net, link: usize, sweep: u32, rows: &Rows, out: &mut [u64])
     ensures small { All (λ v. v < 2 ^ 30) out.new }
 {
     fill_go(net, link, out);
-    let at = link_at(net, link);
+    let at = net.link(link);
     if let Some(rule) = at.gives_way {
         let other = link_place(net, rule.other);
         give_way(rows.read(sweep, link, other), rule.percent, out);
@@ -137,7 +137,7 @@ fn figures_at(
     ensures small { AreSmall result }
 {
     let frame = net.frame();
-    let link = link_at(net, link);
+    let link = net.link(link);
     let terms = Terms {
         arrivals: total(come),
         room: total(go),

@@ -4,7 +4,7 @@ use Rattle.std.specs.List.{list_any, range_with_len}
 use Rattle.std.proofs.lemmas.List.FromFn.{fill_by_all}
 use Rattle.transyt_parts.specs.Parts.{NodeValue}
 use Rattle.transyt_stage.specs.Green.{shows, is_shown}
-use Rattle.transyt_stage.proofs.AnyBelow.{any_more}
+use Rattle.transyt_parts.proofs.BelowLaws.{any_more}
 use Rattle.transyt_stage.proofs.green.fill_shown.Goals as goal
 
 -- one stage more

@@ -1,7 +1,7 @@
 -- It is shown at a step of the end lag, or at none.
 use Rattle.std.proofs.Common.{◌+◌, sym, arith, rules}
 use Rattle.transyt_stage.specs.Green.{shown_back}
-use Rattle.transyt_stage.proofs.AnyBelow.{none_below, some_below}
+use Rattle.transyt_parts.proofs.BelowLaws.{none_below, some_below}
 use Rattle.transyt_stage.proofs.green.is_held.Goals as goal
 
 -- at none

@@ -2,7 +2,7 @@
 use Rattle.std.proofs.Common.{length, sym, arith, rules}
 use Rattle.transyt_cycle.specs.Cycle.{minus_mod}
 use Rattle.transyt_stage.specs.Green.{opens}
-use Rattle.transyt_stage.proofs.AnyBelow.{none_below, some_below}
+use Rattle.transyt_parts.proofs.BelowLaws.{none_below, some_below}
 use Rattle.transyt_stage.proofs.green.is_starting.Goals as goal
 
 -- none does

@@ -9,7 +9,7 @@ use Rattle.transyt_sweep.proofs.inflow.fill_inflow.Goals as goal
 pub loop-feed-preserved : goal.loop-feed-preserved
 loop-feed-preserved c =
     let feeds : c.deref-feed-items.result.now ≡ (link_of c.args.net.now c.args.link).feeds =
-    c.deref-feed-items.ensures.value ∙ ap (λ (l : LinkValue). l.feeds) (c.at.view_is ∙ c.link_at-at.ensures.value) in
+    c.deref-feed-items.ensures.value ∙ ap (λ (l : LinkValue). l.feeds) (c.at.view_is ∙ c.link-at.ensures.value) in
     record {
       shared = search rules;
       brought = search rules;
