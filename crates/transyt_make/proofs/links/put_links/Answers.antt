@@ -1,0 +1,77 @@
+use Rattle.std.proofs.Common.{◌+◌, length, ap, ◌∙◌, arith}
+use Rattle.std.proofs.lemmas.List.FromFn.{length-map-range_with_len}
+use Rattle.transyt_parts.specs.Valid.{link_number}
+use Rattle.transyt_net.specs.Parts.{Network}
+use Rattle.transyt_net.specs.Valid.{is_among, node_numbers, link_numbers, stages_at}
+use Rattle.transyt_make.specs.Draws.{DrawsValue}
+use Rattle.transyt_make.specs.Made.{node_at, number_at, bare_link}
+use Rattle.transyt_make.proofs.PlaceLaws.{not_among}
+use Rattle.transyt_make.proofs.NodeLaws.{one_further}
+use Rattle.transyt_make.proofs.LinkLaws.{numbers_apart, node_there, two_stages, one_link, entry_at}
+use Rattle.transyt_make.proofs.links.put_links.Goals as goal
+
+-- there are few draws
+pub draw_entry-entry-requires : goal.draw_entry-entry-requires
+draw_entry-entry-requires c =
+    omega (
+      arith,
+      ap (λ (d : DrawsValue). d.taken) c.loop-place.invariant.draws,
+      c.requires.draws,
+      c.loop-place.invariant.within,
+      c.loop-place.invariant.end,
+      c.requires.most,
+    )
+
+-- the links before have lower numbers
+pub put_link-requires-clause-fresh : goal.put_link-requires-clause-fresh
+put_link-requires-clause-fresh c =
+    let place = c.loop-place.place in
+    let seed = c.args.draws.now.seed in
+    ap (λ (d : Network). is_among (link_numbers d.links) (number_at place)) c.loop-place.invariant.draft
+    ∙ not_among link_number (bare_link seed c.args.nodes) place (number_at place) (λ i before. numbers_apart i place before)
+
+-- and there are as many as places before this one
+pub put_link-requires-clause-few : goal.put_link-requires-clause-few
+put_link-requires-clause-few c =
+    omega (
+      arith,
+      ap (λ (d : Network). length d.links) c.loop-place.invariant.draft,
+      length-map-range_with_len (bare_link c.args.draws.now.seed c.args.nodes) 0 c.loop-place.place,
+      c.loop-place.invariant.end,
+      c.loop-place-test.true,
+      c.requires.most,
+    )
+
+-- the link's node is there
+pub put_link-requires-clause-node : goal.put_link-requires-clause-node
+put_link-requires-clause-node c =
+    let place = c.loop-place.place in
+    ap (λ (d : Network). is_among (node_numbers d.nodes) (node_at place)) c.loop-place.invariant.draft
+    ∙ node_there c.args.draws.now.seed c.args.nodes place
+    (omega (arith, c.loop-place.invariant.end, c.loop-place-test.true))
+
+-- with two stages
+pub put_link-requires-clause-stages : goal.put_link-requires-clause-stages
+put_link-requires-clause-stages c =
+    let place = c.loop-place.place in
+    ap (λ (d : Network). stages_at d.nodes (node_at place)) c.loop-place.invariant.draft
+    ∙ two_stages c.args.draws.now.seed c.args.nodes place
+    (omega (arith, c.loop-place.invariant.end, c.loop-place-test.true))
+
+-- one link more, by a draw
+pub loop-place-preserved : goal.loop-place-preserved
+loop-place-preserved c =
+    let place = c.loop-place.place in
+    let at = c.args.draws.now in
+    let start = c.loop-place.invariant.draws in
+    let entry =
+    entry_at c.loop-place.draws at.seed c.args.nodes place _ _ _ (ap (λ (d : DrawsValue). d.seed) start)
+    (omega (arith, ap (λ (d : DrawsValue). d.taken) start, c.requires.draws)) c.neighbour.ensures.value c.is_some.ensures
+    c.draw_entry-entry.ensures.value in
+    record {
+      draft =
+          one_link at.seed c.args.nodes place _ _ _ entry c.loop-place.invariant.draft c.in_ok-put_link.ensures;
+      draws = one_further at _ _ place (place + 1) start c.draw_entry-entry.ensures.taken (omega arith);
+      within = omega (arith, c.loop-place-test.true);
+      end = c.loop-place.invariant.end;
+    }

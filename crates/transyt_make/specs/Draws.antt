@@ -1,0 +1,28 @@
+-- The draws from a seed.
+use Rattle.std.specs.Prelude.{ℕ, zero, suc, ◌+◌, ◌*◌, ◌/◌, ◌%◌}
+
+-- the number after a number
+abbrev pub next : ℕ → ℕ
+next x = (1103515245 * x + 12345) % 2147483648
+
+-- the number after so many draws
+unfoldable pub after_draws : ℕ → ℕ → ℕ
+after_draws seed zero = seed
+after_draws seed (suc k) = next (after_draws seed k)
+
+-- what a number gives as a draw below a
+abbrev pub drawn : ℕ → ℕ → ℕ
+drawn x a = x / 65536 % a
+
+-- draw number k, from 0, below a
+abbrev pub draw : ℕ → ℕ → ℕ → ℕ
+draw seed k a = drawn (after_draws seed (k + 1)) a
+
+-- a seed, and how many draws were taken
+pub record DrawsValue : Type 0 where
+  pub seed : ℕ
+  pub taken : ℕ
+
+-- the same after so many draws more
+abbrev pub further : DrawsValue → ℕ → DrawsValue
+further d k = record { seed = d.seed; taken = d.taken + k }

@@ -1,0 +1,163 @@
+-- The network that is made from a seed. Places of nodes and links count from 0, in card order.
+use Rattle.std.specs.Prelude.{ℕ, zero, suc, ◌+◌, ◌-◌, ◌*◌, ◌/◌, ◌%◌, ◌==◌, Bool, ◌&&◌, nat_le, nat_lt, List, []}
+use Rattle.std.specs.Prelude.{◌∷◌, ◌++◌}
+use Rattle.std.specs.Prelude.{map, Option, Some, None, is_some, if◌then◌else◌}
+use Rattle.std.specs.List.{range_with_len}
+use Rattle.transyt_parts.specs.declared.frame.Frame.{Frame}
+use Rattle.transyt_parts.specs.declared.link.Feed.{Feed}
+use Rattle.transyt_parts.specs.Parts.{NodeValue, LinkValue, PlanValue}
+use Rattle.transyt_parts.specs.Made.{new_stage, new_feed, new_link, new_plan}
+use Rattle.transyt_net.specs.Parts.{Network}
+use Rattle.transyt_net.specs.Faults.{with_feed}
+use Rattle.transyt_net.specs.Valid.{link_numbers}
+use Rattle.transyt_make.specs.Draws.{draw, DrawsValue}
+
+-- the frame
+abbrev pub made_frame : Frame
+made_frame = record { cycle = 100; step_count = 50; sweeps = 3; period = 60; stop_penalty = 100; dispersion = 35 }
+
+-- the node at a place, of this offset, whose second stage begins at this change
+abbrev pub node_with : ℕ → ℕ → ℕ → NodeValue
+node_with place offset change = record {
+  number = place + 1;
+  offset = offset;
+  stages = new_stage 0 3 4 ∷ new_stage change 3 4 ∷ [];
+}
+
+-- the node at a place: two draws each, in order
+abbrev pub made_node : ℕ → ℕ → NodeValue
+made_node seed place = node_with place (draw seed (2 * place) 50) (15 + draw seed (2 * place + 1) 21)
+
+-- the number of the node of a link, from its place: four links a node
+abbrev pub node_at : ℕ → ℕ
+node_at place = place / 4 + 1
+
+-- which of its node's links it is, 1 to 4
+abbrev pub side_at : ℕ → ℕ
+side_at place = place % 4 + 1
+
+-- its number
+abbrev pub number_at : ℕ → ℕ
+number_at place = 10 * node_at place + side_at place
+
+-- the stage in which it runs
+abbrev pub stage_at : ℕ → ℕ
+stage_at place = if nat_le (side_at place) 2 then 1 else 2
+
+-- the neighbour of node i on a side, among n nodes in rows of eight: the one before, the one after, the one above and
+-- the one below
+abbrev pub beside : ℕ → ℕ → ℕ → Option ℕ
+beside n i side =
+    if side == 1 then (if nat_lt 0 ((i - 1) % 8) then Some (i - 1) else None)
+    else if side == 2 then (if nat_lt ((i - 1) % 8) 7 && nat_le (i + 1) n then Some (i + 1) else None)
+    else if side == 3 then (if nat_lt 8 i then Some (i - 8) else None)
+    else if nat_le (i + 8) n then Some (i + 8)
+    else None
+
+-- the neighbour from which a link comes, if there is one
+abbrev pub neighbour : ℕ → ℕ → Option ℕ
+neighbour n place = beside n (node_at place) (side_at place)
+
+-- the entry flow of a link, by draw number k: less where there is a neighbour
+abbrev pub entry_from : ℕ → ℕ → Bool → ℕ
+entry_from seed k fed = if fed then draw seed k 41 else 300 + draw seed k 201
+
+-- the entry flow of the link at a place: one draw each, after those of the nodes
+abbrev pub made_entry : ℕ → ℕ → ℕ → ℕ
+made_entry seed n place = entry_from seed (2 * n + place) (is_some (neighbour n place))
+
+-- a link without its feeds
+abbrev pub bare_link : ℕ → ℕ → ℕ → LinkValue
+bare_link seed n place =
+    new_link (number_at place) (node_at place) (made_entry seed n place) 1800 1 1 0 0 (stage_at place ∷ [])
+
+-- how many links before a place have a neighbour
+abbrev pub fed_before : ℕ → ℕ → ℕ
+fed_before n zero = 0
+fed_before n (suc place) = fed_before n place + (if is_some (neighbour n place) then 1 else 0)
+
+-- the first of the two links of a neighbour that turn into a link on this side
+abbrev pub turning : ℕ → ℕ
+turning side = if nat_le side 2 then 3 else 1
+
+-- the feeds of a link on a side from neighbour j: four draws from number k on
+abbrev pub feeds_from : ℕ → ℕ → ℕ → ℕ → List Feed
+feeds_from seed k side j =
+    new_feed (10 * j + side) (240 + draw seed (k + 1) 41) (15 + draw seed k 16)
+    ∷ new_feed (10 * j + turning side) (60 + draw seed (k + 2) 41) (15 + draw seed k 16)
+    ∷ new_feed (10 * j + turning side + 1) (60 + draw seed (k + 3) 41) (15 + draw seed k 16) ∷ []
+
+-- those of a link that has a neighbour, and none else
+abbrev pub feeds_of : ℕ → ℕ → ℕ → Option ℕ → List Feed
+feeds_of seed k side None = []
+feeds_of seed k side (Some j) = feeds_from seed k side j
+
+-- the link at a place among n nodes: the draws of feeds come after those of the entry flows, four for each neighbour
+abbrev pub made_link : ℕ → ℕ → ℕ → LinkValue
+made_link seed n place = record (bare_link seed n place) {
+  feeds = feeds_of seed (6 * n + 4 * fed_before n place) (side_at place) (neighbour n place);
+}
+
+-- the climb plan
+abbrev pub made_plan : PlanValue
+made_plan = new_plan 2000 (1 ∷ 8 ∷ 20 ∷ [])
+
+-- the network of n nodes
+unfoldable pub made : ℕ → ℕ → Network
+made seed n = record {
+  frame = made_frame;
+  nodes = map (made_node seed) (range_with_len 0 n);
+  links = map (made_link seed n) (range_with_len 0 (4 * n));
+  plan = Some made_plan;
+}
+
+-- the network with one node more
+abbrev pub plus_node : Network → NodeValue → Network
+plus_node net n = record net { nodes = net.nodes ++ n ∷ [] }
+
+-- the network while its nodes are made: so many of them
+abbrev pub with_nodes : ℕ → ℕ → Network
+with_nodes seed k = record {
+  frame = made_frame;
+  nodes = map (made_node seed) (range_with_len 0 k);
+  links = [];
+  plan = None;
+}
+
+-- the network while its links are made: all nodes, and so many links without their feeds
+abbrev pub with_links : ℕ → ℕ → ℕ → Network
+with_links seed n k = record {
+  frame = made_frame;
+  nodes = map (made_node seed) (range_with_len 0 n);
+  links = map (bare_link seed n) (range_with_len 0 k);
+  plan = None;
+}
+
+-- the links from a place on, without their feeds
+abbrev pub bare_from : ℕ → ℕ → ℕ → List LinkValue
+bare_from seed n k = map (bare_link seed n) (range_with_len k (4 * n - k))
+
+-- the network while its feeds are made: those of so many links
+abbrev pub with_feeds : ℕ → ℕ → ℕ → Network
+with_feeds seed n k = record {
+  frame = made_frame;
+  nodes = map (made_node seed) (range_with_len 0 n);
+  links = map (made_link seed n) (range_with_len 0 k) ++ bare_from seed n k;
+  plan = None;
+}
+
+-- how many draws are taken when the feeds of so many links are made
+abbrev pub taken_by : ℕ → ℕ → ℕ
+taken_by n k = 6 * n + 4 * fed_before n k
+
+-- a seed and the draws that are taken when the feeds of so many links are made
+abbrev pub draws_by : ℕ → ℕ → ℕ → DrawsValue
+draws_by seed n k = record { seed = seed; taken = taken_by n k }
+
+-- the network with three feeds more of a link
+abbrev pub with_three : Network → ℕ → Feed → Feed → Feed → Network
+with_three net link a b c = with_feed (with_feed (with_feed net link a) link b) link c
+
+-- the numbers of all links
+abbrev pub all_names : ℕ → ℕ → List ℕ
+all_names seed n = link_numbers (map (bare_link seed n) (range_with_len 0 (4 * n)))
