@@ -1,9 +1,10 @@
+pub mod AllowedLaws
 pub mod ApplyLaws
 pub mod BackLaws
 pub mod CopyLaws
 pub mod EditLaws
+pub mod FoundLaws
 pub mod KeptLaws
-mod KnownValues
 pub mod NamedLaws
 pub mod PlaceLaws
 pub mod ShapeLaws
@@ -11,3 +12,4 @@ pub mod SoundLinks
 pub mod SoundNodes
 pub mod UndoLaws
 pub mod WriteLaws
+pub mod Worked

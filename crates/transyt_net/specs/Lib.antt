@@ -6,3 +6,6 @@ pub mod Faults
 pub mod Flow
 pub mod Named
 pub mod Shape
+pub mod There
+pub mod WorkedFaults
+pub mod WorkedNets
