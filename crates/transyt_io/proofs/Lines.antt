@@ -6,7 +6,7 @@ use Rattle.std.proofs.lemmas.List.{take_all, take-take, length-take-le, length-t
 use Rattle.std.proofs.Math.Seq.{take-append-add}
 use Rattle.std.proofs.lemmas.Bool.{cases_lt, or_parts, or_from, false_from_ne_true}
 use Rattle.std.specs.Str.Lines.{strip_carriage_return}
-use Rattle.transyt_io.specs.Lines.{onto_first, cut, behind_first, line_of, lines_by, whole, has_end}
+use Rattle.transyt_io.specs.Lines.{onto_first, cut, after_first_line, line_of, lines_by, whole, has_end}
 
 -- what is kept of more is kept of what was kept
 pub kept_more : {X : Type 0} → (n : ℕ) (xs ys : List X) → take n (take n xs ++ ys) ≡ take n (xs ++ ys)
@@ -85,30 +85,30 @@ cut_at keep bytes n below before here =
     around n bytes below ∙ (λ j. take n bytes ++ here j ∷ drop (next j) bytes) in
     ap (cut keep) parts ∙ cut_line keep (take n bytes) (drop (n + 1) bytes) (no_end_before n bytes before (omega arith))
 
--- behind bytes up to a line end
-pub behind_line : (raw ys : List ℕ) → has_end raw ≡ false → behind_first (raw ++ 10 ∷ ys) ≡ ys
-behind_line [] ys h = refl
-behind_line (b ∷ bs) ys h =
+-- after bytes up to a line end
+pub after_line : (raw ys : List ℕ) → has_end raw ≡ false → after_first_line (raw ++ 10 ∷ ys) ≡ ys
+after_line [] ys h = refl
+after_line (b ∷ bs) ys h =
     let parts = or_parts (b == 10) (has_end bs) h in
-    let rest = behind_line bs ys parts.1 in
+    let rest = after_line bs ys parts.1 in
     rw parts.0 rest
 
--- what is behind the first line end begins right behind it
-pub behind_at : (bytes : List ℕ) (n : ℕ) → n < length bytes
+-- what comes after the first line end begins right after it
+pub after_line_end_at : (bytes : List ℕ) (n : ℕ) → n < length bytes
     → ((k : ℕ) → k < n → (slice_index bytes k == 10) ≡ true → ⊥)
-    → slice_index bytes n ≡ 10 → behind_first bytes ≡ drop (n + 1) bytes
-behind_at bytes n below before here =
+    → slice_index bytes n ≡ 10 → after_first_line bytes ≡ drop (n + 1) bytes
+after_line_end_at bytes n below before here =
     let next : suc n ≡ n + 1 = omega arith in
     let parts : bytes ≡ take n bytes ++ 10 ∷ drop (n + 1) bytes =
     around n bytes below ∙ (λ j. take n bytes ++ here j ∷ drop (next j) bytes) in
-    ap behind_first parts ∙ behind_line (take n bytes) (drop (n + 1) bytes) (no_end_before n bytes before (omega arith))
+    ap after_first_line parts ∙ after_line (take n bytes) (drop (n + 1) bytes) (no_end_before n bytes before (omega arith))
 
--- nothing is behind bytes with no line end
-pub behind_none : (bytes : List ℕ) → has_end bytes ≡ false → behind_first bytes ≡ []
-behind_none [] h = refl
-behind_none (b ∷ bs) h =
+-- nothing comes after bytes with no line end
+pub after_no_line_end : (bytes : List ℕ) → has_end bytes ≡ false → after_first_line bytes ≡ []
+after_no_line_end [] h = refl
+after_no_line_end (b ∷ bs) h =
     let parts = or_parts (b == 10) (has_end bs) h in
-    let rest = behind_none bs parts.1 in
+    let rest = after_no_line_end bs parts.1 in
     rw parts.0 rest
 
 -- bytes with no line end have no whole part
@@ -187,29 +187,29 @@ length_kept n xs = let e = length-take n xs in omega arith
 pub length_line : (raw : List ℕ) → length (line_of raw) ≤ 4098
 length_line raw = let e = length_kept 4097 (strip_carriage_return raw) in omega arith
 
--- what comes behind some bytes leaves their whole lines as they are
+-- what comes after some bytes leaves their whole lines as they are
 onto_more : (keep : Bool) (b : ℕ) (parts more all : List (List ℕ)) → all ≡ parts ++ more
-    → (behind : List (List ℕ)) × (onto_first keep b all ≡ onto_first false b parts ++ behind)
+    → (more : List (List ℕ)) × (onto_first keep b all ≡ onto_first false b parts ++ more)
 onto_more keep b [] more all h = (onto_first keep b all, refl)
 onto_more keep b (part ∷ parts) more all h = (more, ap (onto_first keep b) h)
 
 -- the parts of more bytes begin with those that have their line end
 pub cut_more : (keep : Bool) (xs ys : List ℕ)
-    → (behind : List (List ℕ)) × (cut keep (xs ++ ys) ≡ cut false xs ++ behind)
+    → (more : List (List ℕ)) × (cut keep (xs ++ ys) ≡ cut false xs ++ more)
 cut_more keep [] ys = (cut keep ys, refl)
 cut_more keep (b ∷ bs) ys =
     let rest = cut_more keep bs ys in
     let all = cut keep (bs ++ ys) in
     let ended = cut false bs in
-    elim (b == 10) as (λ t. (behind : List (List ℕ)) × ((if t then [] ∷ all else onto_first keep b all)
-    ≡ (if t then [] ∷ ended else onto_first false b ended) ++ behind)) [
+    elim (b == 10) as (λ t. (more : List (List ℕ)) × ((if t then [] ∷ all else onto_first keep b all)
+    ≡ (if t then [] ∷ ended else onto_first false b ended) ++ more)) [
       | true ↦ (rest.0, ap (λ (ls : List (List ℕ)). [] ∷ ls) rest.1)
       | false ↦ onto_more keep b (cut false bs) rest.0 (cut keep (bs ++ ys)) rest.1
     ]
 
 -- the lines of more bytes begin with the whole lines
 pub whole_then : (keep : Bool) (xs ys : List ℕ)
-    → (behind : List (List ℕ)) × (lines_by keep (xs ++ ys) ≡ whole xs ++ behind)
+    → (more : List (List ℕ)) × (lines_by keep (xs ++ ys) ≡ whole xs ++ more)
 whole_then keep xs ys =
     let parts = cut_more keep xs ys in
     (map line_of parts.0, ap (map line_of) parts.1 ∙ map-append line_of (cut false xs) parts.0)

@@ -15,11 +15,11 @@ use Rattle.transyt_io.specs.Lines.{line_of, lines_by, has_end}
 use Rattle.transyt_io.specs.Gather.{Gathers, Gathered}
 use Rattle.transyt_io.specs.Model.{Reading}
 use Rattle.transyt_io.specs.Pull.{Pulled, PulledAll, PulledLine}
-use Rattle.transyt_io.specs.Reading.{Took, TellsReads, turns_left}
+use Rattle.transyt_io.specs.Reading.{ReadsLine, TellsReads, most_lines_left}
 use Rattle.transyt_io.proofs.Told.{takes_nothing}
 use Rattle.transyt_io.proofs.Lines.{line_of_kept}
-use Rattle.transyt_io.proofs.Reading.{all_given, some_length, took_line, took_last, took_end, took_fault}
-use Rattle.transyt_io.proofs.Reading.{took_too_long}
+use Rattle.transyt_io.proofs.Reading.{all_given, some_length, reads_line, reads_last, reads_end, reads_fault}
+use Rattle.transyt_io.proofs.Reading.{reads_too_long}
 
 -- a reader as its fields tell it
 abbrev pub read_as : ℕ → ℕ → ℕ → List ℕ → Bool → Bool → Option (List ℕ) → Reading
@@ -52,13 +52,13 @@ not_due old line taken b (inl e) = let h : true ≡ false = sym e ∙ b.first.op
 not_due old line taken b (inr e) = let h : true ≡ false = sym e ∙ b.going in cc
 
 -- a line ended in what was held
-pub took_held : (old new : Reading) (left : Option (List ℕ)) (last : Option ℕ) (taken at upto n : ℕ)
+pub reads_held : (old new : Reading) (left : Option (List ℕ)) (last : Option ℕ) (taken at upto n : ℕ)
     (block seen line : List ℕ) (ended live : Bool) (told : Option (List ℕ))
     → read_as taken at upto block ended live told ≡ old → ended ≡ false → seen ≡ block → upto ≤ length block
     → n < length (between at upto seen) → Gathered [] line (between at upto seen) (Some n)
     → new ≡ read_as taken (at + (n + 1)) upto block ended live (Some line)
-    → Took old new left left last last (Ok Text)
-took_held old new left last taken at upto n block seen line ended live told view going same high within gathered now =
+    → ReadsLine old new left left last last (Ok Text)
+reads_held old new left last taken at upto n block seen line ended live told view going same high within gathered now =
     let piece = between at upto seen in
     let piece_is : piece ≡ old.held =
     ap (λ (xs : List ℕ). between at upto xs) same ∙ ap (λ (r : Reading). r.held) view in
@@ -75,7 +75,7 @@ took_held old new left last taken at upto n block seen line ended live told view
     ∙ ap (λ (xs : List ℕ). drop (n + 1) xs) (between_is block at upto)
     ∙ drop-drop (n + 1) at (take upto block) ∙ sym (between_is block (at + (n + 1)) upto)
     ∙ sym (ap (λ (r : Reading). r.held) now) in
-    took_line old new left left last last [] [] line (sym (ap (λ (r : Reading). r.ended) view) ∙ going)
+    reads_line old new left left last last [] [] line (sym (ap (λ (r : Reading). r.ended) view) ∙ going)
     (ap (λ (r : Reading). r.ended) now ∙ going) (ap (λ (r : Reading). r.line) now) count (omega arith)
     (takes_nothing left) (inl (refl, refl, refl))
     (λ keep ys.
@@ -90,15 +90,15 @@ pulled_reads : (old : Reading) (line line_new block : List ℕ) (taken taken_new
     → TellsReads old left last last_new p.front p.back
 pulled_reads old line line_new block taken taken_new left left_new last last_new result b p =
     let none = p.no_end old.held b.first in
-    inr (p.last_read, λ taken given stands. all_given old left p.front taken given b.going none stands)
+    inr (p.last_read, λ taken given has_read. all_given old left p.front taken given b.going none has_read)
 
 -- a line ended in what was read
-pub took_pulled_line : (old new : Reading) (line line_new block kept : List ℕ) (taken taken_new : ℕ)
+pub reads_pulled_line : (old new : Reading) (line line_new block kept : List ℕ) (taken taken_new : ℕ)
     (left left_new : Option (List ℕ)) (last last_new : Option ℕ) (found : Pull) (ended live : Bool)
     → Begun old line taken → Pulled line line_new block taken taken_new left left_new last_new (Ok (Some found))
     → ended ≡ false → kept ≡ block → new ≡ read_as taken_new found.at found.«end» kept ended live (Some line_new)
-    → Took old new left left_new last last_new (Ok Text)
-took_pulled_line old new line line_new block kept taken taken_new left left_new last last_new found ended live
+    → ReadsLine old new left left_new last last_new (Ok Text)
+reads_pulled_line old new line line_new block kept taken taken_new left left_new last last_new found ended live
     b p going same now =
     let a : PulledLine line line_new block taken taken_new p.front p.back found = p.answer in
     let both : length (p.front ++ p.back) ≡ length p.front + length p.back = length-append p.front p.back in
@@ -110,7 +110,7 @@ took_pulled_line old new line line_new block kept taken taken_new left left_new 
     let long : length new.held ≡ found.«end» - found.at =
     ap length held ∙ length-between block found.at found.«end» a.high in
     let total : new.taken ≡ taken_new = ap (λ (r : Reading). r.taken) now in
-    took_line old new left left_new last last_new p.front p.back line_new b.going
+    reads_line old new left left_new last last_new p.front p.back line_new b.going
     (ap (λ (r : Reading). r.ended) now ∙ going) (ap (λ (r : Reading). r.line) now) (omega arith) (omega arith) p.takes
     (pulled_reads old line line_new block taken taken_new left left_new last last_new (Ok (Some found)) b p)
     (λ keep ys. a.ends old.held b.first keep ys
@@ -122,7 +122,7 @@ pub record GatheredAll (old : Reading) (line_new front back : List ℕ) (taken_n
   pub gathers : Gathers line_new (old.held ++ (front ++ back))
   pub count : taken_new ≡ old.taken + length (front ++ back)
 
--- behind what was held all belongs to the line, and is counted
+-- after what was held all belongs to the line, and is counted
 gathered_all : (old : Reading) (line line_new front back : List ℕ) (taken taken_new : ℕ) (left : Option (List ℕ))
     → Begun old line taken → PulledAll line line_new taken taken_new left front back
     → GatheredAll old line_new front back taken_new
@@ -154,29 +154,29 @@ empty_list (x ∷ xs) h = absurd (grind (arith, nat_tests))
 some_list : (xs : List ℕ) → nat_lt 0 (length xs) ≡ true → xs ≢ []
 some_list xs some empty = let h : false ≡ true = sym (ap (λ (ys : List ℕ). nat_lt 0 (length ys)) empty) ∙ some in cc
 
--- the source ended behind a last line
-pub took_pulled_last : (old new : Reading) (line line_new block closed : List ℕ) (taken taken_new : ℕ)
+-- the source ended after a last line
+pub reads_pulled_last : (old new : Reading) (line line_new block closed : List ℕ) (taken taken_new : ℕ)
     (left left_new : Option (List ℕ)) (last last_new : Option ℕ) (live : Bool)
     → Begun old line taken → Pulled line line_new block taken taken_new left left_new last_new (Ok None)
     → nat_lt 0 (length line_new) ≡ true → closed ≡ line_of line_new
     → new ≡ read_as taken_new 0 0 [] true live (Some closed)
-    → Took old new left left_new last last_new (Ok Text)
-took_pulled_last old new line line_new block closed taken taken_new left left_new last last_new live b p some is now =
+    → ReadsLine old new left left_new last last_new (Ok Text)
+reads_pulled_last old new line line_new block closed taken taken_new left left_new last last_new live b p some is now =
     let a : PulledAll line line_new taken taken_new left_new p.front p.back = p.answer in
     let g = gathered_all old line line_new p.front p.back taken taken_new left_new b a in
-    took_last old new left left_new last last_new p.front p.back closed b.going
+    reads_last old new left left_new last last_new p.front p.back closed b.going
     (ap (λ (r : Reading). r.ended) now) (ap (λ (r : Reading). r.held) now) (ap (λ (r : Reading). r.line) now)
     (is ∙ ap line_of g.gathers.first ∙ line_of_kept (old.held ++ (p.front ++ p.back)))
     (ap (λ (r : Reading). r.taken) now ∙ g.count) a.at_end g.gathers.open_yet
     (λ e. some_list line_new some (g.gathers.first ∙ ap (take 4098) e)) p.takes
     (pulled_reads old line line_new block taken taken_new left left_new last last_new (Ok None) b p)
 
--- fewer lines may be handed out behind the last line
+-- fewer lines may be handed out after the last line
 pub less_at_last : (old : Reading) (line line_new block : List ℕ) (taken taken_new : ℕ)
     (left left_new : Option (List ℕ)) (last_new : Option ℕ)
     → Begun old line taken → Pulled line line_new block taken taken_new left left_new last_new (Ok None)
     → nat_lt 0 (length line_new) ≡ true → taken_new ≤ 4194304
-    → turns_left (read_as taken_new 0 0 [] true true None) < turns_left old
+    → most_lines_left (read_as taken_new 0 0 [] true true None) < most_lines_left old
 less_at_last old line line_new block taken taken_new left left_new last_new b p some most =
     let a : PulledAll line line_new taken taken_new left_new p.front p.back = p.answer in
     let g = gathered_all old line line_new p.front p.back taken taken_new left_new b a in
@@ -189,34 +189,34 @@ less_at_last old line line_new block taken taken_new left left_new last_new b p 
     omega arith
 
 -- the source ended and no line is left
-pub took_pulled_end : (old new : Reading) (line line_new block : List ℕ) (taken taken_new : ℕ)
+pub reads_pulled_end : (old new : Reading) (line line_new block : List ℕ) (taken taken_new : ℕ)
     (left left_new : Option (List ℕ)) (last last_new : Option ℕ)
     → Begun old line taken → Pulled line line_new block taken taken_new left left_new last_new (Ok None)
     → nat_lt 0 (length line_new) ≡ false → taken_new ≤ 4194304
-    → Took old new left left_new last last_new (Ok End)
-took_pulled_end old new line line_new block taken taken_new left left_new last last_new b p none most =
+    → ReadsLine old new left left_new last last_new (Ok End)
+reads_pulled_end old new line line_new block taken taken_new left left_new last last_new b p none most =
     let a : PulledAll line line_new taken taken_new left_new p.front p.back = p.answer in
     let g = gathered_all old line line_new p.front p.back taken taken_new left_new b a in
     let nothing =
     nothing_kept 4097 (old.held ++ (p.front ++ p.back)) (sym g.gathers.first ∙ empty_list line_new none) in
     let count : taken_new ≡ old.taken + length (p.front ++ p.back) = g.count in
-    took_end old new left left_new last last_new p.front p.back b.going a.at_end nothing (omega arith) p.takes
+    reads_end old new left left_new last last_new p.front p.back b.going a.at_end nothing (omega arith) p.takes
     (pulled_reads old line line_new block taken taken_new left left_new last last_new (Ok None) b p)
 
 -- what stopped a call that read on
-pub took_stop : (old new : Reading) (line line_new block : List ℕ) (taken taken_new : ℕ)
+pub reads_stop : (old new : Reading) (line line_new block : List ℕ) (taken taken_new : ℕ)
     (left left_new : Option (List ℕ)) (last last_new : Option ℕ) (stop : ReadStop)
     → Begun old line taken → Pulled line line_new block taken taken_new left left_new last_new (Err stop)
-    → Took old new left left_new last last_new (Err stop)
-took_stop old new line line_new block taken taken_new left left_new last last_new Fault b p =
+    → ReadsLine old new left left_new last last_new (Err stop)
+reads_stop old new line line_new block taken taken_new left left_new last last_new Fault b p =
     let most : taken + length p.front ≤ 4194304 = p.answer.1 in
     let had : taken ≡ old.taken = b.had in
-    took_fault old new left left_new last last_new p.front p.back b.going p.answer.0 (omega arith)
+    reads_fault old new left left_new last last_new p.front p.back b.going p.answer.0 (omega arith)
     (p.no_end old.held b.first) p.takes
     (pulled_reads old line line_new block taken taken_new left left_new last last_new (Err Fault) b p)
-took_stop old new line line_new block taken taken_new left left_new last last_new TooLong b p =
+reads_stop old new line line_new block taken taken_new left left_new last last_new TooLong b p =
     let most : taken + length p.front ≡ 4194304 = p.answer.1 in
     let had : taken ≡ old.taken = b.had in
-    took_too_long old new left left_new last last_new p.front p.back b.going p.answer.0 (omega arith)
+    reads_too_long old new left left_new last last_new p.front p.back b.going p.answer.0 (omega arith)
     (p.no_end old.held b.first) p.takes
     (pulled_reads old line line_new block taken taken_new left left_new last last_new (Err TooLong) b p)

@@ -7,17 +7,26 @@ use Rattle.transyt_io.specs.declared.reader.Line.TheVariants.{Text, End}
 use Rattle.transyt_io.specs.declared.reader.ReadStop.TheVariants.{Fault, TooLong}
 use Rattle.transyt_io.specs.Lines.{line_of, lines_by, lines, whole, has_end}
 use Rattle.transyt_io.specs.Model.{Reading}
-use Rattle.transyt_io.specs.Reading.{Stands, TellsReads, Took}
+use Rattle.transyt_io.specs.Reading.{HasRead, TellsReads, ReadsLine, new_reading}
 use Rattle.transyt_io.specs.Streams.{Takes, IsAtEnd}
 use Rattle.transyt_io.proofs.Lines.{no_whole, open_line}
+
+-- a new reader has taken nothing and handed out nothing
+pub new_has_read : (left : Option (List ℕ)) → HasRead new_reading left [] []
+new_has_read left = record {
+  count = refl;
+  to_come = λ keep ys _. refl;
+  at_end = λ over. absurd (let h : true ≡ false = sym over in cc);
+  few = omega arith;
+}
 
 -- after a call that left the line in the middle, all whole lines were handed out
 pub all_given : (old : Reading) (left : Option (List ℕ)) (front taken : List ℕ) (given : List (List ℕ))
     → old.ended ≡ false
-    → has_end (old.held ++ front) ≡ false → Stands old left taken given → given ≡ whole (taken ++ front)
-all_given old left front taken given going none stands =
+    → has_end (old.held ++ front) ≡ false → HasRead old left taken given → given ≡ whole (taken ++ front)
+all_given old left front taken given going none has_read =
     let told : whole (taken ++ front) ≡ given ++ whole (old.held ++ front) =
-    stands.to_come false front (λ over. absurd (let h : true ≡ false = sym over ∙ going in cc)) in
+    has_read.to_come false front (λ over. absurd (let h : true ≡ false = sym over ∙ going in cc)) in
     sym (told ∙ ap (λ (ls : List (List ℕ)). given ++ map line_of ls) (no_whole (old.held ++ front) none)
     ∙ append-nil given)
 
@@ -26,17 +35,17 @@ pub hand_on : (old new : Reading) (left left_new : Option (List ℕ)) (got line 
     → old.ended ≡ false → new.ended ≡ false → new.taken ≡ old.taken + length got
     → length new.held < length old.held + length got
     → ((keep : Bool) (ys : List ℕ) → lines_by keep ((old.held ++ got) ++ ys) ≡ line ∷ lines_by keep (new.held ++ ys))
-    → Stands old left taken given → Stands new left_new (taken ++ got) (given ++ line ∷ [])
-hand_on old new left left_new got line taken given going goes count fewer ends stands =
+    → HasRead old left taken given → HasRead new left_new (taken ++ got) (given ++ line ∷ [])
+hand_on old new left left_new got line taken given going goes count fewer ends has_read =
     let lengths : length (taken ++ got) ≡ length taken + length got = length-append taken got in
     let longer : length (given ++ line ∷ []) ≡ length given + 1 = length-append given (line ∷ []) in
-    let had : old.taken ≡ length taken = stands.count in
-    let few : length given + length old.held ≤ length taken = stands.few in
+    let had : old.taken ≡ length taken = has_read.count in
+    let few : length given + length old.held ≤ length taken = has_read.few in
     record {
       count = omega arith;
       to_come = λ keep ys _.
           ap (lines_by keep) (append_assoc taken got ys)
-          ∙ stands.to_come keep (got ++ ys) (λ over. absurd (let h : true ≡ false = sym over ∙ going in cc))
+          ∙ has_read.to_come keep (got ++ ys) (λ over. absurd (let h : true ≡ false = sym over ∙ going in cc))
           ∙ ap (λ (xs : List ℕ). given ++ lines_by keep xs) (sym (append_assoc old.held got ys))
           ∙ ap (λ (ls : List (List ℕ)). given ++ ls) (ends keep ys)
           ∙ sym (append_assoc given (line ∷ []) (lines_by keep (new.held ++ ys)));
@@ -58,18 +67,18 @@ some_length (x ∷ xs) h = omega arith
 pub hand_last : (old new : Reading) (left left_new : Option (List ℕ)) (got taken : List ℕ) (given : List (List ℕ))
     → old.ended ≡ false → new.ended ≡ true → new.held ≡ [] → new.taken ≡ old.taken + length got → IsAtEnd left_new
     → has_end (old.held ++ got) ≡ false → old.held ++ got ≢ []
-    → Stands old left taken given → Stands new left_new (taken ++ got) (given ++ line_of (old.held ++ got) ∷ [])
-hand_last old new left left_new got taken given going ended empty count at_end none some stands =
+    → HasRead old left taken given → HasRead new left_new (taken ++ got) (given ++ line_of (old.held ++ got) ∷ [])
+hand_last old new left left_new got taken given going ended empty count at_end none some has_read =
     let line = line_of (old.held ++ got) in
     let lengths : length (taken ++ got) ≡ length taken + length got = length-append taken got in
     let longer : length (given ++ line ∷ []) ≡ length given + 1 = length-append given (line ∷ []) in
     let long : length (old.held ++ got) ≡ length old.held + length got = length-append old.held got in
-    let had : old.taken ≡ length taken = stands.count in
-    let few : length given + length old.held ≤ length taken = stands.few in
+    let had : old.taken ≡ length taken = has_read.count in
+    let few : length given + length old.held ≤ length taken = has_read.few in
     let positive : 0 < length (old.held ++ got) = some_length (old.held ++ got) some in
     let nothing : length new.held ≡ 0 = ap length empty in
     let all : lines (taken ++ got) ≡ given ++ line ∷ [] =
-    stands.to_come true got (λ over. absurd (let h : true ≡ false = sym over ∙ going in cc))
+    has_read.to_come true got (λ over. absurd (let h : true ≡ false = sym over ∙ going in cc))
     ∙ ap (λ (ls : List (List ℕ)). given ++ ls) (open_lines (old.held ++ got) none some) in
     record {
       count = omega arith;
@@ -90,104 +99,104 @@ hand_last old new left left_new got taken given going ended empty count at_end n
     }
 
 -- a line ended
-pub took_line : (old new : Reading) (left left_new : Option (List ℕ)) (last last_new : Option ℕ)
+pub reads_line : (old new : Reading) (left left_new : Option (List ℕ)) (last last_new : Option ℕ)
     (front back line : List ℕ)
     → old.ended ≡ false → new.ended ≡ false → new.line ≡ Some line → new.taken ≡ old.taken + length (front ++ back)
     → length new.held < length old.held + length (front ++ back)
     → Takes left left_new (front ++ back) → TellsReads old left last last_new front back
     → ((keep : Bool) (ys : List ℕ)
     → lines_by keep ((old.held ++ (front ++ back)) ++ ys) ≡ line ∷ lines_by keep (new.held ++ ys))
-    → Took old new left left_new last last_new (Ok Text)
-took_line old new left left_new last last_new front back line going goes told count fewer takes reads ends = record {
+    → ReadsLine old new left left_new last last_new (Ok Text)
+reads_line old new left left_new last last_new front back line going goes told count fewer takes reads ends = record {
   front = front;
   back = back;
   takes = takes;
   reads = reads;
-  says = λ taken given stands. record {
+  says = λ taken given has_read. record {
     line = line;
     now = told;
-    stands = hand_on old new left left_new (front ++ back) line taken given going goes count fewer ends stands;
+    has_read = hand_on old new left left_new (front ++ back) line taken given going goes count fewer ends has_read;
   };
 }
 
--- the source ended behind a last line
-pub took_last : (old new : Reading) (left left_new : Option (List ℕ)) (last last_new : Option ℕ)
+-- the source ended after a last line
+pub reads_last : (old new : Reading) (left left_new : Option (List ℕ)) (last last_new : Option ℕ)
     (front back line : List ℕ)
     → old.ended ≡ false → new.ended ≡ true → new.held ≡ [] → new.line ≡ Some line
     → line ≡ line_of (old.held ++ (front ++ back)) → new.taken ≡ old.taken + length (front ++ back)
     → IsAtEnd left_new → has_end (old.held ++ (front ++ back)) ≡ false → old.held ++ (front ++ back) ≢ []
     → Takes left left_new (front ++ back) → TellsReads old left last last_new front back
-    → Took old new left left_new last last_new (Ok Text)
-took_last old new left left_new last last_new front back line
+    → ReadsLine old new left left_new last last_new (Ok Text)
+reads_last old new left left_new last last_new front back line
     going ended empty told is count at_end none some takes reads = record {
       front = front;
       back = back;
       takes = takes;
       reads = reads;
-      says = λ taken given stands. record {
+      says = λ taken given has_read. record {
         line = line_of (old.held ++ (front ++ back));
         now = told ∙ ap Some is;
-        stands = hand_last old new left left_new (front ++ back) taken given
-            going ended empty count at_end none some stands;
+        has_read = hand_last old new left left_new (front ++ back) taken given
+            going ended empty count at_end none some has_read;
       };
     }
 
 -- the source ended and no line is left
-pub took_end : (old new : Reading) (left left_new : Option (List ℕ)) (last last_new : Option ℕ)
+pub reads_end : (old new : Reading) (left left_new : Option (List ℕ)) (last last_new : Option ℕ)
     (front back : List ℕ)
     → old.ended ≡ false → IsAtEnd left_new → old.held ++ (front ++ back) ≡ []
     → old.taken + length (front ++ back) ≤ 4194304
     → Takes left left_new (front ++ back) → TellsReads old left last last_new front back
-    → Took old new left left_new last last_new (Ok End)
-took_end old new left left_new last last_new front back going at_end none most takes reads = record {
+    → ReadsLine old new left left_new last last_new (Ok End)
+reads_end old new left left_new last last_new front back going at_end none most takes reads = record {
   front = front;
   back = back;
   takes = takes;
   reads = reads;
-  says = λ taken given stands.
-      let had : old.taken ≡ length taken = stands.count in
+  says = λ taken given has_read.
+      let had : old.taken ≡ length taken = has_read.count in
       let size : length (taken ++ (front ++ back)) ≡ length taken + length (front ++ back) =
       length-append taken (front ++ back) in
       let told : lines (taken ++ (front ++ back)) ≡ given ++ lines (old.held ++ (front ++ back)) =
-      stands.to_come true (front ++ back) (λ over. absurd (let h : true ≡ false = sym over ∙ going in cc)) in
+      has_read.to_come true (front ++ back) (λ over. absurd (let h : true ≡ false = sym over ∙ going in cc)) in
       (sym (told ∙ ap (λ (xs : List ℕ). given ++ lines xs) none ∙ append-nil given), at_end, omega arith);
 }
 
 -- the source failed
-pub took_fault : (old new : Reading) (left left_new : Option (List ℕ)) (last last_new : Option ℕ)
+pub reads_fault : (old new : Reading) (left left_new : Option (List ℕ)) (last last_new : Option ℕ)
     (front back : List ℕ)
     → old.ended ≡ false → back ≡ [] → old.taken + length front ≤ 4194304 → has_end (old.held ++ front) ≡ false
     → Takes left left_new (front ++ back) → TellsReads old left last last_new front back
-    → Took old new left left_new last last_new (Err Fault)
-took_fault old new left left_new last last_new front back going nothing most none takes reads = record {
+    → ReadsLine old new left left_new last last_new (Err Fault)
+reads_fault old new left left_new last last_new front back going nothing most none takes reads = record {
   front = front;
   back = back;
   takes = takes;
   reads = reads;
-  says = λ taken given stands.
-      let had : old.taken ≡ length taken = stands.count in
+  says = λ taken given has_read.
+      let had : old.taken ≡ length taken = has_read.count in
       let size : length (taken ++ (front ++ back)) ≡ length taken + length (front ++ back) =
       length-append taken (front ++ back) in
       let both : length (front ++ back) ≡ length front + length back = length-append front back in
       let no_back : length back ≡ 0 = ap length nothing in
       let all : front ≡ front ++ back = sym (append-nil front) ∙ ap (λ (xs : List ℕ). front ++ xs) (sym nothing) in
-      let given_is = all_given old left front taken given going none stands in
+      let given_is = all_given old left front taken given going none has_read in
       (given_is ∙ ap (λ (xs : List ℕ). whole (taken ++ xs)) all, omega arith);
 }
 
 -- one byte too many came
-pub took_too_long : (old new : Reading) (left left_new : Option (List ℕ)) (last last_new : Option ℕ)
+pub reads_too_long : (old new : Reading) (left left_new : Option (List ℕ)) (last last_new : Option ℕ)
     (front back : List ℕ)
     → old.ended ≡ false → length back ≡ 1 → old.taken + length front ≡ 4194304 → has_end (old.held ++ front) ≡ false
     → Takes left left_new (front ++ back) → TellsReads old left last last_new front back
-    → Took old new left left_new last last_new (Err TooLong)
-took_too_long old new left left_new last last_new front back going one most none takes reads = record {
+    → ReadsLine old new left left_new last last_new (Err TooLong)
+reads_too_long old new left left_new last last_new front back going one most none takes reads = record {
   front = front;
   back = back;
   takes = takes;
   reads = reads;
-  says = λ taken given stands.
-      let had : old.taken ≡ length taken = stands.count in
+  says = λ taken given has_read.
+      let had : old.taken ≡ length taken = has_read.count in
       let first : length (taken ++ front) ≡ length taken + length front = length-append taken front in
       let second : length (front ++ back) ≡ length front + length back = length-append front back in
       let all : length (taken ++ (front ++ back)) ≡ length taken + length (front ++ back) =
@@ -195,5 +204,5 @@ took_too_long old new left left_new last last_new front back going one most none
       let parts : taken ++ (front ++ back) ≡ (taken ++ front) ++ back = sym (append_assoc taken front back) in
       let cut_off : take 4194304 (taken ++ (front ++ back)) ≡ taken ++ front =
       ap (λ (xs : List ℕ). take 4194304 xs) parts ∙ take_at (taken ++ front) back 4194304 (omega arith) in
-      (omega arith, all_given old left front taken given going none stands ∙ ap whole (sym cut_off));
+      (omega arith, all_given old left front taken given going none has_read ∙ ap whole (sym cut_off));
 }

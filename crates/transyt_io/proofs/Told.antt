@@ -37,7 +37,7 @@ front_longer a b text more h = record {
   adds = h.adds;
 }
 
--- some first bytes behind what was added
+-- some first bytes after what was added
 pub adds_further : (a b c : Option (List ℕ)) (out text all : List ℕ) → Adds a b out → AddsFront b c text
     → (more : List ℕ) → out ++ (text ++ more) ≡ all → AddsFront a c all
 adds_further a b c out text all h k more is = record {

@@ -31,13 +31,13 @@ kept [] more some = absurd (omega arith)
 kept (b ∷ bs) more some = refl
 
 -- a blank in front makes no word
-words_behind : (bytes : List ℕ) (i : ℕ) → i < length bytes → is_blank (get_or bytes i 0) ≡ true
+words_after : (bytes : List ℕ) (i : ℕ) → i < length bytes → is_blank (get_or bytes i 0) ≡ true
     → words (drop i bytes) ≡ words (drop (suc i) bytes)
-words_behind [] i inside here = absurd (omega arith)
-words_behind (b ∷ bs) zero inside here =
+words_after [] i inside here = absurd (omega arith)
+words_after (b ∷ bs) zero inside here =
     let parts = slice_split is_blank bs in
     ap (λ (t : Bool). filter is_some_word (cond t ([] ∷ parts) (onto_first b parts))) here
-words_behind (b ∷ bs) (suc i) inside here = words_behind bs i (omega arith) here
+words_after (b ∷ bs) (suc i) inside here = words_after bs i (omega arith) here
 
 -- the first word ends at the first blank
 pub words_at : (bytes : List ℕ) (i : ℕ) → 0 < i → i < length bytes
@@ -46,7 +46,7 @@ pub words_at : (bytes : List ℕ) (i : ℕ) → 0 < i → i < length bytes
 words_at bytes i some inside others here =
     ap (filter is_some_word) (split_at is_blank bytes i inside others here)
     ∙ kept (take i bytes) (slice_split is_blank (drop (suc i) bytes)) (omega (arith, length-take i bytes))
-    ∙ ap (λ (l : List (List ℕ)). take i bytes ∷ l) (sym (words_behind bytes i inside here))
+    ∙ ap (λ (l : List (List ℕ)). take i bytes ∷ l) (sym (words_after bytes i inside here))
 
 -- bytes with no blank are one word
 pub words_alone : (bytes : List ℕ) → 0 < length bytes

@@ -1,4 +1,5 @@
 pub mod Gather
+pub mod Intake
 pub mod Lines
 pub mod Memory
 pub mod Model

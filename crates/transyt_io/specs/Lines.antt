@@ -14,10 +14,10 @@ abbrev pub cut : Bool → List ℕ → List (List ℕ)
 cut keep [] = []
 cut keep (b ∷ bs) = if b == 10 then [] ∷ cut keep bs else onto_first keep b (cut keep bs)
 
--- the bytes behind the first line end; none where there is no line end
-abbrev pub behind_first : List ℕ → List ℕ
-behind_first [] = []
-behind_first (b ∷ bs) = if b == 10 then bs else behind_first bs
+-- the bytes after the first line end; none where there is no line end
+abbrev pub after_first_line : List ℕ → List ℕ
+after_first_line [] = []
+after_first_line (b ∷ bs) = if b == 10 then bs else after_first_line bs
 
 -- the line of such a part: without one carriage return at its end, and of a line over 4,096 bytes the first 4,097
 abbrev pub line_of : List ℕ → List ℕ

@@ -1,12 +1,13 @@
 -- Sources and sinks in memory: what contracts see of them, and what each call leaves.
 use Rattle.std.specs.Prelude.{ℕ, ◌+◌, ◌-◌, ◌++◌, Bool, ◌&&◌, ◌||◌, ◌==◌, nat_lt, min, List, [], length, drop}
 use Rattle.std.specs.List.{list_any}
+use Rattle.transyt_io.specs.Streams.{last_count}
 
 -- one more, up to the last value of a count
 abbrev pub next_count : ℕ → ℕ
-next_count n = min (n + 1) 18446744073709551615
+next_count n = min (n + 1) last_count
 
--- the call behind so many calls has one of the numbers that fail; past number 4,294,967,295 none has
+-- the call after so many calls has one of the numbers that fail; past number 4,294,967,295 none has
 abbrev pub fails_next : List ℕ → ℕ → Bool
 fails_next fail calls = nat_lt calls 4294967295 && list_any (λ number. number == calls + 1) fail
 

@@ -9,7 +9,7 @@ use Rattle.transyt_io.specs.Lines.{lines_by, has_end}
 use Rattle.transyt_io.specs.Gather.{Gathers}
 use Rattle.transyt_io.specs.Streams.{Takes, IsAtEnd}
 
--- the line ended, and the block holds what came behind it
+-- the line ended, and the block holds what came after it
 pub record PulledLine (line line_new block : List ℕ) (taken taken_new : ℕ) (front back : List ℕ)
     (pull : Pull) : Type 0 where
   pub low : pull.at ≤ pull.«end»

@@ -10,8 +10,8 @@ use Rattle.transyt_io.specs.Streams.{Takes, IsAtEnd}
 use Rattle.transyt_io.specs.Model.{Reading}
 
 -- The reader took these bytes and handed out these lines: before the lines of what it holds and of whatever comes
--- behind, they are the lines of all. That holds of the whole lines and of all lines; after the end, of all lines.
-pub record Stands (reading : Reading) (left : Option (List ℕ)) (taken : List ℕ) (given : List (List ℕ)) : Type 0 where
+-- after, they are the lines of all. That holds of the whole lines and of all lines; after the end, of all lines.
+pub record HasRead (reading : Reading) (left : Option (List ℕ)) (taken : List ℕ) (given : List (List ℕ)) : Type 0 where
   pub count : reading.taken ≡ length taken
   pub to_come : (keep : Bool) (ys : List ℕ) → (reading.ended ≡ true → (keep ≡ true) × (ys ≡ []))
       → lines_by keep (taken ++ ys) ≡ given ++ lines_by keep (reading.held ++ ys)
@@ -23,7 +23,7 @@ pub record HandedOut (reading : Reading) (left : Option (List ℕ)) (taken : Lis
     (given : List (List ℕ)) : Type 0 where
   pub line : List ℕ
   pub now : reading.line ≡ Some line
-  pub stands : Stands reading left taken (given ++ line ∷ [])
+  pub has_read : HasRead reading left taken (given ++ line ∷ [])
 
 -- what an answer says of all bytes taken and of the lines handed out before this call
 abbrev pub AnswerSays : Reading → Option (List ℕ) → List ℕ → List (List ℕ) → Line → Type 0
@@ -40,23 +40,23 @@ abbrev pub TellsReads : Reading → Option (List ℕ) → Option ℕ → Option 
 TellsReads old left last last_new front back =
     ((front ≡ []) × (back ≡ []) × (last_new ≡ last))
     ⊎ (IfSome last_new (λ n. n ≡ length back) × ((taken : List ℕ) (given : List (List ℕ))
-    → Stands old left taken given → given ≡ whole (taken ++ front)))
+    → HasRead old left taken given → given ≡ whole (taken ++ front)))
 
 -- front was taken, and then back by the last read
-pub record Took (old new : Reading) (left left_new : Option (List ℕ)) (last last_new : Option ℕ)
+pub record ReadsLine (old new : Reading) (left left_new : Option (List ℕ)) (last last_new : Option ℕ)
     (result : Result Line ReadStop) : Type 0 where
   pub front : List ℕ
   pub back : List ℕ
   pub takes : Takes left left_new (front ++ back)
   pub reads : TellsReads old left last last_new front back
-  pub says : (taken : List ℕ) (given : List (List ℕ)) → Stands old left taken given
+  pub says : (taken : List ℕ) (given : List (List ℕ)) → HasRead old left taken given
       → MatchResult result
       (AnswerSays new left_new (taken ++ (front ++ back)) given)
       (StopSays (taken ++ (front ++ back)) given)
 
--- a bound on how many lines may still be handed out, for a caller's measure
-abbrev pub turns_left : Reading → ℕ
-turns_left reading = 2 * (4194305 - reading.taken) + length reading.held
+-- the most lines that may still be handed out: two for each byte that may come, and one for each that is held
+abbrev pub most_lines_left : Reading → ℕ
+most_lines_left reading = 2 * (4194305 - reading.taken) + length reading.held
 
 -- a reader that has taken nothing
 abbrev pub new_reading : Reading

@@ -42,9 +42,13 @@ TellsLast last result = IfSome last (λ n. MatchResult result (λ m. n ≡ m) (�
 abbrev pub Writes : {E : Type 0} → Option (List ℕ) → Option (List ℕ) → Result ℕ E → List ℕ → Type 0
 Writes old new result piece = MatchResult result (λ n. Adds old new (take n piece)) (λ _. new ≡ old)
 
+-- the last value of a count, where it stays
+abbrev pub last_count : ℕ
+last_count = 18446744073709551615
+
 -- a count of faults rose: it is higher after than before, or at its last value
 abbrev pub Rose : ℕ → ℕ → Type 0
-Rose before after = (before < after) ⊎ (after ≡ 18446744073709551615)
+Rose before after = (before < after) ⊎ (after ≡ last_count)
 
 -- a count of faults does not fall, and rises where the call failed
 pub record CountsFault {T E : Type 0} (before after : ℕ) (result : Result T E) : Type 0 where

@@ -44,7 +44,7 @@ fn ends_in_return(raw: &[u8]) -> bool
     }
 }
 
-/// Adds `piece` to what is kept of a line, up to the piece's first line end, and answers where that is.
+/// Adds `piece` to what is kept of a line, up to the piece's first line end, and returns where that is.
 pub(crate) fn gather(line: &mut Vec<u8>, piece: &[u8]) -> Option<usize>
     requires room { 4098 ≤ vec_capacity line.old }
     requires kept { length line.old.items ≤ 4098 }
@@ -75,7 +75,7 @@ fn keep(line: &mut Vec<u8>, piece: &[u8])
     }
 }
 
-/// Begins a line with `piece`, up to the piece's first line end, and answers where that is.
+/// Begins a line with `piece`, up to the piece's first line end, and returns where that is.
 pub(crate) fn begin(line: &mut Vec<u8>, piece: &[u8]) -> Option<usize>
     requires room { 4098 ≤ vec_capacity line.old }
     ensures room { 4098 ≤ vec_capacity line.new }
@@ -97,7 +97,7 @@ pub(crate) fn close(line: &mut Vec<u8>)
     line.truncate(length);
 }
 
-/// Makes of what is kept at the end of a source the last line, and answers whether there is one.
+/// Makes of what is kept at the end of a source the last line, and returns whether there is one.
 pub(crate) fn close_last(line: &mut Vec<u8>) -> bool
     ensures some { result ≡ nat_lt 0 (length line.old.items) }
     ensures line { line.new.items ≡ line_of line.old.items }

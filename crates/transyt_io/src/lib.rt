@@ -5,13 +5,16 @@
 //! `Option`, since not every end tells them. `specs/Streams` has the words for what a call did to them: cite `Takes`,
 //! `Adds`, `AddsFront`, `Rose` and `CountsFault` first. `specs/Lines` says what the lines of a list of bytes are
 //! (`lines`, `whole`), which are skipped (`is_skipped`) and what the words of a line are (`words`). `specs/Reading`
-//! ties a `LineReader` to all bytes taken and all lines handed out: `Stands` before and after a call of `next`, `Took`
-//! for the call. The lemmas on these words stand in `proofs/Told`, `proofs/Lines` and `proofs/Reading`.
+//! ties a `LineReader` to all bytes taken and all lines handed out: `HasRead` before and after a call of `next`,
+//! `ReadsLine` for the call. `specs/Intake` has `TakesAll`, what taking a whole input did to its source. The lemmas on
+//! these words stand in `proofs/Told`, `proofs/Lines` and `proofs/Reading`.
 #![tactic(auto)]
 
+mod asking;
 mod calls;
 mod cut;
 mod gather;
+mod intake;
 mod line_buffer;
 mod memory_sink;
 mod memory_source;
@@ -25,6 +28,7 @@ mod tests;
 mod words;
 
 pub use cut::next_line;
+pub use intake::Intake;
 pub use line_buffer::{LineBuffer, write_line};
 pub use memory_sink::MemorySink;
 pub use memory_source::MemorySource;

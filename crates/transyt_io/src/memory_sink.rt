@@ -1,6 +1,6 @@
 //! A sink into memory, of which given calls fail.
 ghost use Rattle.std.specs.Prelude.{◌≡◌, ◌<◌, ◌≤◌, ◌↔◌, Some, IsErr, IsTrue, IfOk, OnErr, length, take};
-ghost use Rattle.transyt_io.specs.Streams.{Writes, CountsFault};
+ghost use Rattle.transyt_io.specs.Streams.{Writes, CountsFault, last_count};
 ghost use Rattle.transyt_io.specs.Memory.{
   new_store,
   refuses_next,
@@ -87,7 +87,7 @@ impl Sink for MemorySink {
         ensures bound { IfOk result (λ n. (0 < n) × (n ≤ length piece.now)) }
         ensures bytes { Writes (Some self.old.written) (Some self.new.written) result piece.now }
         ensures cause { CountsFault self.old.faults self.new.faults result }
-        ensures most { self.new.faults ≤ 18446744073709551615 }
+        ensures most { self.new.faults ≤ last_count }
         ensures fails { IsErr result ↔ IsTrue (refuses_next self.old) }
         ensures count { IfOk result (λ n. n ≡ taken_count self.old (length piece.now)) }
         ensures after { IfOk result (λ n. self.new ≡ store_after self.old (take n piece.now)) }

@@ -1,6 +1,6 @@
 //! A source over bytes in memory, of which given calls fail.
 ghost use Rattle.std.specs.Prelude.{◌≡◌, ◌<◌, ◌≤◌, ◌↔◌, Some, IsErr, IsTrue, IfOk, OnErr, length};
-ghost use Rattle.transyt_io.specs.Streams.{Reads, TellsLast, CountsFault};
+ghost use Rattle.transyt_io.specs.Streams.{Reads, TellsLast, CountsFault, last_count};
 ghost use Rattle.transyt_io.specs.Memory.{
   fails_next,
   given_count,
@@ -78,7 +78,7 @@ impl Source for MemorySource {
         ensures bytes { Reads (Some self.old.left) (Some self.new.left) result buf.new }
         ensures last { TellsLast (Some self.new.last) result }
         ensures cause { CountsFault self.old.faults self.new.faults result }
-        ensures most { self.new.faults ≤ 18446744073709551615 }
+        ensures most { self.new.faults ≤ last_count }
         ensures fails { IsErr result ↔ IsTrue (fails_next self.old.fail self.old.calls) }
         ensures count { IfOk result (λ n. n ≡ given_count self.old (length buf.old)) }
         ensures after { IfOk result (λ n. self.new ≡ supply_after self.old n) }

@@ -17,18 +17,13 @@ ghost use Rattle.std.specs.Prelude.{
 ghost use Rattle.transyt_io.specs.Lines.{has_end};
 ghost use Rattle.transyt_io.specs.Streams.{Rose};
 ghost use Rattle.transyt_io.specs.Pull.{Pulled};
-ghost use Rattle.transyt_io.specs.Reading.{Took, turns_left, new_reading, is_text};
+ghost use Rattle.transyt_io.specs.Reading.{ReadsLine, most_lines_left, new_reading, is_text};
 
+use crate::asking::{BLOCK, MOST, room};
 use crate::gather::{KEPT, begin, close_last, gather};
 use crate::streams::{Failed, Source};
 use std::alloc::{AllocError, Global};
 use std::marker::Model;
-
-/// The most bytes that an input may have.
-const MOST: usize = 4_194_304;
-
-/// How many bytes one read asks for at most.
-const BLOCK: usize = 8192;
 
 /// What a call of `LineReader::next` found.
 #[derive(Debug, Clone, Copy, PartialEq, Eq)]
@@ -44,15 +39,15 @@ pub enum Line {
 pub enum ReadStop {
     /// The source failed: only where its count of faults rose in this call.
     Fault,
-    /// A byte behind the first 4,194,304 was taken, and all lines of these that have their line end were handed out.
+    /// A byte after the first 4,194,304 was taken, and all lines of these that have their line end were handed out.
     TooLong,
 }
 
 /// The lines of a source, one at a time, however the reads cut them.
 ///
 /// Contracts see it as a `Reading`: of a live reader how many bytes were taken and those that no line handed out has;
-/// and whether the source was read to its end, whether the reader is live, and the line of the last call. `Stands` ties
-/// a reader to all bytes taken and all lines handed out; `Took` says what a call of `next` did to both. Its memory is
+/// and whether the source was read to its end, whether the reader is live, and the line of the last call. `HasRead` ties
+/// a reader to all bytes taken and all lines handed out; `ReadsLine` says what a call of `next` did to both. Its memory is
 /// taken in `open` alone: a block for what a read brings, and room for the 4,098 first bytes of a line, which tell what
 /// the line is.
 #[derive(Debug, Drop)]
@@ -62,7 +57,7 @@ pub struct LineReader {
     at: usize,
     end: usize,
     taken: usize,
-    told: bool,
+    has_line: bool,
     ended: bool,
     live: bool,
 }
@@ -79,7 +74,7 @@ impl Model for LineReader {
       held = between r.at r.«end» r.block.items;
       ended = r.ended;
       live = r.live;
-      line = if r.told then Some r.line.items else None;
+      line = if r.has_line then Some r.line.items else None;
     } };
 
     ghost invariant = { λ r. record {
@@ -104,13 +99,13 @@ impl LineReader {
             at: 0,
             end: 0,
             taken: 0,
-            told: false,
+            has_line: false,
             ended: false,
             live: true,
         })
     }
 
-    /// Whether `next` may be called: until it answered End, Fault or TooLong.
+    /// Whether `next` may be called: until it returned End, Fault or TooLong.
     pub fn is_live(&self) -> bool
         ensures { result ≡ self.now.live }
     {
@@ -129,29 +124,29 @@ impl LineReader {
     /// The next line of the source, which `line` then gives, or its end.
     ///
     /// It reads only where it holds no line end, asks for at most the bytes that are left of 4,194,304 and then for one
-    /// byte, and never reads behind the end. After End, Fault or TooLong the reader is no longer live.
+    /// byte, and never reads after the end. After End, Fault or TooLong the reader is no longer live.
     pub fn next<S: Source>(&mut self, source: &mut S) -> Result<Line, ReadStop>
         requires { self.old.live ≡ true }
-        ensures took { Took self.old self.new (S.left source.old) (S.left source.new)
+        ensures reads { ReadsLine self.old self.new (S.left source.old) (S.left source.new)
             (S.last source.old) (S.last source.new) result }
         ensures live { self.new.live ≡ is_text result }
         ensures line { is_some self.new.line ≡ is_text result }
         ensures most { self.new.taken ≤ 4194304 }
-        ensures less { is_text result ≡ true → turns_left self.new < turns_left self.old }
+        ensures less { is_text result ≡ true → most_lines_left self.new < most_lines_left self.old }
         ensures unread { (has_end self.old.held ≡ true) ⊎ (self.old.ended ≡ true) →
             source.new ≡ source.old }
         ensures later { S.faults source.old ≤ S.faults source.new }
         ensures fault { result ≡ Err ReadStop.Fault →
             Rose (S.faults source.old) (S.faults source.new) }
     {
-        self.told = false;
+        self.has_line = false;
         if self.ended {
             self.live = false;
             return Ok(Line::End);
         }
         if let Some(n) = begin(&mut self.line, &self.block[self.at..self.end]) {
             self.at += n + 1;
-            self.told = true;
+            self.has_line = true;
             return Ok(Line::Text);
         }
         self.at = 0;
@@ -160,13 +155,13 @@ impl LineReader {
             Ok(Some(found)) => {
                 self.at = found.at;
                 self.end = found.end;
-                self.told = true;
+                self.has_line = true;
                 Ok(Line::Text)
             }
             Ok(None) => {
                 self.ended = true;
                 if close_last(&mut self.line) {
-                    self.told = true;
+                    self.has_line = true;
                     return Ok(Line::Text);
                 }
                 self.live = false;
@@ -180,14 +175,14 @@ impl LineReader {
     }
 }
 
-/// Where the block holds what came behind a line.
+/// Where the block holds what came after a line.
 #[derive(Debug, Drop)]
 struct Pull {
     at: usize,
     end: usize,
 }
 
-/// Reads on until the line or the source ends. The line so far is in `line`; what comes behind its end is in `block`.
+/// Reads on until the line or the source ends. The line so far is in `line`; what comes after its end is in `block`.
 fn read_on<S: Source>(
     source: &mut S,
     block: &mut [u8],
@@ -224,16 +219,4 @@ fn read_on<S: Source>(
             return Ok(Some(Pull { at: at + 1, end: n }));
         }
     }
-}
-
-/// How many bytes to ask for: at most what may still come, and exactly one once all that may come was taken.
-fn room(taken: usize, block: usize) -> usize
-    requires some { 0 < block }
-    requires most { taken ≤ 4194304 }
-    ensures some { 0 < result }
-    ensures within { result ≤ block }
-    ensures most { taken + result ≤ 4194305 }
-    ensures exact { taken < 4194304 → taken + result ≤ 4194304 }
-{
-    (MOST - taken).max(1).min(block)
 }

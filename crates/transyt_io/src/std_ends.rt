@@ -1,6 +1,6 @@
 //! std's readers and writers as a source and a sink: the trusted edge.
 ghost use Rattle.std.specs.Prelude.{◌≡◌, ◌<◌, ◌≤◌, None, IfOk, OnOk, OnErr, length};
-ghost use Rattle.transyt_io.specs.Streams.{Reads, TellsLast, Writes, CountsFault};
+ghost use Rattle.transyt_io.specs.Streams.{Reads, TellsLast, Writes, CountsFault, last_count};
 ghost use Rattle.transyt_io.specs.Memory.{next_count};
 
 use crate::streams::{Failed, Sink, Source};
@@ -46,7 +46,7 @@ impl<R: Read> Source for StdSource<R> {
         ensures bytes { Reads None None result buf.new }
         ensures last { TellsLast None result }
         ensures cause { CountsFault self.old self.new result }
-        ensures most { self.new ≤ 18446744073709551615 }
+        ensures most { self.new ≤ last_count }
         ensures ok { OnOk result (self.new ≡ self.old) }
         ensures failed { OnErr result (self.new ≡ next_count self.old) }
     {
@@ -97,7 +97,7 @@ impl<W: Write> Sink for StdSink<W> {
         ensures bound { IfOk result (λ n. (0 < n) × (n ≤ length piece.now)) }
         ensures bytes { Writes None None result piece.now }
         ensures cause { CountsFault self.old self.new result }
-        ensures most { self.new ≤ 18446744073709551615 }
+        ensures most { self.new ≤ last_count }
         ensures ok { OnOk result (self.new ≡ self.old) }
         ensures failed { OnErr result (self.new ≡ next_count self.old) }
     {

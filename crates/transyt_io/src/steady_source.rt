@@ -1,6 +1,6 @@
 //! A source over bytes in memory that never fails.
 ghost use Rattle.std.specs.Prelude.{◌≡◌, ◌<◌, ◌≤◌, Some, IsOk, IfOk, length, min};
-ghost use Rattle.transyt_io.specs.Streams.{Reads, TellsLast, CountsFault};
+ghost use Rattle.transyt_io.specs.Streams.{Reads, TellsLast, CountsFault, last_count};
 ghost use Rattle.transyt_io.specs.Memory.{stock_after};
 
 use crate::streams::{Failed, Source};
@@ -53,7 +53,7 @@ impl Source for SteadySource {
         ensures bytes { Reads (Some self.old.left) (Some self.new.left) result buf.new }
         ensures last { TellsLast (Some self.new.last) result }
         ensures cause { CountsFault 0 0 result }
-        ensures most { 0 ≤ 18446744073709551615 }
+        ensures most { 0 ≤ last_count }
         ensures never_fails { IsOk result }
         ensures count { IfOk result (λ n. n ≡ min (length buf.old) (length self.old.left)) }
         ensures after { IfOk result (λ n. self.new ≡ stock_after self.old n) }

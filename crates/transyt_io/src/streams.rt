@@ -1,6 +1,6 @@
 //! Where bytes come from, and where they go.
 ghost use Rattle.std.specs.Prelude.{◌<◌, ◌≤◌, ℕ, List, Option, IfOk, length};
-ghost use Rattle.transyt_io.specs.Streams.{Reads, TellsLast, Writes, CountsFault};
+ghost use Rattle.transyt_io.specs.Streams.{Reads, TellsLast, Writes, CountsFault, last_count};
 
 /// A read or write that did not happen: no byte was taken or given.
 #[derive(Debug, Clone, Copy, PartialEq, Eq)]
@@ -21,15 +21,15 @@ pub trait Source {
     /// How many calls failed.
     ghost faults: { Self → ℕ };
 
-    /// Puts the next bytes into the front of `buf`, and answers how many: 0 only at the end. A call that answers Failed
-    /// took no byte, and answers so only where the count of faults rose in it.
+    /// Puts the next bytes into the front of `buf`, and returns how many: 0 only at the end. A call that returns Failed
+    /// took no byte, and returns so only where the count of faults rose in it.
     fn read(&mut self, buf: &mut [u8]) -> Result<usize, Failed>
         requires { 0 < length buf.old }
         ensures bound { IfOk result (λ n. n ≤ length buf.new) }
         ensures bytes { Reads (left self.old) (left self.new) result buf.new }
         ensures last { TellsLast (last self.new) result }
         ensures cause { CountsFault (faults self.old) (faults self.new) result }
-        ensures most { faults self.new ≤ 18446744073709551615 };
+        ensures most { faults self.new ≤ last_count };
 }
 
 /// Takes bytes in pieces.
@@ -43,12 +43,12 @@ pub trait Sink {
     /// How many calls failed.
     ghost faults: { Self → ℕ };
 
-    /// Appends some first bytes of `piece`, one at least, and answers how many. A call that answers Failed appended
-    /// nothing, and answers so only where the count of faults rose in it.
+    /// Appends some first bytes of `piece`, one at least, and returns how many. A call that returns Failed appended
+    /// nothing, and returns so only where the count of faults rose in it.
     fn write(&mut self, piece: &[u8]) -> Result<usize, Failed>
         requires { 0 < length piece.now }
         ensures bound { IfOk result (λ n. (0 < n) × (n ≤ length piece.now)) }
         ensures bytes { Writes (written self.old) (written self.new) result piece.now }
         ensures cause { CountsFault (faults self.old) (faults self.new) result }
-        ensures most { faults self.new ≤ 18446744073709551615 };
+        ensures most { faults self.new ≤ last_count };
 }

@@ -1,6 +1,6 @@
 //! A sink that only counts.
 ghost use Rattle.std.specs.Prelude.{◌≡◌, ◌<◌, ◌≤◌, ◌+◌, None, Ok, IfOk, length, min};
-ghost use Rattle.transyt_io.specs.Streams.{Writes, CountsFault};
+ghost use Rattle.transyt_io.specs.Streams.{Writes, CountsFault, last_count};
 
 use crate::streams::{Failed, Sink};
 use std::marker::Model;
@@ -47,7 +47,7 @@ impl Sink for TallySink {
         ensures bound { IfOk result (λ n. (0 < n) × (n ≤ length piece.now)) }
         ensures bytes { Writes None None result piece.now }
         ensures cause { CountsFault 0 0 result }
-        ensures most { 0 ≤ 18446744073709551615 }
+        ensures most { 0 ≤ last_count }
         ensures never_fails { result ≡ Ok (length piece.now) }
         ensures after { self.new ≡ min (self.old + length piece.now)
             340282366920938463463374607431768211455 }

@@ -12,7 +12,7 @@ use std::test::Fail;
 /// The most bytes that an input may have.
 const LIMIT: usize = 4_194_304;
 
-/// What a reader hands out until it stops, a bar behind each line, and why it stopped.
+/// What a reader hands out until it stops, a bar after each line, and why it stopped.
 fn read_text<S: Source>(
     alloc: Global,
     source: &mut S,
@@ -45,7 +45,7 @@ fn gives<S: Source>(
     Ok(text.as_slice() == wanted && stop == why)
 }
 
-/// The same text by the rule itself, over all bytes at once: an LF ends a line, and the bytes behind the last one
+/// The same text by the rule itself, over all bytes at once: an LF ends a line, and the bytes after the last one
 /// are a line where `unended` says so.
 fn plain_text(alloc: Global, bytes: &[u8], unended: bool) -> Result<Vec<u8>, AllocError> {
     let mut text = Vec::new(alloc);
@@ -70,7 +70,7 @@ fn put_plain(raw: &[u8], text: &mut Vec<u8>) -> Result<(), AllocError> {
 }
 
 /// What a reader is to hand out of these bytes by that rule, and why it is to stop: past the limit with an error,
-/// behind the lines of the bytes up to it that have their line end.
+/// after the lines of the bytes up to it that have their line end.
 fn plain_outcome(alloc: Global, bytes: &[u8]) -> Result<(Vec<u8>, Option<ReadStop>), AllocError> {
     let front = bytes.len().min(LIMIT);
     let fits = front == bytes.len();
@@ -99,20 +99,20 @@ fn gives_by_pieces(alloc: Global, bytes: &[u8]) -> Result<bool, AllocError> {
 fn sliced_text(alloc: Global, bytes: &[u8]) -> Result<Vec<u8>, AllocError> {
     let mut text = Vec::new(alloc);
     let mut rest = bytes;
-    while let Some((line, behind)) = next_line(rest) {
+    while let Some((line, after)) = next_line(rest) {
         put_bar(line, &mut text)?;
-        rest = behind;
+        rest = after;
     }
     Ok(text)
 }
 
-/// The words of a line, a bar behind each.
+/// The words of a line, a bar after each.
 fn words_text(alloc: Global, line: &[u8]) -> Result<Vec<u8>, AllocError> {
     let mut text = Vec::new(alloc);
     let mut rest = line;
-    while let Some((word, behind)) = next_word(rest) {
+    while let Some((word, after)) = next_word(rest) {
         put_bar(word, &mut text)?;
-        rest = behind;
+        rest = after;
     }
     Ok(text)
 }
@@ -175,7 +175,7 @@ fn cuts_long_lines(rt: HostRuntime) -> Result<(), Fail> {
 #[test]
 fn keeps_4097_bytes_of_a_longer_line(rt: HostRuntime) -> Result<(), Fail> {
     let alloc = rt.alloc();
-    // How many bytes and what behind them; and how long the text is, a bar with each line.
+    // How many bytes and what comes after them; and how long the text is, a bar with each line.
     let table: [(usize, &[u8], usize); 7] = [
         (4096, b"\n", 4097),
         (4096, b"\r\n", 4097),
@@ -195,7 +195,7 @@ fn keeps_4097_bytes_of_a_longer_line(rt: HostRuntime) -> Result<(), Fail> {
 
 /// Takes some seconds as `rt test` builds it; `rt try --test` ends it at its time limit.
 #[test]
-fn takes_no_line_behind_the_limit(rt: HostRuntime) -> Result<(), Fail> {
+fn takes_no_line_past_the_limit(rt: HostRuntime) -> Result<(), Fail> {
     let alloc = rt.alloc();
     let long = Some(ReadStop::TooLong);
     // As above, and why the reader stops: one line up to the limit, and one that never ends.

@@ -10,7 +10,7 @@ pub fn is_blank(byte: u8) -> bool
     byte == b' ' || byte == b'\t'
 }
 
-/// The first word of a line, and the bytes behind it; None where the line has no word.
+/// The first word of a line, and the bytes after it; None where the line has no word.
 pub fn next_word(line: &[u8]) -> Option<(&[u8], &[u8])>
     ensures word { MatchOption result (words line.now ≡ [])
         (λ found. words line.now ≡ found.0.now ∷ words found.1.now) }
@@ -26,7 +26,7 @@ pub fn next_word(line: &[u8]) -> Option<(&[u8], &[u8])>
     None
 }
 
-/// The word that `rest` begins with, and the bytes behind it.
+/// The word that `rest` begins with, and the bytes after it.
 fn first_word(rest: &[u8]) -> (&[u8], &[u8])
     requires some { 0 < length rest.now }
     requires begins { is_blank (slice_index rest.now 0) ≡ false }
@@ -48,12 +48,14 @@ pub fn is_skipped(line: &[u8]) -> bool
     line.len() <= 4096 && (is_comment(line) || is_blank_alone(line))
 }
 
+/// Whether a line begins with a star.
 fn is_comment(line: &[u8]) -> bool
     ensures { result ≡ is_comment line.now }
 {
     !line.is_empty() && line[0] == b'*'
 }
 
+/// Whether a line has blanks and tabs alone, or nothing.
 fn is_blank_alone(line: &[u8]) -> bool
     ensures { result ≡ list_all is_blank line.now }
 {

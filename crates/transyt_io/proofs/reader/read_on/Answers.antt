@@ -8,7 +8,7 @@ use Rattle.transyt_io.proofs.Pieces.{piece_read}
 use Rattle.transyt_io.proofs.Told.{takes_both}
 use Rattle.transyt_io.proofs.reader.read_on.Goals as goal
 
--- the line ended in the last piece, and the block holds what came behind it
+-- the line ended in the last piece, and the block holds what came after it
 pub returns-in-Some-clause-pulled : goal.returns-in-Some-clause-pulled
 returns-in-Some-clause-pulled g c =
     let front = c.loop-n.invariant.0 in
@@ -41,9 +41,9 @@ returns-in-Some-clause-pulled g c =
             let all : (raw ++ (front ++ back)) ++ ys ≡ ((raw ++ front) ++ take n block) ++ ys =
             ap (λ (xs : List ℕ). xs ++ ys) (sym (append_assoc raw front back)
             ∙ ap (λ (xs : List ℕ). (raw ++ front) ++ xs) (sym piece.same)) in
-            let behind : drop (at + 1) (take n block) ++ ys ≡ between (at + 1) n block ++ ys =
+            let after : drop (at + 1) (take n block) ++ ys ≡ between (at + 1) n block ++ ys =
             ap (λ (xs : List ℕ). xs ++ ys) (sym (between_is block (at + 1) n)) in
-            ap (lines_by keep) all ∙ told ∙ ap (λ (xs : List ℕ). c.gather.new.line.items ∷ lines_by keep xs) behind;
+            ap (lines_by keep) all ∙ told ∙ ap (λ (xs : List ℕ). c.gather.new.line.items ∷ lines_by keep xs) after;
       };
     }
 

@@ -1,24 +1,24 @@
 use Rattle.std.proofs.Common.{◌∙◌, refl, arith, sym}
 use Rattle.std.proofs.lemmas.List.{with_items_is}
-use Rattle.transyt_io.proofs.Pulled.{begun, not_due, took_held, took_pulled_line, took_pulled_last, less_at_last}
-use Rattle.transyt_io.proofs.Pulled.{took_pulled_end, took_stop}
+use Rattle.transyt_io.proofs.Pulled.{begun, not_due, reads_held, reads_pulled_line, reads_pulled_last, less_at_last}
+use Rattle.transyt_io.proofs.Pulled.{reads_pulled_end, reads_stop}
 use Rattle.transyt_io.proofs.reader.LineReader.next.Goals as goal
 
 -- a line ended in what was held
-pub returns-in-Some-clause-took : goal.returns-in-Some-clause-took
-returns-in-Some-clause-took g c =
+pub returns-in-Some-clause-reads : goal.returns-in-Some-clause-reads
+returns-in-Some-clause-reads g c =
     let block = c.self.inside.block in
     let size = block.ok.0 in
-    took_held _ _ _ _ _ _ _ _ _ _ _ _ _ _ c.self.view_is c.if-self.false c.deref.ensures.value
+    reads_held _ _ _ _ _ _ _ _ _ _ _ _ _ _ c.self.view_is c.if-self.false c.deref.ensures.value
     (omega (arith, c.self.invariant.high)) c.in-Some.ensures.within c.in-Some.ensures.begun refl
 
 -- a line ended in what was read
-pub returns-in-Ok-Some-clause-took : goal.returns-in-Ok-Some-clause-took
-returns-in-Ok-Some-clause-took g c =
+pub returns-in-Ok-Some-clause-reads : goal.returns-in-Ok-Some-clause-reads
+returns-in-Ok-Some-clause-reads g c =
     let b = begun _ _ _ _ _ _ _ _ _ _ c.self.view_is c.if-self.false c.deref.ensures.value c.in_default.ensures.begun in
     let told = rw c.in-Ok-Some.field-0-is at c.in-Ok-Some.ensures in
     let same = with_items_is c.self.inside.block c.read_on.new.block (c.read_on.auto.block ∙ c.deref_mut.ensures.len) in
-    took_pulled_line _ _ _ _ _ _ _ _ _ _ _ _ c.in-Ok-Some.found _ _ b told.pulled c.if-self.false same refl
+    reads_pulled_line _ _ _ _ _ _ _ _ _ _ _ _ c.in-Ok-Some.found _ _ b told.pulled c.if-self.false same refl
 
 -- the source was read where no line end was held
 pub returns-in-Ok-Some-clause-unread : goal.returns-in-Ok-Some-clause-unread
@@ -26,12 +26,12 @@ returns-in-Ok-Some-clause-unread g c =
     let b = begun _ _ _ _ _ _ _ _ _ _ c.self.view_is c.if-self.false c.deref.ensures.value c.in_default.ensures.begun in
     λ due. absurd (not_due _ _ _ b due)
 
--- the source ended behind a last line
-pub returns-then-close_last-clause-took : goal.returns-then-close_last-clause-took
-returns-then-close_last-clause-took g c =
+-- the source ended after a last line
+pub returns-then-close_last-clause-reads : goal.returns-then-close_last-clause-reads
+returns-then-close_last-clause-reads g c =
     let b = begun _ _ _ _ _ _ _ _ _ _ c.self.view_is c.if-self.false c.deref.ensures.value c.in_default.ensures.begun in
     let told = rw c.in-Ok-None.field-0-is at c.in-Ok-None.ensures in
-    took_pulled_last _ _ _ _ _ _ _ _ _ _ _ _ _ b told.pulled (sym c.close_last.ensures.some ∙ c.if-close_last.true)
+    reads_pulled_last _ _ _ _ _ _ _ _ _ _ _ _ _ b told.pulled (sym c.close_last.ensures.some ∙ c.if-close_last.true)
     c.close_last.ensures.line refl
 
 -- the last line leaves fewer that may come
@@ -49,11 +49,11 @@ returns-then-close_last-clause-unread g c =
     λ due. absurd (not_due _ _ _ b due)
 
 -- the source ended and no line is left
-pub returns-else-close_last-clause-took : goal.returns-else-close_last-clause-took
-returns-else-close_last-clause-took g c =
+pub returns-else-close_last-clause-reads : goal.returns-else-close_last-clause-reads
+returns-else-close_last-clause-reads g c =
     let b = begun _ _ _ _ _ _ _ _ _ _ c.self.view_is c.if-self.false c.deref.ensures.value c.in_default.ensures.begun in
     let told = rw c.in-Ok-None.field-0-is at c.in-Ok-None.ensures in
-    took_pulled_end _ _ _ _ _ _ _ _ _ _ _ b told.pulled (sym c.close_last.ensures.some ∙ c.if-close_last.false)
+    reads_pulled_end _ _ _ _ _ _ _ _ _ _ _ b told.pulled (sym c.close_last.ensures.some ∙ c.if-close_last.false)
     c.read_on.ensures.most
 
 -- the source was read where no line end was held
@@ -63,10 +63,10 @@ returns-else-close_last-clause-unread g c =
     λ due. absurd (not_due _ _ _ b due)
 
 -- the source failed, or one byte too many came
-pub returns-in-Err-clause-took : goal.returns-in-Err-clause-took
-returns-in-Err-clause-took g c =
+pub returns-in-Err-clause-reads : goal.returns-in-Err-clause-reads
+returns-in-Err-clause-reads g c =
     let b = begun _ _ _ _ _ _ _ _ _ _ c.self.view_is c.if-self.false c.deref.ensures.value c.in_default.ensures.begun in
-    took_stop _ _ _ _ _ _ _ _ _ _ _ c.in-Err.stop b c.in-Err.ensures.pulled
+    reads_stop _ _ _ _ _ _ _ _ _ _ _ c.in-Err.stop b c.in-Err.ensures.pulled
 
 -- the source was read where no line end was held
 pub returns-in-Err-clause-unread : goal.returns-in-Err-clause-unread
