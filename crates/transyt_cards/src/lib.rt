@@ -14,7 +14,7 @@ mod deck_text;
 
 pub use deck_text::print_deck;
 pub use transyt_commands::{Command, read_command};
-pub use transyt_deck::{CardReader, CardStop, Cut, Progress, cut_deck, text_reads_back};
+pub use transyt_deck::{Card, CardReader, CardStop, Cut, Part, Progress, State, cut_deck};
 
 #[cfg(test)]
 mod tests;

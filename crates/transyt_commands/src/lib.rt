@@ -10,13 +10,8 @@
 #![tactic(auto)]
 
 mod command;
-mod keyword;
-mod laws;
 mod reading;
 
 pub use command::Command;
-pub use laws::worked_lines;
 pub use reading::read_command;
 
-#[cfg(test)]
-mod tests;

@@ -1,96 +1,60 @@
 //! The command of a line.
-ghost use Rattle.std.specs.Prelude.{◌≡◌, ◌↔◌, length, true, false, IsTrue, IfErr, Some, None, Ok};
+ghost use Rattle.std.specs.Prelude.{◌≡◌, ◌≤◌, ◌↔◌, IsTrue, IfErr, IfSome, None, Some, Ok};
 ghost use Rattle.transyt_io.specs.Lines.{is_skipped};
-ghost use Rattle.transyt_syntax.specs.Syntax.{is_count, syntax_code};
-ghost use Rattle.transyt_commands.specs.Commands.{command_counts, command_counts_of, command_of, command_in};
+ghost use Rattle.transyt_syntax.specs.Syntax.{named, with_numbers, counts_of, syntax_code};
+ghost use Rattle.transyt_commands.specs.Commands.{commands, command_in};
 
 use crate::command::Command;
-use crate::keyword::{CommandWord, command_counts, command_word};
 use transyt_io::is_skipped;
 use transyt_net::Edit;
-use transyt_syntax::{first_of, read_line};
+use transyt_syntax::{Code, Numbers, first_of, further_of, is_word, say};
 
 /// Reads the command of a line; `None` for a comment or a blank line.
 ///
-/// An error is the code that is printed: the first of 11, 10, 12 and 13 that holds of the line. The line may
-/// have any length, and a line end in it is a byte that may not stand there (10).
-pub fn read_command(line: &[u8]) -> Result<Option<Command>, u32>
+/// An error is the first of the codes 11, 10, 12 and 13 that holds of the line. The line may have any length, and a
+/// line end in it is a byte that may not stand there (10).
+pub fn read_command(line: &[u8]) -> Result<Option<Command>, Code>
     ensures command { result ≡ command_in line.now }
     ensures nothing { (result ≡ Ok None) ↔ IsTrue (is_skipped line.now) }
     ensures refused { IfErr result (λ code.
-        syntax_code (command_counts_of line.now) line.now ≡ Some code) }
+        syntax_code (counts_of commands line.now) line.now ≡ Some code) }
 {
     if is_skipped(line) {
         return Ok(None);
     }
-    let (first, rest) = first_of(line);
-    let word = command_word(first);
-    let counts = match word {
-        Some(known) => Some(command_counts(known)),
-        None => None,
-    };
-    let mut numbers = [0u32; 17];
-    let count = match read_line(line, rest, counts, &mut numbers) {
-        Ok(count) => count,
-        Err(code) => return Err(code),
-    };
-    match word {
-        Some(known) => Ok(Some(command_of(known, &numbers[..count]))),
-        None => Err(10),
-    }
+    let (keyword, rest) = first_of(line);
+    let further = further_of(rest);
+    say(line, command_named(keyword, &further.numbers), &further)
 }
 
-/// What numbers behind a command's keyword say.
-fn command_of(word: CommandWord, numbers: &[u32]) -> Command
-    requires { is_count (command_counts word) (length numbers.now) ≡ true }
-    ensures { result ≡ command_of word numbers.now }
+/// The least and the most numbers that a keyword takes, and the command that it is with these numbers.
+fn command_named(keyword: &[u8], numbers: &Numbers) -> Option<((usize, usize), Command)>
+    ensures command { result ≡ with_numbers numbers.now (named commands keyword.now) }
+    ensures most { IfSome result (λ found. found.0.1 ≤ 17) }
 {
-    match word {
-        CommandWord::Offset => Command::Edit(Edit::Offset {
-            node: numbers[0],
-            offset: numbers[1],
-        }),
-        CommandWord::Change => Command::Edit(Edit::Change {
-            node: numbers[0],
-            stage: numbers[1],
-            change: numbers[2],
-        }),
-        CommandWord::Entry => Command::Edit(Edit::Entry {
-            link: numbers[0],
-            flow: numbers[1],
-        }),
-        CommandWord::Part => Command::Edit(Edit::Part {
-            link: numbers[0],
-            feeder: numbers[1],
-            flow: numbers[2],
-        }),
-        CommandWord::Cruise => Command::Edit(Edit::Cruise {
-            link: numbers[0],
-            feeder: numbers[1],
-            seconds: numbers[2],
-        }),
-        CommandWord::Saturation => Command::Edit(Edit::Saturation {
-            link: numbers[0],
-            flow: numbers[1],
-        }),
-        CommandWord::Weight => Command::Edit(Edit::Weight {
-            link: numbers[0],
-            delay: numbers[1],
-            stop: numbers[2],
-        }),
-        CommandWord::Trial => Command::Trial,
-        CommandWord::Back => Command::Back,
-        CommandWord::Keep => Command::Keep,
-        CommandWord::Climb => Command::Climb,
-        CommandWord::Cert => Command::Cert,
-        CommandWord::Index => Command::Index,
-        CommandWord::Links => Command::Links,
-        CommandWord::Timing => Command::Timing,
-        CommandWord::Profile => Command::Profile { link: numbers[0] },
-        CommandWord::Plot => Command::Plot { link: numbers[0] },
-        CommandWord::Queue => Command::Queue { link: numbers[0] },
-        CommandWord::Work => Command::Work,
-        CommandWord::Deck => Command::Deck,
-        CommandWord::Stop => Command::Stop,
+    let (a, b, c) = (numbers.at(0), numbers.at(1), numbers.at(2));
+    match keyword {
+        _ if is_word(keyword, b"OFFSET") => Some(((2, 2), Command::Edit(Edit::Offset { node: a, offset: b }))),
+        _ if is_word(keyword, b"CHANGE") => Some(((3, 3), Command::Edit(Edit::Change { node: a, stage: b, change: c }))),
+        _ if is_word(keyword, b"ENTRY") => Some(((2, 2), Command::Edit(Edit::Entry { link: a, flow: b }))),
+        _ if is_word(keyword, b"PART") => Some(((3, 3), Command::Edit(Edit::Part { link: a, feeder: b, flow: c }))),
+        _ if is_word(keyword, b"CRUISE") => Some(((3, 3), Command::Edit(Edit::Cruise { link: a, feeder: b, seconds: c }))),
+        _ if is_word(keyword, b"SATURATION") => Some(((2, 2), Command::Edit(Edit::Saturation { link: a, flow: b }))),
+        _ if is_word(keyword, b"WEIGHT") => Some(((3, 3), Command::Edit(Edit::Weight { link: a, delay: b, stop: c }))),
+        _ if is_word(keyword, b"TRIAL") => Some(((0, 0), Command::Trial)),
+        _ if is_word(keyword, b"BACK") => Some(((0, 0), Command::Back)),
+        _ if is_word(keyword, b"KEEP") => Some(((0, 0), Command::Keep)),
+        _ if is_word(keyword, b"CLIMB") => Some(((0, 0), Command::Climb)),
+        _ if is_word(keyword, b"CERT") => Some(((0, 0), Command::Cert)),
+        _ if is_word(keyword, b"INDEX") => Some(((0, 0), Command::Index)),
+        _ if is_word(keyword, b"LINKS") => Some(((0, 0), Command::Links)),
+        _ if is_word(keyword, b"TIMING") => Some(((0, 0), Command::Timing)),
+        _ if is_word(keyword, b"PROFILE") => Some(((1, 1), Command::Profile { link: a })),
+        _ if is_word(keyword, b"PLOT") => Some(((1, 1), Command::Plot { link: a })),
+        _ if is_word(keyword, b"QUEUE") => Some(((1, 1), Command::Queue { link: a })),
+        _ if is_word(keyword, b"WORK") => Some(((0, 0), Command::Work)),
+        _ if is_word(keyword, b"DECK") => Some(((0, 0), Command::Deck)),
+        _ if is_word(keyword, b"STOP") => Some(((0, 0), Command::Stop)),
+        _ => None,
     }
 }

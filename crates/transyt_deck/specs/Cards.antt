@@ -1,48 +1,35 @@
--- Cards, the cards of a network, and their text.
+-- The cards of a network, and their text.
 use Rattle.std.specs.Prelude.{ℕ, List, [], ◌∷◌, ◌++◌, map, flat_map, codes, decimal, Option, Some, None}
-use Rattle.transyt_parts.specs.declared.frame.Frame.{Frame}
-use Rattle.transyt_parts.specs.declared.node.Stage.{Stage}
-use Rattle.transyt_parts.specs.declared.link.Feed.{Feed}
-use Rattle.transyt_parts.specs.declared.link.GiveWay.{GiveWay}
 use Rattle.transyt_parts.specs.Parts.{NodeValue, LinkValue, PlanValue}
 use Rattle.transyt_net.specs.Parts.{Network}
-
--- what a card says; the link of a LINK card has no feeds and no rule yet
-pub data Card : Type 0 where
-  Form : ℕ → Card
-  Cycle : Frame → Card
-  Node : ℕ → ℕ → Card
-  StageOf : Stage → Card
-  LinkOf : LinkValue → Card
-  FeedOf : ℕ → Feed → Card
-  Yield : ℕ → GiveWay → Card
-  Steps : PlanValue → Card
-  End : Card
+use Rattle.transyt_deck.specs.declared.card.Card.{Card}
+use Rattle.transyt_deck.specs.declared.card.Card.TheVariants as c
+use Rattle.transyt_deck.specs.declared.card.NewLink.{NewLink}
 
 -- the keyword of a card
 abbrev pub keyword_in : Card → List ℕ
-keyword_in (Form f) = codes "FORM"
-keyword_in (Cycle f) = codes "CYCLE"
-keyword_in (Node number offset) = codes "NODE"
-keyword_in (StageOf s) = codes "STAGE"
-keyword_in (LinkOf l) = codes "LINK"
-keyword_in (FeedOf link f) = codes "FEED"
-keyword_in (Yield link g) = codes "YIELD"
-keyword_in (Steps p) = codes "STEPS"
-keyword_in End = codes "END"
+keyword_in (c.Form form) = codes "FORM"
+keyword_in (c.Cycle frame) = codes "CYCLE"
+keyword_in (c.Node number offset) = codes "NODE"
+keyword_in (c.Stage stage) = codes "STAGE"
+keyword_in (c.Link link stages) = codes "LINK"
+keyword_in (c.Feed link feed) = codes "FEED"
+keyword_in (c.Yield link rule) = codes "YIELD"
+keyword_in (c.Steps budget sizes) = codes "STEPS"
+keyword_in c.End = codes "END"
 
 -- the numbers of a card, of a LINK card those of form 2
 abbrev pub numbers_in : Card → List ℕ
-numbers_in (Form f) = f ∷ []
-numbers_in (Cycle f) = f.cycle ∷ f.step_count ∷ f.sweeps ∷ f.period ∷ f.stop_penalty ∷ f.dispersion ∷ []
-numbers_in (Node number offset) = number ∷ offset ∷ []
-numbers_in (StageOf s) = s.change ∷ s.intergreen ∷ s.least ∷ []
-numbers_in (LinkOf l) =
-    l.number ∷ l.node ∷ l.entry ∷ l.saturation ∷ l.delay_weight ∷ l.stop_weight ∷ l.start_lag ∷ l.end_lag ∷ l.stages
-numbers_in (FeedOf link f) = link ∷ f.feeder ∷ f.flow ∷ f.cruise ∷ []
-numbers_in (Yield link g) = link ∷ g.other ∷ g.percent ∷ []
-numbers_in (Steps p) = p.budget ∷ p.sizes
-numbers_in End = []
+numbers_in (c.Form form) = form ∷ []
+numbers_in (c.Cycle f) = f.cycle ∷ f.step_count ∷ f.sweeps ∷ f.period ∷ f.stop_penalty ∷ f.dispersion ∷ []
+numbers_in (c.Node number offset) = number ∷ offset ∷ []
+numbers_in (c.Stage s) = s.change ∷ s.intergreen ∷ s.least ∷ []
+numbers_in (c.Link l stages) =
+    l.number ∷ l.node ∷ l.entry ∷ l.saturation ∷ l.delay_weight ∷ l.stop_weight ∷ l.start_lag ∷ l.end_lag ∷ stages
+numbers_in (c.Feed link f) = link ∷ f.feeder ∷ f.flow ∷ f.cruise ∷ []
+numbers_in (c.Yield link rule) = link ∷ rule.other ∷ rule.percent ∷ []
+numbers_in (c.Steps budget sizes) = budget ∷ sizes
+numbers_in c.End = []
 
 -- numbers in shortest decimal text, one blank before each
 abbrev pub numbers_text : List ℕ → List ℕ
@@ -59,35 +46,44 @@ cards_text cards = flat_map (λ card. card_text card ++ 10 ∷ []) cards
 
 -- the NODE card of a node and its STAGE cards
 abbrev pub node_cards : NodeValue → List Card
-node_cards n = Node n.number n.offset ∷ map StageOf n.stages
+node_cards n = c.Node n.number n.offset ∷ map c.Stage n.stages
 
--- a link without its feeds and its give-way rule
-abbrev pub bare_link : LinkValue → LinkValue
-bare_link l = record l { feeds = []; gives_way = None }
+-- a link without its stages, its feeds and its give-way rule
+abbrev pub new_link_in : LinkValue → NewLink
+new_link_in l = record {
+  number = l.number;
+  node = l.node;
+  entry = l.entry;
+  saturation = l.saturation;
+  delay_weight = l.delay_weight;
+  stop_weight = l.stop_weight;
+  start_lag = l.start_lag;
+  end_lag = l.end_lag;
+}
 
 -- the LINK card of a link
 abbrev pub link_card : LinkValue → Card
-link_card l = LinkOf (bare_link l)
+link_card l = c.Link (new_link_in l) l.stages
 
 -- the FEED cards of a link
 abbrev pub feed_cards : LinkValue → List Card
-feed_cards l = map (λ f. FeedOf l.number f) l.feeds
+feed_cards l = map (c.Feed l.number) l.feeds
 
 -- the YIELD card of a link that has a give-way rule
 abbrev pub rule_cards : LinkValue → List Card
-rule_cards l = elim l.gives_way [ None ↦ [] | Some g ↦ Yield l.number g ∷ [] ]
+rule_cards l = elim l.gives_way [ None ↦ [] | Some rule ↦ c.Yield l.number rule ∷ [] ]
 
 -- the STEPS card of a climb plan, if there is one
 abbrev pub plan_cards : Option PlanValue → List Card
 plan_cards None = []
-plan_cards (Some p) = Steps p ∷ []
+plan_cards (Some p) = c.Steps p.budget p.sizes ∷ []
 
 -- the cards of a network, of form 2: the nodes with their stages, all links, all feeds, all rules, the climb plan, END
 abbrev pub deck_cards : Network → List Card
 deck_cards net =
-    Form 2 ∷ Cycle net.frame
+    c.Form 2 ∷ c.Cycle net.frame
     ∷ (flat_map node_cards net.nodes ++ (map link_card net.links ++ (flat_map feed_cards net.links
-    ++ (flat_map rule_cards net.links ++ (plan_cards net.plan ++ End ∷ [])))))
+    ++ (flat_map rule_cards net.links ++ (plan_cards net.plan ++ c.End ∷ [])))))
 
 -- the deck text of a network
 abbrev pub deck_text : Network → List ℕ

@@ -1,11 +1,7 @@
+pub mod Adds
 pub mod Cards
-pub mod Rows
-pub mod InPlace
-pub mod Deck
 pub mod Cut
-pub mod Next
-pub mod Stops
+pub mod Deck
 pub mod Reader
-pub mod WorkedDecks
-pub mod WorkedLimits
-pub mod CodesInOrder
+pub mod State
+pub mod Table

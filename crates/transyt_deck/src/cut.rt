@@ -1,9 +1,5 @@
 //! The deck at the front of bytes, and where it ends.
-ghost use Rattle.std.specs.Prelude.{◌≡◌, ◌≤◌, ◌+◌, ℕ, List, [], ◌∷◌, ◌++◌, length, IsTrue, IfOk, IfErr, Ok, Err, Some};
-ghost use Rattle.transyt_net.specs.Parts.{Network};
-ghost use Rattle.transyt_deck.specs.declared.reader.CardStop.TheVariants as stop;
-ghost use Rattle.transyt_deck.specs.Deck.{seen};
-ghost use Rattle.transyt_deck.specs.Reader.{reading, ended, Ends, may_finish};
+ghost use Rattle.std.specs.Prelude.{◌≡◌, ◌≤◌, length, IfOk, IfErr, Ok};
 ghost use Rattle.transyt_deck.specs.Cut.{cut_of, RefusesDeck};
 
 use crate::reader::{CardReader, CardStop, Progress};
@@ -22,7 +18,7 @@ pub struct Cut {
     pub rest: usize,
 }
 
-/// Reads the deck at the front of `input`; the bytes behind END's line aren't judged.
+/// Reads the deck at the front of `input`; the bytes after END's line aren't judged.
 ///
 /// The refusal is that of the first card with a code, or code 21 at the number of lines plus 1 where the input
 /// ends before END.
@@ -30,32 +26,23 @@ pub fn cut_deck(alloc: Global, input: &[u8]) -> Result<Cut, CardStop>
     requires { length input.now ≤ 4194304 }
     ensures cut { IfOk result (λ cut. cut_of input.now ≡ Ok cut) }
     ensures refused { IfErr result (λ stop. RefusesDeck input.now stop) }
+    ensures line { IfOk result (λ cut. cut.line ≤ length input.now) }
+    ensures rest { IfOk result (λ cut. cut.rest ≤ length input.now) }
 {
     let mut reader = CardReader::new(alloc);
     let mut rest = input;
-    while let Some((line, behind)) = next_line(rest) {
-        match reader.take(line) {
-            Ok(Progress::More) => {}
-            Ok(Progress::Complete) => return close(reader, input.len() - behind.len()),
-            Err(stop) => return Err(stop),
-        }
-        rest = behind;
+    while reader.is_live() {
+        let Some((line, after)) = next_line(rest) else {
+            break;
+        };
+        reader.take(line)?;
+        rest = after;
     }
-    close(reader, input.len())
-}
-
-/// The cut behind the lines that a reader has taken, with so many bytes.
-fn close(reader: CardReader, rest: usize) -> Result<Cut, CardStop>
-    requires { IsTrue (may_finish reader) }
-    ensures complete { (before : List (List ℕ)) (line : List ℕ) (net : Network) → Ends before line
-        → reader ≡ ended (before ++ line ∷ []) → (seen before).draft ≡ Some net
-        → result ≡ Ok (record { net = net; line = length before + 1; rest = rest }) }
-    ensures open { (before : List (List ℕ)) → reader ≡ reading before
-        → result ≡ Err (stop.Refused (length before + 1) 21) }
-{
     let line = reader.taken();
-    match reader.finish() {
-        Ok(net) => Ok(Cut { net, line, rest }),
-        Err(stop) => Err(stop),
-    }
+    let net = reader.finish()?;
+    Ok(Cut {
+        net,
+        line,
+        rest: input.len() - rest.len(),
+    })
 }

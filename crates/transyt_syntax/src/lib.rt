@@ -11,11 +11,13 @@
 //! No call takes memory.
 #![tactic(auto)]
 
+mod code;
 mod line;
+mod numbers;
 mod words;
 
-pub use line::read_line;
-pub use words::{first_of, read_numbers, word_count};
+pub use code::Code;
+pub use line::say;
+pub use numbers::{Further, Numbers, further_of};
+pub use words::{first_of, is_word, read_numbers, word_count};
 
-#[cfg(test)]
-mod tests;

@@ -1,10 +1,12 @@
-//! The codes of a line, and its numbers.
-ghost use Rattle.std.specs.Prelude.{◌≡◌, ◌≤◌, length, take, MatchResult, IfOk, IfSome, true};
+//! The codes of a line.
+ghost use Rattle.std.specs.Prelude.{◌≡◌, ◌≤◌, List, [], length, true, Some, IfSome, IfOk, IsSome, is_some, unwrap_or};
 ghost use Rattle.std.specs.List.{list_all};
 ghost use Rattle.transyt_io.specs.Lines.{words};
-ghost use Rattle.transyt_syntax.specs.Syntax.{is_plain, further_words, numbers_of, syntax_code, is_count};
+ghost use Rattle.transyt_syntax.specs.Syntax.{is_plain, further_words, few_numbers, syntax_code, is_count};
+ghost use Rattle.transyt_syntax.specs.Syntax.{Entry, entry_of, with_numbers, counts_of, says_of, unless};
 
-use crate::words::{read_numbers, word_count};
+use crate::code::Code;
+use crate::numbers::Further;
 use transyt_io::is_blank;
 
 fn is_plain(byte: u8) -> bool
@@ -19,40 +21,67 @@ fn is_plain_line(line: &[u8]) -> bool
     line.iter().all(|b| is_plain(*b))
 }
 
-/// Reads the numbers of a line into the front of `out` and answers how many, or answers the first of the
-/// codes 11, 10, 12 and 13 that holds of the line; `out` is then unspecified.
+/// What a line that isn't skipped says, or the first of the codes 11, 10, 12 and 13 that holds of it.
 ///
-/// `rest` is the part of the line behind its keyword, and `counts` the least and the most numbers that the
-/// keyword takes, none where the line's first word is no keyword.
-pub fn read_line(
+/// `further` are the words after its keyword; `found` are the least and the most numbers that the keyword takes and what
+/// it says with those of `further`, none where the line's first word is no keyword.
+pub fn say<A: Drop>(
     line: &[u8],
-    rest: &[u8],
-    counts: Option<(usize, usize)>,
-    out: &mut [u32; 17],
-) -> Result<usize, u32>
-    requires rest { words rest.now ≡ further_words (words line.now) }
+    found: Option<((usize, usize), A)>,
+    further: &Further,
+) -> Result<Option<A>, Code>
+    requires count { further.now.count ≡ length (further_words (words line.now)) }
+    requires are_numbers { further.now.are_numbers
+        ≡ is_some (few_numbers (further_words (words line.now))) }
+    requires numbers { further.now.numbers
+        ≡ unwrap_or (few_numbers (further_words (words line.now))) [] }
+    requires most { IfSome found (λ f. f.0.1 ≤ 17) }
+    ensures says { (table : List (Entry A))
+        → found ≡ with_numbers further.now.numbers (entry_of table line.now)
+        → result ≡ unless (syntax_code (counts_of table line.now) line.now) (says_of table line.now) }
+    ensures something { IfOk result IsSome }
+    ensures found { IfOk result (λ said. IfSome found (λ f.
+        (said ≡ Some f.1) × (is_count f.0 further.now.count ≡ true)
+        × (further.now.are_numbers ≡ true))) }
+{
+    let counts = match &found {
+        Some((counts, _)) => Some(*counts),
+        None => None,
+    };
+    if let Some(code) = syntax_code(line, counts, further) {
+        return Err(code);
+    }
+    match found {
+        Some((_, said)) => Ok(Some(said)),
+        None => Err(Code::OddByte),
+    }
+}
+
+/// The first of the codes 11, 10, 12 and 13 that holds of a line.
+///
+/// `further` are the words after its keyword, and `counts` the least and the most numbers that the keyword takes,
+/// none where the line's first word is no keyword.
+fn syntax_code(line: &[u8], counts: Option<(usize, usize)>, further: &Further) -> Option<Code>
+    requires count { further.now.count ≡ length (further_words (words line.now)) }
+    requires numbers { further.now.are_numbers
+        ≡ is_some (few_numbers (further_words (words line.now))) }
     requires most { IfSome counts (λ c. c.1 ≤ 17) }
-    ensures code { MatchResult result (λ n. syntax_code counts line.now ≡ None)
-        (λ code. syntax_code counts line.now ≡ Some code) }
-    ensures numbers { IfOk result (λ n. numbers_of line.now ≡ Some (take n out.new)) }
-    ensures few { IfOk result (λ n. n ≤ 17) }
-    ensures count { IfOk result (λ n. IfSome counts (λ c. is_count c n ≡ true)) }
+    ensures { result ≡ syntax_code counts line.now }
 {
     if line.len() > 4096 {
-        return Err(11);
+        return Some(Code::LongLine);
     }
     let Some((least, most)) = counts else {
-        return Err(10);
+        return Some(Code::OddByte);
     };
     if !is_plain_line(line) {
-        return Err(10);
+        return Some(Code::OddByte);
     }
-    let count = word_count(rest);
-    if count < least || count > most {
-        return Err(12);
+    if further.count < least || further.count > most {
+        return Some(Code::WrongCount);
     }
-    match read_numbers(rest, out) {
-        None => Err(13),
-        Some(n) => Ok(n),
+    if !further.are_numbers {
+        return Some(Code::NoNumber);
     }
+    None
 }

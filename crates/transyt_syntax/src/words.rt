@@ -1,12 +1,13 @@
-//! The keyword of a line, and the words behind it.
+//! The keyword of a line, and the words after it.
 ghost use Rattle.std.specs.Prelude.{◌≡◌, ◌≤◌, length, take, MatchOption, IfSome};
+ghost use Rattle.std.specs.Str.{bytes_eq};
 ghost use Rattle.transyt_io.specs.Lines.{words};
 ghost use Rattle.transyt_syntax.specs.Syntax.{first_word, further_words, all_numbers};
 
 use transyt_io::next_word;
 use transyt_num::read_number;
 
-/// The keyword of a line and the bytes behind it, which have the further words. Both are empty where the
+/// The keyword of a line and the bytes after it, which have the further words. Both are empty where the
 /// line has no word.
 pub fn first_of(line: &[u8]) -> (&[u8], &[u8])
     ensures first { result.0.now ≡ first_word (words line.now) }
@@ -16,6 +17,13 @@ pub fn first_of(line: &[u8]) -> (&[u8], &[u8])
         Some((word, rest)) => (word, rest),
         None => (b"", b""),
     }
+}
+
+/// Whether a word is this one, byte for byte.
+pub fn is_word(word: &[u8], other: &[u8]) -> bool
+    ensures { result ≡ bytes_eq word.now other.now }
+{
+    word == other
 }
 
 /// How many words a line has: its longest runs of bytes that are neither blank nor tab.

@@ -1,0 +1,31 @@
+use Rattle.std.proofs.Common.{◌≡◌, sym, ◌∙◌, false}
+use Rattle.transyt_io.specs.Lines.{is_skipped}
+use Rattle.transyt_syntax.specs.Syntax.{counts_of, says_of, syntax_code, unless}
+use Rattle.transyt_syntax.proofs.Says.{error_is, found_of, kept_says, not_nothing}
+use Rattle.transyt_commands.specs.Commands.{commands}
+use Rattle.transyt_commands.proofs.reading.read_command.Goals as goal
+
+-- what is found is what the table says
+pub returns-clause-command : goal.returns-clause-command
+returns-clause-command c =
+    let line = c.args.line.now in
+    let kept : is_skipped line ≡ false = sym c.is_skipped.ensures ∙ c.if-is_skipped.false in
+    c.say.ensures.says commands
+    (found_of commands line _ _ _ c.command_named.ensures.command c.first_of.ensures.first)
+    ∙ kept_says commands line kept
+
+-- a line that isn't skipped says something
+pub returns-clause-nothing : goal.returns-clause-nothing
+returns-clause-nothing c =
+    let kept : is_skipped c.args.line.now ≡ false = sym c.is_skipped.ensures ∙ c.if-is_skipped.false in (
+      λ is. absurd (not_nothing c.say.result c.say.ensures.something is),
+      λ skipped. absurd (cc),
+    )
+
+-- an error is the line's code
+pub returns-clause-refused : goal.returns-clause-refused
+returns-clause-refused c =
+    let line = c.args.line.now in
+    error_is (syntax_code (counts_of commands line) line) (says_of commands line) c.say.result
+    (c.say.ensures.says commands
+    (found_of commands line _ _ _ c.command_named.ensures.command c.first_of.ensures.first))

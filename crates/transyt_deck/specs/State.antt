@@ -1,0 +1,117 @@
+-- What the cards of a deck come to, card by card.
+use Rattle.std.specs.Prelude.{ℕ, Bool, not, nat_le, if◌then◌else◌, ◌==◌, List, Option, Some, None, option_and_then}
+use Rattle.std.specs.Prelude.{Result, Ok, Err}
+use Rattle.std.specs.Option.{option_map}
+use Rattle.transyt_syntax.specs.declared.code.Code.{Code}
+use Rattle.transyt_syntax.specs.declared.code.Code.TheVariants as code
+use Rattle.transyt_syntax.specs.Findings.{when}
+use Rattle.transyt_syntax.specs.Syntax.{unless, said}
+use Rattle.transyt_parts.specs.declared.frame.Frame.{Frame}
+use Rattle.transyt_parts.specs.declared.stage_plan.PlanFault.{PlanFault}
+use Rattle.transyt_parts.specs.declared.stage_plan.PlanFault.TheVariants as plan
+use Rattle.transyt_parts.specs.Parts.{LinkValue}
+use Rattle.transyt_parts.specs.Valid.{within, is_frame}
+use Rattle.transyt_parts.specs.Plan.{first_fault}
+use Rattle.transyt_parts.specs.Made.{new_link, new_plan}
+use Rattle.transyt_net.specs.declared.draft.DraftFault.{DraftFault}
+use Rattle.transyt_net.specs.declared.draft.DraftFault.TheVariants as fault
+use Rattle.transyt_net.specs.Parts.{Network}
+use Rattle.transyt_net.specs.Faults.{node_fault, stage_fault, link_fault, feed_fault, rule_fault, climb_fault}
+use Rattle.transyt_net.specs.Faults.{empty, with_node, with_stage, with_link, with_feed, with_rule, with_plan}
+use Rattle.transyt_deck.specs.declared.card.Card.{Card}
+use Rattle.transyt_deck.specs.declared.card.Card.TheVariants as c
+use Rattle.transyt_deck.specs.declared.card.NewLink.{NewLink}
+use Rattle.transyt_deck.specs.declared.state.Part.{Part}
+use Rattle.transyt_deck.specs.declared.state.Part.TheVariants as p
+use Rattle.transyt_deck.specs.declared.state.State.{State}
+use Rattle.transyt_deck.specs.declared.state.State.TheVariants as s
+use Rattle.transyt_deck.specs.Table.{cards}
+
+-- the place of a part in the order of the parts
+abbrev pub rank : Part → ℕ
+rank p.Frame = 0
+rank p.Nodes = 1
+rank p.Links = 2
+rank p.Feeds = 3
+rank p.Plan = 4
+rank p.End = 5
+
+-- a deck has come no further than to this part
+abbrev pub up_to : Part → Part → Bool
+up_to last part = nat_le (rank part) (rank last)
+
+-- the code of a fault; out of memory has none
+abbrev pub fault_code : DraftFault → Option Code
+fault_code fault.Twice = Some code.Twice
+fault_code fault.Unknown = Some code.Unknown
+fault_code fault.Range = Some code.Range
+fault_code fault.TooMany = Some code.TooMany
+fault_code fault.Memory = None
+
+-- the code of a stage plan's fault
+abbrev pub plan_code : PlanFault → Code
+plan_code plan.FewStages = code.FewStages
+plan_code plan.StageOrder = code.StageOrder
+plan_code plan.LeastGreen = code.LeastGreen
+
+-- the link of a LINK card: without feeds and rule yet
+abbrev pub link_from : NewLink → List ℕ → LinkValue
+link_from l stages =
+    new_link l.number l.node l.entry l.saturation l.delay_weight l.stop_weight l.start_lag l.end_lag stages
+
+-- what a card makes: out of its place, or refused with the code of its fault, or the part and the network with it
+abbrev pub placed : Bool → Option DraftFault → Part → Network → Result (Part × Network) Code
+placed fits fault part net =
+    if fits then unless (option_and_then fault_code fault) (part, net) else Err code.OutOfPlace
+
+-- a card after the CYCLE card, where the deck has come to a part and a network
+abbrev pub added : Part → Network → Card → Result (Part × Network) Code
+added part net (c.Form form) = Err code.OutOfPlace
+added part net (c.Cycle frame) = Err code.OutOfPlace
+added part net (c.Node number offset) =
+    placed (up_to p.Nodes part) (node_fault net number offset) p.Nodes (with_node net number offset)
+added part net (c.Stage stage) =
+    placed (rank part == rank p.Nodes) (stage_fault net stage) p.Nodes (with_stage net stage)
+added part net (c.Link link stages) =
+    placed (up_to p.Links part) (link_fault net (link_from link stages)) p.Links
+    (with_link net (link_from link stages))
+added part net (c.Feed link feed) =
+    placed (up_to p.Feeds part) (feed_fault net link feed) p.Feeds (with_feed net link feed)
+added part net (c.Yield link rule) =
+    placed (up_to p.Feeds part) (rule_fault net link rule) p.Feeds (with_rule net link rule)
+added part net (c.Steps budget sizes) =
+    placed (up_to p.Feeds part) (climb_fault net (new_plan budget sizes)) p.Plan (with_plan net (new_plan budget sizes))
+added part net c.End = unless (option_map plan_code (first_fault net.frame.step_count net.nodes)) (p.End, net)
+
+-- a card before the CYCLE card, in a deck of this form
+abbrev pub framed : ℕ → Card → Result State Code
+framed form (c.Cycle frame) = unless (when (not (is_frame frame)) code.Range) (s.Making form p.Frame (empty frame))
+framed form _ = Err code.OutOfPlace
+
+-- the state of a form with what a card makes
+abbrev pub making : ℕ → Result (Part × Network) Code → Result State Code
+making form (Ok made) = Ok (s.Making form made.0 made.1)
+making form (Err code) = Err code
+
+-- the state with one card more, or the first code that holds of the card; a deck without a FORM card has form 1
+abbrev pub state_with : State → Card → Result State Code
+state_with s.Start (c.Form form) = unless (when (not (within 1 2 form)) code.Range) (s.Formed form)
+state_with s.Start card = framed 1 card
+state_with (s.Formed form) card = framed form card
+state_with (s.Making form part net) card = making form (added part net card)
+
+-- the form of a deck's LINK cards
+abbrev pub form_of : State → ℕ
+form_of s.Start = 1
+form_of (s.Formed form) = form
+form_of (s.Making form part net) = form
+
+-- the state after what a line says
+abbrev pub state_by : State → Result (Option Card) Code → Result State Code
+state_by state (Ok None) = Ok state
+state_by state (Ok (Some card)) = state_with state card
+state_by state (Err code) = Err code
+
+-- the state after a line, or the first code that holds of the line; a skipped line has none
+abbrev pub state_after : State → List ℕ → Result State Code
+state_after state line = state_by state (said (cards (form_of state)) line)

@@ -1,0 +1,305 @@
+//! What the cards of a deck have come to, and one card more.
+ghost use Rattle.std.specs.Prelude.{◌≡◌, ◌≤◌, length, OnOk, OnErr, IfOk};
+ghost use Rattle.transyt_deck.specs.declared.card.Card.TheVariants as card;
+ghost use Rattle.transyt_deck.specs.State.{rank, up_to, form_of, framed, added, state_with, plan_code};
+ghost use Rattle.transyt_deck.specs.Adds.{Adds, Begins, CanAdd, IsTied, IsTiedState, stopped};
+
+use crate::card::{Card, NewLink};
+use std::alloc::Global;
+use transyt_net::{Draft, DraftFault, Feed, Frame, GiveWay, PlanFault, Stage};
+use transyt_syntax::{Code, Numbers};
+
+/// How far a deck has come from its CYCLE card on; later parts come later.
+#[derive(Clone, Copy, Debug, PartialEq, Eq)]
+pub enum Part {
+    /// Only the CYCLE card.
+    Frame,
+    /// Nodes with their stages.
+    Nodes,
+    /// Links.
+    Links,
+    /// Feeds and give-way rules.
+    Feeds,
+    /// The climb plan.
+    Plan,
+    /// END.
+    End,
+}
+
+impl Part {
+    /// The place of the part in the order, from 0.
+    fn rank(self) -> u32
+        ensures { result ≡ rank self }
+    {
+        match self {
+            Part::Frame => 0,
+            Part::Nodes => 1,
+            Part::Links => 2,
+            Part::Feeds => 3,
+            Part::Plan => 4,
+            Part::End => 5,
+        }
+    }
+
+    /// Whether a deck at this part has come no further than to `last`.
+    fn is_up_to(self, last: Part) -> bool
+        ensures { result ≡ up_to last self }
+    {
+        self.rank() <= last.rank()
+    }
+}
+
+/// What the cards of a deck have come to.
+#[derive(Drop)]
+pub enum State {
+    /// No card yet.
+    Start,
+    /// A FORM card.
+    Formed {
+        /// The form of the LINK cards, 1 or 2.
+        form: u32,
+    },
+    /// A CYCLE card and those after it.
+    Making {
+        /// The form of the LINK cards, 1 or 2.
+        form: u32,
+        /// How far the deck has come.
+        part: Part,
+        /// The network so far.
+        draft: Draft,
+    },
+}
+
+/// Why a card isn't taken.
+#[derive(Clone, Copy, Debug, PartialEq, Eq)]
+pub(crate) enum Stop {
+    /// The card's first code.
+    Code(Code),
+    /// Out of memory.
+    Memory,
+}
+
+impl State {
+    /// The form of the LINK cards.
+    pub(crate) fn form(&self) -> u32
+        ensures { result ≡ form_of self.now }
+    {
+        match self {
+            State::Start => 1,
+            State::Formed { form } => *form,
+            State::Making { form, .. } => *form,
+        }
+    }
+}
+
+/// Adds one card; a card that is refused changes nothing.
+pub(crate) fn add(alloc: Global, state: &mut State, card: &Card) -> Result<(), Stop>
+    requires tied { IsTiedState state.old }
+    requires counts { CanAdd card.now }
+    ensures adds { Adds (state_with state.old card.now) state.old state.new result }
+    ensures stays_tied { IsTiedState state.new }
+{
+    match state {
+        State::Start => match card {
+            Card::Form(form) => {
+                if *form < 1 || *form > 2 {
+                    return Err(Stop::Code(Code::Range));
+                }
+                *state = State::Formed { form: *form };
+            }
+            _ => {
+                let begun = begin(alloc, 1, card)?;
+                *state = begun;
+            }
+        },
+        State::Formed { form } => {
+            let begun = begin(alloc, *form, card)?;
+            *state = begun;
+        }
+        State::Making { part, draft, .. } => return add_to(part, draft, card),
+    }
+    Ok(())
+}
+
+/// A card before the CYCLE card, in a deck of this form.
+fn begin(alloc: Global, form: u32, card: &Card) -> Result<State, Stop>
+    ensures begun { Begins (framed form card.now) result }
+    ensures tied { IfOk result IsTiedState }
+{
+    match card {
+        Card::Cycle(frame) => match Draft::new(alloc, *frame) {
+            Ok(draft) => Ok(State::Making {
+                form,
+                part: Part::Frame,
+                draft,
+            }),
+            Err(_) => Err(Stop::Code(Code::Range)),
+        },
+        _ => Err(Stop::Code(Code::OutOfPlace)),
+    }
+}
+
+/// A card after the CYCLE card.
+fn add_to(part: &mut Part, draft: &mut Draft, card: &Card) -> Result<(), Stop>
+    requires tied { IsTied part.old draft.old }
+    requires counts { CanAdd card.now }
+    ensures adds { Adds (added part.old draft.old card.now)
+        (part.old, draft.old) (part.new, draft.new) result }
+    ensures stays_tied { IsTied part.new draft.new }
+{
+    match card {
+        Card::Form(_) | Card::Cycle(_) => Err(Stop::Code(Code::OutOfPlace)),
+        Card::Node { number, offset } => add_node(part, draft, *number, *offset),
+        Card::Stage(stage) => add_stage(part, draft, *stage),
+        Card::Link { link, stages } => add_link(part, draft, *link, stages),
+        Card::Feed { link, feed } => add_feed(part, draft, *link, *feed),
+        Card::Yield { link, rule } => add_rule(part, draft, *link, *rule),
+        Card::Steps { budget, sizes } => add_plan(part, draft, *budget, sizes),
+        Card::End => end(part, draft),
+    }
+}
+
+/// A NODE card.
+fn add_node(part: &mut Part, draft: &mut Draft, number: u32, offset: u32) -> Result<(), Stop>
+    requires tied { IsTied part.old draft.old }
+    ensures adds { Adds (added part.old draft.old (card.Node number offset))
+        (part.old, draft.old) (part.new, draft.new) result }
+    ensures stays_tied { IsTied part.new draft.new }
+{
+    if !part.is_up_to(Part::Nodes) {
+        return Err(Stop::Code(Code::OutOfPlace));
+    }
+    stopped(draft.node(number, offset))?;
+    *part = Part::Nodes;
+    Ok(())
+}
+
+/// A STAGE card.
+fn add_stage(part: &mut Part, draft: &mut Draft, stage: Stage) -> Result<(), Stop>
+    requires tied { IsTied part.old draft.old }
+    ensures adds { Adds (added part.old draft.old (card.Stage stage))
+        (part.old, draft.old) (part.new, draft.new) result }
+    ensures stays_tied { IsTied part.new draft.new }
+{
+    if *part != Part::Nodes {
+        return Err(Stop::Code(Code::OutOfPlace));
+    }
+    stopped(draft.stage(stage.change, stage.intergreen, stage.least))?;
+    *part = Part::Nodes;
+    Ok(())
+}
+
+/// A LINK card.
+fn add_link(part: &mut Part, draft: &mut Draft, link: NewLink, stages: &Numbers) -> Result<(), Stop>
+    requires tied { IsTied part.old draft.old }
+    requires some { 1 ≤ length stages.now }
+    requires most { length stages.now ≤ 8 }
+    ensures adds { Adds (added part.old draft.old (card.Link link stages.now))
+        (part.old, draft.old) (part.new, draft.new) result }
+    ensures stays_tied { IsTied part.new draft.new }
+{
+    if !part.is_up_to(Part::Links) {
+        return Err(Stop::Code(Code::OutOfPlace));
+    }
+    stopped(draft.link(
+        link.number,
+        link.node,
+        link.entry,
+        link.saturation,
+        link.delay_weight,
+        link.stop_weight,
+        link.start_lag,
+        link.end_lag,
+        stages.as_slice(),
+    ))?;
+    *part = Part::Links;
+    Ok(())
+}
+
+/// A FEED card.
+fn add_feed(part: &mut Part, draft: &mut Draft, link: u32, feed: Feed) -> Result<(), Stop>
+    requires tied { IsTied part.old draft.old }
+    ensures adds { Adds (added part.old draft.old (card.Feed link feed))
+        (part.old, draft.old) (part.new, draft.new) result }
+    ensures stays_tied { IsTied part.new draft.new }
+{
+    if !part.is_up_to(Part::Feeds) {
+        return Err(Stop::Code(Code::OutOfPlace));
+    }
+    stopped(draft.feed(link, feed.feeder, feed.flow, feed.cruise))?;
+    *part = Part::Feeds;
+    Ok(())
+}
+
+/// A YIELD card.
+fn add_rule(part: &mut Part, draft: &mut Draft, link: u32, rule: GiveWay) -> Result<(), Stop>
+    requires tied { IsTied part.old draft.old }
+    ensures adds { Adds (added part.old draft.old (card.Yield link rule))
+        (part.old, draft.old) (part.new, draft.new) result }
+    ensures stays_tied { IsTied part.new draft.new }
+{
+    if !part.is_up_to(Part::Feeds) {
+        return Err(Stop::Code(Code::OutOfPlace));
+    }
+    stopped(draft.give_way(link, rule.other, rule.percent))?;
+    *part = Part::Feeds;
+    Ok(())
+}
+
+/// A STEPS card.
+fn add_plan(part: &mut Part, draft: &mut Draft, budget: u32, sizes: &Numbers) -> Result<(), Stop>
+    requires tied { IsTied part.old draft.old }
+    requires some { 1 ≤ length sizes.now }
+    requires most { length sizes.now ≤ 16 }
+    ensures adds { Adds (added part.old draft.old (card.Steps budget sizes.now))
+        (part.old, draft.old) (part.new, draft.new) result }
+    ensures stays_tied { IsTied part.new draft.new }
+{
+    if !part.is_up_to(Part::Feeds) {
+        return Err(Stop::Code(Code::OutOfPlace));
+    }
+    stopped(draft.plan(budget, sizes.as_slice()))?;
+    *part = Part::Plan;
+    Ok(())
+}
+
+/// An END card: the stage plans are judged, node by node.
+fn end(part: &mut Part, draft: &Draft) -> Result<(), Stop>
+    ensures adds { Adds (added part.old draft.now card.End)
+        (part.old, draft.now) (part.new, draft.now) result }
+    ensures tied { OnOk result (IsTied part.new draft.now) }
+    ensures kept { OnErr result (part.new ≡ part.old) }
+{
+    match draft.judge() {
+        None => {
+            *part = Part::End;
+            Ok(())
+        }
+        Some(fault) => Err(Stop::Code(plan_code(fault))),
+    }
+}
+
+/// The outcome of a call of the draft, with its fault as a stop.
+fn stopped(outcome: Result<(), DraftFault>) -> Result<(), Stop>
+    ensures { result ≡ stopped outcome }
+{
+    match outcome {
+        Ok(()) => Ok(()),
+        Err(DraftFault::Twice) => Err(Stop::Code(Code::Twice)),
+        Err(DraftFault::Unknown) => Err(Stop::Code(Code::Unknown)),
+        Err(DraftFault::Range) => Err(Stop::Code(Code::Range)),
+        Err(DraftFault::TooMany) => Err(Stop::Code(Code::TooMany)),
+        Err(DraftFault::Memory) => Err(Stop::Memory),
+    }
+}
+
+/// The code of a stage plan's fault.
+fn plan_code(fault: PlanFault) -> Code
+    ensures { result ≡ plan_code fault }
+{
+    match fault {
+        PlanFault::FewStages => Code::FewStages,
+        PlanFault::StageOrder => Code::StageOrder,
+        PlanFault::LeastGreen => Code::LeastGreen,
+    }
+}
