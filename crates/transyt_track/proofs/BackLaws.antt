@@ -1,19 +1,25 @@
 -- The rows go back to what was saved, or become those of an evaluation, pair by pair.
-use Rattle.std.proofs.Common.{◌≡◌, ◌≢◌, ℕ, ◌+◌, ◌<◌, ◌≤◌, Bool, true, false, cond, List, length, refl, ap, sym, subst, ◌∙◌, arith}
+use Rattle.std.proofs.Common.{◌≡◌, ◌≢◌, ℕ, ◌+◌, ◌<◌, ◌≤◌, Bool, true, false, cond, List, length, refl, ap, sym}
+use Rattle.std.proofs.Common.{subst, ◌∙◌, arith}
 use Rattle.std.proofs.Common.{◌⊎◌, inl, inr, if◌then◌else◌}
 use Rattle.std.proofs.lemmas.Bool.{cases_eq}
 use Rattle.transyt_delay.specs.declared.figures.Figures.{Figures}
 use Rattle.transyt_net.specs.Parts.{Network}
 use Rattle.transyt_sweep.specs.Cell.{CellValue, HasSteps}
 use Rattle.transyt_sweep.specs.Sweeps.{out_of, evaluated}
-use Rattle.transyt_sweep.specs.Rows.{RowsValue, out_at, shown_at, pair_in, placed, with_weights, reweighed, Fits, AreRows}
+use Rattle.transyt_sweep.specs.Rows.{RowsValue, out_at, shown_at, pair_in, placed, with_weights, reweighed, Fits}
+use Rattle.transyt_sweep.specs.Rows.{AreRows}
 use Rattle.transyt_sweep.specs.Front.{AreEvaluation}
 use Rattle.transyt_sweep.proofs.FrontLaws.{mixed_turn, before_end, not_before_first}
 use Rattle.transyt_track.specs.Front.{AreBetween, AreWeighed, unweighed}
 use Rattle.transyt_track.specs.Saved.{SavedValue, is_saved, old_out, old_shown, restored_at, FitsRows, LeadBack}
+use Rattle.transyt_track.specs.Saved.{AreUnsaved}
 use Rattle.transyt_track.proofs.PlacedLaws.{figures_out, figures_size, figures_here, figures_elsewhere}
+use Rattle.transyt_net.specs.Shape.{SameShape}
 use Rattle.transyt_track.proofs.LeftLaws.{weighed_self}
-use Rattle.transyt_track.proofs.MixedLaws.{fits_same, mixed_left, mixed_placed, shown_moved, shown_now, shown_placed, shown_turn}
+use Rattle.transyt_track.proofs.ShapeLaws.{shape_count}
+use Rattle.transyt_track.proofs.MixedLaws.{fits_same, mixed_left, mixed_placed, shown_moved, shown_now, shown_placed}
+use Rattle.transyt_track.proofs.MixedLaws.{shown_turn}
 use Rattle.transyt_track.proofs.SavedLaws.{pair_steps}
 
 -- before any pair the rows are what they are
@@ -58,14 +64,17 @@ module _ (net : Network) (f : ℕ → ℕ → List ℕ) (shown_f : ℕ → CellV
         (λ last. shown_now net shown_f shown_g s l rows between.shown last inside ∙ shown last) (λ k there apart. refl);
   }
 
--- behind the last sweep all is that of f
-pub between_out : (net : Network) (f : ℕ → ℕ → List ℕ) (shown_f : ℕ → CellValue) (g : ℕ → ℕ → List ℕ) (shown_g : ℕ → CellValue)
+-- after the last sweep all is that of f
+pub between_out : (net : Network) (f : ℕ → ℕ → List ℕ) (shown_f : ℕ → CellValue) (g : ℕ → ℕ → List ℕ)
+    (shown_g : ℕ → CellValue)
     (rows : RowsValue) → AreBetween net f shown_f g shown_g (net.frame.sweeps + 1) 0 rows
     → (t k : ℕ) → t ≤ net.frame.sweeps → k < length net.links → out_at rows t k ≡ f t k
 between_out net f shown_f g shown_g rows between t k within there =
     between.outs.outs t k within there ∙ ap (λ w. cond w (f t k) (g t k)) (before_end t k net.frame.sweeps within)
 
-pub between_shown : (net : Network) (f : ℕ → ℕ → List ℕ) (shown_f : ℕ → CellValue) (g : ℕ → ℕ → List ℕ) (shown_g : ℕ → CellValue)
+-- after all pairs the last sweep is the early one
+pub between_shown : (net : Network) (f : ℕ → ℕ → List ℕ) (shown_f : ℕ → CellValue) (g : ℕ → ℕ → List ℕ)
+    (shown_g : ℕ → CellValue)
     (rows : RowsValue) → AreBetween net f shown_f g shown_g (net.frame.sweeps + 1) 0 rows
     → (k : ℕ) → k < length net.links → shown_at rows k ≡ shown_f k
 between_shown net f shown_f g shown_g rows between k there =
@@ -118,12 +127,38 @@ pub back_end : (net : Network) (saved : SavedValue) (old rows : RowsValue) → L
 back_end net saved old rows back live between = record {
   fits = between.outs.fits;
   outs = λ t k within there.
-      between_out net (old_out saved old) (old_shown saved old) (out_at old) (shown_at old) rows between t k within there
+      between_out net (old_out saved old) (old_shown saved old) (out_at old) (shown_at old) rows between t k within
+          there
       ∙ back.outs live t k within there;
   weighed = λ k none there. absurd (omega arith);
   others = λ k there.
-      ap unweighed (between_shown net (old_out saved old) (old_shown saved old) (out_at old) (shown_at old) rows between k there)
+      ap unweighed (between_shown net (old_out saved old) (old_shown saved old) (out_at old) (shown_at old) rows
+          between k there)
       ∙ back.shown live k there;
+}
+
+-- where nothing was saved of a link, it is still that of the network that was left
+pub unsaved_end : (net marked : Network) (saved : SavedValue) (old rows : RowsValue) → SameShape net marked
+    → AreEvaluation net old
+    → AreBetween marked (old_out saved old) (old_shown saved old) (out_at old) (shown_at old)
+        (marked.frame.sweeps + 1) 0 rows
+    → AreUnsaved net saved 0 rows
+unsaved_end net marked saved old rows same evaluation between = record {
+  shown = λ k from there none.
+      between_shown marked (old_out saved old) (old_shown saved old) (out_at old) (shown_at old) rows between k
+      (omega (arith, shape_count net marked same))
+      ∙ ap (λ b. if b then shown_at saved.rows k else shown_at old k)
+          (ap (λ t. is_saved saved t k) evaluation.fits.sweeps ∙ none)
+      ∙ evaluation.shown k there;
+}
+
+-- it stays when an earlier link is weighed
+pub unsaved_more : (net marked : Network) (saved : SavedValue) (l : ℕ) (rows : RowsValue) → AreUnsaved net saved l rows
+    → AreUnsaved net saved (l + 1) (with_weights rows marked l)
+unsaved_more net marked saved l rows unsaved = record {
+  shown = λ k from there none.
+      figures_elsewhere rows l (reweighed marked l (shown_at rows l).figures) k (λ e. absurd (omega (arith, e)))
+      ∙ unsaved.shown k (omega arith) there none;
 }
 
 -- one link more is weighed
@@ -153,14 +188,17 @@ weighed_more net l rows weighed inside = record {
     at k before there (inl same) = ap (shown_at (with_weights rows net l)) same ∙ here ∙ ap (evaluated net) (sym same)
     at k before there (inr apart) =
         let different : k ≢ l = apart in
-        figures_elsewhere rows l (reweighed net l (shown_at rows l).figures) k apart ∙ weighed.weighed k (omega arith) there
+        figures_elsewhere rows l (reweighed net l (shown_at rows l).figures) k apart
+            ∙ weighed.weighed k (omega arith) there
 
     other : (k : ℕ) → k < length net.links → (k ≡ l) ⊎ (k ≡ l → ⊥)
         → unweighed (shown_at (with_weights rows net l) k) ≡ unweighed (evaluated net k)
     other k there (inl same) =
-        ap (λ m. unweighed (shown_at (with_weights rows net l) m)) same ∙ ap unweighed here ∙ ap (λ m. unweighed (evaluated net m)) (sym same)
+        ap (λ m. unweighed (shown_at (with_weights rows net l) m)) same ∙ ap unweighed here
+            ∙ ap (λ m. unweighed (evaluated net m)) (sym same)
     other k there (inr apart) =
-        ap unweighed (figures_elsewhere rows l (reweighed net l (shown_at rows l).figures) k apart) ∙ weighed.others k there
+        ap unweighed (figures_elsewhere rows l (reweighed net l (shown_at rows l).figures) k apart)
+            ∙ weighed.others k there
 
 -- all links are weighed
 pub weighed_end : (net : Network) (l : ℕ) (rows : RowsValue) → length net.links ≡ l → AreWeighed net l rows

@@ -1,5 +1,6 @@
 -- Due: its count, step by step, and what stays where a link isn't due.
-use Rattle.std.proofs.Common.{◌≡◌, ℕ, ◌+◌, ◌-◌, ◌≤◌, Bool, true, false, not, ◌||◌, ◌&&◌, List, [], ◌∷◌, map, All, Option, Some, None, IfSome, refl, ap, sym, ◌∙◌, arith, nat_eq, if◌then◌else◌, sum_by}
+use Rattle.std.proofs.Common.{◌≡◌, ℕ, ◌+◌, ◌-◌, ◌≤◌, Bool, true, false, not, ◌||◌, ◌&&◌, List, [], ◌∷◌, map, All}
+use Rattle.std.proofs.Common.{Option, Some, None, IfSome, refl, ap, sym, ◌∙◌, arith, nat_eq, if◌then◌else◌, sum_by}
 use Rattle.std.specs.List.{list_any, range_with_len}
 use Rattle.std.specs.Str.{bytes_eq}
 use Rattle.std.specs.Cmp.Lexicographic.{same_text}
@@ -13,10 +14,12 @@ use Rattle.transyt_parts.specs.declared.link.GiveWay.{GiveWay}
 use Rattle.transyt_net.specs.Parts.{Network, link_of}
 use Rattle.transyt_sweep.specs.Cell.{link_place}
 use Rattle.transyt_sweep.specs.Sweeps.{out_of, read_at, read_of}
-use Rattle.transyt_track.specs.Own.{Part, Own, own, same_part, same_parts, same_timing, same_own, feeder_place, rule_place, places_at}
+use Rattle.transyt_track.specs.Own.{Part, Own, own, same_part, same_parts, same_timing, same_own, feeder_place}
+use Rattle.transyt_track.specs.Own.{rule_place, places_at}
 use Rattle.transyt_track.specs.Due.{differs, read_differs, is_due, is_some_and, due_in, due_at, due_through, due}
 use Rattle.transyt_track.proofs.DataLaws.{SameReads}
 
+-- what is not false holds
 pub not_false : (x : Bool) → not x ≡ false → x ≡ true
 not_false true e = refl
 not_false false e = absurd (cc)
@@ -75,7 +78,8 @@ module _ (a b : Network) where
       → All (λ f. read_of a s l (link_place a f.feeder) ≡ read_of b s l (link_place a f.feeder)) feeds
   feeds_equal s l [] e = All-nil (λ f. read_of a s l (link_place a f.feeder) ≡ read_of b s l (link_place a f.feeder))
   feeds_equal s l (f ∷ fs) e =
-      let parts = or_parts (read_differs a b s l (feeder_place a f)) (list_any (read_differs a b s l) (map (feeder_place a) fs)) e in
+      let parts = or_parts (read_differs a b s l (feeder_place a f))
+          (list_any (read_differs a b s l) (map (feeder_place a) fs)) e in
       All-cons (λ g. read_of a s l (link_place a g.feeder) ≡ read_of b s l (link_place a g.feeder)) f fs
       (same_out (read_at s l (feeder_place a f)) (feeder_place a f) parts.0) (feeds_equal s l fs parts.1)
 
@@ -108,7 +112,8 @@ own_told x y e =
     let both = and_parts (same_timing x y) (same_parts x.parts y.parts) e in
     let changes = and_parts (nat_eq x.entry y.entry && nat_eq x.saturation y.saturation && nat_eq x.offset y.offset)
     (bytes_eq x.changes y.changes) both.0 in
-    let offset = and_parts (nat_eq x.entry y.entry && nat_eq x.saturation y.saturation) (nat_eq x.offset y.offset) changes.0 in
+    let offset = and_parts (nat_eq x.entry y.entry && nat_eq x.saturation y.saturation) (nat_eq x.offset y.offset)
+        changes.0 in
     let flows = and_parts (nat_eq x.entry y.entry) (nat_eq x.saturation y.saturation) offset.0 in
     (λ j. record {
       entry = eqb-true x.entry y.entry flows.0 j;
@@ -125,7 +130,8 @@ module _ (a b : Network) (s l : ℕ) (none : is_due a b s l ≡ false) where
       or_parts (not (same_own (own a l) (own b l)) || list_any (read_differs a b s l) (places_at a l).feeders)
       (is_some_and (read_differs a b s l) (places_at a l).rule) none
 
-  no_feeders : (not (same_own (own a l) (own b l)) ≡ false) × (list_any (read_differs a b s l) (places_at a l).feeders ≡ false)
+  no_feeders : (not (same_own (own a l) (own b l)) ≡ false) ×
+      (list_any (read_differs a b s l) (places_at a l).feeders ≡ false)
   no_feeders =
       or_parts (not (same_own (own a l) (own b l))) (list_any (read_differs a b s l) (places_at a l).feeders) no_rule.0
 

@@ -1,5 +1,6 @@
 -- THE LAW OF THE FRONT: each turn keeps it.
-use Rattle.std.proofs.Common.{◌≡◌, ◌≢◌, ℕ, ◌+◌, ◌<◌, ◌≤◌, Bool, true, false, cond, not, ◌||◌, List, [], ◌∷◌, length, set, All, Option, Some, None, IfSome, refl, ap, sym, subst, ◌∙◌, arith}
+use Rattle.std.proofs.Common.{◌≡◌, ◌≢◌, ℕ, ◌+◌, ◌<◌, ◌≤◌, Bool, true, false, cond, not, ◌||◌, List, [], ◌∷◌, length}
+use Rattle.std.proofs.Common.{set, All, Option, Some, None, IfSome, refl, ap, sym, subst, ◌∙◌, arith}
 use Rattle.std.proofs.Common.{◌==◌, ◌⊎◌, inl, inr, if◌then◌else◌}
 use Rattle.std.specs.Str.{bytes_eq}
 use Rattle.std.specs.List.{list_any}
@@ -24,7 +25,8 @@ use Rattle.transyt_track.specs.Own.{PlacesValue, places_at, own, same_own}
 use Rattle.transyt_track.specs.Due.{differs, read_differs, is_due, is_some_and}
 use Rattle.transyt_track.specs.Front.{AreShownMixed, flag, AreAt, left_at}
 use Rattle.transyt_track.proofs.PlacedLaws.{figures_here, figures_elsewhere}
-use Rattle.transyt_track.proofs.MixedLaws.{mixed_here, mixed_left, mixed_placed, mixed_figures, shown_moved, shown_now, shown_placed, shown_turn}
+use Rattle.transyt_track.proofs.MixedLaws.{mixed_here, mixed_left, mixed_placed, mixed_figures, shown_moved}
+use Rattle.transyt_track.proofs.MixedLaws.{shown_now, shown_placed, shown_turn}
 use Rattle.transyt_track.proofs.DueLaws.{differs_is}
 use Rattle.transyt_track.proofs.LeftLaws.{left_out, left_worked}
 use Rattle.transyt_track.proofs.ShapeLaws.{shape_count, shape_frame}
@@ -39,7 +41,8 @@ read_other s l m other = grind (arith, nat_tests)
 read_turn : (s links m : ℕ) → m < links → read_at s links m ≡ read_at (s + 1) 0 m
 read_turn s links m inside = grind (arith, nat_tests)
 
-same_test : (s sweeps : ℕ) → sweeps ≡ s → (s == sweeps) ≡ true
+-- the two tests of the last sweep
+pub same_test : (s sweeps : ℕ) → sweeps ≡ s → (s == sweeps) ≡ true
 same_test s sweeps same = grind (arith, nat_tests)
 
 other_test : (s sweeps : ℕ) → (sweeps ≡ s → ⊥) → (s == sweeps) ≡ false
@@ -82,7 +85,8 @@ module _ (a b : Network) (s l : ℕ) (rows : RowsValue) (changed : List Bool) (a
       (any_flagged changed (read_differs a b s l) (length b.links) at.flagged places.feeders feeders)
       ∙ ap (λ x. not (same_own (own a l) (own b l)) || list_any (read_differs a b s l) places.feeders || x)
       (one_flagged changed (read_differs a b s l) (length b.links) at.flagged places.rule rule)
-      ∙ ap (λ (p : PlacesValue). not (same_own (own a l) (own b l)) || list_any (read_differs a b s l) p.feeders || is_some_and (read_differs a b s l) p.rule) is
+      ∙ ap (λ (p : PlacesValue). not (same_own (own a l) (own b l)) || list_any (read_differs a b s l) p.feeders ||
+          is_some_and (read_differs a b s l) p.rule) is
 
   flags_put : (d : Bool) → d ≡ differs a b s l → (m : ℕ) → m < length b.links
       → flag (set changed l d) m ≡ read_differs a b s (l + 1) m
@@ -105,7 +109,8 @@ module _ (a b : Network) (s l : ℕ) (rows : RowsValue) (changed : List Bool) (a
     outs = mixed_turn b (out_of b) (out_of a) s l rows all at.outs;
     shown = shown_turn b (evaluated b) (evaluated a) s l rows at.shown all;
     count = at.count;
-    flagged = λ m inside. at.flagged m inside ∙ ap (λ t. differs a b t m) (read_turn s l m (omega (arith, inside, all)));
+    flagged = λ m inside. at.flagged m inside ∙ ap (λ t. differs a b t m)
+        (read_turn s l m (omega (arith, inside, all)));
   }
 
   module _ (same : SameShape a b) (first : 1 ≤ s) (swept : s ≤ b.frame.sweeps) (inside : l < length b.links) where
@@ -118,7 +123,8 @@ module _ (a b : Network) (s l : ℕ) (rows : RowsValue) (changed : List Bool) (a
         → d ≡ not (bytes_eq (out_at rows s l) c.out)
         → AreAt a b s (l + 1) (placed rows s l c) (set changed l d)
     turned_worked kept c made d told =
-        let long : HasSteps b.frame.step_count c = subst (HasSteps b.frame.step_count) (sym made) (worked_steps b (read_of b s l) l) in
+        let long : HasSteps b.frame.step_count c = subst (HasSteps b.frame.step_count) (sym made)
+            (worked_steps b (read_of b s l) l) in
         let out : c.out ≡ out_of b s l = ap (λ (v : CellValue). v.out) made ∙ sym (out_of_pair b s l first) in
         record {
           outs = mixed_placed b (out_of b) (out_of a) s l rows at.outs kept c swept inside long out;
@@ -126,7 +132,9 @@ module _ (a b : Network) (s l : ℕ) (rows : RowsValue) (changed : List Bool) (a
               (subst (λ n. HasSteps n c) (sym at.outs.fits.step_count) long)
               (λ last. made ∙ ap (λ t. worked_at b t l) (sym last) ∙ sym (evaluated_is b l));
           count = length-set changed l d ∙ at.count;
-          flagged = flags_put d (told ∙ ap (λ x. not (bytes_eq x c.out)) row_before ∙ ap (λ x. not (bytes_eq (out_of a s l) x)) out ∙ sym (differs_is a b s l));
+          flagged = flags_put d
+              (told ∙ ap (λ x. not (bytes_eq x c.out)) row_before ∙ ap (λ x. not (bytes_eq (out_of a s l) x)) out
+              ∙ sym (differs_is a b s l));
         }
 
     module _ (none : is_due a b s l ≡ false) where
@@ -146,10 +154,12 @@ module _ (a b : Network) (s l : ℕ) (rows : RowsValue) (changed : List Bool) (a
 
       weighed_here : b.frame.sweeps ≡ s → shown_at (with_weights rows b l) l ≡ evaluated b l
       weighed_here last =
-          let now : shown_at rows l ≡ evaluated a l = shown_now b (evaluated b) (evaluated a) s l rows at.shown last inside in
+          let now : shown_at rows l ≡ evaluated a l = shown_now b (evaluated b) (evaluated a) s l rows at.shown last
+              inside in
           let last_before : a.frame.sweeps ≡ s = ap (λ (f : Frame). f.sweeps) (shape_frame a b same) ∙ last in
           figures_here rows l (reweighed b l (shown_at rows l).figures) (omega (arith, at.outs.fits.link_count))
-          ∙ ap (λ (v : CellValue). record v { figures = reweighed b l v.figures }) (now ∙ evaluated_is a l ∙ ap (λ t. worked_at a t l) last_before)
+          ∙ ap (λ (v : CellValue). record v { figures = reweighed b l v.figures })
+              (now ∙ evaluated_is a l ∙ ap (λ t. worked_at a t l) last_before)
           ∙ left_worked a b s l same inside_before none
           ∙ ap (λ t. worked_at b t l) (sym last)
           ∙ sym (evaluated_is b l)
@@ -166,21 +176,26 @@ module _ (a b : Network) (s l : ℕ) (rows : RowsValue) (changed : List Bool) (a
           outs : (w : Bool) → AreMixed b (out_of b) (out_of a) s (l + 1) (if w then with_weights rows b l else rows)
           outs true =
               mixed_figures b (out_of b) (out_of a) s (l + 1) rows
-              (mixed_left b (out_of b) (out_of a) s l rows at.outs (sym same_leaving)) l (reweighed b l (shown_at rows l).figures)
+              (mixed_left b (out_of b) (out_of a) s l rows at.outs (sym same_leaving)) l
+                  (reweighed b l (shown_at rows l).figures)
           outs false = mixed_left b (out_of b) (out_of a) s l rows at.outs (sym same_leaving)
 
           shown : (b.frame.sweeps ≡ s) ⊎ (b.frame.sweeps ≡ s → ⊥)
               → AreShownMixed b (evaluated b) (evaluated a) s (l + 1) (left_at b s l rows)
           shown (inl last) =
               let test : (s == b.frame.sweeps) ≡ true = same_test s b.frame.sweeps last in
-              subst (λ w. AreShownMixed b (evaluated b) (evaluated a) s (l + 1) (if w then with_weights rows b l else rows)) (sym test)
+              subst (λ w. AreShownMixed b (evaluated b) (evaluated a) s (l + 1)
+                  (if w then with_weights rows b l else rows)) (sym test)
               (shown_moved b (evaluated b) (evaluated a) s l rows at.shown (with_weights rows b l) inside
               weighed_here
-              (λ k there apart. figures_elsewhere rows l (reweighed b l (shown_at rows l).figures) k (λ e. apart last e)))
+              (λ k there apart. figures_elsewhere rows l (reweighed b l (shown_at rows l).figures) k
+                  (λ e. apart last e)))
           shown (inr earlier) =
               let test : (s == b.frame.sweeps) ≡ false = other_test s b.frame.sweeps earlier in
-              subst (λ w. AreShownMixed b (evaluated b) (evaluated a) s (l + 1) (if w then with_weights rows b l else rows)) (sym test)
-              (shown_moved b (evaluated b) (evaluated a) s l rows at.shown rows inside (λ last. absurd (earlier last)) (λ k there apart. refl))
+              subst (λ w. AreShownMixed b (evaluated b) (evaluated a) s (l + 1)
+                  (if w then with_weights rows b l else rows)) (sym test)
+              (shown_moved b (evaluated b) (evaluated a) s l rows at.shown rows inside (λ last. absurd (earlier last))
+                  (λ k there apart. refl))
 
 -- after the last sweep the rows are the evaluation
 pub ended : (a b : Network) (rows : RowsValue) (changed : List Bool) → AreAt a b (b.frame.sweeps + 1) 0 rows changed

@@ -1,7 +1,10 @@
 -- A link that isn't due leaves what it left; its figures are weighed anew.
+use Rattle.std.specs.Prelude.{slice_index_or}
+use Rattle.std.proofs.lemmas.List.{set-get_or}
 use Rattle.std.proofs.Common.{◌≡◌, ℕ, ◌<◌, ◌≤◌, false, List, length, sum, ap, sym, ◌∙◌}
 use Rattle.transyt_delay.specs.declared.figures.Figures.{Figures}
 use Rattle.transyt_delay.specs.Figures.{figures}
+use Rattle.transyt_delay.specs.Index.{index_of}
 use Rattle.transyt_stopline.specs.Cut.{arrivals_of}
 use Rattle.transyt_stopline.specs.Queue.{queues}
 use Rattle.transyt_stopline.specs.Stops.{stopped_of}
@@ -10,8 +13,9 @@ use Rattle.transyt_net.specs.Parts.{Network, link_of}
 use Rattle.transyt_net.specs.Shape.{SameShape}
 use Rattle.transyt_sweep.specs.Cell.{CellValue, inflow, go, terms_frame, terms_of, cell_of}
 use Rattle.transyt_sweep.specs.Sweeps.{out_of, read_of, worked_at, evaluated}
-use Rattle.transyt_sweep.specs.Rows.{reweighed}
+use Rattle.transyt_sweep.specs.Rows.{RowsValue, reweighed, shown_at, with_weights, with_figures, no_figures}
 use Rattle.transyt_sweep.proofs.SweepLaws.{out_of_pair, evaluated_is}
+use Rattle.transyt_track.specs.Own.{HaveWeights}
 use Rattle.transyt_track.specs.Due.{is_due}
 use Rattle.transyt_track.proofs.DataLaws.{SameData, inflow_same, go_same}
 use Rattle.transyt_track.proofs.OwnLaws.{same_data}
@@ -33,13 +37,34 @@ figures_by frame delay_weight stop_weight come room = figures (record {
 figures_weighed : (a b : Network) (l : ℕ) → a.frame ≡ b.frame → (come room : List ℕ)
     → reweighed b l (figures (terms_of a l come room)) ≡ figures (terms_of b l come room)
 figures_weighed a b l frame come room =
-    ap (λ (f : Frame). reweighed b l (figures_by f (link_of a l).delay_weight (link_of a l).stop_weight come room)) frame
+    ap (λ (f : Frame). reweighed b l (figures_by f (link_of a l).delay_weight (link_of a l).stop_weight come room))
+        frame
 
 -- an evaluation weighed anew stays
 pub weighed_self : (net : Network) (l : ℕ)
     → record (evaluated net l) { figures = reweighed net l (evaluated net l).figures } ≡ evaluated net l
 weighed_self net l =
-    ap (λ (c : CellValue). record c { figures = reweighed net l c.figures }) (evaluated_is net l) ∙ sym (evaluated_is net l)
+    ap (λ (c : CellValue). record c { figures = reweighed net l c.figures }) (evaluated_is net l)
+        ∙ sym (evaluated_is net l)
+
+abbrev by_weights : ℕ → ℕ → ℕ → Figures → Figures
+by_weights stop_penalty delay_weight stop_weight f =
+    record f { index = index_of f.uniform f.random f.stops stop_penalty delay_weight stop_weight }
+
+-- so rows stay where the weights are equal
+pub weights_stay : (a b : Network) (l : ℕ) (rows : RowsValue) → SameShape a b
+    → HaveWeights a b l → shown_at rows l ≡ evaluated a l → with_weights rows b l ≡ rows
+weights_stay a b l rows same weights shown =
+    let f : Figures = slice_index_or rows.figures l no_figures in
+    let figures_are : f ≡ (evaluated a l).figures = ap (λ (c : CellValue). c.figures) shown in
+    let frame : b.frame ≡ a.frame = sym (shape_frame a b same) in
+    let by_before : reweighed b l f ≡ reweighed a l f =
+    (λ j. by_weights (frame j).stop_penalty (sym weights.delay j) (sym weights.stop j) f) in
+    let stays : reweighed b l f ≡ f =
+    by_before ∙ ap (reweighed a l) figures_are ∙ ap (λ (c : CellValue). c.figures) (weighed_self a l)
+        ∙ sym figures_are in
+    ap (λ (g : Figures). with_figures rows l g) stays
+    ∙ ap (λ fs. record rows { figures = fs }) (set-get_or rows.figures l no_figures)
 
 module _ (a b : Network) (s l : ℕ) (same : SameShape a b) (inside : l < length a.links)
     (none : is_due a b s l ≡ false) where

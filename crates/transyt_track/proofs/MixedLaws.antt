@@ -67,7 +67,8 @@ module _ (net : Network) (f g : ℕ → ℕ → List ℕ) (s l : ℕ) (rows : Ro
       put = mixed_put net f g s l rows mixed kept c.out swept inside long.out made
 
       by : (b : Bool) → AreMixed net f g s (l + 1)
-          (if b then with_shown (with_out rows s l c.out) l c.arrivals c.go c.queue c.figures else with_out rows s l c.out)
+          (if b then with_shown (with_out rows s l c.out) l c.arrivals c.go c.queue c.figures else with_out rows s l
+              c.out)
       by true = mixed_shown net f g s (l + 1) (with_out rows s l c.out) put l c.arrivals c.go c.queue c.figures
       by false = put
 
@@ -78,9 +79,11 @@ module _ (net : Network) (f g : ℕ → ℕ → List ℕ) (s l : ℕ) (rows : Ro
     outs = λ t k within there. figures_out rows m w t k ∙ mixed.outs t k within there;
   }
 
-module _ (net : Network) (f g : ℕ → CellValue) (s l : ℕ) (rows : RowsValue) (mixed : AreShownMixed net f g s l rows) where
+module _ (net : Network) (f g : ℕ → CellValue) (s l : ℕ) (rows : RowsValue) (mixed : AreShownMixed net f g s l rows)
+    where
   stays : (k : ℕ) → (net.frame.sweeps ≡ s → k ≡ l → ⊥)
-      → (if is_before net.frame.sweeps k s l then f k else g k) ≡ (if is_before net.frame.sweeps k s (l + 1) then f k else g k)
+      → (if is_before net.frame.sweeps k s l then f k else g k)
+          ≡ (if is_before net.frame.sweeps k s (l + 1) then f k else g k)
   stays k apart = ap (λ b. cond b (f k) (g k)) (sym (before_other net.frame.sweeps k s l apart))
 
   reached : (k : ℕ) → net.frame.sweeps ≡ s → k ≡ l
@@ -95,7 +98,8 @@ module _ (net : Network) (f g : ℕ → CellValue) (s l : ℕ) (rows : RowsValue
       → (net.frame.sweeps ≡ s → shown_at new l ≡ f l)
       → ((k : ℕ) → k < length net.links → (net.frame.sweeps ≡ s → k ≡ l → ⊥) → shown_at new k ≡ shown_at rows k)
       → AreShownMixed net f g s (l + 1) new
-  shown_moved new inside here elsewhere = record { shown = λ k there. by k there (cases_eq net.frame.sweeps s) (cases_eq k l) }
+  shown_moved new inside here elsewhere =
+      record { shown = λ k there. by k there (cases_eq net.frame.sweeps s) (cases_eq k l) }
     where
       by : (k : ℕ) → k < length net.links → (net.frame.sweeps ≡ s) ⊎ (net.frame.sweeps ≡ s → ⊥) → (k ≡ l) ⊎ (k ≡ l → ⊥)
           → shown_at new k ≡ (if is_before net.frame.sweeps k s (l + 1) then f k else g k)
@@ -121,7 +125,8 @@ module _ (net : Network) (f g : ℕ → CellValue) (s l : ℕ) (rows : RowsValue
 
   -- a pair is written
   pub shown_placed : Fits net rows → AreRows rows → (c : CellValue) → s ≤ net.frame.sweeps → l < length net.links
-      → HasSteps rows.step_count c → (net.frame.sweeps ≡ s → c ≡ f l) → AreShownMixed net f g s (l + 1) (placed rows s l c)
+      → HasSteps rows.step_count c → (net.frame.sweeps ≡ s → c ≡ f l)
+          → AreShownMixed net f g s (l + 1) (placed rows s l c)
   shown_placed fits kept c swept inside long made =
       let swept_in : s ≤ rows.sweeps = omega (arith, fits.sweeps) in
       let inside_in : l < length rows.figures = omega (arith, fits.link_count) in

@@ -1,5 +1,6 @@
 -- What of a link's work equal own data settle between networks of one shape.
-use Rattle.std.proofs.Common.{◌≡◌, ℕ, ◌<◌, true, false, cond, List, [], ◌∷◌, All, Some, length, map, nat_eq, get_or, refl, ap, sym, ◌∙◌, arith}
+use Rattle.std.proofs.Common.{◌≡◌, ℕ, ◌<◌, true, false, cond, List, [], ◌∷◌, All, Some, length, map, nat_eq, get_or}
+use Rattle.std.proofs.Common.{refl, ap, sym, ◌∙◌, arith}
 use Rattle.std.proofs.lemmas.List.{get_or-map}
 use Rattle.std.proofs.lemmas.List.Elements.{All-nil, All-cons}
 use Rattle.transyt_parts.specs.declared.node.Stage.{Stage}
@@ -59,7 +60,9 @@ numbered_bare (x ∷ xs) (y ∷ ys) k h =
     ])
     ∙ ap (λ m. bare_node (node_in (cond (nat_eq k m) (Some y) (numbered node_number ys k)))) number
 
-pub numbers_same : (xs ys : List LinkValue) → map bare_link xs ≡ map bare_link ys → map link_number xs ≡ map link_number ys
+-- links of one shape have equal numbers
+pub numbers_same : (xs ys : List LinkValue) → map bare_link xs ≡ map bare_link ys → map link_number xs
+    ≡ map link_number ys
 numbers_same [] [] h = refl
 numbers_same [] (y ∷ ys) h = absurd (cc)
 numbers_same (x ∷ xs) [] h = absurd (cc)

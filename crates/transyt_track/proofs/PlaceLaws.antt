@@ -1,5 +1,6 @@
 -- The node of a link stands at its place.
-use Rattle.std.proofs.Common.{◌≡◌, ℕ, ◌<◌, true, false, List, [], ◌∷◌, ◌++◌, ◌+◌, take, length, Option, Some, None, map, All, IfSome, refl, ap, sym, subst, ◌∙◌, get_or, nat_eq, ◌≤◌, arith}
+use Rattle.std.proofs.Common.{◌≡◌, ℕ, ◌<◌, true, false, List, [], ◌∷◌, ◌++◌, ◌+◌, take, length, Option, Some, None}
+use Rattle.std.proofs.Common.{map, All, IfSome, refl, ap, sym, subst, ◌∙◌, get_or, nat_eq, ◌≤◌, arith}
 use Rattle.std.proofs.lemmas.List.FromFn.{length-map-range_with_len, get_or-map-range_with_len}
 use Rattle.std.specs.List.{position_or_len}
 use Rattle.std.proofs.lemmas.List.{get_or_default, map-append, take_more}
@@ -17,7 +18,8 @@ use Rattle.transyt_net.specs.Edits.{the_node, node_in}
 use Rattle.transyt_net.specs.Valid.{IsValid, place_of, node_numbers, is_among}
 use Rattle.transyt_net.proofs.PlaceLaws.{place_is, numbered_here}
 use Rattle.transyt_sweep.specs.Cell.{found_or_first}
-use Rattle.transyt_track.specs.Own.{node_place, feeder_place, rule_place, places_at, no_places, PlacesValue, all_places, ArePlaces}
+use Rattle.transyt_track.specs.Own.{node_place, feeder_place, rule_place, places_at, no_places, PlacesValue}
+use Rattle.transyt_track.specs.Own.{all_places, ArePlaces}
 
 -- a number that is among these is found
 found_among : (ns : List ℕ) (number : ℕ) → is_among ns number ≡ true → place_of ns number ≡ None → ⊥
@@ -46,12 +48,14 @@ node_here net l valid inside =
     let link = valid.sound.links l no_link inside in
     node_at_place net (link_of net l).node link.node
 
+-- the place of a link's node is inside the list of nodes
 pub node_inside : (net : Network) (l : ℕ) (places : PlacesValue) → IsValid net → l < length net.links
     → places ≡ places_at net l → places.node < length net.nodes
 node_inside net l places valid inside is =
     let here = node_here net l valid inside in
     omega (arith, here.0, ap (λ (p : PlacesValue). p.node) is)
 
+-- the node that stands there is the link's
 pub node_stands : (net : Network) (l : ℕ) (places : PlacesValue) → IsValid net → l < length net.links
     → places ≡ places_at net l → (n : NodeValue) → n ≡ get_or net.nodes places.node n
     → n ≡ the_node net (link_of net l).node
@@ -72,7 +76,8 @@ all_inside : (net : Network) → 0 < length net.links → (feeds : List Feed)
     → All (λ j. j < length net.links) (map (feeder_place net) feeds)
 all_inside net some [] = All-nil (λ j. j < length net.links)
 all_inside net some (f ∷ fs) =
-    All-cons (λ j. j < length net.links) (feeder_place net f) (map (feeder_place net) fs) (link_place-lt net f.feeder some)
+    All-cons (λ j. j < length net.links) (feeder_place net f) (map (feeder_place net) fs)
+        (link_place-lt net f.feeder some)
     (all_inside net some fs)
 
 -- what a link reads is a link
@@ -80,18 +85,21 @@ pub feeders_inside : (net : Network) (l count : ℕ) (places : PlacesValue) → 
     → length net.links ≡ count → places ≡ places_at net l → All (λ j. j < count) places.feeders
 feeders_inside net l count places some same is =
     subst (λ n. All (λ j. j < n) places.feeders) same
-    (subst (λ (p : PlacesValue). All (λ j. j < length net.links) p.feeders) (sym is) (all_inside net some (link_of net l).feeds))
+    (subst (λ (p : PlacesValue). All (λ j. j < length net.links) p.feeders) (sym is)
+        (all_inside net some (link_of net l).feeds))
 
 rule_there : (net : Network) → 0 < length net.links → (rule : Option GiveWay)
     → IfSome (rule_place net rule) (λ j. j < length net.links)
 rule_there net some None = tt
 rule_there net some (Some rule) = link_place-lt net rule.other some
 
+-- the place of the link to which a rule gives way is that of a link
 pub rule_inside : (net : Network) (l count : ℕ) (places : PlacesValue) → 0 < length net.links
     → length net.links ≡ count → places ≡ places_at net l → IfSome places.rule (λ j. j < count)
 rule_inside net l count places some same is =
     subst (λ n. IfSome places.rule (λ j. j < n)) same
-    (subst (λ (p : PlacesValue). IfSome p.rule (λ j. j < length net.links)) (sym is) (rule_there net some (link_of net l).gives_way))
+    (subst (λ (p : PlacesValue). IfSome p.rule (λ j. j < length net.links)) (sym is)
+        (rule_there net some (link_of net l).gives_way))
 
 -- what was read of the table at a place is the place's
 pub place_read : (net : Network) (table : List PlacesValue) (l : ℕ) (p : PlacesValue) → ArePlaces net table

@@ -1,5 +1,6 @@
 -- One pair of the rows written: what stands there then, and elsewhere.
-use Rattle.std.proofs.Common.{◌≡◌, ◌≢◌, ℕ, ◌+◌, ◌*◌, ◌<◌, ◌≤◌, Bool, true, false, List, length, refl, ap, sym, ◌∙◌, arith}
+use Rattle.std.proofs.Common.{◌≡◌, ◌≢◌, ℕ, ◌+◌, ◌*◌, ◌<◌, ◌≤◌, Bool, true, false, List, length, refl, ap, sym, ◌∙◌}
+use Rattle.std.proofs.Common.{arith}
 use Rattle.std.proofs.Common.{◌==◌, ◌⊎◌, inl, inr, if◌then◌else◌}
 use Rattle.std.proofs.lemmas.Bool.{cases_eq}
 use Rattle.std.proofs.lemmas.Bool.Decides.{nat_tests}
@@ -7,7 +8,8 @@ use Rattle.std.proofs.lemmas.List.{length-set, get_or-set_other}
 use Rattle.std.proofs.lemmas.Grind.{get_or-set_at}
 use Rattle.transyt_delay.specs.declared.figures.Figures.{Figures}
 use Rattle.transyt_sweep.specs.Cell.{CellValue, HasSteps}
-use Rattle.transyt_sweep.specs.Rows.{RowsValue, row, out_at, shown_at, with_out, with_figures, with_shown, placed, no_figures}
+use Rattle.transyt_sweep.specs.Rows.{RowsValue, row, out_at, shown_at, with_out, with_figures, with_shown, placed}
+use Rattle.transyt_sweep.specs.Rows.{no_figures}
 use Rattle.transyt_sweep.specs.Rows.{SameSize, AreRows}
 use Rattle.transyt_sweep.proofs.PairLaws.{out_here, out_elsewhere}
 use Rattle.transyt_sweep.proofs.ShownLaws.{put_shown, shown_here, shown_elsewhere}
@@ -23,7 +25,8 @@ all_of_out rows s l c true t k = out_shown (with_out rows s l c.out) l c.arrival
 all_of_out rows s l c false t k = refl
 
 all_of_size : (rows : RowsValue) (s l : ℕ) (c : CellValue) (b : Bool) → SameSize (all_of rows s l c b) rows
-all_of_size rows s l c true = record { step_count = refl; sweeps = refl; link_count = length-set rows.figures l c.figures }
+all_of_size rows s l c true =
+    record { step_count = refl; sweeps = refl; link_count = length-set rows.figures l c.figures }
 all_of_size rows s l c false = record { step_count = refl; sweeps = refl; link_count = refl }
 
 -- the rows have the same size
@@ -40,7 +43,8 @@ module _ (rows : RowsValue) (kept : AreRows rows) (s l : ℕ) (c : CellValue) (s
   pub placed_elsewhere : (t k : ℕ) → k < length rows.figures → (t ≡ s → k ≡ l → ⊥)
       → out_at (placed rows s l c) t k ≡ out_at rows t k
   placed_elsewhere t k there apart =
-      all_of_out rows s l c (s == rows.sweeps) t k ∙ out_elsewhere rows kept s l c.out swept inside long.out t k there apart
+      all_of_out rows s l c (s == rows.sweeps) t k ∙ out_elsewhere rows kept s l c.out swept inside long.out t k there
+          apart
 
   last_rows : (k : ℕ) → s ≡ rows.sweeps → shown_at (placed rows s l c) k ≡ shown_at (put_shown rows l c) k
   last_rows k last =
@@ -62,7 +66,8 @@ module _ (rows : RowsValue) (kept : AreRows rows) (s l : ℕ) (c : CellValue) (s
           last_rows k last ∙ shown_elsewhere rows kept l c inside long k there (λ e. apart last e)
       by (inr earlier) =
           let test : (s == rows.sweeps) ≡ false = let other : s ≢ rows.sweeps = earlier in grind (arith, nat_tests) in
-          let out = out_elsewhere rows kept s l c.out swept inside long.out rows.sweeps k there (λ e _. earlier (sym e)) in
+          let out = out_elsewhere rows kept s l c.out swept inside long.out rows.sweeps k there
+              (λ e _. earlier (sym e)) in
           ap (λ b. shown_at (all_of rows s l c b) k) test
           ∙ (λ j. record {
             arrivals = (shown_at rows k).arrivals;
@@ -77,6 +82,7 @@ pub figures_out : (rows : RowsValue) (l : ℕ) (f : Figures) (t k : ℕ)
     → out_at (with_figures rows l f) t k ≡ out_at rows t k
 figures_out rows l f t k = ap (λ n. row rows.step_count rows.outs (t * n + k)) (length-set rows.figures l f)
 
+-- with other figures the rows have the same size
 pub figures_size : (rows : RowsValue) (l : ℕ) (f : Figures) → SameSize (with_figures rows l f) rows
 figures_size rows l f = record { step_count = refl; sweeps = refl; link_count = length-set rows.figures l f }
 
@@ -94,6 +100,7 @@ figures_here rows l f inside =
       figures = here j;
     })
 
+-- figures of one link leave the last sweep of each other
 pub figures_elsewhere : (rows : RowsValue) (l : ℕ) (f : Figures) (k : ℕ) → k ≢ l
     → shown_at (with_figures rows l f) k ≡ shown_at rows k
 figures_elsewhere rows l f k other =
@@ -108,7 +115,8 @@ figures_elsewhere rows l f k other =
     })
 
 -- what leaves is written, and what is shown elsewhere stays
-pub shown_with_out : (rows : RowsValue) → AreRows rows → (s l : ℕ) (x : List ℕ) → s ≤ rows.sweeps → l < length rows.figures
+pub shown_with_out : (rows : RowsValue) → AreRows rows → (s l : ℕ) (x : List ℕ) → s ≤ rows.sweeps
+    → l < length rows.figures
     → length x ≡ rows.step_count → (k : ℕ) → k < length rows.figures → (s ≡ rows.sweeps → k ≡ l → ⊥)
     → shown_at (with_out rows s l x) k ≡ shown_at rows k
 shown_with_out rows kept s l x swept inside long k there apart =

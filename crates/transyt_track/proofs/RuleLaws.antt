@@ -1,5 +1,6 @@
 -- The tests that Due counts by say what they are to say.
-use Rattle.std.proofs.Common.{◌≡◌, ◌↔◌, ℕ, Bool, true, false, sym, not, ◌&&◌, List, [], ◌∷◌, IsTrue, nat_eq, refl, ap, subst, ◌∙◌, arith}
+use Rattle.std.proofs.Common.{◌≡◌, ◌↔◌, ℕ, Bool, true, false, sym, not, ◌&&◌, List, [], ◌∷◌, IsTrue, nat_eq, refl}
+use Rattle.std.proofs.Common.{ap, subst, ◌∙◌, arith}
 use Rattle.std.specs.Str.{bytes_eq}
 use Rattle.std.proofs.lemmas.Bool.{and_from, true≢false}
 use Rattle.std.proofs.lemmas.Bool.Decides.{nat_tests}
@@ -26,13 +27,16 @@ parts_self (x ∷ xs) = and_from (same_part x x) (same_parts xs xs) (part_self x
 own_self : (x : Own) → same_own x x ≡ true
 own_self x =
     and_from (same_timing x x) (same_parts x.parts x.parts)
-    (and_from (nat_eq x.entry x.entry && nat_eq x.saturation x.saturation && nat_eq x.offset x.offset) (bytes_eq x.changes x.changes)
+    (and_from (nat_eq x.entry x.entry && nat_eq x.saturation x.saturation && nat_eq x.offset x.offset)
+        (bytes_eq x.changes x.changes)
     (and_from (nat_eq x.entry x.entry && nat_eq x.saturation x.saturation) (nat_eq x.offset x.offset)
-    (and_from (nat_eq x.entry x.entry) (nat_eq x.saturation x.saturation) (same_number x.entry) (same_number x.saturation))
+    (and_from (nat_eq x.entry x.entry) (nat_eq x.saturation x.saturation) (same_number x.entry)
+        (same_number x.saturation))
     (same_number x.offset))
     ((bytes_eq-Decides x.changes x.changes).1 refl))
     (parts_self x.parts)
 
+-- own data pass the test exactly where they are equal
 pub own_decides : (x y : Own) → IsTrue (same_own x y) ↔ x ≡ y
 own_decides x y = (λ told. own_told x y told, λ same. subst (λ z. same_own x z ≡ true) same (own_self x))
 
@@ -45,6 +49,7 @@ own_test false x y told = by (same_own x y) refl
     by false is = sym is
     by true is = absurd (true≢false (sym (told.1 (own_told x y is))))
 
+-- departures differ exactly where they are not equal
 pub differs_decides : (a b : Network) (s j : ℕ) → (differs a b s j ≡ false) ↔ out_of a s j ≡ out_of b s j
 differs_decides a b s j = (
   same_out a b s j,

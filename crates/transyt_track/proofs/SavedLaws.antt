@@ -1,5 +1,6 @@
 -- Saved rows: each write keeps what they lead back to.
-use Rattle.std.proofs.Common.{◌≡◌, ℕ, ◌+◌, ◌-◌, ◌*◌, ◌<◌, ◌≤◌, Bool, true, false, not, ◌&&◌, List, length, set, drop, refl, ap, sym, subst, ◌∙◌, arith}
+use Rattle.std.proofs.Common.{◌≡◌, ℕ, ◌+◌, ◌-◌, ◌*◌, ◌<◌, ◌≤◌, Bool, true, false, not, ◌&&◌, List, length, set, drop}
+use Rattle.std.proofs.Common.{refl, ap, sym, subst, ◌∙◌, arith}
 use Rattle.std.proofs.Common.{◌==◌, ◌⊎◌, inl, inr, if◌then◌else◌, length-drop}
 use Rattle.std.proofs.lemmas.Bool.{cases_eq}
 use Rattle.std.proofs.lemmas.List.{length-set, length-take-le, get_or-set_other}
@@ -7,11 +8,15 @@ use Rattle.std.proofs.lemmas.Grind.{get_or-set_at}
 use Rattle.std.proofs.Math.Nat.{mul-le-mul_right}
 use Rattle.transyt_net.specs.Parts.{Network}
 use Rattle.transyt_sweep.specs.Cell.{CellValue, HasSteps}
-use Rattle.transyt_sweep.specs.Rows.{RowsValue, row, out_at, shown_at, pair_in, pair_place, placed, with_out, with_weights, reweighed, Fits, SameSize, AreRows}
+use Rattle.transyt_sweep.specs.Rows.{RowsValue, row, out_at, shown_at, pair_in, pair_place, placed, with_out}
+use Rattle.transyt_sweep.specs.Rows.{with_weights, reweighed, Fits, SameSize, AreRows}
 use Rattle.transyt_sweep.proofs.PairLaws.{out_elsewhere, pair_room, pairs_apart}
-use Rattle.transyt_track.specs.Saved.{SavedValue, is_saved, saved_at, old_out, old_shown, LeadBack, FitsRows, Carries, AreSaved}
+use Rattle.transyt_track.specs.Saved.{SavedValue, is_saved, saved_at, old_out, old_shown, LeadBack, FitsRows}
+use Rattle.transyt_track.specs.Saved.{Carries, AreSaved}
 use Rattle.transyt_track.specs.Front.{left_at, unweighed}
-use Rattle.transyt_track.proofs.PlacedLaws.{placed_here, placed_elsewhere, placed_last, placed_stays, placed_size, shown_with_out, figures_out, figures_size, figures_here, figures_elsewhere}
+use Rattle.transyt_track.proofs.PlacedLaws.{placed_here, placed_elsewhere, placed_last, placed_stays, placed_size}
+use Rattle.transyt_track.proofs.PlacedLaws.{shown_with_out, figures_out, figures_size, figures_here}
+use Rattle.transyt_track.proofs.PlacedLaws.{figures_elsewhere}
 
 -- two pairs are one, or apart
 pub pair_cases : (t k s l : ℕ) → ((t ≡ s) × (k ≡ l)) ⊎ (t ≡ s → k ≡ l → ⊥)
@@ -41,7 +46,8 @@ pair_steps rows kept s l swept inside =
       arrivals = length-row n rows.arrivals l (omega (arith, shown, kept.arrivals));
       go = length-row n rows.go l (omega (arith, shown, kept.go));
       queue = length-row n rows.queue l (omega (arith, shown, kept.queue));
-      out = length-row n rows.outs (pair_place rows s l) (omega (arith, kept.outs, pair_room rows.sweeps links n s l swept inside));
+      out = length-row n rows.outs (pair_place rows s l)
+          (omega (arith, kept.outs, pair_room rows.sweeps links n s l swept inside));
     }
 
 -- the flag of a pair
@@ -105,7 +111,8 @@ module _ (rows : RowsValue) (saved : SavedValue) (fits : FitsRows rows saved) (k
       omega (arith, room.pairs, flag_room saved.rows.sweeps saved.link_count s l swept_in (omega (arith, fits.links)))
 
   flag_here : is_saved (put_in saved rows s l) s l ≡ true
-  flag_here = get_or-set_at saved.flags (s * saved.link_count + l) (s * saved.link_count + l) true false refl flag_inside
+  flag_here = get_or-set_at saved.flags (s * saved.link_count + l) (s * saved.link_count + l) true false refl
+      flag_inside
 
   flag_elsewhere : (t k : ℕ) → k < length rows.figures → (t ≡ s → k ≡ l → ⊥)
       → is_saved (put_in saved rows s l) t k ≡ is_saved saved t k
@@ -130,7 +137,8 @@ module _ (rows : RowsValue) (saved : SavedValue) (fits : FitsRows rows saved) (k
       by : (b : Bool) → is_saved saved s l ≡ b → ((t ≡ s) × (k ≡ l)) ⊎ (t ≡ s → k ≡ l → ⊥)
           → old_out (saved_at saved rows s l) new t k ≡ old_out saved rows t k
       by true was (inl here) =
-          let up : is_saved saved t k ≡ true = ap (λ u. is_saved saved u k) here.0 ∙ ap (is_saved saved s) here.1 ∙ was in
+          let up : is_saved saved t k ≡ true = ap (λ u. is_saved saved u k) here.0 ∙ ap (is_saved saved s) here.1
+              ∙ was in
           ap (λ d. old_out d new t k) (is_same was)
           ∙ ap (λ b. if b then out_at saved.rows t k else out_at new t k) up
           ∙ sym (ap (λ b. if b then out_at saved.rows t k else out_at rows t k) up)
@@ -138,7 +146,8 @@ module _ (rows : RowsValue) (saved : SavedValue) (fits : FitsRows rows saved) (k
           ap (λ d. old_out d new t k) (is_same was)
           ∙ ap (λ x. if is_saved saved t k then out_at saved.rows t k else x) (outs t k there apart)
       by false was (inl here) =
-          let none : is_saved saved t k ≡ false = ap (λ u. is_saved saved u k) here.0 ∙ ap (is_saved saved s) here.1 ∙ was in
+          let none : is_saved saved t k ≡ false = ap (λ u. is_saved saved u k) here.0 ∙ ap (is_saved saved s) here.1
+              ∙ was in
           ap (λ d. old_out d new t k) (is_put live was)
           ∙ ap (λ u. old_out (put_in saved rows s l) new u k) here.0
           ∙ ap (old_out (put_in saved rows s l) new s) here.1
@@ -149,16 +158,19 @@ module _ (rows : RowsValue) (saved : SavedValue) (fits : FitsRows rows saved) (k
           ∙ sym (ap (λ b. if b then out_at saved.rows t k else out_at rows t k) none)
       by false was (inr apart) =
           ap (λ d. old_out d new t k) (is_put live was)
-          ∙ ap (λ b. if b then out_at (placed saved.rows s l (pair_in rows s l)) t k else out_at new t k) (flag_elsewhere t k there apart)
+          ∙ ap (λ b. if b then out_at (placed saved.rows s l (pair_in rows s l)) t k else out_at new t k)
+              (flag_elsewhere t k there apart)
           ∙ ap (λ x. if is_saved saved t k then x else out_at new t k)
-          (placed_elsewhere saved.rows saved_kept s l (pair_in rows s l) swept_in inside_in long t k (omega (arith, fits.size.link_count)) apart)
+          (placed_elsewhere saved.rows saved_kept s l (pair_in rows s l) swept_in inside_in long t k
+              (omega (arith, fits.size.link_count)) apart)
           ∙ ap (λ x. if is_saved saved t k then out_at saved.rows t k else x) (outs t k there apart)
 
   shown_kept : saved.live ≡ true → (k : ℕ) → k < length rows.figures
       → old_shown (saved_at saved rows s l) new k ≡ old_shown saved rows k
   shown_kept live k there = by (is_saved saved s l) refl (pair_cases s k rows.sweeps l)
     where
-      at : (d : SavedValue) → old_shown d new k ≡ (if is_saved d rows.sweeps k then shown_at d.rows k else shown_at new k)
+      at : (d : SavedValue) → old_shown d new k
+          ≡ (if is_saved d rows.sweeps k then shown_at d.rows k else shown_at new k)
       at d = ap (λ t. if is_saved d t k then shown_at d.rows k else shown_at new k) size.sweeps
 
       by : (b : Bool) → is_saved saved s l ≡ b → ((s ≡ rows.sweeps) × (k ≡ l)) ⊎ (s ≡ rows.sweeps → k ≡ l → ⊥)
@@ -179,10 +191,13 @@ module _ (rows : RowsValue) (saved : SavedValue) (fits : FitsRows rows saved) (k
           sym (ap (λ u. is_saved saved u k) here.0) ∙ ap (is_saved saved s) here.1 ∙ was in
           ap (λ d. old_shown d new k) (is_put live was)
           ∙ at (put_in saved rows s l)
-          ∙ sym (ap (λ t. if is_saved (put_in saved rows s l) t k then shown_at (placed saved.rows s l (pair_in rows s l)) k else shown_at new k) here.0)
-          ∙ ap (λ m. if is_saved (put_in saved rows s l) s m then shown_at (placed saved.rows s l (pair_in rows s l)) m else shown_at new m) here.1
+          ∙ sym (ap (λ t. if is_saved (put_in saved rows s l) t k then shown_at
+              (placed saved.rows s l (pair_in rows s l)) k else shown_at new k) here.0)
+          ∙ ap (λ m. if is_saved (put_in saved rows s l) s m then shown_at (placed saved.rows s l (pair_in rows s l))
+              m else shown_at new m) here.1
           ∙ ap (λ b. if b then shown_at (placed saved.rows s l (pair_in rows s l)) l else shown_at new l) flag_here
-          ∙ placed_last saved.rows saved_kept s l (pair_in rows s l) swept_in inside_in long (here.0 ∙ sym fits.size.sweeps)
+          ∙ placed_last saved.rows saved_kept s l (pair_in rows s l) swept_in inside_in long
+              (here.0 ∙ sym fits.size.sweeps)
           ∙ ap (λ t. pair_in rows t l) here.0
           ∙ sym (ap (shown_at rows) here.1)
           ∙ sym (ap (λ b. if b then shown_at saved.rows k else shown_at rows k) none)
@@ -192,7 +207,8 @@ module _ (rows : RowsValue) (saved : SavedValue) (fits : FitsRows rows saved) (k
           ∙ ap (λ b. if b then shown_at (placed saved.rows s l (pair_in rows s l)) k else shown_at new k)
           (flag_elsewhere rows.sweeps k there (λ e. apart (sym e)))
           ∙ ap (λ x. if is_saved saved rows.sweeps k then x else shown_at new k)
-          (placed_stays saved.rows saved_kept s l (pair_in rows s l) swept_in inside_in long k (omega (arith, fits.size.link_count))
+          (placed_stays saved.rows saved_kept s l (pair_in rows s l) swept_in inside_in long k
+              (omega (arith, fits.size.link_count))
           (λ e. apart (e ∙ fits.size.sweeps)))
           ∙ ap (λ x. if is_saved saved rows.sweeps k then shown_at saved.rows k else x) (shown k there apart)
 
@@ -299,5 +315,6 @@ back_carried m x d y e fits back carries = record {
       carries.outs (sym carries.live ∙ live) t k (omega (arith, fits.sweeps)) (omega (arith, fits.link_count))
       ∙ back.outs (sym carries.live ∙ live) t k within there;
   shown = λ live k there.
-      carries.shown (sym carries.live ∙ live) k (omega (arith, fits.link_count)) ∙ back.shown (sym carries.live ∙ live) k there;
+      carries.shown (sym carries.live ∙ live) k (omega (arith, fits.link_count))
+          ∙ back.shown (sym carries.live ∙ live) k there;
 }

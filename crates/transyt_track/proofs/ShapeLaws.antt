@@ -54,7 +54,8 @@ module _ (a b : Network) (same : SameShape a b) where
 
   shape_node_place : (number : ℕ) → node_place a number ≡ node_place b number
   shape_node_place number =
-      ap (λ ns. found_or_first (place_of ns number)) (node_numbers_same a.nodes b.nodes (ap (λ (n : Network). n.nodes) same))
+      ap (λ ns. found_or_first (place_of ns number))
+          (node_numbers_same a.nodes b.nodes (ap (λ (n : Network). n.nodes) same))
 
   -- the places of their links
   pub shape_places : (l : ℕ) → l < length a.links → places_at a l ≡ places_at b l
@@ -66,7 +67,8 @@ module _ (a b : Network) (same : SameShape a b) where
       let feeders = feeder_places_same a b shape_link_place (link_of a l).feeds (link_of b l).feeds
       (ap (λ (x : LinkValue). x.feeds) bare) in
       let rule : rule_place a (link_of a l).gives_way ≡ rule_place b (link_of b l).gives_way =
-      rule_place_same a b shape_link_place (link_of a l).gives_way ∙ ap (λ (x : LinkValue). rule_place b x.gives_way) bare in
+      rule_place_same a b shape_link_place (link_of a l).gives_way
+          ∙ ap (λ (x : LinkValue). rule_place b x.gives_way) bare in
       (λ j. record { node = node j; feeders = feeders j; rule = rule j })
 
   -- so a table of places serves both

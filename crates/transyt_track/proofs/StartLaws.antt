@@ -1,16 +1,19 @@
 -- Before the first sweep: the links whose total flow lets another profile go are started anew.
-use Rattle.std.proofs.Common.{◌≡◌, ◌≢◌, ℕ, ◌+◌, ◌<◌, ◌≤◌, Bool, true, false, cond, not, List, length, set, get_or, refl, ap, sym, ◌∙◌, arith, nat_eq}
+use Rattle.std.proofs.Common.{◌≡◌, ◌≢◌, ℕ, ◌+◌, ◌*◌, ◌/◌, ◌<◌, ◌≤◌, Bool, true, false, cond, not, List, length, set}
+use Rattle.std.proofs.Common.{get_or, refl, ap, sym, ◌∙◌, arith, nat_eq}
 use Rattle.std.proofs.Common.{◌⊎◌, inl, inr}
 use Rattle.std.specs.Str.{bytes_eq}
 use Rattle.std.specs.Cmp.Lexicographic.{same_text}
 use Rattle.std.proofs.lemmas.Slice.Eq.{bytes_eq-Decides}
-use Rattle.std.proofs.lemmas.Bool.{cases_eq}
+use Rattle.std.proofs.Math.Nat.{div-mul-le_self, lt-div-mul-add, lt_of_mul-lt-mul_right, mul-le-mul_right}
+use Rattle.std.proofs.lemmas.Bool.{cases_eq, cases_lt}
 use Rattle.std.proofs.lemmas.Bool.Decides.{nat_tests}
 use Rattle.std.proofs.lemmas.List.{length-set, length-replicate, get_or-replicate, get_or-set_other}
 use Rattle.std.proofs.lemmas.Grind.{get_or-set_at}
 use Rattle.transyt_profile.specs.Profile.{uniform}
 use Rattle.transyt_parts.specs.declared.frame.Frame.{Frame}
 use Rattle.transyt_parts.specs.Flow.{total_flow}
+use Rattle.transyt_parts.specs.Valid.{IsFrame}
 use Rattle.transyt_net.specs.Parts.{Network, link_of}
 use Rattle.transyt_net.specs.Shape.{SameShape}
 use Rattle.transyt_net.specs.Flow.{perstep}
@@ -21,7 +24,7 @@ use Rattle.transyt_sweep.proofs.SweepLaws.{out_of_start}
 use Rattle.transyt_sweep.proofs.PairLaws.{out_elsewhere}
 use Rattle.transyt_sweep.proofs.FrontLaws.{mixed_put, mixed_turn, not_before_first}
 use Rattle.transyt_track.specs.Due.{differs}
-use Rattle.transyt_track.specs.Front.{flag, AreAt, AreStarting}
+use Rattle.transyt_track.specs.Front.{flag, total_differs, AreAt, AreStarting}
 use Rattle.transyt_track.proofs.MixedLaws.{mixed_left, shown_moved, shown_turn}
 use Rattle.transyt_track.proofs.DueLaws.{same_out, differs_is}
 use Rattle.transyt_track.proofs.ShapeLaws.{shape_count, shape_frame}
@@ -43,17 +46,60 @@ uniform_told n x y some = by (cases_eq x y) (bytes_eq (uniform n x) (uniform n y
         absurd (other (sym (get_or-replicate n 0 x 0 (omega arith)) ∙ value ∙ get_or-replicate n 0 y 0 (omega arith)))
     by (inr other) false e = let apart : x ≢ y = other in grind (arith, nat_tests)
 
+quotient_less : (p q d : ℕ) → 0 < d → p + d ≤ q → p / d < q / d
+quotient_less p q d some room =
+    let below : p / d * d ≤ p = div-mul-le_self p d in
+    let over : q < q / d * d + d = lt-div-mul-add some in
+    lt_of_mul-lt-mul_right d (omega (arith, below, over, room))
+
+-- a vehicle per hour is more than a unit per step
+perstep_less : (f : Frame) → IsFrame f → (x y : ℕ) → x < y → perstep f x < perstep f y
+perstep_less f range x y less =
+    let next : (x + 1) * f.cycle ≤ y * f.cycle = mul-le-mul_right f.cycle (omega arith) in
+    quotient_less (x * f.cycle * 1000000) (y * f.cycle * 1000000) (3600 * f.step_count)
+    (omega (arith, range.step_count.0)) (omega (arith, next, range.cycle.0, range.step_count.1))
+
+apart_tests : (p q x y : ℕ) → p ≢ q → x ≢ y → nat_eq p q ≡ nat_eq x y
+apart_tests p q x y apart other = grind (arith, nat_tests)
+
+same_tests : (p q x y : ℕ) → p ≡ q → x ≡ y → nat_eq p q ≡ nat_eq x y
+same_tests p q x y same other = grind (arith, nat_tests)
+
+-- so profiles before the first sweep differ where the total flows do
+total_told : (f : Frame) → IsFrame f → (x y : ℕ) → nat_eq (perstep f x) (perstep f y) ≡ nat_eq x y
+total_told f range x y = by (cases_eq x y) (cases_lt x y)
+  where
+    by : (x ≡ y) ⊎ (x ≡ y → ⊥) → (x < y) ⊎ (y ≤ x) → nat_eq (perstep f x) (perstep f y) ≡ nat_eq x y
+    by (inl is) order = same_tests (perstep f x) (perstep f y) x y (ap (perstep f) is) is
+    by (inr other) (inl less) =
+        let part : perstep f x < perstep f y = perstep_less f range x y less in
+        apart_tests (perstep f x) (perstep f y) x y (omega (arith, part)) other
+    by (inr other) (inr least) =
+        let apart : x ≢ y = other in
+        let part : perstep f y < perstep f x = perstep_less f range y x (omega (arith, least, apart)) in
+        apart_tests (perstep f x) (perstep f y) x y (omega (arith, part)) other
+
 module _ (a b : Network) (same : SameShape a b) where
   -- whether what leaves link l before the first sweep differs
   pub start_differs : (l : ℕ) → 1 ≤ b.frame.step_count
-      → not (nat_eq (perstep a.frame (total_flow (link_of a l))) (perstep b.frame (total_flow (link_of b l)))) ≡ differs a b 0 l
+      → not (nat_eq (perstep a.frame (total_flow (link_of a l))) (perstep b.frame (total_flow (link_of b l))))
+          ≡ differs a b 0 l
   start_differs l some =
       let steps : a.frame.step_count ≡ b.frame.step_count = ap (λ (f : Frame). f.step_count) (shape_frame a b same) in
       sym (differs_is a b 0 l
       ∙ ap (λ xs. not (bytes_eq xs (out_of b 0 l))) (out_of_start a l)
       ∙ ap (λ xs. not (bytes_eq (start a l) xs)) (out_of_start b l)
       ∙ ap (λ n. not (bytes_eq (uniform n (perstep a.frame (total_flow (link_of a l)))) (start b l))) steps
-      ∙ ap not (uniform_told b.frame.step_count (perstep a.frame (total_flow (link_of a l))) (perstep b.frame (total_flow (link_of b l))) some))
+      ∙ ap not (uniform_told b.frame.step_count (perstep a.frame (total_flow (link_of a l)))
+          (perstep b.frame (total_flow (link_of b l))) some))
+
+  -- it is whether its total flow does
+  pub total_start : IsFrame b.frame → (l : ℕ) → total_differs a b l ≡ differs a b 0 l
+  total_start range l =
+      sym (ap not (total_told b.frame range (total_flow (link_of a l)) (total_flow (link_of b l))))
+      ∙ ap (λ f. not (nat_eq (perstep f (total_flow (link_of a l))) (perstep b.frame (total_flow (link_of b l)))))
+      (sym (shape_frame a b same))
+      ∙ start_differs l (omega (arith, range.step_count.0))
 
   -- before any link is started
   pub started_none : (rows : RowsValue) (changed : List Bool) → AreEvaluation a rows → length changed ≡ length b.links
@@ -129,7 +175,7 @@ module _ (a b : Network) (same : SameShape a b) where
       flagged = flags_more false (sym none);
     }
 
-  -- behind the last link the first sweep begins
+  -- after the last link the first sweep begins
   pub started_end : (l : ℕ) (rows : RowsValue) (changed : List Bool) → length b.links ≡ l
       → AreStarting a b l rows changed → AreAt a b 1 0 rows changed
   started_end l rows changed all starting = record {

@@ -1,5 +1,6 @@
 -- What a tracker keeps to stays.
-use Rattle.std.proofs.Common.{◌≡◌, ℕ, ◌+◌, ◌*◌, ◌<◌, ◌≤◌, Bool, true, false, List, length, replicate, get_or, None, IsSome, refl, ap, sym, subst, ◌∙◌, arith}
+use Rattle.std.proofs.Common.{◌≡◌, ℕ, ◌+◌, ◌*◌, ◌<◌, ◌≤◌, Bool, true, false, List, length, replicate, get_or, None}
+use Rattle.std.proofs.Common.{IsSome, refl, ap, sym, subst, ◌∙◌, arith}
 use Rattle.std.proofs.Common.{◌⊎◌, inl, inr, if◌then◌else◌}
 use Rattle.std.proofs.lemmas.Bool.{cases_lt}
 use Rattle.std.proofs.lemmas.List.{get_or-replicate, length-replicate}
@@ -52,8 +53,10 @@ pub opened_tracks : (net marked : Network) (rows : RowsValue) (saved : SavedValu
     (own_changed changed : List Bool) (scratch : CellValue) → marked ≡ net → AreEvaluation net rows → saved.live ≡ false
     → Fits net saved.rows → saved.link_count ≡ length net.links → places ≡ all_places net
     → length own_changed ≡ length net.links → length changed ≡ length net.links
-    → length scratch.arrivals ≡ net.frame.step_count → IsTracking net marked rows saved places own_changed changed scratch
-opened_tracks net marked rows saved places own_changed changed scratch copied evaluation none fits links all own_len changed_len steps = record {
+    → length scratch.arrivals ≡ net.frame.step_count → IsTracking net marked rows saved places own_changed changed
+        scratch
+opened_tracks net marked rows saved places own_changed changed scratch copied evaluation none fits links all own_len
+    changed_len steps = record {
   shape = sym (ap shape copied);
   evaluation = evaluation;
   fits = record {
@@ -72,18 +75,22 @@ opened_tracks net marked rows saved places own_changed changed scratch copied ev
 }
 
 module _ (net marked : Network) (rows : RowsValue) (saved : SavedValue) (places : List PlacesValue)
-    (own_changed changed : List Bool) (scratch : CellValue) (tracking : IsTracking net marked rows saved places own_changed changed scratch) where
+    (own_changed changed : List Bool) (scratch : CellValue)
+        (tracking : IsTracking net marked rows saved places own_changed changed scratch) where
   -- the rows have gone over to another network
   pub followed_tracks : (after : Network) → SameShape net after → (rows1 : RowsValue) (saved1 : SavedValue)
-      (own_changed1 changed1 : List Bool) (scratch1 : CellValue) → AreEvaluation after rows1 → Carries rows saved rows1 saved1
+      (own_changed1 changed1 : List Bool) (scratch1 : CellValue) → AreEvaluation after rows1
+          → Carries rows saved rows1 saved1
       → length own_changed1 ≡ length after.links → length changed1 ≡ length after.links
       → length scratch1.arrivals ≡ after.frame.step_count
       → IsTracking after marked rows1 saved1 places own_changed1 changed1 scratch1
-  followed_tracks after same rows1 saved1 own_changed1 changed1 scratch1 evaluation carries own_len changed_len steps = record {
+  followed_tracks after same rows1 saved1 own_changed1 changed1 scratch1 evaluation carries own_len changed_len
+      steps = record {
     shape = sym same ∙ tracking.shape;
     evaluation = evaluation;
     fits = carries.fits;
-    back = back_carried marked rows saved rows1 saved1 (fits_shape net marked tracking.shape rows tracking.evaluation.fits)
+    back = back_carried marked rows saved rows1 saved1
+        (fits_shape net marked tracking.shape rows tracking.evaluation.fits)
         tracking.back carries;
     table = shape_table net after same places tracking.table;
     own_count = own_len;
@@ -113,18 +120,21 @@ module _ (net marked : Network) (rows : RowsValue) (saved : SavedValue) (places 
 
   -- the rows have gone back to the marked network
   pub restored_tracks : (rows1 : RowsValue) → AreEvaluation marked rows1
-      → IsTracking marked marked rows1 (settled saved) places own_changed changed scratch
+      → IsTracking marked net rows1 (settled saved) places own_changed changed scratch
   restored_tracks rows1 evaluation =
       let frame = shape_frame net marked tracking.shape in
       let count = shape_count net marked tracking.shape in
       record {
-        shape = refl;
+        shape = sym tracking.shape;
         evaluation = evaluation;
         fits = record {
           size = record {
-            step_count = tracking.fits.size.step_count ∙ tracking.evaluation.fits.step_count ∙ ap (λ (f : Frame). f.step_count) frame ∙ sym evaluation.fits.step_count;
-            sweeps = tracking.fits.size.sweeps ∙ tracking.evaluation.fits.sweeps ∙ ap (λ (f : Frame). f.sweeps) frame ∙ sym evaluation.fits.sweeps;
-            link_count = tracking.fits.size.link_count ∙ tracking.evaluation.fits.link_count ∙ count ∙ sym evaluation.fits.link_count;
+            step_count = tracking.fits.size.step_count ∙ tracking.evaluation.fits.step_count
+                ∙ ap (λ (f : Frame). f.step_count) frame ∙ sym evaluation.fits.step_count;
+            sweeps = tracking.fits.size.sweeps ∙ tracking.evaluation.fits.sweeps ∙ ap (λ (f : Frame). f.sweeps) frame
+                ∙ sym evaluation.fits.sweeps;
+            link_count = tracking.fits.size.link_count ∙ tracking.evaluation.fits.link_count ∙ count
+                ∙ sym evaluation.fits.link_count;
           };
           links = tracking.fits.links ∙ tracking.evaluation.fits.link_count ∙ count ∙ sym evaluation.fits.link_count;
         };

@@ -5,13 +5,18 @@ use Rattle.transyt_stopline.specs.LastSteps.{sum_back, greatest}
 use Rattle.transyt_sweep.specs.Sweeps.{seen, out_of}
 use Rattle.transyt_moves.specs.Moves.{move}
 use Rattle.transyt_track.specs.Due.{differs, due_in, due_through, due}
-use Rattle.transyt_track.specs.Work.{edit_work, cert_work}
-use Rattle.transyt_track.specs.WorkedWork.{junctions, worked_edits, loop_of_three}
+use Rattle.transyt_track.specs.Work.{edit_work, work_of, cert_work}
+use Rattle.transyt_track.specs.WorkedWork.{junctions, worked_edits, worked_looks, loop_of_three}
 
 -- each edit has the work that is written beside it
 pub edits : map (λ row. edit_work junctions row.0) worked_edits ≡ map (λ row. row.1) worked_edits
 unfolding sum_back greatest smoothed seen out_of differs due_in due_through due
 edits = refl
+
+-- a climb has the work of the places that it looks at
+pub looks : work_of worked_looks ≡ 16
+unfolding sum_back greatest smoothed seen out_of differs due_in due_through due move
+looks = refl
 
 -- the certificate of its twelve moves
 pub certificate : cert_work junctions 12 ≡ 66

@@ -1,6 +1,8 @@
 -- The rows while they go over from the evaluation of one network to that of another of its shape.
-use Rattle.std.specs.Prelude.{◌≡◌, ℕ, ◌<◌, ◌≤◌, ◌==◌, Bool, false, not, List, length, slice_index_or, if◌then◌else◌}
-use Rattle.transyt_net.specs.Parts.{Network}
+use Rattle.std.specs.Prelude.{◌≡◌, ℕ, ◌<◌, ◌≤◌, ◌==◌, Bool, false, not, nat_eq, List, length, slice_index_or}
+use Rattle.std.specs.Prelude.{if◌then◌else◌}
+use Rattle.transyt_parts.specs.Flow.{total_flow}
+use Rattle.transyt_net.specs.Parts.{Network, link_of}
 use Rattle.transyt_sweep.specs.Cell.{CellValue}
 use Rattle.transyt_sweep.specs.Sweeps.{out_of, evaluated}
 use Rattle.transyt_sweep.specs.Rows.{RowsValue, out_at, shown_at, with_weights, Fits}
@@ -22,11 +24,19 @@ unweighed cell = record cell { figures = record cell.figures { index = 0 } }
 abbrev pub flag : List Bool → ℕ → Bool
 flag flags link = slice_index_or flags link false
 
--- a flag for each link: up where its own data differ
-pub record AreOwnFlags (before after : Network) (flags : List Bool) : Type 0 where
-  pub count : length flags ≡ length after.links
-  pub flagged : (link : ℕ) → link < length after.links
-      → flag flags link ≡ not (same_own (own before link) (own after link))
+-- a flag for each of so many links: up where the test holds of it
+pub record AreFlags (test : ℕ → Bool) (link_count : ℕ) (flags : List Bool) : Type 0 where
+  pub count : length flags ≡ link_count
+  pub flagged : (link : ℕ) → link < link_count → flag flags link ≡ test link
+
+-- whether a link's own data differ
+abbrev pub own_differs : Network → Network → ℕ → Bool
+own_differs before after link = not (same_own (own before link) (own after link))
+
+-- whether a link's total flow differs
+abbrev pub total_differs : Network → Network → ℕ → Bool
+total_differs before after link =
+    not (nat_eq (total_flow (link_of before link)) (total_flow (link_of after link)))
 
 -- THE LAW OF THE FRONT: before a link at a sweep the rows are those of the network after, from it on those of the
 -- network before; the flag of each link is up where what the link at the front would read of it differs

@@ -1,5 +1,6 @@
 -- What a link's work is made of that edits change, departures and weights apart, and which links it reads.
-use Rattle.std.specs.Prelude.{◌≡◌, ℕ, ◌<◌, Bool, true, false, ◌&&◌, nat_eq, List, [], ◌∷◌, length, map, Option, Some, None, slice_index_or}
+use Rattle.std.specs.Prelude.{◌≡◌, ℕ, ◌<◌, Bool, true, false, ◌&&◌, nat_eq, List, [], ◌∷◌, length, map, Option, Some}
+use Rattle.std.specs.Prelude.{None, slice_index_or}
 use Rattle.std.specs.Str.{bytes_eq}
 use Rattle.std.specs.List.{range_with_len}
 use Rattle.transyt_parts.specs.declared.node.Stage.{Stage}
@@ -71,6 +72,11 @@ same_timing one other =
 -- two links have equal own data
 abbrev pub same_own : Own → Own → Bool
 same_own one other = same_timing one other && same_parts one.parts other.parts
+
+-- a link has equal weights in two networks
+pub record HaveWeights (before after : Network) (link : ℕ) : Type 0 where
+  pub delay : (link_of before link).delay_weight ≡ (link_of after link).delay_weight
+  pub stop : (link_of before link).stop_weight ≡ (link_of after link).stop_weight
 
 -- the place of the link to which a rule gives way
 abbrev pub rule_place : Network → Option GiveWay → Option ℕ

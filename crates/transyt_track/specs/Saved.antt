@@ -46,6 +46,11 @@ pub record LeadBack (marked : Network) (rows : RowsValue) (saved : SavedValue) :
   pub shown : saved.live ≡ true → (link : ℕ) → link < length marked.links
       → unweighed (old_shown saved rows link) ≡ unweighed (evaluated marked link)
 
+-- from a link on, the last sweep of each link of which nothing is saved is that of the network
+pub record AreUnsaved (net : Network) (saved : SavedValue) (link : ℕ) (rows : RowsValue) : Type 0 where
+  pub shown : (other : ℕ) → link ≤ other → other < length net.links
+      → is_saved saved net.frame.sweeps other ≡ false → shown_at rows other ≡ evaluated net other
+
 -- the saved rows have the size of the rows
 pub record FitsRows (rows : RowsValue) (saved : SavedValue) : Type 0 where
   pub size : SameSize saved.rows rows

@@ -13,6 +13,10 @@ pub record TrackerValue : Type 0 where
   pub net : Network
   pub mark : Option Network
 
+-- a tracker that stands for a network, with no mark
+abbrev pub unmarked : Network → TrackerValue
+unmarked net = record { net = net; mark = None }
+
 -- the network that was marked, if the mark is open
 abbrev pub mark_of : Bool → Network → Option Network
 mark_of true marked = Some marked

@@ -6,6 +6,8 @@ use Rattle.transyt_parts.specs.Made.{new_node, new_stage, new_feed, new_rule}
 use Rattle.transyt_net.specs.declared.edit.Edit.{Edit}
 use Rattle.transyt_net.specs.declared.edit.Edit.TheVariants.{Offset, Change, Entry, Part, Cruise, Saturation, Weight}
 use Rattle.transyt_net.specs.Parts.{Network}
+use Rattle.transyt_net.specs.Edits.{with_edit}
+use Rattle.transyt_sweep.specs.Climb.{Look}
 
 -- two junctions and three links, no number of which is neutral: link 9 is fed by link 5, which it feeds too, and link 4
 -- is fed by link 9 and gives way to link 5
@@ -69,6 +71,14 @@ worked_edits =
     ∷ (Entry 4 0, 2)
     ∷ (Entry 9 9999, 6)
     ∷ (Saturation 4 1800, 2)
+    ∷ []
+
+-- places that a climb looks at: two on the network, and one after its first move was made
+abbrev pub worked_looks : List Look
+worked_looks =
+    record { net = junctions; place = 0 }
+    ∷ record { net = junctions; place = 6 }
+    ∷ record { net = with_edit junctions (Offset 21 5); place = 10 }
     ∷ []
 
 -- a link that is always green

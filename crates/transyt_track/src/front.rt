@@ -4,9 +4,9 @@ ghost use Rattle.std.specs.Prelude.{◌≡◌, ◌+◌, ◌<◌, ◌≤◌, ◌|
 ghost use Rattle.std.specs.List.{list_any};
 ghost use Rattle.transyt_net.specs.Shape.{SameShape};
 ghost use Rattle.transyt_sweep.specs.Front.{AreEvaluation};
-ghost use Rattle.transyt_track.specs.Own.{ArePlaces, no_places, places_at, own, same_own};
+ghost use Rattle.transyt_track.specs.Own.{ArePlaces, no_places, places_at};
 ghost use Rattle.transyt_track.specs.Due.{is_due, is_some_and, due_at, due, differs};
-ghost use Rattle.transyt_track.specs.Front.{flag, AreOwnFlags, AreAt, AreStarting};
+ghost use Rattle.transyt_track.specs.Front.{flag, AreFlags, own_differs, total_differs, AreAt, AreStarting};
 ghost use Rattle.transyt_track.specs.Saved.{FitsRows, Carries};
 
 use crate::own::{Places, same_own};
@@ -36,11 +36,12 @@ fn is_changed(changed: &[bool], place: Option<usize>) -> bool
     }
 }
 
-/// Whether a link's own data own_changed, or the flag of a link that it reads is up.
+/// Whether a link's own data differ, or the flag of a link that it reads is up.
 fn is_flagged(own_changed: bool, changed: &[bool], places: &Places) -> bool
     requires feeders { All (λ p. p < length changed.now) places.now.feeders }
     requires rule { IfSome places.now.rule (λ p. p < length changed.now) }
-    ensures { result ≡ (own_changed || list_any (flag changed.now) places.now.feeders || is_some_and (flag changed.now) places.now.rule) }
+    ensures { result ≡ (own_changed || list_any (flag changed.now) places.now.feeders
+        || is_some_and (flag changed.now) places.now.rule) }
 {
     own_changed || any_changed(changed, &places.feeders) || is_changed(changed, places.rule)
 }
@@ -95,10 +96,10 @@ fn pass_by(
     ensures carries { Carries rows.old saved.now rows.new saved.now }
 {
     changed[link] = false;
-    leave(after, sweep, link, rows, saved);
+    leave(before, after, sweep, link, rows, saved);
 }
 
-/// One turn: the link at the front is worked out if it is due. It answers 1 where it was.
+/// One turn: the link at the front is worked out if it is due. Returns how many links were: 1 or 0.
 fn turn<L: Ledger>(
     before: &Net,
     after: &Net,
@@ -136,7 +137,7 @@ fn turn<L: Ledger>(
     }
 }
 
-/// One sweep: a turn for each link in order. It answers how many were due.
+/// One sweep: a turn for each link in order. Returns how many links were due.
 fn sweep_links<L: Ledger>(
     before: &Net,
     after: &Net,
@@ -151,7 +152,7 @@ fn sweep_links<L: Ledger>(
 ) -> u64
     requires shape { SameShape before.now after.now }
     requires places { ArePlaces before.now places.now }
-    requires own_changed { AreOwnFlags before.now after.now own_changed.now }
+    requires own_changed { AreFlags (own_differs before.now after.now) (length after.now.links) own_changed.now }
     requires first { 1 ≤ sweep }
     requires last { sweep ≤ after.now.frame.sweeps }
     requires at { AreAt before.now after.now sweep 0 rows.old changed.old.items }
@@ -174,16 +175,23 @@ fn sweep_links<L: Ledger>(
     count
 }
 
-/// Marks the links whose own data differ.
-fn flag_own(before: &Net, after: &Net, places: &[Places], own_changed: &mut Vec<bool>)
+/// Flags the links whose own data differ; those whose total flow differs are flagged.
+fn flag_own(
+    before: &Net,
+    after: &Net,
+    places: &[Places],
+    total_changed: &[bool],
+    own_changed: &mut Vec<bool>,
+)
     requires places { ArePlaces before.now places.now }
     requires places_after { ArePlaces after.now places.now }
     requires links { length before.now.links ≡ length after.now.links }
+    requires totals { AreFlags (total_differs before.now after.now) (length after.now.links) total_changed.now }
     requires count { length own_changed.old.items ≡ length after.now.links }
-    ensures { AreOwnFlags before.now after.now own_changed.new.items }
+    ensures { AreFlags (own_differs before.now after.now) (length after.now.links) own_changed.new.items }
 {
     for link in 0..after.links().len() {
-        own_changed[link] = !same_own(before, after, link, &places[link]);
+        own_changed[link] = !same_own(before, after, link, &places[link], total_changed);
     }
 }
 
@@ -225,17 +233,18 @@ fn start_links(
     requires fits { FitsRows rows.old saved.old }
     requires count { length changed.old.items ≡ length after.now.links }
     ensures at { AreAt before.now after.now 1 0 rows.new changed.new.items }
+    ensures totals { AreFlags (total_differs before.now after.now) (length after.now.links) changed.new.items }
     ensures carries { Carries rows.old saved.old rows.new saved.new }
 {
+    // a total flow that differs lets another profile go, since a vehicle per hour is more than a unit per step
     after.frame();
     for link in 0..after.links().len() {
-        let moves = before.per_step(before.total_flow(link))
-            != after.per_step(after.total_flow(link));
+        let moves = before.total_flow(link) != after.total_flow(link);
         start_link(before, after, link, moves, rows, saved, changed);
     }
 }
 
-/// The rows go over from one network to another. It answers how many links at how many sweeps were due.
+/// The rows go over from one network to another. Returns how many pairs of a link and a sweep were due.
 pub(crate) fn follow_rows<L: Ledger>(
     before: &Net,
     after: &Net,
@@ -263,8 +272,8 @@ pub(crate) fn follow_rows<L: Ledger>(
     ensures few { result ≤ 8000 }
     ensures steps { steps.new ≡ steps.old + result }
 {
-    flag_own(before, after, places, own_changed);
     start_links(before, after, rows, saved, changed);
+    flag_own(before, after, places, changed, own_changed);
     let mut count = 0;
     for sweep in 1..after.frame().sweeps + 1 {
         count += sweep_links(

@@ -5,8 +5,8 @@ ghost use Rattle.transyt_net.specs.Parts.{Network};
 ghost use Rattle.transyt_sweep.specs.Sweeps.{out_of};
 ghost use Rattle.transyt_track.specs.Own.{Own, same_own};
 ghost use Rattle.transyt_track.specs.Due.{differs, due};
-ghost use Rattle.transyt_track.specs.Work.{edit_work, cert_work};
-ghost use Rattle.transyt_track.specs.WorkedWork.{junctions, worked_edits, loop_of_three};
+ghost use Rattle.transyt_track.specs.Work.{edit_work, work_of, cert_work};
+ghost use Rattle.transyt_track.specs.WorkedWork.{junctions, worked_edits, worked_looks, loop_of_three};
 
 /// The tests by which pairs are counted: own data pass exactly where they are equal, and departures differ unless they
 /// are equal.
@@ -16,11 +16,17 @@ pub fn rule_of_due()
     ensures departures { (a b : Network) (s j : ℕ) → (differs a b s j ≡ false) ↔ out_of a s j ≡ out_of b s j }
 {}
 
-/// The worked networks have the work that is written beside them: edits of each kind, the certificate of all moves, and
-/// an edit that goes round a loop until what leaves a link stays the same.
-#[tactic(auto, using(crate::proofs::WorkedLaws::edits, crate::proofs::WorkedLaws::certificate, crate::proofs::WorkedLaws::loop_work))]
+/// The worked networks have the work that is written beside them: edits of each kind, places that a climb looks at, the
+/// certificate of all moves, and an edit that goes round a loop until what leaves a link stays the same.
+#[tactic(auto, using(
+    crate::proofs::WorkedLaws::edits,
+    crate::proofs::WorkedLaws::looks,
+    crate::proofs::WorkedLaws::certificate,
+    crate::proofs::WorkedLaws::loop_work
+))]
 pub fn worked_work()
     ensures edits { map (λ row. edit_work junctions row.0) worked_edits ≡ map (λ row. row.1) worked_edits }
+    ensures looks { work_of worked_looks ≡ 16 }
     ensures certificate { cert_work junctions 12 ≡ 66 }
     ensures loop_work { due (loop_of_three 360) (loop_of_three 3420) ≡ 7 }
 {}

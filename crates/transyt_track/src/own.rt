@@ -1,11 +1,13 @@
 //! The own data of a link, and where its node and the links that it reads stand.
 
 ghost use Rattle.std.specs.Prelude.{◌≡◌, ◌↔◌, ◌<◌, length, map, IfOk, IsTrue};
+ghost use Rattle.transyt_parts.specs.Flow.{total_flow};
 ghost use Rattle.transyt_net.specs.Parts.{link_of};
 ghost use Rattle.transyt_net.specs.Edits.{the_node};
 ghost use Rattle.transyt_sweep.specs.Cell.{link_place};
 ghost use Rattle.transyt_track.specs.Own.{change_of, feeder_place, rule_place, node_place, all_places};
-ghost use Rattle.transyt_track.specs.Own.{own, part_of, places_at};
+ghost use Rattle.transyt_track.specs.Own.{own, part_of, places_at, HaveWeights};
+ghost use Rattle.transyt_track.specs.Front.{AreFlags, total_differs};
 
 use std::alloc::{AllocError, Global};
 use std::marker::Model;
@@ -56,12 +58,29 @@ fn same_changes(before: &[Stage], after: &[Stage]) -> bool
     }
 }
 
+/// Whether the total flow of a link is equal, by its flag.
+fn same_total(before: &Net, after: &Net, total_changed: &[bool], link: usize) -> bool
+    requires link { link < length after.now.links }
+    requires totals { AreFlags (total_differs before.now after.now) (length after.now.links) total_changed.now }
+    ensures { IsTrue result ↔ total_flow (link_of before.now link) ≡ total_flow (link_of after.now link) }
+{
+    !total_changed[link]
+}
+
 /// Whether feeds have equal flows, cruise times and total flows of their feeders, which stand at these places.
-fn same_parts(before: &Net, after: &Net, old: &[Feed], new: &[Feed], feeders: &[usize]) -> bool
+fn same_parts(
+    before: &Net,
+    after: &Net,
+    total_changed: &[bool],
+    old: &[Feed],
+    new: &[Feed],
+    feeders: &[usize],
+) -> bool
     requires some { 0 < length before.now.links }
     requires some_after { 0 < length after.now.links }
     requires feeders { feeders.now ≡ map (feeder_place before.now) old.now }
     requires feeders_after { feeders.now ≡ map (feeder_place after.now) new.now }
+    requires totals { AreFlags (total_differs before.now after.now) (length after.now.links) total_changed.now }
     ensures { IsTrue result ↔ map (part_of before.now) old.now ≡ map (part_of after.now) new.now }
 {
     match (old, new, feeders) {
@@ -69,8 +88,8 @@ fn same_parts(before: &Net, after: &Net, old: &[Feed], new: &[Feed], feeders: &[
         ([x, xs @ ..], [y, ys @ ..], [place, places @ ..]) => {
             x.flow == y.flow
                 && x.cruise == y.cruise
-                && before.total_flow(*place) == after.total_flow(*place)
-                && same_parts(before, after, xs, ys, places)
+                && same_total(before, after, total_changed, *place)
+                && same_parts(before, after, total_changed, xs, ys, places)
         }
         _ => false,
     }
@@ -89,11 +108,18 @@ fn same_timing(old: &Link, new: &Link, old_node: &Node, new_node: &Node) -> bool
 }
 
 /// Whether a link has equal own data in two networks of one shape, which have these places.
-pub(crate) fn same_own(before: &Net, after: &Net, link: usize, places: &Places) -> bool
+pub(crate) fn same_own(
+    before: &Net,
+    after: &Net,
+    link: usize,
+    places: &Places,
+    total_changed: &[bool],
+) -> bool
     requires link { link < length before.now.links }
     requires link_after { link < length after.now.links }
     requires places { places.now ≡ places_at before.now link }
     requires places_after { places.now ≡ places_at after.now link }
+    requires totals { AreFlags (total_differs before.now after.now) (length after.now.links) total_changed.now }
     ensures { IsTrue result ↔ own before.now link ≡ own after.now link }
 {
     let old = link_at(before, link);
@@ -101,7 +127,25 @@ pub(crate) fn same_own(before: &Net, after: &Net, link: usize, places: &Places) 
     let old_node = node_at(before, link, places);
     let new_node = node_at(after, link, places);
     same_timing(old, new, old_node, new_node)
-        && same_parts(before, after, &old.feeds, &new.feeds, &places.feeders)
+        && same_parts(
+            before,
+            after,
+            total_changed,
+            &old.feeds,
+            &new.feeds,
+            &places.feeders,
+        )
+}
+
+/// Whether a link has equal weights in two networks.
+pub(crate) fn same_weights(before: &Net, after: &Net, link: usize) -> bool
+    requires link { link < length before.now.links }
+    requires link_after { link < length after.now.links }
+    ensures { IsTrue result ↔ HaveWeights before.now after.now link }
+{
+    let old = link_at(before, link);
+    let new = link_at(after, link);
+    old.delay_weight == new.delay_weight && old.stop_weight == new.stop_weight
 }
 
 /// The place of a link's number; the first where there is no such link.

@@ -1,12 +1,14 @@
 //! The writes of rows. Each saves the row that it writes over, so what the saved rows lead back to stays.
 
 ghost use Rattle.std.specs.Prelude.{◌≡◌, ◌<◌, ◌≤◌, length};
+ghost use Rattle.transyt_net.specs.Shape.{SameShape};
 ghost use Rattle.transyt_sweep.specs.Cell.{HasSteps};
-ghost use Rattle.transyt_sweep.specs.Rows.{Fits, AreRows, placed, with_out};
-ghost use Rattle.transyt_sweep.specs.Sweeps.{start};
+ghost use Rattle.transyt_sweep.specs.Rows.{Fits, AreRows, shown_at, placed, with_out};
+ghost use Rattle.transyt_sweep.specs.Sweeps.{start, evaluated};
 ghost use Rattle.transyt_track.specs.Front.{left_at};
 ghost use Rattle.transyt_track.specs.Saved.{FitsRows, Carries};
 
+use crate::own::same_weights;
 use crate::saved::Saved;
 use transyt_net::Net;
 use transyt_sweep::{Rows, Scratch};
@@ -38,16 +40,28 @@ pub(crate) fn start(net: &Net, link: usize, rows: &mut Rows, saved: &mut Saved)
     rows.start(net, link);
 }
 
-/// A link that isn't due is weighed anew at the last sweep.
+/// A link that isn't due is weighed anew at the last sweep; where its weights are equal, its index stays.
 #[tactic(auto, using(crate::proofs::SavedLaws::carries_left))]
-pub(crate) fn leave(net: &Net, sweep: u32, link: usize, rows: &mut Rows, saved: &Saved)
-    requires fits { Fits net.now rows.old }
+pub(crate) fn leave(
+    before: &Net,
+    after: &Net,
+    sweep: u32,
+    link: usize,
+    rows: &mut Rows,
+    saved: &Saved,
+)
+    requires shape { SameShape before.now after.now }
+    requires fits { Fits after.now rows.old }
     requires fits_saved { FitsRows rows.old saved.now }
-    requires link { link < length net.now.links }
-    ensures value { rows.new ≡ left_at net.now sweep link rows.old }
+    requires link { link < length after.now.links }
+    requires shown { sweep ≡ after.now.frame.sweeps → shown_at rows.old link ≡ evaluated before.now link }
+    ensures value { rows.new ≡ left_at after.now sweep link rows.old }
     ensures carries { Carries rows.old saved.now rows.new saved.now }
 {
-    if sweep == net.frame().sweeps {
-        rows.reweigh(net, link);
+    if sweep != after.frame().sweeps {
+        return;
+    }
+    if !same_weights(before, after, link) {
+        rows.reweigh(after, link);
     }
 }

@@ -1,11 +1,15 @@
 //! The rows that are saved while a mark is open, and how all rows become what was saved, or a copy.
 
-ghost use Rattle.std.specs.Prelude.{◌≡◌, ◌+◌, ◌*◌, ◌<◌, ◌≤◌, false, true, length, replicate, IfOk};
-ghost use Rattle.transyt_sweep.specs.Rows.{Fits, AreRows, out_at, shown_at, pair_in, placed};
+ghost use Rattle.std.specs.Prelude.{◌≡◌, ◌+◌, ◌*◌, ◌<◌, ◌≤◌, false, true, length, replicate, IfOk, IsTrue};
+ghost use Rattle.transyt_net.specs.Shape.{SameShape};
+ghost use Rattle.transyt_sweep.specs.Rows.{Fits, AreRows, out_at, shown_at, pair_in, placed, with_weights};
 ghost use Rattle.transyt_sweep.specs.Front.{AreEvaluation};
 ghost use Rattle.transyt_track.specs.Front.{AreBetween, AreWeighed};
-ghost use Rattle.transyt_track.specs.Saved.{is_saved, saved_at, restored_at, old_out, old_shown, begun, settled, FitsRows, AreSaved};
+ghost use Rattle.transyt_track.specs.Own.{HaveWeights};
+ghost use Rattle.transyt_track.specs.Saved.{is_saved, saved_at, restored_at, old_out, old_shown, begun, settled};
+ghost use Rattle.transyt_track.specs.Saved.{FitsRows, AreSaved, AreUnsaved};
 
+use crate::own::same_weights;
 use std::alloc::{AllocError, Global};
 use std::marker::Model;
 use transyt_net::Net;
@@ -172,12 +176,45 @@ fn copy_pair(net: &Net, sweep: u32, link: usize, from: &Rows, rows: &mut Rows)
     rows.take_pair(sweep, link, from);
 }
 
-/// All links are weighed anew.
-pub(crate) fn weigh_all(net: &Net, rows: &mut Rows)
-    requires { AreWeighed net.now 0 rows.old }
-    ensures { AreEvaluation net.now rows.new }
+/// Whether the index of a link is by the marked network's weights: nothing is saved of it, and its weights are equal.
+fn is_weighed(net: &Net, marked: &Net, link: usize, saved: &Saved) -> bool
+    requires link { link < length net.now.links }
+    requires link_marked { link < length marked.now.links }
+    requires sweeps { saved.now.rows.sweeps ≡ net.now.frame.sweeps }
+    requires links { saved.now.link_count ≡ length net.now.links }
+    ensures saved { IsTrue result → is_saved saved.now net.now.frame.sweeps link ≡ false }
+    ensures weights { IsTrue result → HaveWeights net.now marked.now link }
 {
-    for link in 0..net.links().len() {
-        rows.reweigh(net, link);
+    let sweep = net.frame().sweeps;
+    !saved.is_saved(sweep, link) && same_weights(net, marked, link)
+}
+
+/// A link is weighed anew, if its index isn't by the marked network's weights.
+fn weigh_link(net: &Net, marked: &Net, link: usize, rows: &mut Rows, saved: &Saved)
+    requires shape { SameShape net.now marked.now }
+    requires fits { Fits marked.now rows.old }
+    requires link { link < length net.now.links }
+    requires link_marked { link < length marked.now.links }
+    requires sweeps { saved.now.rows.sweeps ≡ net.now.frame.sweeps }
+    requires links { saved.now.link_count ≡ length net.now.links }
+    requires unsaved { AreUnsaved net.now saved.now link rows.old }
+    ensures { rows.new ≡ with_weights rows.old marked.now link }
+{
+    if !is_weighed(net, marked, link, saved) {
+        rows.reweigh(marked, link);
+    }
+}
+
+/// All links get the indexes of the marked network's weights.
+pub(crate) fn weigh_all(net: &Net, marked: &Net, rows: &mut Rows, saved: &Saved)
+    requires shape { SameShape net.now marked.now }
+    requires sweeps { saved.now.rows.sweeps ≡ net.now.frame.sweeps }
+    requires links { saved.now.link_count ≡ length net.now.links }
+    requires unsaved { AreUnsaved net.now saved.now 0 rows.old }
+    requires weighed { AreWeighed marked.now 0 rows.old }
+    ensures { AreEvaluation marked.now rows.new }
+{
+    for link in 0..marked.links().len() {
+        weigh_link(net, marked, link, rows, saved);
     }
 }

@@ -1,27 +1,33 @@
-ghost use Rattle.std.specs.Prelude.{◌≡◌, ◌+◌, ◌*◌, ◌≤◌, ◌<◌, length, IfOk, OnOk, OnErr, None, Some, IsSome, false};
+//! A tracker and its calls.
+
+ghost use Rattle.std.specs.Prelude.{◌≡◌, ◌+◌, ◌*◌, ◌≤◌, ◌<◌, length, IfOk, OnOk, OnErr, None, Some, IsSome};
 ghost use Rattle.std.specs.Option.{is_some};
 ghost use Rattle.transyt_net.specs.Shape.{SameShape};
 ghost use Rattle.transyt_sweep.specs.Front.{AreEvaluation};
 ghost use Rattle.transyt_sweep.specs.Sweeps.{out_of, evaluated, index};
 ghost use Rattle.transyt_track.specs.Due.{due};
-ghost use Rattle.transyt_track.specs.Tracker.{tracker_of, IsTracking};
+ghost use Rattle.transyt_track.specs.Tracker.{tracker_of, unmarked, IsTracking};
 
 use crate::front::follow_rows;
 use crate::own::{Places, all_places};
 use crate::saved::{Saved, copy_rows, restore_rows, weigh_all};
 use std::alloc::{AllocError, Global};
 use std::marker::Model;
+use std::mem;
 use std::sync::ledger::Ledger;
 use transyt_delay::Figures;
 use transyt_net::Net;
 use transyt_steps::Steps;
 use transyt_sweep::{Rows, Scratch, full};
 
-/// The evaluation of a network, which follows its edits.
+/// The evaluation of a network, which follows its edits, and can go back to a mark.
+///
+/// Links and sweeps are numbered as in the network: links in card order from 0, sweeps from 1, and sweep 0 is the start,
+/// at which the total flow of each link leaves it. A profile has one value for each step of the cycle.
 #[derive(Drop)]
 pub struct Tracker {
     net: Net,
-    // the network that the last mark stands for
+    // the marked network, while a mark is open
     marked: Net,
     places: Vec<Places>,
     rows: Rows,
@@ -40,17 +46,19 @@ impl Model for Tracker {
 
     ghost view = { λ t. tracker_of t.net t.saved.live t.marked };
 
-    ghost invariant = { λ t. IsTracking t.net t.marked t.rows t.saved t.places.items t.own_changed.items t.changed.items t.scratch };
+    // the rows are the evaluation of the network, and the saved rows lead back to the marked one
+    ghost invariant = { λ t.
+        IsTracking t.net t.marked t.rows t.saved t.places.items t.own_changed.items t.changed.items t.scratch };
 }
 
 impl Tracker {
-    /// A tracker of the network, with no mark. It works out each link at each sweep.
+    /// A tracker of the network, with no mark. It works out each link at each sweep. On an error nothing is left of it.
     pub fn open<L: Ledger>(
         alloc: Global,
         net: &Net,
         steps: &mut Steps<L>,
     ) -> Result<Tracker, AllocError>
-        ensures value { IfOk result (λ tracker. tracker ≡ tracker_of net.now false net.now) }
+        ensures value { IfOk result (λ tracker. tracker ≡ unmarked net.now) }
         ensures ok { OnOk result (steps.new ≡ steps.old + net.now.frame.sweeps * length net.now.links) }
         ensures err { OnErr result (steps.new ≤ steps.old + net.now.frame.sweeps * length net.now.links) }
     {
@@ -68,10 +76,10 @@ impl Tracker {
         Tracker::around(alloc, &self.net, rows)
     }
 
-    /// A tracker of the network around the rows of its evaluation.
+    /// A tracker around the rows of the evaluation of a network.
     fn around(alloc: Global, net: &Net, rows: Rows) -> Result<Tracker, AllocError>
         requires { AreEvaluation net.now rows }
-        ensures { IfOk result (λ tracker. tracker ≡ tracker_of net.now false net.now) }
+        ensures { IfOk result (λ tracker. tracker ≡ unmarked net.now) }
     {
         let saved = Saved::open(alloc, net)?;
         let places = all_places(alloc, net)?;
@@ -159,7 +167,7 @@ impl Tracker {
         self.rows.queue(link)
     }
 
-    /// The figures of a link.
+    /// The figures of a link at the last sweep, in millionths as those of `transyt_delay`.
     pub fn figures(&self, link: usize) -> Figures
         requires { link < length self.now.net.links }
         ensures { result ≡ (evaluated self.now.net link).figures }
@@ -167,7 +175,7 @@ impl Tracker {
         self.rows.figures(link)
     }
 
-    /// The index of the network.
+    /// The index of the network: the sum of its links' indexes.
     pub fn index(&self) -> u128
         ensures { result ≡ index self.now.net }
     {
@@ -219,8 +227,8 @@ impl Tracker {
         ensures mark { self.new.mark ≡ None }
     {
         restore_rows(&self.marked, &mut self.rows, &self.saved);
-        weigh_all(&self.marked, &mut self.rows);
-        self.net.take_numbers(&self.marked);
+        weigh_all(&self.net, &self.marked, &mut self.rows, &self.saved);
+        mem::swap(&mut self.net, &mut self.marked);
         self.saved.settle();
     }
 

@@ -1,7 +1,8 @@
 -- One link more.
 use Rattle.std.proofs.Common.{◌<◌, not, length, ap, ◌∙◌, arith}
 use Rattle.std.proofs.lemmas.List.{length-set}
-use Rattle.transyt_track.specs.Own.{own, same_own}
+use Rattle.transyt_track.specs.Own.{own}
+use Rattle.transyt_track.specs.Front.{own_differs}
 use Rattle.transyt_track.proofs.FrontLaws.{flag_more}
 use Rattle.transyt_track.proofs.RuleLaws.{own_test}
 use Rattle.transyt_track.proofs.front.flag_own.Goals as goal
@@ -14,6 +15,6 @@ loop-link-preserved c =
     record {
       count = length-set c.loop-link.own_changed.items l (not c.same_own.result) ∙ c.loop-link.invariant.count;
       flagged = flag_more c.loop-link.own_changed.items l (not c.same_own.result)
-          (λ m. not (same_own (own c.args.before.now m) (own c.args.after.now m))) here c.loop-link.invariant.flagged
+          (own_differs c.args.before.now c.args.after.now) here c.loop-link.invariant.flagged
           (ap not (own_test c.same_own.result (own c.args.before.now l) (own c.args.after.now l) c.same_own.ensures));
     }

@@ -1,11 +1,10 @@
 -- The links, one after another.
 use Rattle.std.proofs.Common.{◌≡◌, ◌<◌, ℕ, not, length}
-use Rattle.transyt_track.specs.Own.{own, same_own}
-use Rattle.transyt_track.specs.Front.{flag}
+use Rattle.transyt_track.specs.Front.{flag, own_differs}
 use Rattle.transyt_track.proofs.front.flag_own.Given as goal
 
 abbrev pub invariant-loop-link : goal.invariant-loop-link
 invariant-loop-link l = record {
   count : length l.own_changed.items ≡ length l.after.links;
-  flagged : (m : ℕ) → m < l.link → flag l.own_changed.items m ≡ not (same_own (own l.before m) (own l.after m));
+  flagged : (m : ℕ) → m < l.link → flag l.own_changed.items m ≡ own_differs l.before l.after m;
 }

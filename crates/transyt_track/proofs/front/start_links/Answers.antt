@@ -1,10 +1,9 @@
 -- One link more.
-use Rattle.std.proofs.Common.{not, nat_eq, length, ap, ◌∙◌, arith}
+use Rattle.std.proofs.Common.{not, nat_eq, length, ap, sym, ◌∙◌, arith}
 use Rattle.transyt_parts.specs.Flow.{total_flow}
 use Rattle.transyt_net.specs.Parts.{link_of}
-use Rattle.transyt_net.specs.Flow.{perstep}
 use Rattle.transyt_track.proofs.SavedLaws.{carries_same, carries_more}
-use Rattle.transyt_track.proofs.StartLaws.{start_differs, started_none, started_end}
+use Rattle.transyt_track.proofs.StartLaws.{total_start, started_none, started_end}
 use Rattle.transyt_track.proofs.front.start_links.Goals as goal
 
 pub loop-link-init : goal.loop-link-init
@@ -19,11 +18,9 @@ start_link-requires-clause-moves c =
     let a = c.args.before.now in
     let b = c.args.after.now in
     let l = c.loop-link.link in
-    ap (λ n. not (nat_eq n c.per_step-in-loop-link.result))
-    (c.per_step.ensures.value ∙ ap (perstep a.frame) c.total_flow.ensures.value)
-    ∙ ap (λ n. not (nat_eq (perstep a.frame (total_flow (link_of a l))) n))
-    (c.per_step-in-loop-link.ensures.value ∙ ap (perstep b.frame) c.total_flow-in-loop-link.ensures.value)
-    ∙ start_differs a b c.requires.shape l (omega (arith, c.frame.ensures.valid.sound.frame.step_count.0))
+    ap (λ n. not (nat_eq n c.total_flow-in-loop-link.result)) c.total_flow.ensures.value
+    ∙ ap (λ n. not (nat_eq (total_flow (link_of a l)) n)) c.total_flow-in-loop-link.ensures.value
+    ∙ total_start a b c.requires.shape c.frame.ensures.valid.sound.frame l
 
 pub loop-link-preserved : goal.loop-link-preserved
 loop-link-preserved c = record {
@@ -36,3 +33,11 @@ pub returns-clause-at : goal.returns-clause-at
 returns-clause-at c =
     started_end c.args.before.now c.args.after.now c.requires.shape c.loop-link.link c.loop-link.rows
     c.loop-link.changed.items (omega (arith, ap length c.links-link-end.ensures.value)) c.loop-link.invariant.starting
+
+pub returns-clause-totals : goal.returns-clause-totals
+returns-clause-totals c = record {
+  count = c.loop-link.invariant.starting.count;
+  flagged = λ m inside.
+      c.loop-link.invariant.starting.flagged m (omega (arith, inside, ap length c.links-link-end.ensures.value))
+      ∙ sym (total_start c.args.before.now c.args.after.now c.requires.shape c.frame.ensures.valid.sound.frame m);
+}

@@ -5,5 +5,6 @@ use Rattle.transyt_track.proofs.tracker.Tracker.begin.Goals as goal
 pub invariant_of-self : goal.invariant_of-self
 invariant_of-self c =
     let i = c.self.inside in
-    rw (c.take_numbers.ensures, c.begin.ensures) (begun_tracks i.net i.marked i.rows i.saved i.places.items i.own_changed.items
+    rw (c.take_numbers.ensures, c.begin.ensures)
+        (begun_tracks i.net i.marked i.rows i.saved i.places.items i.own_changed.items
     i.changed.items i.scratch c.self.invariant)
