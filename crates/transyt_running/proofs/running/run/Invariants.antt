@@ -1,6 +1,6 @@
 -- How far the run has come, and that no count fell.
 use Rattle.std.proofs.Common.{◌≡◌, ◌≤◌}
-use Rattle.transyt_io.specs.Reading.{turns_left}
+use Rattle.transyt_io.specs.Reading.{most_lines_left}
 use Rattle.transyt_running.specs.Runs.{answering}
 use Rattle.transyt_running.specs.RunSoFar.{RunSoFar}
 use Rattle.transyt_running.proofs.running.run.Given as goal
@@ -22,4 +22,4 @@ invariant-loop-found g l =
 
 -- fewer lines may still be handed out
 abbrev pub decreases-loop-found : goal.decreases-loop-found
-decreases-loop-found g l = turns_left l.reader
+decreases-loop-found g l = most_lines_left l.reader
