@@ -174,6 +174,26 @@ found_place key xs k d (Some p) h =
     let place = place_is key xs k p (sym h) in
     (place.inside, sym (eqb-true k (key (get_or xs p d)) (place.here d)))
 
+-- what a write at the place of a number comes to
+pub record IsPut {A : Type 0} (key : A → ℕ) (f : A → A) (xs : List A) (k p : ℕ) (old new : A) : Type 0 where
+  pub found : numbered key xs k ≡ Some old
+  pub put : set xs p new ≡ on_numbered key f xs k
+  pub keys : map key xs ≡ map key (set xs p new)
+
+-- a write at the place that was found for a number
+pub put_there : {A : Type 0} (key : A → ℕ) (f : A → A) (same : (x : A) → key (f x) ≡ key x) (xs : List A) (k p : ℕ)
+    (old new : A)
+    → place_of (map key xs) k ≡ Some p → old ≡ get_or xs p old → new ≡ f old → IsPut key f xs k p old new
+put_there key f same xs k p old new at read made =
+    let place : IsPlace key xs k p = place_is key xs k p at in
+    let put : set xs p new ≡ on_numbered key f xs k =
+    ap (λ x. set xs p x) (made ∙ ap f read) ∙ sym (on_numbered_here key f xs k p old place) in
+    record {
+      found = found_here key xs k p old place read;
+      put = put;
+      keys = sym (ap (map key) put ∙ keys_kept key f same xs k);
+    }
+
 -- a write at the place of a number
 pub written_here : {A : Type 0} (key : A → ℕ) (f : A → A) (xs : List A) (k p : ℕ) (old new : A)
     → IsPlace key xs k p → old ≡ get_or xs p old → new ≡ f old → set xs p new ≡ on_numbered key f xs k

@@ -1,15 +1,15 @@
 -- Edits: what each does, and the edit that takes it back.
-use Rattle.std.specs.Prelude.{ℕ, ◌-◌, Option, Some, None}
+use Rattle.std.specs.Prelude.{ℕ, ◌-◌}
 use Rattle.transyt_parts.specs.declared.node.Stage.{Stage}
 use Rattle.transyt_parts.specs.declared.link.Feed.{Feed}
 use Rattle.transyt_net.specs.declared.edit.Edit.{Edit}
 use Rattle.transyt_net.specs.declared.edit.Edit.TheVariants.{Offset, Change, Entry, Part, Cruise, Saturation, Weight}
 use Rattle.transyt_parts.specs.Parts.{NodeValue, LinkValue}
 use Rattle.transyt_net.specs.Parts.{Network}
-use Rattle.transyt_net.specs.Valid.{numbered, on_numbered, on_place}
+use Rattle.transyt_net.specs.Valid.{on_numbered, on_place}
 use Rattle.transyt_parts.specs.Valid.{node_number, link_number}
-use Rattle.transyt_net.specs.Parts.{no_node, no_link}
 use Rattle.transyt_parts.specs.Plan.{stage_of}
+pub use Rattle.transyt_net.specs.Found.{feeder_of, node_in, link_in, no_feed, feed_in, the_node, the_link, the_feed}
 
 -- the node with this offset
 abbrev pub set_offset : ℕ → NodeValue → NodeValue
@@ -35,10 +35,6 @@ set_saturation flow l = record l { saturation = flow }
 abbrev pub set_weights : ℕ → ℕ → LinkValue → LinkValue
 set_weights delay stop l = record l { delay_weight = delay; stop_weight = stop }
 
--- a feed's feeder
-abbrev pub feeder_of : Feed → ℕ
-feeder_of f = f.feeder
-
 -- the feed with this flow
 abbrev pub flow_to : ℕ → Feed → Feed
 flow_to flow f = record f { flow = flow }
@@ -55,63 +51,65 @@ set_part feeder flow l = record l { feeds = on_numbered feeder_of (flow_to flow)
 abbrev pub set_cruise : ℕ → ℕ → LinkValue → LinkValue
 set_cruise feeder seconds l = record l { feeds = on_numbered feeder_of (cruise_to seconds) l.feeds feeder }
 
--- the network, with f done to the node of a number
-abbrev pub on_node : Network → ℕ → (NodeValue → NodeValue) → Network
-on_node net node f = record net { nodes = on_numbered node_number f net.nodes node }
+-- what an edit names: a node or a link, by its card number
+pub data Named : Type 0 where
+  NamesNode : ℕ → Named
+  NamesLink : ℕ → Named
 
--- the network, with f done to the link of a number
-abbrev pub on_link : Network → ℕ → (LinkValue → LinkValue) → Network
-on_link net link f = record net { links = on_numbered link_number f net.links link }
+-- what this edit names
+abbrev pub named : Edit → Named
+named (Offset node offset) = NamesNode node
+named (Change node stage change) = NamesNode node
+named (Entry link flow) = NamesLink link
+named (Part link feeder flow) = NamesLink link
+named (Cruise link feeder seconds) = NamesLink link
+named (Saturation link flow) = NamesLink link
+named (Weight link delay stop) = NamesLink link
+
+-- what an edit does to the node that it names
+abbrev pub node_edit : Edit → NodeValue → NodeValue
+node_edit (Offset node offset) n = set_offset offset n
+node_edit (Change node stage change) n = set_change stage change n
+node_edit e n = n
+
+-- what an edit does to the link that it names
+abbrev pub link_edit : Edit → LinkValue → LinkValue
+link_edit (Entry link flow) l = set_entry flow l
+link_edit (Part link feeder flow) l = set_part feeder flow l
+link_edit (Cruise link feeder seconds) l = set_cruise feeder seconds l
+link_edit (Saturation link flow) l = set_saturation flow l
+link_edit (Weight link delay stop) l = set_weights delay stop l
+link_edit e l = l
+
+-- the network with an edit of what it names made
+abbrev pub edited : Network → Edit → Named → Network
+edited net e (NamesNode node) = record net { nodes = on_numbered node_number (node_edit e) net.nodes node }
+edited net e (NamesLink link) = record net { links = on_numbered link_number (link_edit e) net.links link }
 
 -- the network with an edit made
 abbrev pub with_edit : Network → Edit → Network
-with_edit net (Offset node offset) = on_node net node (set_offset offset)
-with_edit net (Change node stage change) = on_node net node (set_change stage change)
-with_edit net (Entry link flow) = on_link net link (set_entry flow)
-with_edit net (Part link feeder flow) = on_link net link (set_part feeder flow)
-with_edit net (Cruise link feeder seconds) = on_link net link (set_cruise feeder seconds)
-with_edit net (Saturation link flow) = on_link net link (set_saturation flow)
-with_edit net (Weight link delay stop) = on_link net link (set_weights delay stop)
+with_edit net e = edited net e (named e)
 
--- the node that was found, or none
-abbrev pub node_in : Option NodeValue → NodeValue
-node_in None = no_node
-node_in (Some n) = n
+-- the edit of the same kind and names with a node's present numbers
+abbrev pub node_back : Edit → NodeValue → Edit
+node_back (Offset node offset) n = Offset node n.offset
+node_back (Change node stage change) n = Change node stage (stage_of n.stages (stage - 1)).change
+node_back e n = e
 
--- the link that was found, or none
-abbrev pub link_in : Option LinkValue → LinkValue
-link_in None = no_link
-link_in (Some l) = l
+-- the edit of the same kind and names with a link's present numbers
+abbrev pub link_back : Edit → LinkValue → Edit
+link_back (Entry link flow) l = Entry link l.entry
+link_back (Part link feeder flow) l = Part link feeder (the_feed l feeder).flow
+link_back (Cruise link feeder seconds) l = Cruise link feeder (the_feed l feeder).cruise
+link_back (Saturation link flow) l = Saturation link l.saturation
+link_back (Weight link delay stop) l = Weight link l.delay_weight l.stop_weight
+link_back e l = e
 
--- what is found where there is no feed
-abbrev pub no_feed : Feed
-no_feed = record { feeder = 0; flow = 0; cruise = 0 }
-
--- the feed that was found, or none
-abbrev pub feed_in : Option Feed → Feed
-feed_in None = no_feed
-feed_in (Some f) = f
-
--- the node of a number
-abbrev pub the_node : Network → ℕ → NodeValue
-the_node net node = node_in (numbered node_number net.nodes node)
-
--- the link of a number
-abbrev pub the_link : Network → ℕ → LinkValue
-the_link net link = link_in (numbered link_number net.links link)
-
--- the feed of a link with this feeder
-abbrev pub the_feed : LinkValue → ℕ → Feed
-the_feed l feeder = feed_in (numbered feeder_of l.feeds feeder)
+-- the same edit of what it names, with the present numbers of that
+abbrev pub back_to : Network → Edit → Named → Edit
+back_to net e (NamesNode node) = node_back e (the_node net node)
+back_to net e (NamesLink link) = link_back e (the_link net link)
 
 -- the inverse of an edit on a network
 abbrev pub inverse : Network → Edit → Edit
-inverse net (Offset node offset) = Offset node (the_node net node).offset
-inverse net (Change node stage change) =
-    Change node stage (stage_of (the_node net node).stages (stage - 1)).change
-inverse net (Entry link flow) = Entry link (the_link net link).entry
-inverse net (Part link feeder flow) = Part link feeder (the_feed (the_link net link) feeder).flow
-inverse net (Cruise link feeder seconds) = Cruise link feeder (the_feed (the_link net link) feeder).cruise
-inverse net (Saturation link flow) = Saturation link (the_link net link).saturation
-inverse net (Weight link delay stop) =
-    Weight link (the_link net link).delay_weight (the_link net link).stop_weight
+inverse net e = back_to net e (named e)

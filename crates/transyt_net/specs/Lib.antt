@@ -4,6 +4,7 @@ pub mod Edits
 pub mod EditFaults
 pub mod Faults
 pub mod Flow
+pub mod Found
 pub mod Named
 pub mod Shape
 pub mod There

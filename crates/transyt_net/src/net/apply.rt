@@ -2,8 +2,7 @@
 
 ghost use Rattle.std.specs.Prelude.{◌≡◌, IfSome, IfNone, IfOk, OnOk, OnErr, IsOk, IsErrOf};
 ghost use Rattle.transyt_net.specs.EditFaults.{edit_fault};
-ghost use Rattle.transyt_net.specs.Edits.{with_edit, inverse};
-ghost use Rattle.transyt_net.specs.Named.{NamesNode, NamesLink};
+ghost use Rattle.transyt_net.specs.Edits.{with_edit, inverse, named, NamesNode, NamesLink};
 ghost use Rattle.transyt_net.specs.Valid.{IsValid};
 ghost use Rattle.transyt_net.specs.Shape.{SameShape};
 
@@ -52,7 +51,7 @@ impl Net {
 
     /// Makes an allowed edit of this node, and gives its inverse.
     fn change_node(&mut self, number: u32, e: &Edit) -> Edit
-        requires names { NamesNode e.now number }
+        requires names { named e.now ≡ NamesNode number }
         requires allowed { edit_fault self.old e.now ≡ None }
         ensures value { self.new ≡ with_edit self.old e.now }
         ensures back { result ≡ inverse self.old e.now }
@@ -66,7 +65,7 @@ impl Net {
 
     /// Makes an allowed edit of this link, and gives its inverse.
     fn change_link(&mut self, number: u32, e: &Edit) -> Edit
-        requires names { NamesLink e.now number }
+        requires names { named e.now ≡ NamesLink number }
         requires allowed { edit_fault self.old e.now ≡ None }
         ensures value { self.new ≡ with_edit self.old e.now }
         ensures back { result ≡ inverse self.old e.now }

@@ -1,18 +1,15 @@
 -- The link that an edit names is there and takes it; the network is then the edited one, and stays valid.
-use Rattle.std.proofs.Common.{rules, ◌≡◌, ℕ, List, Some, None, sym, ap, ◌∙◌, subst, set, true}
+use Rattle.std.proofs.Common.{rules, ◌≡◌, ℕ, List, Some, None, sym, ap, ◌∙◌, subst, true}
 use Rattle.transyt_parts.specs.Parts.{LinkValue}
-use Rattle.transyt_net.specs.Parts.{Network, network_of}
-use Rattle.transyt_net.specs.Valid.{link_numbers, on_numbered, numbered, place_of, is_among, IsValid}
-use Rattle.transyt_net.specs.Named.{IsPlace}
 use Rattle.transyt_parts.specs.Valid.{link_number}
 use Rattle.transyt_net.specs.declared.edit.Edit.{Edit}
+use Rattle.transyt_net.specs.Parts.{Network, network_of}
+use Rattle.transyt_net.specs.Valid.{link_numbers, numbered, place_of, is_among, IsValid}
 use Rattle.transyt_net.specs.EditFaults.{edit_fault}
-use Rattle.transyt_net.specs.Edits.{with_edit, inverse}
-use Rattle.transyt_net.specs.Named.{link_edit}
-use Rattle.transyt_net.proofs.PlaceLaws.{written_here, found_here, place_is, keys_kept}
+use Rattle.transyt_net.specs.Edits.{with_edit, inverse, link_edit}
+use Rattle.transyt_net.proofs.PlaceLaws.{place_is, found_here, IsPut, put_there}
 use Rattle.transyt_net.proofs.ApplyLaws.{valid_edit}
-use Rattle.transyt_net.proofs.NamedLaws.{link_named, link_takes, link_done, link_back_done}
-use Rattle.transyt_net.proofs.NamedLaws.{link_numbers_kept}
+use Rattle.transyt_net.proofs.NamedLaws.{link_named, link_takes, link_done, link_back_done, link_numbers_kept}
 use Rattle.transyt_net.proofs.net.Net.change_link.Goals as goal
 
 -- the link that an allowed edit names is there
@@ -33,29 +30,20 @@ edit_link-requires c =
     network_of c.self.inside.frame c.self.inside.nodes.items c.self.inside.links.items c.self.inside.plan in
     let e : Edit = c.args.e.now in
     let allowed : edit_fault net e ≡ None = ap (λ (n : Network). edit_fault n e) c.self.view_is ∙ c.requires.allowed in
-    let p : ℕ = c.in-Some.place in
     let old : LinkValue = c.index_mut-link.result.now in
-    let at : place_of (link_numbers net.links) c.args.number ≡ Some p = search rules in
-    let place : IsPlace link_number net.links c.args.number p = place_is link_number net.links c.args.number p at in
-    let found : numbered link_number net.links c.args.number ≡ Some old =
-    found_here link_number net.links c.args.number p old place c.index_mut-link.ensures.value in
-    link_takes net e c.args.number old c.requires.names allowed found
+    let at : place_of (link_numbers net.links) c.args.number ≡ Some c.in-Some.place = search rules in
+    link_takes net e c.args.number old c.requires.names allowed
+    (found_here link_number net.links c.args.number c.in-Some.place old
+    (place_is link_number net.links c.args.number c.in-Some.place at) c.index_mut-link.ensures.value)
 
--- the place that was found is the place of the number
-placed : (c : goal.After-self-1) → IsPlace link_number c.self.inside.links.items c.args.number c.in-Some.place
-placed c =
+-- the link is written at the place of its number
+put : (c : goal.After-self-1) → IsPut link_number (link_edit c.args.e.now) c.self.inside.links.items c.args.number
+    c.in-Some.place c.index_mut-link.result.now c.edit_link.new.link
+put c =
     let xs : List LinkValue = c.self.inside.links.items in
     let at : place_of (link_numbers xs) c.args.number ≡ Some c.in-Some.place = search rules in
-    place_is link_number xs c.args.number c.in-Some.place at
-
--- the links as they are then
-written : (c : goal.After-self-1) → set c.self.inside.links.items c.in-Some.place c.edit_link.new.link
-    ≡ on_numbered link_number (link_edit c.args.e.now) c.self.inside.links.items c.args.number
-written c =
-    let xs : List LinkValue = c.self.inside.links.items in
-    let old : LinkValue = c.index_mut-link.result.now in
-    written_here link_number (link_edit c.args.e.now) xs c.args.number c.in-Some.place old c.edit_link.new.link
-    (placed c) c.index_mut-link.ensures.value c.edit_link.ensures.value
+    put_there link_number (link_edit c.args.e.now) (link_numbers_kept c.args.e.now) xs c.args.number c.in-Some.place
+    c.index_mut-link.result.now c.edit_link.new.link at c.index_mut-link.ensures.value c.edit_link.ensures.value
 
 -- the network stays valid, and keeps its numbers
 pub invariant_of-self : goal.invariant_of-self
@@ -64,13 +52,12 @@ invariant_of-self c =
     network_of c.self.inside.frame c.self.inside.nodes.items c.self.inside.links.items c.self.inside.plan in
     let e : Edit = c.args.e.now in
     let allowed : edit_fault net e ≡ None = ap (λ (n : Network). edit_fault n e) c.self.view_is ∙ c.requires.allowed in
-    let kept = keys_kept link_number (link_edit e) (link_numbers_kept e) net.links c.args.number in
-    let valid : IsValid (record net { links = on_numbered link_number (link_edit e) net.links c.args.number }) =
-    subst IsValid (sym (link_done net e c.args.number c.requires.names))
-    (valid_edit net e c.self.invariant.0 allowed) in (
-      subst (λ (xs : List LinkValue). IsValid (record net { links = xs })) (sym (written c)) valid,
+    let is = put c in
+    let made = ap (λ (xs : List LinkValue). record net { links = xs }) is.put
+    ∙ link_done net e c.args.number c.requires.names in (
+      subst IsValid (sym made) (valid_edit net e c.self.invariant.0 allowed),
       c.self.invariant.1,
-      c.self.invariant.2 ∙ sym kept ∙ ap link_numbers (sym (written c)),
+      c.self.invariant.2 ∙ is.keys,
     )
 
 -- the network is the edited one
@@ -78,20 +65,15 @@ pub returns-clause-value : goal.returns-clause-value
 returns-clause-value c =
     let net : Network =
     network_of c.self.inside.frame c.self.inside.nodes.items c.self.inside.links.items c.self.inside.plan in
-    let e : Edit = c.args.e.now in
-    ap (λ (xs : List LinkValue). record net { links = xs }) (written c)
-    ∙ link_done net e c.args.number c.requires.names
-    ∙ ap (λ (n : Network). with_edit n e) c.self.view_is
+    ap (λ (xs : List LinkValue). record net { links = xs }) (put c).put
+    ∙ link_done net c.args.e.now c.args.number c.requires.names
+    ∙ ap (λ (n : Network). with_edit n c.args.e.now) c.self.view_is
 
 -- what is given back is the inverse
 pub returns-clause-back : goal.returns-clause-back
 returns-clause-back c =
     let net : Network =
     network_of c.self.inside.frame c.self.inside.nodes.items c.self.inside.links.items c.self.inside.plan in
-    let e : Edit = c.args.e.now in
-    let old : LinkValue = c.index_mut-link.result.now in
-    let found : numbered link_number net.links c.args.number ≡ Some old =
-    found_here link_number net.links c.args.number c.in-Some.place old (placed c) c.index_mut-link.ensures.value in
     c.edit_link.ensures.back
-    ∙ link_back_done net e c.args.number old c.requires.names found
-    ∙ ap (λ (n : Network). inverse n e) c.self.view_is
+    ∙ link_back_done net c.args.e.now c.args.number c.index_mut-link.result.now c.requires.names (put c).found
+    ∙ ap (λ (n : Network). inverse n c.args.e.now) c.self.view_is

@@ -1,0 +1,42 @@
+-- The node, the link and the feed that a card number names.
+use Rattle.std.specs.Prelude.{ℕ, Option, Some, None}
+use Rattle.transyt_parts.specs.declared.link.Feed.{Feed}
+use Rattle.transyt_parts.specs.Parts.{NodeValue, LinkValue}
+use Rattle.transyt_parts.specs.Valid.{node_number, link_number}
+use Rattle.transyt_net.specs.Parts.{Network, no_node, no_link}
+use Rattle.transyt_net.specs.Valid.{numbered}
+
+-- a feed's feeder
+abbrev pub feeder_of : Feed → ℕ
+feeder_of f = f.feeder
+
+-- the node that was found, or none
+abbrev pub node_in : Option NodeValue → NodeValue
+node_in None = no_node
+node_in (Some n) = n
+
+-- the link that was found, or none
+abbrev pub link_in : Option LinkValue → LinkValue
+link_in None = no_link
+link_in (Some l) = l
+
+-- what is found where there is no feed
+abbrev pub no_feed : Feed
+no_feed = record { feeder = 0; flow = 0; cruise = 0 }
+
+-- the feed that was found, or none
+abbrev pub feed_in : Option Feed → Feed
+feed_in None = no_feed
+feed_in (Some f) = f
+
+-- the node of a number
+abbrev pub the_node : Network → ℕ → NodeValue
+the_node net node = node_in (numbered node_number net.nodes node)
+
+-- the link of a number
+abbrev pub the_link : Network → ℕ → LinkValue
+the_link net link = link_in (numbered link_number net.links link)
+
+-- the feed of a link with this feeder
+abbrev pub the_feed : LinkValue → ℕ → Feed
+the_feed l feeder = feed_in (numbered feeder_of l.feeds feeder)
