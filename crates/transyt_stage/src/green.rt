@@ -1,6 +1,6 @@
 //! When a link is green, and what its green lets pass.
 
-ghost use Rattle.std.specs.Prelude.{◌≡◌, ℕ, ◌^◌, ◌+◌, ◌<◌, ◌≤◌, ◌&&◌, ◌||◌, nat_le, nat_lt, length, map, All};
+ghost use Rattle.std.specs.Prelude.{◌≡◌, ℕ, ◌^◌, ◌+◌, ◌%◌, ◌<◌, ◌≤◌, ◌&&◌, ◌||◌, nat_le, nat_lt, length, map, All};
 ghost use Rattle.std.specs.Prelude.{slice_index_or, false, if◌then◌else◌, IsTrue, ◌↔◌};
 ghost use Rattle.std.specs.List.{range_with_len};
 ghost use Rattle.transyt_cycle.specs.Cycle.{minus_mod};
@@ -97,12 +97,16 @@ fn passed_at(shown: &[bool], start_lag: u32, end_lag: u32, room: u64, step: usiz
 }
 
 /// Whether a link is green at a step, where `shown` tells at which steps it is shown.
+#[tactic(auto, using(crate::proofs::StepLaws::green_without_lags))]
 fn green_at(shown: &[bool], start_lag: u32, end_lag: u32, step: usize) -> bool
     requires step { step < length shown.now }
     requires most { length shown.now ≤ 120 }
     requires end_lag { end_lag < length shown.now }
     ensures { result ≡ green_at shown.now start_lag end_lag step }
 {
+    if start_lag == 0 && end_lag == 0 {
+        return shown[step];
+    }
     let held = is_held(shown, end_lag, step);
     let starting = is_starting(shown, start_lag, step);
     held && !starting
@@ -147,12 +151,21 @@ fn opens(shown: &[bool], step: usize) -> bool
 }
 
 /// The step that comes so many steps before a step, round the cycle.
+#[tactic(auto, using(crate::proofs::StepLaws::back_within, crate::proofs::StepLaws::back_round))]
 fn step_back(step_count: usize, step: usize, back: u32) -> usize
-    requires steps { 0 < step_count }
+    requires { step < step_count }
     ensures value { result ≡ minus_mod step_count step back }
     ensures below { result < step_count }
 {
-    minus_mod(step_count as u64, step as u64, u64::from(back)) as usize
+    let steps = back as usize;
+    // most steps need no division
+    if steps <= step {
+        step - steps
+    } else if steps <= step_count {
+        step_count - (steps - step)
+    } else {
+        minus_mod(step_count as u64, step as u64, u64::from(back)) as usize
+    }
 }
 
 /// Tells for each step whether a link that runs in these stages is shown at it.
@@ -192,7 +205,9 @@ fn show_stage(step_count: u32, node: &Node, stages: &[u32], place: usize, shown:
 /// The step of a stage from which it shows a link: its first where the link runs in the stage before too, else the
 /// first after its intergreen.
 fn first_shown(stages: &[u32], before: usize, intergreen: u32) -> u32
-    ensures { result ≡ (if runs_in stages.now before then 0 else intergreen) }
+    requires { intergreen ≤ 120 }
+    ensures value { result ≡ (if runs_in stages.now before then 0 else intergreen) }
+    ensures within { result ≤ 120 }
 {
     if runs_in(stages, before) {
         0
@@ -206,15 +221,27 @@ fn show_steps(change: u32, from: u32, to: u32, shown: &mut [bool])
     requires some { 0 < length shown.old }
     requires most { length shown.old ≤ 120 }
     requires change { change ≤ 240 }
+    requires from { from ≤ 120 }
     requires to { to ≤ length shown.old }
     ensures { (i : ℕ) → i < length shown.old → slice_index_or shown.new i false
         ≡ (slice_index_or shown.old i false || (nat_le from (minus_mod (length shown.old) i change)
         && nat_lt (minus_mod (length shown.old) i change) to)) }
 {
+    let mut step = (from + change) as usize % shown.len();
     for since in from..to {
-        let step = (since + change) as usize % shown.len();
+        let _ = since;
         shown[step] = true;
+        step = step_after(shown.len(), step);
     }
+}
+
+/// The step after a step, round the cycle.
+fn step_after(step_count: usize, step: usize) -> usize
+    requires { step < step_count }
+    ensures value { result ≡ (step + 1) % step_count }
+    ensures below { result < step_count }
+{
+    if step + 1 == step_count { 0 } else { step + 1 }
 }
 
 /// Whether a link that runs in these stages runs in the stage at a place; stages are numbered from 1.

@@ -1,0 +1,41 @@
+-- Steps back and on round the cycle, without a division.
+use Rattle.std.proofs.Common.{◌≡◌, ℕ, ◌+◌, ◌-◌, ◌%◌, ◌<◌, ◌≤◌, Bool, true, false, ◌||◌, ◌&&◌, not, List, length, get_or}
+use Rattle.std.proofs.Common.{refl, ap, sym, ◌∙◌, arith}
+use Rattle.std.proofs.Math.Nat.{mod-eq_of_lt, mod-add-mod, add-mod_left}
+use Rattle.transyt_cycle.specs.Cycle.{minus_mod}
+use Rattle.transyt_cycle.proofs.CycleLaws.{minus_mod-of_add}
+use Rattle.transyt_stage.specs.Green.{green_at}
+
+-- so many steps back, where there are as many before the step
+pub back_within : (n i b : ℕ) → i < n → b ≤ i → minus_mod n i b ≡ i - b
+back_within n i b below within =
+    let there : i - b + b ≡ i = omega arith in
+    let at : (i - b + b) % n ≡ i = ap (λ k. k % n) there ∙ mod-eq_of_lt below in
+    ap (λ k. minus_mod n k b) (sym at) ∙ minus_mod-of_add n (i - b) b (omega arith)
+
+-- and where there are not, but in a whole cycle
+pub back_round : (n i b : ℕ) → i < n → i < b → b ≤ n → minus_mod n i b ≡ n - (b - i)
+back_round n i b below past round =
+    let there : n - (b - i) + b ≡ n + i = omega arith in
+    let at : (n - (b - i) + b) % n ≡ i = ap (λ k. k % n) there ∙ add-mod_left n i ∙ mod-eq_of_lt below in
+    ap (λ k. minus_mod n k b) (sym at) ∙ minus_mod-of_add n (n - (b - i)) b (omega arith)
+
+-- the step after that of so many steps after a change is that of one step more
+pub step_more : (n since change step after : ℕ) → step ≡ (since + change) % n → after ≡ (step + 1) % n
+    → after ≡ (since + 1 + change) % n
+step_more n since change step after at next =
+    let one : since + change + 1 ≡ since + 1 + change = omega arith in
+    next ∙ ap (λ k. (k + 1) % n) at ∙ mod-add-mod (since + change) n 1 ∙ ap (λ k. k % n) one
+
+same_test : (b : Bool) → ((b || false) && true) ≡ b
+same_test true = refl
+same_test false = refl
+
+-- without lags a link is green where it is shown
+pub green_without_lags : (shown : List Bool) (start_lag end_lag i : ℕ) → i < length shown → start_lag ≡ 0 → end_lag ≡ 0
+    → green_at shown start_lag end_lag i ≡ get_or shown i false
+green_without_lags shown start_lag end_lag i below no_start no_end =
+    ap (λ s. green_at shown s end_lag i) no_start
+    ∙ ap (λ e. green_at shown 0 e i) no_end
+    ∙ same_test (get_or shown (minus_mod (length shown) i 0) false)
+    ∙ ap (λ k. get_or shown k false) (back_within (length shown) i 0 below (omega arith) ∙ omega arith)
