@@ -4,7 +4,7 @@ use Rattle.transyt_parts.specs.Parts.{NodeValue, LinkValue, PlanValue}
 use Rattle.transyt_net.specs.Parts.{Network}
 use Rattle.transyt_deck.specs.declared.card.Card.{Card}
 use Rattle.transyt_deck.specs.declared.card.Card.TheVariants as c
-use Rattle.transyt_deck.specs.declared.card.NewLink.{NewLink}
+use Rattle.transyt_parts.specs.declared.link.NewLink.{NewLink}
 
 -- the keyword of a card
 abbrev pub keyword_in : Card → List ℕ

@@ -20,7 +20,7 @@ use Rattle.transyt_net.specs.Faults.{node_fault, stage_fault, link_fault, feed_f
 use Rattle.transyt_net.specs.Faults.{empty, with_node, with_stage, with_link, with_feed, with_rule, with_plan}
 use Rattle.transyt_deck.specs.declared.card.Card.{Card}
 use Rattle.transyt_deck.specs.declared.card.Card.TheVariants as c
-use Rattle.transyt_deck.specs.declared.card.NewLink.{NewLink}
+use Rattle.transyt_parts.specs.declared.link.NewLink.{NewLink}
 use Rattle.transyt_deck.specs.declared.state.Part.{Part}
 use Rattle.transyt_deck.specs.declared.state.Part.TheVariants as p
 use Rattle.transyt_deck.specs.declared.state.State.{State}

@@ -5,7 +5,7 @@ use Rattle.transyt_parts.specs.declared.frame.Frame.{Frame}
 use Rattle.transyt_parts.specs.Made.{new_stage, new_feed, new_rule}
 use Rattle.transyt_deck.specs.declared.card.Card.{Card}
 use Rattle.transyt_deck.specs.declared.card.Card.TheVariants as c
-use Rattle.transyt_deck.specs.declared.card.NewLink.{NewLink}
+use Rattle.transyt_parts.specs.declared.link.NewLink.{NewLink}
 
 -- the frame of a CYCLE card's numbers; a dispersion that is left out is 35
 abbrev pub frame_of : List ℕ → Frame

@@ -6,29 +6,8 @@ ghost use Rattle.transyt_deck.specs.Adds.{CanAdd};
 ghost use Rattle.transyt_deck.specs.declared.card.Card.TheVariants as card;
 
 use transyt_io::is_skipped;
-use transyt_net::{Feed, Frame, GiveWay, Stage};
+use transyt_net::{Feed, Frame, GiveWay, NewLink, Stage};
 use transyt_syntax::{Code, Numbers, first_of, further_of, is_word, say};
-
-/// The numbers of a new link: all of it but its stages, its feeds and its rule.
-#[derive(Clone, Copy, Debug, PartialEq, Eq)]
-pub struct NewLink {
-    /// The link's card number.
-    pub number: u32,
-    /// The card number of the node at its end.
-    pub node: u32,
-    /// The flow that enters the network here, in vehicles per hour.
-    pub entry: u32,
-    /// The saturation flow in vehicles per hour.
-    pub saturation: u32,
-    /// The weight of its delay.
-    pub delay_weight: u32,
-    /// The weight of its stops.
-    pub stop_weight: u32,
-    /// The steps that are lost when it is opened.
-    pub start_lag: u32,
-    /// The steps that are won when it is closed.
-    pub end_lag: u32,
-}
 
 /// What a card says, whether or not it is in its place and its numbers are in their ranges.
 #[derive(Drop)]
@@ -102,7 +81,13 @@ fn card_named(form: u32, keyword: &[u8], ns: &Numbers) -> Option<((usize, usize)
     match keyword {
         _ if is_word(keyword, b"FORM") => Some(((1, 1), Card::Form(a))),
         _ if is_word(keyword, b"CYCLE") => Some(((5, 6), Card::Cycle(frame_of(ns)))),
-        _ if is_word(keyword, b"NODE") => Some(((2, 2), Card::Node { number: a, offset: b })),
+        _ if is_word(keyword, b"NODE") => Some((
+            (2, 2),
+            Card::Node {
+                number: a,
+                offset: b,
+            },
+        )),
         _ if is_word(keyword, b"STAGE") => {
             let stage = Stage {
                 change: a,
@@ -111,7 +96,10 @@ fn card_named(form: u32, keyword: &[u8], ns: &Numbers) -> Option<((usize, usize)
             };
             Some(((3, 3), Card::Stage(stage)))
         }
-        _ if is_word(keyword, b"LINK") && form == 2 => Some(((9, 16), link_of(ns, ns.at(6), ns.at(7), 8))),
+        _ if is_word(keyword, b"LINK") && form == 2 => Some((
+            (9, 16),
+            link_of(ns, ns.at(6), ns.at(7), 8),
+        )),
         _ if is_word(keyword, b"LINK") => Some(((7, 14), link_of(ns, 0, 0, 6))),
         _ if is_word(keyword, b"FEED") => {
             let feed = Feed {
@@ -128,7 +116,13 @@ fn card_named(form: u32, keyword: &[u8], ns: &Numbers) -> Option<((usize, usize)
             };
             Some(((3, 3), Card::Yield { link: a, rule }))
         }
-        _ if is_word(keyword, b"STEPS") => Some(((2, 17), Card::Steps { budget: a, sizes: ns.after(1) })),
+        _ if is_word(keyword, b"STEPS") => Some((
+            (2, 17),
+            Card::Steps {
+                budget: a,
+                sizes: ns.after(1),
+            },
+        )),
         _ if is_word(keyword, b"END") => Some(((0, 0), Card::End)),
         _ => None,
     }

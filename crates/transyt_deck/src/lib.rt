@@ -15,7 +15,7 @@ mod cut;
 mod reader;
 mod state;
 
-pub use card::{Card, NewLink};
+pub use card::Card;
 pub use cut::{Cut, cut_deck};
 pub use reader::{CardReader, CardStop, Progress};
 pub use state::{Part, State};

@@ -4,9 +4,9 @@ ghost use Rattle.transyt_deck.specs.declared.card.Card.TheVariants as card;
 ghost use Rattle.transyt_deck.specs.State.{rank, up_to, form_of, framed, added, state_with, plan_code};
 ghost use Rattle.transyt_deck.specs.Adds.{Adds, Begins, CanAdd, IsTied, IsTiedState, stopped};
 
-use crate::card::{Card, NewLink};
+use crate::card::Card;
 use std::alloc::Global;
-use transyt_net::{Draft, DraftFault, Feed, Frame, GiveWay, PlanFault, Stage};
+use transyt_net::{Draft, DraftFault, Feed, Frame, GiveWay, NewLink, PlanFault, Stage};
 use transyt_syntax::{Code, Numbers};
 
 /// How far a deck has come from its CYCLE card on; later parts come later.
@@ -201,17 +201,7 @@ fn add_link(part: &mut Part, draft: &mut Draft, link: NewLink, stages: &Numbers)
     if !part.is_up_to(Part::Links) {
         return Err(Stop::Code(Code::OutOfPlace));
     }
-    stopped(draft.link(
-        link.number,
-        link.node,
-        link.entry,
-        link.saturation,
-        link.delay_weight,
-        link.stop_weight,
-        link.start_lag,
-        link.end_lag,
-        stages.as_slice(),
-    ))?;
+    stopped(draft.link(link, stages.as_slice()))?;
     *part = Part::Links;
     Ok(())
 }
