@@ -1,1 +1,1 @@
-mod Examples
+pub mod Examples

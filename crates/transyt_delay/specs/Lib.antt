@@ -1,2 +1,3 @@
 pub mod Index
 pub mod Figures
+pub mod WorkedLinks

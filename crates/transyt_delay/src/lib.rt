@@ -11,11 +11,13 @@
 
 mod figures;
 mod index;
+mod laws;
 mod random;
 mod terms;
 
 pub use figures::{Figures, figures_of};
 pub use index::weigh;
+pub use laws::worked_links;
 pub use terms::{Terms, TermsFrame};
 
 #[cfg(test)]

@@ -2,3 +2,4 @@ pub mod RootLaws
 pub mod NumberLaws
 mod Digits
 pub mod ReciprocalLaws
+pub mod Worked

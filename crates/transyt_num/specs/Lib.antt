@@ -1,2 +1,3 @@
 pub mod Number
 pub mod Root
+pub mod WorkedNumbers

@@ -8,12 +8,14 @@
 #![tactic(auto)]
 
 mod dividing;
+mod laws;
 mod quotient;
 mod reading;
 mod square_root;
 mod writing;
 
 pub use dividing::{divided_near, reciprocal};
+pub use laws::worked_numbers;
 pub use quotient::mul_div;
 pub use reading::read_number;
 pub use square_root::isqrt;

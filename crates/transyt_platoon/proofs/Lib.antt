@@ -1,3 +1,3 @@
 pub mod Parts
 pub mod Mixing
-mod KnownValues
+pub mod KnownValues

@@ -1,2 +1,3 @@
 pub mod Platoon
 pub mod Travels
+pub mod WorkedPlatoons

@@ -6,11 +6,13 @@
 #![tactic(auto)]
 
 mod dispersion;
+mod laws;
 mod quick;
 mod three;
 mod travel;
 
 pub use dispersion::disperse;
+pub use laws::worked_platoons;
 pub use three::{Travel, disperse_three, travel_of};
 pub use travel::travel_steps;
 

@@ -11,6 +11,7 @@
 mod adding;
 mod comparing;
 mod filling;
+mod laws;
 mod sharing;
 #[cfg(test)]
 mod tests;
@@ -19,5 +20,6 @@ mod totals;
 pub use adding::add_into;
 pub use comparing::same;
 pub use filling::fill_uniform;
+pub use laws::worked_profiles;
 pub use sharing::{Part, part_of, share_into, share_part};
 pub use totals::total;

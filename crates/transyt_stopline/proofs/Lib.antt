@@ -5,4 +5,4 @@ pub mod Covering
 pub mod QueueBounds
 pub mod CutLaws
 pub mod StopsLaws
-mod Examples
+pub mod Examples

@@ -2,3 +2,4 @@ pub mod LastSteps
 pub mod Queue
 pub mod Cut
 pub mod Stops
+pub mod WorkedCycles

@@ -10,10 +10,12 @@
 #![tactic(auto)]
 
 mod cutting;
+mod laws;
 mod queueing;
 mod stops;
 
 pub use cutting::cut_arrivals;
+pub use laws::worked_cycles;
 pub use queueing::queue;
 pub use stops::stopped;
 

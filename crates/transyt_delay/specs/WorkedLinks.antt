@@ -1,0 +1,101 @@
+-- Worked links, with their figures. No number is neutral.
+use Rattle.std.specs.Prelude.{ℕ}
+use Rattle.transyt_delay.specs.declared.terms.Terms.{Terms}
+use Rattle.transyt_delay.specs.declared.terms.TermsFrame.{TermsFrame}
+use Rattle.transyt_delay.specs.declared.figures.Figures.{Figures}
+
+-- a link with fewer vehicles than can go
+abbrev pub usual : Terms
+usual = record {
+  arrivals = 1733021;
+  room = 4310007;
+  queued = 97000013;
+  stopped = 1619003;
+  frame = record { cycle = 90; step_count = 18; period = 45; stop_penalty = 37 };
+  delay_weight = 3;
+  stop_weight = 2;
+}
+
+-- its figures
+abbrev pub usual_figures : Figures
+usual_figures = record { uniform = 5388889; random = 333374; stops = 17988; index = 17180100 }
+
+-- where a stop weighs nothing
+abbrev pub no_penalty : Terms
+no_penalty = record {
+  arrivals = 1733021;
+  room = 4310007;
+  queued = 97000013;
+  stopped = 1619003;
+  frame = record { cycle = 90; step_count = 18; period = 45; stop_penalty = 0 };
+  delay_weight = 3;
+  stop_weight = 2;
+}
+
+-- its figures
+abbrev pub no_penalty_figures : Figures
+no_penalty_figures = record { uniform = 5388889; random = 333374; stops = 17988; index = 17166789 }
+
+-- where a stop weighs most
+abbrev pub great_penalty : Terms
+great_penalty = record {
+  arrivals = 1733021;
+  room = 4310007;
+  queued = 97000013;
+  stopped = 1619003;
+  frame = record { cycle = 90; step_count = 18; period = 45; stop_penalty = 9999 };
+  delay_weight = 3;
+  stop_weight = 2;
+}
+
+-- its figures
+abbrev pub great_penalty_figures : Figures
+great_penalty_figures = record { uniform = 5388889; random = 333374; stops = 17988; index = 20764029 }
+
+-- over 15 minutes
+abbrev pub short_period : Terms
+short_period = record {
+  arrivals = 1733021;
+  room = 4310007;
+  queued = 97000013;
+  stopped = 1619003;
+  frame = record { cycle = 90; step_count = 18; period = 15; stop_penalty = 37 };
+  delay_weight = 3;
+  stop_weight = 2;
+}
+
+-- its figures
+abbrev pub short_period_figures : Figures
+short_period_figures = record { uniform = 5388889; random = 327904; stops = 17988; index = 17163690 }
+
+-- over two hours
+abbrev pub long_period : Terms
+long_period = record {
+  arrivals = 1733021;
+  room = 4310007;
+  queued = 97000013;
+  stopped = 1619003;
+  frame = record { cycle = 90; step_count = 18; period = 120; stop_penalty = 37 };
+  delay_weight = 3;
+  stop_weight = 2;
+}
+
+-- its figures
+abbrev pub long_period_figures : Figures
+long_period_figures = record { uniform = 5388889; random = 335159; stops = 17988; index = 17185455 }
+
+-- with more vehicles than can go
+abbrev pub oversaturated : Terms
+oversaturated = record {
+  arrivals = 4310007;
+  room = 1733021;
+  queued = 97000013;
+  stopped = 1733019;
+  frame = record { cycle = 90; step_count = 18; period = 45; stop_penalty = 37 };
+  delay_weight = 5;
+  stop_weight = 7;
+}
+
+-- its figures
+abbrev pub oversaturated_figures : Figures
+oversaturated_figures = record { uniform = 5388889; random = 39473691; stops = 19255; index = 224362770 }

@@ -1,0 +1,13 @@
+//! Laws about the definitions.
+
+ghost use Rattle.std.specs.Prelude.{◌≡◌, map};
+ghost use Rattle.transyt_num.specs.Number.{number_of};
+ghost use Rattle.transyt_num.specs.Root.{root};
+ghost use Rattle.transyt_num.specs.WorkedNumbers.{worked_roots, worked_words};
+
+/// The worked words and roots come out as they are written beside the definitions.
+#[tactic(auto, using(crate::proofs::Worked::words, crate::proofs::Worked::roots))]
+pub fn worked_numbers()
+    ensures words { map (λ row. number_of row.0) worked_words ≡ map (λ row. row.1) worked_words }
+    ensures roots { map (λ row. root row.0) worked_roots ≡ map (λ row. row.1) worked_roots }
+{}

@@ -1,0 +1,38 @@
+-- Worked platoons, with what comes of each. No number is neutral.
+use Rattle.std.specs.Prelude.{ℕ, List, [], ◌∷◌}
+
+-- cruise times, numbers of steps and cycles, with the travel time of each; a half is rounded up
+abbrev pub worked_travels : List ((ℕ × ℕ × ℕ) × ℕ)
+worked_travels =
+    ((30, 18, 90), 5)
+    ∷ ((28, 18, 90), 4)
+    ∷ ((29, 18, 90), 5)
+    ∷ ((3, 10, 48), 1)
+    ∷ ((300, 120, 30), 960)
+    ∷ ((1, 10, 240), 0)
+    ∷ ((37, 45, 90), 15)
+    ∷ ((0, 18, 90), 0)
+    ∷ []
+
+-- weights, what sets out and what went by a step before, with what goes by
+abbrev pub worked_mixes : List ((ℕ × ℕ × ℕ) × ℕ)
+worked_mixes =
+    ((160, 1000003, 77777), 432479)
+    ∷ ((160, 0, 161), 99)
+    ∷ ((0, 9, 5), 9)
+    ∷ ((7, 1, 0), 0)
+    ∷ ((96000, 17, 17), 17)
+    ∷ []
+
+-- six steps that are all different
+abbrev pub uneven : List ℕ
+uneven = 1000003 ∷ 0 ∷ 250007 ∷ 37 ∷ 999999 ∷ 61 ∷ []
+
+-- travel times and dispersions, with the platoon that arrives: within the cycle, past its end, no travel, no dispersion
+abbrev pub worked_platoons : List ((ℕ × ℕ) × List ℕ)
+worked_platoons =
+    ((4, 40), 314853 ∷ 193769 ∷ 503857 ∷ 310089 ∷ 577498 ∷ 355383 ∷ [])
+    ∷ ((11, 7), 296647 ∷ 270296 ∷ 117607 ∷ 616133 ∷ 268069 ∷ 681904 ∷ [])
+    ∷ ((0, 40), 1000003 ∷ 0 ∷ 250007 ∷ 37 ∷ 999999 ∷ 61 ∷ [])
+    ∷ ((6, 0), 1000003 ∷ 0 ∷ 250007 ∷ 37 ∷ 999999 ∷ 61 ∷ [])
+    ∷ []
