@@ -1,9 +1,8 @@
 -- An edit is allowed exactly where what it names is there and the network with it is valid.
-use Rattle.std.proofs.Common.{◌≡◌, ℕ, ◌-◌, ◌<◌, ◌≤◌, true, not, ◌&&◌, length, map, Some, None, refl, sym, ap, subst, ◌∙◌}
+use Rattle.std.proofs.Common.{◌≡◌, ℕ, ◌-◌, ◌<◌, true, not, ◌&&◌, length, map, Some, None, refl, sym, ap, subst, ◌∙◌}
 use Rattle.std.proofs.Common.{arith, nat_le, nat_lt, if◌then◌else◌, ◌↔◌}
 use Rattle.std.proofs.lemmas.Bool.{and_parts, and_from, not-false, le-leb, lt-ltb}
 use Rattle.std.proofs.lemmas.List.{length-map}
-use Rattle.std.specs.List.{Contains}
 use Rattle.transyt_net.specs.declared.edit.Edit.{Edit}
 use Rattle.transyt_net.specs.declared.edit.Edit.TheVariants.{Offset, Change, Entry, Part, Cruise, Saturation, Weight}
 use Rattle.transyt_net.specs.declared.edit.EditFault.TheVariants.{Unknown, Range}
@@ -11,13 +10,13 @@ use Rattle.transyt_parts.specs.Parts.{NodeValue, LinkValue}
 use Rattle.transyt_net.specs.Parts.{Network}
 use Rattle.transyt_parts.specs.Valid.{within, is_fed, feeders, node_number, link_number, IsNode}
 use Rattle.transyt_net.specs.Valid.{is_among, numbered, on_numbered, on_place, node_numbers, link_numbers, stages_at}
-use Rattle.transyt_net.specs.Valid.{stage_total, feeds_in, feeds_at, IsLink, IsFeed, IsValid}
+use Rattle.transyt_net.specs.Valid.{stage_total, feeds_at, IsFeed, IsValid}
 use Rattle.transyt_parts.specs.Plan.{plan_fault, no_stage}
 use Rattle.transyt_net.specs.Edits.{with_edit, set_offset, set_change, change_to, set_entry, set_saturation, set_weights}
 use Rattle.transyt_net.specs.Edits.{set_part, set_cruise, feeder_of, flow_to, cruise_to, node_in, link_in, the_node}
 use Rattle.transyt_net.specs.Edits.{the_link}
 use Rattle.transyt_net.specs.EditFaults.{edit_fault, order_fault, has_stage, changed, is_link}
-use Rattle.transyt_net.specs.There.{HasFeed, HasStage, IsThere}
+use Rattle.transyt_net.specs.There.{HasFeed, IsThere}
 use Rattle.transyt_net.proofs.PlaceLaws.{keys_kept_at}
 use Rattle.transyt_net.proofs.WriteLaws.{no_fault, in_range}
 use Rattle.transyt_net.proofs.EditLaws.{all_numbered}

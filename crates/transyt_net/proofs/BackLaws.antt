@@ -1,5 +1,5 @@
 -- The inverse of an allowed edit is allowed.
-use Rattle.std.proofs.Common.{◌≡◌, ℕ, ◌-◌, ◌≤◌, length, map, List, Some, None, refl, sym, ap, subst, ◌∙◌, arith}
+use Rattle.std.proofs.Common.{◌≡◌, ℕ, ◌-◌, length, None, refl, sym, ap, subst, ◌∙◌, arith}
 use Rattle.std.proofs.lemmas.List.{length-map}
 use Rattle.std.specs.List.{Contains}
 use Rattle.transyt_parts.specs.declared.link.Feed.{Feed}
@@ -10,7 +10,7 @@ use Rattle.transyt_net.specs.Parts.{Network}
 use Rattle.transyt_parts.specs.Valid.{node_number, link_number, feeders}
 use Rattle.transyt_net.specs.Valid.{on_numbered, on_place, node_numbers, link_numbers, numbered, IsValid}
 use Rattle.transyt_net.specs.Edits.{with_edit, inverse, set_offset, set_change, change_to, set_entry, set_saturation}
-use Rattle.transyt_net.specs.Edits.{set_weights, set_part, set_cruise, feeder_of, flow_to, cruise_to, node_in, link_in, the_node}
+use Rattle.transyt_net.specs.Edits.{set_weights, feeder_of, flow_to, cruise_to, node_in, link_in, the_node}
 use Rattle.transyt_net.specs.EditFaults.{edit_fault}
 use Rattle.transyt_net.specs.There.{HasLink, HasFeed, IsThere}
 use Rattle.transyt_net.proofs.PlaceLaws.{keys_kept, keys_kept_at}
@@ -28,8 +28,10 @@ link_still net f same link h =
 -- and its feed after a write of that
 feed_still : (net : Network) (link feeder : ℕ) (f : Feed → Feed) (same : (x : Feed) → (f x).feeder ≡ x.feeder)
     → HasFeed net link feeder
-    → HasFeed (record net { links = on_numbered link_number (λ l. record l { feeds = on_numbered feeder_of f l.feeds feeder })
-    net.links link }) link feeder
+    → HasFeed (record net {
+      links = on_numbered link_number (λ l. record l { feeds = on_numbered feeder_of f l.feeds feeder })
+          net.links link;
+    }) link feeder
 feed_still net link feeder f same h =
     let write : LinkValue → LinkValue = λ l. record l { feeds = on_numbered feeder_of f l.feeds feeder } in
     let at = some_numbered link_number net.links link (among_there (link_numbers net.links) link h.0) in

@@ -2,6 +2,7 @@ pub mod AllowedLaws
 pub mod ApplyLaws
 pub mod BackLaws
 pub mod CopyLaws
+pub mod DraftLaws
 pub mod EditLaws
 pub mod FoundLaws
 pub mod KeptLaws

@@ -1,8 +1,8 @@
 -- A draft stays sound with a new link, feed and give-way rule.
 use Rattle.std.proofs.Common.{◌<◌, [], ◌≡◌, ℕ, ◌≤◌, true, false, not, ◌&&◌, ◌||◌, ◌∷◌, ◌++◌, length, None, refl}
-use Rattle.std.proofs.Common.{sym, ap, subst, ◌∙◌, arith, nat_eq, nat_le, nat_lt, is_some, length-append, All, IfSome}
+use Rattle.std.proofs.Common.{sym, ap, subst, ◌∙◌, arith, nat_eq, nat_le, is_some, length-append, All, IfSome}
 use Rattle.std.specs.List.{list_all}
-use Rattle.std.proofs.lemmas.Bool.{and_parts, or_parts, leb-true, leb-false, ltb-true, not-false}
+use Rattle.std.proofs.lemmas.Bool.{and_parts, or_parts, leb-true, leb-false, not-false}
 use Rattle.std.proofs.lemmas.List.{map-append}
 use Rattle.std.proofs.lemmas.List.Elements.{All-push, All-weaker, All-nil}
 use Rattle.transyt_parts.specs.declared.link.Feed.{Feed}

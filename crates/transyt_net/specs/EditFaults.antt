@@ -7,6 +7,7 @@ use Rattle.transyt_net.specs.declared.edit.EditFault.{EditFault}
 use Rattle.transyt_net.specs.declared.edit.EditFault.TheVariants.{Unknown, NoFeeder, Range, StageOrder, LeastGreen}
 use Rattle.transyt_net.specs.Parts.{Network}
 use Rattle.transyt_parts.specs.Valid.{within, is_fed}
+use Rattle.transyt_parts.specs.Ranges.{is_in, most_flow, most_weight, cruise_range, saturation_range}
 use Rattle.transyt_net.specs.Valid.{is_among, node_numbers, link_numbers, stages_at, feeds_at}
 use Rattle.transyt_parts.specs.Plan.{in_order, have_greens}
 use Rattle.transyt_net.specs.Edits.{set_change, the_node}
@@ -54,12 +55,12 @@ abbrev pub edit_fault : Network → Edit → Option EditFault
 edit_fault net (Offset node offset) =
     range_fault (is_among (node_numbers net.nodes) node) (nat_lt offset net.frame.step_count)
 edit_fault net (Change node stage change) = change_fault net node stage change
-edit_fault net (Entry link flow) = range_fault (is_link net link) (nat_le flow 9999)
+edit_fault net (Entry link flow) = range_fault (is_link net link) (nat_le flow most_flow)
 edit_fault net (Part link feeder flow) =
     feed_fault (is_link net link && is_link net feeder) (is_fed (feeds_at net.links link) feeder)
-    (nat_le flow 9999)
+    (nat_le flow most_flow)
 edit_fault net (Cruise link feeder seconds) =
     feed_fault (is_link net link && is_link net feeder) (is_fed (feeds_at net.links link) feeder)
-    (within 1 300 seconds)
-edit_fault net (Saturation link flow) = range_fault (is_link net link) (within 100 9999 flow)
-edit_fault net (Weight link delay stop) = range_fault (is_link net link) (nat_le delay 999 && nat_le stop 999)
+    (is_in cruise_range seconds)
+edit_fault net (Saturation link flow) = range_fault (is_link net link) (is_in saturation_range flow)
+edit_fault net (Weight link delay stop) = range_fault (is_link net link) (nat_le delay most_weight && nat_le stop most_weight)

@@ -12,6 +12,7 @@ use Rattle.transyt_parts.specs.declared.link.Feed.{Feed}
 use Rattle.transyt_parts.specs.declared.link.GiveWay.{GiveWay}
 use Rattle.transyt_parts.specs.Valid.{within, all_differ, is_fed, link_number, node_in_range, stage_in_range}
 use Rattle.transyt_parts.specs.Valid.{link_in_range, feed_in_range}
+use Rattle.transyt_parts.specs.Ranges.{is_in, most_percent, budget_range}
 use Rattle.transyt_net.specs.Valid.{is_among, node_numbers, link_numbers, on_numbered, on_place, stages_at, feeds_at}
 use Rattle.transyt_net.specs.Valid.{rule_at, stage_total}
 use Rattle.transyt_parts.specs.Made.{new_node, add_stage, add_feed, set_rule}
@@ -83,7 +84,7 @@ abbrev pub rule_fault : Network → ℕ → GiveWay → Option DraftFault
 rule_fault net link rule =
     if is_some (rule_at net.links link) then Some Twice
     else if not (are_links net link rule.other) then Some Unknown
-    else if not (nat_le rule.percent 400) then Some Range
+    else if not (nat_le rule.percent most_percent) then Some Range
     else None
 
 -- the network with a new give-way rule of a link
@@ -93,7 +94,7 @@ with_rule net link rule = record net { links = on_numbered link_number (set_rule
 -- the first fault of a climb plan
 abbrev pub climb_fault : Network → PlanValue → Option DraftFault
 climb_fault net plan =
-    if not (within 1 1000000 plan.budget
+    if not (is_in budget_range plan.budget
     && list_all (within 1 (net.frame.step_count - 1)) plan.sizes) then Some Range
     else None
 

@@ -7,6 +7,8 @@ use Rattle.transyt_parts.specs.declared.link.GiveWay.{GiveWay}
 use Rattle.transyt_parts.specs.Parts.{NodeValue, LinkValue}
 use Rattle.transyt_net.specs.Parts.{Network}
 use Rattle.transyt_parts.specs.Plan.{plan_fault}
+use Rattle.transyt_parts.specs.Ranges.{IsIn, IsWithin, number_range, most_flow, saturation_range, most_weight}
+use Rattle.transyt_parts.specs.Ranges.{cruise_range, most_percent, most_stages}
 use Rattle.transyt_parts.specs.Valid.{node_number, link_number, all_differ, feeders, IsNode, IsPlan, IsFrame}
 
 -- the nodes' card numbers in order
@@ -80,25 +82,25 @@ is_among numbers number = list_any (nat_eq number) numbers
 -- what a feed keeps to
 pub record IsFeed (numbers : List ℕ) (f : Feed) : Type 0 where
   pub feeder : IsTrue (is_among numbers f.feeder)
-  pub flow : f.flow ≤ 9999
-  pub cruise : (1 ≤ f.cruise) × (f.cruise ≤ 300)
+  pub flow : f.flow ≤ most_flow
+  pub cruise : IsIn cruise_range f.cruise
 
 -- what a give-way rule keeps to
 pub record IsRule (numbers : List ℕ) (r : GiveWay) : Type 0 where
   pub other : IsTrue (is_among numbers r.other)
-  pub percent : r.percent ≤ 400
+  pub percent : r.percent ≤ most_percent
 
 -- what a link keeps to, among these nodes and link numbers
 pub record IsLink (steps : ℕ) (nodes : List NodeValue) (numbers : List ℕ) (l : LinkValue) : Type 0 where
-  pub number : (1 ≤ l.number) × (l.number ≤ 99999)
+  pub number : IsIn number_range l.number
   pub node : IsTrue (is_among (node_numbers nodes) l.node)
-  pub entry : l.entry ≤ 9999
-  pub saturation : (100 ≤ l.saturation) × (l.saturation ≤ 9999)
-  pub delay_weight : l.delay_weight ≤ 999
-  pub stop_weight : l.stop_weight ≤ 999
+  pub entry : l.entry ≤ most_flow
+  pub saturation : IsIn saturation_range l.saturation
+  pub delay_weight : l.delay_weight ≤ most_weight
+  pub stop_weight : l.stop_weight ≤ most_weight
   pub start_lag : l.start_lag < steps
   pub end_lag : l.end_lag < steps
-  pub stage_count : (1 ≤ length l.stages) × (length l.stages ≤ 8)
+  pub stage_count : IsWithin 1 most_stages (length l.stages)
   pub stages_differ : IsTrue (all_differ l.stages)
   pub stages : All (λ k. (1 ≤ k) × (k ≤ stages_at nodes l.node)) l.stages
   pub feed_count : length l.feeds ≤ 8

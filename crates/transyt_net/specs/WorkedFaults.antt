@@ -1,10 +1,9 @@
 -- Worked faults of edits and of a draft's calls, at each limit and one past it, and numbers of the worked network.
-use Rattle.std.specs.Prelude.{ℕ, List, [], ◌∷◌, ◌++◌, Option, Some, None, replicate}
-use Rattle.transyt_parts.specs.declared.node.Stage.{Stage}
+use Rattle.std.specs.Prelude.{ℕ, List, [], ◌∷◌, Option, Some, None, replicate}
 use Rattle.transyt_parts.specs.declared.link.Feed.{Feed}
 use Rattle.transyt_parts.specs.declared.link.GiveWay.{GiveWay}
-use Rattle.transyt_parts.specs.Parts.{NodeValue, LinkValue, PlanValue}
-use Rattle.transyt_parts.specs.Made.{new_node, new_stage, new_feed, new_rule, new_plan, new_link}
+use Rattle.transyt_parts.specs.Parts.{NodeValue, LinkValue}
+use Rattle.transyt_parts.specs.Made.{new_stage, new_feed, new_rule, new_plan, new_link}
 use Rattle.transyt_net.specs.Parts.{Network, node_of, link_of}
 use Rattle.transyt_net.specs.Valid.{place_of, link_place, link_numbers, stages_at, feeds_at, rule_at}
 use Rattle.transyt_net.specs.Flow.{perstep}

@@ -1,5 +1,5 @@
 -- A worked network in which no number is neutral, and what each edit makes of it.
-use Rattle.std.specs.Prelude.{ℕ, List, [], ◌∷◌, Option, Some, None}
+use Rattle.std.specs.Prelude.{ℕ, List, [], ◌∷◌, Some, None}
 use Rattle.transyt_parts.specs.declared.frame.Frame.{Frame}
 use Rattle.transyt_parts.specs.Parts.{NodeValue, LinkValue}
 use Rattle.transyt_parts.specs.Made.{new_stage, new_feed, new_rule, new_plan, new_link}

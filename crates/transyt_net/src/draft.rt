@@ -31,7 +31,7 @@ pub enum DraftFault {
     Range,
     /// No more of these fit: 200 nodes, 8 stages of a node, 1,000 links, 8 feeds of a link (20).
     TooMany,
-    /// Memory was wanting. It comes only where no other fault holds.
+    /// Out of memory. It comes only where no other fault holds.
     Memory,
 }
 
@@ -58,7 +58,7 @@ impl From<AllocError> for DraftFault {
 /// A network that is being made: always valid, but for its stage plans.
 ///
 /// Each call refuses with the first fault that holds, in the order of `DraftFault`, and a refusal
-/// changes nothing, want of memory included. The calls may come in any order that their conditions
+/// changes nothing, out of memory included. The calls may come in any order that their conditions
 /// leave.
 #[derive(Drop)]
 pub struct Draft {

@@ -1,11 +1,16 @@
 //! What the definitions of edits and of a draft's calls come to.
-ghost use Rattle.std.specs.Prelude.{◌≡◌, ◌↔◌, [], ◌∷◌, map, None, Some};
+ghost use Rattle.std.specs.Prelude.{◌≡◌, ◌↔◌, ◌<◌, ◌≤◌, ℕ, length, [], ◌∷◌, map, None, Some};
 ghost use Rattle.transyt_net.specs.declared.edit.Edit.{Edit};
 ghost use Rattle.transyt_net.specs.Parts.{Network};
-ghost use Rattle.transyt_net.specs.Valid.{IsValid};
+ghost use Rattle.transyt_net.specs.Valid.{rule_at, IsSound, IsValid};
+ghost use Rattle.transyt_net.specs.Faults.{node_fault, with_node, stage_fault, with_stage, link_fault, with_link, feed_fault, with_feed, rule_fault, with_rule};
+ghost use Rattle.transyt_parts.specs.Parts.{LinkValue};
+ghost use Rattle.transyt_parts.specs.declared.node.Stage.{Stage};
+ghost use Rattle.transyt_parts.specs.declared.link.Feed.{Feed};
+ghost use Rattle.transyt_parts.specs.declared.link.GiveWay.{GiveWay};
 ghost use Rattle.transyt_net.specs.EditFaults.{edit_fault};
 ghost use Rattle.transyt_net.specs.Edits.{with_edit};
-ghost use Rattle.transyt_net.specs.There.{IsThere};
+ghost use Rattle.transyt_net.specs.There.{HasLink, IsThere};
 ghost use Rattle.transyt_net.specs.WorkedNets.{town};
 ghost use Rattle.transyt_net.specs.WorkedNets as net;
 ghost use Rattle.transyt_net.specs.WorkedFaults as fault;
@@ -17,6 +22,24 @@ ghost use Rattle.transyt_parts.specs.Made.{new_node, new_feed, new_rule, new_lin
 pub fn edits_are_judged()
     ensures { (net : Network) (e : Edit) → IsValid net
         → edit_fault net e ≡ None ↔ IsThere net e × IsValid (with_edit net e) }
+{}
+
+/// A call of a sound draft has no fault exactly where the draft after it is sound; a feed and a rule
+/// where their link is there too, and the link has no rule yet.
+#[tactic(auto, using(crate::proofs::DraftLaws::node_exactly, crate::proofs::DraftLaws::stage_exactly, crate::proofs::DraftLaws::link_exactly, crate::proofs::DraftLaws::feed_exactly, crate::proofs::DraftLaws::rule_exactly))]
+pub fn drafts_are_judged()
+    ensures node { (d : Network) (number offset : ℕ) → IsSound d
+        → node_fault d number offset ≡ None ↔ IsSound (with_node d number offset) }
+    ensures stage { (d : Network) (s : Stage) → IsSound d → 0 < length d.nodes
+        → stage_fault d s ≡ None ↔ IsSound (with_stage d s) }
+    ensures link { (d : Network) (l : LinkValue) → IsSound d
+        → (1 ≤ length l.stages) × (length l.stages ≤ 8) → l.feeds ≡ [] → l.gives_way ≡ None
+        → link_fault d l ≡ None ↔ IsSound (with_link d l) }
+    ensures feed { (d : Network) (link : ℕ) (f : Feed) → IsSound d
+        → feed_fault d link f ≡ None ↔ HasLink d link × IsSound (with_feed d link f) }
+    ensures rule { (d : Network) (link : ℕ) (r : GiveWay) → IsSound d
+        → rule_fault d link r ≡ None
+        ↔ HasLink d link × (rule_at d.links link ≡ None) × IsSound (with_rule d link r) }
 {}
 
 /// The worked values come out as they are written beside the definitions.

@@ -20,7 +20,7 @@ mod places;
 
 pub use draft::{Draft, DraftFault};
 pub use edit::{Edit, EditFault};
-pub use laws::{edits_are_judged, worked_networks};
+pub use laws::{drafts_are_judged, edits_are_judged, worked_networks};
 pub use net::Net;
 pub use transyt_parts::{
     ClimbPlan, Feed, Frame, GiveWay, Link, NewLink, Node, PlanFault, Stage, stage_length,

@@ -7,6 +7,7 @@ use crate::link::Link;
 use crate::node::Node;
 use std::alloc::{AllocError, Global};
 
+/// An equal node, with memory of its own.
 fn copy_node(alloc: Global, node: &Node) -> Result<Node, AllocError>
     ensures { IfOk result (λ copy. copy ≡ node.now) }
 {
@@ -17,6 +18,7 @@ fn copy_node(alloc: Global, node: &Node) -> Result<Node, AllocError>
     })
 }
 
+/// An equal link, with memory of its own.
 fn copy_link(alloc: Global, link: &Link) -> Result<Link, AllocError>
     ensures { IfOk result (λ copy. copy ≡ link.now) }
 {

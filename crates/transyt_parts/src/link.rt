@@ -118,7 +118,7 @@ pub fn all_flow(link: &Link) -> u32
     all
 }
 
-/// Adds a feed to a link, after those that it has. Where memory is wanting the link stays as it is.
+/// Adds a feed to a link, after those that it has. Out of memory, the link stays as it is.
 pub fn add_feed(link: &mut Link, feed: Feed) -> Result<(), AllocFailed<Feed>>
     ensures ok { OnOk result (link.new ≡ add_feed feed link.old) }
     ensures err { OnErr result (link.new ≡ link.old) }

@@ -23,7 +23,7 @@ pub struct Stage {
 pub struct Node {
     /// The node's card number, 1 to 99,999.
     pub number: u32,
-    /// The steps by which the node's plan stands behind the network's cycle.
+    /// The steps by which the node's plan comes after the network's cycle.
     pub offset: u32,
     /// The stages in order, at most 8. The first follows the last.
     pub stages: Vec<Stage>,
@@ -37,8 +37,7 @@ impl Model for Node {
     ghost view = { λ n. record { number = n.number; offset = n.offset; stages = n.stages.items } };
 }
 
-/// Adds a stage to a node, after those that it has. Where memory is wanting the node stays as it
-/// is.
+/// Adds a stage to a node, after those that it has. Out of memory, the node stays as it is.
 pub fn add_stage(node: &mut Node, stage: Stage) -> Result<(), AllocFailed<Stage>>
     ensures ok { OnOk result (node.new ≡ add_stage stage node.old) }
     ensures err { OnErr result (node.new ≡ node.old) }

@@ -18,12 +18,14 @@ pub fn same_frame(a: Frame, b: Frame) -> bool
     a == b
 }
 
+/// The stage with its change put to 0.
 fn bare_stage(stage: Stage) -> Stage
     ensures { result ≡ bare_stage stage }
 {
     Stage { change: 0, ..stage }
 }
 
+/// The feed with its flow and cruise time put to 0.
 fn bare_feed(feed: Feed) -> Feed
     ensures { result ≡ bare_feed feed }
 {
@@ -34,6 +36,7 @@ fn bare_feed(feed: Feed) -> Feed
     }
 }
 
+/// Whether the stages differ at most in their changes.
 fn same_stages(a: &[Stage], b: &[Stage]) -> bool
     ensures { IsTrue result ↔ map bare_stage a.now ≡ map bare_stage b.now }
 {
@@ -44,6 +47,7 @@ fn same_stages(a: &[Stage], b: &[Stage]) -> bool
     }
 }
 
+/// Whether the feeds differ at most in flows and cruise times.
 fn same_feeds(a: &[Feed], b: &[Feed]) -> bool
     ensures { IsTrue result ↔ map bare_feed a.now ≡ map bare_feed b.now }
 {
@@ -54,12 +58,14 @@ fn same_feeds(a: &[Feed], b: &[Feed]) -> bool
     }
 }
 
+/// Whether two nodes differ at most in numbers that an edit sets.
 fn same_node(a: &Node, b: &Node) -> bool
     ensures { IsTrue result ↔ bare_node a.now ≡ bare_node b.now }
 {
     a.number == b.number && same_stages(&a.stages, &b.stages)
 }
 
+/// Whether two links differ at most in numbers that an edit sets.
 fn same_link(a: &Link, b: &Link) -> bool
     ensures { IsTrue result ↔ bare_link a.now ≡ bare_link b.now }
 {
@@ -105,6 +111,7 @@ pub fn same_plan(a: &Option<ClimbPlan>, b: &Option<ClimbPlan>) -> bool
     }
 }
 
+/// Makes a node equal to one of its shape.
 fn take_node(node: &mut Node, from: &Node)
     requires { bare_node node.old ≡ bare_node from.now }
     ensures { node.new ≡ from.now }
@@ -113,6 +120,7 @@ fn take_node(node: &mut Node, from: &Node)
     node.stages.copy_from_slice(&from.stages);
 }
 
+/// Makes a link equal to one of its shape.
 fn take_link(link: &mut Link, from: &Link)
     requires { bare_link link.old ≡ bare_link from.now }
     ensures { link.new ≡ from.now }

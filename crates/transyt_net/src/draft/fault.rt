@@ -8,8 +8,8 @@ ghost use Rattle.transyt_parts.specs.Made.{link_from, new_plan};
 use super::{Draft, DraftFault};
 use crate::places::{is_fed, link_at, stages_at};
 use transyt_parts::{
-    Feed, GiveWay, NewLink, Stage, all_differ, all_within, is_feed_in_range, is_link_in_range,
-    is_node_in_range, is_stage_in_range, is_within,
+    Feed, GiveWay, NewLink, Stage, all_differ, all_within, is_budget, is_feed_in_range,
+    is_link_in_range, is_node_in_range, is_percent, is_stage_in_range,
 };
 
 impl Draft {
@@ -120,7 +120,7 @@ impl Draft {
         if !self.are_links(link, rule.other) {
             return Some(DraftFault::Unknown);
         }
-        if rule.percent > 400 {
+        if !is_percent(rule.percent) {
             return Some(DraftFault::Range);
         }
         None
@@ -131,7 +131,7 @@ impl Draft {
         ensures { result ≡ climb_fault self.now (new_plan budget sizes.now) }
     {
         let most = self.frame.step_count - 1;
-        if !(is_within(1, 1_000_000, budget) && all_within(1, most as usize, sizes)) {
+        if !(is_budget(budget) && all_within(1, most as usize, sizes)) {
             return Some(DraftFault::Range);
         }
         None

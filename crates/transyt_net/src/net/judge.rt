@@ -8,7 +8,7 @@ ghost use Rattle.transyt_net.specs.Edits.{change_to};
 use super::Net;
 use crate::edit::{Edit, EditFault};
 use crate::places::{is_fed, node_at, stages_at};
-use transyt_parts::{Stage, have_greens, in_order, is_within};
+use transyt_parts::{Stage, have_greens, in_order, is_cruise, is_flow, is_saturation, is_weight};
 
 /// Unknown, or else Range.
 fn range_fault(known: bool, fits: bool) -> Option<EditFault>
@@ -88,11 +88,11 @@ impl Net {
                 stage,
                 change,
             } => self.change_fault(node, stage, change),
-            Edit::Entry { link, flow } => range_fault(self.is_link(link), flow <= 9999),
+            Edit::Entry { link, flow } => range_fault(self.is_link(link), is_flow(flow)),
             Edit::Part { link, feeder, flow } => part_fault(
                 self.is_link(link) && self.is_link(feeder),
                 is_fed(&self.link_places, &self.links, link, feeder),
-                flow <= 9999,
+                is_flow(flow),
             ),
             Edit::Cruise {
                 link,
@@ -101,13 +101,13 @@ impl Net {
             } => part_fault(
                 self.is_link(link) && self.is_link(feeder),
                 is_fed(&self.link_places, &self.links, link, feeder),
-                is_within(1, 300, seconds),
+                is_cruise(seconds),
             ),
             Edit::Saturation { link, flow } => {
-                range_fault(self.is_link(link), is_within(100, 9999, flow))
+                range_fault(self.is_link(link), is_saturation(flow))
             }
             Edit::Weight { link, delay, stop } => {
-                range_fault(self.is_link(link), delay <= 999 && stop <= 999)
+                range_fault(self.is_link(link), is_weight(delay) && is_weight(stop))
             }
         }
     }

@@ -1,10 +1,10 @@
 -- The node that an edit names is there and takes it; the network is then the edited one, and stays valid.
-use Rattle.std.proofs.Common.{rules, ◌≡◌, ℕ, List, Some, None, sym, ap, ◌∙◌, subst, true}
+use Rattle.std.proofs.Common.{rules, ◌≡◌, List, Some, None, sym, ap, ◌∙◌, subst, true}
 use Rattle.transyt_parts.specs.Parts.{NodeValue}
 use Rattle.transyt_parts.specs.Valid.{node_number}
 use Rattle.transyt_net.specs.declared.edit.Edit.{Edit}
 use Rattle.transyt_net.specs.Parts.{Network, network_of}
-use Rattle.transyt_net.specs.Valid.{node_numbers, numbered, place_of, is_among, IsValid}
+use Rattle.transyt_net.specs.Valid.{node_numbers, place_of, is_among, IsValid}
 use Rattle.transyt_net.specs.EditFaults.{edit_fault}
 use Rattle.transyt_net.specs.Edits.{with_edit, inverse, node_edit}
 use Rattle.transyt_net.proofs.PlaceLaws.{place_is, found_here, IsPut, put_there}

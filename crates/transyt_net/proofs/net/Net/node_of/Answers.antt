@@ -1,8 +1,7 @@
 -- The node that is found is one of the network's.
 use Rattle.std.proofs.Common.{rules, ◌≡◌, ℕ, List, Some}
-use Rattle.transyt_parts.specs.Parts.{NodeValue, LinkValue}
+use Rattle.transyt_parts.specs.Parts.{NodeValue}
 use Rattle.transyt_parts.specs.Valid.{IsNode, node_number}
-use Rattle.transyt_net.specs.Parts.{network_of, link_of}
 use Rattle.transyt_net.specs.Valid.{numbered}
 use Rattle.transyt_net.proofs.EditLaws.{all_numbered}
 use Rattle.transyt_net.proofs.net.Net.node_of.Goals as goal
