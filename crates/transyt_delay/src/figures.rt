@@ -1,3 +1,5 @@
+//! The figures of a link.
+
 ghost use Rattle.std.specs.Prelude.{◌≡◌, ◌+◌, ◌^◌, ◌<◌, ◌≤◌};
 ghost use Rattle.transyt_delay.specs.Figures.{InLimits, figures, in_period, under_root};
 ghost use Rattle.transyt_num.specs.Root.{root};
@@ -60,7 +62,7 @@ pub fn figures_of(terms: &Terms) -> Figures
     }
 }
 
-// what a cycle's total comes to in the period, rounded down
+/// What a cycle's total comes to in the period, rounded down.
 fn in_period(frame: &TermsFrame, total: u64) -> u64
     requires cycle { 30 ≤ frame.now.cycle }
     requires period { frame.now.period ≤ 120 }

@@ -1,3 +1,5 @@
+//! A link's part of the performance index.
+
 ghost use Rattle.std.specs.Prelude.{◌≡◌, ◌^◌, ◌<◌, ◌≤◌};
 ghost use Rattle.transyt_delay.specs.Index.{index_of};
 

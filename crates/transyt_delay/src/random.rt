@@ -1,3 +1,5 @@
+//! The delay of chance and oversaturation.
+
 ghost use Rattle.std.specs.Prelude.{◌≡◌, ◌+◌, ◌^◌, ◌<◌, ◌≤◌};
 ghost use Rattle.transyt_delay.specs.Figures.{random_delay, under_root};
 ghost use Rattle.transyt_num.specs.Root.{root};

@@ -1,3 +1,5 @@
+//! What the figures of a link are made of.
+
 /// The numbers of a network's frame that the figures of a link take, all of them whole.
 #[derive(Clone, Copy, PartialEq, Eq, Debug)]
 pub struct TermsFrame {

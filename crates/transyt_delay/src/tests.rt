@@ -1,3 +1,5 @@
+//! Links worked out by hand.
+
 use super::*;
 
 // the terms of one link in a cycle of 60 seconds and 10 steps, over 60 minutes, and its figures

@@ -5,3 +5,4 @@ pub mod Pulled
 pub mod Reading
 pub mod Told
 pub mod WordParts
+pub mod Worked

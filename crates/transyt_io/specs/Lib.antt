@@ -6,3 +6,5 @@ pub mod Model
 pub mod Pull
 pub mod Reading
 pub mod Streams
+pub mod WorkedEnds
+pub mod WorkedLines

@@ -15,6 +15,7 @@ mod calls;
 mod cut;
 mod gather;
 mod intake;
+mod laws;
 mod line_buffer;
 mod memory_sink;
 mod memory_source;
@@ -29,6 +30,7 @@ mod words;
 
 pub use cut::next_line;
 pub use intake::Intake;
+pub use laws::{counts_rise, worked_ends, worked_lines};
 pub use line_buffer::{LineBuffer, write_line};
 pub use memory_sink::MemorySink;
 pub use memory_source::MemorySource;

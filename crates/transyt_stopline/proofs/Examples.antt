@@ -1,7 +1,7 @@
--- The worked cycles, computed from the definitions.
-use Rattle.std.proofs.Common.{◌≡◌, map, refl}
+-- The worked cycles, computed from the definitions; and that a queue is one number.
+use Rattle.std.proofs.Common.{◌≡◌, ◌≤◌, ℕ, List, map, refl, inl, inr, arith}
 use Rattle.transyt_stopline.specs.LastSteps.{sum_back, greatest}
-use Rattle.transyt_stopline.specs.Queue.{queues, outs}
+use Rattle.transyt_stopline.specs.Queue.{IsQueue, queues, outs}
 use Rattle.transyt_stopline.specs.Stops.{stopped_of}
 use Rattle.transyt_stopline.specs.WorkedCycles.{crowd, green, worked_queues, worked_sums}
 
@@ -15,3 +15,19 @@ pub worked : map (λ row. (queues row.0 green, outs row.0 green, stopped_of row.
     ≡ map (λ row. row.1) worked_queues
 unfolding sum_back greatest
 worked = refl
+
+-- a queue that covers all sums is no less than one that is 0 or just covers some
+least_queue : (arrivals go : List ℕ) (i queue other : ℕ) → IsQueue arrivals go i queue → IsQueue arrivals go i other
+    → other ≤ queue
+least_queue arrivals go i queue other is is_other =
+    elim is_other.least as (λ w. other ≤ queue) [
+      | inl none ↦ omega arith
+      | inr some ↦ let covers = is.covers some.0 some.1 some.2 in omega (arith, covers, some.3)
+    ]
+
+-- so it is one number
+pub only_queue : (arrivals go : List ℕ) (i queue other : ℕ) → IsQueue arrivals go i queue
+    → IsQueue arrivals go i other → queue ≡ other
+only_queue arrivals go i queue other is is_other =
+    let low = least_queue arrivals go i queue other is is_other in
+    let high = least_queue arrivals go i other queue is_other is in omega (arith, low, high)

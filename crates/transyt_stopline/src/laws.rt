@@ -1,9 +1,9 @@
 //! Laws about the definitions.
 
-ghost use Rattle.std.specs.Prelude.{◌≡◌, map};
+ghost use Rattle.std.specs.Prelude.{◌≡◌, ℕ, List, [], ◌∷◌, map};
 ghost use Rattle.transyt_stopline.specs.Cut.{arrivals_of};
 ghost use Rattle.transyt_stopline.specs.LastSteps.{sum_at_places, sum_back};
-ghost use Rattle.transyt_stopline.specs.Queue.{outs, queues};
+ghost use Rattle.transyt_stopline.specs.Queue.{IsQueue, outs, queues};
 ghost use Rattle.transyt_stopline.specs.Stops.{stopped_of};
 ghost use Rattle.transyt_stopline.specs.WorkedCycles.{
   crowd,
@@ -23,4 +23,12 @@ pub fn worked_cycles()
     ensures sums { map (λ row. sum_back crowd row.0.0 row.0.1) worked_sums ≡ map (λ row. row.1) worked_sums }
     ensures queues { map (λ row. (queues row.0 green, outs row.0 green, stopped_of row.0 (queues row.0 green)))
         worked_queues ≡ map (λ row. row.1) worked_queues }
+    ensures stops { stopped_of (7 ∷ 5 ∷ 3 ∷ []) (0 ∷ 1 ∷ 2 ∷ []) ≡ 8 }
+{}
+
+/// The two facts of `IsQueue` are true of one number alone.
+#[tactic(auto, using(crate::proofs::Examples::only_queue))]
+pub fn one_queue()
+    ensures { (arrivals go : List ℕ) (i queue other : ℕ) → IsQueue arrivals go i queue
+        → IsQueue arrivals go i other → queue ≡ other }
 {}

@@ -15,7 +15,7 @@ mod queueing;
 mod stops;
 
 pub use cutting::cut_arrivals;
-pub use laws::worked_cycles;
+pub use laws::{one_queue, worked_cycles};
 pub use queueing::queue;
 pub use stops::stopped;
 
