@@ -3,9 +3,10 @@ use Rattle.std.proofs.Common.{◌≡◌, ℕ, List, [], ◌∷◌, ◌++◌, ref
 use Rattle.std.proofs.lemmas.List.{append-nil}
 use Rattle.std.proofs.lemmas.Grind.{flat_map-append}
 use Rattle.std.specs.Fmt.{decimal}
-use Rattle.transyt_deck.specs.Cards.{Card, numbers_text, card_text, cards_text}
+use Rattle.transyt_deck.specs.declared.card.Card.{Card}
+use Rattle.transyt_deck.specs.Cards.{numbers_text, card_text, cards_text}
 
--- the text of numbers and of further numbers behind them
+-- the text of numbers and of further numbers after them
 pub numbers_text-append : (ns ms : List ℕ) → numbers_text (ns ++ ms) ≡ numbers_text ns ++ numbers_text ms
 numbers_text-append [] ms = refl
 numbers_text-append (n ∷ ns) ms =
@@ -30,6 +31,6 @@ line_text keyword first further l0 l1 l2 l3 l4 clear begun put more closed =
 pub cards_text-one : (card : Card) → card_text card ++ 10 ∷ [] ≡ cards_text (card ∷ [])
 cards_text-one card = sym (append-nil (card_text card ++ 10 ∷ []))
 
--- the text of cards and of further cards behind them
+-- the text of cards and of further cards after them
 pub cards_text-append : (cs ds : List Card) → cards_text (cs ++ ds) ≡ cards_text cs ++ cards_text ds
 cards_text-append cs ds = flat_map-append (λ card. card_text card ++ 10 ∷ []) cs ds

@@ -5,11 +5,9 @@ use Rattle.transyt_io.specs.Streams.{Adds, AddsFront}
 use Rattle.transyt_parts.specs.declared.frame.Frame.{Frame}
 use Rattle.transyt_net.specs.Parts.{Network}
 use Rattle.transyt_parts.specs.Parts.{NodeValue, LinkValue, PlanValue}
+use Rattle.transyt_deck.specs.declared.card.Card.{Card}
+use Rattle.transyt_deck.specs.declared.card.Card.TheVariants.{Form, Cycle, End}
 use Rattle.transyt_deck.specs.Cards.{
-  Card,
-  Form,
-  Cycle,
-  End,
   node_cards,
   link_card,
   feed_cards,

@@ -26,7 +26,8 @@ use Rattle.std.proofs.Common.{
 use Rattle.std.proofs.lemmas.List.{append-nil, at_drop_more}
 use Rattle.transyt_io.specs.Streams.{Adds, AddsFront}
 use Rattle.transyt_io.proofs.Told.{adds_nothing, adds_both, adds_further}
-use Rattle.transyt_deck.specs.Cards.{Card, card_text, cards_text}
+use Rattle.transyt_deck.specs.declared.card.Card.{Card}
+use Rattle.transyt_deck.specs.Cards.{card_text, cards_text}
 use Rattle.transyt_cards.proofs.CardTexts.{cards_text-one, cards_text-append}
 
 -- the first of all these cards are written, and the rest is left

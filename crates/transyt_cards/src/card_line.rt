@@ -5,7 +5,7 @@ ghost use Rattle.transyt_deck.specs.Cards.{numbers_text};
 
 use transyt_io::{Failed, LineBuffer, Sink, write_line};
 
-/// Puts a blank and the decimal text of each number behind what the line holds.
+/// Puts a blank and the decimal text of each number after what the line holds.
 fn put_numbers(numbers: &[u32], line: &mut LineBuffer)
     requires { length line.old + 40 * length numbers.now ≤ 4000 }
     ensures text { line.new ≡ line.old ++ numbers_text numbers.now }

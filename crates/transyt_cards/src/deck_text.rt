@@ -4,7 +4,8 @@ ghost use Rattle.std.specs.Option.{option_map};
 ghost use Rattle.transyt_io.specs.Lines.{lines};
 ghost use Rattle.transyt_io.specs.Streams.{Adds, AddsFront, CountsFault};
 ghost use Rattle.transyt_parts.specs.Parts.{LinkValue};
-ghost use Rattle.transyt_deck.specs.Cards.{Form, Cycle, StageOf, FeedOf, End, node_cards, link_card, feed_cards};
+ghost use Rattle.transyt_deck.specs.Cards.{node_cards, link_card, feed_cards};
+ghost use Rattle.transyt_deck.specs.declared.card.Card.TheVariants as card;
 ghost use Rattle.transyt_deck.specs.Cards.{rule_cards, plan_cards, cards_text, deck_cards, deck_text};
 ghost use Rattle.transyt_deck.specs.Deck.{deck, Complete};
 
@@ -39,9 +40,9 @@ pub fn print_deck<K: Sink>(net: &Net, line: &mut LineBuffer, sink: &mut K) -> Re
 
 fn print_frame<K: Sink>(frame: Frame, line: &mut LineBuffer, sink: &mut K) -> Result<(), Failed>
     ensures ok { OnOk result (Adds (K.written sink.old) (K.written sink.new)
-        (cards_text (Form 2 ∷ Cycle frame ∷ []))) }
+        (cards_text (card.Form 2 ∷ card.Cycle frame ∷ []))) }
     ensures err { OnErr result (AddsFront (K.written sink.old) (K.written sink.new)
-        (cards_text (Form 2 ∷ Cycle frame ∷ []))) }
+        (cards_text (card.Form 2 ∷ card.Cycle frame ∷ []))) }
     ensures cause { CountsFault (K.faults sink.old) (K.faults sink.new) result }
 {
     print_card(b"FORM", &[2], &[], line, sink)?;
@@ -86,9 +87,9 @@ fn print_stages<K: Sink>(
     sink: &mut K,
 ) -> Result<(), Failed>
     ensures ok { OnOk result (Adds (K.written sink.old) (K.written sink.new)
-        (cards_text (map StageOf stages.now))) }
+        (cards_text (map card.Stage stages.now))) }
     ensures err { OnErr result (AddsFront (K.written sink.old) (K.written sink.new)
-        (cards_text (map StageOf stages.now))) }
+        (cards_text (map card.Stage stages.now))) }
     ensures cause { CountsFault (K.faults sink.old) (K.faults sink.new) result }
 {
     for stage in stages {
@@ -153,9 +154,9 @@ fn print_feeds_of<K: Sink>(
     sink: &mut K,
 ) -> Result<(), Failed>
     ensures ok { OnOk result (Adds (K.written sink.old) (K.written sink.new)
-        (cards_text (map (FeedOf link) feeds.now))) }
+        (cards_text (map (card.Feed link) feeds.now))) }
     ensures err { OnErr result (AddsFront (K.written sink.old) (K.written sink.new)
-        (cards_text (map (FeedOf link) feeds.now))) }
+        (cards_text (map (card.Feed link) feeds.now))) }
     ensures cause { CountsFault (K.faults sink.old) (K.faults sink.new) result }
 {
     for feed in feeds {

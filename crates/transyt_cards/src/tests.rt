@@ -5,7 +5,7 @@ use std::test::Fail;
 use transyt_io::{LineBuffer, MemorySink};
 use transyt_net::Net;
 
-// What a sink holds behind `print_deck` where its calls of these numbers fail, and whether the answer was Ok.
+// What a sink holds after `print_deck` where its calls of these numbers fail, and whether the answer was Ok.
 fn printed(alloc: Global, net: &Net, fail: Vec<u32>) -> Result<(Vec<u8>, bool), AllocError> {
     let mut line = LineBuffer::open(alloc)?;
     let mut sink = MemorySink::new(alloc, 4096, 4096, fail)?;
@@ -32,37 +32,77 @@ LINK 1 1 360 1800 1 1 0 0 1
 END
 ";
 
-const EVERY_CARD: &[u8] = b"* two links that feed each other
+// Three junctions, no number of which is neutral, with their FEED and YIELD cards mixed.
+const EVERY_CARD: &[u8] = b"* three junctions
 FORM 2
-CYCLE 60 10 2 60 100 20
-
-NODE\t0001 0
-STAGE 0 1 2
-STAGE 5 1 2
-LINK 1 1 360 1800 1 2 3 4 1
-LINK 2 1 0 1800 1 1 0 0 2 1
-YIELD 2 1 50
-FEED 2 1 180 15
-FEED 1 2 90 16
-YIELD 1 2 400
-FEED 2 2 60 17
-STEPS 100 1 05
+CYCLE 90 18 3 45 37 40
+NODE 21 4
+STAGE 2 1 3
+STAGE 8 2 4
+STAGE 15 0 1
+NODE 7 17
+STAGE 5 3 2
+STAGE 16 1 5
+NODE 300 11
+STAGE 3 1 2
+STAGE 7 2 3
+STAGE 12 0 1
+STAGE 14 3 4
+LINK 5 21 431 1733 3 2 1 2 1
+LINK 2 21 97 1619 5 7 0 1 2 3
+LINK 9 7 613 1877 2 11 2 0 2
+LINK 4 7 0 1451 4 1 0 0 1
+LINK 8 300 229 1999 6 5 1 1 1 3
+LINK 3 300 877 1201 1 9 0 0 4
+LINK 6 300 53 1327 7 3 3 4 2
+LINK 11 21 151 907 9 4 0 0 1 2 3
+FEED 4 5 311 23
+FEED 8 9 402 47
+YIELD 4 9 35
+FEED 4 2 77 61
+FEED 5 8 173 38
+FEED 8 3 219 300
+FEED 6 6 41 17
+YIELD 11 5 150
+FEED 11 4 88 9
+FEED 11 3 60 111
+STEPS 250 4 1 7
 END
 ";
 
 const EVERY_CARD_TEXT: &[u8] = b"FORM 2
-CYCLE 60 10 2 60 100 20
-NODE 1 0
-STAGE 0 1 2
-STAGE 5 1 2
-LINK 1 1 360 1800 1 2 3 4 1
-LINK 2 1 0 1800 1 1 0 0 2 1
-FEED 1 2 90 16
-FEED 2 1 180 15
-FEED 2 2 60 17
-YIELD 1 2 400
-YIELD 2 1 50
-STEPS 100 1 5
+CYCLE 90 18 3 45 37 40
+NODE 21 4
+STAGE 2 1 3
+STAGE 8 2 4
+STAGE 15 0 1
+NODE 7 17
+STAGE 5 3 2
+STAGE 16 1 5
+NODE 300 11
+STAGE 3 1 2
+STAGE 7 2 3
+STAGE 12 0 1
+STAGE 14 3 4
+LINK 5 21 431 1733 3 2 1 2 1
+LINK 2 21 97 1619 5 7 0 1 2 3
+LINK 9 7 613 1877 2 11 2 0 2
+LINK 4 7 0 1451 4 1 0 0 1
+LINK 8 300 229 1999 6 5 1 1 1 3
+LINK 3 300 877 1201 1 9 0 0 4
+LINK 6 300 53 1327 7 3 3 4 2
+LINK 11 21 151 907 9 4 0 0 1 2 3
+FEED 5 8 173 38
+FEED 4 5 311 23
+FEED 4 2 77 61
+FEED 8 9 402 47
+FEED 8 3 219 300
+FEED 6 6 41 17
+FEED 11 4 88 9
+FEED 11 3 60 111
+YIELD 4 9 35
+YIELD 11 5 150
+STEPS 250 4 1 7
 END
 ";
 
@@ -95,12 +135,12 @@ fn a_deck_is_written_to_the_byte(rt: HostRuntime) -> Result<(), Fail> {
         ),
         (
             EVERY_CARD,
-            b"FORM 2\nCYCLE 60 10 2 60 100 20\n".as_slice(),
+            b"FORM 2\nCYCLE 90 18 3 45 37 40\n".as_slice(),
             EVERY_CARD_TEXT,
         ),
         (
             EVERY_CARD_TEXT,
-            b"FORM 2\nCYCLE 60 10 2 60 100 20\n".as_slice(),
+            b"FORM 2\nCYCLE 90 18 3 45 37 40\n".as_slice(),
             EVERY_CARD_TEXT,
         ),
         (TOWN, b"FORM 2\nCYCLE 100 50 3 60 100 35\n".as_slice(), TOWN),

@@ -6,9 +6,9 @@ use Rattle.transyt_net.specs.declared.edit.Edit.TheVariants as e
 use Rattle.transyt_commands.specs.declared.command.Command.{Command}
 use Rattle.transyt_commands.specs.declared.command.Command.TheVariants as c
 
--- each command: its keyword, how many numbers stand after it, and what it says with them
-abbrev pub commands : List (Entry Command)
-commands =
+-- the edits: the keyword of each, how many numbers stand after it, and what it says with them
+abbrev pub edits : List (Entry Command)
+edits =
     entry (codes "OFFSET") 2 (λ ns. c.Edit (e.Offset (at ns 0) (at ns 1)))
     ∷ entry (codes "CHANGE") 3 (λ ns. c.Edit (e.Change (at ns 0) (at ns 1) (at ns 2)))
     ∷ entry (codes "ENTRY") 2 (λ ns. c.Edit (e.Entry (at ns 0) (at ns 1)))
@@ -16,7 +16,12 @@ commands =
     ∷ entry (codes "CRUISE") 3 (λ ns. c.Edit (e.Cruise (at ns 0) (at ns 1) (at ns 2)))
     ∷ entry (codes "SATURATION") 2 (λ ns. c.Edit (e.Saturation (at ns 0) (at ns 1)))
     ∷ entry (codes "WEIGHT") 3 (λ ns. c.Edit (e.Weight (at ns 0) (at ns 1) (at ns 2)))
-    ∷ entry (codes "TRIAL") 0 (λ ns. c.Trial)
+    ∷ []
+
+-- the same of all commands
+abbrev pub commands : List (Entry Command)
+commands =
+    entry (codes "TRIAL") 0 (λ ns. c.Trial)
     ∷ entry (codes "BACK") 0 (λ ns. c.Back)
     ∷ entry (codes "KEEP") 0 (λ ns. c.Keep)
     ∷ entry (codes "CLIMB") 0 (λ ns. c.Climb)
@@ -30,7 +35,7 @@ commands =
     ∷ entry (codes "WORK") 0 (λ ns. c.Work)
     ∷ entry (codes "DECK") 0 (λ ns. c.Deck)
     ∷ entry (codes "STOP") 0 (λ ns. c.Stop)
-    ∷ []
+    ∷ edits
 
 -- the command of a line, none for a comment or a blank line, or the first of the codes 11, 10, 12 and 13
 abbrev pub command_in : List ℕ → Result (Option Command) Code

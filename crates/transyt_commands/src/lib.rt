@@ -10,8 +10,12 @@
 #![tactic(auto)]
 
 mod command;
+mod laws;
 mod reading;
 
 pub use command::Command;
+pub use laws::worked_lines;
 pub use reading::read_command;
 
+#[cfg(test)]
+mod tests;

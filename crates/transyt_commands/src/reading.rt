@@ -2,7 +2,9 @@
 ghost use Rattle.std.specs.Prelude.{◌≡◌, ◌≤◌, ◌↔◌, IsTrue, IfErr, IfSome, None, Some, Ok};
 ghost use Rattle.transyt_io.specs.Lines.{is_skipped};
 ghost use Rattle.transyt_syntax.specs.Syntax.{named, with_numbers, counts_of, syntax_code};
-ghost use Rattle.transyt_commands.specs.Commands.{commands, command_in};
+ghost use Rattle.transyt_commands.specs.Commands.{commands, edits, command_in};
+ghost use Rattle.transyt_commands.specs.declared.command.Command.TheVariants as command;
+ghost use Rattle.transyt_net.specs.declared.edit.Edit.TheVariants as edit;
 
 use crate::command::Command;
 use transyt_io::is_skipped;
@@ -32,15 +34,8 @@ fn command_named(keyword: &[u8], numbers: &Numbers) -> Option<((usize, usize), C
     ensures command { result ≡ with_numbers numbers.now (named commands keyword.now) }
     ensures most { IfSome result (λ found. found.0.1 ≤ 17) }
 {
-    let (a, b, c) = (numbers.at(0), numbers.at(1), numbers.at(2));
+    let link = numbers.at(0);
     match keyword {
-        _ if is_word(keyword, b"OFFSET") => Some(((2, 2), Command::Edit(Edit::Offset { node: a, offset: b }))),
-        _ if is_word(keyword, b"CHANGE") => Some(((3, 3), Command::Edit(Edit::Change { node: a, stage: b, change: c }))),
-        _ if is_word(keyword, b"ENTRY") => Some(((2, 2), Command::Edit(Edit::Entry { link: a, flow: b }))),
-        _ if is_word(keyword, b"PART") => Some(((3, 3), Command::Edit(Edit::Part { link: a, feeder: b, flow: c }))),
-        _ if is_word(keyword, b"CRUISE") => Some(((3, 3), Command::Edit(Edit::Cruise { link: a, feeder: b, seconds: c }))),
-        _ if is_word(keyword, b"SATURATION") => Some(((2, 2), Command::Edit(Edit::Saturation { link: a, flow: b }))),
-        _ if is_word(keyword, b"WEIGHT") => Some(((3, 3), Command::Edit(Edit::Weight { link: a, delay: b, stop: c }))),
         _ if is_word(keyword, b"TRIAL") => Some(((0, 0), Command::Trial)),
         _ if is_word(keyword, b"BACK") => Some(((0, 0), Command::Back)),
         _ if is_word(keyword, b"KEEP") => Some(((0, 0), Command::Keep)),
@@ -49,12 +44,79 @@ fn command_named(keyword: &[u8], numbers: &Numbers) -> Option<((usize, usize), C
         _ if is_word(keyword, b"INDEX") => Some(((0, 0), Command::Index)),
         _ if is_word(keyword, b"LINKS") => Some(((0, 0), Command::Links)),
         _ if is_word(keyword, b"TIMING") => Some(((0, 0), Command::Timing)),
-        _ if is_word(keyword, b"PROFILE") => Some(((1, 1), Command::Profile { link: a })),
-        _ if is_word(keyword, b"PLOT") => Some(((1, 1), Command::Plot { link: a })),
-        _ if is_word(keyword, b"QUEUE") => Some(((1, 1), Command::Queue { link: a })),
+        _ if is_word(keyword, b"PROFILE") => Some(((1, 1), Command::Profile { link })),
+        _ if is_word(keyword, b"PLOT") => Some(((1, 1), Command::Plot { link })),
+        _ if is_word(keyword, b"QUEUE") => Some(((1, 1), Command::Queue { link })),
         _ if is_word(keyword, b"WORK") => Some(((0, 0), Command::Work)),
         _ if is_word(keyword, b"DECK") => Some(((0, 0), Command::Deck)),
         _ if is_word(keyword, b"STOP") => Some(((0, 0), Command::Stop)),
+        _ => edit_named(keyword, numbers),
+    }
+}
+
+/// The same of the keywords of edits.
+fn edit_named(keyword: &[u8], numbers: &Numbers) -> Option<((usize, usize), Command)>
+    ensures command { result ≡ with_numbers numbers.now (named edits keyword.now) }
+    ensures most { IfSome result (λ found. found.0.1 ≤ 17) }
+{
+    let (a, b, c) = (numbers.at(0), numbers.at(1), numbers.at(2));
+    match keyword {
+        _ if is_word(keyword, b"OFFSET") => edit(2, Edit::Offset { node: a, offset: b }),
+        _ if is_word(keyword, b"CHANGE") => change_of(a, b, c),
+        _ if is_word(keyword, b"ENTRY") => edit(2, Edit::Entry { link: a, flow: b }),
+        _ if is_word(keyword, b"PART") => part_of(a, b, c),
+        _ if is_word(keyword, b"CRUISE") => cruise_of(a, b, c),
+        _ if is_word(keyword, b"SATURATION") => edit(2, Edit::Saturation { link: a, flow: b }),
+        _ if is_word(keyword, b"WEIGHT") => weight_of(a, b, c),
         _ => None,
     }
+}
+
+/// An edit after so many numbers.
+fn edit(count: usize, edit: Edit) -> Option<((usize, usize), Command)>
+    ensures { result ≡ Some ((count, count), command.Edit edit) }
+{
+    Some(((count, count), Command::Edit(edit)))
+}
+
+/// The CHANGE command of these numbers.
+fn change_of(node: u32, stage: u32, change: u32) -> Option<((usize, usize), Command)>
+    ensures { result ≡ Some ((3, 3), command.Edit (edit.Change node stage change)) }
+{
+    edit(
+        3,
+        Edit::Change {
+            node,
+            stage,
+            change,
+        },
+    )
+}
+
+/// The PART command of these numbers.
+fn part_of(link: u32, feeder: u32, flow: u32) -> Option<((usize, usize), Command)>
+    ensures { result ≡ Some ((3, 3), command.Edit (edit.Part link feeder flow)) }
+{
+    edit(3, Edit::Part { link, feeder, flow })
+}
+
+/// The CRUISE command of these numbers.
+fn cruise_of(link: u32, feeder: u32, seconds: u32) -> Option<((usize, usize), Command)>
+    ensures { result ≡ Some ((3, 3), command.Edit (edit.Cruise link feeder seconds)) }
+{
+    edit(
+        3,
+        Edit::Cruise {
+            link,
+            feeder,
+            seconds,
+        },
+    )
+}
+
+/// The WEIGHT command of these numbers.
+fn weight_of(link: u32, delay: u32, stop: u32) -> Option<((usize, usize), Command)>
+    ensures { result ≡ Some ((3, 3), command.Edit (edit.Weight link delay stop)) }
+{
+    edit(3, Edit::Weight { link, delay, stop })
 }

@@ -5,3 +5,6 @@ pub mod Deck
 pub mod Reader
 pub mod State
 pub mod Table
+pub mod WorkedCodes
+pub mod WorkedOrder
+pub mod WorkedTown

@@ -9,10 +9,9 @@ use Rattle.transyt_syntax.specs.Syntax.{unless, said}
 use Rattle.transyt_parts.specs.declared.frame.Frame.{Frame}
 use Rattle.transyt_parts.specs.declared.stage_plan.PlanFault.{PlanFault}
 use Rattle.transyt_parts.specs.declared.stage_plan.PlanFault.TheVariants as plan
-use Rattle.transyt_parts.specs.Parts.{LinkValue}
 use Rattle.transyt_parts.specs.Valid.{within, is_frame}
 use Rattle.transyt_parts.specs.Plan.{first_fault}
-use Rattle.transyt_parts.specs.Made.{new_link, new_plan}
+use Rattle.transyt_parts.specs.Made.{link_from, new_plan}
 use Rattle.transyt_net.specs.declared.draft.DraftFault.{DraftFault}
 use Rattle.transyt_net.specs.declared.draft.DraftFault.TheVariants as fault
 use Rattle.transyt_net.specs.Parts.{Network}
@@ -20,7 +19,6 @@ use Rattle.transyt_net.specs.Faults.{node_fault, stage_fault, link_fault, feed_f
 use Rattle.transyt_net.specs.Faults.{empty, with_node, with_stage, with_link, with_feed, with_rule, with_plan}
 use Rattle.transyt_deck.specs.declared.card.Card.{Card}
 use Rattle.transyt_deck.specs.declared.card.Card.TheVariants as c
-use Rattle.transyt_parts.specs.declared.link.NewLink.{NewLink}
 use Rattle.transyt_deck.specs.declared.state.Part.{Part}
 use Rattle.transyt_deck.specs.declared.state.Part.TheVariants as p
 use Rattle.transyt_deck.specs.declared.state.State.{State}
@@ -53,11 +51,6 @@ abbrev pub plan_code : PlanFault → Code
 plan_code plan.FewStages = code.FewStages
 plan_code plan.StageOrder = code.StageOrder
 plan_code plan.LeastGreen = code.LeastGreen
-
--- the link of a LINK card: without feeds and rule yet
-abbrev pub link_from : NewLink → List ℕ → LinkValue
-link_from l stages =
-    new_link l.number l.node l.entry l.saturation l.delay_weight l.stop_weight l.start_lag l.end_lag stages
 
 -- what a card makes: out of its place, or refused with the code of its fault, or the part and the network with it
 abbrev pub placed : Bool → Option DraftFault → Part → Network → Result (Part × Network) Code

@@ -1,6 +1,7 @@
 //! A card: what one line of a deck says.
 ghost use Rattle.std.specs.Prelude.{◌≡◌, ◌≤◌, drop, length, true, IfSome, IfOk};
-ghost use Rattle.transyt_syntax.specs.Syntax.{named, is_count, said, with_numbers};
+ghost use Rattle.transyt_syntax.specs.Syntax.{at, named, is_count, said, with_numbers};
+ghost use Rattle.transyt_parts.specs.Made.{new_stage, new_feed, new_rule};
 ghost use Rattle.transyt_deck.specs.Table.{cards, frame_of, new_link_of};
 ghost use Rattle.transyt_deck.specs.Adds.{CanAdd};
 ghost use Rattle.transyt_deck.specs.declared.card.Card.TheVariants as card;
@@ -77,52 +78,19 @@ fn card_named(form: u32, keyword: &[u8], ns: &Numbers) -> Option<((usize, usize)
     ensures most { IfSome result (λ found. found.0.1 ≤ 17) }
     ensures counts { IfSome result (λ found. is_count found.0 (length ns.now) ≡ true → CanAdd found.1) }
 {
-    let (a, b, c) = (ns.at(0), ns.at(1), ns.at(2));
+    let (number, offset) = (ns.at(0), ns.at(1));
     match keyword {
-        _ if is_word(keyword, b"FORM") => Some(((1, 1), Card::Form(a))),
+        _ if is_word(keyword, b"FORM") => Some(((1, 1), Card::Form(ns.at(0)))),
         _ if is_word(keyword, b"CYCLE") => Some(((5, 6), Card::Cycle(frame_of(ns)))),
-        _ if is_word(keyword, b"NODE") => Some((
-            (2, 2),
-            Card::Node {
-                number: a,
-                offset: b,
-            },
-        )),
-        _ if is_word(keyword, b"STAGE") => {
-            let stage = Stage {
-                change: a,
-                intergreen: b,
-                least: c,
-            };
-            Some(((3, 3), Card::Stage(stage)))
+        _ if is_word(keyword, b"NODE") => Some(((2, 2), Card::Node { number, offset })),
+        _ if is_word(keyword, b"STAGE") => Some(((3, 3), stage_of(ns))),
+        _ if is_word(keyword, b"LINK") && form == 2 => {
+            Some(((9, 16), link_of(ns, ns.at(6), ns.at(7), 8)))
         }
-        _ if is_word(keyword, b"LINK") && form == 2 => Some((
-            (9, 16),
-            link_of(ns, ns.at(6), ns.at(7), 8),
-        )),
         _ if is_word(keyword, b"LINK") => Some(((7, 14), link_of(ns, 0, 0, 6))),
-        _ if is_word(keyword, b"FEED") => {
-            let feed = Feed {
-                feeder: b,
-                flow: c,
-                cruise: ns.at(3),
-            };
-            Some(((4, 4), Card::Feed { link: a, feed }))
-        }
-        _ if is_word(keyword, b"YIELD") => {
-            let rule = GiveWay {
-                other: b,
-                percent: c,
-            };
-            Some(((3, 3), Card::Yield { link: a, rule }))
-        }
-        _ if is_word(keyword, b"STEPS") => Some((
-            (2, 17),
-            Card::Steps {
-                budget: a,
-                sizes: ns.after(1),
-            },
-        )),
+        _ if is_word(keyword, b"FEED") => Some(((4, 4), feed_of(ns))),
+        _ if is_word(keyword, b"YIELD") => Some(((3, 3), rule_of(ns))),
+        _ if is_word(keyword, b"STEPS") => Some(((2, 17), steps_of(ns))),
         _ if is_word(keyword, b"END") => Some(((0, 0), Card::End)),
         _ => None,
     }
@@ -160,5 +128,56 @@ fn link_of(ns: &Numbers, start_lag: u32, end_lag: u32, front: usize) -> Card
     Card::Link {
         link,
         stages: ns.after(front),
+    }
+}
+
+/// The STAGE card of these numbers.
+fn stage_of(ns: &Numbers) -> Card
+    ensures { result ≡ card.Stage (new_stage (at ns.now 0) (at ns.now 1) (at ns.now 2)) }
+{
+    Card::Stage(Stage {
+        change: ns.at(0),
+        intergreen: ns.at(1),
+        least: ns.at(2),
+    })
+}
+
+/// The FEED card of these numbers.
+fn feed_of(ns: &Numbers) -> Card
+    ensures { result ≡ card.Feed (at ns.now 0)
+        (new_feed (at ns.now 1) (at ns.now 2) (at ns.now 3)) }
+{
+    let feed = Feed {
+        feeder: ns.at(1),
+        flow: ns.at(2),
+        cruise: ns.at(3),
+    };
+    Card::Feed {
+        link: ns.at(0),
+        feed,
+    }
+}
+
+/// The YIELD card of these numbers.
+fn rule_of(ns: &Numbers) -> Card
+    ensures { result ≡ card.Yield (at ns.now 0) (new_rule (at ns.now 1) (at ns.now 2)) }
+{
+    let rule = GiveWay {
+        other: ns.at(1),
+        percent: ns.at(2),
+    };
+    Card::Yield {
+        link: ns.at(0),
+        rule,
+    }
+}
+
+/// The STEPS card of these numbers.
+fn steps_of(ns: &Numbers) -> Card
+    ensures { result ≡ card.Steps (at ns.now 0) (drop 1 ns.now) }
+{
+    Card::Steps {
+        budget: ns.at(0),
+        sizes: ns.after(1),
     }
 }

@@ -1,6 +1,7 @@
 //! The deck at the front of bytes, and where it ends.
-ghost use Rattle.std.specs.Prelude.{◌≡◌, ◌≤◌, length, IfOk, IfErr, Ok};
-ghost use Rattle.transyt_deck.specs.Cut.{cut_of, RefusesDeck};
+ghost use Rattle.std.specs.Prelude.{◌≡◌, ◌≤◌, length, IsTrue, IfOk, IfErr, Ok};
+ghost use Rattle.transyt_deck.specs.Reader.{may_finish};
+ghost use Rattle.transyt_deck.specs.Cut.{cut_at, cut_of, RefusesDeck};
 
 use crate::reader::{CardReader, CardStop, Progress};
 use std::alloc::Global;
@@ -31,18 +32,24 @@ pub fn cut_deck(alloc: Global, input: &[u8]) -> Result<Cut, CardStop>
 {
     let mut reader = CardReader::new(alloc);
     let mut rest = input;
-    while reader.is_live() {
-        let Some((line, after)) = next_line(rest) else {
-            break;
-        };
-        reader.take(line)?;
-        rest = after;
+    while let Some((line, after)) = next_line(rest) {
+        match reader.take(line) {
+            Ok(Progress::More) => rest = after,
+            Ok(Progress::Complete) => return close(reader, input.len() - after.len()),
+            Err(stop) => return Err(stop),
+        }
     }
+    close(reader, input.len())
+}
+
+/// The cut of the deck that a reader has taken, with so many bytes.
+fn close(reader: CardReader, rest: usize) -> Result<Cut, CardStop>
+    requires { IsTrue (may_finish reader) }
+    ensures { result ≡ cut_at reader.deck rest }
+{
     let line = reader.taken();
-    let net = reader.finish()?;
-    Ok(Cut {
-        net,
-        line,
-        rest: input.len() - rest.len(),
-    })
+    match reader.finish() {
+        Ok(net) => Ok(Cut { net, line, rest }),
+        Err(stop) => Err(stop),
+    }
 }

@@ -12,10 +12,15 @@
 
 mod card;
 mod cut;
+mod laws;
 mod reader;
 mod state;
 
 pub use card::Card;
 pub use cut::{Cut, cut_deck};
+pub use laws::{line_by_line, text_reads_back, worked_decks};
 pub use reader::{CardReader, CardStop, Progress};
 pub use state::{Part, State};
+
+#[cfg(test)]
+mod tests;

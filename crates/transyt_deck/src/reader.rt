@@ -3,8 +3,7 @@ ghost use Rattle.std.specs.Prelude.{◌≡◌, ◌<◌, true, IsTrue, OnOk, OnEr
 ghost use Rattle.transyt_deck.specs.Deck.{start, next, line_count};
 ghost use Rattle.transyt_deck.specs.Reader.{Answers, goes_on, may_finish, finished};
 
-use crate::card::{Card, read_card};
-use crate::state::{Part, State, Stop, add};
+use crate::state::{Part, State, Stop, take_line};
 use std::alloc::Global;
 use std::marker::Model;
 use transyt_net::Net;
@@ -88,6 +87,7 @@ impl CardReader {
 
     /// Takes the next line, or refuses it with its number and the first code that holds of it after the lines before
     /// it. After `Complete` or an error the reader is no longer live; an error changes nothing else.
+    #[tactic(auto, using(crate::proofs::Adding::no_code))]
     pub fn take(&mut self, line: &[u8]) -> Result<Progress, CardStop>
         requires live { IsTrue self.old.live }
         requires few { line_count self.old.deck < 4294967294 }
@@ -96,30 +96,15 @@ impl CardReader {
         ensures unchanged { OnErr result (self.new.deck ≡ self.old.deck) }
         ensures live { self.new.live ≡ goes_on result }
     {
+        let number = self.taken + 1;
         self.live = false;
-        let card = match read_card(self.state.form(), line) {
-            Ok(card) => card,
-            Err(code) => {
-                return Err(CardStop::Refused {
-                    card: self.taken + 1,
-                    code,
-                });
-            }
-        };
-        if let Some(card) = &card {
-            match add(self.alloc, &mut self.state, card) {
-                Ok(()) => {}
-                Err(Stop::Code(code)) => {
-                    return Err(CardStop::Refused {
-                        card: self.taken + 1,
-                        code,
-                    });
-                }
-                Err(Stop::Memory) => return Err(CardStop::Memory),
-            }
+        match take_line(self.alloc, &mut self.state, line) {
+            Ok(()) => {}
+            Err(Stop::Code(code)) => return Err(CardStop::Refused { card: number, code }),
+            Err(Stop::Memory) => return Err(CardStop::Memory),
         }
-        self.taken += 1;
-        if matches!(card, Some(Card::End)) {
+        self.taken = number;
+        if self.state.is_ended() {
             return Ok(Progress::Complete);
         }
         self.live = true;

@@ -1,12 +1,13 @@
 //! What the cards of a deck have come to, and one card more.
-ghost use Rattle.std.specs.Prelude.{◌≡◌, ◌≤◌, length, OnOk, OnErr, IfOk};
+ghost use Rattle.std.specs.Prelude.{◌≡◌, ◌≤◌, ℕ, length, OnOk, OnErr, IfOk, true, false};
+ghost use Rattle.transyt_deck.specs.Deck.{deck_at, is_open, is_complete};
 ghost use Rattle.transyt_deck.specs.declared.card.Card.TheVariants as card;
-ghost use Rattle.transyt_deck.specs.State.{rank, up_to, form_of, framed, added, state_with, plan_code};
+ghost use Rattle.transyt_deck.specs.State.{rank, up_to, form_of, framed, added, state_with, state_after, plan_code};
 ghost use Rattle.transyt_deck.specs.Adds.{Adds, Begins, CanAdd, IsTied, IsTiedState, stopped};
 
-use crate::card::Card;
+use crate::card::{Card, read_card};
 use std::alloc::Global;
-use transyt_net::{Draft, DraftFault, Feed, Frame, GiveWay, NewLink, PlanFault, Stage};
+use transyt_net::{Draft, DraftFault, Feed, GiveWay, NewLink, PlanFault, Stage};
 use transyt_syntax::{Code, Numbers};
 
 /// How far a deck has come from its CYCLE card on; later parts come later.
@@ -90,10 +91,34 @@ impl State {
             State::Making { form, .. } => *form,
         }
     }
+
+    /// Whether END was accepted.
+    pub(crate) fn is_ended(&self) -> bool
+        ensures open { (n : ℕ) → result ≡ false → is_open (deck_at n self.now) ≡ true }
+        ensures complete { (n : ℕ) → result ≡ true → is_complete (deck_at n self.now) ≡ true }
+    {
+        match self {
+            State::Start | State::Formed { .. } => false,
+            State::Making { part, .. } => *part == Part::End,
+        }
+    }
+}
+
+/// Takes one line; a line that is refused changes nothing.
+pub(crate) fn take_line(alloc: Global, state: &mut State, line: &[u8]) -> Result<(), Stop>
+    requires tied { IsTiedState state.old }
+    ensures adds { Adds (state_after state.old line.now) state.old state.new result }
+    ensures stays_tied { IsTiedState state.new }
+{
+    match read_card(state.form(), line) {
+        Ok(None) => Ok(()),
+        Ok(Some(card)) => add(alloc, state, &card),
+        Err(code) => Err(Stop::Code(code)),
+    }
 }
 
 /// Adds one card; a card that is refused changes nothing.
-pub(crate) fn add(alloc: Global, state: &mut State, card: &Card) -> Result<(), Stop>
+fn add(alloc: Global, state: &mut State, card: &Card) -> Result<(), Stop>
     requires tied { IsTiedState state.old }
     requires counts { CanAdd card.now }
     ensures adds { Adds (state_with state.old card.now) state.old state.new result }
@@ -201,9 +226,13 @@ fn add_link(part: &mut Part, draft: &mut Draft, link: NewLink, stages: &Numbers)
     if !part.is_up_to(Part::Links) {
         return Err(Stop::Code(Code::OutOfPlace));
     }
-    stopped(draft.link(link, stages.as_slice()))?;
-    *part = Part::Links;
-    Ok(())
+    match draft.link(link, stages.as_slice()) {
+        Ok(()) => {
+            *part = Part::Links;
+            Ok(())
+        }
+        Err(fault) => stopped(Err(fault)),
+    }
 }
 
 /// A FEED card.

@@ -1,6 +1,7 @@
 //! The codes of a line.
-ghost use Rattle.std.specs.Prelude.{◌≡◌, ◌≤◌, List, [], length, true, Some, IfSome, IfOk, IsSome, is_some, unwrap_or};
+ghost use Rattle.std.specs.Prelude.{◌≡◌, ◌≤◌, List, [], length, true, IfSome, IfOk, IsSome, is_some, unwrap_or};
 ghost use Rattle.std.specs.List.{list_all};
+ghost use Rattle.std.specs.Option.{option_map};
 ghost use Rattle.transyt_io.specs.Lines.{words};
 ghost use Rattle.transyt_syntax.specs.Syntax.{is_plain, further_words, few_numbers, syntax_code, is_count};
 ghost use Rattle.transyt_syntax.specs.Syntax.{Entry, entry_of, with_numbers, counts_of, says_of, unless};
@@ -40,9 +41,9 @@ pub fn say<A: Drop>(
         → found ≡ with_numbers further.now.numbers (entry_of table line.now)
         → result ≡ unless (syntax_code (counts_of table line.now) line.now) (says_of table line.now) }
     ensures something { IfOk result IsSome }
-    ensures found { IfOk result (λ said. IfSome found (λ f.
-        (said ≡ Some f.1) × (is_count f.0 further.now.count ≡ true)
-        × (further.now.are_numbers ≡ true))) }
+    ensures found { IfOk result (λ said. said ≡ option_map (λ f. f.1) found) }
+    ensures counted { IfOk result (λ said. IfSome found (λ f.
+        (is_count f.0 further.now.count ≡ true) × (further.now.are_numbers ≡ true))) }
 {
     let counts = match &found {
         Some((counts, _)) => Some(*counts),

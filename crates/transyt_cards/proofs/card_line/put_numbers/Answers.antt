@@ -21,7 +21,7 @@ use Rattle.std.specs.Fmt.{decimal}
 use Rattle.transyt_deck.specs.Cards.{numbers_text}
 use Rattle.transyt_cards.proofs.card_line.put_numbers.Goals as goal
 
--- one number more stands behind what the line held
+-- one number more stands after what the line held
 pub loop-number-preserved : goal.loop-number-preserved
 loop-number-preserved c =
     let i = c.loop-number.number-index in

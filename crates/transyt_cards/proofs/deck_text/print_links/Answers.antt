@@ -17,7 +17,7 @@ loop-link-preserved g c =
       later = omega (arith, c.loop-link.invariant.later, c.print_link.ensures.cause.later);
     }
 
--- the text broke off in this one
+-- the text broke off in card one
 pub returns-in_err-print_link-clause-err : goal.returns-in_err-print_link-clause-err
 returns-in_err-print_link-clause-err g c =
     let i = c.loop-link.link-index in

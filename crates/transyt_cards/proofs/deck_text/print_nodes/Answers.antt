@@ -18,7 +18,7 @@ loop-node-preserved g c =
       later = omega (arith, c.loop-node.invariant.later, c.print_node.ensures.cause.later);
     }
 
--- the text broke off in this one
+-- the text broke off in card one
 pub returns-in_err-print_node-clause-err : goal.returns-in_err-print_node-clause-err
 returns-in_err-print_node-clause-err g c =
     let i = c.loop-node.node-index in

@@ -1,0 +1,102 @@
+-- The text of cards, read card by card.
+use Rattle.std.proofs.Common.{◌≡◌, ℕ, zero, suc, ◌+◌, ◌-◌, ◌≤◌, ◌==◌, List, [], ◌∷◌, ◌++◌, map, length, take, Bool}
+use Rattle.std.proofs.Common.{true, false, cond, Ok, refl, ◌∙◌, ap, arith, append_assoc, slice_index, Result}
+use Rattle.std.specs.List.{fold, list_all}
+use Rattle.std.proofs.lemmas.List.{take_all}
+use Rattle.std.proofs.lemmas.Grind.{flat_map-append}
+use Rattle.std.proofs.lemmas.Bool.Decides.{nat_tests}
+use Rattle.std.proofs.lemmas.Bool.{and_parts}
+use Rattle.std.proofs.Common.{length-append}
+use Rattle.transyt_io.specs.Lines.{cut, line_of, lines, onto_first}
+use Rattle.transyt_syntax.specs.declared.code.Code.{Code}
+use Rattle.transyt_syntax.specs.Syntax.{is_plain}
+use Rattle.transyt_deck.specs.declared.card.Card.{Card}
+use Rattle.transyt_deck.specs.declared.state.State.{State}
+use Rattle.transyt_deck.specs.Cards.{card_text, cards_text}
+use Rattle.transyt_deck.specs.State.{form_of, state_by, state_with}
+use Rattle.transyt_deck.specs.Deck.{Deck, Open, deck_at, deck_by, next}
+use Rattle.transyt_deck.proofs.CardTexts.{Fits, card_plain, card_short, said_card}
+
+plain_no_feed : (b : ℕ) → is_plain b ≡ true → (b == 10) ≡ false
+plain_no_feed b h = grind (arith, nat_tests)
+
+plain_no_return : (b : ℕ) → is_plain b ≡ true → (b == 13) ≡ false
+plain_no_return b h = grind (arith, nat_tests)
+
+feed_by : (t : Bool) (b : ℕ) (bs : List ℕ) (ls us : List (List ℕ)) → t ≡ false → us ≡ bs ∷ ls
+    → cond t ([] ∷ us) (onto_first true b us) ≡ (b ∷ bs) ∷ ls
+feed_by true b bs ls us x y = absurd (cc)
+feed_by false b bs ls us x y = ap (onto_first true b) y
+
+no_line_feed : (bs rest : List ℕ) → list_all is_plain bs ≡ true → cut true (bs ++ 10 ∷ rest) ≡ bs ∷ cut true rest
+no_line_feed [] rest h = refl
+no_line_feed (b ∷ bs) rest h =
+    let both = and_parts (is_plain b) (list_all is_plain bs) h in
+    feed_by (b == 10) b bs (cut true rest) _ (plain_no_feed b both.0) (no_line_feed bs rest both.1)
+
+-- a plain byte at each place, 0 past the end
+plain_at : (bs : List ℕ) (i : ℕ) → list_all is_plain bs ≡ true → (slice_index bs i == 13) ≡ false
+plain_at [] i h = refl
+plain_at (b ∷ bs) zero h = plain_no_return b ((and_parts (is_plain b) (list_all is_plain bs) h).0)
+plain_at (b ∷ bs) (suc i) h = plain_at bs i ((and_parts (is_plain b) (list_all is_plain bs) h).1)
+
+not_stripped : (t : Bool) (a b : List ℕ) → t ≡ false → cond t a b ≡ b
+not_stripped true a b h = absurd (cc)
+not_stripped false a b h = refl
+
+line_same : (bs : List ℕ) → list_all is_plain bs ≡ true → length bs ≤ 4096 → line_of bs ≡ bs
+line_same bs h short =
+    ap (take 4097) (not_stripped (slice_index bs (length bs - 1) == 13) (take (length bs - 1) bs) bs
+    (plain_at bs (length bs - 1) h))
+    ∙ take_all 4097 bs (omega arith)
+
+-- the first line of a text is its first card
+first_line : (form : ℕ) (card : Card) (more rest : List ℕ) → Fits form card
+    → lines (((card_text card ++ 10 ∷ []) ++ more) ++ rest) ≡ card_text card ∷ lines (more ++ rest)
+first_line form card more rest fits =
+    let text = card_text card in
+    let whole : ((text ++ 10 ∷ []) ++ more) ++ rest ≡ text ++ 10 ∷ (more ++ rest) = simp append_assoc in
+    let plain = card_plain card fits.small in
+    ap lines whole
+    ∙ ap (map line_of) (no_line_feed text (more ++ rest) plain)
+    ∙ ap (λ (l : List ℕ). l ∷ lines (more ++ rest)) (line_same text plain (card_short card fits.small fits.few))
+
+-- the text of cards, read from a state on, comes to a state, whatever follows
+pub record Reads (s : State) (cards : List Card) (t : State) : Type 0 where
+  pub is : (n : ℕ) (rest : List ℕ)
+      → fold next (Open n s) (lines (cards_text cards ++ rest)) ≡ fold next (Open (n + length cards) t) (lines rest)
+
+-- no card
+pub reads_none : (s : State) → Reads s [] s
+reads_none s = record { is = λ n rest. ap (λ (k : ℕ). fold next (Open k s) (lines rest)) (omega arith) }
+
+-- the deck after the line of a card
+pub next_card : (n : ℕ) (s : State) (card : Card) → Fits (form_of s) card
+    → next (Open n s) (card_text card) ≡ deck_by (n + 1) (state_with s card)
+next_card n s card fits = ap (λ said. deck_by (n + 1) (state_by s said)) (said_card (form_of s) card fits)
+
+-- one card that is accepted, and those after it
+pub reads_more : {s t u : State} {card : Card} {cards : List Card} → Fits (form_of s) card → state_with s card ≡ Ok t
+    → ((n : ℕ) → deck_at n t ≡ Open n t) → Reads t cards u → Reads s (card ∷ cards) u
+reads_more {s} {t} {u} {card} {cards} fits accepted still more = record {
+  is = λ n rest.
+      let later = lines (cards_text cards ++ rest) in
+      let one : next (Open n s) (card_text card) ≡ Open (n + 1) t = next_card n s card fits
+      ∙ ap (deck_by (n + 1)) accepted ∙ still (n + 1) in
+      let count : (n + 1) + length cards ≡ n + length (card ∷ cards) = omega arith in
+      ap (fold next (Open n s)) (first_line (form_of s) card (cards_text cards) rest fits)
+      ∙ ap (λ (d : Deck). fold next d later) one ∙ more.is (n + 1) rest
+      ∙ ap (λ (k : ℕ). fold next (Open k u) (lines rest)) count;
+}
+
+-- cards and those after them
+pub reads_both : {s t u : State} {xs ys : List Card} → Reads s xs t → Reads t ys u → Reads s (xs ++ ys) u
+reads_both {s} {t} {u} {xs} {ys} a b = record {
+  is = λ n rest.
+      let text : cards_text (xs ++ ys) ++ rest ≡ cards_text xs ++ (cards_text ys ++ rest) =
+      ap (λ (l : List ℕ). l ++ rest) (flat_map-append (λ card. card_text card ++ 10 ∷ []) xs ys)
+      ∙ append_assoc (cards_text xs) (cards_text ys) rest in
+      let count : (n + length xs) + length ys ≡ n + length (xs ++ ys) = omega (arith, length-append xs ys) in
+      ap (λ (l : List ℕ). fold next (Open n s) (lines l)) text ∙ a.is n (cards_text ys ++ rest)
+      ∙ b.is (n + length xs) rest ∙ ap (λ (k : ℕ). fold next (Open k u) (lines rest)) count;
+}
