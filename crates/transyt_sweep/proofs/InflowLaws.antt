@@ -1,11 +1,12 @@
 -- What comes to a link, feed by feed.
-use Rattle.std.proofs.Common.{◌≡◌, ℕ, ◌+◌, ◌<◌, List, length, take, get_or, ap, sym, ◌∙◌}
+use Rattle.std.proofs.Common.{◌≡◌, ℕ, ◌+◌, ◌*◌, ◌<◌, List, length, take, get_or, refl, ap, sym, ◌∙◌, arith}
 use Rattle.std.proofs.lemmas.List.Sums.{fold_more}
 use Rattle.transyt_profile.specs.Profile.{uniform, added}
+use Rattle.transyt_platoon.specs.Platoon.{travel_steps, dispersed}
 use Rattle.transyt_parts.specs.declared.link.Feed.{Feed}
 use Rattle.transyt_net.specs.Parts.{Network}
 use Rattle.transyt_net.specs.Flow.{perstep}
-use Rattle.transyt_sweep.specs.Cell.{brought, inflow_of}
+use Rattle.transyt_sweep.specs.Cell.{taken, brought, inflow_of}
 
 -- one feed more
 pub inflow_more : (net : Network) (read : ℕ → List ℕ) (entry : ℕ) (feeds fs : List Feed) (i : ℕ) (d : Feed)
@@ -21,3 +22,43 @@ inflow_more net read entry feeds fs i d come one new same inside before brings s
     ∙ sym (fold_more (λ c f. added c (brought net read f)) (uniform net.frame.step_count (perstep net.frame entry)) fs
     i d inside)
     ∙ ap (λ xs. inflow_of net read entry (take (i + 1) xs)) same
+
+-- three feeds more
+pub inflow_three : (net : Network) (read : ℕ → List ℕ) (entry : ℕ) (feeds fs : List Feed) (i : ℕ) (d e f : Feed)
+    (come one two three new : List ℕ) → fs ≡ feeds → 3 * i + 2 < length fs
+    → come ≡ inflow_of net read entry (take (3 * i) feeds)
+    → one ≡ brought net read (get_or fs (3 * i) d)
+    → two ≡ brought net read (get_or fs (3 * i + 1) e)
+    → three ≡ brought net read (get_or fs (3 * i + 2) f)
+    → new ≡ added (added (added come one) two) three
+    → new ≡ inflow_of net read entry (take (3 * (i + 1)) feeds)
+inflow_three net read entry feeds fs i d e f come one two three new same inside before first second third sum =
+    let next : 3 * i + 1 + 1 + 1 ≡ 3 * (i + 1) = omega arith in
+    let after_one = inflow_more net read entry feeds fs (3 * i) d come one (added come one) same (omega arith) before
+    first refl in
+    let after_two = inflow_more net read entry feeds fs (3 * i + 1) e (added come one) two (added (added come one) two)
+    same (omega arith) after_one second refl in
+    let third_place : 3 * i + 1 + 1 ≡ 3 * i + 2 = omega arith in
+    inflow_more net read entry feeds fs (3 * i + 1 + 1) f (added (added come one) two) three new same (omega arith)
+    after_two (third ∙ ap (λ p. brought net read (get_or fs p f)) (sym third_place)) sum
+    ∙ ap (λ n. inflow_of net read entry (take n feeds)) next
+
+-- what a feed brings, made of the part that goes on and of its travel
+pub brought_by : (net : Network) (read : ℕ → List ℕ) (f : Feed) (part out : List ℕ) (time percent : ℕ)
+    → out ≡ dispersed part time percent → part ≡ taken net read f
+    → time ≡ travel_steps f.cruise net.frame.step_count net.frame.cycle → percent ≡ net.frame.dispersion
+    → out ≡ brought net read f
+brought_by net read f part out time percent made is_part is_time is_percent =
+    made
+    ∙ ap (λ x. dispersed x time percent) is_part
+    ∙ ap (λ t. dispersed (taken net read f) t percent) is_time
+    ∙ ap (dispersed (taken net read f) (travel_steps f.cruise net.frame.step_count net.frame.cycle)) is_percent
+
+-- three profiles added one after another
+pub added_three : (come x y z one two three a b c : List ℕ) → one ≡ added come x → two ≡ added one y
+    → three ≡ added two z → x ≡ a → y ≡ b → z ≡ c → three ≡ added (added (added come a) b) c
+added_three come x y z one two three a b c first second third is_a is_b is_c =
+    let once : one ≡ added come a = first ∙ ap (added come) is_a in
+    let twice : two ≡ added (added come a) b =
+    second ∙ ap (λ r. added r y) once ∙ ap (added (added come a)) is_b in
+    third ∙ ap (λ r. added r z) twice ∙ ap (added (added (added come a) b)) is_c

@@ -19,13 +19,15 @@ use Rattle.transyt_net.specs.Flow.{perstep}
 use Rattle.transyt_stage.specs.Green.{signal}
 use Rattle.transyt_stage.specs.GiveWay.{yielding}
 
--- What one feed brings: its part of what leaves the feeder, after its travel. `read` gives the departures that are
--- read of each link.
+-- the part of what leaves its feeder that goes on with a feed; `read` gives the departures that are read of each link
+abbrev pub taken : Network → (ℕ → List ℕ) → Feed → List ℕ
+taken net read f =
+    shared f.flow (total_flow (link_of net (link_place net f.feeder))) (read (link_place net f.feeder))
+
+-- what one feed brings: that part, after its travel
 abbrev pub brought : Network → (ℕ → List ℕ) → Feed → List ℕ
 brought net read f =
-    dispersed
-    (shared f.flow (total_flow (link_of net (link_place net f.feeder))) (read (link_place net f.feeder)))
-    (travel_steps f.cruise net.frame.step_count net.frame.cycle) net.frame.dispersion
+    dispersed (taken net read f) (travel_steps f.cruise net.frame.step_count net.frame.cycle) net.frame.dispersion
 
 -- what these feeds bring, added to what enters
 abbrev pub inflow_of : Network → (ℕ → List ℕ) → ℕ → List Feed → List ℕ

@@ -17,9 +17,8 @@ pub struct Scratch {
     pub(crate) queue: Vec<u64>,
     pub(crate) out: Vec<u64>,
     pub(crate) figures: Figures,
-    // what one feed shares, what it brings, and what reaches the stop line
-    pub(crate) shared: Vec<u64>,
-    pub(crate) brought: Vec<u64>,
+    // the work on three feeds, what they share and what they bring, and what reaches the stop line
+    pub(crate) room: Vec<u64>,
     pub(crate) reaching: Vec<u64>,
 }
 
@@ -38,8 +37,7 @@ impl Model for Scratch {
     } };
 
     ghost invariant = { λ s.
-        IsScratch s.arrivals.items s.go.items s.queue.items s.out.items s.figures s.shared.items s.brought.items
-        s.reaching.items };
+        IsScratch s.arrivals.items s.go.items s.queue.items s.out.items s.figures s.room.items s.reaching.items };
 }
 
 impl Scratch {
@@ -59,8 +57,7 @@ impl Scratch {
                 stops: 0,
                 index: 0,
             },
-            shared: vec![in alloc; 0; step_count]?,
-            brought: vec![in alloc; 0; step_count]?,
+            room: vec![in alloc; 0; 6 * step_count]?,
             reaching: vec![in alloc; 0; step_count]?,
         })
     }

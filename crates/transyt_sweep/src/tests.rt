@@ -174,7 +174,7 @@ struct LinkShown {
 }
 
 /// What the whole evaluation of a network shows, with a counter of its own.
-fn shown_in<L: Ledger>(
+fn evaluation_in<L: Ledger>(
     alloc: Global,
     net: &Net,
     blank: Blank,
@@ -201,68 +201,75 @@ fn shown_in<L: Ledger>(
 }
 
 /// What the whole evaluation of a network shows, where there is one: its links, and its index.
-fn shown(alloc: Global, net: Result<Option<Net>, DraftFault>) -> Option<(Vec<LinkShown>, u128)> {
+fn evaluation_of(
+    alloc: Global,
+    net: Result<Option<Net>, DraftFault>,
+) -> Option<(Vec<LinkShown>, u128)> {
     match net {
-        Ok(Some(net)) => shown_in::<Brand>(alloc, &net, Blank::new(1)).ok(),
+        Ok(Some(net)) => evaluation_in::<Brand>(alloc, &net, Blank::new(1)).ok(),
         _ => None,
     }
 }
 
 /// The index of a network, where there is one.
 fn index_of(alloc: Global, net: Result<Option<Net>, DraftFault>) -> Option<u128> {
-    let (_, index) = shown(alloc, net)?;
+    let (_, index) = evaluation_of(alloc, net)?;
     Some(index)
 }
 
-/// Whether a link has these profiles: what comes, what can go, the queue and what leaves; and these figures.
-fn is_shown(link: &LinkShown, profiles: [&[u64]; 4], figures: Figures) -> bool {
-    let [arrivals, go, queue, out] = profiles;
+/// Whether a link has these profiles: what comes, what can go, the queue and what leaves.
+fn has_profiles(
+    link: &LinkShown,
+    arrivals: &[u64],
+    go: &[u64],
+    queue: &[u64],
+    out: &[u64],
+) -> bool {
     link.arrivals.as_slice() == arrivals
         && link.go.as_slice() == go
         && link.queue.as_slice() == queue
         && link.out.as_slice() == out
-        && link.figures == figures
 }
 
 #[test]
 fn three_junctions_are_evaluated(rt: HostRuntime) {
-    let Some((links, index)) = shown(rt.alloc(), three_junctions(rt.alloc())) else {
+    let Some((links, index)) = evaluation_of(rt.alloc(), three_junctions(rt.alloc())) else {
         assert!(rt; false);
         return;
     };
     assert_eq!(rt; links.len(), 8);
     assert_eq!(rt; index, 556223009);
-    for (link, (profiles, figures)) in links.iter().zip(THREE_JUNCTIONS.iter()) {
-        let [arrivals, go, queue, out] = profiles;
-        assert!(rt; is_shown(link, [arrivals, go, queue, out], *figures));
+    for (link, want) in links.iter().zip(THREE_JUNCTIONS.iter()) {
+        assert!(rt; has_profiles(link, &want.0[0], &want.0[1], &want.0[2], &want.0[3]));
+        assert_eq!(rt; link.figures, want.1);
     }
 }
 
 #[test]
 fn a_fed_link_is_evaluated(rt: HostRuntime) {
-    let Some((links, index)) = shown(rt.alloc(), two_junctions(rt.alloc())) else {
+    let Some((links, index)) = evaluation_of(rt.alloc(), two_junctions(rt.alloc())) else {
         assert!(rt; false);
         return;
     };
     assert_eq!(rt; links.len(), 2);
     assert_eq!(rt; index, 2887260);
-    for (link, (profiles, figures)) in links.iter().zip(TWO_JUNCTIONS.iter()) {
-        let [arrivals, go, queue, out] = profiles;
-        assert!(rt; is_shown(link, [arrivals, go, queue, out], *figures));
+    for (link, want) in links.iter().zip(TWO_JUNCTIONS.iter()) {
+        assert!(rt; has_profiles(link, &want.0[0], &want.0[1], &want.0[2], &want.0[3]));
+        assert_eq!(rt; link.figures, want.1);
     }
 }
 
 #[test]
 fn a_link_gives_way(rt: HostRuntime) {
-    let Some((links, index)) = shown(rt.alloc(), giving_way(rt.alloc())) else {
+    let Some((links, index)) = evaluation_of(rt.alloc(), giving_way(rt.alloc())) else {
         assert!(rt; false);
         return;
     };
     assert_eq!(rt; links.len(), 2);
     assert_eq!(rt; index, 2185232);
-    for (link, (profiles, figures)) in links.iter().zip(GIVING_WAY.iter()) {
-        let [arrivals, go, queue, out] = profiles;
-        assert!(rt; is_shown(link, [arrivals, go, queue, out], *figures));
+    for (link, want) in links.iter().zip(GIVING_WAY.iter()) {
+        assert!(rt; has_profiles(link, &want.0[0], &want.0[1], &want.0[2], &want.0[3]));
+        assert_eq!(rt; link.figures, want.1);
     }
 }
 

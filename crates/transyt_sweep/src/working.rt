@@ -44,8 +44,7 @@ pub fn cell<L: Ledger>(
         link,
         sweep,
         rows,
-        &mut scratch.shared,
-        &mut scratch.brought,
+        &mut scratch.room,
         &mut scratch.reaching,
         &mut scratch.arrivals,
         &mut scratch.go,
@@ -55,32 +54,31 @@ pub fn cell<L: Ledger>(
     steps.tick();
 }
 
-/// Works out the link at a place at a sweep, and returns its figures. `shared`, `brought` and `reaching` are room.
+/// Works out the link at a place at a sweep, and returns its figures. `room` and `reaching` are
+/// room for its work.
 fn work_out(
     net: &Net,
     link: usize,
     sweep: u32,
     rows: &Rows,
-    shared: &mut [u64],
-    brought: &mut [u64],
+    room: &mut [u64],
     reaching: &mut [u64],
     come: &mut [u64],
-    room: &mut [u64],
+    going: &mut [u64],
     standing: &mut [u64],
     leaving: &mut [u64],
 ) -> Figures
     requires link { link < length net.now.links }
     requires sweep { sweep ≤ net.now.frame.sweeps }
     requires fits { Fits net.now rows.now }
-    requires shared_len { length shared.old ≡ net.now.frame.step_count }
-    requires brought_len { length brought.old ≡ net.now.frame.step_count }
+    requires room_len { length room.old ≡ 6 * net.now.frame.step_count }
     requires reaching_len { length reaching.old ≡ net.now.frame.step_count }
     requires come_len { length come.old ≡ net.now.frame.step_count }
-    requires room_len { length room.old ≡ net.now.frame.step_count }
+    requires going_len { length going.old ≡ net.now.frame.step_count }
     requires standing_len { length standing.old ≡ net.now.frame.step_count }
     requires leaving_len { length leaving.old ≡ net.now.frame.step_count }
     ensures come { come.new ≡ (worked net.now (read_in rows.now sweep link) link).arrivals }
-    ensures room { room.new ≡ (worked net.now (read_in rows.now sweep link) link).go }
+    ensures going { going.new ≡ (worked net.now (read_in rows.now sweep link) link).go }
     ensures standing { standing.new ≡ (worked net.now (read_in rows.now sweep link) link).queue }
     ensures leaving { leaving.new ≡ (worked net.now (read_in rows.now sweep link) link).out }
     ensures figures { result ≡ (worked net.now (read_in rows.now sweep link) link).figures }
@@ -88,15 +86,15 @@ fn work_out(
     ensures figures_small { AreSmall result }
 {
     net.frame();
-    fill_inflow(net, link, sweep, rows, shared, brought, come);
-    fill_room(net, link, sweep, rows, room);
-    cut_arrivals(come, room, reaching);
-    queue(reaching, room, standing, leaving);
-    figures_at(net, link, come, room, reaching, standing)
+    fill_inflow(net, link, sweep, rows, room, come);
+    fill_going(net, link, sweep, rows, going);
+    cut_arrivals(come, going, reaching);
+    queue(reaching, going, standing, leaving);
+    figures_at(net, link, come, going, reaching, standing)
 }
 
 /// Fills `out` with what can go of the link at a place: its green, and what its rule leaves of it.
-fn fill_room(net: &Net, link: usize, sweep: u32, rows: &Rows, out: &mut [u64])
+fn fill_going(net: &Net, link: usize, sweep: u32, rows: &Rows, out: &mut [u64])
     requires link { link < length net.now.links }
     requires sweep { sweep ≤ net.now.frame.sweeps }
     requires fits { Fits net.now rows.now }

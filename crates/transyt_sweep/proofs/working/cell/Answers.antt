@@ -10,28 +10,25 @@ invariant_of-scratch g c =
     let was = c.scratch.invariant in
     let new = c.work_out-scratch-inside.new in
     let same = c.work_out-scratch-inside.auto in
-    let shared = written_back i.shared.items new.shared i.shared.len
-    (omega (arith, same.shared, c.deref_mut.ensures.len)) in
-    let brought = written_back i.brought.items new.brought i.brought.len
-    (omega (arith, same.brought, c.deref_mut-2.ensures.len)) in
+    let lanes = written_back i.room.items new.room i.room.len (omega (arith, same.room, c.deref_mut.ensures.len)) in
     let reaching = written_back i.reaching.items new.reaching i.reaching.len
-    (omega (arith, same.reaching, c.deref_mut-3.ensures.len)) in
+    (omega (arith, same.reaching, c.deref_mut-2.ensures.len)) in
     let come = written_back i.arrivals.items new.come i.arrivals.len
-    (omega (arith, same.come, c.deref_mut-4.ensures.len)) in
-    let room = written_back i.go.items new.room i.go.len (omega (arith, same.room, c.deref_mut-5.ensures.len)) in
+    (omega (arith, same.come, c.deref_mut-3.ensures.len)) in
+    let going = written_back i.go.items new.going i.go.len (omega (arith, same.going, c.deref_mut-4.ensures.len)) in
     let standing = written_back i.queue.items new.standing i.queue.len
-    (omega (arith, same.standing, c.deref_mut-6.ensures.len)) in
+    (omega (arith, same.standing, c.deref_mut-5.ensures.len)) in
     let leaving = written_back i.out.items new.leaving i.out.len
-    (omega (arith, same.leaving, c.deref_mut-7.ensures.len)) in
+    (omega (arith, same.leaving, c.deref_mut-6.ensures.len)) in
     record {
       go_len = omega (
         arith,
         ap length come,
-        ap length room,
+        ap length going,
         same.come,
-        same.room,
+        same.going,
+        c.deref_mut-3.ensures.len,
         c.deref_mut-4.ensures.len,
-        c.deref_mut-5.ensures.len,
         was.go_len,
       );
       queue_len = omega (
@@ -40,8 +37,8 @@ invariant_of-scratch g c =
         ap length standing,
         same.come,
         same.standing,
-        c.deref_mut-4.ensures.len,
-        c.deref_mut-6.ensures.len,
+        c.deref_mut-3.ensures.len,
+        c.deref_mut-5.ensures.len,
         was.queue_len,
       );
       out_len = omega (
@@ -50,29 +47,19 @@ invariant_of-scratch g c =
         ap length leaving,
         same.come,
         same.leaving,
-        c.deref_mut-4.ensures.len,
-        c.deref_mut-7.ensures.len,
+        c.deref_mut-3.ensures.len,
+        c.deref_mut-6.ensures.len,
         was.out_len,
       );
-      shared_len = omega (
+      room_len = omega (
         arith,
         ap length come,
-        ap length shared,
+        ap length lanes,
         same.come,
-        same.shared,
-        c.deref_mut-4.ensures.len,
+        same.room,
+        c.deref_mut-3.ensures.len,
         c.deref_mut.ensures.len,
-        was.shared_len,
-      );
-      brought_len = omega (
-        arith,
-        ap length come,
-        ap length brought,
-        same.come,
-        same.brought,
-        c.deref_mut-4.ensures.len,
-        c.deref_mut-2.ensures.len,
-        was.brought_len,
+        was.room_len,
       );
       reaching_len = omega (
         arith,
@@ -80,8 +67,8 @@ invariant_of-scratch g c =
         ap length reaching,
         same.come,
         same.reaching,
-        c.deref_mut-4.ensures.len,
         c.deref_mut-3.ensures.len,
+        c.deref_mut-2.ensures.len,
         was.reaching_len,
       );
       out_small = subst (λ (xs : List ℕ). All (λ v. v < 2 ^ 30) xs) (sym leaving)

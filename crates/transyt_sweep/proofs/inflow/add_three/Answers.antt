@@ -1,0 +1,46 @@
+-- What three feeds bring is added one after another.
+use Rattle.std.proofs.Common.{ℕ, ◌+◌, ◌-◌, ◌*◌, ◌^◌, List, arith}
+use Rattle.transyt_net.specs.Parts.{Network}
+use Rattle.transyt_sweep.specs.Cell.{brought}
+use Rattle.transyt_sweep.specs.Rows.{read_in}
+use Rattle.transyt_sweep.proofs.InflowLaws.{brought_by, added_three}
+use Rattle.transyt_sweep.proofs.inflow.add_three.Goals as goal
+
+-- with the first there is room for the second
+pub add_into-requires-2-clause-out_fit : goal.add_into-requires-2-clause-out_fit
+add_into-requires-2-clause-out_fit c = λ k d h.
+    omega (arith, c.add_into.ensures.grows (2 ^ 48 - 3 * 2 ^ 44) c.requires.come_small k d h)
+
+-- and with both for the third
+pub add_into-requires-3-clause-out_fit : goal.add_into-requires-3-clause-out_fit
+add_into-requires-3-clause-out_fit c = λ k d h.
+    omega (
+      arith,
+      c.add_into-2.ensures.grows (2 ^ 48 - 3 * 2 ^ 44 + 2 ^ 44)
+          (c.add_into.ensures.grows (2 ^ 48 - 3 * 2 ^ 44) c.requires.come_small) k d h,
+    )
+
+-- each is the part that goes on, after its travel
+pub returns-clause-value : goal.returns-clause-value
+returns-clause-value c =
+    let read : ℕ → List ℕ = read_in c.args.rows.now c.args.sweep c.args.link in
+    let net : Network = c.args.net.now in
+    let spread = c.disperse_three.new in
+    added_three c.args.come.now spread.x_out spread.y_out spread.z_out c.add_into.new.out c.add_into-2.new.out
+    c.add_into-3.new.out (brought net read c.args.one) (brought net read c.args.two) (brought net read c.args.three)
+    c.add_into.ensures.value c.add_into-2.ensures.value c.add_into-3.ensures.value
+    (brought_by net read c.args.one c.share_feed.new.shared spread.x_out _ _ c.disperse_three.ensures.x_value
+    c.share_feed.ensures.value c.travel.ensures.time c.travel.ensures.percent)
+    (brought_by net read c.args.two c.share_feed-2.new.shared spread.y_out _ _ c.disperse_three.ensures.y_value
+    c.share_feed-2.ensures.value c.travel-2.ensures.time c.travel-2.ensures.percent)
+    (brought_by net read c.args.three c.share_feed-3.new.shared spread.z_out _ _ c.disperse_three.ensures.z_value
+    c.share_feed-3.ensures.value c.travel-3.ensures.time c.travel-3.ensures.percent)
+
+-- three times as much as with one
+pub returns-clause-grows : goal.returns-clause-grows
+returns-clause-grows c = λ limit fits k d h.
+    omega (
+      arith,
+      c.add_into-3.ensures.grows (limit + 2 ^ 44 + 2 ^ 44)
+          (c.add_into-2.ensures.grows (limit + 2 ^ 44) (c.add_into.ensures.grows limit fits)) k d h,
+    )
