@@ -1,0 +1,7 @@
+pub mod CountLaws
+pub mod LookLaws
+pub mod OnwardLaws
+pub mod TurnLaws
+pub mod LocalLaws
+pub mod WayLaws
+pub mod WorkedLaws

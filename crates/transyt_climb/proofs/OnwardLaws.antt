@@ -1,0 +1,180 @@
+-- A search of the places that are still to be looked at, and the climb after it.
+use Rattle.std.proofs.Common.{◌≡◌, ℕ, zero, suc, ◌+◌, ◌-◌, ◌%◌, Bool, true, false, [], ◌∷◌, ◌++◌, refl, ap, sym, ◌∙◌, arith}
+use Rattle.std.proofs.Common.{Option, Some, None, nat_lt, nat_le, if◌then◌else◌}
+use mathlib.Core.Path.{fun_ext}
+use Rattle.std.specs.Option.{option_map}
+use Rattle.std.proofs.Math.Nat.{mod-add-mod, mod-mod}
+use Rattle.std.proofs.lemmas.Bool.Decides.{nat_tests}
+use Rattle.transyt_net.specs.Parts.{Network}
+use Rattle.transyt_moves.specs.Moves.{move_count}
+use Rattle.transyt_sweep.specs.Climb.{Climb, Look, after_search, stepped, ended, moved, lowers, least, looks_from, climb}
+use Rattle.transyt_climb.specs.Way.{onward}
+
+-- a climb with a look before it
+abbrev pub looked : Look → Climb → Climb
+looked l c = record { steps = c.steps; local = c.local; looks = l ∷ c.looks; net = c.net }
+
+-- looks go round the list
+pub looks_mod : (net : Network) (k n : ℕ) → looks_from net k n ≡ looks_from net (k % move_count net) n
+looks_mod net k zero = refl
+looks_mod net k (suc n) =
+    let head : k % move_count net ≡ (k % move_count net) % move_count net = sym (mod-mod k (move_count net)) in
+    let next : (k % move_count net + 1) % move_count net ≡ (k + 1) % move_count net =
+    mod-add-mod k (move_count net) 1 in
+    let tail : looks_from net (k + 1) n ≡ looks_from net (k % move_count net + 1) n =
+    looks_mod net (k + 1) n
+    ∙ sym (ap (λ p. looks_from net p n) next)
+    ∙ sym (looks_mod net (k % move_count net + 1) n) in
+    ap (λ p. record { net = net; place = p } ∷ looks_from net (k + 1) n) head
+    ∙ ap (λ ls. record { net = net; place = (k % move_count net) % move_count net } ∷ ls) tail
+
+-- where no place is left, no move lowers
+pub onward_local : (net : Network) (k left : ℕ) → onward net k 0 left ≡ ended true net k 0
+onward_local net k left =
+    let all : nat_le 0 left ≡ true = grind (arith, nat_tests) in
+    ap (λ b. if b then ended true net k 0 else ended false net k left) all
+
+no_look : (net : Network) (k n : ℕ) (found : Option ℕ)
+    → after_search climb net k (suc n) 0 found ≡ ended false net k 0
+no_look net k n None =
+    let less : nat_le (suc n) 0 ≡ false = grind (arith, nat_tests) in
+    ap (λ b. if b then ended true net k (suc n) else ended false net k 0) less
+no_look net k n (Some r) =
+    let less : nat_lt r 0 ≡ false = grind (arith, nat_tests) in
+    ap (λ b. if b
+    then stepped net k (r + 1) ((k + r) % move_count net)
+    (climb (moved net ((k + r) % move_count net)) ((k + r) % move_count net) (0 - (r + 1)))
+    else ended false net k 0) less
+
+-- where no look is left, the budget is used up
+pub onward_budget : (net : Network) (k n : ℕ) → onward net k (suc n) 0 ≡ ended false net k 0
+onward_budget net k n = no_look net k n (least (λ r. lowers net ((k + r) % move_count net)) (suc n))
+
+-- the search after a place that was passed
+pub search_on : (net : Network) (k n left : ℕ) (found : Option ℕ)
+    → after_search climb net k (suc n) (suc left) (option_map (λ r. r + 1) found)
+    ≡ looked (record { net = net; place = k % move_count net })
+    (after_search climb net ((k + 1) % move_count net) n left found)
+search_on net k n left None = by (nat_le n left) (grind (arith, nat_tests)) refl
+  where
+    by : (b : Bool) → nat_le (suc n) (suc left) ≡ nat_le n left → nat_le n left ≡ b
+        → (if nat_le (suc n) (suc left) then ended true net k (suc n) else ended false net k (suc left))
+        ≡ looked (record { net = net; place = k % move_count net })
+        (if nat_le n left then ended true net ((k + 1) % move_count net) n
+        else ended false net ((k + 1) % move_count net) left)
+    by true same all =
+        ap (λ b. if b then ended true net k (suc n) else ended false net k (suc left)) (same ∙ all)
+        ∙ ap (λ ls. record { steps = []; local = true; looks = record { net = net; place = k % move_count net } ∷ ls; net = net })
+        (looks_mod net (k + 1) n)
+        ∙ sym (ap (λ b. looked (record { net = net; place = k % move_count net })
+        (if b then ended true net ((k + 1) % move_count net) n else ended false net ((k + 1) % move_count net) left)) all)
+    by false same all =
+        ap (λ b. if b then ended true net k (suc n) else ended false net k (suc left)) (same ∙ all)
+        ∙ ap (λ ls. record { steps = []; local = false; looks = record { net = net; place = k % move_count net } ∷ ls; net = net })
+        (looks_mod net (k + 1) left)
+        ∙ sym (ap (λ b. looked (record { net = net; place = k % move_count net })
+        (if b then ended true net ((k + 1) % move_count net) n else ended false net ((k + 1) % move_count net) left)) all)
+search_on net k n left (Some r) = by (nat_lt r left) (grind (arith, nat_tests)) refl
+  where
+    from : Climb → Climb
+    from c = stepped net k (r + 1 + 1) ((k + (r + 1)) % move_count net) c
+
+    by : (b : Bool) → nat_lt (r + 1) (suc left) ≡ nat_lt r left → nat_lt r left ≡ b
+        → (if nat_lt (r + 1) (suc left)
+        then stepped net k (r + 1 + 1) ((k + (r + 1)) % move_count net)
+        (climb (moved net ((k + (r + 1)) % move_count net)) ((k + (r + 1)) % move_count net) (suc left - (r + 1 + 1)))
+        else ended false net k (suc left))
+        ≡ looked (record { net = net; place = k % move_count net })
+        (if nat_lt r left
+        then stepped net ((k + 1) % move_count net) (r + 1) (((k + 1) % move_count net + r) % move_count net)
+        (climb (moved net (((k + 1) % move_count net + r) % move_count net))
+        (((k + 1) % move_count net + r) % move_count net) (left - (r + 1)))
+        else ended false net ((k + 1) % move_count net) left)
+    by true same some =
+        let place : (k + (r + 1)) % move_count net ≡ ((k + 1) % move_count net + r) % move_count net =
+        ap (λ x. x % move_count net) (step_on k r) ∙ sym (mod-add-mod (k + 1) (move_count net) r) in
+        let less : suc left - (r + 1 + 1) ≡ left - (r + 1) = omega arith in
+        let more : r + 1 + 1 ≡ suc (r + 1) = omega arith in
+        ap (λ b. if b
+        then stepped net k (r + 1 + 1) ((k + (r + 1)) % move_count net)
+        (climb (moved net ((k + (r + 1)) % move_count net)) ((k + (r + 1)) % move_count net) (suc left - (r + 1 + 1)))
+        else ended false net k (suc left)) (same ∙ some)
+        ∙ ap (λ x. stepped net k (r + 1 + 1) ((k + (r + 1)) % move_count net)
+        (climb (moved net ((k + (r + 1)) % move_count net)) ((k + (r + 1)) % move_count net) x)) less
+        ∙ ap (λ p. stepped net k (r + 1 + 1) p (climb (moved net p) p (left - (r + 1)))) place
+        ∙ ap (λ x. stepped net k x (((k + 1) % move_count net + r) % move_count net)
+        (climb (moved net (((k + 1) % move_count net + r) % move_count net))
+        (((k + 1) % move_count net + r) % move_count net) (left - (r + 1)))) more
+        ∙ looks_on net k (r + 1) (((k + 1) % move_count net + r) % move_count net)
+        (climb (moved net (((k + 1) % move_count net + r) % move_count net))
+        (((k + 1) % move_count net + r) % move_count net) (left - (r + 1)))
+        ∙ sym (ap (λ b. looked (record { net = net; place = k % move_count net })
+        (if b
+        then stepped net ((k + 1) % move_count net) (r + 1) (((k + 1) % move_count net + r) % move_count net)
+        (climb (moved net (((k + 1) % move_count net + r) % move_count net))
+        (((k + 1) % move_count net + r) % move_count net) (left - (r + 1)))
+        else ended false net ((k + 1) % move_count net) left)) some)
+      where
+        step_on : (k r : ℕ) → k + (r + 1) ≡ k + 1 + r
+        step_on k r = omega arith
+
+        looks_on : (net : Network) (k n place : ℕ) (c : Climb)
+            → stepped net k (suc n) place c
+            ≡ looked (record { net = net; place = k % move_count net }) (stepped net ((k + 1) % move_count net) n place c)
+        looks_on net k n place c =
+            ap (λ ls. record (stepped net k (suc n) place c) {
+              looks = record { net = net; place = k % move_count net } ∷ (ls ++ c.looks);
+            }) (looks_mod net (k + 1) n)
+    by false same none =
+        ap (λ b. if b
+        then stepped net k (r + 1 + 1) ((k + (r + 1)) % move_count net)
+        (climb (moved net ((k + (r + 1)) % move_count net)) ((k + (r + 1)) % move_count net) (suc left - (r + 1 + 1)))
+        else ended false net k (suc left)) (same ∙ none)
+        ∙ ap (λ ls. record { steps = []; local = false; looks = record { net = net; place = k % move_count net } ∷ ls; net = net })
+        (looks_mod net (k + 1) left)
+        ∙ sym (ap (λ b. looked (record { net = net; place = k % move_count net })
+        (if b
+        then stepped net ((k + 1) % move_count net) (r + 1) (((k + 1) % move_count net + r) % move_count net)
+        (climb (moved net (((k + 1) % move_count net + r) % move_count net))
+        (((k + 1) % move_count net + r) % move_count net) (left - (r + 1)))
+        else ended false net ((k + 1) % move_count net) left)) none)
+
+-- a place whose move doesn't lower is passed
+pub onward_passes : (net : Network) (k n left : ℕ) → lowers net (k % move_count net) ≡ false
+    → onward net k (suc n) (suc left)
+    ≡ looked (record { net = net; place = k % move_count net }) (onward net ((k + 1) % move_count net) n left)
+onward_passes net k n left passed =
+    let none_more : k + 0 ≡ k = omega arith in
+    let here : lowers net ((k + 0) % move_count net) ≡ false =
+    ap (λ x. lowers net (x % move_count net)) none_more ∙ passed in
+    let round : (r : ℕ) → (k + (r + 1)) % move_count net ≡ ((k + 1) % move_count net + r) % move_count net =
+    λ r. (let e : k + (r + 1) ≡ k + 1 + r = omega arith in
+    ap (λ x. x % move_count net) e ∙ sym (mod-add-mod (k + 1) (move_count net) r)) in
+    let same : (λ r. lowers net ((k + (r + 1)) % move_count net))
+    ≡ (λ r. lowers net (((k + 1) % move_count net + r) % move_count net)) =
+    fun_ext (λ r. ap (lowers net) (round r)) in
+    ap (λ b. after_search climb net k (suc n) (suc left)
+    (if b then Some 0 else option_map (λ r. r + 1) (least (λ r. lowers net ((k + (r + 1)) % move_count net)) n))) here
+    ∙ ap (λ (test : ℕ → Bool). after_search climb net k (suc n) (suc left) (option_map (λ r. r + 1) (least test n))) same
+    ∙ search_on net k n left (least (λ r. lowers net (((k + 1) % move_count net + r) % move_count net)) n)
+
+-- a place whose move lowers is a step
+pub onward_takes : (net : Network) (k n left : ℕ) → lowers net (k % move_count net) ≡ true
+    → onward net k (suc n) (suc left)
+    ≡ stepped net k 1 (k % move_count net) (climb (moved net (k % move_count net)) (k % move_count net) left)
+onward_takes net k n left lower =
+    let none_more : k + 0 ≡ k = omega arith in
+    let less : suc left - 1 ≡ left = omega arith in
+    let here : lowers net ((k + 0) % move_count net) ≡ true =
+    ap (λ x. lowers net (x % move_count net)) none_more ∙ lower in
+    let some : nat_lt 0 (suc left) ≡ true = grind (arith, nat_tests) in
+    ap (λ b. after_search climb net k (suc n) (suc left)
+    (if b then Some 0 else option_map (λ r. r + 1) (least (λ r. lowers net ((k + (r + 1)) % move_count net)) n))) here
+    ∙ ap (λ b. if b
+    then stepped net k 1 ((k + 0) % move_count net)
+    (climb (moved net ((k + 0) % move_count net)) ((k + 0) % move_count net) (suc left - 1))
+    else ended false net k (suc left)) some
+    ∙ ap (λ x. stepped net k 1 ((k + 0) % move_count net)
+    (climb (moved net ((k + 0) % move_count net)) ((k + 0) % move_count net) x)) less
+    ∙ ap (λ x. stepped net k 1 (x % move_count net) (climb (moved net (x % move_count net)) (x % move_count net) left))
+    none_more

@@ -1,0 +1,21 @@
+-- The worked turns.
+use Rattle.transyt_climb.proofs.WorkedLaws.{start, passed, three, left, left_budget, certificate}
+use Rattle.transyt_climb.proofs.laws.worked_turns.Goals as goal
+
+pub returns-clause-start : goal.returns-clause-start
+returns-clause-start c = start
+
+pub returns-clause-passed : goal.returns-clause-passed
+returns-clause-passed c = passed
+
+pub returns-clause-turns : goal.returns-clause-turns
+returns-clause-turns c = three
+
+pub returns-clause-left : goal.returns-clause-left
+returns-clause-left c = left
+
+pub returns-clause-left_budget : goal.returns-clause-left_budget
+returns-clause-left_budget c = left_budget
+
+pub returns-clause-certified : goal.returns-clause-certified
+returns-clause-certified c = certificate

@@ -1,0 +1,3 @@
+pub mod Turns
+pub mod Way
+pub mod WorkedTurns

@@ -1,0 +1,50 @@
+-- Worked turns: over a network without links, where no move lowers the index, and over one of which no number is neutral.
+use Rattle.std.specs.Prelude.{ℕ, List, [], ◌∷◌, map, Bool, None, Some}
+use Rattle.transyt_parts.specs.Made.{new_stage}
+use Rattle.transyt_net.specs.Parts.{Network}
+use Rattle.transyt_sweep.specs.Climb.{Climb, Look}
+use Rattle.transyt_track.specs.WorkedWork.{junctions}
+use Rattle.transyt_session.specs.Session.{SessionValue}
+use Rattle.transyt_climb.specs.Turns.{Counters, Machine, machine}
+
+-- one node without links, whose first stage has as many steps as it needs
+abbrev pub idle : Network
+idle = record {
+  frame = record { cycle = 90; step_count = 15; sweeps = 2; period = 45; stop_penalty = 37; dispersion = 40 };
+  nodes = record { number = 21; offset = 4; stages = new_stage 2 1 3 ∷ new_stage 6 2 4 ∷ [] } ∷ [];
+  links = [];
+  plan = Some (record { budget = 7; sizes = 2 ∷ [] });
+}
+
+-- a session of it with some work
+abbrev pub idle_session : SessionValue
+idle_session = record { net = idle; before = None; work = 5 }
+
+-- a session of a network with links and some work
+abbrev pub junctions_session : SessionValue
+junctions_session = record { net = junctions; before = None; work = 5 }
+
+-- a climber before its fourth look, one place after its last step
+abbrev pub on_way : ℕ → Counters
+on_way budget = record { place = 4; since = 1; looked = 3; budget = budget; count = 6 }
+
+-- the two together
+abbrev pub way : ℕ → Machine
+way budget = machine (on_way budget) idle_session
+
+-- a climber that has gone once round the list, and has used up its budget too
+abbrev pub gone_round : Counters
+gone_round = record { place = 3; since = 6; looked = 9; budget = 9; count = 6 }
+
+-- a climber that has used up its budget one place before that
+abbrev pub used_up : Counters
+used_up = record { place = 2; since = 5; looked = 9; budget = 9; count = 6 }
+
+-- a climb on the network that takes no step and looks at these places
+abbrev pub stayed : Bool → List ℕ → Climb
+stayed local places = record {
+  steps = [];
+  local = local;
+  looks = map (λ place. record { net = idle; place = place }) places;
+  net = idle;
+}

@@ -1,0 +1,52 @@
+//! What the turns of a climber come to.
+
+ghost use Rattle.std.specs.Prelude.{◌≡◌, ℕ, true, false, None, Some, List, [], ◌∷◌, ◌++◌};
+ghost use Rattle.transyt_net.specs.Parts.{Network};
+ghost use Rattle.transyt_sweep.specs.Climb.{climb, Climb, Step};
+ghost use Rattle.transyt_session.specs.Session.{SessionValue};
+ghost use Rattle.transyt_climb.specs.declared.turn.Turn.{Turn};
+ghost use Rattle.transyt_climb.specs.declared.turn.Turn.TheVariants.{Passed, Local, Budget};
+ghost use Rattle.transyt_climb.specs.Turns.{Machine, machine, start_of, noted, answer_of, answers, certified, is_end, is_local, started, step_then, turned, turns};
+ghost use Rattle.transyt_climb.specs.Way.{AreClimb, IsLocal, IsUnderWay, IsOver, IsRound, climb_left};
+ghost use Rattle.transyt_climb.specs.WorkedTurns.{idle, idle_session, junctions_session, on_way, way, gone_round, used_up, stayed};
+
+/// The turns of a climber, from its start to the first that answers Local or Budget, are the climb of the network.
+pub fn rule_of_turns()
+    ensures { (budget : ℕ) (s : SessionValue) (n : ℕ) → is_end (answer_of (turns n (started budget s))) ≡ true
+        → AreClimb (climb s.net 0 budget) n (started budget s) }
+{}
+
+/// A climb that ends as Local ends at a network of which no listed move is allowed and lowers the index.
+pub fn rule_of_local()
+    ensures { (net : Network) (place left : ℕ) → (climb net place left).local ≡ true → IsLocal (climb net place left).net }
+{}
+
+/// A climb goes its way by rounds of any number of turns: it is under way at the start, a round takes its last answer's
+/// step, and the round that answers Local or Budget ends it.
+pub fn rule_of_way()
+    ensures starts { (budget : ℕ) (s : SessionValue) → s.before ≡ None
+        → IsUnderWay (climb s.net 0 budget) s.work [] (started budget s) }
+    ensures goes_on { (whole : Climb) (work : ℕ) (done : List Step) (m after : Machine) (count : ℕ) (last : Turn)
+        → IsUnderWay whole work done m → IsRound m after count last → is_end last ≡ false
+        → IsUnderWay whole work (done ++ step_then last []) after }
+    ensures ends { (whole : Climb) (work : ℕ) (done : List Step) (m after : Machine) (count : ℕ) (last : Turn)
+        → IsUnderWay whole work done m → IsRound m after count last → is_end last ≡ true
+        → IsOver whole work done (is_local last) after }
+{}
+
+/// Worked turns: the counters, the two ends, turns that pass, and the climb that is left.
+pub fn worked_turns()
+    ensures start { start_of idle idle.plan ≡ Some (record { place = 0; since = 0; looked = 0; budget = 7; count = 6 }) }
+    ensures no_start { start_of idle None ≡ None }
+    ensures noted { noted false (on_way 9) ≡ record { place = 5; since = 2; looked = 4; budget = 9; count = 6 } }
+    ensures noted_step { noted true (on_way 9) ≡ record { place = 4; since = 0; looked = 4; budget = 9; count = 6 } }
+    ensures local { answer_of (machine gone_round idle_session) ≡ Local }
+    ensures budget { answer_of (machine used_up idle_session) ≡ Budget }
+    ensures ended { turned (machine gone_round idle_session) ≡ machine gone_round idle_session }
+    ensures passed { answers 2 (way 9) ≡ Passed ∷ (Passed ∷ []) }
+    ensures turns { turns 3 (way 9)
+        ≡ machine (record { place = 1; since = 4; looked = 6; budget = 9; count = 6 }) idle_session }
+    ensures left { climb_left (way 9) ≡ stayed true (4 ∷ (5 ∷ (0 ∷ (1 ∷ (2 ∷ []))))) }
+    ensures left_budget { climb_left (way 5) ≡ stayed false (4 ∷ (5 ∷ [])) }
+    ensures certified { certified 0 junctions_session ≡ record junctions_session { work = 11 } }
+{}

@@ -1,0 +1,262 @@
+//! The session.
+
+ghost use Rattle.std.specs.Prelude.{◌≡◌, ℕ, ◌+◌, ◌*◌, ◌^◌, ◌≤◌, ◌<◌, length, Option, Some, None, IfOk, IfErr, OnOk, OnErr, is_some, is_none, is_err};
+ghost use Rattle.transyt_net.specs.EditFaults.{edit_fault};
+ghost use Rattle.transyt_net.specs.Edits.{with_edit};
+ghost use Rattle.transyt_net.specs.Shape.{SameShape};
+ghost use Rattle.transyt_sweep.specs.Sweeps.{index, out_of, evaluated};
+ghost use Rattle.transyt_track.specs.Due.{due};
+ghost use Rattle.transyt_track.specs.Work.{edit_work};
+ghost use Rattle.transyt_session.specs.Session.{SessionValue, opened, edited_net, edited, reply_to, try_of, trial_of, back_of, keep_of, credited, standing_for};
+
+use crate::answers::{NoTrial, Reply, TrialOpen, Tried};
+use std::alloc::{AllocError, Global};
+use std::marker::Model;
+use std::sync::ledger::Ledger;
+use transyt_delay::Figures;
+use transyt_net::{Edit, EditFault, Net};
+use transyt_steps::Steps;
+use transyt_track::Tracker;
+
+/// A network with its evaluation, at most one open trial, and the work so far.
+///
+/// `before` has the numbers of the network before the trial while one is open, and only its shape otherwise.
+#[derive(Drop)]
+pub struct Session {
+    net: Net,
+    before: Net,
+    tracker: Tracker,
+    work: u64,
+}
+
+impl Model for Session {
+    ghost use Rattle.std.specs.Prelude.{◌≡◌, IfSome};
+    ghost use Rattle.transyt_net.specs.Shape.{SameShape};
+    ghost use Rattle.transyt_session.specs.Session.{SessionValue};
+
+    ghost Value = { SessionValue };
+
+    ghost view = { λ s. record { net = s.net; before = s.tracker.mark; work = s.work } };
+
+    ghost invariant = { λ s. (s.tracker.net ≡ s.net) × SameShape s.net s.before
+        × IfSome (s.tracker.mark) (λ m. m ≡ s.before) };
+}
+
+impl Session {
+    /// A session of this network: no trial, and no work. It works out each sweep of each link once.
+    ///
+    /// It takes all the memory that the session ever needs. Without it the network is given up.
+    pub fn open<L: Ledger>(
+        alloc: Global,
+        net: Net,
+        steps: &mut Steps<L>,
+    ) -> Result<Self, AllocError>
+        ensures value { IfOk result (λ s. s ≡ opened net) }
+        ensures ok { OnOk result (steps.new ≡ steps.old + net.frame.sweeps * length net.links) }
+        ensures err { OnErr result (steps.new ≤ steps.old + net.frame.sweeps * length net.links) }
+    {
+        let before = net.copy(alloc)?;
+        let tracker = Tracker::open(alloc, &net, steps)?;
+        Ok(Session {
+            net,
+            before,
+            tracker,
+            work: 0,
+        })
+    }
+
+    /// Another session of the same network, with memory of its own and no work. It works out nothing.
+    pub fn twin(&self, alloc: Global) -> Result<Self, AllocError>
+        requires closed { self.now.before ≡ None }
+        ensures { IfOk result (λ s. s ≡ opened self.now.net) }
+    {
+        let net = self.net.copy(alloc)?;
+        let before = self.before.copy(alloc)?;
+        let tracker = self.tracker.twin(alloc)?;
+        Ok(Session {
+            net,
+            before,
+            tracker,
+            work: 0,
+        })
+    }
+
+    /// The network now.
+    pub fn net(&self) -> &Net
+        ensures { result.now ≡ self.now.net }
+    {
+        &self.net
+    }
+
+    /// Whether a trial is open.
+    pub fn is_trial(&self) -> bool
+        ensures { result ≡ is_some self.now.before }
+    {
+        self.tracker.is_marked()
+    }
+
+    /// The work so far, in pairs of a sweep and a link that were worked out anew.
+    pub fn work(&self) -> u64
+        ensures { result ≡ self.now.work }
+    {
+        self.work
+    }
+
+    /// What comes to a link, in units: one value for each step of the cycle, before any cut.
+    pub fn arrivals(&self, link: usize) -> &[u64]
+        requires { link < length self.now.net.links }
+        ensures { result.now ≡ (evaluated self.now.net link).arrivals }
+    {
+        self.tracker.arrivals(link)
+    }
+
+    /// What can go of a link, in units: one value for each step of the cycle.
+    pub fn go(&self, link: usize) -> &[u64]
+        requires { link < length self.now.net.links }
+        ensures { result.now ≡ (evaluated self.now.net link).go }
+    {
+        self.tracker.go(link)
+    }
+
+    /// The queue of a link at the end of each step of the cycle, in units.
+    pub fn queue(&self, link: usize) -> &[u64]
+        requires { link < length self.now.net.links }
+        ensures { result.now ≡ (evaluated self.now.net link).queue }
+    {
+        self.tracker.queue(link)
+    }
+
+    /// What leaves a link, in units: one value for each step of the cycle, at the last sweep.
+    pub fn out(&self, link: usize) -> &[u64]
+        requires { link < length self.now.net.links }
+        ensures { result.now ≡ out_of self.now.net self.now.net.frame.sweeps link }
+    {
+        self.tracker.out(self.net.frame().sweeps, link)
+    }
+
+    /// The figures of a link.
+    pub fn figures(&self, link: usize) -> Figures
+        requires { link < length self.now.net.links }
+        ensures { result ≡ (evaluated self.now.net link).figures }
+    {
+        self.tracker.figures(link)
+    }
+
+    /// The index of the network.
+    pub fn index(&self) -> u128
+        ensures { result ≡ index self.now.net }
+    {
+        self.tracker.index()
+    }
+
+    /// Makes an edit where it is allowed. In a trial it is part of the trial, and its work counts all the same.
+    ///
+    /// It takes no memory. A refused edit changes nothing.
+    pub fn edit<L: Ledger>(&mut self, e: Edit, steps: &mut Steps<L>) -> Reply
+        requires room { self.old.work ≤ 2 ^ 62 }
+        ensures state { self.new ≡ edited e self.old }
+        ensures reply { result ≡ reply_to self.old.net e }
+        ensures few { self.new.work ≤ self.old.work + 8000 }
+        ensures steps { steps.new ≡ steps.old + edit_work self.old.net e }
+    {
+        match make(&mut self.net, e) {
+            Ok(_) => {
+                let work = self.tracker.follow(&self.net, steps);
+                self.work += work;
+                Reply::Done { work }
+            }
+            Err(fault) => Reply::Refused(fault),
+        }
+    }
+
+    /// Opens a trial. It takes no memory.
+    pub fn trial(&mut self) -> Result<(), TrialOpen>
+        ensures state { self.new ≡ trial_of self.old }
+        ensures open { is_err result ≡ is_some self.old.before }
+    {
+        if self.tracker.is_marked() {
+            return Err(TrialOpen);
+        }
+        self.before.take_numbers(&self.net);
+        self.tracker.begin();
+        Ok(())
+    }
+
+    /// Takes the trial back: network, rows and index are those from before it, and the work stays. It takes no memory
+    /// and no step.
+    pub fn back(&mut self) -> Result<(), NoTrial>
+        ensures state { self.new ≡ back_of self.old }
+        ensures none { is_err result ≡ is_none self.old.before }
+    {
+        if !self.tracker.is_marked() {
+            return Err(NoTrial);
+        }
+        self.tracker.restore();
+        self.net.take_numbers(&self.before);
+        Ok(())
+    }
+
+    /// Keeps what was done in the trial, and closes it. It takes no memory.
+    pub fn keep(&mut self) -> Result<(), NoTrial>
+        ensures state { self.new ≡ keep_of self.old }
+        ensures none { is_err result ≡ is_none self.old.before }
+    {
+        if !self.tracker.is_marked() {
+            return Err(NoTrial);
+        }
+        self.tracker.settle();
+        Ok(())
+    }
+
+    /// What an edit would make. All stays as it is, the work too; only steps are made. It takes no memory.
+    pub fn try_edit<L: Ledger>(&mut self, e: Edit, steps: &mut Steps<L>) -> Tried
+        requires closed { self.old.before ≡ None }
+        ensures tried { result ≡ try_of self.old.net e }
+        ensures same { self.new ≡ self.old }
+        ensures few { edit_work self.old.net e ≤ 8000 }
+        ensures steps { steps.new ≡ steps.old + edit_work self.old.net e }
+    {
+        match make(&mut self.net, e) {
+            Ok(back) => {
+                self.tracker.begin();
+                let work = self.tracker.follow(&self.net, steps);
+                let index = self.tracker.index();
+                self.tracker.restore();
+                let _ = self.net.apply(back);
+                Tried::Index { index, work }
+            }
+            Err(_) => Tried::Barred,
+        }
+    }
+
+    /// Adds to the work.
+    pub fn credit(&mut self, work: u64)
+        requires room { self.old.work + work ≤ 2 ^ 63 }
+        ensures { self.new ≡ credited work self.old }
+    {
+        self.work += work;
+    }
+
+    /// Stands for another network of the same shape from now on, with the work as it was. It takes no memory.
+    pub fn stand_for<L: Ledger>(&mut self, net: &Net, steps: &mut Steps<L>)
+        requires shape { SameShape self.old.net net.now }
+        requires closed { self.old.before ≡ None }
+        ensures state { self.new ≡ standing_for net.now self.old }
+        ensures steps { steps.new ≡ steps.old + due self.old.net net.now }
+    {
+        self.net.take_numbers(net);
+        self.tracker.follow(net, steps);
+    }
+}
+
+/// Makes an edit where it is allowed, and gives its inverse.
+fn make(net: &mut Net, e: Edit) -> Result<Edit, EditFault>
+    ensures net { net.new ≡ edited_net net.old e }
+    ensures ok { IfOk result (λ back. edit_fault net.old e ≡ None) }
+    ensures err { IfErr result (λ fault. edit_fault net.old e ≡ Some fault) }
+    ensures undoes { IfOk result (λ back. with_edit net.new back ≡ net.old) }
+    ensures allowed { IfOk result (λ back. edit_fault net.new back ≡ None) }
+    ensures shape { SameShape net.old net.new }
+{
+    net.apply(e)
+}
