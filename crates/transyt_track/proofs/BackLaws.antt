@@ -128,12 +128,12 @@ back_end net saved old rows back live between = record {
   fits = between.outs.fits;
   outs = λ t k within there.
       between_out net (old_out saved old) (old_shown saved old) (out_at old) (shown_at old) rows between t k within
-          there
+      there
       ∙ back.outs live t k within there;
   weighed = λ k none there. absurd (omega arith);
   others = λ k there.
       ap unweighed (between_shown net (old_out saved old) (old_shown saved old) (out_at old) (shown_at old) rows
-          between k there)
+      between k there)
       ∙ back.shown live k there;
 }
 
@@ -141,14 +141,14 @@ back_end net saved old rows back live between = record {
 pub unsaved_end : (net marked : Network) (saved : SavedValue) (old rows : RowsValue) → SameShape net marked
     → AreEvaluation net old
     → AreBetween marked (old_out saved old) (old_shown saved old) (out_at old) (shown_at old)
-        (marked.frame.sweeps + 1) 0 rows
+    (marked.frame.sweeps + 1) 0 rows
     → AreUnsaved net saved 0 rows
 unsaved_end net marked saved old rows same evaluation between = record {
   shown = λ k from there none.
       between_shown marked (old_out saved old) (old_shown saved old) (out_at old) (shown_at old) rows between k
       (omega (arith, shape_count net marked same))
       ∙ ap (λ b. if b then shown_at saved.rows k else shown_at old k)
-          (ap (λ t. is_saved saved t k) evaluation.fits.sweeps ∙ none)
+      (ap (λ t. is_saved saved t k) evaluation.fits.sweeps ∙ none)
       ∙ evaluation.shown k there;
 }
 
@@ -189,16 +189,16 @@ weighed_more net l rows weighed inside = record {
     at k before there (inr apart) =
         let different : k ≢ l = apart in
         figures_elsewhere rows l (reweighed net l (shown_at rows l).figures) k apart
-            ∙ weighed.weighed k (omega arith) there
+        ∙ weighed.weighed k (omega arith) there
 
     other : (k : ℕ) → k < length net.links → (k ≡ l) ⊎ (k ≡ l → ⊥)
         → unweighed (shown_at (with_weights rows net l) k) ≡ unweighed (evaluated net k)
     other k there (inl same) =
         ap (λ m. unweighed (shown_at (with_weights rows net l) m)) same ∙ ap unweighed here
-            ∙ ap (λ m. unweighed (evaluated net m)) (sym same)
+        ∙ ap (λ m. unweighed (evaluated net m)) (sym same)
     other k there (inr apart) =
         ap unweighed (figures_elsewhere rows l (reweighed net l (shown_at rows l).figures) k apart)
-            ∙ weighed.others k there
+        ∙ weighed.others k there
 
 -- all links are weighed
 pub weighed_end : (net : Network) (l : ℕ) (rows : RowsValue) → length net.links ≡ l → AreWeighed net l rows

@@ -71,40 +71,40 @@ module _ (a b : Network) (l : ℕ) (x y : ℕ → List ℕ) (data_same : SameDat
   gathered_kept [] come wholes equal = refl
   gathered_kept (f ∷ fs) come wholes equal =
       let whole = All-head (λ g. total_flow (link_of a (link_place a g.feeder))
-          ≡ total_flow (link_of b (link_place b g.feeder))) f fs wholes in
+      ≡ total_flow (link_of b (link_place b g.feeder))) f fs wholes in
       let read = All-head (λ g. x (link_place a g.feeder) ≡ y (link_place a g.feeder)) f fs equal in
       ap (λ c. fold (λ d g. added d (brought a x g)) c fs) (ap (added come) (brought_same f whole read))
       ∙ gathered_kept fs (added come (brought b y f))
       (All-tail (λ g. total_flow (link_of a (link_place a g.feeder)) ≡ total_flow (link_of b (link_place b g.feeder)))
-          f fs wholes)
+      f fs wholes)
       (All-tail (λ g. x (link_place a g.feeder) ≡ y (link_place a g.feeder)) f fs equal)
 
   -- what comes is the same
   pub inflow_same : inflow a x l ≡ inflow b y l
   inflow_same =
       gathered_kept (link_of a l).feeds (uniform a.frame.step_count (perstep a.frame (link_of a l).entry))
-          data_same.wholes reads.feeds
+      data_same.wholes reads.feeds
       ∙ ap (λ (fr : Frame). fold (λ c f. added c (brought b y f))
-          (uniform fr.step_count (perstep fr (link_of a l).entry)) (link_of a l).feeds) data_same.frame
+      (uniform fr.step_count (perstep fr (link_of a l).entry)) (link_of a l).feeds) data_same.frame
       ∙ ap (λ e. fold (λ c f. added c (brought b y f)) (uniform b.frame.step_count (perstep b.frame e))
-          (link_of a l).feeds) data_same.entry
+      (link_of a l).feeds) data_same.entry
       ∙ ap (λ fs. fold (λ c f. added c (brought b y f))
-          (uniform b.frame.step_count (perstep b.frame (link_of b l).entry)) fs) data_same.feeds
+      (uniform b.frame.step_count (perstep b.frame (link_of b l).entry)) fs) data_same.feeds
 
   signal_same : signal a l ≡ signal b l
   signal_same =
       ap (λ fr. green_by fr (the_node a (link_of a l).node) (link_of a l).stages (link_of a l).start_lag
-          (link_of a l).end_lag (link_of a l).saturation) data_same.frame
+      (link_of a l).end_lag (link_of a l).saturation) data_same.frame
       ∙ ap (λ n. green_by b.frame n (link_of a l).stages (link_of a l).start_lag (link_of a l).end_lag
-          (link_of a l).saturation) data_same.node
+      (link_of a l).saturation) data_same.node
       ∙ ap (λ ks. green_by b.frame (the_node b (link_of b l).node) ks (link_of a l).start_lag (link_of a l).end_lag
-          (link_of a l).saturation) data_same.stages
+      (link_of a l).saturation) data_same.stages
       ∙ ap (λ n. green_by b.frame (the_node b (link_of b l).node) (link_of b l).stages n (link_of a l).end_lag
-          (link_of a l).saturation) data_same.start_lag
+      (link_of a l).saturation) data_same.start_lag
       ∙ ap (λ n. green_by b.frame (the_node b (link_of b l).node) (link_of b l).stages (link_of b l).start_lag n
-          (link_of a l).saturation) data_same.end_lag
+      (link_of a l).saturation) data_same.end_lag
       ∙ ap (λ q. green_by b.frame (the_node b (link_of b l).node) (link_of b l).stages (link_of b l).start_lag
-          (link_of b l).end_lag q) data_same.saturation
+      (link_of b l).end_lag q) data_same.saturation
 
   under_rule_same : (rule : Option GiveWay) (green : List ℕ)
       → IfSome rule (λ r. x (link_place a r.other) ≡ y (link_place a r.other))

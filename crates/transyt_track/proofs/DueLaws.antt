@@ -79,7 +79,7 @@ module _ (a b : Network) where
   feeds_equal s l [] e = All-nil (λ f. read_of a s l (link_place a f.feeder) ≡ read_of b s l (link_place a f.feeder))
   feeds_equal s l (f ∷ fs) e =
       let parts = or_parts (read_differs a b s l (feeder_place a f))
-          (list_any (read_differs a b s l) (map (feeder_place a) fs)) e in
+      (list_any (read_differs a b s l) (map (feeder_place a) fs)) e in
       All-cons (λ g. read_of a s l (link_place a g.feeder) ≡ read_of b s l (link_place a g.feeder)) f fs
       (same_out (read_at s l (feeder_place a f)) (feeder_place a f) parts.0) (feeds_equal s l fs parts.1)
 
@@ -113,7 +113,7 @@ own_told x y e =
     let changes = and_parts (nat_eq x.entry y.entry && nat_eq x.saturation y.saturation && nat_eq x.offset y.offset)
     (bytes_eq x.changes y.changes) both.0 in
     let offset = and_parts (nat_eq x.entry y.entry && nat_eq x.saturation y.saturation) (nat_eq x.offset y.offset)
-        changes.0 in
+    changes.0 in
     let flows = and_parts (nat_eq x.entry y.entry) (nat_eq x.saturation y.saturation) offset.0 in
     (λ j. record {
       entry = eqb-true x.entry y.entry flows.0 j;

@@ -86,7 +86,7 @@ module _ (a b : Network) (s l : ℕ) (rows : RowsValue) (changed : List Bool) (a
       ∙ ap (λ x. not (same_own (own a l) (own b l)) || list_any (read_differs a b s l) places.feeders || x)
       (one_flagged changed (read_differs a b s l) (length b.links) at.flagged places.rule rule)
       ∙ ap (λ (p : PlacesValue). not (same_own (own a l) (own b l)) || list_any (read_differs a b s l) p.feeders ||
-          is_some_and (read_differs a b s l) p.rule) is
+      is_some_and (read_differs a b s l) p.rule) is
 
   flags_put : (d : Bool) → d ≡ differs a b s l → (m : ℕ) → m < length b.links
       → flag (set changed l d) m ≡ read_differs a b s (l + 1) m
@@ -124,7 +124,7 @@ module _ (a b : Network) (s l : ℕ) (rows : RowsValue) (changed : List Bool) (a
         → AreAt a b s (l + 1) (placed rows s l c) (set changed l d)
     turned_worked kept c made d told =
         let long : HasSteps b.frame.step_count c = subst (HasSteps b.frame.step_count) (sym made)
-            (worked_steps b (read_of b s l) l) in
+        (worked_steps b (read_of b s l) l) in
         let out : c.out ≡ out_of b s l = ap (λ (v : CellValue). v.out) made ∙ sym (out_of_pair b s l first) in
         record {
           outs = mixed_placed b (out_of b) (out_of a) s l rows at.outs kept c swept inside long out;
@@ -155,11 +155,11 @@ module _ (a b : Network) (s l : ℕ) (rows : RowsValue) (changed : List Bool) (a
       weighed_here : b.frame.sweeps ≡ s → shown_at (with_weights rows b l) l ≡ evaluated b l
       weighed_here last =
           let now : shown_at rows l ≡ evaluated a l = shown_now b (evaluated b) (evaluated a) s l rows at.shown last
-              inside in
+          inside in
           let last_before : a.frame.sweeps ≡ s = ap (λ (f : Frame). f.sweeps) (shape_frame a b same) ∙ last in
           figures_here rows l (reweighed b l (shown_at rows l).figures) (omega (arith, at.outs.fits.link_count))
           ∙ ap (λ (v : CellValue). record v { figures = reweighed b l v.figures })
-              (now ∙ evaluated_is a l ∙ ap (λ t. worked_at a t l) last_before)
+          (now ∙ evaluated_is a l ∙ ap (λ t. worked_at a t l) last_before)
           ∙ left_worked a b s l same inside_before none
           ∙ ap (λ t. worked_at b t l) (sym last)
           ∙ sym (evaluated_is b l)
@@ -177,7 +177,7 @@ module _ (a b : Network) (s l : ℕ) (rows : RowsValue) (changed : List Bool) (a
           outs true =
               mixed_figures b (out_of b) (out_of a) s (l + 1) rows
               (mixed_left b (out_of b) (out_of a) s l rows at.outs (sym same_leaving)) l
-                  (reweighed b l (shown_at rows l).figures)
+              (reweighed b l (shown_at rows l).figures)
           outs false = mixed_left b (out_of b) (out_of a) s l rows at.outs (sym same_leaving)
 
           shown : (b.frame.sweeps ≡ s) ⊎ (b.frame.sweeps ≡ s → ⊥)
@@ -185,17 +185,17 @@ module _ (a b : Network) (s l : ℕ) (rows : RowsValue) (changed : List Bool) (a
           shown (inl last) =
               let test : (s == b.frame.sweeps) ≡ true = same_test s b.frame.sweeps last in
               subst (λ w. AreShownMixed b (evaluated b) (evaluated a) s (l + 1)
-                  (if w then with_weights rows b l else rows)) (sym test)
+              (if w then with_weights rows b l else rows)) (sym test)
               (shown_moved b (evaluated b) (evaluated a) s l rows at.shown (with_weights rows b l) inside
               weighed_here
               (λ k there apart. figures_elsewhere rows l (reweighed b l (shown_at rows l).figures) k
-                  (λ e. apart last e)))
+              (λ e. apart last e)))
           shown (inr earlier) =
               let test : (s == b.frame.sweeps) ≡ false = other_test s b.frame.sweeps earlier in
               subst (λ w. AreShownMixed b (evaluated b) (evaluated a) s (l + 1)
-                  (if w then with_weights rows b l else rows)) (sym test)
+              (if w then with_weights rows b l else rows)) (sym test)
               (shown_moved b (evaluated b) (evaluated a) s l rows at.shown rows inside (λ last. absurd (earlier last))
-                  (λ k there apart. refl))
+              (λ k there apart. refl))
 
 -- after the last sweep the rows are the evaluation
 pub ended : (a b : Network) (rows : RowsValue) (changed : List Bool) → AreAt a b (b.frame.sweeps + 1) 0 rows changed

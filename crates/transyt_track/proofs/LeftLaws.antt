@@ -38,14 +38,14 @@ figures_weighed : (a b : Network) (l : ℕ) → a.frame ≡ b.frame → (come ro
     → reweighed b l (figures (terms_of a l come room)) ≡ figures (terms_of b l come room)
 figures_weighed a b l frame come room =
     ap (λ (f : Frame). reweighed b l (figures_by f (link_of a l).delay_weight (link_of a l).stop_weight come room))
-        frame
+    frame
 
 -- an evaluation weighed anew stays
 pub weighed_self : (net : Network) (l : ℕ)
     → record (evaluated net l) { figures = reweighed net l (evaluated net l).figures } ≡ evaluated net l
 weighed_self net l =
     ap (λ (c : CellValue). record c { figures = reweighed net l c.figures }) (evaluated_is net l)
-        ∙ sym (evaluated_is net l)
+    ∙ sym (evaluated_is net l)
 
 abbrev by_weights : ℕ → ℕ → ℕ → Figures → Figures
 by_weights stop_penalty delay_weight stop_weight f =
@@ -62,7 +62,7 @@ weights_stay a b l rows same weights shown =
     (λ j. by_weights (frame j).stop_penalty (sym weights.delay j) (sym weights.stop j) f) in
     let stays : reweighed b l f ≡ f =
     by_before ∙ ap (reweighed a l) figures_are ∙ ap (λ (c : CellValue). c.figures) (weighed_self a l)
-        ∙ sym figures_are in
+    ∙ sym figures_are in
     ap (λ (g : Figures). with_figures rows l g) stays
     ∙ ap (λ fs. record rows { figures = fs }) (set-get_or rows.figures l no_figures)
 

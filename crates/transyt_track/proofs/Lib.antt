@@ -11,6 +11,7 @@ pub mod LeftLaws
 pub mod FrontLaws
 pub mod StartLaws
 pub mod SavedLaws
+pub mod CarryLaws
 pub mod BackLaws
 pub mod TrackLaws
 pub mod RuleLaws

@@ -68,7 +68,7 @@ module _ (net : Network) (f g : ℕ → ℕ → List ℕ) (s l : ℕ) (rows : Ro
 
       by : (b : Bool) → AreMixed net f g s (l + 1)
           (if b then with_shown (with_out rows s l c.out) l c.arrivals c.go c.queue c.figures else with_out rows s l
-              c.out)
+          c.out)
       by true = mixed_shown net f g s (l + 1) (with_out rows s l c.out) put l c.arrivals c.go c.queue c.figures
       by false = put
 
@@ -80,57 +80,57 @@ module _ (net : Network) (f g : ℕ → ℕ → List ℕ) (s l : ℕ) (rows : Ro
   }
 
 module _ (net : Network) (f g : ℕ → CellValue) (s l : ℕ) (rows : RowsValue) (mixed : AreShownMixed net f g s l rows)
-    where
-  stays : (k : ℕ) → (net.frame.sweeps ≡ s → k ≡ l → ⊥)
-      → (if is_before net.frame.sweeps k s l then f k else g k)
-          ≡ (if is_before net.frame.sweeps k s (l + 1) then f k else g k)
-  stays k apart = ap (λ b. cond b (f k) (g k)) (sym (before_other net.frame.sweeps k s l apart))
+  where
+    stays : (k : ℕ) → (net.frame.sweeps ≡ s → k ≡ l → ⊥)
+        → (if is_before net.frame.sweeps k s l then f k else g k)
+        ≡ (if is_before net.frame.sweeps k s (l + 1) then f k else g k)
+    stays k apart = ap (λ b. cond b (f k) (g k)) (sym (before_other net.frame.sweeps k s l apart))
 
-  reached : (k : ℕ) → net.frame.sweeps ≡ s → k ≡ l
-      → f l ≡ (if is_before net.frame.sweeps k s (l + 1) then f k else g k)
-  reached k last here =
-      ap f (sym here)
-      ∙ sym (ap (λ b. cond b (f k) (g k))
-      (ap (λ u. is_before u k s (l + 1)) last ∙ ap (λ u. is_before s u s (l + 1)) here ∙ before_self s l))
+    reached : (k : ℕ) → net.frame.sweeps ≡ s → k ≡ l
+        → f l ≡ (if is_before net.frame.sweeps k s (l + 1) then f k else g k)
+    reached k last here =
+        ap f (sym here)
+        ∙ sym (ap (λ b. cond b (f k) (g k))
+        (ap (λ u. is_before u k s (l + 1)) last ∙ ap (λ u. is_before s u s (l + 1)) here ∙ before_self s l))
 
-  -- one link more, whose rows say what f says, and elsewhere what they said
-  pub shown_moved : (new : RowsValue) → l < length net.links
-      → (net.frame.sweeps ≡ s → shown_at new l ≡ f l)
-      → ((k : ℕ) → k < length net.links → (net.frame.sweeps ≡ s → k ≡ l → ⊥) → shown_at new k ≡ shown_at rows k)
-      → AreShownMixed net f g s (l + 1) new
-  shown_moved new inside here elsewhere =
-      record { shown = λ k there. by k there (cases_eq net.frame.sweeps s) (cases_eq k l) }
-    where
-      by : (k : ℕ) → k < length net.links → (net.frame.sweeps ≡ s) ⊎ (net.frame.sweeps ≡ s → ⊥) → (k ≡ l) ⊎ (k ≡ l → ⊥)
-          → shown_at new k ≡ (if is_before net.frame.sweeps k s (l + 1) then f k else g k)
-      by k there (inl last) (inl this) = ap (shown_at new) this ∙ here last ∙ reached k last this
-      by k there (inl last) (inr other) =
-          elsewhere k there (λ _ e. other e) ∙ mixed.shown k there ∙ stays k (λ _ e. other e)
-      by k there (inr earlier) _ =
-          elsewhere k there (λ e _. earlier e) ∙ mixed.shown k there ∙ stays k (λ e _. earlier e)
+    -- one link more, whose rows say what f says, and elsewhere what they said
+    pub shown_moved : (new : RowsValue) → l < length net.links
+        → (net.frame.sweeps ≡ s → shown_at new l ≡ f l)
+        → ((k : ℕ) → k < length net.links → (net.frame.sweeps ≡ s → k ≡ l → ⊥) → shown_at new k ≡ shown_at rows k)
+        → AreShownMixed net f g s (l + 1) new
+    shown_moved new inside here elsewhere =
+        record { shown = λ k there. by k there (cases_eq net.frame.sweeps s) (cases_eq k l) }
+      where
+        by : (k : ℕ) → k < length net.links → (net.frame.sweeps ≡ s) ⊎ (net.frame.sweeps ≡ s → ⊥) → (k ≡ l) ⊎ (k ≡ l → ⊥)
+            → shown_at new k ≡ (if is_before net.frame.sweeps k s (l + 1) then f k else g k)
+        by k there (inl last) (inl this) = ap (shown_at new) this ∙ here last ∙ reached k last this
+        by k there (inl last) (inr other) =
+            elsewhere k there (λ _ e. other e) ∙ mixed.shown k there ∙ stays k (λ _ e. other e)
+        by k there (inr earlier) _ =
+            elsewhere k there (λ e _. earlier e) ∙ mixed.shown k there ∙ stays k (λ e _. earlier e)
 
-  -- from the front on stands g
-  pub shown_now : net.frame.sweeps ≡ s → l < length net.links → shown_at rows l ≡ g l
-  shown_now last inside =
-      mixed.shown l inside
-      ∙ ap (λ u. cond (is_before u l s l) (f l) (g l)) last
-      ∙ ap (λ b. cond b (f l) (g l)) (before_here s l)
+    -- from the front on stands g
+    pub shown_now : net.frame.sweeps ≡ s → l < length net.links → shown_at rows l ≡ g l
+    shown_now last inside =
+        mixed.shown l inside
+        ∙ ap (λ u. cond (is_before u l s l) (f l) (g l)) last
+        ∙ ap (λ b. cond b (f l) (g l)) (before_here s l)
 
-  -- at the end of a sweep the next begins
-  pub shown_turn : length net.links ≡ l → AreShownMixed net f g (s + 1) 0 rows
-  shown_turn all = record {
-    shown = λ k there. mixed.shown k there
-        ∙ ap (λ b. cond b (f k) (g k)) (before_turn net.frame.sweeps k s l (omega (arith, there, all)));
-  }
+    -- at the end of a sweep the next begins
+    pub shown_turn : length net.links ≡ l → AreShownMixed net f g (s + 1) 0 rows
+    shown_turn all = record {
+      shown = λ k there. mixed.shown k there
+          ∙ ap (λ b. cond b (f k) (g k)) (before_turn net.frame.sweeps k s l (omega (arith, there, all)));
+    }
 
-  -- a pair is written
-  pub shown_placed : Fits net rows → AreRows rows → (c : CellValue) → s ≤ net.frame.sweeps → l < length net.links
-      → HasSteps rows.step_count c → (net.frame.sweeps ≡ s → c ≡ f l)
-          → AreShownMixed net f g s (l + 1) (placed rows s l c)
-  shown_placed fits kept c swept inside long made =
-      let swept_in : s ≤ rows.sweeps = omega (arith, fits.sweeps) in
-      let inside_in : l < length rows.figures = omega (arith, fits.link_count) in
-      shown_moved (placed rows s l c) inside
-      (λ last. placed_last rows kept s l c swept_in inside_in long (sym (fits.sweeps ∙ last)) ∙ made last)
-      (λ k there apart. placed_stays rows kept s l c swept_in inside_in long k (omega (arith, fits.link_count))
-      (λ e. apart (sym fits.sweeps ∙ sym e)))
+    -- a pair is written
+    pub shown_placed : Fits net rows → AreRows rows → (c : CellValue) → s ≤ net.frame.sweeps → l < length net.links
+        → HasSteps rows.step_count c → (net.frame.sweeps ≡ s → c ≡ f l)
+        → AreShownMixed net f g s (l + 1) (placed rows s l c)
+    shown_placed fits kept c swept inside long made =
+        let swept_in : s ≤ rows.sweeps = omega (arith, fits.sweeps) in
+        let inside_in : l < length rows.figures = omega (arith, fits.link_count) in
+        shown_moved (placed rows s l c) inside
+        (λ last. placed_last rows kept s l c swept_in inside_in long (sym (fits.sweeps ∙ last)) ∙ made last)
+        (λ k there apart. placed_stays rows kept s l c swept_in inside_in long k (omega (arith, fits.link_count))
+        (λ e. apart (sym fits.sweeps ∙ sym e)))

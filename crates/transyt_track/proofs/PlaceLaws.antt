@@ -77,7 +77,7 @@ all_inside : (net : Network) → 0 < length net.links → (feeds : List Feed)
 all_inside net some [] = All-nil (λ j. j < length net.links)
 all_inside net some (f ∷ fs) =
     All-cons (λ j. j < length net.links) (feeder_place net f) (map (feeder_place net) fs)
-        (link_place-lt net f.feeder some)
+    (link_place-lt net f.feeder some)
     (all_inside net some fs)
 
 -- what a link reads is a link
@@ -86,7 +86,7 @@ pub feeders_inside : (net : Network) (l count : ℕ) (places : PlacesValue) → 
 feeders_inside net l count places some same is =
     subst (λ n. All (λ j. j < n) places.feeders) same
     (subst (λ (p : PlacesValue). All (λ j. j < length net.links) p.feeders) (sym is)
-        (all_inside net some (link_of net l).feeds))
+    (all_inside net some (link_of net l).feeds))
 
 rule_there : (net : Network) → 0 < length net.links → (rule : Option GiveWay)
     → IfSome (rule_place net rule) (λ j. j < length net.links)
@@ -99,7 +99,7 @@ pub rule_inside : (net : Network) (l count : ℕ) (places : PlacesValue) → 0 <
 rule_inside net l count places some same is =
     subst (λ n. IfSome places.rule (λ j. j < n)) same
     (subst (λ (p : PlacesValue). IfSome p.rule (λ j. j < length net.links)) (sym is)
-        (rule_there net some (link_of net l).gives_way))
+    (rule_there net some (link_of net l).gives_way))
 
 -- what was read of the table at a place is the place's
 pub place_read : (net : Network) (table : List PlacesValue) (l : ℕ) (p : PlacesValue) → ArePlaces net table

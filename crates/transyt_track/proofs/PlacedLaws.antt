@@ -44,7 +44,7 @@ module _ (rows : RowsValue) (kept : AreRows rows) (s l : ℕ) (c : CellValue) (s
       → out_at (placed rows s l c) t k ≡ out_at rows t k
   placed_elsewhere t k there apart =
       all_of_out rows s l c (s == rows.sweeps) t k ∙ out_elsewhere rows kept s l c.out swept inside long.out t k there
-          apart
+      apart
 
   last_rows : (k : ℕ) → s ≡ rows.sweeps → shown_at (placed rows s l c) k ≡ shown_at (put_shown rows l c) k
   last_rows k last =
@@ -67,7 +67,7 @@ module _ (rows : RowsValue) (kept : AreRows rows) (s l : ℕ) (c : CellValue) (s
       by (inr earlier) =
           let test : (s == rows.sweeps) ≡ false = let other : s ≢ rows.sweeps = earlier in grind (arith, nat_tests) in
           let out = out_elsewhere rows kept s l c.out swept inside long.out rows.sweeps k there
-              (λ e _. earlier (sym e)) in
+          (λ e _. earlier (sym e)) in
           ap (λ b. shown_at (all_of rows s l c b) k) test
           ∙ (λ j. record {
             arrivals = (shown_at rows k).arrivals;

@@ -28,10 +28,10 @@ own_self : (x : Own) → same_own x x ≡ true
 own_self x =
     and_from (same_timing x x) (same_parts x.parts x.parts)
     (and_from (nat_eq x.entry x.entry && nat_eq x.saturation x.saturation && nat_eq x.offset x.offset)
-        (bytes_eq x.changes x.changes)
+    (bytes_eq x.changes x.changes)
     (and_from (nat_eq x.entry x.entry && nat_eq x.saturation x.saturation) (nat_eq x.offset x.offset)
     (and_from (nat_eq x.entry x.entry) (nat_eq x.saturation x.saturation) (same_number x.entry)
-        (same_number x.saturation))
+    (same_number x.saturation))
     (same_number x.offset))
     ((bytes_eq-Decides x.changes x.changes).1 refl))
     (parts_self x.parts)

@@ -1,22 +1,19 @@
 -- Saved rows: each write keeps what they lead back to.
 use Rattle.std.proofs.Common.{◌≡◌, ℕ, ◌+◌, ◌-◌, ◌*◌, ◌<◌, ◌≤◌, Bool, true, false, not, ◌&&◌, List, length, set, drop}
 use Rattle.std.proofs.Common.{refl, ap, sym, subst, ◌∙◌, arith}
-use Rattle.std.proofs.Common.{◌==◌, ◌⊎◌, inl, inr, if◌then◌else◌, length-drop}
+use Rattle.std.proofs.Common.{◌⊎◌, inl, inr, if◌then◌else◌, length-drop}
 use Rattle.std.proofs.lemmas.Bool.{cases_eq}
-use Rattle.std.proofs.lemmas.List.{length-set, length-take-le, get_or-set_other}
+use Rattle.std.proofs.lemmas.List.{length-take-le, get_or-set_other}
 use Rattle.std.proofs.lemmas.Grind.{get_or-set_at}
 use Rattle.std.proofs.Math.Nat.{mul-le-mul_right}
-use Rattle.transyt_net.specs.Parts.{Network}
-use Rattle.transyt_sweep.specs.Cell.{CellValue, HasSteps}
-use Rattle.transyt_sweep.specs.Rows.{RowsValue, row, out_at, shown_at, pair_in, pair_place, placed, with_out}
-use Rattle.transyt_sweep.specs.Rows.{with_weights, reweighed, Fits, SameSize, AreRows}
-use Rattle.transyt_sweep.proofs.PairLaws.{out_elsewhere, pair_room, pairs_apart}
-use Rattle.transyt_track.specs.Saved.{SavedValue, is_saved, saved_at, old_out, old_shown, LeadBack, FitsRows}
+use Rattle.transyt_sweep.specs.Cell.{HasSteps}
+use Rattle.transyt_sweep.specs.Rows.{RowsValue, row, out_at, shown_at, pair_in, pair_place, placed}
+use Rattle.transyt_sweep.specs.Rows.{SameSize, AreRows}
+use Rattle.transyt_sweep.proofs.PairLaws.{pair_room, pairs_apart}
+use Rattle.transyt_track.specs.Saved.{SavedValue, is_saved, saved_at, old_out, old_shown, FitsRows}
 use Rattle.transyt_track.specs.Saved.{Carries, AreSaved}
-use Rattle.transyt_track.specs.Front.{left_at, unweighed}
+use Rattle.transyt_track.specs.Front.{unweighed}
 use Rattle.transyt_track.proofs.PlacedLaws.{placed_here, placed_elsewhere, placed_last, placed_stays, placed_size}
-use Rattle.transyt_track.proofs.PlacedLaws.{shown_with_out, figures_out, figures_size, figures_here}
-use Rattle.transyt_track.proofs.PlacedLaws.{figures_elsewhere}
 
 -- two pairs are one, or apart
 pub pair_cases : (t k s l : ℕ) → ((t ≡ s) × (k ≡ l)) ⊎ (t ≡ s → k ≡ l → ⊥)
@@ -138,7 +135,7 @@ module _ (rows : RowsValue) (saved : SavedValue) (fits : FitsRows rows saved) (k
           → old_out (saved_at saved rows s l) new t k ≡ old_out saved rows t k
       by true was (inl here) =
           let up : is_saved saved t k ≡ true = ap (λ u. is_saved saved u k) here.0 ∙ ap (is_saved saved s) here.1
-              ∙ was in
+          ∙ was in
           ap (λ d. old_out d new t k) (is_same was)
           ∙ ap (λ b. if b then out_at saved.rows t k else out_at new t k) up
           ∙ sym (ap (λ b. if b then out_at saved.rows t k else out_at rows t k) up)
@@ -147,7 +144,7 @@ module _ (rows : RowsValue) (saved : SavedValue) (fits : FitsRows rows saved) (k
           ∙ ap (λ x. if is_saved saved t k then out_at saved.rows t k else x) (outs t k there apart)
       by false was (inl here) =
           let none : is_saved saved t k ≡ false = ap (λ u. is_saved saved u k) here.0 ∙ ap (is_saved saved s) here.1
-              ∙ was in
+          ∙ was in
           ap (λ d. old_out d new t k) (is_put live was)
           ∙ ap (λ u. old_out (put_in saved rows s l) new u k) here.0
           ∙ ap (old_out (put_in saved rows s l) new s) here.1
@@ -159,10 +156,10 @@ module _ (rows : RowsValue) (saved : SavedValue) (fits : FitsRows rows saved) (k
       by false was (inr apart) =
           ap (λ d. old_out d new t k) (is_put live was)
           ∙ ap (λ b. if b then out_at (placed saved.rows s l (pair_in rows s l)) t k else out_at new t k)
-              (flag_elsewhere t k there apart)
+          (flag_elsewhere t k there apart)
           ∙ ap (λ x. if is_saved saved t k then x else out_at new t k)
           (placed_elsewhere saved.rows saved_kept s l (pair_in rows s l) swept_in inside_in long t k
-              (omega (arith, fits.size.link_count)) apart)
+          (omega (arith, fits.size.link_count)) apart)
           ∙ ap (λ x. if is_saved saved t k then out_at saved.rows t k else x) (outs t k there apart)
 
   shown_kept : saved.live ≡ true → (k : ℕ) → k < length rows.figures
@@ -192,12 +189,12 @@ module _ (rows : RowsValue) (saved : SavedValue) (fits : FitsRows rows saved) (k
           ap (λ d. old_shown d new k) (is_put live was)
           ∙ at (put_in saved rows s l)
           ∙ sym (ap (λ t. if is_saved (put_in saved rows s l) t k then shown_at
-              (placed saved.rows s l (pair_in rows s l)) k else shown_at new k) here.0)
+          (placed saved.rows s l (pair_in rows s l)) k else shown_at new k) here.0)
           ∙ ap (λ m. if is_saved (put_in saved rows s l) s m then shown_at (placed saved.rows s l (pair_in rows s l))
-              m else shown_at new m) here.1
+          m else shown_at new m) here.1
           ∙ ap (λ b. if b then shown_at (placed saved.rows s l (pair_in rows s l)) l else shown_at new l) flag_here
           ∙ placed_last saved.rows saved_kept s l (pair_in rows s l) swept_in inside_in long
-              (here.0 ∙ sym fits.size.sweeps)
+          (here.0 ∙ sym fits.size.sweeps)
           ∙ ap (λ t. pair_in rows t l) here.0
           ∙ sym (ap (shown_at rows) here.1)
           ∙ sym (ap (λ b. if b then shown_at saved.rows k else shown_at rows k) none)
@@ -208,7 +205,7 @@ module _ (rows : RowsValue) (saved : SavedValue) (fits : FitsRows rows saved) (k
           (flag_elsewhere rows.sweeps k there (λ e. apart (sym e)))
           ∙ ap (λ x. if is_saved saved rows.sweeps k then x else shown_at new k)
           (placed_stays saved.rows saved_kept s l (pair_in rows s l) swept_in inside_in long k
-              (omega (arith, fits.size.link_count))
+          (omega (arith, fits.size.link_count))
           (λ e. apart (e ∙ fits.size.sweeps)))
           ∙ ap (λ x. if is_saved saved rows.sweeps k then shown_at saved.rows k else x) (shown k there apart)
 
@@ -245,76 +242,3 @@ module _ (rows : RowsValue) (saved : SavedValue) (fits : FitsRows rows saved) (k
     outs = λ live t k within there. out_kept live t k there;
     shown = λ live k there. ap unweighed (shown_kept live k there);
   }
-
-module _ (rows : RowsValue) (saved : SavedValue) (fits : FitsRows rows saved) (kept : AreRows rows)
-    (saved_kept : AreRows saved.rows) (room : AreSaved saved.link_count saved.flags saved.rows) (s l : ℕ)
-    (swept : s ≤ rows.sweeps) (inside : l < length rows.figures) where
-  -- a pair is saved and placed
-  pub carries_placed : (c : CellValue) → HasSteps rows.step_count c
-      → Carries rows saved (placed rows s l c) (saved_at saved rows s l)
-  carries_placed c long =
-      carries_moved rows saved fits kept saved_kept room s l swept inside (placed rows s l c) (placed_size rows s l c)
-      (placed_elsewhere rows kept s l c swept inside long) (placed_stays rows kept s l c swept inside long)
-
-  -- a pair is saved, and what leaves is written
-  pub carries_out : (x : List ℕ) → length x ≡ rows.step_count
-      → Carries rows saved (with_out rows s l x) (saved_at saved rows s l)
-  carries_out x long =
-      carries_moved rows saved fits kept saved_kept room s l swept inside (with_out rows s l x)
-      (record { step_count = refl; sweeps = refl; link_count = refl })
-      (out_elsewhere rows kept s l x swept inside long) (shown_with_out rows kept s l x swept inside long)
-
--- a link is weighed anew
-pub carries_weighed : (net : Network) (rows : RowsValue) (saved : SavedValue) → FitsRows rows saved → (l : ℕ)
-    → l < length rows.figures → Carries rows saved (with_weights rows net l) saved
-carries_weighed net rows saved fits l inside = record {
-  size = figures_size rows l (reweighed net l (shown_at rows l).figures);
-  fits = record {
-    size = record {
-      step_count = fits.size.step_count;
-      sweeps = fits.size.sweeps;
-      link_count = fits.size.link_count ∙ sym size;
-    };
-    links = fits.links ∙ sym size;
-  };
-  live = refl;
-  outs = λ live t k within there.
-      ap (λ x. if is_saved saved t k then out_at saved.rows t k else x)
-      (figures_out rows l (reweighed net l (shown_at rows l).figures) t k);
-  shown = λ live k there. by k (is_saved saved rows.sweeps k) (cases_eq k l);
-}
-  where
-    size : length (with_weights rows net l).figures ≡ length rows.figures
-    size = length-set rows.figures l (reweighed net l (shown_at rows l).figures)
-
-    by : (k : ℕ) (b : Bool) → (k ≡ l) ⊎ (k ≡ l → ⊥)
-        → unweighed (if b then shown_at saved.rows k else shown_at (with_weights rows net l) k)
-        ≡ unweighed (if b then shown_at saved.rows k else shown_at rows k)
-    by k true which = refl
-    by k false (inl here) =
-        ap (λ m. unweighed (shown_at (with_weights rows net l) m)) here
-        ∙ ap unweighed (figures_here rows l (reweighed net l (shown_at rows l).figures) inside)
-        ∙ sym (ap (λ m. unweighed (shown_at rows m)) here)
-    by k false (inr other) =
-        ap unweighed (figures_elsewhere rows l (reweighed net l (shown_at rows l).figures) k other)
-
--- a link is left
-pub carries_left : (net : Network) (s l : ℕ) (rows : RowsValue) (saved : SavedValue) → FitsRows rows saved
-    → l < length rows.figures → Carries rows saved (left_at net s l rows) saved
-carries_left net s l rows saved fits inside = by (s == net.frame.sweeps)
-  where
-    by : (b : Bool) → Carries rows saved (if b then with_weights rows net l else rows) saved
-    by true = carries_weighed net rows saved fits l inside
-    by false = carries_same rows saved fits
-
--- what was kept is kept
-pub back_carried : (m : Network) (x : RowsValue) (d : SavedValue) (y : RowsValue) (e : SavedValue) → Fits m x
-    → LeadBack m x d → Carries x d y e → LeadBack m y e
-back_carried m x d y e fits back carries = record {
-  outs = λ live t k within there.
-      carries.outs (sym carries.live ∙ live) t k (omega (arith, fits.sweeps)) (omega (arith, fits.link_count))
-      ∙ back.outs (sym carries.live ∙ live) t k within there;
-  shown = λ live k there.
-      carries.shown (sym carries.live ∙ live) k (omega (arith, fits.link_count))
-          ∙ back.shown (sym carries.live ∙ live) k there;
-}

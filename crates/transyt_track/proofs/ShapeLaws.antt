@@ -55,7 +55,7 @@ module _ (a b : Network) (same : SameShape a b) where
   shape_node_place : (number : ℕ) → node_place a number ≡ node_place b number
   shape_node_place number =
       ap (λ ns. found_or_first (place_of ns number))
-          (node_numbers_same a.nodes b.nodes (ap (λ (n : Network). n.nodes) same))
+      (node_numbers_same a.nodes b.nodes (ap (λ (n : Network). n.nodes) same))
 
   -- the places of their links
   pub shape_places : (l : ℕ) → l < length a.links → places_at a l ≡ places_at b l
@@ -68,7 +68,7 @@ module _ (a b : Network) (same : SameShape a b) where
       (ap (λ (x : LinkValue). x.feeds) bare) in
       let rule : rule_place a (link_of a l).gives_way ≡ rule_place b (link_of b l).gives_way =
       rule_place_same a b shape_link_place (link_of a l).gives_way
-          ∙ ap (λ (x : LinkValue). rule_place b x.gives_way) bare in
+      ∙ ap (λ (x : LinkValue). rule_place b x.gives_way) bare in
       (λ j. record { node = node j; feeders = feeders j; rule = rule j })
 
   -- so a table of places serves both

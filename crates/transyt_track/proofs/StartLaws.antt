@@ -83,7 +83,7 @@ module _ (a b : Network) (same : SameShape a b) where
   -- whether what leaves link l before the first sweep differs
   pub start_differs : (l : ℕ) → 1 ≤ b.frame.step_count
       → not (nat_eq (perstep a.frame (total_flow (link_of a l))) (perstep b.frame (total_flow (link_of b l))))
-          ≡ differs a b 0 l
+      ≡ differs a b 0 l
   start_differs l some =
       let steps : a.frame.step_count ≡ b.frame.step_count = ap (λ (f : Frame). f.step_count) (shape_frame a b same) in
       sym (differs_is a b 0 l
@@ -91,7 +91,7 @@ module _ (a b : Network) (same : SameShape a b) where
       ∙ ap (λ xs. not (bytes_eq (start a l) xs)) (out_of_start b l)
       ∙ ap (λ n. not (bytes_eq (uniform n (perstep a.frame (total_flow (link_of a l)))) (start b l))) steps
       ∙ ap not (uniform_told b.frame.step_count (perstep a.frame (total_flow (link_of a l)))
-          (perstep b.frame (total_flow (link_of b l))) some))
+      (perstep b.frame (total_flow (link_of b l))) some))
 
   -- it is whether its total flow does
   pub total_start : IsFrame b.frame → (l : ℕ) → total_differs a b l ≡ differs a b 0 l

@@ -17,7 +17,7 @@ use Rattle.transyt_track.specs.Saved.{SavedValue, is_saved, begun, settled, Carr
 use Rattle.transyt_track.specs.Tracker.{mark_of, IsTracking}
 use Rattle.transyt_track.proofs.ShapeLaws.{shape_frame, shape_count, shape_table}
 use Rattle.transyt_track.proofs.PlaceLaws.{all_places_are}
-use Rattle.transyt_track.proofs.SavedLaws.{back_carried}
+use Rattle.transyt_track.proofs.CarryLaws.{back_carried}
 
 -- rows that fit one network fit each of its shape
 pub fits_shape : (a b : Network) → SameShape a b → (rows : RowsValue) → Fits a rows → Fits b rows
@@ -54,49 +54,49 @@ pub opened_tracks : (net marked : Network) (rows : RowsValue) (saved : SavedValu
     → Fits net saved.rows → saved.link_count ≡ length net.links → places ≡ all_places net
     → length own_changed ≡ length net.links → length changed ≡ length net.links
     → length scratch.arrivals ≡ net.frame.step_count → IsTracking net marked rows saved places own_changed changed
-        scratch
+    scratch
 opened_tracks net marked rows saved places own_changed changed scratch copied evaluation none fits links all own_len
     changed_len steps = record {
-  shape = sym (ap shape copied);
-  evaluation = evaluation;
-  fits = record {
-    size = record {
-      step_count = fits.step_count ∙ sym evaluation.fits.step_count;
-      sweeps = fits.sweeps ∙ sym evaluation.fits.sweeps;
-      link_count = fits.link_count ∙ sym evaluation.fits.link_count;
-    };
-    links = links ∙ sym evaluation.fits.link_count;
-  };
-  back = record { outs = λ live t k within there. absurd (cc); shown = λ live k there. absurd (cc) };
-  table = subst (ArePlaces net) (sym all) (all_places_are net);
-  own_count = own_len;
-  changed_count = changed_len;
-  steps = steps;
-}
+      shape = sym (ap shape copied);
+      evaluation = evaluation;
+      fits = record {
+        size = record {
+          step_count = fits.step_count ∙ sym evaluation.fits.step_count;
+          sweeps = fits.sweeps ∙ sym evaluation.fits.sweeps;
+          link_count = fits.link_count ∙ sym evaluation.fits.link_count;
+        };
+        links = links ∙ sym evaluation.fits.link_count;
+      };
+      back = record { outs = λ live t k within there. absurd (cc); shown = λ live k there. absurd (cc) };
+      table = subst (ArePlaces net) (sym all) (all_places_are net);
+      own_count = own_len;
+      changed_count = changed_len;
+      steps = steps;
+    }
 
 module _ (net marked : Network) (rows : RowsValue) (saved : SavedValue) (places : List PlacesValue)
     (own_changed changed : List Bool) (scratch : CellValue)
-        (tracking : IsTracking net marked rows saved places own_changed changed scratch) where
+    (tracking : IsTracking net marked rows saved places own_changed changed scratch) where
   -- the rows have gone over to another network
   pub followed_tracks : (after : Network) → SameShape net after → (rows1 : RowsValue) (saved1 : SavedValue)
       (own_changed1 changed1 : List Bool) (scratch1 : CellValue) → AreEvaluation after rows1
-          → Carries rows saved rows1 saved1
+      → Carries rows saved rows1 saved1
       → length own_changed1 ≡ length after.links → length changed1 ≡ length after.links
       → length scratch1.arrivals ≡ after.frame.step_count
       → IsTracking after marked rows1 saved1 places own_changed1 changed1 scratch1
   followed_tracks after same rows1 saved1 own_changed1 changed1 scratch1 evaluation carries own_len changed_len
       steps = record {
-    shape = sym same ∙ tracking.shape;
-    evaluation = evaluation;
-    fits = carries.fits;
-    back = back_carried marked rows saved rows1 saved1
-        (fits_shape net marked tracking.shape rows tracking.evaluation.fits)
-        tracking.back carries;
-    table = shape_table net after same places tracking.table;
-    own_count = own_len;
-    changed_count = changed_len;
-    steps = steps;
-  }
+        shape = sym same ∙ tracking.shape;
+        evaluation = evaluation;
+        fits = carries.fits;
+        back = back_carried marked rows saved rows1 saved1
+            (fits_shape net marked tracking.shape rows tracking.evaluation.fits)
+            tracking.back carries;
+        table = shape_table net after same places tracking.table;
+        own_count = own_len;
+        changed_count = changed_len;
+        steps = steps;
+      }
 
   -- a mark is set
   pub begun_tracks : IsTracking net net rows (begun saved) places own_changed changed scratch

@@ -18,12 +18,7 @@ pub fn rule_of_due()
 
 /// The worked networks have the work that is written beside them: edits of each kind, places that a climb looks at, the
 /// certificate of all moves, and an edit that goes round a loop until what leaves a link stays the same.
-#[tactic(auto, using(
-    crate::proofs::WorkedLaws::edits,
-    crate::proofs::WorkedLaws::looks,
-    crate::proofs::WorkedLaws::certificate,
-    crate::proofs::WorkedLaws::loop_work
-))]
+#[tactic(auto, using(crate::proofs::WorkedLaws::edits, crate::proofs::WorkedLaws::looks, crate::proofs::WorkedLaws::certificate, crate::proofs::WorkedLaws::loop_work))]
 pub fn worked_work()
     ensures edits { map (λ row. edit_work junctions row.0) worked_edits ≡ map (λ row. row.1) worked_edits }
     ensures looks { work_of worked_looks ≡ 16 }

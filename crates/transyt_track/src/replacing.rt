@@ -41,7 +41,7 @@ pub(crate) fn start(net: &Net, link: usize, rows: &mut Rows, saved: &mut Saved)
 }
 
 /// A link that isn't due is weighed anew at the last sweep; where its weights are equal, its index stays.
-#[tactic(auto, using(crate::proofs::SavedLaws::carries_left))]
+#[tactic(auto, using(crate::proofs::CarryLaws::carries_left))]
 pub(crate) fn leave(
     before: &Net,
     after: &Net,

@@ -30,8 +30,12 @@ loop-sweep-preserved g c =
     let s = c.loop-sweep.sweep in
     let last : s + 1 - 1 ≡ s = omega arith in
     let more : c.loop-sweep.count + c.sweep_links-count.result ≡ due_through a b s =
-    omega (arith, c.loop-sweep.invariant.count, c.sweep_links-count.ensures.count,
-        due_through_more a b s c.loop-sweep.auto.sweep) in
+    omega (
+      arith,
+      c.loop-sweep.invariant.count,
+      c.sweep_links-count.ensures.count,
+      due_through_more a b s c.loop-sweep.auto.sweep,
+    ) in
     record {
       at = c.sweep_links-count.ensures.at;
       carries = carries_more c.args.rows.now c.args.saved.now c.loop-sweep.rows c.loop-sweep.saved
@@ -47,18 +51,21 @@ pub returns-clause-rows : goal.returns-clause-rows
 returns-clause-rows g c =
     let b = c.args.after.now in
     let all : c.loop-sweep.sweep ≡ b.frame.sweeps + 1 = omega
-        (arith, ap (λ (f : Frame). f.sweeps) c.frame-sweep-end.ensures.value) in
+    (arith, ap (λ (f : Frame). f.sweeps) c.frame-sweep-end.ensures.value) in
     ended c.args.before.now b c.loop-sweep.rows c.loop-sweep.changed.items
     (subst (λ s. AreAt c.args.before.now b s 0 c.loop-sweep.rows c.loop-sweep.changed.items) all
-        c.loop-sweep.invariant.at)
+    c.loop-sweep.invariant.at)
 
 pub returns-clause-count : goal.returns-clause-count
 returns-clause-count g c =
     let a = c.args.before.now in
     let b = c.args.after.now in
     let all : c.loop-sweep.sweep - 1 ≡ a.frame.sweeps =
-    omega (arith, ap (λ (f : Frame). f.sweeps) c.frame-sweep-end.ensures.value,
-        ap (λ (f : Frame). f.sweeps) (shape_frame a b c.requires.shape)) in
+    omega (
+      arith,
+      ap (λ (f : Frame). f.sweeps) c.frame-sweep-end.ensures.value,
+      ap (λ (f : Frame). f.sweeps) (shape_frame a b c.requires.shape),
+    ) in
     c.loop-sweep.invariant.count ∙ ap (due_through a b) all ∙ due_is a b
 
 pub returns-clause-few : goal.returns-clause-few

@@ -26,7 +26,7 @@ is_flagged-due-requires-clause-feeders g c =
     let l = c.loop-link.link in
     let links = shape_count a c.args.after.now c.requires.shape in
     let inside : l < length a.links =
-        omega (arith, links, c.loop-link-test.true, ap length c.links-link-end.ensures.value) in
+    omega (arith, links, c.loop-link-test.true, ap length c.links-link-end.ensures.value) in
     feeders_inside a l (length c.deref.result.now) c.index-places-link.result (omega arith)
     (links ∙ omega (arith, c.loop-link.invariant.at.count, ap length c.deref.ensures.value))
     (place_read a c.args.places.now l c.index-places-link.result c.requires.places inside c.index-places-link.is)
@@ -37,7 +37,7 @@ is_flagged-due-requires-clause-rule g c =
     let l = c.loop-link.link in
     let links = shape_count a c.args.after.now c.requires.shape in
     let inside : l < length a.links =
-        omega (arith, links, c.loop-link-test.true, ap length c.links-link-end.ensures.value) in
+    omega (arith, links, c.loop-link-test.true, ap length c.links-link-end.ensures.value) in
     rule_inside a l (length c.deref.result.now) c.index-places-link.result (omega arith)
     (links ∙ omega (arith, c.loop-link.invariant.at.count, ap length c.deref.ensures.value))
     (place_read a c.args.places.now l c.index-places-link.result c.requires.places inside c.index-places-link.is)
@@ -79,15 +79,19 @@ loop-link-preserved g c = record {
   carries = carries_more c.args.rows.now c.args.saved.now c.loop-link.rows c.loop-link.saved c.turn-count.new.rows
       c.turn-count.new.saved c.loop-link.invariant.carries c.turn-count.ensures.carries;
   step_count = c.turn-count.ensures.step_count;
-  count = omega (arith, c.turn-count.ensures.count, c.loop-link.invariant.count,
-      due_in_more c.args.before.now c.args.after.now c.args.sweep c.loop-link.link);
+  count = omega (
+    arith,
+    c.turn-count.ensures.count,
+    c.loop-link.invariant.count,
+    due_in_more c.args.before.now c.args.after.now c.args.sweep c.loop-link.link,
+  );
   steps = omega (arith, c.turn-count.ensures.steps, c.loop-link.invariant.steps);
 }
 
 pub returns-clause-at : goal.returns-clause-at
 returns-clause-at g c =
     turned_sweep c.args.before.now c.args.after.now c.args.sweep c.loop-link.link c.loop-link.rows
-        c.loop-link.changed.items
+    c.loop-link.changed.items
     c.loop-link.invariant.at (omega (arith, ap length c.links-link-end.ensures.value))
 
 pub returns-clause-few : goal.returns-clause-few

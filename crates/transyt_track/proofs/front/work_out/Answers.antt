@@ -14,7 +14,7 @@ place-requires-clause-steps g c =
     let read = read_in c.args.rows.now c.args.sweep c.args.link in
     subst (λ n. HasSteps n c.cell.new.scratch) (sym c.requires.at.outs.fits.step_count)
     (subst (HasSteps c.args.after.now.frame.step_count) (sym c.cell.ensures.value)
-        (worked_steps c.args.after.now read c.args.link))
+    (worked_steps c.args.after.now read c.args.link))
 
 pub returns-clause-step_count : goal.returns-clause-step_count
 returns-clause-step_count g c =
@@ -27,11 +27,11 @@ returns-clause-at g c =
     let made : c.cell.new.scratch ≡ worked_at c.args.after.now c.args.sweep c.args.link =
     c.cell.ensures.value
     ∙ cell_is c.args.after.now (out_of c.args.before.now) c.args.sweep c.args.link c.args.rows.now r.at.outs r.first
-        r.last r.link in
+    r.last r.link in
     let told : c.ne.result ≡ not (bytes_eq (out_at c.args.rows.now c.args.sweep c.args.link) c.cell.new.scratch.out) =
     c.ne.ensures
     ∙ ap (λ x. not (bytes_eq x c.out-2.result.now)) c.out.ensures.value
     ∙ ap (λ x. not (bytes_eq (out_at c.args.rows.now c.args.sweep c.args.link) x)) c.out-2.ensures in
     rw c.place.ensures.value (turned_worked c.args.before.now c.args.after.now c.args.sweep c.args.link c.args.rows.now
     c.args.changed.now.items r.at r.shape r.first r.last r.link c.place.ensures.rows c.cell.new.scratch made
-        c.ne.result told)
+    c.ne.result told)

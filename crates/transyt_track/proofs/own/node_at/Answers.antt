@@ -9,5 +9,5 @@ returns c =
     node_stands c.args.net.now c.args.link c.args.places.now c.nodes.ensures.valid c.requires.link c.requires.places
     c.index-nodes-places.result
     (c.index-nodes-places.is ∙ ap (λ ns. get_or ns c.places.inside.node c.index-nodes-places.result)
-        c.nodes.ensures.value
+    c.nodes.ensures.value
     ∙ ap (λ (p : PlacesValue). get_or c.args.net.now.nodes p.node c.index-nodes-places.result) c.places.view_is)

@@ -1,5 +1,5 @@
 -- The saved row and the written one say together what the row said.
-use Rattle.transyt_track.proofs.SavedLaws.{carries_placed}
+use Rattle.transyt_track.proofs.CarryLaws.{carries_placed}
 use Rattle.transyt_track.proofs.replacing.place.Goals as goal
 
 pub returns-clause-carries : goal.returns-clause-carries

@@ -14,10 +14,10 @@ loop-link-preserved c =
     let swept : c.loop-sweep.sweep ≤ net.frame.sweeps =
     omega (arith, c.loop-sweep-test.true, ap (λ (f : Frame). f.sweeps) c.frame-sweep-end.ensures.value) in
     let inside : c.loop-link.link < length net.links = omega
-        (arith, c.loop-link-test.true, ap length c.links-link-end.ensures.value) in
+    (arith, c.loop-link-test.true, ap length c.links-link-end.ensures.value) in
     rw c.copy_pair.ensures.value (copied_put net c.args.from.now (out_at old) (shown_at old) c.loop-sweep.sweep
     c.loop-link.link c.loop-link.rows c.requires.from c.copy_pair.ensures.from c.loop-link.invariant
-        c.copy_pair.ensures.rows
+    c.copy_pair.ensures.rows
     swept inside)
 
 pub loop-sweep-preserved : goal.loop-sweep-preserved

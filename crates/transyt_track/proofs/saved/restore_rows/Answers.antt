@@ -13,17 +13,17 @@ loop-link-preserved c =
     let swept : c.loop-sweep.sweep ≤ net.frame.sweeps =
     omega (arith, c.loop-sweep-test.true, ap (λ (f : Frame). f.sweeps) c.frame-sweep-end.ensures.value) in
     let inside : c.loop-link.link < length net.links = omega
-        (arith, c.loop-link-test.true, ap length c.links-link-end.ensures.value) in
+    (arith, c.loop-link-test.true, ap length c.links-link-end.ensures.value) in
     rw c.restore.ensures.value (back_put net c.args.saved.now c.args.rows.now c.loop-sweep.sweep c.loop-link.link
     c.loop-link.rows c.requires.fits c.requires.fits_saved c.loop-link.invariant c.restore.ensures.rows
-        c.restore.ensures.saved
+    c.restore.ensures.saved
     swept inside)
 
 pub loop-sweep-preserved : goal.loop-sweep-preserved
 loop-sweep-preserved c =
     let old = c.args.rows.now in
     between_turn c.args.net.now (old_out c.args.saved.now old) (old_shown c.args.saved.now old) (out_at old)
-        (shown_at old)
+    (shown_at old)
     c.loop-sweep.sweep c.loop-link.link c.loop-link.rows c.loop-link.invariant
     (omega (arith, ap length c.links-link-end.ensures.value))
 

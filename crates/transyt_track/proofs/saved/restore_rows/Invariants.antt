@@ -7,11 +7,11 @@ use Rattle.transyt_track.proofs.saved.restore_rows.Given as goal
 abbrev pub invariant-loop-sweep : goal.invariant-loop-sweep
 invariant-loop-sweep l =
     AreBetween l.net (old_out l.saved l.fn.rows) (old_shown l.saved l.fn.rows) (out_at l.fn.rows) (shown_at l.fn.rows)
-        l.sweep 0
+    l.sweep 0
     l.rows
 
 abbrev pub invariant-loop-link : goal.invariant-loop-link
 invariant-loop-link l =
     AreBetween l.net (old_out l.saved l.fn.rows) (old_shown l.saved l.fn.rows) (out_at l.fn.rows) (shown_at l.fn.rows)
-        l.sweep
+    l.sweep
     l.link l.rows

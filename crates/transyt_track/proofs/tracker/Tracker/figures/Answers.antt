@@ -10,7 +10,7 @@ pub returns : goal.returns
 returns c =
     let net : c.self.inside.net ≡ c.args.self.now.net = ap (λ (t : TrackerValue). t.net) c.self.view_is in
     let inside : c.args.link < length c.self.inside.net.links =
-        omega (arith, c.requires, ap (λ (n : Network). length n.links) net) in
+    omega (arith, c.requires, ap (λ (n : Network). length n.links) net) in
     c.figures.ensures.value
     ∙ ap (λ (v : CellValue). v.figures) (c.self.invariant.evaluation.shown c.args.link inside)
     ∙ ap (λ (n : Network). (evaluated n c.args.link).figures) net

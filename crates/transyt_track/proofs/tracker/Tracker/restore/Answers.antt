@@ -28,5 +28,5 @@ pub invariant_of-self : goal.invariant_of-self
 invariant_of-self c =
     let i = c.self.inside in
     rw (c.swap.ensures.x_after, c.swap.ensures.y_after, c.settle.ensures)
-        (restored_tracks i.net i.marked i.rows i.saved i.places.items i.own_changed.items
+    (restored_tracks i.net i.marked i.rows i.saved i.places.items i.own_changed.items
     i.changed.items i.scratch c.self.invariant c.weigh_all.new.rows c.weigh_all.ensures)
