@@ -7,9 +7,23 @@ use std::alloc::Global;
 use std::marker::Brand;
 use std::sync::ledger::{Blank, Ledger};
 use std::test::Fail;
-use transyt_net::{Draft, DraftFault, Edit, Frame, Net};
+use transyt_net::{Draft, DraftFault, Edit, Frame, Net, NewLink};
 use transyt_session::{Session, Tried};
 use transyt_steps::Steps;
+
+/// The numbers of a link with this entry flow in vehicles per hour, a saturation flow of 1,800, weights of 1 and no lags.
+fn link(number: u32, node: u32, entry: u32) -> NewLink {
+    NewLink {
+        number,
+        node,
+        entry,
+        saturation: 1800,
+        delay_weight: 1,
+        stop_weight: 1,
+        start_lag: 0,
+        end_lag: 0,
+    }
+}
 
 /// One junction with one link, and a climb plan.
 fn one_link(alloc: Global, budget: u32, size: u32) -> Result<Option<Net>, DraftFault> {
@@ -25,7 +39,7 @@ fn one_link(alloc: Global, budget: u32, size: u32) -> Result<Option<Net>, DraftF
     draft.node(1, 0)?;
     draft.stage(0, 1, 2)?;
     draft.stage(5, 1, 2)?;
-    draft.link(1, 1, 360, 1800, 1, 1, 0, 0, &[1])?;
+    draft.link(link(1, 1, 360), &[1])?;
     draft.plan(budget, &[size])?;
     if draft.judge().is_some() {
         return Ok(None);

@@ -8,7 +8,7 @@ use std::marker::Brand;
 use std::sync::ledger::{Blank, Ledger};
 use std::test::Fail;
 use std::thread::{Threads, join_mut};
-use transyt_net::{Draft, DraftFault, Edit, EditFault, Frame, Net};
+use transyt_net::{Draft, DraftFault, Edit, EditFault, Frame, Net, NewLink};
 use transyt_steps::Steps;
 
 /// A call of a session.
@@ -62,10 +62,24 @@ fn closed(draft: Draft) -> Option<Net> {
     Some(draft.close())
 }
 
+/// The numbers of a link with this entry flow in vehicles per hour, a saturation flow of 1,800, weights of 1 and no lags.
+fn link(number: u32, node: u32, entry: u32) -> NewLink {
+    NewLink {
+        number,
+        node,
+        entry,
+        saturation: 1800,
+        delay_weight: 1,
+        stop_weight: 1,
+        start_lag: 0,
+        end_lag: 0,
+    }
+}
+
 /// One junction with one link.
 fn one_link(alloc: Global) -> Result<Option<Net>, DraftFault> {
     let mut draft = junction(alloc, 1)?;
-    draft.link(1, 1, 360, 1800, 1, 1, 0, 0, &[1])?;
+    draft.link(link(1, 1, 360), &[1])?;
     Ok(closed(draft))
 }
 
@@ -75,8 +89,8 @@ fn two_junctions(alloc: Global) -> Result<Option<Net>, DraftFault> {
     draft.node(2, 3)?;
     draft.stage(0, 1, 2)?;
     draft.stage(5, 1, 2)?;
-    draft.link(1, 1, 360, 1800, 1, 1, 0, 0, &[1])?;
-    draft.link(2, 2, 0, 1800, 1, 1, 0, 0, &[1])?;
+    draft.link(link(1, 1, 360), &[1])?;
+    draft.link(link(2, 2, 0), &[1])?;
     draft.feed(2, 1, 360, 15)?;
     Ok(closed(draft))
 }

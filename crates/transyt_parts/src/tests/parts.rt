@@ -4,7 +4,7 @@ ghost use Rattle.std.specs.Prelude.{◌≡◌};
 
 use super::{FEEDS, RULE, link, node, stage};
 use crate::{
-    ClimbPlan, Feed, Frame, Link, Node, Stage, add_feed, add_stage, all_differ, all_flow,
+    ClimbPlan, Feed, Frame, Link, NewLink, Node, Stage, add_feed, add_stage, all_differ, all_flow,
     all_within, copy_links, copy_nodes, copy_plan, has_feeder, is_feed_in_range, is_frame_in_range,
     is_link_in_range, is_node_in_range, is_stage_in_range, is_within, same_frame, same_links,
     same_nodes, same_plan, set_rule, take_links, take_nodes,
@@ -21,6 +21,20 @@ const FRAME: Frame = Frame {
     dispersion: 35,
 };
 
+/// The numbers of a link with this end lag.
+fn lagging(end_lag: u32) -> NewLink {
+    NewLink {
+        number: 1,
+        node: 7,
+        entry: 0,
+        saturation: 100,
+        delay_weight: 999,
+        stop_weight: 0,
+        start_lag: 9,
+        end_lag,
+    }
+}
+
 #[test]
 fn numbers_in_range_are_told(rt: HostRuntime) {
     assert!(rt; is_within(100, 9999, 9999) && !is_within(100, 9999, 99));
@@ -29,8 +43,7 @@ fn numbers_in_range_are_told(rt: HostRuntime) {
     assert!(rt; is_frame_in_range(FRAME));
     assert!(rt; is_node_in_range(10, 99_999, 9) && !is_node_in_range(10, 99_999, 10));
     assert!(rt; is_stage_in_range(10, stage(9)) && !is_stage_in_range(10, stage(10)));
-    assert!(rt; is_link_in_range(10, 1, 0, 100, 999, 0, 9, 0));
-    assert!(rt; !is_link_in_range(10, 1, 0, 100, 999, 0, 9, 10));
+    assert!(rt; is_link_in_range(10, lagging(0)) && !is_link_in_range(10, lagging(10)));
     assert!(rt; is_feed_in_range(FEEDS[0]));
     assert!(rt;
         !is_feed_in_range(Feed {
