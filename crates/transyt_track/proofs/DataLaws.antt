@@ -16,7 +16,8 @@ use Rattle.transyt_net.specs.Valid.{place_of, link_numbers}
 use Rattle.transyt_net.specs.Flow.{perstep}
 use Rattle.transyt_stage.specs.Green.{signal, shown_of, passed_at}
 use Rattle.transyt_stage.specs.GiveWay.{yielding}
-use Rattle.transyt_sweep.specs.Cell.{found_or_first, link_place, brought, inflow, under_rule, go}
+use Rattle.transyt_net.specs.Valid.{found_or_first, link_place}
+use Rattle.transyt_sweep.specs.Cell.{brought, inflow, under_rule, go}
 
 -- what a link's work is made of, departures and weights apart, is the same on both
 pub record SameData (a b : Network) (l : ℕ) : Type 0 where

@@ -12,7 +12,7 @@ use Rattle.std.proofs.lemmas.List.Sums.{count_by-le-length}
 use Rattle.transyt_parts.specs.declared.link.Feed.{Feed}
 use Rattle.transyt_parts.specs.declared.link.GiveWay.{GiveWay}
 use Rattle.transyt_net.specs.Parts.{Network, link_of}
-use Rattle.transyt_sweep.specs.Cell.{link_place}
+use Rattle.transyt_net.specs.Valid.{link_place}
 use Rattle.transyt_sweep.specs.Sweeps.{out_of, read_at, read_of}
 use Rattle.transyt_track.specs.Own.{Part, Own, own, same_part, same_parts, same_timing, same_own, feeder_place}
 use Rattle.transyt_track.specs.Own.{rule_place, places_at}

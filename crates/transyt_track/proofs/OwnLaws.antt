@@ -14,7 +14,7 @@ use Rattle.transyt_net.specs.Parts.{Network, link_of, no_link}
 use Rattle.transyt_net.specs.Edits.{the_node, node_in}
 use Rattle.transyt_net.specs.Valid.{numbered}
 use Rattle.transyt_net.specs.Shape.{SameShape}
-use Rattle.transyt_sweep.specs.Cell.{link_place}
+use Rattle.transyt_net.specs.Valid.{link_place}
 use Rattle.transyt_track.specs.Own.{Part, Own, change_of, part_of, own}
 use Rattle.transyt_track.proofs.DataLaws.{SameData}
 

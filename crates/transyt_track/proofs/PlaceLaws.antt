@@ -10,14 +10,14 @@ use Rattle.std.proofs.lemmas.Grind.{common_steps}
 use Rattle.std.proofs.lemmas.List.Elements.{All-nil, All-cons}
 use Rattle.transyt_parts.specs.declared.link.Feed.{Feed}
 use Rattle.transyt_parts.specs.declared.link.GiveWay.{GiveWay}
-use Rattle.transyt_sweep.proofs.ReadLaws.{link_place-lt}
+use Rattle.transyt_net.proofs.PlaceLaws.{link_place-lt}
 use Rattle.transyt_parts.specs.Parts.{NodeValue}
 use Rattle.transyt_parts.specs.Valid.{node_number}
 use Rattle.transyt_net.specs.Parts.{Network, link_of, node_of, no_link, no_node}
 use Rattle.transyt_net.specs.Edits.{the_node, node_in}
 use Rattle.transyt_net.specs.Valid.{IsValid, place_of, node_numbers, is_among}
 use Rattle.transyt_net.proofs.PlaceLaws.{place_is, numbered_here}
-use Rattle.transyt_sweep.specs.Cell.{found_or_first}
+use Rattle.transyt_net.specs.Valid.{found_or_first}
 use Rattle.transyt_track.specs.Own.{node_place, feeder_place, rule_place, places_at, no_places, PlacesValue}
 use Rattle.transyt_track.specs.Own.{all_places, ArePlaces}
 

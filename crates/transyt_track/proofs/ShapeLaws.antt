@@ -9,7 +9,7 @@ use Rattle.transyt_parts.proofs.CopyLaws.{same_length}
 use Rattle.transyt_net.specs.Parts.{Network, link_of}
 use Rattle.transyt_net.specs.Shape.{SameShape}
 use Rattle.transyt_net.specs.Valid.{place_of}
-use Rattle.transyt_sweep.specs.Cell.{found_or_first, link_place}
+use Rattle.transyt_net.specs.Valid.{found_or_first, link_place}
 use Rattle.transyt_track.specs.Own.{feeder_place, rule_place, node_place, places_at, ArePlaces, PlacesValue}
 use Rattle.transyt_track.proofs.OwnLaws.{numbers_same, bare_at}
 

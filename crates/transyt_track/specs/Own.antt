@@ -10,7 +10,7 @@ use Rattle.transyt_parts.specs.Flow.{total_flow}
 use Rattle.transyt_net.specs.Parts.{Network, link_of}
 use Rattle.transyt_net.specs.Edits.{the_node}
 use Rattle.transyt_net.specs.Valid.{place_of, node_numbers}
-use Rattle.transyt_sweep.specs.Cell.{found_or_first, link_place}
+use Rattle.transyt_net.specs.Valid.{found_or_first, link_place}
 
 -- of a feed: its flow, its cruise time and the feeder's total flow
 pub record Part : Type 0 where

@@ -4,7 +4,7 @@ ghost use Rattle.std.specs.Prelude.{◌≡◌, ◌↔◌, ◌<◌, length, map, 
 ghost use Rattle.transyt_parts.specs.Flow.{total_flow};
 ghost use Rattle.transyt_net.specs.Parts.{link_of};
 ghost use Rattle.transyt_net.specs.Edits.{the_node};
-ghost use Rattle.transyt_sweep.specs.Cell.{link_place};
+ghost use Rattle.transyt_net.specs.Valid.{link_place};
 ghost use Rattle.transyt_track.specs.Own.{change_of, feeder_place, rule_place, node_place, all_places};
 ghost use Rattle.transyt_track.specs.Own.{own, part_of, places_at, HaveWeights};
 ghost use Rattle.transyt_track.specs.Front.{AreFlags, total_differs};
