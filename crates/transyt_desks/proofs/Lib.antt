@@ -1,0 +1,5 @@
+pub mod TriedLaws
+pub mod PassingLaws
+pub mod LeastLaws
+pub mod DeskLaws
+pub mod RoundLaws

@@ -1,0 +1,13 @@
+-- Whatever is left at desk 0, the desks keep to what they keep to.
+use Rattle.std.proofs.Common.{slice_set, sym, subst}
+use Rattle.transyt_session.specs.Session.{SessionValue}
+use Rattle.transyt_desks.specs.Desks.{sessions_of, AreDesks}
+use Rattle.transyt_desks.proofs.DeskLaws.{lent_sessions, desks_lent}
+use Rattle.transyt_desks.proofs.desks.Desks.session_mut.Goals as goal
+
+-- since they speak of the other desks alone
+pub invariant_of-self-lent : goal.invariant_of-self-lent
+invariant_of-self-lent c =
+    λ w. subst (AreDesks c.self.inside.spare)
+    (sym (lent_sessions c.self.inside.desks.items (record { session = w; tried = c.index_mut-desk.result.now.tried })))
+    (desks_lent c.self.inside.spare (sessions_of c.self.inside.desks.items) w c.self.invariant)

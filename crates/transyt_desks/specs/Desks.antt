@@ -1,0 +1,83 @@
+-- Desks: sessions that try candidates for one climb, desk 0 first.
+use Rattle.std.specs.Prelude.{◌≡◌, ℕ, ◌+◌, ◌%◌, ◌-◌, ◌<◌, ◌≤◌, List, [], ◌∷◌, map, length, None, slice_index_or, replicate}
+use Rattle.transyt_parts.specs.declared.frame.Frame.{Frame}
+use Rattle.transyt_net.specs.Parts.{Network, network_of}
+use Rattle.transyt_net.specs.Shape.{SameShape}
+use Rattle.transyt_moves.specs.Moves.{move}
+use Rattle.transyt_track.specs.Work.{edit_work}
+use Rattle.transyt_session.specs.declared.answers.Tried.{Tried}
+use Rattle.transyt_session.specs.declared.answers.Tried.TheVariants.{Barred}
+use Rattle.transyt_session.specs.Session.{SessionValue, opened, try_of}
+use Rattle.transyt_climb.specs.Turns.{Counters}
+use Rattle.transyt_desks.specs.declared.desk.Desk.{Desk}
+
+-- what stands where there is no frame
+abbrev pub no_frame : Frame
+no_frame = record { cycle = 0; step_count = 0; sweeps = 0; period = 0; stop_penalty = 0; dispersion = 0 }
+
+-- what stands where there is no session
+abbrev pub no_session : SessionValue
+no_session = opened (network_of no_frame [] [] None)
+
+-- the session of the desk at a place
+abbrev pub session_at : List SessionValue → ℕ → SessionValue
+session_at sessions k = slice_index_or sessions k no_session
+
+-- the session of desk 0
+abbrev pub desk_zero : List SessionValue → SessionValue
+desk_zero sessions = session_at sessions 0
+
+-- a session and its twins at so many desks in all
+abbrev pub opened_desks : SessionValue → ℕ → List SessionValue
+opened_desks session workers = session ∷ replicate (workers - 1) (opened session.net)
+
+-- every desk stands for the network of desk 0
+pub record AreAligned (sessions : List SessionValue) : Type 0 where
+  pub same : (k : ℕ) → k < length sessions → (session_at sessions k).net ≡ (desk_zero sessions).net
+
+-- every desk's network has the shape of that of desk 0
+pub record AreAlike (sessions : List SessionValue) : Type 0 where
+  pub shape : (k : ℕ) → k < length sessions → SameShape (session_at sessions k).net (desk_zero sessions).net
+
+-- no trial is open at any desk but desk 0
+pub record OthersClosed (sessions : List SessionValue) : Type 0 where
+  pub closed : (k : ℕ) → 0 < k → k < length sessions → (session_at sessions k).before ≡ None
+
+-- what desks keep to: one to eight of them, no trial at any but desk 0, and a spare network of the shape of all but
+-- desk 0. No public clause cites it.
+pub record AreDesks (spare : Network) (sessions : List SessionValue) : Type 0 where
+  pub some : 0 < length sessions
+  pub few : length sessions ≤ 8
+  pub others : OthersClosed sessions
+  pub shape : (k : ℕ) → 0 < k → k < length sessions → SameShape spare (session_at sessions k).net
+
+-- the sessions of desks
+abbrev pub sessions_of : List Desk → List SessionValue
+sessions_of desks = map (λ d. d.session) desks
+
+-- what stands where there is no desk
+abbrev pub no_desk : Desk
+no_desk = record { session = no_session; tried = Barred }
+
+-- what the desk at a place has tried
+abbrev pub tried_at : List Desk → ℕ → Tried
+tried_at desks k = (slice_index_or desks k no_desk).tried
+
+-- a new desk with a session
+abbrev pub new_desk : SessionValue → Desk
+new_desk session = record { session = session; tried = Barred }
+
+-- what trying the move at a place of a network finds, in little work
+pub record IsTried (net : Network) (place : ℕ) (tried : Tried) : Type 0 where
+  pub found : tried ≡ try_of net (move net place)
+  pub few : edit_work net (move net place) ≤ 8000
+
+-- what trying the next moves of the list found, from a climber's place on, round the list
+pub record AreTried (net : Network) (c : Counters) (answers : List Tried) : Type 0 where
+  pub each : (k : ℕ) → k < length answers
+      → IsTried net ((c.place + k) % c.count) (slice_index_or answers k Barred)
+
+-- a desk that has tried the move at a place, before and after
+pub record HasTried (place : ℕ) (before after : Desk) : Type 0 where
+  pub session : after.session ≡ before.session
+  pub tried : IsTried before.session.net place after.tried

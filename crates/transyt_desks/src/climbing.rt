@@ -1,0 +1,45 @@
+//! A whole climb by rounds.
+
+ghost use Rattle.std.specs.Prelude.{◌≡◌, ℕ, ◌+◌, ◌^◌, ◌≤◌, length, None};
+ghost use Rattle.transyt_moves.specs.Moves.{move_count};
+ghost use Rattle.transyt_sweep.specs.Climb.{climb};
+ghost use Rattle.transyt_climb.specs.Turns.{start_at};
+ghost use Rattle.transyt_climb.specs.Way.{climbed};
+ghost use Rattle.transyt_desks.specs.Desks.{desk_zero, AreAligned};
+
+use crate::desks::Desks;
+use crate::gate::Gate;
+use std::sync::ledger::Ledger;
+use std::thread::Threads;
+use transyt_climb::Climber;
+use transyt_steps::Steps;
+
+/// Climbs by rounds from the start to the end, and tells whether it ended because no move lowers the index. It is the
+/// climb for every number of desks.
+pub fn climb_by_rounds<R: Threads + Sync, G: Gate, L: Ledger>(
+    rt: &R,
+    climber: &mut Climber,
+    desks: &mut Desks,
+    gate: &G,
+    steps: &mut Steps<L>,
+) -> bool
+    requires start { climber.old ≡ start_at climber.old.budget (move_count (desk_zero desks.old).net) }
+    requires aligned { AreAligned desks.old }
+    requires closed { (desk_zero desks.old).before ≡ None }
+    requires room { (desk_zero desks.old).work ≤ 2 ^ 60 }
+    ensures local { result ≡ (climb (desk_zero desks.old).net 0 climber.old.budget).local }
+    ensures state { desk_zero desks.new ≡ climbed climber.old.budget (desk_zero desks.old) }
+    ensures looks { climber.new.looked ≡ length (climb (desk_zero desks.old).net 0 climber.old.budget).looks }
+    ensures aligned { AreAligned desks.new }
+    ensures workers { length desks.new ≡ length desks.old }
+    ensures steps { length desks.old ≡ 1
+        → steps.new + (desk_zero desks.old).work ≡ steps.old + (desk_zero desks.new).work }
+{
+    let _ = climber.budget();
+    loop {
+        let round = desks.round(rt, climber, gate, steps);
+        if round.last.is_end() {
+            return round.last.is_local();
+        }
+    }
+}

@@ -1,0 +1,22 @@
+//! A gate that each desk passes with each candidate.
+
+/// What is told when a desk begins to try a candidate, and when it has tried it. Desks are numbered from 0.
+///
+/// Several desks may be inside at once, so a gate is shared among threads. A clause names nothing of it.
+pub trait Gate: Sync {
+    /// The desk begins.
+    fn enter(&self, desk: u32);
+
+    /// The desk has tried its candidate.
+    fn leave(&self, desk: u32);
+}
+
+/// A gate that does nothing.
+#[derive(Clone, Copy, Debug, PartialEq, Eq)]
+pub struct OpenGate;
+
+impl Gate for OpenGate {
+    fn enter(&self, _desk: u32) {}
+
+    fn leave(&self, _desk: u32) {}
+}
