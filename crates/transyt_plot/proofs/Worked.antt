@@ -1,0 +1,25 @@
+-- The worked plots, computed from the definitions.
+use Rattle.std.proofs.Common.{◌≡◌, [], ◌∷◌, codes, refl}
+use Rattle.std.specs.Fmt.{digits}
+use Rattle.transyt_text.specs.Forms.{filled, form_line}
+use Rattle.transyt_plot.specs.Plot.{field, step_line, scale_line, plot_of, three_digits}
+use Rattle.transyt_plot.specs.WorkedPlots.{three_steps, two_steps, one_step}
+
+-- a step in three digits
+pub digits_of_117 : three_digits 117 ≡ codes "117"
+digits_of_117 = refl
+
+-- three steps, where most can go; a share is rounded down
+pub three_are : plot_of 8 (558201 ∷ 468920 ∷ 1563415 ∷ []) (2776388 ∷ 2776388 ∷ 0 ∷ []) (2776388 ∷ 2776379 ∷ 0 ∷ []) ≡ three_steps
+unfolding field step_line scale_line form_line filled digits
+three_are = refl
+
+-- two steps at red, where most comes
+pub two_are : plot_of 4 (1245980 ∷ 1098059 ∷ []) (0 ∷ 0 ∷ []) (0 ∷ 0 ∷ []) ≡ two_steps
+unfolding field step_line scale_line form_line filled digits
+two_are = refl
+
+-- a step of nothing
+pub one_is : plot_of 1 (0 ∷ []) (0 ∷ []) (0 ∷ []) ≡ one_step
+unfolding field step_line scale_line form_line filled digits
+one_is = refl

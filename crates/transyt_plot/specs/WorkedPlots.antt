@@ -1,0 +1,39 @@
+-- Plots that were worked out apart, of the link of a number and its three profiles.
+use Rattle.std.specs.Prelude.{ℕ, List, [], ◌∷◌, ◌++◌, codes, flat_map}
+
+-- lines, a line end after each
+abbrev pub ended : List (List ℕ) → List ℕ
+ended lines = flat_map (λ line. line ++ 10 ∷ []) lines
+
+-- three steps, where most can go; a share is rounded down
+abbrev pub three_steps : List ℕ
+three_steps =
+    ended
+    (
+    codes "PLOT 8 SCALE 2776388"
+    ∷ codes "000 IIII................|GGGGGGGGGGGGGGGGGGGG|OOOOOOOOOOOOOOOOOOOO"
+    ∷ codes "001 III.................|GGGGGGGGGGGGGGGGGGGG|OOOOOOOOOOOOOOOOOOO."
+    ∷ codes "002 IIIIIIIIIII.........|....................|...................."
+    ∷ []
+    )
+
+-- two steps at red, where most comes
+abbrev pub two_steps : List ℕ
+two_steps =
+    ended
+    (
+    codes "PLOT 4 SCALE 1245980"
+    ∷ codes "000 IIIIIIIIIIIIIIIIIIII|....................|...................."
+    ∷ codes "001 IIIIIIIIIIIIIIIII...|....................|...................."
+    ∷ []
+    )
+
+-- a step of nothing
+abbrev pub one_step : List ℕ
+one_step =
+    ended
+    (
+    codes "PLOT 1 SCALE 0"
+    ∷ codes "000 ....................|....................|...................."
+    ∷ []
+    )

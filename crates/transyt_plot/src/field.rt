@@ -1,0 +1,90 @@
+//! Fields of a plot.
+ghost use Rattle.std.specs.Prelude.{◌≡◌, ◌≤◌, ◌<◌, ◌+◌, ◌++◌, length};
+ghost use Rattle.transyt_plot.specs.Plot.{greatest, letters, mark, field, three_digits, step_line};
+
+use transyt_io::LineBuffer;
+
+/// The greatest of a number and these values.
+pub(crate) fn greatest(least: u64, values: &[u64]) -> u64
+    ensures { result ≡ greatest least values.now }
+{
+    let mut best = least;
+    for value in values {
+        best = best.max(*value);
+    }
+    best
+}
+
+/// How many letters stand for a value, of 20 for the scale, rounded down; none where the scale is 0.
+fn letters(scale: u64, value: u64) -> u128
+    ensures { result ≡ letters scale value }
+{
+    if scale == 0 {
+        0
+    } else {
+        20 * u128::from(value) / u128::from(scale)
+    }
+}
+
+/// The character at a place of a field.
+fn mark(letter: u8, count: u128, place: u32) -> u8
+    ensures { result ≡ mark letter count place }
+{
+    if u128::from(place) < count {
+        letter
+    } else {
+        b'.'
+    }
+}
+
+/// Puts a field of 20 characters after what the line holds: so many of the letter, and dots after them.
+#[tactic(auto, unfolding(crate::specs::Plot::field))]
+fn put_field(letter: u8, count: u128, line: &mut LineBuffer)
+    requires { length line.old ≤ 4000 }
+    ensures text { line.new ≡ line.old ++ field letter count }
+    ensures room { length line.new ≤ length line.old + 20 }
+{
+    for place in 0..20 {
+        line.put(&[mark(letter, count, place)]);
+    }
+}
+
+/// Puts a step in three digits after what the line holds.
+fn put_step(step: u32, line: &mut LineBuffer)
+    requires room { length line.old ≤ 4000 }
+    requires step { step < 1000 }
+    ensures { line.new ≡ line.old ++ three_digits step }
+{
+    let digits = [
+        b'0' + (step / 100) as u8,
+        b'0' + (step / 10 % 10) as u8,
+        b'0' + (step % 10) as u8,
+    ];
+    line.put(&digits);
+}
+
+/// The line becomes that of a step: what comes, what can go and what leaves, as bars.
+#[tactic(auto, unfolding(crate::specs::Plot::step_line))]
+pub(crate) fn set_step(
+    scale: u64,
+    step: u32,
+    arrivals: u64,
+    go: u64,
+    out: u64,
+    line: &mut LineBuffer,
+)
+    requires { step < 1000 }
+    ensures text { line.new ≡ step_line scale step arrivals go out }
+    ensures some { 0 < length line.new }
+    ensures room { length line.new ≤ 67 }
+{
+    line.clear();
+    put_step(step, line);
+    line.put(b" ");
+    put_field(b'I', letters(scale, arrivals), line);
+    line.put(b"|");
+    put_field(b'G', letters(scale, go), line);
+    line.put(b"|");
+    put_field(b'O', letters(scale, out), line);
+    line.put(b"\n");
+}

@@ -1,0 +1,135 @@
+//! The plot.
+ghost use Rattle.std.specs.Prelude.{◌≡◌, ◌≤◌, ◌<◌, length, flat_map, slice_index};
+ghost use Rattle.std.specs.List.{range_with_len};
+ghost use Rattle.transyt_net.specs.Parts.{link_of};
+ghost use Rattle.transyt_sweep.specs.Sweeps.{evaluated};
+ghost use Rattle.transyt_text.specs.Prints.{Prints};
+ghost use Rattle.transyt_plot.specs.Plot.{greatest, step_line, scale_line, step_lines, plot_of, plot_text};
+
+use crate::field::{greatest, set_step};
+use transyt_io::{Failed, LineBuffer, Sink, write_line};
+use transyt_net::Net;
+use transyt_report::{arrivals, go, out};
+use transyt_session::Session;
+use transyt_text::print_form;
+
+/// The card number of the link at a place.
+fn number_at(net: &Net, link: usize) -> u32
+    requires { link < length net.now.links }
+    ensures { result ≡ (link_of net.now link).number }
+{
+    let link = &net.links()[link];
+    link.number
+}
+
+/// Writes the line of a step.
+fn print_step<K: Sink>(
+    scale: u64,
+    step: usize,
+    arrivals: &[u64],
+    go: &[u64],
+    out: &[u64],
+    line: &mut LineBuffer,
+    sink: &mut K,
+) -> Result<(), Failed>
+    requires step { step < 1000 }
+    requires arrivals { step < length arrivals.now }
+    requires go { step < length go.now }
+    requires out { step < length out.now }
+    ensures { Prints (K.written sink.old) (K.written sink.new) (K.faults sink.old)
+        (K.faults sink.new) result (step_line scale step (slice_index arrivals.now step)
+        (slice_index go.now step) (slice_index out.now step)) }
+{
+    set_step(
+        scale,
+        step as u32,
+        arrivals[step],
+        go[step],
+        out[step],
+        line,
+    );
+    write_line(line, sink)
+}
+
+/// Writes the lines of all steps.
+fn print_steps<K: Sink>(
+    scale: u64,
+    arrivals: &[u64],
+    go: &[u64],
+    out: &[u64],
+    line: &mut LineBuffer,
+    sink: &mut K,
+) -> Result<(), Failed>
+    requires few { length arrivals.now < 1000 }
+    requires go { length go.now ≡ length arrivals.now }
+    requires out { length out.now ≡ length arrivals.now }
+    ensures { Prints (K.written sink.old) (K.written sink.new) (K.faults sink.old)
+        (K.faults sink.new) result (flat_map (step_lines scale arrivals.now go.now out.now)
+        (range_with_len 0 (length arrivals.now))) }
+{
+    for step in 0..arrivals.len() {
+        print_step(scale, step, arrivals, go, out, line, sink)?;
+    }
+    Ok(())
+}
+
+/// Writes the first line.
+#[tactic(auto, unfolding(crate::specs::Plot::scale_line))]
+fn print_scale<K: Sink>(
+    number: u32,
+    scale: u64,
+    line: &mut LineBuffer,
+    sink: &mut K,
+) -> Result<(), Failed>
+    ensures { Prints (K.written sink.old) (K.written sink.new) (K.faults sink.old)
+        (K.faults sink.new) result (scale_line number scale) }
+{
+    let numbers = [u128::from(number), u128::from(scale)];
+    print_form(b"PLOT # SCALE #", &numbers, line, sink)
+}
+
+/// Writes the plot of these profiles.
+#[tactic(auto, using(transyt_text::proofs::PrintLaws::prints_front))]
+fn print_plot<K: Sink>(
+    number: u32,
+    arrivals: &[u64],
+    go: &[u64],
+    out: &[u64],
+    line: &mut LineBuffer,
+    sink: &mut K,
+) -> Result<(), Failed>
+    requires few { length arrivals.now < 1000 }
+    requires go { length go.now ≡ length arrivals.now }
+    requires out { length out.now ≡ length arrivals.now }
+    ensures { Prints (K.written sink.old) (K.written sink.new) (K.faults sink.old)
+        (K.faults sink.new) result (plot_of number arrivals.now go.now out.now) }
+{
+    let scale = greatest(greatest(greatest(0, arrivals), go), out);
+    print_scale(number, scale, line, sink)?;
+    print_steps(scale, arrivals, go, out, line, sink)
+}
+
+/// Appends the plot of the link at a place, each line handed to `write` in one piece: the step in three digits, then
+/// what comes (before any cut), what can go and what leaves, as 20 characters each for the greatest value of all three.
+///
+/// Failed comes only where the sink's count rose; a front of the text was appended then. What `line` held before is
+/// lost, and what it holds afterwards is unspecified.
+pub fn plot<K: Sink>(
+    session: &Session,
+    link: usize,
+    line: &mut LineBuffer,
+    sink: &mut K,
+) -> Result<(), Failed>
+    requires { link < length session.now.net.links }
+    ensures { Prints (K.written sink.old) (K.written sink.new) (K.faults sink.old)
+        (K.faults sink.new) result (plot_text session.now.net link) }
+{
+    print_plot(
+        number_at(session.net(), link),
+        arrivals(session, link),
+        go(session, link),
+        out(session, link),
+        line,
+        sink,
+    )
+}

@@ -1,0 +1,2 @@
+pub mod ProfileLaws
+pub mod Worked

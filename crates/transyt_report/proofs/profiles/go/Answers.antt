@@ -1,0 +1,16 @@
+-- A profile of the evaluation has as many values as the cycle has steps.
+use Rattle.std.proofs.Common.{length, arith, ap, ◌∙◌}
+use Rattle.transyt_net.specs.Parts.{Network}
+use Rattle.transyt_report.proofs.ProfileLaws.{evaluated_steps}
+use Rattle.transyt_report.proofs.profiles.go.Goals as goal
+
+pub returns-clause-steps : goal.returns-clause-steps
+returns-clause-steps c =
+    let steps = evaluated_steps c.args.session.now.net c.args.link in
+    ap length c.go.ensures ∙ steps.go
+
+pub returns-clause-few : goal.returns-clause-few
+returns-clause-few c =
+    let steps = evaluated_steps c.args.session.now.net c.args.link in
+    let count = ap (λ (n : Network). n.frame.step_count) c.net.ensures in
+    omega (arith, ap length c.go.ensures, steps.go, count, c.frame-frame.ensures.valid.sound.frame.step_count)

@@ -1,0 +1,11 @@
+use Rattle.std.proofs.Common.{ℕ, ap, ◌∙◌}
+use Rattle.transyt_net.specs.Parts.{Network, link_of}
+use Rattle.transyt_text.proofs.PrintLaws.{prints_same}
+use Rattle.transyt_report.specs.Texts.{figures_line}
+use Rattle.transyt_report.proofs.showing.print_link.Goals as goal
+
+-- the number is that of the network's link, and the figures are those of its evaluation
+pub returns : goal.returns
+returns g c =
+    let named = c.number_at.ensures ∙ ap (λ (n : Network). (link_of n c.args.link).number) c.net.ensures in
+    prints_same _ _ _ _ _ c.print_figures.ensures (λ j. figures_line (named j) (c.figures.ensures j))

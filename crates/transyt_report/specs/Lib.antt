@@ -1,0 +1,3 @@
+pub mod MoveTexts
+pub mod Texts
+pub mod WorkedTexts

@@ -1,0 +1,18 @@
+//! The texts that a run writes of its network: INDEX, LINKS, TIMING, PROFILE, QUEUE and WORK, and the lines of a climb
+//! and of a certificate.
+//!
+//! `specs/Texts` has the text of each report over the network and the work so far, `report_text net work what`, and
+//! `specs/MoveTexts` the lines of a climb; those of a certificate are of `transyt_cert`. [`show`] writes a report of a
+//! session, and says so by `Prints` of `transyt_text`. All texts are this project's own.
+#![tactic(auto)]
+
+mod laws;
+mod moves;
+mod profiles;
+mod showing;
+mod timing;
+
+pub use laws::worked_texts;
+pub use moves::{cert_line, end_line, move_line, took_line};
+pub use profiles::{arrivals, go, out, queue};
+pub use showing::{Report, show};

@@ -1,0 +1,253 @@
+//! The reports.
+ghost use Rattle.std.specs.Prelude.{◌≡◌, ◌<◌, length, flat_map};
+ghost use Rattle.std.specs.List.{range_with_len};
+ghost use Rattle.transyt_net.specs.Parts.{link_of};
+ghost use Rattle.transyt_text.specs.Prints.{Prints};
+ghost use Rattle.transyt_sweep.specs.Sweeps.{index};
+ghost use Rattle.transyt_report.specs.Texts.{index_line, figures_line, link_line, links_text, timing_text, in_line, go_line, out_line, queue_line};
+ghost use Rattle.transyt_report.specs.Texts.{profile_text, work_line, report_text, IsOfPlace};
+
+use crate::profiles::{arrivals, go, out, queue};
+use crate::timing::print_timing;
+use transyt_delay::Figures;
+use transyt_io::{Failed, LineBuffer, Sink};
+use transyt_net::Net;
+use transyt_session::Session;
+use transyt_text::{print_form, print_values};
+
+/// What is session. A link is a place in card order, from 0.
+#[derive(Clone, Copy, Debug, PartialEq, Eq)]
+pub enum Report {
+    /// The index of the network.
+    Index,
+    /// The figures of each link, and the index of the network.
+    Links,
+    /// The plans of the nodes.
+    Timing,
+    /// What comes, what can go and what leaves, step by step.
+    Profile { link: usize },
+    /// The queue at the end of each step.
+    Queue { link: usize },
+    /// The work so far.
+    Work,
+}
+
+/// The card number of the link at a place.
+fn number_at(net: &Net, link: usize) -> u32
+    requires { link < length net.now.links }
+    ensures { result ≡ (link_of net.now link).number }
+{
+    let link = &net.links()[link];
+    link.number
+}
+
+/// Writes the line of the network's index.
+#[tactic(auto, unfolding(crate::specs::Texts::index_line))]
+fn print_index<K: Sink>(
+    session: &Session,
+    line: &mut LineBuffer,
+    sink: &mut K,
+) -> Result<(), Failed>
+    ensures { Prints (K.written sink.old) (K.written sink.new) (K.faults sink.old)
+        (K.faults sink.new) result (index_line (index session.now.net)) }
+{
+    print_form(b"INDEX #", &[session.index()], line, sink)
+}
+
+/// Writes the line of a link of this number.
+#[tactic(auto, unfolding(crate::specs::Texts::figures_line))]
+fn print_figures<K: Sink>(
+    number: u32,
+    figures: Figures,
+    line: &mut LineBuffer,
+    sink: &mut K,
+) -> Result<(), Failed>
+    ensures { Prints (K.written sink.old) (K.written sink.new) (K.faults sink.old)
+        (K.faults sink.new) result (figures_line number figures) }
+{
+    let numbers = [
+        u128::from(number),
+        u128::from(figures.uniform),
+        u128::from(figures.random),
+        u128::from(figures.stops),
+        figures.index,
+    ];
+    print_form(
+        b"LINK # UNIFORM # RANDOM # STOPS # INDEX #",
+        &numbers,
+        line,
+        sink,
+    )
+}
+
+/// Writes the line of the link at a place.
+fn print_link<K: Sink>(
+    session: &Session,
+    link: usize,
+    line: &mut LineBuffer,
+    sink: &mut K,
+) -> Result<(), Failed>
+    requires { link < length session.now.net.links }
+    ensures { Prints (K.written sink.old) (K.written sink.new) (K.faults sink.old)
+        (K.faults sink.new) result (link_line session.now.net link) }
+{
+    print_figures(
+        number_at(session.net(), link),
+        session.figures(link),
+        line,
+        sink,
+    )
+}
+
+/// Writes the line of each link.
+fn print_each<K: Sink>(session: &Session, line: &mut LineBuffer, sink: &mut K) -> Result<(), Failed>
+    ensures { Prints (K.written sink.old) (K.written sink.new) (K.faults sink.old)
+        (K.faults sink.new) result
+        (flat_map (link_line session.now.net) (range_with_len 0 (length session.now.net.links))) }
+{
+    let net = session.net();
+    for link in 0..net.links().len() {
+        print_link(session, link, line, sink)?;
+    }
+    Ok(())
+}
+
+/// Writes LINKS.
+fn print_links<K: Sink>(
+    session: &Session,
+    line: &mut LineBuffer,
+    sink: &mut K,
+) -> Result<(), Failed>
+    ensures { Prints (K.written sink.old) (K.written sink.new) (K.faults sink.old)
+        (K.faults sink.new) result (links_text session.now.net) }
+{
+    print_each(session, line, sink)?;
+    print_index(session, line, sink)
+}
+
+/// Writes what comes to the link at a place.
+#[tactic(auto, unfolding(crate::specs::Texts::in_line))]
+fn print_in<K: Sink>(
+    session: &Session,
+    link: usize,
+    line: &mut LineBuffer,
+    sink: &mut K,
+) -> Result<(), Failed>
+    requires { link < length session.now.net.links }
+    ensures { Prints (K.written sink.old) (K.written sink.new) (K.faults sink.old)
+        (K.faults sink.new) result (in_line session.now.net link) }
+{
+    let number = [u128::from(number_at(session.net(), link))];
+    print_values(b"IN #", &number, arrivals(session, link), line, sink)
+}
+
+/// Writes what can go of the link at a place.
+#[tactic(auto, unfolding(crate::specs::Texts::go_line))]
+fn print_go<K: Sink>(
+    session: &Session,
+    link: usize,
+    line: &mut LineBuffer,
+    sink: &mut K,
+) -> Result<(), Failed>
+    requires { link < length session.now.net.links }
+    ensures { Prints (K.written sink.old) (K.written sink.new) (K.faults sink.old)
+        (K.faults sink.new) result (go_line session.now.net link) }
+{
+    let number = [u128::from(number_at(session.net(), link))];
+    print_values(b"GO #", &number, go(session, link), line, sink)
+}
+
+/// Writes what leaves the link at a place.
+#[tactic(auto, unfolding(crate::specs::Texts::out_line))]
+fn print_out<K: Sink>(
+    session: &Session,
+    link: usize,
+    line: &mut LineBuffer,
+    sink: &mut K,
+) -> Result<(), Failed>
+    requires { link < length session.now.net.links }
+    ensures { Prints (K.written sink.old) (K.written sink.new) (K.faults sink.old)
+        (K.faults sink.new) result (out_line session.now.net link) }
+{
+    let number = [u128::from(number_at(session.net(), link))];
+    print_values(b"OUT #", &number, out(session, link), line, sink)
+}
+
+/// Writes QUEUE.
+#[tactic(auto, unfolding(crate::specs::Texts::queue_line))]
+fn print_queue<K: Sink>(
+    session: &Session,
+    link: usize,
+    line: &mut LineBuffer,
+    sink: &mut K,
+) -> Result<(), Failed>
+    requires { link < length session.now.net.links }
+    ensures { Prints (K.written sink.old) (K.written sink.new) (K.faults sink.old)
+        (K.faults sink.new) result (queue_line session.now.net link) }
+{
+    let number = [u128::from(number_at(session.net(), link))];
+    print_values(b"QUEUE #", &number, queue(session, link), line, sink)
+}
+
+/// Writes PROFILE.
+#[tactic(auto, using(transyt_text::proofs::PrintLaws::prints_both, transyt_text::proofs::PrintLaws::prints_front))]
+fn print_profile<K: Sink>(
+    session: &Session,
+    link: usize,
+    line: &mut LineBuffer,
+    sink: &mut K,
+) -> Result<(), Failed>
+    requires { link < length session.now.net.links }
+    ensures { Prints (K.written sink.old) (K.written sink.new) (K.faults sink.old)
+        (K.faults sink.new) result (profile_text session.now.net link) }
+{
+    print_in(session, link, line, sink)?;
+    print_go(session, link, line, sink)?;
+    print_out(session, link, line, sink)
+}
+
+/// Writes WORK.
+#[tactic(auto, unfolding(crate::specs::Texts::work_line))]
+fn print_work<K: Sink>(session: &Session, line: &mut LineBuffer, sink: &mut K) -> Result<(), Failed>
+    ensures { Prints (K.written sink.old) (K.written sink.new) (K.faults sink.old)
+        (K.faults sink.new) result (work_line session.now.work) }
+{
+    print_form(b"WORK #", &[u128::from(session.work())], line, sink)
+}
+
+/// Writes TIMING of what is session.
+fn print_plans<K: Sink>(
+    session: &Session,
+    line: &mut LineBuffer,
+    sink: &mut K,
+) -> Result<(), Failed>
+    ensures { Prints (K.written sink.old) (K.written sink.new) (K.faults sink.old)
+        (K.faults sink.new) result (timing_text session.now.net) }
+{
+    print_timing(session.net(), line, sink)
+}
+
+/// Appends the text of a report of the network now, each line handed to `write` in one piece. Values of profiles and
+/// queues are in millionths of a vehicle, one for each step of the cycle from step 0.
+///
+/// Failed comes only where the sink's count rose; a front of the text was appended then. What `line` held before is
+/// lost, and what it holds afterwards is unspecified. The texts are this project's own.
+pub fn show<K: Sink>(
+    what: Report,
+    session: &Session,
+    line: &mut LineBuffer,
+    sink: &mut K,
+) -> Result<(), Failed>
+    requires { IsOfPlace session.now.net what }
+    ensures { Prints (K.written sink.old) (K.written sink.new) (K.faults sink.old)
+        (K.faults sink.new) result (report_text session.now.net session.now.work what) }
+{
+    match what {
+        Report::Index => print_index(session, line, sink),
+        Report::Links => print_links(session, line, sink),
+        Report::Timing => print_plans(session, line, sink),
+        Report::Profile { link } => print_profile(session, link, line, sink),
+        Report::Queue { link } => print_queue(session, link, line, sink),
+        Report::Work => print_work(session, line, sink),
+    }
+}

@@ -1,0 +1,5 @@
+//! Tests of the texts that a run writes, and of the decks of generated towns: each byte, and each line in one piece.
+#![tactic(auto)]
+
+#[cfg(test)]
+mod tests;
