@@ -1,0 +1,81 @@
+-- The code of a key hangs on nothing that an edit sets, and a key without one can be set.
+use Rattle.std.proofs.Common.{◌≡◌, ℕ, ◌≤◌, Bool, true, false, cond, not, ◌&&◌, ◌||◌, nat_eq, nat_le, List, [], ◌∷◌, map, Option, Some, None}
+use Rattle.std.proofs.Common.{refl, sym, ◌∙◌, ap, arith}
+use Rattle.std.proofs.lemmas.Bool.{and_parts}
+use Rattle.std.proofs.lemmas.Bool.Decides.{nat_tests}
+use Rattle.transyt_syntax.specs.declared.code.Code.TheVariants as code
+use Rattle.transyt_parts.specs.declared.link.Feed.{Feed}
+use Rattle.transyt_parts.specs.Parts.{LinkValue}
+use Rattle.transyt_parts.specs.Shape.{bare_feed, bare_link}
+use Rattle.transyt_parts.specs.Valid.{is_fed, link_number}
+use Rattle.transyt_net.specs.Parts.{Network}
+use Rattle.transyt_net.specs.Shape.{shape}
+use Rattle.transyt_net.specs.Valid.{numbered, feeds_in, feeds_at, is_among}
+use Rattle.transyt_net.specs.EditFaults.{edit_fault, is_link, range_fault, feed_fault}
+use Rattle.transyt_net.proofs.ShapeLaws.{same_link_numbers}
+use Rattle.transyt_net.proofs.WriteLaws.{no_fault}
+use Rattle.transyt_counts.specs.declared.key.Key.{Key}
+use Rattle.transyt_counts.specs.Keys.{edit_of}
+use Rattle.transyt_counts.specs.Rows.{key_code, is_known, is_fed_by}
+
+-- a key's code hangs on nothing that an edit sets
+fed_bare : (fs : List Feed) (feeder : ℕ) → is_fed (map bare_feed fs) feeder ≡ is_fed fs feeder
+fed_bare [] feeder = refl
+fed_bare (f ∷ fs) feeder = ap (λ b. nat_eq feeder f.feeder || b) (fed_bare fs feeder)
+
+feeds_bare : (ls : List LinkValue) (link feeder : ℕ) → is_fed (feeds_at (map bare_link ls) link) feeder ≡ is_fed (feeds_at ls link) feeder
+feeds_bare [] link feeder = refl
+feeds_bare (l ∷ ls) link feeder = by_test (nat_eq link l.number) l ls link feeder (feeds_bare ls link feeder)
+  where
+    by_test : (b : Bool) (l : LinkValue) (ls : List LinkValue) (link feeder : ℕ)
+        → is_fed (feeds_at (map bare_link ls) link) feeder ≡ is_fed (feeds_at ls link) feeder
+        → is_fed (feeds_in (cond b (Some (bare_link l)) (numbered link_number (map bare_link ls) link))) feeder
+        ≡ is_fed (feeds_in (cond b (Some l) (numbered link_number ls link))) feeder
+    by_test true l ls link feeder rest = fed_bare l.feeds feeder
+    by_test false l ls link feeder rest = rest
+
+fed_shape : (a b : Network) (link feeder : ℕ) → shape a ≡ shape b → is_fed (feeds_at a.links link) feeder ≡ is_fed (feeds_at b.links link) feeder
+fed_shape a b link feeder same =
+    sym (feeds_bare a.links link feeder) ∙ ap (λ (n : Network). is_fed (feeds_at n.links link) feeder) same ∙ feeds_bare b.links link feeder
+
+link_shape : (a b : Network) (link : ℕ) → shape a ≡ shape b → is_link a link ≡ is_link b link
+link_shape a b link same = ap (λ ns. is_among ns link) (same_link_numbers a b same)
+
+known_shape : (a b : Network) (o : Option ℕ) → shape a ≡ shape b → is_known a o ≡ is_known b o
+known_shape a b None same = refl
+known_shape a b (Some f) same = link_shape a b f same
+
+fed_by_shape : (a b : Network) (link : ℕ) (o : Option ℕ) → shape a ≡ shape b → is_fed_by a link o ≡ is_fed_by b link o
+fed_by_shape a b link None same = refl
+fed_by_shape a b link (Some f) same = fed_shape a b link f same
+
+-- networks of one shape have the same codes of keys
+pub code_shape : (a b : Network) (k : Key) → shape a ≡ shape b → key_code a k ≡ key_code b k
+code_shape a b k same =
+    ap (λ x. cond (not (x && is_known a k.feeder)) (Some code.Unknown) (cond (not (is_fed_by a k.link k.feeder)) (Some code.NoFeeder) None)) (link_shape a b k.link same)
+    ∙ ap (λ x. cond (not (is_link b k.link && x)) (Some code.Unknown) (cond (not (is_fed_by a k.link k.feeder)) (Some code.NoFeeder) None)) (known_shape a b k.feeder same)
+    ∙ ap (λ x. cond (not (is_link b k.link && is_known b k.feeder)) (Some code.Unknown) (cond (not x) (Some code.NoFeeder) None)) (fed_by_shape a b k.link k.feeder same)
+
+not_false : (b : Bool) → not b ≡ false → b ≡ true
+not_false true h = refl
+not_false false h = absurd (cc)
+
+-- a key without a code can be set to a flow in its range
+edit_by : (net : Network) (link : ℕ) (o : Option ℕ) (flow : ℕ) → key_code net (record { link = link; feeder = o }) ≡ None → flow ≤ 9999
+    → edit_fault net (edit_of (record { link = link; feeder = o }) flow) ≡ None
+edit_by net link None flow none small =
+    let known = and_parts (is_link net link) true (not_false (is_link net link && true) (no_fault (not (is_link net link && true)) code.Unknown _ none).0) in
+    let fits : nat_le flow 9999 ≡ true = grind (arith, nat_tests, small) in
+    ap (λ b. range_fault b (nat_le flow 9999)) known.0 ∙ ap (range_fault true) fits
+edit_by net link (Some f) flow none small =
+    let first = no_fault (not (is_link net link && is_link net f)) code.Unknown _ none in
+    let second = no_fault (not (is_fed (feeds_at net.links link) f)) code.NoFeeder None first.1 in
+    let known = not_false (is_link net link && is_link net f) first.0 in
+    let fed = not_false (is_fed (feeds_at net.links link) f) second.0 in
+    let fits : nat_le flow 9999 ≡ true = grind (arith, nat_tests, small) in
+    ap (λ b. feed_fault b (is_fed (feeds_at net.links link) f) (nat_le flow 9999)) known
+    ∙ ap (λ b. feed_fault true b (nat_le flow 9999)) fed ∙ ap (feed_fault true true) fits
+
+-- the edit of a key without a code is allowed
+pub edit_allowed : (net : Network) (k : Key) (flow : ℕ) → key_code net k ≡ None → flow ≤ 9999 → edit_fault net (edit_of k flow) ≡ None
+edit_allowed net k flow none small = edit_by net k.link k.feeder flow none small

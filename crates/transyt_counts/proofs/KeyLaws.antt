@@ -1,0 +1,181 @@
+-- Keys: equality by test, and lists of keys of which none stands twice.
+use Rattle.std.proofs.Common.{◌≡◌, ℕ, Bool, true, false, cond, not, ◌&&◌, ◌||◌, nat_eq, List, [], ◌∷◌, ◌++◌, map, Option, Some, None, refl, sym, ◌∙◌, ap, arith}
+use Rattle.std.proofs.Common.{inl, inr, if◌then◌else◌}
+use Rattle.std.specs.List.{list_any, fold}
+use Rattle.std.specs.Map.{lookup}
+use Rattle.std.proofs.lemmas.Bool.{cases_Bool, and_parts, and_from, or_parts, or_from}
+use Rattle.std.proofs.lemmas.Bool.Decides.{nat_tests}
+use Rattle.std.proofs.lemmas.List.Folds.{list_any-append}
+use Rattle.indexmap.specs.IndexMap.{insert_entry}
+use Rattle.transyt_counts.specs.declared.key.Key.{Key}
+use Rattle.transyt_counts.specs.declared.row.Count.{Count}
+use Rattle.transyt_counts.specs.declared.tally.Totals.{Totals}
+use Rattle.transyt_counts.specs.Keys.{same_key, same_feeder}
+use Rattle.transyt_counts.specs.Tally.{with_key, keys_of}
+
+-- the same feeder, or none
+feeder_same : (a b : Option ℕ) → same_feeder a b ≡ true → a ≡ b
+feeder_same None None h = refl
+feeder_same None (Some g) h = absurd (cc)
+feeder_same (Some f) None h = absurd (cc)
+feeder_same (Some f) (Some g) h = ap (λ n. Some n) (grind (arith, nat_tests, h))
+
+feeder_self : (a : Option ℕ) → same_feeder a a ≡ true
+feeder_self None = refl
+feeder_self (Some f) = grind (arith, nat_tests)
+
+-- keys that pass the test are equal
+pub key_same : (a b : Key) → same_key a b ≡ true → a ≡ b
+key_same a b h =
+    let both = and_parts (nat_eq a.link b.link) (same_feeder a.feeder b.feeder) h in
+    let links : a.link ≡ b.link = grind (arith, nat_tests, both.0) in
+    let made : ℕ → Option ℕ → Key = λ (l : ℕ) (f : Option ℕ). record { link = l; feeder = f } in
+    ap (λ l. made l a.feeder) links ∙ ap (made b.link) (feeder_same a.feeder b.feeder both.1)
+
+-- a key passes its own test
+pub key_self : (a : Key) → same_key a a ≡ true
+key_self a = and_from (nat_eq a.link a.link) (same_feeder a.feeder a.feeder) (grind (arith, nat_tests)) (feeder_self a.feeder)
+
+-- the test goes both ways
+pub key_swapped : (a b : Key) → same_key a b ≡ false → same_key b a ≡ false
+key_swapped a b h =
+    elim (cases_Bool (same_key b a)) [
+      | inr other ↦ other
+      | inl same ↦ absurd (
+          let is : same_key a b ≡ true = ap (same_key a) (key_same b a same) ∙ key_self a in
+          cc (is, h)
+          )
+    ]
+
+-- no key stands twice
+abbrev pub keys_differ : List Key → Bool
+keys_differ [] = true
+keys_differ (k ∷ ks) = not (list_any (same_key k) ks) && keys_differ ks
+
+not_true : (b : Bool) → not b ≡ true → b ≡ false
+not_true true h = absurd (cc)
+not_true false h = refl
+
+-- the first key stands nowhere else, and the others differ
+pub differ_parts : (k : Key) (ks : List Key) → keys_differ (k ∷ ks) ≡ true → (list_any (same_key k) ks ≡ false) × (keys_differ ks ≡ true)
+differ_parts k ks h =
+    let both = and_parts (not (list_any (same_key k) ks)) (keys_differ ks) h in
+    (not_true (list_any (same_key k) ks) both.0, both.1)
+
+-- a key that isn't there yet goes last
+differ_push : (ks : List Key) (k : Key) → keys_differ ks ≡ true → list_any (same_key k) ks ≡ false → keys_differ (ks ++ k ∷ []) ≡ true
+differ_push [] k differ new = refl
+differ_push (j ∷ js) k differ new =
+    let parts = differ_parts j js differ in
+    let other = or_parts (same_key k j) (list_any (same_key k) js) new in
+    let none : list_any (same_key j) (js ++ k ∷ []) ≡ false =
+    list_any-append (same_key j) js (k ∷ [])
+    ∙ or_from (list_any (same_key j) js) (same_key j k || false) parts.0 (or_from (same_key j k) false (key_swapped k j other.0) refl) in
+    and_from (not (list_any (same_key j) (js ++ k ∷ []))) (keys_differ (js ++ k ∷ [])) (ap not none) (differ_push js k parts.1 other.1)
+
+-- a key more, where it is new: they still differ
+pub differ_with : (ks : List Key) (k : Key) → keys_differ ks ≡ true → keys_differ (with_key ks k) ≡ true
+differ_with ks k differ =
+    elim (cases_Bool (list_any (same_key k) ks)) [
+      | inl there ↦ ap (λ b. keys_differ (cond b ks (ks ++ k ∷ []))) there ∙ differ
+      | inr new ↦ ap (λ b. keys_differ (cond b ks (ks ++ k ∷ []))) new ∙ differ_push ks k differ new
+    ]
+
+-- the keys of rows differ
+pub fold_differ : (cs : List Count) (ks : List Key) → keys_differ ks ≡ true → keys_differ (fold (λ keys c. with_key keys c.key) ks cs) ≡ true
+fold_differ [] ks differ = differ
+fold_differ (c ∷ cs) ks differ = fold_differ cs (with_key ks c.key) (differ_with ks c.key differ)
+
+-- no key of rows stands twice
+pub keys_of_differ : (cs : List Count) → keys_differ (keys_of cs) ≡ true
+keys_of_differ cs = fold_differ cs [] refl
+
+-- or, with what holds
+pub or_true : (b : Bool) → (b || true) ≡ true
+or_true true = refl
+or_true false = refl
+
+-- a key that is there stays
+pub any_with : (ks : List Key) (k j : Key) → list_any (same_key j) ks ≡ true → list_any (same_key j) (with_key ks k) ≡ true
+any_with ks k j there =
+    elim (cases_Bool (list_any (same_key k) ks)) [
+      | inl known ↦ ap (λ b. list_any (same_key j) (cond b ks (ks ++ k ∷ []))) known ∙ there
+      | inr new ↦
+          ap (λ b. list_any (same_key j) (cond b ks (ks ++ k ∷ []))) new ∙ list_any-append (same_key j) ks (k ∷ [])
+          ∙ ap (λ b. b || (same_key j k || false)) there
+    ]
+
+-- and the new one is there
+pub any_itself : (ks : List Key) (k : Key) → list_any (same_key k) (with_key ks k) ≡ true
+any_itself ks k =
+    elim (cases_Bool (list_any (same_key k) ks)) [
+      | inl known ↦ ap (λ b. list_any (same_key k) (cond b ks (ks ++ k ∷ []))) known ∙ known
+      | inr new ↦
+          ap (λ b. list_any (same_key k) (cond b ks (ks ++ k ∷ []))) new ∙ list_any-append (same_key k) ks (k ∷ [])
+          ∙ ap (λ b. list_any (same_key k) ks || (b || false)) (key_self k) ∙ or_true (list_any (same_key k) ks)
+    ]
+
+-- functions that agree at the keys that are there
+pub map_same : {A : Type 0} (f g : Key → A) (ks : List Key) → ((j : Key) → list_any (same_key j) ks ≡ true → f j ≡ g j) → map f ks ≡ map g ks
+map_same f g [] agree = refl
+map_same f g (k ∷ ks) agree =
+    ap (λ x. x ∷ map f ks) (agree k (ap (λ b. b || list_any (same_key k) ks) (key_self k)))
+    ∙ ap (λ xs. g k ∷ xs) (map_same f g ks (λ j there. agree j (ap (λ b. same_key j k || b) there ∙ or_true (same_key j k))))
+
+cond_front : (b : Bool) (j : Key) (js : List Key) (k : Key) → cond b (j ∷ js) ((j ∷ js) ++ k ∷ []) ≡ j ∷ cond b js (js ++ k ∷ [])
+cond_front true j js k = refl
+cond_front false j js k = refl
+
+-- an entry written over a list of keys with their values
+pub insert_over : (f g : Key → Totals) (k : Key) (v : Totals) (ks : List Key) → keys_differ ks ≡ true
+    → ((j : Key) → same_key k j ≡ false → f j ≡ g j) → v ≡ g k
+    → insert_entry same_key (map (λ j. (j, f j)) ks) k v ≡ map (λ j. (j, g j)) (with_key ks k)
+insert_over f g k v [] differ others is = ap (λ w. (k, w) ∷ []) is
+insert_over f g k v (j ∷ js) differ others is =
+    let parts = differ_parts j js differ in
+    elim (cases_Bool (same_key k j)) [
+      | inl same ↦
+          let one : k ≡ j = key_same k j same in
+          let rest : map (λ i. (i, f i)) js ≡ map (λ i. (i, g i)) js =
+          map_same (λ i. (i, f i)) (λ i. (i, g i)) js (
+          λ i there.
+          let other : same_key k i ≡ false = elim (cases_Bool (same_key k i)) [
+            | inr different ↦ different
+            | inl equal ↦ absurd (
+                let at : list_any (same_key j) js ≡ true =
+                ap (λ x. list_any (same_key x) js) (sym one ∙ key_same k i equal) ∙ there in
+                cc (at, parts.0)
+                )
+          ] in
+          ap (λ w. (i, w)) (others i other)
+          ) in
+          let here : v ≡ g j = is ∙ ap g one in
+          ap (λ b. cond b ((j, v) ∷ map (λ i. (i, f i)) js) ((j, f j) ∷ insert_entry same_key (map (λ i. (i, f i)) js) k v)) same
+          ∙ ap (λ w. (j, w) ∷ map (λ i. (i, f i)) js) here
+          ∙ ap (λ es. (j, g j) ∷ es) rest
+          ∙ sym (ap (λ b. map (λ i. (i, g i)) (cond (b || list_any (same_key k) js) (j ∷ js) ((j ∷ js) ++ k ∷ []))) same)
+      | inr other ↦
+          ap (λ b. cond b ((j, v) ∷ map (λ i. (i, f i)) js) ((j, f j) ∷ insert_entry same_key (map (λ i. (i, f i)) js) k v)) other
+          ∙ ap (λ w. (j, w) ∷ insert_entry same_key (map (λ i. (i, f i)) js) k v) (others j other)
+          ∙ ap (λ es. (j, g j) ∷ es) (insert_over f g k v js parts.1 others is)
+          ∙ sym (
+          ap (λ b. map (λ i. (i, g i)) (cond (b || list_any (same_key k) js) (j ∷ js) ((j ∷ js) ++ k ∷ []))) other
+          ∙ ap (map (λ i. (i, g i))) (cond_front (list_any (same_key k) js) j js k)
+          )
+    ]
+
+-- what is looked up in such a list
+pub lookup_over : (f : Key → Totals) (k : Key) (ks : List Key)
+    → lookup (same_key k) (map (λ j. (j, f j)) ks) ≡ (if list_any (same_key k) ks then Some (f k) else None)
+lookup_over f k [] = refl
+lookup_over f k (j ∷ js) =
+    elim (cases_Bool (same_key k j)) [
+      | inl same ↦
+          ap (λ b. cond b (Some (f j)) (lookup (same_key k) (map (λ j. (j, f j)) js))) same
+          ∙ ap (λ x. Some (f x)) (sym (key_same k j same))
+          ∙ sym (ap (λ b. cond (b || list_any (same_key k) js) (Some (f k)) None) same)
+      | inr other ↦
+          ap (λ b. cond b (Some (f j)) (lookup (same_key k) (map (λ j. (j, f j)) js))) other
+          ∙ lookup_over f k js
+          ∙ sym (ap (λ b. cond (b || list_any (same_key k) js) (Some (f k)) None) other)
+    ]

@@ -1,0 +1,112 @@
+-- A row by its fields one by one, and what a row without a code keeps to.
+use Rattle.std.proofs.Common.{◌≡◌, ℕ, ◌≤◌, Bool, true, false, not, ◌&&◌, nat_le, List, [], ◌∷◌, Option, Some, None, Ok, Err, refl, sym, ◌∙◌, ap}
+use Rattle.std.proofs.lemmas.Bool.{and_parts, leb-true}
+use Rattle.csv.specs.Records.{field_at}
+use Rattle.transyt_syntax.specs.declared.code.Code.{Code}
+use Rattle.transyt_syntax.specs.declared.code.Code.TheVariants as code
+use Rattle.transyt_parts.specs.Valid.{within}
+use Rattle.transyt_net.specs.Parts.{Network}
+use Rattle.transyt_net.proofs.WriteLaws.{no_fault, in_range}
+use Rattle.transyt_counts.specs.declared.row.Count.{Count}
+use Rattle.transyt_counts.specs.Rows.{count_of, count_code, key_code, first_code, unless, judged, read_row}
+
+-- where a field is wanting a row hasn't four
+pub no_first : (net : Network) (row : ℕ) (fs : List (List ℕ)) → field_at fs 0 ≡ None → read_row net row fs ≡ Err code.WrongCount
+unfolding field_at
+no_first net row [] none = refl
+no_first net row (a ∷ fs) none = absurd (cc)
+
+-- nor where the second is wanting
+pub no_second : (net : Network) (row : ℕ) (fs : List (List ℕ)) → field_at fs 1 ≡ None → read_row net row fs ≡ Err code.WrongCount
+unfolding field_at
+no_second net row [] none = refl
+no_second net row (a ∷ []) none = refl
+no_second net row (a ∷ b ∷ fs) none = absurd (cc)
+
+-- or the third
+pub no_third : (net : Network) (row : ℕ) (fs : List (List ℕ)) → field_at fs 2 ≡ None → read_row net row fs ≡ Err code.WrongCount
+unfolding field_at
+no_third net row [] none = refl
+no_third net row (a ∷ []) none = refl
+no_third net row (a ∷ b ∷ []) none = refl
+no_third net row (a ∷ b ∷ c ∷ fs) none = absurd (cc)
+
+-- or the fourth
+pub no_fourth : (net : Network) (row : ℕ) (fs : List (List ℕ)) → field_at fs 3 ≡ None → read_row net row fs ≡ Err code.WrongCount
+unfolding field_at
+no_fourth net row [] none = refl
+no_fourth net row (a ∷ []) none = refl
+no_fourth net row (a ∷ b ∷ []) none = refl
+no_fourth net row (a ∷ b ∷ c ∷ []) none = refl
+no_fourth net row (a ∷ b ∷ c ∷ d ∷ fs) none = absurd (cc)
+
+-- and where there is a fifth
+pub a_fifth : (net : Network) (row : ℕ) (fs : List (List ℕ)) (e : List ℕ) → field_at fs 4 ≡ Some e → read_row net row fs ≡ Err code.WrongCount
+unfolding field_at
+a_fifth net row [] e some = refl
+a_fifth net row (a ∷ []) e some = refl
+a_fifth net row (a ∷ b ∷ []) e some = refl
+a_fifth net row (a ∷ b ∷ c ∷ []) e some = refl
+a_fifth net row (a ∷ b ∷ c ∷ d ∷ []) e some = absurd (cc)
+a_fifth net row (a ∷ b ∷ c ∷ d ∷ f ∷ fs) e some = refl
+
+-- a row of four fields
+pub just_four : (net : Network) (row : ℕ) (fs : List (List ℕ)) (a b c d : List ℕ)
+    → field_at fs 0 ≡ Some a → field_at fs 1 ≡ Some b → field_at fs 2 ≡ Some c → field_at fs 3 ≡ Some d → field_at fs 4 ≡ None
+    → read_row net row fs ≡ judged net (count_of row a b c d)
+unfolding field_at
+just_four net row [] a b c d is_a is_b is_c is_d no_more = absurd (cc)
+just_four net row (p ∷ []) a b c d is_a is_b is_c is_d no_more = absurd (cc)
+just_four net row (p ∷ q ∷ []) a b c d is_a is_b is_c is_d no_more = absurd (cc)
+just_four net row (p ∷ q ∷ r ∷ []) a b c d is_a is_b is_c is_d no_more = absurd (cc)
+just_four net row (p ∷ q ∷ r ∷ s ∷ []) a b c d is_a is_b is_c is_d no_more =
+    let pa : p ≡ a = cc in
+    let qb : q ≡ b = cc in
+    let rc : r ≡ c = cc in
+    let sd : s ≡ d = cc in
+    ap (λ x. judged net (count_of row x q r s)) pa ∙ ap (λ x. judged net (count_of row a x r s)) qb
+    ∙ ap (λ x. judged net (count_of row a b x s)) rc ∙ ap (λ x. judged net (count_of row a b c x)) sd
+just_four net row (p ∷ q ∷ r ∷ s ∷ t ∷ fs) a b c d is_a is_b is_c is_d no_more = absurd (cc)
+
+-- what a row without a code keeps to
+pub record IsGood (net : Network) (c : Count) : Type 0 where
+  pub vehicles : c.vehicles ≤ 999999
+  pub minutes : (1 ≤ c.minutes) × (c.minutes ≤ 1440)
+  pub key : key_code net c.key ≡ None
+
+first_none : (a b : Option Code) → first_code a b ≡ None → (a ≡ None) × (b ≡ None)
+first_none None b h = (refl, h)
+first_none (Some code) b h = absurd (cc)
+
+not_false : (b : Bool) → not b ≡ false → b ≡ true
+not_false true h = refl
+not_false false h = absurd (cc)
+
+unless_ok : (o : Option Code) (c d : Count) → unless o c ≡ Ok d → (o ≡ None) × (c ≡ d)
+unless_ok None c d h = (refl, cc)
+unless_ok (Some code) c d h = absurd (cc)
+
+judged_ok : (net : Network) (o : Option Count) (d : Count) → judged net o ≡ Ok d → count_code net d ≡ None
+judged_ok net None d h = absurd (cc)
+judged_ok net (Some c) d h = let both = unless_ok (count_code net c) c d h in ap (count_code net) (sym both.1) ∙ both.0
+
+good_count : (net : Network) (c : Count) → count_code net c ≡ None → IsGood net c
+good_count net c none =
+    let both = first_none (key_code net c.key) _ none in
+    let fits = not_false (nat_le c.vehicles 999999 && within 1 1440 c.minutes)
+    (no_fault (not (nat_le c.vehicles 999999 && within 1 1440 c.minutes)) code.Range None both.1).0 in
+    let parts = and_parts (nat_le c.vehicles 999999) (within 1 1440 c.minutes) fits in
+    record {
+      vehicles = leb-true c.vehicles 999999 parts.0;
+      minutes = in_range 1 1440 c.minutes parts.1;
+      key = both.0;
+    }
+
+-- a row without a code keeps to its bounds
+pub good_row : (net : Network) (row : ℕ) (fs : List (List ℕ)) (c : Count) → read_row net row fs ≡ Ok c → IsGood net c
+good_row net row [] c h = absurd (cc)
+good_row net row (p ∷ []) c h = absurd (cc)
+good_row net row (p ∷ q ∷ []) c h = absurd (cc)
+good_row net row (p ∷ q ∷ r ∷ []) c h = absurd (cc)
+good_row net row (p ∷ q ∷ r ∷ s ∷ []) c h = good_count net c (judged_ok net (count_of row p q r s) c h)
+good_row net row (p ∷ q ∷ r ∷ s ∷ t ∷ fs) c h = absurd (cc)

@@ -1,0 +1,56 @@
+-- What the rows of each key sum to.
+use Rattle.std.specs.Prelude.{ℕ, ◌+◌, ◌*◌, ◌/◌, ◌<◌, ◌^◌, Bool, List, [], ◌∷◌, ◌++◌, map, sum_by, Option, Some, None, if◌then◌else◌}
+use Rattle.std.specs.List.{filter, fold, list_any}
+use Rattle.transyt_counts.specs.declared.key.Key.{Key}
+use Rattle.transyt_counts.specs.declared.row.Count.{Count}
+use Rattle.transyt_counts.specs.declared.tally.Totals.{Totals}
+use Rattle.transyt_counts.specs.Keys.{same_key}
+
+-- whether a row is of a key
+abbrev pub is_of : Key → Count → Bool
+is_of k c = same_key k c.key
+
+-- the rows of a key
+abbrev pub rows_of : List Count → Key → List Count
+rows_of counts k = filter (is_of k) counts
+
+-- the vehicles of a key, and the minutes in which they were counted
+abbrev pub vehicles_of : List Count → Key → ℕ
+vehicles_of counts k = sum_by (λ c. c.vehicles) (rows_of counts k)
+
+abbrev pub minutes_of : List Count → Key → ℕ
+minutes_of counts k = sum_by (λ c. c.minutes) (rows_of counts k)
+
+-- the number of the last row of a key
+abbrev pub last_row : List Count → Key → ℕ
+last_row counts k = fold (λ last c. c.row) 0 (rows_of counts k)
+
+-- the flow of a key in vehicles per hour, rounded down
+abbrev pub flow_of : List Count → Key → ℕ
+flow_of counts k = 60 * vehicles_of counts k / minutes_of counts k
+
+-- the keys with one more, the last, where it is new
+abbrev pub with_key : List Key → Key → List Key
+with_key keys k = if list_any (same_key k) keys then keys else keys ++ k ∷ []
+
+-- the keys in the order of their first rows
+abbrev pub keys_of : List Count → List Key
+keys_of counts = fold (λ keys c. with_key keys c.key) [] counts
+
+-- the totals of a key with one row more
+abbrev pub more_totals : Count → Option Totals → Totals
+more_totals c None = record { vehicles = c.vehicles; minutes = c.minutes; last = c.row }
+more_totals c (Some t) = record { vehicles = t.vehicles + c.vehicles; minutes = t.minutes + c.minutes; last = c.row }
+
+-- the totals of a key
+abbrev pub totals_of : List Count → Key → Totals
+totals_of counts k =
+    record { vehicles = vehicles_of counts k; minutes = minutes_of counts k; last = last_row counts k }
+
+-- each key with its totals
+abbrev pub tally_of : List Count → List (Key × Totals)
+tally_of counts = map (λ k. (k, totals_of counts k)) (keys_of counts)
+
+-- totals to which a row can be added
+abbrev pub HasRoom : Totals → Type 0
+HasRoom t = (t.vehicles < 2 ^ 63) × (t.minutes < 2 ^ 63)

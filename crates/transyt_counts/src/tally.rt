@@ -1,0 +1,52 @@
+//! What the rows of each key sum to.
+
+ghost use Rattle.std.specs.Prelude.{◌≡◌, OnOk, IfSome};
+ghost use Rattle.indexmap.specs.IndexMap.{get, insert_entry};
+ghost use Rattle.transyt_counts.specs.Keys.{same_key};
+ghost use Rattle.transyt_counts.specs.Tally.{more_totals, HasRoom};
+
+use crate::key::Key;
+use crate::row::Count;
+use indexmap::IndexMap;
+use std::alloc::AllocFailed;
+
+/// What the rows of a key sum to, and the last of them.
+#[derive(Clone, Copy)]
+pub struct Totals {
+    pub vehicles: u64,
+    pub minutes: u64,
+    pub last: u32,
+}
+
+/// The totals of a key with one row more.
+fn more_totals(count: Count, before: Option<Totals>) -> Totals
+    requires { IfSome before HasRoom }
+    ensures { result ≡ more_totals count before }
+{
+    match before {
+        None => Totals {
+            vehicles: u64::from(count.vehicles),
+            minutes: u64::from(count.minutes),
+            last: count.row,
+        },
+        Some(totals) => Totals {
+            vehicles: totals.vehicles + u64::from(count.vehicles),
+            minutes: totals.minutes + u64::from(count.minutes),
+            last: count.row,
+        },
+    }
+}
+
+/// Adds a row to the totals of its key.
+pub fn add(
+    tally: &mut IndexMap<Key, Totals>,
+    count: Count,
+) -> Result<(), AllocFailed<(Key, Totals)>>
+    requires { IfSome (get same_key tally.old count.key) HasRoom }
+    ensures { OnOk result (tally.new.entries ≡ insert_entry same_key tally.old.entries count.key
+        (more_totals count (get same_key tally.old count.key))) }
+{
+    let before = tally.get(&count.key).copied();
+    tally.insert(count.key, more_totals(count, before))?;
+    Ok(())
+}

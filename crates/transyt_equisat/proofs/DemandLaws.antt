@@ -1,0 +1,129 @@
+-- What holds of the link that asks most of a stage holds of each of its counted links.
+use Rattle.std.proofs.Common.{◌≡◌, ℕ, ◌*◌, ◌<◌, ◌≤◌, Bool, true, false, cond, not, ◌&&◌, List, [], ◌∷◌, All, arith}
+use Rattle.std.proofs.Common.{sym, ◌∙◌, ap, refl, inl, inr}
+use Rattle.std.specs.List.{list_all, filter, fold}
+use Rattle.std.proofs.Math.Nat.{mul-le-mul_left}
+use Rattle.std.proofs.lemmas.Bool.{cases_Bool, ltb-true, ltb-false}
+use Rattle.std.proofs.lemmas.List.Elements.{All-head, All-tail}
+use Rattle.transyt_parts.specs.Parts.{LinkValue}
+use Rattle.transyt_net.specs.Parts.{Network}
+use Rattle.transyt_equisat.specs.declared.fraction.Fraction.{Fraction}
+use Rattle.transyt_equisat.specs.declared.demand.Demand.{Demand}
+use Rattle.transyt_equisat.specs.Fractions.{is_above}
+use Rattle.transyt_equisat.specs.Degrees.{counts_in, counted_in, degree}
+use Rattle.transyt_equisat.specs.Demands.{demand_of, degree_of, heavier, heavier_of, demand_in, no_demand}
+use Rattle.transyt_equisat.proofs.FractionLaws.{not_above, not_above-trans}
+
+-- a test that lesser fractions pass too
+abbrev pub IsLower : (Fraction → Bool) → Type 0
+IsLower test =
+    (a b : Fraction) → 0 < a.base → 0 < b.base → is_above a b ≡ false → test b ≡ true → test a ≡ true
+
+-- a product of positive numbers
+pub positive : (a b : ℕ) → 0 < a → 0 < b → 0 < a * b
+positive a b x y = let one : 1 ≤ b = y in omega (arith, mul-le-mul_left a one)
+
+-- what asks for no more has no greater degree
+pub degree_orders : (steps e : ℕ) (a b : Demand) → a.flow * b.saturation ≤ b.flow * a.saturation
+    → is_above (degree_of steps a e) (degree_of steps b e) ≡ false
+degree_orders steps e a b less =
+    not_above (degree_of steps a e) (degree_of steps b e) (omega (arith, mul-le-mul_left (steps * e) less))
+
+moved : (x a y : Bool) → (x ≡ true → y ≡ true) → ((x && a) && y) ≡ (a && x)
+moved true true y more = more refl
+moved true false y more = refl
+moved false true y more = refl
+moved false false y more = refl
+
+dropped : (x a y : Bool) → (y ≡ true → x ≡ true) → ((x && a) && y) ≡ (a && y)
+dropped true a y more = refl
+dropped false true true more = more refl
+dropped false true false more = refl
+dropped false false y more = refl
+
+-- one link more
+link_more : (test : Fraction → Bool) (steps number stage e : ℕ) (l : LinkValue) (ls : List LinkValue) (d : Demand) (c h : Bool)
+    → (h ≡ true → test (degree steps l e) ≡ true → test (degree_of steps d e) ≡ true)
+    → (h ≡ false → test (degree_of steps d e) ≡ true → test (degree steps l e) ≡ true)
+    → ((f : Demand) → 0 < f.saturation
+    → (list_all (λ l. test (degree steps l e)) (filter (counts_in number stage) ls) && test (degree_of steps f e))
+    ≡ test (degree_of steps (fold (heavier_of number stage) f ls) e))
+    → 0 < l.saturation → 0 < d.saturation
+    → (list_all (λ l. test (degree steps l e))
+    (cond c (l ∷ filter (counts_in number stage) ls) (filter (counts_in number stage) ls)) && test (degree_of steps d e))
+    ≡ test (degree_of steps (fold (heavier_of number stage) (cond (c && h) (demand_of l) d) ls) e)
+link_more test steps number stage e l ls d false h up down rest live alive = rest d alive
+link_more test steps number stage e l ls d true true up down rest live alive =
+    moved (test (degree steps l e)) (list_all (λ l. test (degree steps l e)) (filter (counts_in number stage) ls))
+    (test (degree_of steps d e)) (up refl)
+    ∙ rest (demand_of l) live
+link_more test steps number stage e l ls d true false up down rest live alive =
+    dropped (test (degree steps l e)) (list_all (λ l. test (degree steps l e)) (filter (counts_in number stage) ls))
+    (test (degree_of steps d e)) (down refl)
+    ∙ rest d alive
+
+-- the links passed and the demand so far pass where the demand after them does
+pub all_tested : (test : Fraction → Bool) → IsLower test → (steps number stage e : ℕ) → 0 < e
+    → (ls : List LinkValue) → All (λ l. 0 < l.saturation) ls → (d : Demand) → 0 < d.saturation
+    → (list_all (λ l. test (degree steps l e)) (filter (counts_in number stage) ls) && test (degree_of steps d e))
+    ≡ test (degree_of steps (fold (heavier_of number stage) d ls) e)
+all_tested test lower steps number stage e some [] live d alive = refl
+all_tested test lower steps number stage e some (l ∷ ls) live d alive =
+    let here : 0 < l.saturation = All-head (λ l. 0 < l.saturation) l ls live in
+    let l_base : 0 < (degree steps l e).base = positive l.saturation e here some in
+    let d_base : 0 < (degree_of steps d e).base = positive d.saturation e alive some in
+    link_more test steps number stage e l ls d (counts_in number stage l) (heavier (demand_of l) d)
+    (λ h. lower (degree_of steps d e) (degree steps l e) d_base l_base
+    (degree_orders steps e d (demand_of l) (let more = ltb-true (d.flow * (demand_of l).saturation) ((demand_of l).flow * d.saturation) h in omega arith)))
+    (λ h. lower (degree steps l e) (degree_of steps d e) l_base d_base
+    (degree_orders steps e (demand_of l) d (ltb-false (d.flow * (demand_of l).saturation) ((demand_of l).flow * d.saturation) h)))
+    (λ f f_alive. all_tested test lower steps number stage e some ls (All-tail (λ l. 0 < l.saturation) l ls live) f f_alive)
+    here alive
+
+and_true : (a b : Bool) → b ≡ true → (a && b) ≡ a
+and_true true b h = h
+and_true false b h = refl
+
+-- the counted links of a stage pass where the one that asks most does
+pub stage_tested : (test : Fraction → Bool) → IsLower test → (net : Network) (number stage e : ℕ) → 0 < e
+    → All (λ l. 0 < l.saturation) net.links → test (degree_of net.frame.step_count no_demand e) ≡ true
+    → list_all (λ l. test (degree net.frame.step_count l e)) (counted_in net number stage)
+    ≡ test (degree_of net.frame.step_count (demand_in net number stage) e)
+stage_tested test lower net number stage e some live none =
+    sym (and_true (list_all (λ l. test (degree net.frame.step_count l e)) (counted_in net number stage))
+    (test (degree_of net.frame.step_count no_demand e)) none)
+    ∙ all_tested test lower net.frame.step_count number stage e some net.links live no_demand (omega arith)
+
+-- what isn't true is false
+pub not_true : (b : Bool) → not b ≡ true → b ≡ false
+not_true true h = absurd (cc)
+not_true false h = refl
+
+-- not to be above v is such a test
+pub not_above_lower : (v : Fraction) → IsLower (λ d. not (is_above d v))
+not_above_lower v a b a_base b_base less passes =
+    ap not (not_above-trans a b v b_base less (not_true (is_above b v) passes))
+
+-- to be below v is one too
+pub below_lower : (v : Fraction) → IsLower (λ d. is_above v d)
+below_lower v a b a_base b_base less passes =
+    elim (cases_Bool (is_above v a)) [
+      | inl above ↦ above
+      | inr fails ↦ absurd (let wrong = not_above-trans v a b a_base fails less in cc (wrong, passes))
+    ]
+
+-- no demand is above nothing, and below whatever is above 0
+pub no_demand_passes : (steps e : ℕ) (v : Fraction) → not (is_above (degree_of steps no_demand e) v) ≡ true
+no_demand_passes steps e v = ap not (not_above (degree_of steps no_demand e) v (omega arith))
+
+-- and it is below whatever is above 0
+pub no_demand_below : (steps e : ℕ) (v : Fraction) → 0 < e → 0 < v.top → is_above v (degree_of steps no_demand e) ≡ true
+no_demand_below steps e v some above =
+    elim (cases_Bool (is_above v (degree_of steps no_demand e))) [
+      | inl passes ↦ passes
+      | inr fails ↦ absurd (
+          let less = ltb-false ((degree_of steps no_demand e).top * v.base) (v.top * (degree_of steps no_demand e).base) fails in
+          let more = positive v.top e above some in
+          omega arith
+          )
+    ]

@@ -1,0 +1,71 @@
+-- The least peak of the definition is the least in the sense of what the stages ask, and there is only one.
+use Rattle.std.proofs.Common.{◌≡◌, ℕ, ◌<◌, false, List, [], ◌∷◌, All, map, length}
+use Rattle.std.proofs.Common.{arith}
+use Rattle.std.specs.List.{Contains}
+use Rattle.std.proofs.lemmas.List.Elements.{All-map, All-weaker, All-contains, All-head, All-tail}
+use Rattle.transyt_parts.specs.Parts.{NodeValue}
+use Rattle.transyt_parts.specs.declared.node.Stage.{Stage}
+use Rattle.transyt_net.specs.Parts.{Network}
+use Rattle.transyt_equisat.specs.declared.fraction.Fraction.{Fraction}
+use Rattle.transyt_equisat.specs.declared.demand.Demand.{Demand}
+use Rattle.transyt_equisat.specs.Fractions.{is_above, IsSame}
+use Rattle.transyt_equisat.specs.Demands.{demands_of}
+use Rattle.transyt_equisat.specs.Peaks.{Fits, peak, greens_of}
+use Rattle.transyt_equisat.specs.Balance.{all_greens, least_of, least_peak}
+use Rattle.transyt_equisat.specs.Sharing.{IsUnder, IsLeastPeak, IsSetting}
+use Rattle.transyt_equisat.proofs.FractionLaws.{at_most, not_above-trans}
+use Rattle.transyt_equisat.proofs.ExtremeLaws.{least_under, least_from}
+use Rattle.transyt_equisat.proofs.PeakLaws.{peak_base, under_peak, peak_under}
+use Rattle.transyt_equisat.proofs.EnumLaws.{all_fit, fits_listed, Contains_map}
+
+-- the least of some has what all have
+least_of_some : (P : Fraction → Type 0) (ds : List Fraction) → 0 < length ds → All P ds → P (least_of ds)
+least_of_some P [] some all = absurd (omega arith)
+least_of_some P (d ∷ ds) some all = least_from P ds d (All-head P d ds all) (All-tail P d ds all)
+
+some_listed : {A : Type 0} (xs : List A) (x : A) → Contains xs x → 0 < length xs
+some_listed xs x (k, inside, same) = omega arith
+
+-- what all peaks of fitting greens have
+all_peaks : (net : Network) (n : NodeValue) (P : Fraction → Type 0)
+    → ((es : List ℕ) → Fits net.frame.step_count n.stages es → P (peak net n.number es))
+    → All P (map (peak net n.number) (all_greens n.stages net.frame.step_count))
+all_peaks net n P each =
+    All-map P (peak net n.number) (all_greens n.stages net.frame.step_count)
+    (All-weaker (λ es. Fits net.frame.step_count n.stages es) (λ es. P (peak net n.number es)) each
+    (all_greens n.stages net.frame.step_count) (all_fit n.stages net.frame.step_count))
+
+-- the least peak of the definition is a least peak
+pub least_is_least : (net : Network) (n : NodeValue) → IsSetting net n
+    → IsLeastPeak net.frame.step_count n.stages (demands_of net n.number (length n.stages)) (least_peak net n)
+least_is_least net n setting =
+    let steps = net.frame.step_count in
+    let demands : List Demand = demands_of net n.number (length n.stages) in
+    let peaks : List Fraction = map (peak net n.number) (all_greens n.stages steps) in
+    let own : Contains (all_greens n.stages steps) (greens_of steps n.stages) =
+    fits_listed n.stages steps (greens_of steps n.stages) setting.own in
+    let some : 0 < length peaks =
+    some_listed peaks (peak net n.number (greens_of steps n.stages))
+    (Contains_map (peak net n.number) (all_greens n.stages steps) (greens_of steps n.stages) own) in
+    let based = all_peaks net n (λ d. 0 < d.base) (λ es. peak_base net n es setting) in
+    record {
+      base = least_of_some (λ d. 0 < d.base) peaks some based;
+      reached = least_of_some (λ d. (es : List ℕ) × Fits steps n.stages es × IsUnder steps demands es d) peaks some
+          (all_peaks net n (λ d. (es : List ℕ) × Fits steps n.stages es × IsUnder steps demands es d)
+          (λ es fits. (es, fits, under_peak net n es setting fits)));
+      least = λ w es pos fits under.
+          let listed = Contains_map (peak net n.number) (all_greens n.stages steps) es (fits_listed n.stages steps es fits) in
+          not_above-trans (least_of peaks) (peak net n.number es) w (peak_base net n es setting fits)
+          (All-contains (λ d. is_above (least_of peaks) d ≡ false) peaks (peak net n.number es) (least_under peaks based) listed)
+          (peak_under net n es w setting fits under);
+    }
+
+-- two least peaks are equal
+pub least_same : (steps : ℕ) (stages : List Stage) (demands : List Demand) (v w : Fraction)
+    → IsLeastPeak steps stages demands v → IsLeastPeak steps stages demands w → IsSame v w
+least_same steps stages demands v w one two =
+    let (es, es_fits, es_under) = one.reached in
+    let (fs, fs_fits, fs_under) = two.reached in
+    let down = at_most v w (one.least w fs two.base fs_fits fs_under) in
+    let up = at_most w v (two.least v es one.base es_fits es_under) in
+    omega arith

@@ -1,0 +1,23 @@
+pub mod FractionLaws
+pub mod DegreeLaws
+pub mod DemandLaws
+pub mod ExtremeLaws
+pub mod FilterLaws
+pub mod SameLaws
+pub mod SearchLaws
+pub mod SharingLaws
+pub mod PeakLaws
+pub mod EnumLaws
+pub mod LeastLaws
+pub mod PlanFits
+pub mod TimedPlans
+pub mod SettingLaws
+pub mod AlikeLaws
+pub mod AskedLaws
+pub mod FilledLaws
+pub mod GreensLaws
+pub mod ReachedLaws
+pub mod NeedsLaws
+pub mod WorthLaws
+pub mod AnswerLaws
+mod KnownValues

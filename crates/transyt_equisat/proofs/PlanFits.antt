@@ -1,0 +1,161 @@
+-- The greens of an allowed plan fill the cycle.
+use Rattle.std.proofs.Common.{◌≡◌, ◌≢◌, ℕ, zero, suc, ◌+◌, ◌<◌, ◌≤◌, Bool, true, false, not, List, [], ◌∷◌, map, length, sum, get_or}
+use Rattle.std.proofs.Common.{sym, ◌∙◌, ap, refl, arith, inl, inr, ◌⊎◌, take, set, None, nat_le, ◌==◌}
+use Rattle.std.specs.List.{list_all, range_with_len}
+use Rattle.std.proofs.lemmas.Bool.{cases_Bool, leb-true}
+use Rattle.std.proofs.lemmas.Bool.Decides.{nat_tests}
+use Rattle.std.proofs.lemmas.List.{get_or-map, length-map, take_all, length-set, get_or-set_other}
+use Rattle.std.proofs.lemmas.List.Folds.{list_all_at}
+use Rattle.std.proofs.lemmas.List.Sums.{sum_by-cons, sum_by_more, sum_by-set, get_or-le-sum_by}
+use Rattle.std.proofs.lemmas.List.FromFn.{length-range_with_len, get_or-range_with_len, sum_by-map-range_with_len_more, get_or-map-range_with_len, length-map-range_with_len}
+use Rattle.transyt_parts.specs.declared.node.Stage.{Stage}
+use Rattle.transyt_parts.specs.Shape.{bare_stage}
+use Rattle.transyt_parts.specs.Plan.{stage_of, no_stage, length_at, stage_lengths, in_order, has_green, have_greens, plan_fault}
+use Rattle.transyt_parts.proofs.BelowLaws.{all_places_more}
+use Rattle.transyt_net.proofs.WriteLaws.{no_fault}
+use Rattle.transyt_equisat.specs.Peaks.{Fits, lost, green_at, greens_of, IsPlanOf}
+
+-- what isn't false by its negation is true
+not_false : (b : Bool) → not b ≡ false → b ≡ true
+not_false true h = refl
+not_false false h = absurd (cc)
+
+-- what no fault of a plan says
+pub plan_parts : (steps : ℕ) (plan : List Stage) → plan_fault steps plan ≡ None
+    → (2 ≤ length plan) × (sum (stage_lengths steps plan) ≡ steps) × (have_greens steps plan ≡ true)
+plan_parts steps plan none =
+    let few = no_fault (not (nat_le 2 (length plan))) _ _ none in
+    let order = no_fault (not (in_order steps plan)) _ _ few.1 in
+    let short = no_fault (not (have_greens steps plan)) _ _ order.1 in
+    let many : nat_le 2 (length plan) ≡ true = not_false (nat_le 2 (length plan)) few.0 in
+    let sums : (sum (stage_lengths steps plan) == steps) ≡ true = not_false (in_order steps plan) order.0 in (
+      leb-true 2 (length plan) many,
+      grind (arith, nat_tests, sums),
+      not_false (have_greens steps plan) short.0,
+    )
+
+-- the room of the stage at a place
+pub green_room : (steps : ℕ) (plan : List Stage) (k : ℕ) → have_greens steps plan ≡ true → k < length plan
+    → (stage_of plan k).intergreen + (stage_of plan k).least ≤ length_at steps plan k
+green_room steps plan k all inside =
+    elim (cases_Bool (has_green steps plan k)) [
+      | inl has ↦ leb-true ((stage_of plan k).intergreen + (stage_of plan k).least) (length_at steps plan k) has
+      | inr hasnt ↦ absurd (
+          let same : 0 + k ≡ k = omega arith in
+          let none = list_all_at (has_green steps plan) (range_with_len 0 (length plan)) k 0
+          (omega (arith, length-range_with_len 0 (length plan)))
+          (ap (has_green steps plan) (get_or-range_with_len 0 (length plan) k 0 inside ∙ same) ∙ hasnt) in
+          cc (none, all)
+          )
+    ]
+
+-- greens and intergreens make up the lengths
+sum_parts : (steps : ℕ) (plan : List Stage) (n : ℕ) → n ≤ length plan
+    → ((k : ℕ) → k < length plan → (stage_of plan k).intergreen ≤ length_at steps plan k)
+    → sum (map (green_at steps plan) (range_with_len 0 n)) + lost (take n plan)
+    ≡ sum (map (length_at steps plan) (range_with_len 0 n))
+sum_parts steps plan zero inside room = refl
+sum_parts steps plan (suc n) inside room =
+    let next : suc n ≡ n + 1 = omega arith in
+    let same : 0 + n ≡ n = omega arith in
+    let greens = ap (λ m. sum (map (green_at steps plan) (range_with_len 0 m))) next
+    ∙ sum_by-map-range_with_len_more (λ x. x) (green_at steps plan) 0 n n same in
+    let lengths = ap (λ m. sum (map (length_at steps plan) (range_with_len 0 m))) next
+    ∙ sum_by-map-range_with_len_more (λ x. x) (length_at steps plan) 0 n n same in
+    let gaps = ap (λ m. lost (take m plan)) next ∙ sum_by_more (λ (s : Stage). s.intergreen) plan n no_stage (omega arith) in
+    omega (arith, greens, lengths, gaps, sum_parts steps plan n (omega arith) room, room n (omega arith))
+
+-- greens and intergreens sum to the lengths
+pub lengths_sum : (steps : ℕ) (plan : List Stage)
+    → ((k : ℕ) → k < length plan → (stage_of plan k).intergreen ≤ length_at steps plan k)
+    → sum (greens_of steps plan) + lost plan ≡ sum (stage_lengths steps plan)
+lengths_sum steps plan room =
+    ap (λ ss. sum (greens_of steps plan) + lost ss) (sym (take_all (length plan) plan (omega arith))) ∙ sum_parts steps plan (length plan) (omega arith) room
+
+-- a change doesn't count in what intergreens take
+pub lost_bare : (ss : List Stage) → lost (map bare_stage ss) ≡ lost ss
+lost_bare [] = refl
+lost_bare (s ∷ ss) =
+    omega (
+      arith,
+      sum_by-cons (λ (s : Stage). s.intergreen) (bare_stage s) (map bare_stage ss),
+      sum_by-cons (λ (s : Stage). s.intergreen) s ss,
+      lost_bare ss,
+    )
+
+-- stages that differ at most in their changes
+pub same_at : (plan stages : List Stage) (k : ℕ) → map bare_stage plan ≡ map bare_stage stages → k < length stages
+    → bare_stage (stage_of plan k) ≡ bare_stage (stage_of stages k)
+same_at plan stages k same inside =
+    let count : length plan ≡ length stages = sym (length-map plan bare_stage) ∙ ap length same ∙ length-map stages bare_stage in
+    sym (get_or-map bare_stage plan k no_stage no_stage (omega arith))
+    ∙ ap (λ ss. get_or ss k no_stage) same ∙ get_or-map bare_stage stages k no_stage no_stage inside
+
+-- the greens of an allowed plan fill the cycle
+pub plan_fits : (steps : ℕ) (stages plan : List Stage) → IsPlanOf steps stages plan → Fits steps stages (greens_of steps plan)
+plan_fits steps stages plan is =
+    let parts = plan_parts steps plan is.allowed in
+    let count : length plan ≡ length stages =
+    sym (length-map plan bare_stage) ∙ ap length is.same ∙ length-map stages bare_stage in
+    let gaps : lost plan ≡ lost stages = sym (lost_bare plan) ∙ ap lost is.same ∙ lost_bare stages in
+    let room = λ (k : ℕ) (inside : k < length plan). green_room steps plan k parts.2 inside in
+    record {
+      count = length-map-range_with_len (green_at steps plan) 0 (length plan) ∙ count;
+      least = λ k below.
+          let inside : k < length plan = omega arith in
+          let here = get_or-map-range_with_len (green_at steps plan) 0 (length plan) k k 0 inside (omega arith) in
+          let same = ap (λ (s : Stage). s.least) (same_at plan stages k is.same below) in
+          omega (arith, room k inside, here, same);
+      fills = omega (arith, lengths_sum steps plan (λ k inside. omega (arith, room k inside)), parts.1, gaps);
+    }
+
+-- a test that passes at each place
+pub all_places : (test : ℕ → Bool) (n : ℕ) → ((k : ℕ) → k < n → test k ≡ true) → list_all test (range_with_len 0 n) ≡ true
+all_places test zero each = refl
+all_places test (suc n) each =
+    let next : suc n ≡ n + 1 = omega arith in
+    ap (λ m. list_all test (range_with_len 0 m)) next
+    ∙ all_places_more test n (all_places test n (λ k below. each k (omega arith))) (each n (omega arith))
+
+-- a place is the first or a later one
+other_place : (k : ℕ) → (k ≡ 0) ⊎ (0 < k)
+other_place zero = inl refl
+other_place (suc k) = inr (omega arith)
+
+-- of two greens or more one takes less than the cycle with its intergreen
+pub one_shorter : (steps : ℕ) (stages : List Stage) (gs : List ℕ) (k : ℕ) → Fits steps stages gs → 2 ≤ length stages
+    → ((j : ℕ) → j < length stages → 0 < (stage_of stages j).least) → k < length stages
+    → get_or gs k 0 + (stage_of stages k).intergreen < steps
+one_shorter steps stages gs k fits two some inside =
+    let count = fits.count in
+    let without = sum_by-set (λ n. n) gs k 0 0 (omega arith) in
+    let gap = get_or-le-sum_by (λ (s : Stage). s.intergreen) stages k no_stage inside in
+    let len = length-set gs k 0 in
+    elim (other_place k) [
+      | inl first ↦
+          let other : 1 ≢ k = λ same. omega arith in
+          let left = get_or-set_other gs k 1 0 0 other in
+          omega (
+            arith,
+            without,
+            gap,
+            left,
+            get_or-le-sum_by (λ n. n) (set gs k 0) 1 0 (omega arith),
+            fits.least 1 (omega arith),
+            some 1 (omega arith),
+            fits.fills,
+          )
+      | inr later ↦
+          let other : 0 ≢ k = λ same. omega arith in
+          let left = get_or-set_other gs k 0 0 0 other in
+          omega (
+            arith,
+            without,
+            gap,
+            left,
+            get_or-le-sum_by (λ n. n) (set gs k 0) 0 0 (omega arith),
+            fits.least 0 (omega arith),
+            some 0 (omega arith),
+            fits.fills,
+          )
+    ]

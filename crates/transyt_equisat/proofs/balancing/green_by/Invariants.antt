@@ -1,0 +1,12 @@
+-- What is left to search from here is what was to search from the start.
+use Rattle.std.proofs.Common.{◌≡◌, ◌-◌, not}
+use Rattle.transyt_equisat.specs.Fractions.{is_above}
+use Rattle.transyt_equisat.specs.Demands.{degree_of}
+use Rattle.transyt_equisat.specs.Balance.{first_from}
+use Rattle.transyt_equisat.specs.Sharing.{green_by}
+use Rattle.transyt_equisat.proofs.balancing.green_by.Given as goal
+
+abbrev pub invariant-loop-green : goal.invariant-loop-green
+invariant-loop-green l =
+    first_from (λ e. not (is_above (degree_of l.steps l.demand e) l.peak)) l.green (l.steps - l.green)
+    ≡ green_by l.steps l.peak l.least l.demand

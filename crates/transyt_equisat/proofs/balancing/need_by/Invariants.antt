@@ -1,0 +1,12 @@
+-- What is left to search from here is what was to search from the start.
+use Rattle.std.proofs.Common.{◌≡◌, ◌-◌}
+use Rattle.transyt_equisat.specs.Fractions.{is_above}
+use Rattle.transyt_equisat.specs.Demands.{degree_of}
+use Rattle.transyt_equisat.specs.Balance.{first_from}
+use Rattle.transyt_equisat.specs.Sharing.{need_by}
+use Rattle.transyt_equisat.proofs.balancing.need_by.Given as goal
+
+abbrev pub invariant-loop-green : goal.invariant-loop-green
+invariant-loop-green l =
+    first_from (λ e. is_above l.peak (degree_of l.steps l.demand e)) l.green (l.steps - l.green)
+    ≡ need_by l.steps l.peak l.least l.demand

@@ -1,0 +1,10 @@
+-- What is left to search from here is what was to search from the start.
+use Rattle.std.proofs.Common.{◌≡◌, drop}
+use Rattle.std.specs.List.{find}
+use Rattle.transyt_equisat.specs.Sharing.{reaches}
+use Rattle.transyt_equisat.proofs.balancing.reaching.Given as goal
+
+abbrev pub invariant-loop-place : goal.invariant-loop-place
+invariant-loop-place l =
+    find (reaches l.net l.number l.peak l.greens) (drop l.place l.net.links)
+    ≡ find (reaches l.net l.number l.peak l.greens) l.net.links

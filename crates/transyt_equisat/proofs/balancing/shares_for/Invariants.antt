@@ -1,0 +1,13 @@
+-- The shares of the stages before the place, and the change of the stage there.
+use Rattle.std.proofs.Common.{◌≡◌, ◌<◌, map}
+use Rattle.std.specs.List.{range_with_len}
+use Rattle.transyt_equisat.specs.Balance.{change_at}
+use Rattle.transyt_equisat.specs.Sharing.{share_there}
+use Rattle.transyt_equisat.proofs.balancing.shares_for.Given as goal
+
+abbrev pub invariant-loop-place : goal.invariant-loop-place
+invariant-loop-place l = record {
+  so_far : l.shares.items ≡ map (share_there l.steps l.stages l.demands l.peak l.greens) (range_with_len 0 l.place);
+  change : l.change ≡ change_at l.steps l.stages l.greens l.place;
+  small : l.change < l.steps;
+}

@@ -1,0 +1,12 @@
+-- No stage before the place has a degree above that of the best so far.
+use Rattle.std.proofs.Common.{◌≡◌, ℕ, ◌<◌, false, length}
+use Rattle.transyt_equisat.specs.Fractions.{is_above}
+use Rattle.transyt_equisat.specs.Sharing.{degree_at}
+use Rattle.transyt_equisat.proofs.sharing.busiest.Given as goal
+
+abbrev pub invariant-loop-place : goal.invariant-loop-place
+invariant-loop-place l = record {
+  inside : l.best < length l.demands;
+  greatest : (k : ℕ) → k < l.place
+      → is_above (degree_at l.steps l.demands l.greens k) (degree_at l.steps l.demands l.greens l.best) ≡ false;
+}

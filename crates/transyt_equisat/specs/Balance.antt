@@ -1,0 +1,140 @@
+-- The balance of a node: the plan whose greatest degree of saturation is least. Times are in steps.
+use Rattle.std.specs.Prelude.{ℕ, zero, suc, ◌+◌, ◌-◌, ◌*◌, ◌%◌, Bool, not, nat_eq, List, [], ◌∷◌, map, sum, length}
+use Rattle.std.specs.Prelude.{◌≡◌, ◌<◌, slice_index, slice_index_or, slice_set, Option, Some, None, if◌then◌else◌}
+use Rattle.std.specs.List.{list_all, range_with_len, find, fold, flat_map}
+use Rattle.transyt_parts.specs.declared.node.Stage.{Stage}
+use Rattle.transyt_parts.specs.Parts.{NodeValue, LinkValue}
+use Rattle.transyt_parts.specs.Plan.{stage_of}
+use Rattle.transyt_net.specs.Parts.{Network, node_of}
+use Rattle.transyt_equisat.specs.declared.fraction.Fraction.{Fraction}
+use Rattle.transyt_equisat.specs.declared.greens.Share.{Share}
+use Rattle.transyt_equisat.specs.Fractions.{is_above, nothing, AtMost, IsSame}
+use Rattle.transyt_equisat.specs.Degrees.{counted, counted_in, degree}
+use Rattle.transyt_equisat.specs.Peaks.{lost, green_of, peak, greens_of, IsPlanOf}
+use Rattle.transyt_equisat.specs.Answer.{GreensValue}
+
+-- all greens of these stages, none below its least, that take so many steps with the intergreens
+abbrev pub all_greens : List Stage → ℕ → List (List ℕ)
+all_greens [] zero = [] ∷ []
+all_greens [] (suc left) = []
+all_greens (s ∷ ss) left =
+    flat_map (λ e. map (λ es. e ∷ es) (all_greens ss (left - (e + s.intergreen))))
+    (range_with_len s.least (left + 1 - (s.least + s.intergreen)))
+
+-- the lesser of two fractions, the first where they are equal
+abbrev pub lesser : Fraction → Fraction → Fraction
+lesser a b = if is_above a b then b else a
+
+-- the least of these
+abbrev pub least_of : List Fraction → Fraction
+least_of [] = nothing
+least_of (d ∷ ds) = fold lesser d ds
+
+-- the least peak of all greens that fill the cycle
+abbrev pub least_peak : Network → NodeValue → Fraction
+least_peak net n = least_of (map (peak net n.number) (all_greens n.stages net.frame.step_count))
+
+-- the first of n numbers from e on that passes; the one behind them where none does
+abbrev pub first_from : (ℕ → Bool) → ℕ → ℕ → ℕ
+first_from test e zero = e
+first_from test e (suc n) = if test e then e else first_from test (e + 1) n
+
+-- the least green of the stage at a place at which none of its counted links is above v
+abbrev pub least_green : Network → NodeValue → Fraction → ℕ → ℕ
+least_green net n v k =
+    first_from (λ e. list_all (λ l. not (is_above (degree net.frame.step_count l e) v)) (counted_in net n.number (k + 1)))
+    (stage_of n.stages k).least (net.frame.step_count - (stage_of n.stages k).least)
+
+-- these greens, with so many steps more for the first
+abbrev pub first_more : ℕ → List ℕ → List ℕ
+first_more left greens = slice_set greens 0 (slice_index greens 0 + left)
+
+-- the least greens of the stages
+abbrev pub least_greens : Network → NodeValue → Fraction → List ℕ
+least_greens net n v = map (least_green net n v) (range_with_len 0 (length n.stages))
+
+-- the greens of the stages: the least, and what is left of the cycle for the first
+abbrev pub greens_at : Network → NodeValue → Fraction → List ℕ
+greens_at net n v =
+    first_more (net.frame.step_count - (sum (least_greens net n v) + lost n.stages)) (least_greens net n v)
+
+-- what the stage at a place needs: the least green at which each of its counted links is below v; 0 where v is 0
+abbrev pub need_at : Network → NodeValue → Fraction → ℕ → ℕ
+need_at net n v k =
+    if nat_eq v.top 0 then 0
+    else first_from (λ e. list_all (λ l. is_above v (degree net.frame.step_count l e)) (counted_in net n.number (k + 1)))
+    (stage_of n.stages k).least (net.frame.step_count - (stage_of n.stages k).least)
+
+-- the change of the stage at a place: that of the first stays, each other comes a length behind the one before
+abbrev pub change_at : ℕ → List Stage → List ℕ → ℕ → ℕ
+change_at steps stages greens zero = (stage_of stages 0).change
+change_at steps stages greens (suc k) =
+    (change_at steps stages greens k + slice_index greens k + (stage_of stages k).intergreen) % steps
+
+-- whether two fractions are equal
+abbrev pub is_same : Fraction → Fraction → Bool
+is_same a b = nat_eq (a.top * b.base) (b.top * a.base)
+
+-- the first counted link whose degree at its green is v; none where v is 0
+abbrev pub reaching : Network → NodeValue → Fraction → List ℕ → Option LinkValue
+reaching net n v greens =
+    if nat_eq v.top 0 then None
+    else find (λ l. is_same (degree net.frame.step_count l (green_of greens l)) v) (counted net n.number)
+
+-- the degree of a link that was found; 0 where none was
+abbrev pub degree_found : ℕ → List ℕ → Option LinkValue → Fraction
+degree_found steps greens None = nothing
+degree_found steps greens (Some l) = degree steps l (green_of greens l)
+
+-- the number of a link that was found; 0 where none was
+abbrev pub number_found : Option LinkValue → ℕ
+number_found None = 0
+number_found (Some l) = l.number
+
+-- the share of the stage at a place
+abbrev pub share_at : Network → NodeValue → Fraction → List ℕ → ℕ → Share
+share_at net n v greens k = record {
+  change = change_at net.frame.step_count n.stages greens k;
+  green = slice_index greens k;
+  need = need_at net n v k;
+}
+
+-- the answer for a peak and greens
+abbrev pub answer_of : Network → NodeValue → Fraction → List ℕ → GreensValue
+answer_of net n v greens = record {
+  top = (degree_found net.frame.step_count greens (reaching net n v greens)).top;
+  base = (degree_found net.frame.step_count greens (reaching net n v greens)).base;
+  link = number_found (reaching net n v greens);
+  stages = map (share_at net n v greens) (range_with_len 0 (length n.stages));
+}
+
+-- the answer for a peak
+abbrev pub balance_at : Network → NodeValue → Fraction → GreensValue
+balance_at net n v = answer_of net n v (greens_at net n v)
+
+-- the balance of the node at a place
+abbrev pub balance : Network → ℕ → GreensValue
+balance net p = balance_at net (node_of net p) (least_peak net (node_of net p))
+
+-- what stands at a place where there is no share
+abbrev pub no_share : Share
+no_share = record { change = 0; green = 0; need = 0 }
+
+-- the stages at the changes of these shares
+abbrev pub timed : List Stage → List Share → List Stage
+timed stages shares =
+    map (λ k. record (stage_of stages k) { change = (slice_index_or shares k no_share).change }) (range_with_len 0 (length stages))
+
+-- the peak that an answer tells
+abbrev pub peak_told : GreensValue → Fraction
+peak_told g = record { top = g.top; base = g.base }
+
+-- what the answer for a node is worth: its plan is allowed and has the greens and the peak told, no allowed plan of
+-- the node has a lower peak, and a lower one would need more steps than there are
+pub record IsBalanced (net : Network) (n : NodeValue) (g : GreensValue) : Type 0 where
+  pub allowed : IsPlanOf net.frame.step_count n.stages (timed n.stages g.stages)
+  pub greens : greens_of net.frame.step_count (timed n.stages g.stages) ≡ map (λ h. h.green) g.stages
+  pub attained : IsSame (peak_told g) (peak net n.number (greens_of net.frame.step_count (timed n.stages g.stages)))
+  pub least : (plan : List Stage) → IsPlanOf net.frame.step_count n.stages plan
+      → AtMost (peak_told g) (peak net n.number (greens_of net.frame.step_count plan))
+  pub certificate : 0 < g.top → net.frame.step_count < sum (map (λ h. h.need) g.stages) + lost n.stages

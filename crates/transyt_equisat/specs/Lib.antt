@@ -1,0 +1,7 @@
+pub mod Fractions
+pub mod Degrees
+pub mod Demands
+pub mod Peaks
+pub mod Sharing
+pub mod Answer
+pub mod Balance

@@ -1,0 +1,98 @@
+//! What a stage's counted links ask of its green.
+
+ghost use Rattle.std.specs.Prelude.{◌≡◌, ℕ, ◌+◌, ◌*◌, ◌<◌, ◌≤◌, ◌^◌, length, map, All, IfOk, if◌then◌else◌, slice_index_or};
+ghost use Rattle.std.specs.List.{range_with_len};
+ghost use Rattle.transyt_net.specs.Parts.{link_of};
+ghost use Rattle.transyt_equisat.specs.Degrees.{counts_in};
+ghost use Rattle.transyt_equisat.specs.Demands.{degree_of, demand_of, heavier, heavier_of, demand_in, demands_of, IsDemand, no_demand};
+
+use crate::fraction::Fraction;
+use std::alloc::{AllocError, Global};
+use transyt_net::{Link, Net};
+
+/// The flow and the saturation flow of a link, in vehicles per hour.
+#[derive(Clone, Copy)]
+pub struct Demand {
+    pub flow: u32,
+    pub saturation: u32,
+}
+
+/// The degree of a demand at a green, in a cycle of `steps` steps.
+pub fn degree_of(steps: u32, demand: Demand, green: u32) -> Fraction
+    requires steps { steps ≤ 120 }
+    requires demand { IsDemand demand }
+    requires green { green ≤ 120 }
+    ensures value { result ≡ degree_of steps demand green }
+    ensures top { result.top < 2 ^ 32 }
+    ensures base { result.base < 2 ^ 32 }
+{
+    Fraction {
+        top: u64::from(demand.flow) * u64::from(steps),
+        base: u64::from(demand.saturation) * u64::from(green),
+    }
+}
+
+/// Whether a link counts in this stage of this node: it runs there, and in no other stage.
+pub fn counts_in(link: &Link, number: u32, stage: u32) -> bool
+    ensures { result ≡ counts_in number stage link.now }
+{
+    link.node == number && link.stages.len() == 1 && link.stages[0] == stage
+}
+
+/// Whether `a` asks for more green than `b`.
+fn heavier(a: Demand, b: Demand) -> bool
+    ensures { result ≡ heavier a b }
+{
+    u64::from(b.flow) * u64::from(a.saturation) < u64::from(a.flow) * u64::from(b.saturation)
+}
+
+/// The demand of the link at a place, where it counts in the stage and asks for more; else `so_far`.
+fn heavier_of(net: &Net, place: usize, number: u32, stage: u32, so_far: Demand) -> Demand
+    requires place { place < length net.now.links }
+    requires demand { IsDemand so_far }
+    ensures value { result ≡ heavier_of number stage so_far (link_of net.now place) }
+    ensures demand { IsDemand result }
+{
+    let link = &net.links()[place];
+    let demand = Demand {
+        flow: net.total_flow(place),
+        saturation: link.saturation,
+    };
+    if counts_in(link, number, stage) && heavier(demand, so_far) {
+        return demand;
+    }
+    so_far
+}
+
+/// The demand of the link that asks most of a stage, of those that count in it.
+fn demand_in(net: &Net, number: u32, stage: u32) -> Demand
+    ensures value { result ≡ demand_in net.now number stage }
+    ensures demand { IsDemand result }
+{
+    let mut demand = Demand {
+        flow: 0,
+        saturation: 1,
+    };
+    for place in 0..net.links().len() {
+        demand = heavier_of(net, place, number, stage, demand);
+    }
+    demand
+}
+
+/// The demands of the first `count` stages of a node.
+pub fn demands_of(
+    alloc: Global,
+    net: &Net,
+    number: u32,
+    count: usize,
+) -> Result<Vec<Demand>, AllocError>
+    requires { count ≤ 8 }
+    ensures value { IfOk result (λ demands. demands.items ≡ demands_of net.now number count) }
+    ensures demand { IfOk result (λ demands. All (λ d. IsDemand d) demands.items) }
+{
+    let mut demands = Vec::with_capacity(alloc, count)?;
+    for place in 0..count {
+        demands.push(demand_in(net, number, place as u32 + 1))?;
+    }
+    Ok(demands)
+}

@@ -1,0 +1,19 @@
+//! Stage lengths of equal saturation: the plan of a node whose greatest degree of saturation is least.
+//!
+//! A contract sees the answer as the record `GreensValue` of `specs/Balance`. Cite first: `degree` of
+//! `specs/Degrees` for the degree of a link at a green, `peak` of `specs/Peaks` for that of a plan,
+//! `IsPlanOf` there for the plans that are meant, and `balance` of `specs/Balance` for the whole
+//! answer. Everything here is this project's own.
+#![tactic(auto)]
+
+mod balancing;
+mod demand;
+mod fraction;
+mod greens;
+mod sharing;
+
+pub use balancing::balance;
+pub use greens::{Greens, Share};
+
+#[cfg(test)]
+mod tests;

@@ -1,0 +1,4 @@
+-- The definitions of the crate.
+pub mod Answer
+pub mod Texts
+pub mod Whole

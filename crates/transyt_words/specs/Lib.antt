@@ -1,0 +1,3 @@
+pub mod AfterDeck
+pub mod Counts
+pub mod Equisat
