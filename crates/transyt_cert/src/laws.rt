@@ -12,12 +12,7 @@ ghost use Rattle.transyt_cert.specs.Certificate.{place_text, last_text};
 
 /// A certificate's text reads back: its lines are its texts, and the words of these are those that were put. It is the
 /// text of each place's line, in the order of the list, and then that of the last line.
-#[tactic(auto, using(
-    crate::proofs::CertificateLaws::lines_certificate,
-    crate::proofs::CertificateLaws::words_move,
-    crate::proofs::CertificateLaws::words_end,
-    crate::proofs::CertificateLaws::text_by_place
-))]
+#[tactic(auto, using(crate::proofs::CertificateLaws::lines_certificate, crate::proofs::CertificateLaws::words_move, crate::proofs::CertificateLaws::words_end, crate::proofs::CertificateLaws::text_by_place))]
 pub fn certificate_reads_back()
     ensures lines { (net : Network) → lines (cert_text net) ≡ cert_texts net }
     ensures moves { (l : CertLine) → words (joined (move_words l)) ≡ move_words l }
@@ -28,12 +23,7 @@ pub fn certificate_reads_back()
 {}
 
 /// Lines of a certificate that was worked out apart.
-#[tactic(auto, using(
-    crate::proofs::Worked::line_of_offset,
-    crate::proofs::Worked::line_of_change,
-    crate::proofs::Worked::line_of_barred,
-    crate::proofs::Worked::line_of_end
-))]
+#[tactic(auto, using(crate::proofs::Worked::line_of_offset, crate::proofs::Worked::line_of_change, crate::proofs::Worked::line_of_barred, crate::proofs::Worked::line_of_end))]
 pub fn worked_lines()
     ensures offset { joined (move_words (new_line 14 (Edit.Offset 300 15) (Some 520471746)))
         ≡ codes "MOVE 14 OFFSET 300 15 INDEX 520471746" }

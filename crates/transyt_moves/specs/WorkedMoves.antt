@@ -11,8 +11,12 @@ abbrev pub junctions : List NodeValue
 junctions =
     record { number = 21; offset = 5; stages = new_stage 17 1 3 ∷ new_stage 8 2 4 ∷ new_stage 15 0 1 ∷ [] }
     ∷ record { number = 7; offset = 5; stages = new_stage 5 3 2 ∷ new_stage 16 1 5 ∷ [] }
-    ∷ record { number = 300; offset = 11; stages = new_stage 3 1 2 ∷ new_stage 7 2 3 ∷ new_stage 12 0 1
-        ∷ new_stage 14 3 4 ∷ [] }
+    ∷ record {
+      number = 300;
+      offset = 11;
+      stages = new_stage 3 1 2 ∷ new_stage 7 2 3 ∷ new_stage 12 0 1
+          ∷ new_stage 14 3 4 ∷ [];
+    }
     ∷ []
 
 -- a network of them without a link, in a cycle of 18 steps
