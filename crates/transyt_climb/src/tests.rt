@@ -156,7 +156,7 @@ fn climbs_of(
 }
 
 /// A climb that went as wanted.
-fn outcome(looked: u32, work: u64, index: u128) -> Outcome {
+fn went(looked: u32, work: u64, index: u128) -> Outcome {
     Outcome {
         as_wanted: true,
         looked,
@@ -176,35 +176,35 @@ fn climbs_go_step_by_step(rt: HostRuntime) {
             5,
             &[Turn::Budget] as &[Turn],
             &[Turn::Budget] as &[Turn],
-            (outcome(1, 1, 1948618), outcome(1, 2, 1948618)),
+            (went(1, 1, 1948618), went(1, 2, 1948618)),
         ),
         (
             5,
             5,
             &[Turn::Budget],
             &[Turn::Budget],
-            (outcome(5, 2, 1948618), outcome(5, 4, 1948618)),
+            (went(5, 2, 1948618), went(5, 4, 1948618)),
         ),
         (
             6,
             5,
             &[Turn::Local],
             &[Turn::Local],
-            (outcome(6, 2, 1948618), outcome(6, 4, 1948618)),
+            (went(6, 2, 1948618), went(6, 4, 1948618)),
         ),
         (
             4,
             1,
             &[lower, Turn::Budget],
             &[lowest, Turn::Budget],
-            (outcome(4, 4, 1352922), outcome(4, 8, 889826)),
+            (went(4, 4, 1352922), went(4, 8, 889826)),
         ),
         (
             100,
             1,
             &[lower, lowest, Turn::Local],
             &[Turn::Local],
-            (outcome(11, 9, 889826), outcome(6, 13, 889826)),
+            (went(11, 9, 889826), went(6, 13, 889826)),
         ),
     ] {
         let net = one_link(rt.alloc(), budget, size);
@@ -219,7 +219,7 @@ fn climbs_go_step_by_step(rt: HostRuntime) {
 #[test]
 fn an_empty_list_is_local_at_once(rt: HostRuntime) {
     let ends = [Turn::Local];
-    let want = (outcome(0, 0, 0), outcome(0, 0, 0));
+    let want = (went(0, 0, 0), went(0, 0, 0));
     assert_eq!(rt;
         climbs_of(rt.alloc(), nothing(rt.alloc()), &ends, &ends),
         Some(want)

@@ -146,7 +146,7 @@ fn climb_with<R: Threads + Sync, L: Ledger>(
 #[test]
 fn a_climb_is_the_same_for_every_number_of_desks(rt: HostRuntime) {
     for (junctions, budget, sizes) in [
-        (1, 100, &[1] as &[u32]),
+        (1, 100, &[1_u32] as &[u32]),
         (1, 4, &[1]),
         (1, 6, &[5]),
         (2, 3, &[4, 1, 7]),
