@@ -4,7 +4,7 @@ use Rattle.std.proofs.Common.{refl, sym, ◌∙◌, ap, subst, arith, append_ass
 use Rattle.std.proofs.lemmas.List.{append-nil}
 use Rattle.transyt_io.specs.Lines.{lines, whole}
 use Rattle.transyt_io.specs.Model.{Reading}
-use Rattle.transyt_io.specs.Reading.{Stands}
+use Rattle.transyt_io.specs.Reading.{HasRead}
 use Rattle.transyt_io.specs.Streams.{IsAtEnd}
 use Rattle.transyt.specs.Turns.{answers_after, costs_after, unless_ended, or_else}
 use Rattle.transyt.specs.Runs.{Answering, answers_by, ending_by, costs_by, IsFront, EndsRun, Finished, CutOff, IsPart}
@@ -16,7 +16,7 @@ use Rattle.transyt.proofs.MoreBytes.{whole_then}
 
 module _ {by : Answering} {before : List (List ℕ)} {out : List ℕ} {steps steps_old : ℕ}
     (so : SoFar by before out steps steps_old) {reading : Reading} {left : Option (List ℕ)} {taken : List ℕ}
-    (line : List ℕ) (stands : Stands reading left taken (before ++ line ∷ [])) where
+    (line : List ℕ) (stands : HasRead reading left taken (before ++ line ∷ [])) where
   -- the line ended the run
   pub finished_line : {refused : Bool} → by.ends before line ≡ Some refused → length taken ≤ 4194304
       → Finished by left taken (out ++ by.text before line) refused

@@ -7,7 +7,7 @@ use Rattle.transyt_io.specs.declared.reader.Line.{Line}
 use Rattle.transyt_io.specs.declared.reader.ReadStop.{ReadStop}
 use Rattle.transyt_io.specs.Lines.{lines, whole, lines_by}
 use Rattle.transyt_io.specs.Model.{Reading}
-use Rattle.transyt_io.specs.Reading.{Stands, Took}
+use Rattle.transyt_io.specs.Reading.{HasRead, ReadsLine}
 use Rattle.transyt_io.specs.Streams.{IsAtEnd}
 use Rattle.transyt.specs.Turns.{answers_after, ending_after, costs_after, unless_ended, first_of, unless_over}
 use Rattle.transyt.specs.Runs.{Answering, answers_by, ending_by, costs_by, IsFront, IsWritten}
@@ -72,7 +72,7 @@ module _ {by : Answering} {before : List (List ℕ)} {out : List ℕ} {steps ste
   }
 
 module _ {reading : Reading} {left : Option (List ℕ)} {taken : List ℕ} {given : List (List ℕ)}
-    (stands : Stands reading left taken given) where
+    (stands : HasRead reading left taken given) where
   given_by : (keep : Bool) → (reading.ended ≡ true → keep ≡ true)
       → lines_by keep taken ≡ given ++ lines_by keep (reading.held ++ [])
   given_by keep h = ap (lines_by keep) (sym (append-nil taken)) ∙ stands.to_come keep [] (λ e. (h e, refl))
@@ -130,8 +130,8 @@ module _ {by : Answering} {before : List (List ℕ)} {out : List ℕ} {steps ste
     (so : SoFar by before out steps steps_new) where
   -- what was taken before the last read of a call of `next` is answered before the call
   pub written_next : {old new : Reading} {left left_new : Option (List ℕ)} {last last_new : Option ℕ}
-      {result : Result Line ReadStop} {taken : List ℕ} (p : Took old new left left_new last last_new result)
-      → Stands old left taken before → IsWritten by last taken out
+      {result : Result Line ReadStop} {taken : List ℕ} (p : ReadsLine old new left left_new last last_new result)
+      → HasRead old left taken before → IsWritten by last taken out
       → IsWritten by last_new (taken ++ (p.front ++ p.back)) out
   written_next {last_new = last_new} {taken = taken} p stands written = elim p.reads [
     | inl h ↦

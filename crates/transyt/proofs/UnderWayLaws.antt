@@ -4,13 +4,14 @@ use Rattle.std.proofs.Common.{None, Some, Result, Ok, Err, length, take, refl, s
 use Rattle.std.proofs.Common.{length-append}
 use Rattle.std.specs.Prelude.{drop}
 use Rattle.std.proofs.lemmas.List.{take-append-drop}
+use Rattle.transyt_io.proofs.Reading.{new_has_read}
 use Rattle.transyt_io.specs.declared.reader.Line.{Line}
 use Rattle.transyt_io.specs.declared.reader.Line.TheVariants.{Text, End}
 use Rattle.transyt_io.specs.declared.reader.ReadStop.{ReadStop}
 use Rattle.transyt_io.specs.declared.reader.ReadStop.TheVariants.{Fault, TooLong as Long}
 use Rattle.transyt_io.specs.Lines.{whole}
 use Rattle.transyt_io.specs.Model.{Reading}
-use Rattle.transyt_io.specs.Reading.{Stands, Took, HandedOut, AnswerSays, StopSays, new_reading}
+use Rattle.transyt_io.specs.Reading.{HasRead, ReadsLine, HandedOut, AnswerSays, StopSays, new_reading}
 use Rattle.transyt_io.specs.Streams.{Takes, Adds, AddsFront}
 use Rattle.transyt_io.proofs.Told.{takes_nothing, takes_both, adds_nothing, adds_both}
 use Rattle.transyt.specs.declared.answerer.Stop.{Stop}
@@ -25,28 +26,19 @@ use Rattle.transyt.proofs.SoFar.{so_far_none, so_far_on, all_texts, all_costs, w
 use Rattle.transyt.proofs.LastLine.{finished_line, steps_line, part_of_line, steps_of_line, finished_end, part_of_end}
 use Rattle.transyt.proofs.LastLine.{cut_off, steps_cut}
 
--- a reader that has taken nothing
-stands_new : (left : Option (List ℕ)) → Stands new_reading left [] []
-stands_new left = record {
-  count = refl;
-  to_come = λ keep ys _. refl;
-  at_end = λ h. absurd (cc);
-  few = omega arith;
-}
-
 -- a run that has taken nothing
 pub under_way_new : (by : Answering) {heard : List (List ℕ) → Type 0} {count : ℕ} {reading : Reading}
     {left : Option (List ℕ)} {last : Option ℕ} {written : Option (List ℕ)} {steps : ℕ}
     → heard [] → count ≡ 0 → reading ≡ new_reading
     → UnderWay by heard count reading left left last written written steps steps
 under_way_new by {left = left} {last = last} hears none fresh =
-    let P : Reading → Type 0 = λ r. Stands r left [] [] in
+    let P : Reading → Type 0 = λ r. HasRead r left [] [] in
     record {
       taken = [];
       before = [];
       out = [];
       takes = takes_nothing _;
-      stands = subst P (sym fresh) (stands_new left);
+      has_read = subst P (sym fresh) (new_has_read left);
       live = ap (λ (r : Reading). r.live) fresh;
       most = omega arith;
       adds = adds_nothing _;
@@ -62,33 +54,33 @@ module _ {by : Answering} {heard : List (List ℕ) → Type 0} {count : ℕ} {ol
     (way : UnderWay by heard count old left left_old last_old written written_old steps steps_old)
     {new : Reading} {left_new : Option (List ℕ)} {last_new : Option ℕ} where
   -- all bytes taken, with those of one more call of `next`
-  abbrev pub taken_by : {result : Result Line ReadStop} → Took old new left_old left_new last_old last_new result
+  abbrev pub taken_by : {result : Result Line ReadStop} → ReadsLine old new left_old left_new last_old last_new result
       → List ℕ
   taken_by p = way.taken ++ (p.front ++ p.back)
 
-  takes_all : {result : Result Line ReadStop} (p : Took old new left_old left_new last_old last_new result)
+  takes_all : {result : Result Line ReadStop} (p : ReadsLine old new left_old left_new last_old last_new result)
       → Takes left left_new (taken_by p)
   takes_all p = takes_both _ _ _ way.taken (p.front ++ p.back) way.takes p.takes
 
-  answered_all : {result : Result Line ReadStop} (p : Took old new left_old left_new last_old last_new result)
+  answered_all : {result : Result Line ReadStop} (p : ReadsLine old new left_old left_new last_old last_new result)
       → IsWritten by last_new (taken_by p) way.out
-  answered_all p = written_next way.so_far p way.stands way.answered
+  answered_all p = written_next way.so_far p way.has_read way.answered
 
   -- the line of this call
-  stands_with : (p : Took old new left_old left_new last_old last_new (Ok Text)) {line : List ℕ}
-      → new.line ≡ Some line → Stands new left_new (taken_by p) (way.before ++ line ∷ [])
+  stands_with : (p : ReadsLine old new left_old left_new last_old last_new (Ok Text)) {line : List ℕ}
+      → new.line ≡ Some line → HasRead new left_new (taken_by p) (way.before ++ line ∷ [])
   stands_with p {line} now =
-      let h : HandedOut new left_new (taken_by p) way.before = p.says way.taken way.before way.stands in
+      let h : HandedOut new left_new (taken_by p) way.before = p.says way.taken way.before way.has_read in
       let same : h.line ≡ line = let told : Some h.line ≡ Some line = sym h.now ∙ now in cc in
-      let P : List ℕ → Type 0 = λ l. Stands new left_new (taken_by p) (way.before ++ l ∷ []) in
-      subst P same h.stands
+      let P : List ℕ → Type 0 = λ l. HasRead new left_new (taken_by p) (way.before ++ l ∷ []) in
+      subst P same h.has_read
 
-  few_taken : (p : Took old new left_old left_new last_old last_new (Ok Text)) {line : List ℕ}
+  few_taken : (p : ReadsLine old new left_old left_new last_old last_new (Ok Text)) {line : List ℕ}
       → new.line ≡ Some line → new.taken ≤ 4194304 → length (taken_by p) ≤ 4194304
   few_taken p now most = let read : new.taken ≡ length (taken_by p) = (stands_with p now).count in omega arith
 
   -- a run that ended with a status that is known
-  ran : {result : Result Line ReadStop} (p : Took old new left_old left_new last_old last_new result)
+  ran : {result : Result Line ReadStop} (p : ReadsLine old new left_old left_new last_old last_new result)
       (out : List ℕ) {written_new : Option (List ℕ)} {steps_new : ℕ} (known : Status) {status : Status}
       → status ≡ known → Adds written written_new out → Row by left_new last_new (taken_by p) out known
       → StepsRow by left_new (taken_by p) steps steps_new known
@@ -105,7 +97,7 @@ module _ {by : Answering} {heard : List (List ℕ) → Type 0} {count : ℕ} {ol
       })
 
   -- all is answered, and the run ends as a refusal or done
-  ran_finished : {result : Result Line ReadStop} (p : Took old new left_old left_new last_old last_new result)
+  ran_finished : {result : Result Line ReadStop} (p : ReadsLine old new left_old left_new last_old last_new result)
       (out : List ℕ) {written_new : Option (List ℕ)} {steps_new : ℕ} (refused : Bool) {status : Status}
       → status ≡ (if refused then DeckRefused else Done) → Adds written written_new out
       → Finished by left_new (taken_by p) out refused → StepsAll by left_new (taken_by p) steps steps_new
@@ -114,7 +106,7 @@ module _ {by : Answering} {heard : List (List ℕ) → Type 0} {count : ℕ} {ol
   ran_finished p out false is adds done sum = ran p out Done is adds done sum
 
   -- a line that doesn't end the run is answered
-  pub goes_on : (p : Took old new left_old left_new last_old last_new (Ok Text)) {line : List ℕ}
+  pub goes_on : (p : ReadsLine old new left_old left_new last_old last_new (Ok Text)) {line : List ℕ}
       {heard_new : List (List ℕ) → Type 0} {count_new : ℕ} {written_new : Option (List ℕ)} {steps_new : ℕ}
       → new.line ≡ Some line → new.live ≡ true → new.taken ≤ 4194304
       → AnsweredWhole by.text by.ends heard_new written_old written_new way.before line None
@@ -127,7 +119,7 @@ module _ {by : Answering} {heard : List (List ℕ) → Type 0} {count : ℕ} {ol
         before = way.before ++ line ∷ [];
         out = way.out ++ by.text way.before line;
         takes = takes_all p;
-        stands = stands_with p now;
+        has_read = stands_with p now;
         live = live;
         most = few_taken p now most;
         adds = adds_both _ _ _ way.out (by.text way.before line) way.adds told.adds;
@@ -138,7 +130,7 @@ module _ {by : Answering} {heard : List (List ℕ) → Type 0} {count : ℕ} {ol
       }
 
   -- a line that ends the run is answered
-  pub line_ends : (p : Took old new left_old left_new last_old last_new (Ok Text)) {line : List ℕ}
+  pub line_ends : (p : ReadsLine old new left_old left_new last_old last_new (Ok Text)) {line : List ℕ}
       {heard_new : List (List ℕ) → Type 0} {written_new : Option (List ℕ)} {steps_new : ℕ} {refused : Bool}
       {status : Status}
       → new.line ≡ Some line → new.taken ≤ 4194304
@@ -152,7 +144,7 @@ module _ {by : Answering} {heard : List (List ℕ) → Type 0} {count : ℕ} {ol
       (steps_line way.so_far line (stands_with p now) (sym told.turn_is) cost)
 
   -- the answer to a line stops
-  pub line_stops : (stop : Stop) (p : Took old new left_old left_new last_old last_new (Ok Text)) {line : List ℕ}
+  pub line_stops : (stop : Stop) (p : ReadsLine old new left_old left_new last_old last_new (Ok Text)) {line : List ℕ}
       {written_new : Option (List ℕ)} {steps_new : ℕ} {status : Status}
       → new.line ≡ Some line → AddsFront written_old written_new (by.text way.before line)
       → steps_new ≤ steps_old + by.cost way.before line
@@ -172,27 +164,27 @@ module _ {by : Answering} {heard : List (List ℕ) → Type 0} {count : ℕ} {ol
       (steps_of_line way.so_far line (stands_with p now) cost)
 
   -- the end is answered
-  pub end_closes : (p : Took old new left_old left_new last_old last_new (Ok End))
+  pub end_closes : (p : ReadsLine old new left_old left_new last_old last_new (Ok End))
       {written_new : Option (List ℕ)} {refused : Bool} {status : Status}
       → ClosedWhole by.closing by.refused written_old written_new way.before refused
       → status ≡ (if refused then DeckRefused else Done)
       → Ran by left left_new last_new written written_new steps steps_old status
   end_closes p {refused = refused} closed is =
       let text = by.closing way.before in
-      let says : AnswerSays new left_new (taken_by p) way.before End = p.says way.taken way.before way.stands in
+      let says : AnswerSays new left_new (taken_by p) way.before End = p.says way.taken way.before way.has_read in
       let P : Bool → Type 0 = λ r. Finished by left_new (taken_by p) (way.out ++ text) r in
       ran_finished p (way.out ++ text) refused is (adds_both _ _ _ way.out text way.adds closed.adds)
       (subst P (sym closed.result_is) (finished_end way.so_far left_new (taken_by p) says.0 says.1 says.2))
       (inl (says.1, all_costs way.so_far says.0))
 
   -- the answer to the end stops
-  pub end_stops : (stop : Stop) (p : Took old new left_old left_new last_old last_new (Ok End))
+  pub end_stops : (stop : Stop) (p : ReadsLine old new left_old left_new last_old last_new (Ok End))
       {written_new : Option (List ℕ)} {status : Status} → AddsFront written_old written_new (by.closing way.before)
       → (stop ≡ Memory → ⊥) → (stop ≡ Write → status ≡ WriteFault)
       → Ran by left left_new last_new written written_new steps steps_old status
   end_stops Memory p part never write = absurd (never refl)
   end_stops Write p part never write =
-      let says : AnswerSays new left_new (taken_by p) way.before End = p.says way.taken way.before way.stands in
+      let says : AnswerSays new left_new (taken_by p) way.before End = p.says way.taken way.before way.has_read in
       let sum = all_costs way.so_far says.0 in
       ran p (way.out ++ part.front) WriteFault (write refl)
       (adds_both _ _ _ way.out part.front way.adds part.adds) (
@@ -202,16 +194,16 @@ module _ {by : Answering} {heard : List (List ℕ) → Type 0} {count : ℕ} {ol
       (inr (says.1, omega (arith, sum)))
 
   -- the source stops
-  pub read_stops : (stop : ReadStop) (p : Took old new left_old left_new last_old last_new (Err stop))
+  pub read_stops : (stop : ReadStop) (p : ReadsLine old new left_old left_new last_old last_new (Err stop))
       {status : Status} → (stop ≡ Fault → status ≡ ReadFault) → (stop ≡ Long → status ≡ TooLong)
       → Ran by left left_new last_new written written_old steps steps_old status
   read_stops Fault p fault long =
-      let says : StopSays (taken_by p) way.before Fault = p.says way.taken way.before way.stands in
+      let says : StopSays (taken_by p) way.before Fault = p.says way.taken way.before way.has_read in
       let sum = all_costs way.so_far says.0 in
       ran p way.out ReadFault (fault refl) way.adds (cut_off way.so_far left_new (taken_by p) says.0)
       (omega (arith, sum))
   read_stops Long p fault long =
-      let says : StopSays (taken_by p) way.before Long = p.says way.taken way.before way.stands in
+      let says : StopSays (taken_by p) way.before Long = p.says way.taken way.before way.has_read in
       let first = take 4194304 (taken_by p) in
       let P : List ℕ → Type 0 = λ all. steps_old ≤ steps + costs_by by (whole all) in
       ran p way.out TooLong (long refl) way.adds

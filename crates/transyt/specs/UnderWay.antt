@@ -1,7 +1,7 @@
 -- How far a run over the lines of a source has come: the invariant of its loop. No public clause cites it.
 use Rattle.std.specs.Prelude.{◌≡◌, ◌≤◌, ℕ, ◌+◌, ◌++◌, true, List, Option, length}
 use Rattle.transyt_io.specs.Model.{Reading}
-use Rattle.transyt_io.specs.Reading.{Stands}
+use Rattle.transyt_io.specs.Reading.{HasRead}
 use Rattle.transyt_io.specs.Streams.{Takes, Adds}
 use Rattle.transyt.specs.Turns.{answers_after, ending_after, costs_after}
 use Rattle.transyt.specs.Runs.{Answering, answers_by, ending_by, costs_by, IsWritten}
@@ -25,7 +25,7 @@ pub record UnderWay (by : Answering) (heard : List (List ℕ) → Type 0) (count
   pub out : List ℕ
   -- the reader took the bytes, and handed out the lines
   pub takes : Takes left left_new taken
-  pub stands : Stands reading left_new taken before
+  pub has_read : HasRead reading left_new taken before
   pub live : reading.live ≡ true
   pub most : length taken ≤ 4194304
   -- the lines are answered by the bytes written, and so are all that were whole before the last read

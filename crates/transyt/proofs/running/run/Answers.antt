@@ -20,21 +20,21 @@ loop-found-init g c =
 -- the source failed, or has too many bytes
 pub returns-in-Err-clause-ran : goal.returns-in-Err-clause-ran
 returns-in-Err-clause-ran g c =
-    read_stops c.loop-found.invariant.way c.in-Err.stop c.in-Err.ensures.took
+    read_stops c.loop-found.invariant.way c.in-Err.stop c.in-Err.ensures.reads
     c.stopped_reading.ensures.fault c.stopped_reading.ensures.long
 
 -- the end of the source is answered
 pub returns-in-Ok-finish-clause-ran : goal.returns-in-Ok-finish-clause-ran
 returns-in-Ok-finish-clause-ran g c =
     let way = c.loop-found.invariant.way in
-    let end = rw c.in-End.is at c.in-Ok.ensures.took in
+    let end = rw c.in-End.is at c.in-Ok.ensures.reads in
     end_closes way end (c.in-Ok-finish.ensures.whole way.before way.hears) c.ended.ensures
 
 -- the answer to the end stopped
 pub returns-in-Err-finish-clause-ran : goal.returns-in-Err-finish-clause-ran
 returns-in-Err-finish-clause-ran g c =
     let way = c.loop-found.invariant.way in
-    let end = rw c.in-End.is at c.in-Ok.ensures.took in
+    let end = rw c.in-End.is at c.in-Ok.ensures.reads in
     end_stops way c.in-Err-finish.stop end (c.in-Err-finish.ensures.part way.before way.hears)
     (λ e. c.in-Err-finish.ensures.takes_none (ap Err e)) c.stopped.ensures.write
 
@@ -45,7 +45,7 @@ loop-found-preserved g c =
     let found = rw c.in_default.is at c.in-Ok.ensures in
     let told = rw c.in-Ok-None.field-0-is at c.in-Ok-None.ensures in
     record {
-      way = goes_on way found.took c.line.ensures found.live c.next.ensures.most
+      way = goes_on way found.reads c.line.ensures found.live c.next.ensures.most
           (told.whole way.before way.hears) (told.steps way.before way.hears) c.answer.ensures.count;
       source_later = search rules;
       sink_later = search rules;
@@ -58,7 +58,7 @@ returns-in-Ok-Some-clause-ran g c =
     let way = c.loop-found.invariant.way in
     let found = rw c.in_default.is at c.in-Ok.ensures in
     let told = rw c.in-Ok-Some.field-0-is at c.in-Ok-Some.ensures in
-    line_ends way found.took c.line.ensures c.next.ensures.most
+    line_ends way found.reads c.line.ensures c.next.ensures.most
     (told.whole way.before way.hears) (told.steps way.before way.hears) c.ended-in-Ok-Some.ensures
 
 -- the answer to a line stopped
@@ -68,7 +68,7 @@ returns-in-Err-answer-clause-ran g c =
     let found = rw c.in_default.is at c.in-Ok.ensures in
     let told = c.in-Err-answer.ensures in
     let stopped = c.stopped-in-Err-answer.ensures in
-    line_stops way c.in-Err-answer.stop found.took c.line.ensures (told.part way.before way.hears)
+    line_stops way c.in-Err-answer.stop found.reads c.line.ensures (told.part way.before way.hears)
     (told.some_steps way.before way.hears)
     (λ e. let silent = told.silent way.before way.hears (ap Err e) in (silent.0, ap g.K.Sink.written silent.1))
     stopped.write stopped.memory

@@ -1,6 +1,6 @@
 -- The run is under way, and no count fell.
 use Rattle.std.proofs.Common.{◌≤◌}
-use Rattle.transyt_io.specs.Reading.{turns_left}
+use Rattle.transyt_io.specs.Reading.{most_lines_left}
 use Rattle.transyt.specs.Runs.{answering}
 use Rattle.transyt.specs.UnderWay.{UnderWay}
 use Rattle.transyt.proofs.running.run.Given as goal
@@ -21,4 +21,4 @@ invariant-loop-found g l =
 
 -- fewer lines may still be handed out
 abbrev pub decreases-loop-found : goal.decreases-loop-found
-decreases-loop-found g l = turns_left l.reader
+decreases-loop-found g l = most_lines_left l.reader
