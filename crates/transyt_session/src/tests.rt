@@ -96,7 +96,7 @@ fn two_junctions(alloc: Global) -> Result<Option<Net>, DraftFault> {
 }
 
 /// What trying an edit finds, where no trial is open.
-fn tried<L: Ledger>(session: &mut Session, edit: Edit, steps: &mut Steps<L>) -> Said {
+fn try_without_trial<L: Ledger>(session: &mut Session, edit: Edit, steps: &mut Steps<L>) -> Said {
     if session.is_trial() {
         return Said::Open;
     }
@@ -107,7 +107,7 @@ fn tried<L: Ledger>(session: &mut Session, edit: Edit, steps: &mut Steps<L>) -> 
 }
 
 /// What a session answers to a call.
-fn said<L: Ledger>(session: &mut Session, call: Call, steps: &mut Steps<L>) -> Said
+fn answer<L: Ledger>(session: &mut Session, call: Call, steps: &mut Steps<L>) -> Said
     requires { session.old.work ≤ 2 ^ 62 }
 {
     match call {
@@ -115,7 +115,7 @@ fn said<L: Ledger>(session: &mut Session, call: Call, steps: &mut Steps<L>) -> S
             Reply::Done { work } => Said::Done(work),
             Reply::Refused(fault) => Said::Refused(fault),
         },
-        Call::Try(edit) => tried(session, edit, steps),
+        Call::Try(edit) => try_without_trial(session, edit, steps),
         Call::Trial => match session.trial() {
             Ok(()) => Said::Closed,
             Err(TrialOpen) => Said::Open,
@@ -154,7 +154,7 @@ fn first_wrong<L: Ledger>(
             return None;
         }
         number += 1;
-        if said(&mut session, *call, &mut steps) != *want {
+        if answer(&mut session, *call, &mut steps) != *want {
             return Some(number);
         }
     }
