@@ -1,7 +1,7 @@
 //! Decks with their answers, which were worked out apart: taken whole and by single bytes.
 ghost use Rattle.std.specs.Prelude.{◌≡◌, ◌<◌};
 
-use crate::{AfterDeck, CountsWord, DeckWord, EquisatWord};
+use crate::{AfterDeck, CountsWord, EquisatWord};
 use std::alloc::{AllocError, Global};
 use std::marker::Brand;
 use std::sync::ledger::{Blank, Ledger};
@@ -23,10 +23,17 @@ const BALANCED: &str =
 const EMPTY: &str =
     "CYCLE 60 10 1 60 100\nNODE 1 0\nSTAGE 0 1 2\nSTAGE 5 1 2\nLINK 1 1 0 1800 1 1 1\nEND";
 
+/// A word of this crate.
+#[derive(Clone, Copy, Drop)]
+enum Asked {
+    Counts,
+    Equisat,
+}
+
 /// Runs a word over a source, with a counter of its own.
-fn run_counted<W: DeckWord + Drop, L: Ledger>(
+fn run_counted<L: Ledger>(
     alloc: Global,
-    word: W,
+    asked: Asked,
     source: &mut MemorySource,
     sink: &mut MemorySink,
     blank: Blank,
@@ -36,17 +43,27 @@ fn run_counted<W: DeckWord + Drop, L: Ledger>(
     requires some { 0 < L.parts }
 {
     let mut steps = Steps::<L>::begin(blank);
-    answer_whole(alloc, &AfterDeck { word }, source, sink, &mut steps)
+    match asked {
+        Asked::Counts => answer_whole(
+            alloc,
+            &AfterDeck { word: CountsWord },
+            source,
+            sink,
+            &mut steps,
+        ),
+        Asked::Equisat => answer_whole(
+            alloc,
+            &AfterDeck { word: EquisatWord },
+            source,
+            sink,
+            &mut steps,
+        ),
+    }
 }
 
 /// Runs a word over a source.
-fn run<W: DeckWord + Drop>(
-    alloc: Global,
-    word: W,
-    source: &mut MemorySource,
-    sink: &mut MemorySink,
-) -> Status {
-    run_counted::<W, Brand>(alloc, word, source, sink, Blank::new(1))
+fn run(alloc: Global, asked: Asked, source: &mut MemorySource, sink: &mut MemorySink) -> Status {
+    run_counted::<Brand>(alloc, asked, source, sink, Blank::new(1))
 }
 
 /// A deck and the bytes after it.
@@ -92,7 +109,7 @@ fn turns_counts_into_commands(rt: HostRuntime) -> Result<(), Fail> {
         for piece in [1, 8192] {
             let mut source = MemorySource::new(joined(alloc, deck, more)?, piece, Vec::new(alloc));
             let mut sink = MemorySink::new(alloc, 4096, piece, Vec::new(alloc))?;
-            assert_eq!(rt; run(alloc, CountsWord, &mut source, &mut sink), status);
+            assert_eq!(rt; run(alloc, Asked::Counts, &mut source, &mut sink), status);
             assert_eq!(rt; sink.bytes(), wanted.as_bytes());
         }
     }
@@ -132,7 +149,7 @@ fn balances_each_node(rt: HostRuntime) -> Result<(), Fail> {
         for piece in [1, 8192] {
             let mut source = MemorySource::new(joined(alloc, deck, more)?, piece, Vec::new(alloc));
             let mut sink = MemorySink::new(alloc, 4096, piece, Vec::new(alloc))?;
-            assert_eq!(rt; run(alloc, EquisatWord, &mut source, &mut sink), status);
+            assert_eq!(rt; run(alloc, Asked::Equisat, &mut source, &mut sink), status);
             assert_eq!(rt; sink.bytes(), wanted.as_bytes());
         }
     }
