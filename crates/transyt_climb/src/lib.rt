@@ -23,6 +23,3 @@ pub use climbing::climb_on;
 pub use laws::{rule_of_local, rule_of_turns, rule_of_way, worked_turns};
 pub use transyt_moves::{move_at, move_count};
 pub use turn::Turn;
-
-#[cfg(test)]
-mod tests;

@@ -1,6 +1,0 @@
--- The counter's ledger is that of the blank.
-use Rattle.transyt_desks.proofs.tests.two_desks_are_at_work_at_once.Given as goal
-
--- the ledger of the call
-abbrev pub ghosts-two_rounds : goal.ghosts-two_rounds
-ghosts-two_rounds a = record { name = a.blank.name; parts = a.blank.parts }
