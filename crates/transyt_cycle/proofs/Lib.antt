@@ -1,1 +1,2 @@
 pub mod CycleLaws
+mod Worked

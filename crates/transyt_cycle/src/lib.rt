@@ -8,9 +8,11 @@
 
 mod before;
 mod difference;
+mod laws;
 
 pub use before::step_before;
 pub use difference::minus_mod;
+pub use laws::worked_differences;
 
 #[cfg(test)]
 mod tests;
