@@ -1,32 +1,35 @@
 -- A call of a draft has no fault exactly where the draft after it is sound.
 use Rattle.std.proofs.Common.{◌≡◌, ◌↔◌, ℕ, zero, suc, ◌<◌, ◌≤◌, true, false, not, ◌&&◌, ◌||◌, List, []}
 use Rattle.std.proofs.Common.{◌∷◌, ◌++◌, length, All, Option, None, Some, refl, sym, ap, subst, ◌∙◌, arith}
-use Rattle.std.proofs.Common.{nat_eq, nat_le, is_some, slice_get, get_or, set, length-append, if◌then◌else◌}
+use Rattle.std.proofs.Common.{nat_eq, nat_le, IsTrue, ◌-◌, is_some, slice_get, get_or, set, length-append, if◌then◌else◌}
 use Rattle.std.specs.List.{list_any, list_all}
 use Rattle.std.proofs.lemmas.Bool.{and_parts, and_from, or_parts, or_from, not-true, not_from_true, lt-leb}
 use Rattle.std.proofs.lemmas.Bool.Decides.{nat_tests}
 use Rattle.std.proofs.lemmas.List.{map-append}
 use Rattle.std.proofs.lemmas.List.Folds.{list_any-append}
-use Rattle.std.proofs.lemmas.List.Elements.{All-head, All-tail}
+use Rattle.std.proofs.lemmas.List.Elements.{All-head, All-tail, All-nil, All-weaker}
 use Rattle.std.proofs.lemmas.Grind.{get_or-set_at}
 use Rattle.transyt_parts.specs.declared.node.Stage.{Stage}
 use Rattle.transyt_parts.specs.declared.link.Feed.{Feed}
 use Rattle.transyt_parts.specs.declared.link.GiveWay.{GiveWay}
 use Rattle.transyt_net.specs.declared.draft.DraftFault.TheVariants.{Twice, Unknown, Range, TooMany}
-use Rattle.transyt_parts.specs.Parts.{NodeValue, LinkValue}
+use Rattle.transyt_parts.specs.declared.frame.Frame.{Frame}
+use Rattle.transyt_parts.specs.Parts.{NodeValue, LinkValue, PlanValue}
+use Rattle.transyt_parts.specs.Ranges.{is_in, IsWithin, budget_range, most_sizes}
 use Rattle.transyt_parts.specs.Valid.{within, all_differ, is_fed, feeders, link_number, node_number, IsNode, IsStage}
+use Rattle.transyt_parts.specs.Valid.{is_frame, IsFrame, IsPlan}
 use Rattle.transyt_parts.specs.Valid.{node_in_range, stage_in_range, link_in_range, feed_in_range}
 use Rattle.transyt_parts.specs.Made.{new_node, add_stage, add_feed, set_rule}
 use Rattle.transyt_net.specs.Parts.{Network, no_node}
 use Rattle.transyt_net.specs.Valid.{is_among, on_numbered, on_place, node_numbers, link_numbers, stages_at}
 use Rattle.transyt_net.specs.Valid.{stage_total, feeds_at, feeds_in, rule_at, IsSound, IsLink, IsFeed, IsRule}
 use Rattle.transyt_net.specs.Faults.{node_fault, with_node, last_place, stage_fault, with_stage, link_fault, with_link}
-use Rattle.transyt_net.specs.Faults.{are_links, feed_fault, with_feed, rule_fault, with_rule}
+use Rattle.transyt_net.specs.Faults.{are_links, feed_fault, with_feed, rule_fault, with_rule, climb_fault, with_plan, empty}
 use Rattle.transyt_net.specs.There.{HasLink}
 use Rattle.transyt_net.proofs.PlaceLaws.{eq_swapped, on_place_here, keys_kept}
 use Rattle.transyt_net.proofs.EditLaws.{all_numbered}
 use Rattle.transyt_net.proofs.FoundLaws.{among_there, there_among, some_numbered, numbered_after, fed_is, within_true}
-use Rattle.transyt_net.proofs.WriteLaws.{no_fault}
+use Rattle.transyt_net.proofs.WriteLaws.{no_fault, in_range, all_in_range}
 use Rattle.std.proofs.lemmas.Bool.{not-false}
 use Rattle.transyt_net.proofs.SoundNodes.{sound_node, sound_stage}
 use Rattle.transyt_net.proofs.SoundLinks.{sound_link, sound_feed, sound_rule}
@@ -217,3 +220,52 @@ rule_exactly net link r h = (
       )),
   (λ all. rule_free net link r all.0 all.1 all.2),
 )
+
+-- an empty draft
+pub frame_exactly : (f : Frame) → IsTrue (is_frame f) ↔ IsSound (empty f)
+frame_exactly f = (
+  (λ h.
+      let frame : IsFrame f = grind (arith, nat_tests) in
+      record {
+        frame = frame;
+        node_count = omega arith;
+        nodes_differ = refl;
+        nodes = All-nil (IsNode f.step_count);
+        link_count = omega arith;
+        links_differ = refl;
+        links = All-nil (IsLink f.step_count [] []);
+        plan = tt;
+      }),
+  (λ s. let frame : IsFrame f = s.frame in grind (arith, nat_tests)),
+)
+
+-- a climb plan
+pub plan_exactly : (net : Network) (p : PlanValue) → IsSound net → IsWithin 1 most_sizes (length p.sizes)
+    → climb_fault net p ≡ None ↔ IsSound (with_plan net p)
+plan_exactly net p h count =
+    let steps = net.frame.step_count in
+    let top = steps - 1 in (
+      (λ none.
+          let ranged = no_fault (not (is_in budget_range p.budget && list_all (within 1 top) p.sizes)) Range None none in
+          let both = and_parts (is_in budget_range p.budget) (list_all (within 1 top) p.sizes) (not-false _ ranged.0) in
+          let sizes : All (λ x. (1 ≤ x) × (x < steps)) p.sizes =
+          All-weaker (IsWithin 1 top) (λ x. (1 ≤ x) × (x < steps)) (λ x k. (k.0, omega (arith, k.0, k.1))) p.sizes
+          (all_in_range 1 top p.sizes both.1) in
+          record {
+            frame = h.frame;
+            node_count = h.node_count;
+            nodes_differ = h.nodes_differ;
+            nodes = h.nodes;
+            link_count = h.link_count;
+            links_differ = h.links_differ;
+            links = h.links;
+            plan = record { budget = in_range 1 1000000 p.budget both.0; size_count = count; sizes = sizes };
+          }),
+      (λ s.
+          let plan : IsPlan steps p = s.plan in
+          let sizes : All (IsWithin 1 top) p.sizes =
+          All-weaker (λ x. (1 ≤ x) × (x < steps)) (IsWithin 1 top) (λ x k. (k.0, omega (arith, k.0, k.1))) p.sizes plan.sizes in
+          let range : (is_in budget_range p.budget && list_all (within 1 top) p.sizes) ≡ true =
+          and_from _ _ (within_true 1 1000000 p.budget plan.budget) (all_within_true 1 top p.sizes sizes) in
+          (λ j. if not (range j) then Some Range else None)),
+    )

@@ -1,4 +1,5 @@
 pub mod Parts
+pub mod Refuses
 pub mod Valid
 pub mod Edits
 pub mod EditFaults

@@ -1,7 +1,8 @@
 //! A network that is being made.
 
-ghost use Rattle.std.specs.Prelude.{◌≡◌, ℕ, ◌-◌, ◌<◌, ◌≤◌, length, IfSome, IfNone, IfErr, IfOk, OnOk, OnErr, IsTrue, IsOk, IsErrOf, ◌↔◌};
+ghost use Rattle.std.specs.Prelude.{◌≡◌, ℕ, ◌-◌, ◌<◌, ◌≤◌, length, Some, None, IfErr, IfOk, OnOk, OnErr, IsTrue, IsOk, ◌↔◌};
 ghost use Rattle.transyt_net.specs.Valid.{IsValid};
+ghost use Rattle.transyt_net.specs.Refuses.{Refuses};
 ghost use Rattle.transyt_parts.specs.Valid.{is_frame};
 ghost use Rattle.transyt_parts.specs.Plan.{first_fault};
 ghost use Rattle.transyt_net.specs.Faults.{empty, node_fault, with_node, stage_fault, with_stage, link_fault, with_link, feed_fault, with_feed, rule_fault, with_rule, climb_fault, with_plan};
@@ -40,6 +41,7 @@ impl<T: Drop> From<AllocFailed<T>> for DraftFault {
 
     ghost from_gives = { λ _ fault. fault ≡ Memory };
 
+    /// Out of memory.
     fn from(_e: AllocFailed<T>) -> DraftFault {
         DraftFault::Memory
     }
@@ -50,6 +52,7 @@ impl From<AllocError> for DraftFault {
 
     ghost from_gives = { λ _ fault. fault ≡ Memory };
 
+    /// Out of memory.
     fn from(_e: AllocError) -> DraftFault {
         DraftFault::Memory
     }
@@ -113,9 +116,8 @@ impl Draft {
     ///
     /// Twice where a node has this number, Range, TooMany where there are 200 nodes, in this order.
     pub fn node(&mut self, number: u32, offset: u32) -> Result<(), DraftFault>
-        ensures fault { IfSome (node_fault self.old number offset) (λ fault. IsErrOf result fault) }
-        ensures memory { IfNone (node_fault self.old number offset)
-            (IfErr result (λ fault. fault ≡ DraftFault.Memory)) }
+        ensures refuses { Refuses result (node_fault self.old number offset)
+            (Some DraftFault.Memory) }
         ensures ok { OnOk result (self.new ≡ with_node self.old number offset) }
         ensures err { OnErr result (self.new ≡ self.old) }
     {
@@ -141,10 +143,8 @@ impl Draft {
     /// Range, or else TooMany where the node has 8 stages.
     pub fn stage(&mut self, change: u32, intergreen: u32, least: u32) -> Result<(), DraftFault>
         requires { 0 < length self.old.nodes }
-        ensures fault { IfSome (stage_fault self.old (new_stage change intergreen least))
-            (λ fault. IsErrOf result fault) }
-        ensures memory { IfNone (stage_fault self.old (new_stage change intergreen least))
-            (IfErr result (λ fault. fault ≡ DraftFault.Memory)) }
+        ensures refuses { Refuses result (stage_fault self.old (new_stage change intergreen least))
+            (Some DraftFault.Memory) }
         ensures ok { OnOk result (self.new ≡ with_stage self.old
             (new_stage change intergreen least)) }
         ensures err { OnErr result (self.new ≡ self.old) }
@@ -167,16 +167,14 @@ impl Draft {
     /// Adds a link, which has neither feeds nor a rule yet.
     ///
     /// Flows are in vehicles per hour, lags in steps, and `stages` are the stages of its node in
-    /// which it runs, each from 1. Twice where a link has this number or a stage stands twice; Unknown where there is
-    /// no such node, or it hasn't one of the stages; Range; TooMany where there are 1,000 links; in
-    /// this order.
+    /// which it runs, each from 1. Twice where a link has this number or a stage stands twice;
+    /// Unknown where there is no such node, or it hasn't one of the stages; Range; TooMany where
+    /// there are 1,000 links; in this order.
     pub fn link(&mut self, link: NewLink, stages: &[u32]) -> Result<(), DraftFault>
         requires some { 1 ≤ length stages.now }
         requires most { length stages.now ≤ 8 }
-        ensures fault { IfSome (link_fault self.old (link_from link stages.now))
-            (λ fault. IsErrOf result fault) }
-        ensures memory { IfNone (link_fault self.old (link_from link stages.now))
-            (IfErr result (λ fault. fault ≡ DraftFault.Memory)) }
+        ensures refuses { Refuses result (link_fault self.old (link_from link stages.now))
+            (Some DraftFault.Memory) }
         ensures ok { OnOk result (self.new ≡ with_link self.old (link_from link stages.now)) }
         ensures err { OnErr result (self.new ≡ self.old) }
     {
@@ -212,10 +210,8 @@ impl Draft {
     /// Twice where this feeder feeds the link already, Unknown where one of the two is no link,
     /// Range, TooMany where the link has 8 feeds, in this order.
     pub fn feed(&mut self, link: u32, feeder: u32, flow: u32, cruise: u32) -> Result<(), DraftFault>
-        ensures fault { IfSome (feed_fault self.old link (new_feed feeder flow cruise))
-            (λ fault. IsErrOf result fault) }
-        ensures memory { IfNone (feed_fault self.old link (new_feed feeder flow cruise))
-            (IfErr result (λ fault. fault ≡ DraftFault.Memory)) }
+        ensures refuses { Refuses result (feed_fault self.old link (new_feed feeder flow cruise))
+            (Some DraftFault.Memory) }
         ensures ok { OnOk result (self.new ≡ with_feed self.old link
             (new_feed feeder flow cruise)) }
         ensures err { OnErr result (self.new ≡ self.old) }
@@ -241,9 +237,7 @@ impl Draft {
     /// Twice where the link has a rule already, Unknown where one of the two is no link, Range
     /// where `percent` is above 400, in this order.
     pub fn give_way(&mut self, link: u32, other: u32, percent: u32) -> Result<(), DraftFault>
-        ensures fault { IfSome (rule_fault self.old link (new_rule other percent))
-            (λ fault. IsErrOf result fault) }
-        ensures free { IfNone (rule_fault self.old link (new_rule other percent)) (IsOk result) }
+        ensures refuses { Refuses result (rule_fault self.old link (new_rule other percent)) None }
         ensures ok { OnOk result (self.new ≡ with_rule self.old link (new_rule other percent)) }
         ensures err { OnErr result (self.new ≡ self.old) }
     {
@@ -266,10 +260,8 @@ impl Draft {
         requires unset { self.old.plan ≡ None }
         requires some { 1 ≤ length sizes.now }
         requires most { length sizes.now ≤ 16 }
-        ensures fault { IfSome (climb_fault self.old (new_plan budget sizes.now))
-            (λ fault. IsErrOf result fault) }
-        ensures memory { IfNone (climb_fault self.old (new_plan budget sizes.now))
-            (IfErr result (λ fault. fault ≡ DraftFault.Memory)) }
+        ensures refuses { Refuses result (climb_fault self.old (new_plan budget sizes.now))
+            (Some DraftFault.Memory) }
         ensures ok { OnOk result (self.new ≡ with_plan self.old (new_plan budget sizes.now)) }
         ensures err { OnErr result (self.new ≡ self.old) }
     {

@@ -1,10 +1,13 @@
 //! What the definitions of edits and of a draft's calls come to.
-ghost use Rattle.std.specs.Prelude.{◌≡◌, ◌↔◌, ◌<◌, ◌≤◌, ℕ, length, [], ◌∷◌, map, None, Some};
+ghost use Rattle.std.specs.Prelude.{◌≡◌, ◌↔◌, ◌<◌, ◌≤◌, ℕ, length, [], ◌∷◌, map, None, Some, IsTrue};
 ghost use Rattle.transyt_net.specs.declared.edit.Edit.{Edit};
 ghost use Rattle.transyt_net.specs.Parts.{Network};
 ghost use Rattle.transyt_net.specs.Valid.{rule_at, IsSound, IsValid};
-ghost use Rattle.transyt_net.specs.Faults.{node_fault, with_node, stage_fault, with_stage, link_fault, with_link, feed_fault, with_feed, rule_fault, with_rule};
-ghost use Rattle.transyt_parts.specs.Parts.{LinkValue};
+ghost use Rattle.transyt_net.specs.Faults.{node_fault, with_node, stage_fault, with_stage, link_fault, with_link, feed_fault, with_feed, rule_fault, with_rule, climb_fault, with_plan, empty};
+ghost use Rattle.transyt_parts.specs.Parts.{LinkValue, PlanValue};
+ghost use Rattle.transyt_parts.specs.Ranges.{IsWithin, most_sizes};
+ghost use Rattle.transyt_parts.specs.Valid.{is_frame};
+ghost use Rattle.transyt_parts.specs.declared.frame.Frame.{Frame};
 ghost use Rattle.transyt_parts.specs.declared.node.Stage.{Stage};
 ghost use Rattle.transyt_parts.specs.declared.link.Feed.{Feed};
 ghost use Rattle.transyt_parts.specs.declared.link.GiveWay.{GiveWay};
@@ -24,10 +27,12 @@ pub fn edits_are_judged()
         → edit_fault net e ≡ None ↔ IsThere net e × IsValid (with_edit net e) }
 {}
 
-/// A call of a sound draft has no fault exactly where the draft after it is sound; a feed and a rule
-/// where their link is there too, and the link has no rule yet.
-#[tactic(auto, using(crate::proofs::DraftLaws::node_exactly, crate::proofs::DraftLaws::stage_exactly, crate::proofs::DraftLaws::link_exactly, crate::proofs::DraftLaws::feed_exactly, crate::proofs::DraftLaws::rule_exactly))]
+/// A frame's numbers are in their ranges exactly where the empty draft with it is sound. A call of a
+/// sound draft has no fault exactly where the draft after it is sound; a feed and a rule where their
+/// link is there too, and the link has no rule yet.
+#[tactic(auto, using(crate::proofs::DraftLaws::frame_exactly, crate::proofs::DraftLaws::node_exactly, crate::proofs::DraftLaws::stage_exactly, crate::proofs::DraftLaws::link_exactly, crate::proofs::DraftLaws::feed_exactly, crate::proofs::DraftLaws::rule_exactly, crate::proofs::DraftLaws::plan_exactly))]
 pub fn drafts_are_judged()
+    ensures frame { (f : Frame) → IsTrue (is_frame f) ↔ IsSound (empty f) }
     ensures node { (d : Network) (number offset : ℕ) → IsSound d
         → node_fault d number offset ≡ None ↔ IsSound (with_node d number offset) }
     ensures stage { (d : Network) (s : Stage) → IsSound d → 0 < length d.nodes
@@ -40,6 +45,9 @@ pub fn drafts_are_judged()
     ensures rule { (d : Network) (link : ℕ) (r : GiveWay) → IsSound d
         → rule_fault d link r ≡ None
         ↔ HasLink d link × (rule_at d.links link ≡ None) × IsSound (with_rule d link r) }
+    ensures plan { (d : Network) (p : PlanValue) → IsSound d
+        → IsWithin 1 most_sizes (length p.sizes)
+        → climb_fault d p ≡ None ↔ IsSound (with_plan d p) }
 {}
 
 /// The worked values come out as they are written beside the definitions.

@@ -10,6 +10,7 @@ use crate::{Draft, DraftFault, Frame, Net, NewLink};
 use std::alloc::Global;
 use std::test::Fail;
 
+/// A frame of ten steps in 60 seconds.
 const FRAME: Frame = Frame {
     cycle: 60,
     step_count: 10,
@@ -19,6 +20,7 @@ const FRAME: Frame = Frame {
     dispersion: 35,
 };
 
+/// The first link of node 1.
 const FIRST: NewLink = NewLink {
     number: 1,
     node: 1,
@@ -30,6 +32,7 @@ const FIRST: NewLink = NewLink {
     end_lag: 0,
 };
 
+/// The second link of node 1, with lags and no entry flow.
 const SECOND: NewLink = NewLink {
     number: 2,
     entry: 0,

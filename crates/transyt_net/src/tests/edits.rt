@@ -15,6 +15,7 @@ fn is_undone_by(net: &mut Net, e: Edit, back: Edit) -> bool {
     net.judge(&e).is_none() && net.apply(e) == Ok(back) && net.apply(back) == Ok(e)
 }
 
+/// A stage with an intergreen of 1 and a least green of 2.
 fn stage(change: u32) -> Stage {
     Stage {
         change,
@@ -23,10 +24,12 @@ fn stage(change: u32) -> Stage {
     }
 }
 
+/// Sets the offset of a node.
 fn offset(node: u32, offset: u32) -> Edit {
     Edit::Offset { node, offset }
 }
 
+/// Sets the change of a stage of a node.
 fn change(node: u32, stage: u32, change: u32) -> Edit {
     Edit::Change {
         node,
@@ -35,14 +38,17 @@ fn change(node: u32, stage: u32, change: u32) -> Edit {
     }
 }
 
+/// Sets the entry flow of a link.
 fn entry(link: u32, flow: u32) -> Edit {
     Edit::Entry { link, flow }
 }
 
+/// Sets the flow of a feed.
 fn part(link: u32, feeder: u32, flow: u32) -> Edit {
     Edit::Part { link, feeder, flow }
 }
 
+/// Sets the cruise time of a feed.
 fn cruise(link: u32, feeder: u32, seconds: u32) -> Edit {
     Edit::Cruise {
         link,
@@ -51,10 +57,12 @@ fn cruise(link: u32, feeder: u32, seconds: u32) -> Edit {
     }
 }
 
+/// Sets the saturation flow of a link.
 fn saturation(link: u32, flow: u32) -> Edit {
     Edit::Saturation { link, flow }
 }
 
+/// Sets the weights of a link.
 fn weight(link: u32, delay: u32, stop: u32) -> Edit {
     Edit::Weight { link, delay, stop }
 }
