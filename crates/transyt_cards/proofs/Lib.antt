@@ -1,3 +1,1 @@
-mod CardTexts
-mod DeckParts
-mod Printing
+mod CardLines

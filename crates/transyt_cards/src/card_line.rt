@@ -1,43 +1,39 @@
-//! The line of one card.
-ghost use Rattle.std.specs.Prelude.{◌≡◌, ◌≤◌, ◌+◌, ◌*◌, ◌++◌, ◌∷◌, [], length, OnOk, OnErr};
-ghost use Rattle.transyt_io.specs.Streams.{Adds, AddsFront, CountsFault};
-ghost use Rattle.transyt_deck.specs.Cards.{numbers_text};
+//! The line of a card that ends in a list of numbers.
+ghost use Rattle.std.specs.Prelude.{◌≡◌, ◌≤◌, ◌+◌, ◌*◌, ◌++◌, length};
+ghost use Rattle.transyt_text.specs.Forms.{values_text, values_line};
+ghost use Rattle.transyt_text.specs.Prints.{Prints};
 
 use transyt_io::{Failed, LineBuffer, Sink, write_line};
+use transyt_text::put_form;
 
-/// Puts a blank and the decimal text of each number after what the line holds.
-fn put_numbers(numbers: &[u32], line: &mut LineBuffer)
-    requires { length line.old + 40 * length numbers.now ≤ 4000 }
-    ensures text { line.new ≡ line.old ++ numbers_text numbers.now }
-    ensures room { length line.new ≤ length line.old + 40 * length numbers.now }
+/// Puts a blank and the shortest decimal text of each number after what the line holds.
+fn put_list(list: &[u32], line: &mut LineBuffer)
+    requires { length line.old + 40 * length list.now ≤ 4000 }
+    ensures text { line.new ≡ line.old ++ values_text list.now }
+    ensures room { length line.new ≤ length line.old + 40 * length list.now }
 {
-    for number in numbers {
+    for number in list {
         line.put(b" ");
         line.put_value(u128::from(*number));
     }
 }
 
-/// Writes the line of one card: its keyword, a blank before each number, and a line end. The numbers are those
-/// of `first` and then those of `further`.
-pub(crate) fn print_card<K: Sink>(
-    keyword: &[u8],
-    first: &[u32],
-    further: &[u32],
+/// Writes the line of a form with its numbers, and a blank and each number of a list after it.
+#[tactic(auto, unfolding(transyt_text::specs::Forms::values_line))]
+pub(crate) fn print_list<K: Sink>(
+    form: &[u8],
+    numbers: &[u128],
+    list: &[u32],
     line: &mut LineBuffer,
     sink: &mut K,
 ) -> Result<(), Failed>
-    requires short { length keyword.now ≤ 5 }
-    requires few { length first.now + length further.now ≤ 17 }
-    ensures ok { OnOk result (Adds (K.written sink.old) (K.written sink.new)
-        (keyword.now ++ numbers_text (first.now ++ further.now) ++ 10 ∷ [])) }
-    ensures err { OnErr result (AddsFront (K.written sink.old) (K.written sink.new)
-        (keyword.now ++ numbers_text (first.now ++ further.now) ++ 10 ∷ [])) }
-    ensures cause { CountsFault (K.faults sink.old) (K.faults sink.new) result }
+    requires { length form.now + 39 * length numbers.now + 40 * length list.now ≤ 4000 }
+    ensures { Prints (K.written sink.old) (K.written sink.new) (K.faults sink.old)
+        (K.faults sink.new) result (values_line form.now numbers.now list.now) }
 {
     line.clear();
-    line.put(keyword);
-    put_numbers(first, line);
-    put_numbers(further, line);
+    put_form(form, numbers, line);
+    put_list(list, line);
     line.put(b"\n");
     write_line(line, sink)
 }

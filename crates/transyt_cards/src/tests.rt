@@ -5,7 +5,7 @@ use std::test::Fail;
 use transyt_io::{LineBuffer, MemorySink};
 use transyt_net::Net;
 
-// What a sink holds after `print_deck` where its calls of these numbers fail, and whether the answer was Ok.
+/// What a sink holds after `print_deck` where its calls of these numbers fail, and whether the answer was Ok.
 fn printed(alloc: Global, net: &Net, fail: Vec<u32>) -> Result<(Vec<u8>, bool), AllocError> {
     let mut line = LineBuffer::open(alloc)?;
     let mut sink = MemorySink::new(alloc, 4096, 4096, fail)?;
@@ -15,6 +15,7 @@ fn printed(alloc: Global, net: &Net, fail: Vec<u32>) -> Result<(Vec<u8>, bool), 
     Ok((text, answer.is_ok()))
 }
 
+/// One link in form 1.
 const ONE_LINK: &[u8] = b"CYCLE 60 10 1 60 100
 NODE 1 4
 STAGE 0 1 2
@@ -23,6 +24,7 @@ LINK 1 1 360 1800 1 1 1
 END
 ";
 
+/// The deck text of `ONE_LINK`.
 const ONE_LINK_TEXT: &[u8] = b"FORM 2
 CYCLE 60 10 1 60 100 35
 NODE 1 4
@@ -32,7 +34,7 @@ LINK 1 1 360 1800 1 1 0 0 1
 END
 ";
 
-// Three junctions, no number of which is neutral, with their FEED and YIELD cards mixed.
+/// Three junctions, no number of which is neutral, with their FEED and YIELD cards mixed.
 const EVERY_CARD: &[u8] = b"* three junctions
 FORM 2
 CYCLE 90 18 3 45 37 40
@@ -70,6 +72,7 @@ STEPS 250 4 1 7
 END
 ";
 
+/// The deck text of `EVERY_CARD`.
 const EVERY_CARD_TEXT: &[u8] = b"FORM 2
 CYCLE 90 18 3 45 37 40
 NODE 21 4
@@ -106,6 +109,7 @@ STEPS 250 4 1 7
 END
 ";
 
+/// A node with its four links and a climb plan: its own deck text.
 const TOWN: &[u8] = b"FORM 2
 CYCLE 100 50 3 60 100 35
 NODE 1 38

@@ -1,6 +1,6 @@
 -- The lists of a card that is read, and the deck after a line.
 use Rattle.std.proofs.Common.{◌≡◌, ℕ, zero, suc, ◌+◌, List, [], ◌∷◌, ◌++◌, length, Bool, true, Option, Some, None, Result, Ok, Err}
-use Rattle.std.proofs.Common.{refl, sym, subst, ap, false, not, is_some, IsOk, IfOk, IfSome, IfNone, IsErrOf}
+use Rattle.std.proofs.Common.{refl, sym, subst, ap, false, not, is_some, IsOk, IfOk, IfSome}
 use Rattle.std.specs.List.{fold}
 use Rattle.std.proofs.lemmas.List.Sums.{fold-append}
 use Rattle.std.specs.Option.{option_map}
@@ -8,6 +8,7 @@ use Rattle.transyt_io.specs.Lines.{after_first_line}
 use Rattle.transyt_syntax.specs.declared.code.Code.{Code}
 use Rattle.transyt_syntax.specs.Syntax.{is_count}
 use Rattle.transyt_net.specs.Parts.{Network}
+use Rattle.transyt_net.specs.Refuses.{Refuses}
 use Rattle.transyt_net.specs.declared.draft.DraftFault.{DraftFault}
 use Rattle.transyt_net.specs.declared.draft.DraftFault.TheVariants.{Twice, Unknown, Range, TooMany, Memory}
 use Rattle.transyt_deck.specs.declared.state.Stop.{Stop}
@@ -33,8 +34,8 @@ can_add (Ok x) (Some f) n m b said counted lists same =
     let count : is_count f.0 n ≡ true = subst (λ k. is_count f.0 k ≡ true) (sym (same counted.1)) counted.0 in
     subst (λ o. IfSome o CanAdd) (sym said) (lists count)
 
-error_of : (T : Type 0) (a b : DraftFault) → IsErrOf {T = T} (Err a) b → b ≡ a
-error_of T a b h = cc
+some_of : (a b : DraftFault) → Some a ≡ Some b → a ≡ b
+some_of a b h = cc
 
 by_fault : (T : Type 0) (first : DraftFault) (to : Part) (net : Network) (old new : Part × Network) → new ≡ old
     → Adds {T = T} (placed true (Some first) to net) old new (stopped (Err first))
@@ -45,23 +46,24 @@ by_fault T TooMany to net old new same = (refl, same)
 by_fault T Memory to net old new same = (refl, same)
 
 by_first : (T : Type 0) (first : Option DraftFault) (to : Part) (net : Network) (old new : Part × Network)
-    (fault : DraftFault) → IfSome first (λ f. IsErrOf {T = T} (Err fault) f) → IfNone first (fault ≡ Memory)
+    (fault : DraftFault) → Refuses {T = T} (Err fault) first (Some Memory)
     → new ≡ old → Adds {T = T} (placed true first to net) old new (stopped (Err fault))
-by_first T None to net old new fault some none same =
-    subst (λ (f : DraftFault). Adds {T = T} (placed true None to net) old new (stopped (Err f))) (sym none) (refl, same)
-by_first T (Some first) to net old new fault some none same =
+by_first T None to net old new fault refuses same =
+    subst (λ (f : DraftFault). Adds {T = T} (placed true None to net) old new (stopped (Err f)))
+    (some_of Memory fault refuses) (refl, same)
+by_first T (Some first) to net old new fault refuses same =
     subst (λ (f : DraftFault). Adds {T = T} (placed true (Some first) to net) old new (stopped (Err f)))
-    (error_of T fault first some) (by_fault T first to net old new same)
+    (sym refuses) (by_fault T first to net old new same)
 
 -- a card in its place that the network refuses, or has no memory for
 pub adds_refused : {T : Type 0} (fits : Bool) (first : Option DraftFault) (part to : Part) (old new net : Network)
     (fault : DraftFault) (r : Result T Stop)
-    → fits ≡ true → IfSome first (λ f. IsErrOf {T = T} (Err fault) f) → IfNone first (fault ≡ Memory) → new ≡ old
+    → fits ≡ true → Refuses {T = T} (Err fault) first (Some Memory) → new ≡ old
     → r ≡ stopped (Err fault) → Adds (placed fits first to net) (part, old) (part, new) r
-adds_refused false first part to old new net fault r fits some none same is = absurd (cc)
-adds_refused {T} true first part to old new net fault r fits some none same is =
+adds_refused false first part to old new net fault r fits refuses same is = absurd (cc)
+adds_refused {T} true first part to old new net fault r fits refuses same is =
     subst (λ (r : Result T Stop). Adds (placed true first to net) (part, old) (part, new) r) (sym is)
-    (by_first T first to net (part, old) (part, new) fault some none (ap (λ (d : Network). (part, d)) same))
+    (by_first T first to net (part, old) (part, new) fault refuses (ap (λ (d : Network). (part, d)) same))
 
 count_at : (n : ℕ) (state : State) → line_count (deck_at n state) ≡ n
 count_at n s.Start = refl

@@ -1,7 +1,7 @@
 -- A card's text reads back as the card.
-use Rattle.std.proofs.Common.{◌≡◌, ℕ, ◌+◌, ◌<◌, ◌≤◌, nat_lt, List, [], ◌∷◌, ◌++◌, map, length, Bool, true, false, cond, not}
+use Rattle.std.proofs.Common.{◌≡◌, ℕ, ◌<◌, ◌≤◌, nat_lt, List, [], ◌∷◌, ◌++◌, map, length, Bool, true, false, cond, not}
 use Rattle.std.proofs.Common.{◌&&◌, Option, Some, None, Ok, refl, ◌∙◌, ap, unwrap_or, is_some, option_and_then, decimal}
-use Rattle.std.proofs.Common.{arith, length-append}
+use Rattle.std.proofs.Common.{arith, append_assoc, codes, length-append}
 use Rattle.std.specs.List.{list_all}
 use Rattle.std.specs.Option.{option_map}
 use Rattle.std.proofs.lemmas.List.Folds.{list_all-append}
@@ -15,10 +15,53 @@ use Rattle.transyt_syntax.specs.Syntax.{Entry, all_numbers, counts_of, entry_of,
 use Rattle.transyt_syntax.specs.Syntax.{is_plain, named, numbers_of, said, says_of, syntax_code, unless}
 use Rattle.transyt_deck.specs.declared.card.Card.{Card}
 use Rattle.transyt_deck.specs.declared.card.Card.TheVariants as c
-use Rattle.transyt_deck.specs.Cards.{card_text, keyword_in, numbers_in, numbers_text}
+use Rattle.transyt_text.specs.Forms.{filled, form_line, values_line, values_text}
+use Rattle.transyt_deck.specs.Cards.{card_line}
 use Rattle.transyt_deck.specs.Table.{cards}
 use Rattle.transyt_deck.proofs.NumberTexts.{is_small, length_decimals, numbers_back, numbers_plain, numbers_short}
 use Rattle.transyt_deck.proofs.NumberTexts.{words_text}
+
+-- the keyword of a card
+abbrev pub keyword_in : Card → List ℕ
+keyword_in (c.Form form) = codes "FORM"
+keyword_in (c.Cycle frame) = codes "CYCLE"
+keyword_in (c.Node number offset) = codes "NODE"
+keyword_in (c.Stage stage) = codes "STAGE"
+keyword_in (c.Link link stages) = codes "LINK"
+keyword_in (c.Feed link feed) = codes "FEED"
+keyword_in (c.Yield link rule) = codes "YIELD"
+keyword_in (c.Steps budget sizes) = codes "STEPS"
+keyword_in c.End = codes "END"
+
+-- the numbers of a card
+abbrev pub numbers_in : Card → List ℕ
+numbers_in (c.Form form) = form ∷ []
+numbers_in (c.Cycle f) = f.cycle ∷ f.step_count ∷ f.sweeps ∷ f.period ∷ f.stop_penalty ∷ f.dispersion ∷ []
+numbers_in (c.Node number offset) = number ∷ offset ∷ []
+numbers_in (c.Stage s) = s.change ∷ s.intergreen ∷ s.least ∷ []
+numbers_in (c.Link l stages) =
+    l.number ∷ l.node ∷ l.entry ∷ l.saturation ∷ l.delay_weight ∷ l.stop_weight ∷ l.start_lag ∷ l.end_lag ∷ stages
+numbers_in (c.Feed link f) = link ∷ f.feeder ∷ f.flow ∷ f.cruise ∷ []
+numbers_in (c.Yield link rule) = link ∷ rule.other ∷ rule.percent ∷ []
+numbers_in (c.Steps budget sizes) = budget ∷ sizes
+numbers_in c.End = []
+
+-- a card's line, without its line end: its keyword, and a blank before each of its numbers
+abbrev pub card_text : Card → List ℕ
+card_text card = keyword_in card ++ values_text (numbers_in card)
+
+-- that it is the line of the card's form
+pub line_of_card : (card : Card) → card_line card ≡ card_text card ++ 10 ∷ []
+unfolding form_line values_line filled values_text
+line_of_card (c.Form f) = simp append_assoc
+line_of_card (c.Cycle f) = simp append_assoc
+line_of_card (c.Node n o) = simp append_assoc
+line_of_card (c.Stage s) = simp append_assoc
+line_of_card (c.Link l ss) = simp append_assoc
+line_of_card (c.Feed l f) = simp append_assoc
+line_of_card (c.Yield l g) = simp append_assoc
+line_of_card (c.Steps b ss) = simp append_assoc
+line_of_card c.End = refl
 
 keyword_tests : (card : Card)
     → (list_all (λ b. not (is_blank b)) (keyword_in card) ≡ true) × (0 < length (keyword_in card))
@@ -38,6 +81,7 @@ and_false true = refl
 and_false false = refl
 
 not_skipped : (card : Card) → is_skipped (card_text card) ≡ false
+unfolding values_text
 not_skipped (c.Form f) = and_false _
 not_skipped (c.Cycle f) = and_false _
 not_skipped (c.Node n o) = and_false _
@@ -77,7 +121,7 @@ numbers_card card small =
 -- a card's bytes may stand on a line
 pub card_plain : (card : Card) → list_all is_small (numbers_in card) ≡ true → list_all is_plain (card_text card) ≡ true
 card_plain card small =
-    list_all-append is_plain (keyword_in card) (numbers_text (numbers_in card))
+    list_all-append is_plain (keyword_in card) (values_text (numbers_in card))
     ∙ and_from _ _ (keyword_tests card).3 (numbers_plain (numbers_in card) small)
 
 -- a card is no longer than a line may be
@@ -86,7 +130,7 @@ pub card_short : (card : Card) → list_all is_small (numbers_in card) ≡ true 
 card_short card small few =
     let k : length (keyword_in card) ≤ 5 = (keyword_tests card).2 in
     let ns = numbers_short (numbers_in card) small in
-    omega (arith, length-append (keyword_in card) (numbers_text (numbers_in card)))
+    omega (arith, length-append (keyword_in card) (values_text (numbers_in card)))
 
 not_long : (n : ℕ) → n ≤ 4096 → nat_lt 4096 n ≡ false
 not_long n h = grind (arith, nat_tests)

@@ -1,6 +1,6 @@
 -- The LINK cards of a valid network make its links again, without feeds and rules.
 use Rattle.std.proofs.Common.{◌≡◌, ℕ, suc, ◌+◌, ◌<◌, ◌≤◌, nat_le, List, [], ◌∷◌, ◌++◌, map, length, Bool, true, false}
-use Rattle.std.proofs.Common.{cond, not, ◌&&◌, ◌||◌, Option, Some, None, Ok, refl, sym, subst, ◌∙◌, ap, arith, append_assoc}
+use Rattle.std.proofs.Common.{cond, not, ◌&&◌, ◌||◌, Some, None, Ok, refl, sym, subst, ◌∙◌, ap, arith, append_assoc}
 use Rattle.std.proofs.Common.{length-append, All}
 use Rattle.std.specs.List.{list_all}
 use Rattle.std.proofs.lemmas.List.{append-nil, map-append, length-map}
@@ -13,12 +13,12 @@ use Rattle.transyt_parts.specs.Valid.{IsNode, all_differ, link_number, within, l
 use Rattle.transyt_net.specs.declared.draft.DraftFault.TheVariants.{Range, TooMany, Twice, Unknown}
 use Rattle.transyt_net.specs.Parts.{Network, network_of}
 use Rattle.transyt_net.specs.Valid.{IsLink, is_among, link_numbers, node_numbers, stages_at}
-use Rattle.transyt_deck.specs.declared.card.Card.TheVariants as c
 use Rattle.transyt_deck.specs.declared.state.Part.{Part}
 use Rattle.transyt_deck.specs.declared.state.Part.TheVariants as p
 use Rattle.transyt_deck.specs.declared.state.State.{State}
 use Rattle.transyt_deck.specs.declared.state.State.TheVariants as s
-use Rattle.transyt_deck.specs.Cards.{link_card, numbers_in}
+use Rattle.transyt_deck.specs.Cards.{link_card}
+use Rattle.transyt_deck.proofs.CardTexts.{numbers_in}
 use Rattle.transyt_deck.specs.State.{up_to}
 use Rattle.transyt_deck.proofs.LinkNumbers.{key_among, key_apart, key_apart_later, map_twice}
 use Rattle.transyt_deck.proofs.NodeBlocks.{is_added}

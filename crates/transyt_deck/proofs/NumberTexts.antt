@@ -17,7 +17,7 @@ use Rattle.transyt_num.specs.Number.{number_of}
 use Rattle.transyt_num.proofs.NumberLaws.{number_of-decimal}
 use Rattle.transyt_io.specs.Lines.{is_blank, is_some_word, words}
 use Rattle.transyt_syntax.specs.Syntax.{all_numbers, is_plain}
-use Rattle.transyt_deck.specs.Cards.{numbers_text}
+use Rattle.transyt_text.specs.Forms.{values_text}
 
 digit_tests : (c : ℕ) → IsInRange 48 57 c → (is_ascii_digit c ≡ true) × (is_blank c ≡ false) × (is_plain c ≡ true)
 digit_tests c h = (grind (arith, nat_tests), grind (arith, nat_tests), grind (arith, nat_tests))
@@ -82,12 +82,13 @@ not_false true h = absurd (cc)
 not_false false h = refl
 
 split_numbers : (ns : List ℕ) → list_all is_small ns ≡ true
-    → slice_split is_blank (numbers_text ns) ≡ [] ∷ map decimal ns
+    → slice_split is_blank (values_text ns) ≡ [] ∷ map decimal ns
+unfolding values_text
 split_numbers [] h = refl
 split_numbers (n ∷ ns) h =
     let both = and_parts (is_small n) (list_all is_small ns) h in
     ap (λ (l : List (List ℕ)). [] ∷ l)
-    (split_word (decimal n) (numbers_text ns)
+    (split_word (decimal n) (values_text ns)
     (digits_all (λ b. not (is_blank b)) (λ c r. not_false _ ((digit_tests c r).1)) (decimal n)
     (numeral n both.0).0.1)
     ∙ ap (prepend (decimal n)) (split_numbers ns both.1)
@@ -108,10 +109,10 @@ keep_numbers (n ∷ ns) h =
 
 -- the words of a keyword and numbers
 pub words_text : (word ns : List ℕ) → list_all (λ b. not (is_blank b)) word ≡ true → 0 < length word
-    → list_all is_small ns ≡ true → words (word ++ numbers_text ns) ≡ word ∷ map decimal ns
+    → list_all is_small ns ≡ true → words (word ++ values_text ns) ≡ word ∷ map decimal ns
 words_text word ns plain some small =
     ap (filter is_some_word)
-    (split_word word (numbers_text ns) plain
+    (split_word word (values_text ns) plain
     ∙ ap (prepend word) (split_numbers ns small)
     ∙ prepend_onto word [] (map decimal ns)
     ∙ ap (λ (l : List ℕ). l ∷ map decimal ns) (append-nil word))
@@ -119,22 +120,24 @@ words_text word ns plain some small =
     ∙ ap (λ (l : List (List ℕ)). word ∷ l) (keep_numbers ns small)
 
 -- numbers are written in bytes that may stand on a line
-pub numbers_plain : (ns : List ℕ) → list_all is_small ns ≡ true → list_all is_plain (numbers_text ns) ≡ true
+pub numbers_plain : (ns : List ℕ) → list_all is_small ns ≡ true → list_all is_plain (values_text ns) ≡ true
+unfolding values_text
 numbers_plain [] h = refl
 numbers_plain (n ∷ ns) h =
     let both = and_parts (is_small n) (list_all is_small ns) h in
-    list_all-append is_plain (decimal n) (numbers_text ns)
+    list_all-append is_plain (decimal n) (values_text ns)
     ∙ and_from _ _ (digits_all is_plain (λ c r. (digit_tests c r).2) (decimal n) (numeral n both.0).0.1)
     (numbers_plain ns both.1)
 
 -- a number and its blank have at most ten bytes
-pub numbers_short : (ns : List ℕ) → list_all is_small ns ≡ true → length (numbers_text ns) ≤ 10 * length ns
+pub numbers_short : (ns : List ℕ) → list_all is_small ns ≡ true → length (values_text ns) ≤ 10 * length ns
+unfolding values_text
 numbers_short [] h = omega arith
 numbers_short (n ∷ ns) h =
     let both = and_parts (is_small n) (list_all is_small ns) h in
     let one = short_decimal n both.0 in
     let more = numbers_short ns both.1 in
-    omega (arith, length-append (decimal n) (numbers_text ns))
+    omega (arith, length-append (decimal n) (values_text ns))
 
 -- one word for each number
 pub length_decimals : (ns : List ℕ) → length (map decimal ns) ≡ length ns

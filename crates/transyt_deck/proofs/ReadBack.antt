@@ -5,7 +5,7 @@ use Rattle.std.proofs.Common.{length-append, All, IfSome}
 use Rattle.std.specs.List.{fold, list_all}
 use Rattle.std.specs.Option.{option_map}
 use Rattle.std.proofs.lemmas.Grind.{flat_map-append}
-use Rattle.transyt_deck.proofs.CardTexts.{Fits}
+use Rattle.transyt_deck.proofs.CardTexts.{Fits, line_of_card, numbers_in}
 use Rattle.std.proofs.lemmas.List.Elements.{All-head, All-tail}
 use Rattle.std.proofs.lemmas.Bool.{and_from}
 use Rattle.std.proofs.lemmas.Bool.Decides.{nat_tests}
@@ -21,15 +21,16 @@ use Rattle.transyt_parts.specs.Plan.{first_fault, first_of, plan_fault}
 use Rattle.transyt_net.specs.declared.draft.DraftFault.TheVariants.{Range}
 use Rattle.transyt_net.specs.Parts.{Network}
 use Rattle.transyt_net.specs.Valid.{IsSound, IsValid}
+use Rattle.transyt_text.specs.Forms.{values_text}
 use Rattle.transyt_deck.specs.declared.card.Card.{Card}
 use Rattle.transyt_deck.specs.declared.card.Card.TheVariants as c
 use Rattle.transyt_deck.specs.declared.state.Part.{Part}
 use Rattle.transyt_deck.specs.declared.state.Part.TheVariants as p
 use Rattle.transyt_deck.specs.declared.state.State.TheVariants as s
-use Rattle.transyt_deck.specs.Cards.{card_text, cards_text, deck_cards, deck_text, feed_cards, link_card, node_cards, numbers_in}
+use Rattle.transyt_deck.specs.Cards.{card_line, cards_text, deck_cards, deck_text, feed_cards, link_card, node_cards}
 use Rattle.transyt_deck.specs.Cards.{plan_cards, rule_cards}
 use Rattle.transyt_deck.specs.State.{making, plan_code, state_with, up_to}
-use Rattle.transyt_deck.specs.Deck.{Complete, Deck, deck, deck_by, next}
+use Rattle.transyt_deck.specs.Deck.{Complete, Open, deck, deck_by, next}
 use Rattle.transyt_deck.proofs.FeedBlocks.{feeds_read}
 use Rattle.transyt_deck.proofs.LinkBlocks.{links_read, state}
 use Rattle.transyt_deck.proofs.NodeBlocks.{is_added, nodes_read, nodes_state}
@@ -144,6 +145,7 @@ all_read net is =
 -- the deck text of a valid network is the deck of that network, complete at its last line
 pub deck_read_back : (net : Network) → IsValid net
     → deck (lines (deck_text net)) ≡ Complete (length (deck_cards net)) net
+unfolding values_text
 deck_read_back net h =
     let front = c.Form 2 ∷ inside net in
     let read = all_read net h.sound in
@@ -152,8 +154,10 @@ deck_read_back net h =
     let count : (0 + length front) + 1 ≡ length (deck_cards net) =
     omega (arith, ap (λ (l : List Card). length l) (cards_are net), length-append front (c.End ∷ [])) in
     ap (λ (cs : List Card). deck (lines (cards_text cs))) (cards_are net)
-    ∙ ap (λ (l : List ℕ). deck (lines l)) (flat_map-append (λ card. card_text card ++ 10 ∷ []) front (c.End ∷ []))
+    ∙ ap (λ (l : List ℕ). deck (lines l)) (flat_map-append card_line front (c.End ∷ []))
     ∙ read.1.is 0 (cards_text (c.End ∷ []))
+    ∙ ap (λ (l : List ℕ). fold next (Open (0 + length front) (s.Making 2 read.0 net)) (lines (l ++ [])))
+    (line_of_card c.End)
     ∙ next_card (0 + length front) (s.Making 2 read.0 net) c.End fits
     ∙ ap (λ (o : Option PlanFault). deck_by ((0 + length front) + 1)
     (making 2 (unless (option_map plan_code o) (p.End, net)))) fine

@@ -1,6 +1,6 @@
 -- The text of cards, read card by card.
 use Rattle.std.proofs.Common.{◌≡◌, ℕ, zero, suc, ◌+◌, ◌-◌, ◌≤◌, ◌==◌, List, [], ◌∷◌, ◌++◌, map, length, take, Bool}
-use Rattle.std.proofs.Common.{true, false, cond, Ok, refl, ◌∙◌, ap, arith, append_assoc, slice_index, Result}
+use Rattle.std.proofs.Common.{true, false, cond, Ok, refl, ◌∙◌, ap, arith, append_assoc, slice_index}
 use Rattle.std.specs.List.{fold, list_all}
 use Rattle.std.proofs.lemmas.List.{take_all}
 use Rattle.std.proofs.lemmas.Grind.{flat_map-append}
@@ -8,14 +8,13 @@ use Rattle.std.proofs.lemmas.Bool.Decides.{nat_tests}
 use Rattle.std.proofs.lemmas.Bool.{and_parts}
 use Rattle.std.proofs.Common.{length-append}
 use Rattle.transyt_io.specs.Lines.{cut, line_of, lines, onto_first}
-use Rattle.transyt_syntax.specs.declared.code.Code.{Code}
 use Rattle.transyt_syntax.specs.Syntax.{is_plain}
 use Rattle.transyt_deck.specs.declared.card.Card.{Card}
 use Rattle.transyt_deck.specs.declared.state.State.{State}
-use Rattle.transyt_deck.specs.Cards.{card_text, cards_text}
+use Rattle.transyt_deck.specs.Cards.{card_line, cards_text}
 use Rattle.transyt_deck.specs.State.{form_of, state_by, state_with}
 use Rattle.transyt_deck.specs.Deck.{Deck, Open, deck_at, deck_by, next}
-use Rattle.transyt_deck.proofs.CardTexts.{Fits, card_plain, card_short, said_card}
+use Rattle.transyt_deck.proofs.CardTexts.{Fits, card_plain, card_short, card_text, line_of_card, said_card}
 
 plain_no_feed : (b : ℕ) → is_plain b ≡ true → (b == 10) ≡ false
 plain_no_feed b h = grind (arith, nat_tests)
@@ -52,12 +51,13 @@ line_same bs h short =
 
 -- the first line of a text is its first card
 first_line : (form : ℕ) (card : Card) (more rest : List ℕ) → Fits form card
-    → lines (((card_text card ++ 10 ∷ []) ++ more) ++ rest) ≡ card_text card ∷ lines (more ++ rest)
+    → lines ((card_line card ++ more) ++ rest) ≡ card_text card ∷ lines (more ++ rest)
 first_line form card more rest fits =
     let text = card_text card in
     let whole : ((text ++ 10 ∷ []) ++ more) ++ rest ≡ text ++ 10 ∷ (more ++ rest) = simp append_assoc in
     let plain = card_plain card fits.small in
-    ap lines whole
+    ap (λ (l : List ℕ). lines ((l ++ more) ++ rest)) (line_of_card card)
+    ∙ ap lines whole
     ∙ ap (map line_of) (no_line_feed text (more ++ rest) plain)
     ∙ ap (λ (l : List ℕ). l ∷ lines (more ++ rest)) (line_same text plain (card_short card fits.small fits.few))
 
@@ -94,7 +94,7 @@ pub reads_both : {s t u : State} {xs ys : List Card} → Reads s xs t → Reads 
 reads_both {s} {t} {u} {xs} {ys} a b = record {
   is = λ n rest.
       let text : cards_text (xs ++ ys) ++ rest ≡ cards_text xs ++ (cards_text ys ++ rest) =
-      ap (λ (l : List ℕ). l ++ rest) (flat_map-append (λ card. card_text card ++ 10 ∷ []) xs ys)
+      ap (λ (l : List ℕ). l ++ rest) (flat_map-append card_line xs ys)
       ∙ append_assoc (cards_text xs) (cards_text ys) rest in
       let count : (n + length xs) + length ys ≡ n + length (xs ++ ys) = omega (arith, length-append xs ys) in
       ap (λ (l : List ℕ). fold next (Open n s) (lines l)) text ∙ a.is n (cards_text ys ++ rest)

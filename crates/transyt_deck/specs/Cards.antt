@@ -1,48 +1,32 @@
 -- The cards of a network, and their text.
-use Rattle.std.specs.Prelude.{ℕ, List, [], ◌∷◌, ◌++◌, map, flat_map, codes, decimal, Option, Some, None}
+use Rattle.std.specs.Prelude.{ℕ, List, [], ◌∷◌, ◌++◌, map, flat_map, codes, Option, Some, None}
+use Rattle.transyt_text.specs.Forms.{form_line, values_line}
 use Rattle.transyt_parts.specs.Parts.{NodeValue, LinkValue, PlanValue}
 use Rattle.transyt_net.specs.Parts.{Network}
 use Rattle.transyt_deck.specs.declared.card.Card.{Card}
 use Rattle.transyt_deck.specs.declared.card.Card.TheVariants as c
 use Rattle.transyt_parts.specs.declared.link.NewLink.{NewLink}
 
--- the keyword of a card
-abbrev pub keyword_in : Card → List ℕ
-keyword_in (c.Form form) = codes "FORM"
-keyword_in (c.Cycle frame) = codes "CYCLE"
-keyword_in (c.Node number offset) = codes "NODE"
-keyword_in (c.Stage stage) = codes "STAGE"
-keyword_in (c.Link link stages) = codes "LINK"
-keyword_in (c.Feed link feed) = codes "FEED"
-keyword_in (c.Yield link rule) = codes "YIELD"
-keyword_in (c.Steps budget sizes) = codes "STEPS"
-keyword_in c.End = codes "END"
+-- the line of a card, of a LINK card that of form 2
+abbrev pub card_line : Card → List ℕ
+card_line (c.Form form) = form_line (codes "FORM #") (form ∷ [])
+card_line (c.Cycle f) =
+    form_line (codes "CYCLE # # # # # #")
+    (f.cycle ∷ f.step_count ∷ f.sweeps ∷ f.period ∷ f.stop_penalty ∷ f.dispersion ∷ [])
+card_line (c.Node number offset) = form_line (codes "NODE # #") (number ∷ offset ∷ [])
+card_line (c.Stage s) = form_line (codes "STAGE # # #") (s.change ∷ s.intergreen ∷ s.least ∷ [])
+card_line (c.Link l stages) =
+    values_line (codes "LINK # # # # # # # #")
+    (l.number ∷ l.node ∷ l.entry ∷ l.saturation ∷ l.delay_weight ∷ l.stop_weight ∷ l.start_lag ∷ l.end_lag ∷ [])
+    stages
+card_line (c.Feed link f) = form_line (codes "FEED # # # #") (link ∷ f.feeder ∷ f.flow ∷ f.cruise ∷ [])
+card_line (c.Yield link rule) = form_line (codes "YIELD # # #") (link ∷ rule.other ∷ rule.percent ∷ [])
+card_line (c.Steps budget sizes) = values_line (codes "STEPS #") (budget ∷ []) sizes
+card_line c.End = form_line (codes "END") []
 
--- the numbers of a card, of a LINK card those of form 2
-abbrev pub numbers_in : Card → List ℕ
-numbers_in (c.Form form) = form ∷ []
-numbers_in (c.Cycle f) = f.cycle ∷ f.step_count ∷ f.sweeps ∷ f.period ∷ f.stop_penalty ∷ f.dispersion ∷ []
-numbers_in (c.Node number offset) = number ∷ offset ∷ []
-numbers_in (c.Stage s) = s.change ∷ s.intergreen ∷ s.least ∷ []
-numbers_in (c.Link l stages) =
-    l.number ∷ l.node ∷ l.entry ∷ l.saturation ∷ l.delay_weight ∷ l.stop_weight ∷ l.start_lag ∷ l.end_lag ∷ stages
-numbers_in (c.Feed link f) = link ∷ f.feeder ∷ f.flow ∷ f.cruise ∷ []
-numbers_in (c.Yield link rule) = link ∷ rule.other ∷ rule.percent ∷ []
-numbers_in (c.Steps budget sizes) = budget ∷ sizes
-numbers_in c.End = []
-
--- numbers in shortest decimal text, one blank before each
-abbrev pub numbers_text : List ℕ → List ℕ
-numbers_text [] = []
-numbers_text (n ∷ ns) = (32 ∷ decimal n) ++ numbers_text ns
-
--- the line of a card, without its line end
-abbrev pub card_text : Card → List ℕ
-card_text card = keyword_in card ++ numbers_text (numbers_in card)
-
--- the lines of cards, one LF at the end of each
+-- the lines of cards
 abbrev pub cards_text : List Card → List ℕ
-cards_text cards = flat_map (λ card. card_text card ++ 10 ∷ []) cards
+cards_text cards = flat_map card_line cards
 
 -- the NODE card of a node and its STAGE cards
 abbrev pub node_cards : NodeValue → List Card

@@ -5,6 +5,7 @@ use std::alloc::{AllocError, Global};
 use std::test::Fail;
 use transyt_syntax::Code;
 
+/// A deck of one link, up to its LINK card.
 const ONE_LINK: &str =
     "CYCLE 60 10 1 60 100\nNODE 1 0\nSTAGE 0 1 2\nSTAGE 5 1 2\nLINK 1 1 360 1800 1 1 1\n";
 

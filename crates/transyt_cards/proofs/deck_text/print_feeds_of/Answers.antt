@@ -1,29 +1,30 @@
-use Rattle.std.proofs.Common.{[], ◌∷◌, map, get_or, refl, arith}
+use Rattle.std.proofs.Common.{arith, refl}
+use Rattle.transyt_text.proofs.LoopLaws.{item_printed, item_broken, items_printed}
+use Rattle.transyt_text.proofs.PrintLaws.{prints_same}
 use Rattle.transyt_net.specs.Edits.{no_feed}
-use Rattle.transyt_io.proofs.Told.{on_err}
+use Rattle.transyt_deck.specs.Cards.{card_line}
 use Rattle.transyt_deck.specs.declared.card.Card.TheVariants as card
-use Rattle.transyt_cards.proofs.Printing.{item_written, item_broken, one_card, card_front}
+use Rattle.transyt_cards.proofs.CardLines.{lines_of_map}
 use Rattle.transyt_cards.proofs.deck_text.print_feeds_of.Goals as goal
 
 -- one more is written
 pub loop-feed-preserved : goal.loop-feed-preserved
 loop-feed-preserved g c =
-    let i = c.loop-feed.feed-index in
-    let feed = get_or c.args.feeds.now i no_feed in
-    record {
-      writes =
-          item_written (map (card.Feed c.args.link)) c.args.feeds.now i no_feed feed _ _ _ c.loop-feed-test.true refl
-          (card.Feed c.args.link feed ∷ []) (λ _. refl)
-          c.loop-feed.invariant.writes (one_card _ _ (card.Feed c.args.link feed) c.in_ok-print_card.ensures.ok);
-      later = omega (arith, c.loop-feed.invariant.later, c.print_card.ensures.cause.later);
-    }
+    item_printed (λ f. card_line (card.Feed c.args.link f)) c.args.feeds.now c.loop-feed.feed-index no_feed _ _ _ _
+    c.loop-feed-test.true refl c.loop-feed.invariant c.in_ok-print_feed.ensures
 
--- the text broke off in card one
-pub returns-in_err-print_card-clause-err : goal.returns-in_err-print_card-clause-err
-returns-in_err-print_card-clause-err g c =
-    let i = c.loop-feed.feed-index in
-    let feed = get_or c.args.feeds.now i no_feed in
-    on_err _
-    (item_broken (map (card.Feed c.args.link)) c.args.feeds.now i no_feed feed _ _ _ c.loop-feed-test.true refl
-    (card.Feed c.args.link feed ∷ []) (λ _. refl)
-    c.loop-feed.invariant.writes (card_front _ _ (card.Feed c.args.link feed) c.in_err-print_card.ensures.err))
+-- the text broke off in this one
+pub returns-in_err-print_feed : goal.returns-in_err-print_feed
+returns-in_err-print_feed g c =
+    prints_same _ _ _ _ _
+    (item_broken _ (tt {0}) (λ f. card_line (card.Feed c.args.link f)) c.args.feeds.now c.loop-feed.feed-index no_feed _ _ _ _
+    c.from_residual.ensures.0 c.loop-feed-test.true refl c.loop-feed.invariant c.in_err-print_feed.ensures)
+    (lines_of_map (card.Feed c.args.link) c.args.feeds.now)
+
+-- all are written
+pub returns : goal.returns
+returns g c =
+    prints_same _ _ _ _ _
+    (items_printed (tt {0}) (λ f. card_line (card.Feed c.args.link f)) c.args.feeds.now c.loop-feed.feed-index _ _
+    (omega (arith, c.loop-feed-test.false)) c.loop-feed.invariant)
+    (lines_of_map (card.Feed c.args.link) c.args.feeds.now)

@@ -1,28 +1,28 @@
-use Rattle.std.proofs.Common.{[], ◌∷◌, map, refl, arith}
-use Rattle.transyt_io.proofs.Told.{on_err}
-use Rattle.transyt_deck.specs.Cards.{link_card}
-use Rattle.transyt_cards.proofs.Printing.{item_written, item_broken}
+use Rattle.std.proofs.Common.{arith}
+use Rattle.transyt_text.proofs.LoopLaws.{item_printed, item_broken, items_printed}
+use Rattle.transyt_text.proofs.PrintLaws.{prints_same}
+use Rattle.transyt_deck.specs.Cards.{card_line, link_card}
+use Rattle.transyt_cards.proofs.CardLines.{lines_of_map}
 use Rattle.transyt_cards.proofs.deck_text.print_links.Goals as goal
 
 -- one more is written
 pub loop-link-preserved : goal.loop-link-preserved
 loop-link-preserved g c =
-    let i = c.loop-link.link-index in
-    let link = c.link-item.result in
-    record {
-      writes =
-          item_written (map link_card) c.args.links.now i link link _ _ _ c.loop-link-test.true c.link-item.is
-          (link_card link ∷ []) (λ _. refl)
-          c.loop-link.invariant.writes c.in_ok-print_link.ensures.ok;
-      later = omega (arith, c.loop-link.invariant.later, c.print_link.ensures.cause.later);
-    }
+    item_printed (λ l. card_line (link_card l)) c.args.links.now c.loop-link.link-index c.link-item.result c.link-item.result _ _ _
+    c.loop-link-test.true c.link-item.is c.loop-link.invariant c.in_ok-print_link.ensures
 
--- the text broke off in card one
-pub returns-in_err-print_link-clause-err : goal.returns-in_err-print_link-clause-err
-returns-in_err-print_link-clause-err g c =
-    let i = c.loop-link.link-index in
-    let link = c.link-item.result in
-    on_err _
-    (item_broken (map link_card) c.args.links.now i link link _ _ _ c.loop-link-test.true c.link-item.is
-    (link_card link ∷ []) (λ _. refl)
-    c.loop-link.invariant.writes c.in_err-print_link.ensures.err)
+-- the text broke off in this one
+pub returns-in_err-print_link : goal.returns-in_err-print_link
+returns-in_err-print_link g c =
+    prints_same _ _ _ _ _
+    (item_broken _ (tt {0}) (λ l. card_line (link_card l)) c.args.links.now c.loop-link.link-index c.link-item.result c.link-item.result _ _ _
+    c.from_residual.ensures.0 c.loop-link-test.true c.link-item.is c.loop-link.invariant c.in_err-print_link.ensures)
+    (lines_of_map link_card c.args.links.now)
+
+-- all are written
+pub returns : goal.returns
+returns g c =
+    prints_same _ _ _ _ _
+    (items_printed (tt {0}) (λ l. card_line (link_card l)) c.args.links.now c.loop-link.link-index _ _
+    (omega (arith, c.loop-link-test.false)) c.loop-link.invariant)
+    (lines_of_map link_card c.args.links.now)

@@ -1,29 +1,28 @@
-use Rattle.std.proofs.Common.{refl, arith}
-use Rattle.std.specs.List.{flat_map}
-use Rattle.transyt_io.proofs.Told.{on_err}
-use Rattle.transyt_deck.specs.Cards.{node_cards}
-use Rattle.transyt_cards.proofs.Printing.{item_written, item_broken}
+use Rattle.std.proofs.Common.{arith}
+use Rattle.transyt_text.proofs.LoopLaws.{item_printed, item_broken, items_printed}
+use Rattle.transyt_text.proofs.PrintLaws.{prints_same}
+use Rattle.transyt_deck.specs.Cards.{cards_text, node_cards}
+use Rattle.transyt_cards.proofs.CardLines.{lines_of_each}
 use Rattle.transyt_cards.proofs.deck_text.print_nodes.Goals as goal
 
 -- one more is written
 pub loop-node-preserved : goal.loop-node-preserved
 loop-node-preserved g c =
-    let i = c.loop-node.node-index in
-    let node = c.node-item.result in
-    record {
-      writes =
-          item_written (flat_map node_cards) c.args.nodes.now i node node _ _ _ c.loop-node-test.true c.node-item.is
-          (node_cards node) (λ _. refl)
-          c.loop-node.invariant.writes c.in_ok-print_node.ensures.ok;
-      later = omega (arith, c.loop-node.invariant.later, c.print_node.ensures.cause.later);
-    }
+    item_printed (λ n. cards_text (node_cards n)) c.args.nodes.now c.loop-node.node-index c.node-item.result c.node-item.result _ _ _
+    c.loop-node-test.true c.node-item.is c.loop-node.invariant c.in_ok-print_node.ensures
 
--- the text broke off in card one
-pub returns-in_err-print_node-clause-err : goal.returns-in_err-print_node-clause-err
-returns-in_err-print_node-clause-err g c =
-    let i = c.loop-node.node-index in
-    let node = c.node-item.result in
-    on_err _
-    (item_broken (flat_map node_cards) c.args.nodes.now i node node _ _ _ c.loop-node-test.true c.node-item.is
-    (node_cards node) (λ _. refl)
-    c.loop-node.invariant.writes c.in_err-print_node.ensures.err)
+-- the text broke off in this one
+pub returns-in_err-print_node : goal.returns-in_err-print_node
+returns-in_err-print_node g c =
+    prints_same _ _ _ _ _
+    (item_broken _ (tt {0}) (λ n. cards_text (node_cards n)) c.args.nodes.now c.loop-node.node-index c.node-item.result c.node-item.result _ _ _
+    c.from_residual.ensures.0 c.loop-node-test.true c.node-item.is c.loop-node.invariant c.in_err-print_node.ensures)
+    (lines_of_each node_cards c.args.nodes.now)
+
+-- all are written
+pub returns : goal.returns
+returns g c =
+    prints_same _ _ _ _ _
+    (items_printed (tt {0}) (λ n. cards_text (node_cards n)) c.args.nodes.now c.loop-node.node-index _ _
+    (omega (arith, c.loop-node-test.false)) c.loop-node.invariant)
+    (lines_of_each node_cards c.args.nodes.now)

@@ -1,29 +1,28 @@
-use Rattle.std.proofs.Common.{refl, arith}
-use Rattle.std.specs.List.{flat_map}
-use Rattle.transyt_io.proofs.Told.{on_err}
-use Rattle.transyt_deck.specs.Cards.{rule_cards}
-use Rattle.transyt_cards.proofs.Printing.{item_written, item_broken}
+use Rattle.std.proofs.Common.{arith}
+use Rattle.transyt_text.proofs.LoopLaws.{item_printed, item_broken, items_printed}
+use Rattle.transyt_text.proofs.PrintLaws.{prints_same}
+use Rattle.transyt_deck.specs.Cards.{cards_text, rule_cards}
+use Rattle.transyt_cards.proofs.CardLines.{lines_of_each}
 use Rattle.transyt_cards.proofs.deck_text.print_rules.Goals as goal
 
 -- one more is written
 pub loop-link-preserved : goal.loop-link-preserved
 loop-link-preserved g c =
-    let i = c.loop-link.link-index in
-    let link = c.link-item.result in
-    record {
-      writes =
-          item_written (flat_map rule_cards) c.args.links.now i link link _ _ _ c.loop-link-test.true c.link-item.is
-          (rule_cards link) (λ _. refl)
-          c.loop-link.invariant.writes c.in_ok-print_rule.ensures.ok;
-      later = omega (arith, c.loop-link.invariant.later, c.print_rule.ensures.cause.later);
-    }
+    item_printed (λ l. cards_text (rule_cards l)) c.args.links.now c.loop-link.link-index c.link-item.result c.link-item.result _ _ _
+    c.loop-link-test.true c.link-item.is c.loop-link.invariant c.in_ok-print_rule.ensures
 
--- the text broke off in card one
-pub returns-in_err-print_rule-clause-err : goal.returns-in_err-print_rule-clause-err
-returns-in_err-print_rule-clause-err g c =
-    let i = c.loop-link.link-index in
-    let link = c.link-item.result in
-    on_err _
-    (item_broken (flat_map rule_cards) c.args.links.now i link link _ _ _ c.loop-link-test.true c.link-item.is
-    (rule_cards link) (λ _. refl)
-    c.loop-link.invariant.writes c.in_err-print_rule.ensures.err)
+-- the text broke off in this one
+pub returns-in_err-print_rule : goal.returns-in_err-print_rule
+returns-in_err-print_rule g c =
+    prints_same _ _ _ _ _
+    (item_broken _ (tt {0}) (λ l. cards_text (rule_cards l)) c.args.links.now c.loop-link.link-index c.link-item.result c.link-item.result _ _ _
+    c.from_residual.ensures.0 c.loop-link-test.true c.link-item.is c.loop-link.invariant c.in_err-print_rule.ensures)
+    (lines_of_each rule_cards c.args.links.now)
+
+-- all are written
+pub returns : goal.returns
+returns g c =
+    prints_same _ _ _ _ _
+    (items_printed (tt {0}) (λ l. cards_text (rule_cards l)) c.args.links.now c.loop-link.link-index _ _
+    (omega (arith, c.loop-link-test.false)) c.loop-link.invariant)
+    (lines_of_each rule_cards c.args.links.now)

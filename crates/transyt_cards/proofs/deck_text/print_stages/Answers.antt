@@ -1,29 +1,30 @@
-use Rattle.std.proofs.Common.{[], ◌∷◌, map, get_or, refl, arith}
+use Rattle.std.proofs.Common.{arith, refl}
+use Rattle.transyt_text.proofs.LoopLaws.{item_printed, item_broken, items_printed}
+use Rattle.transyt_text.proofs.PrintLaws.{prints_same}
 use Rattle.transyt_parts.specs.Plan.{no_stage}
-use Rattle.transyt_io.proofs.Told.{on_err}
+use Rattle.transyt_deck.specs.Cards.{card_line}
 use Rattle.transyt_deck.specs.declared.card.Card.TheVariants as card
-use Rattle.transyt_cards.proofs.Printing.{item_written, item_broken, one_card, card_front}
+use Rattle.transyt_cards.proofs.CardLines.{lines_of_map}
 use Rattle.transyt_cards.proofs.deck_text.print_stages.Goals as goal
 
 -- one more is written
 pub loop-stage-preserved : goal.loop-stage-preserved
 loop-stage-preserved g c =
-    let i = c.loop-stage.stage-index in
-    let stage = get_or c.args.stages.now i no_stage in
-    record {
-      writes =
-          item_written (map card.Stage) c.args.stages.now i no_stage stage _ _ _ c.loop-stage-test.true refl
-          (card.Stage stage ∷ []) (λ _. refl)
-          c.loop-stage.invariant.writes (one_card _ _ (card.Stage stage) c.in_ok-print_card.ensures.ok);
-      later = omega (arith, c.loop-stage.invariant.later, c.print_card.ensures.cause.later);
-    }
+    item_printed (λ s. card_line (card.Stage s)) c.args.stages.now c.loop-stage.stage-index no_stage _ _ _ _
+    c.loop-stage-test.true refl c.loop-stage.invariant c.in_ok-print_stage.ensures
 
--- the text broke off in card one
-pub returns-in_err-print_card-clause-err : goal.returns-in_err-print_card-clause-err
-returns-in_err-print_card-clause-err g c =
-    let i = c.loop-stage.stage-index in
-    let stage = get_or c.args.stages.now i no_stage in
-    on_err _
-    (item_broken (map card.Stage) c.args.stages.now i no_stage stage _ _ _ c.loop-stage-test.true refl
-    (card.Stage stage ∷ []) (λ _. refl)
-    c.loop-stage.invariant.writes (card_front _ _ (card.Stage stage) c.in_err-print_card.ensures.err))
+-- the text broke off in this one
+pub returns-in_err-print_stage : goal.returns-in_err-print_stage
+returns-in_err-print_stage g c =
+    prints_same _ _ _ _ _
+    (item_broken _ (tt {0}) (λ s. card_line (card.Stage s)) c.args.stages.now c.loop-stage.stage-index no_stage _ _ _ _
+    c.from_residual.ensures.0 c.loop-stage-test.true refl c.loop-stage.invariant c.in_err-print_stage.ensures)
+    (lines_of_map card.Stage c.args.stages.now)
+
+-- all are written
+pub returns : goal.returns
+returns g c =
+    prints_same _ _ _ _ _
+    (items_printed (tt {0}) (λ s. card_line (card.Stage s)) c.args.stages.now c.loop-stage.stage-index _ _
+    (omega (arith, c.loop-stage-test.false)) c.loop-stage.invariant)
+    (lines_of_map card.Stage c.args.stages.now)
