@@ -6,12 +6,14 @@
 #![tactic(auto)]
 
 mod dispersion;
+mod four;
 mod laws;
 mod quick;
 mod three;
 mod travel;
 
 pub use dispersion::disperse;
+pub use four::disperse_four;
 pub use laws::worked_platoons;
 pub use three::{Travel, disperse_three, travel_of};
 pub use travel::travel_steps;

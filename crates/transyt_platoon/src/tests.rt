@@ -2,7 +2,7 @@
 
 use super::*;
 
-// ten vehicles in the first of ten steps, after so many steps of travel and with so much dispersion
+/// Ten vehicles in the first of ten steps, after so many steps of travel and with so much dispersion.
 #[derive(Drop)]
 struct Row {
     t: u32,

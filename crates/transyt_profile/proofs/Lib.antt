@@ -1,1 +1,2 @@
 pub mod SharesFit
+pub mod ReadyLaws

@@ -12,6 +12,7 @@ mod adding;
 mod comparing;
 mod filling;
 mod laws;
+mod readying;
 mod sharing;
 #[cfg(test)]
 mod tests;
@@ -21,5 +22,6 @@ pub use adding::add_into;
 pub use comparing::same;
 pub use filling::fill_uniform;
 pub use laws::worked_profiles;
+pub use readying::{Extent, share_ready};
 pub use sharing::{Part, part_of, share_into, share_part};
 pub use totals::total;

@@ -94,6 +94,20 @@ fn share_quick(x: &[u64], part: &Part, out: &mut [u64])
     }
 }
 
+/// The share of one step.
+pub(crate) fn share_step(value: u64, part: &Part) -> u64
+    requires fits { value < 2 ^ 30 }
+    requires is { IsPart part.now }
+    ensures value { result ≡ share_of part.now.part part.now.whole value }
+    ensures small { result < 2 ^ 44 }
+{
+    if part.quick {
+        product(value, part)
+    } else {
+        share(value, part.part, part.whole)
+    }
+}
+
 /// The share of one step, by the factor.
 #[tactic(auto, using(crate::proofs::SharesFit::fits))]
 fn product(value: u64, part: &Part) -> u64

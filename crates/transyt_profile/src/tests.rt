@@ -2,7 +2,7 @@
 
 use super::*;
 
-// one row: two profiles, the part and the whole of a share, and what each call gives
+/// Two profiles, the part and the whole of a share, and what each call gives.
 #[derive(Drop)]
 struct Row {
     x: [u64; 3],

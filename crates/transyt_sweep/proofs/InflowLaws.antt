@@ -1,5 +1,6 @@
 -- What comes to a link, feed by feed.
-use Rattle.std.proofs.Common.{◌≡◌, ℕ, ◌+◌, ◌*◌, ◌<◌, List, length, take, get_or, refl, ap, sym, ◌∙◌, arith}
+use Rattle.std.proofs.Common.{◌≡◌, ℕ, ◌+◌, ◌*◌, ◌^◌, ◌<◌, ◌≤◌, List, length, take, get_or, refl, ap, sym, ◌∙◌, arith}
+use Rattle.std.proofs.lemmas.Nat.{mul-le}
 use Rattle.std.proofs.lemmas.List.Sums.{fold_more}
 use Rattle.transyt_profile.specs.Profile.{uniform, added}
 use Rattle.transyt_platoon.specs.Platoon.{travel_steps, dispersed}
@@ -24,23 +25,42 @@ inflow_more net read entry feeds fs i d come one new same inside before brings s
     ∙ ap (λ xs. inflow_of net read entry (take (i + 1) xs)) same
 
 -- three feeds more
-pub inflow_three : (net : Network) (read : ℕ → List ℕ) (entry : ℕ) (feeds fs : List Feed) (i : ℕ) (d e f : Feed)
-    (come one two three new : List ℕ) → fs ≡ feeds → 3 * i + 2 < length fs
-    → come ≡ inflow_of net read entry (take (3 * i) feeds)
-    → one ≡ brought net read (get_or fs (3 * i) d)
-    → two ≡ brought net read (get_or fs (3 * i + 1) e)
-    → three ≡ brought net read (get_or fs (3 * i + 2) f)
+pub inflow_three : (net : Network) (read : ℕ → List ℕ) (entry : ℕ) (feeds fs : List Feed) (p : ℕ) (d e f : Feed)
+    (come one two three new : List ℕ) → fs ≡ feeds → p + 2 < length fs
+    → come ≡ inflow_of net read entry (take p feeds)
+    → one ≡ brought net read (get_or fs p d)
+    → two ≡ brought net read (get_or fs (p + 1) e)
+    → three ≡ brought net read (get_or fs (p + 2) f)
     → new ≡ added (added (added come one) two) three
-    → new ≡ inflow_of net read entry (take (3 * (i + 1)) feeds)
-inflow_three net read entry feeds fs i d e f come one two three new same inside before first second third sum =
-    let next : 3 * i + 1 + 1 + 1 ≡ 3 * (i + 1) = omega arith in
-    let after_one = inflow_more net read entry feeds fs (3 * i) d come one (added come one) same (omega arith) before
+    → new ≡ inflow_of net read entry (take (p + 3) feeds)
+inflow_three net read entry feeds fs p d e f come one two three new same inside before first second third sum =
+    let next : p + 1 + 1 + 1 ≡ p + 3 = omega arith in
+    let after_one = inflow_more net read entry feeds fs p d come one (added come one) same (omega arith) before
     first refl in
-    let after_two = inflow_more net read entry feeds fs (3 * i + 1) e (added come one) two (added (added come one) two)
+    let after_two = inflow_more net read entry feeds fs (p + 1) e (added come one) two (added (added come one) two)
     same (omega arith) after_one second refl in
-    let third_place : 3 * i + 1 + 1 ≡ 3 * i + 2 = omega arith in
-    inflow_more net read entry feeds fs (3 * i + 1 + 1) f (added (added come one) two) three new same (omega arith)
-    after_two (third ∙ ap (λ p. brought net read (get_or fs p f)) (sym third_place)) sum
+    let third_place : p + 1 + 1 ≡ p + 2 = omega arith in
+    inflow_more net read entry feeds fs (p + 1 + 1) f (added (added come one) two) three new same (omega arith)
+    after_two (third ∙ ap (λ q. brought net read (get_or fs q f)) (sym third_place)) sum
+    ∙ ap (λ n. inflow_of net read entry (take n feeds)) next
+
+-- four feeds more
+pub inflow_four : (net : Network) (read : ℕ → List ℕ) (entry : ℕ) (feeds fs : List Feed) (p : ℕ) (d e f g : Feed)
+    (come one two three four new : List ℕ) → fs ≡ feeds → p + 3 < length fs
+    → come ≡ inflow_of net read entry (take p feeds)
+    → one ≡ brought net read (get_or fs p d)
+    → two ≡ brought net read (get_or fs (p + 1) e)
+    → three ≡ brought net read (get_or fs (p + 2) f)
+    → four ≡ brought net read (get_or fs (p + 3) g)
+    → new ≡ added (added (added (added come one) two) three) four
+    → new ≡ inflow_of net read entry (take (p + 4) feeds)
+inflow_four net read entry feeds fs p d e f g come one two three four new same inside before first second third fourth
+    sum =
+    let next : p + 3 + 1 ≡ p + 4 = omega arith in
+    let after_three = inflow_three net read entry feeds fs p d e f come one two three
+    (added (added (added come one) two) three) same (omega arith) before first second third refl in
+    inflow_more net read entry feeds fs (p + 3) g (added (added (added come one) two) three) four new same
+    (omega arith) after_three fourth sum
     ∙ ap (λ n. inflow_of net read entry (take n feeds)) next
 
 -- what a feed brings, made of the part that goes on and of its travel
@@ -62,3 +82,20 @@ added_three come x y z one two three a b c first second third is_a is_b is_c =
     let twice : two ≡ added (added come a) b =
     second ∙ ap (λ r. added r y) once ∙ ap (added (added come a)) is_b in
     third ∙ ap (λ r. added r z) twice ∙ ap (added (added (added come a) b)) is_c
+
+-- four profiles added one after another
+pub added_four : (come x y z u one two three four a b c d : List ℕ) → one ≡ added come x → two ≡ added one y
+    → three ≡ added two z → four ≡ added three u → x ≡ a → y ≡ b → z ≡ c → u ≡ d
+    → four ≡ added (added (added (added come a) b) c) d
+added_four come x y z u one two three four a b c d first second third fourth is_a is_b is_c is_d =
+    let thrice : three ≡ added (added (added come a) b) c =
+    added_three come x y z one two three a b c first second third is_a is_b is_c in
+    fourth ∙ ap (λ r. added r u) thrice ∙ ap (added (added (added (added come a) b) c)) is_d
+
+-- the first factor of a travel has 41 bits
+pub factor_fits : (reciprocal weight time percent factor : ℕ) → factor ≡ 100 * reciprocal → weight ≡ percent * time
+    → percent ≤ 100 → time ≤ 960 → reciprocal * (100 + weight) < 1099511627776 + (100 + weight) → factor ≤ 2 ^ 41
+factor_fits reciprocal weight time percent factor is_factor is_weight percent_fits time_fits close =
+    let most : percent * time ≤ 100 * 960 = mul-le percent time 100 960 percent_fits time_fits in
+    let apart : reciprocal * (100 + weight) ≡ 100 * reciprocal + reciprocal * weight = omega arith in
+    omega (arith, most, apart, close, is_factor, is_weight)

@@ -17,7 +17,7 @@ pub struct Scratch {
     pub(crate) queue: Vec<u64>,
     pub(crate) out: Vec<u64>,
     pub(crate) figures: Figures,
-    // the work on three feeds, what they share and what they bring, and what reaches the stop line
+    // the work on four feeds, what they share, its products and what they bring, and what reaches the stop line
     pub(crate) room: Vec<u64>,
     pub(crate) reaching: Vec<u64>,
 }
@@ -57,7 +57,7 @@ impl Scratch {
                 stops: 0,
                 index: 0,
             },
-            room: vec![in alloc; 0; 6 * step_count]?,
+            room: vec![in alloc; 0; 12 * step_count]?,
             reaching: vec![in alloc; 0; step_count]?,
         })
     }

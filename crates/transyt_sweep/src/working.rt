@@ -71,7 +71,7 @@ fn work_out(
     requires link { link < length net.now.links }
     requires sweep { sweep ≤ net.now.frame.sweeps }
     requires fits { Fits net.now rows.now }
-    requires room_len { length room.old ≡ 6 * net.now.frame.step_count }
+    requires room_len { length room.old ≡ 12 * net.now.frame.step_count }
     requires reaching_len { length reaching.old ≡ net.now.frame.step_count }
     requires come_len { length come.old ≡ net.now.frame.step_count }
     requires going_len { length going.old ≡ net.now.frame.step_count }

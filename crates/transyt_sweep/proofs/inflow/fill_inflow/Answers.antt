@@ -1,12 +1,47 @@
--- Three feeds more, or one.
-use Rattle.std.proofs.Common.{◌≡◌, ℕ, ◌+◌, ◌*◌, ◌^◌, List, length, get_or, arith, rules, refl, ap, ◌∙◌}
+-- Four feeds more, or three, or one.
+use Rattle.std.proofs.Common.{◌≡◌, ℕ, ◌+◌, ◌*◌, ◌/◌, ◌^◌, List, length, take, get_or, arith, rules, refl, ap, ◌∙◌}
 use Rattle.transyt_parts.specs.declared.link.Feed.{Feed}
 use Rattle.transyt_parts.specs.Parts.{LinkValue}
 use Rattle.transyt_net.specs.Parts.{link_of}
-use Rattle.transyt_sweep.specs.Cell.{brought}
+use Rattle.transyt_sweep.specs.Cell.{brought, inflow_of}
 use Rattle.transyt_sweep.specs.Rows.{read_in}
-use Rattle.transyt_sweep.proofs.InflowLaws.{inflow_more, inflow_three}
+use Rattle.transyt_sweep.proofs.InflowLaws.{inflow_more, inflow_three, inflow_four}
 use Rattle.transyt_sweep.proofs.inflow.fill_inflow.Goals as goal
+
+-- four feeds more
+pub fours-preserved : goal.fours-preserved
+fours-preserved c =
+    let read : ℕ → List ℕ = read_in c.args.rows.now c.args.sweep c.args.link in
+    let link : LinkValue = link_of c.args.net.now c.args.link in
+    let feeds : c.at.inside.feeds.items ≡ link.feeds =
+    ap (λ (l : LinkValue). l.feeds) (c.at.view_is ∙ c.link-at.ensures.value) in
+    let p : ℕ = 4 * c.fours.i in
+    let next : p + 4 ≡ 4 * (c.fours.i + 1) = omega arith in
+    let one = c.index.result.now in
+    let two = c.index-in-fours.result.now in
+    let three = c.index-in-fours-2.result.now in
+    let four = c.index-in-fours-3.result.now in
+    let first : one ≡ get_or link.feeds p one =
+    c.index.ensures ∙ ap (λ (fs : List Feed). get_or fs p one) feeds in
+    let second : two ≡ get_or link.feeds (p + 1) two =
+    c.index-in-fours.ensures ∙ ap (λ (fs : List Feed). get_or fs (p + 1) two) feeds in
+    let third : three ≡ get_or link.feeds (p + 2) three =
+    c.index-in-fours-2.ensures ∙ ap (λ (fs : List Feed). get_or fs (p + 2) three) feeds in
+    let fourth : four ≡ get_or link.feeds (p + 3) four =
+    c.index-in-fours-3.ensures ∙ ap (λ (fs : List Feed). get_or fs (p + 3) four) feeds in
+    record {
+      room = search rules;
+      come = search rules;
+      value = inflow_four c.args.net.now read link.entry link.feeds link.feeds p one two three four c.fours.come
+          (brought c.args.net.now read one) (brought c.args.net.now read two) (brought c.args.net.now read three) (brought c.args.net.now read four) _ refl
+          (omega (arith, c.fours-test.true, c.len-fours.ensures, ap length feeds)) c.fours.invariant.value
+          (ap (brought c.args.net.now read) first) (ap (brought c.args.net.now read) second) (ap (brought c.args.net.now read) third) (ap (brought c.args.net.now read) fourth) c.add_four.ensures.value
+          ∙ ap (λ n. inflow_of c.args.net.now read link.entry (take n link.feeds)) next;
+      small = λ k d h. omega (
+        arith,
+        c.add_four.ensures.grows ((p + 1) * 2 ^ 44) c.fours.invariant.small k d h,
+      );
+    }
 
 -- three feeds more
 pub threes-preserved : goal.threes-preserved
@@ -15,27 +50,28 @@ threes-preserved c =
     let link : LinkValue = link_of c.args.net.now c.args.link in
     let feeds : c.at.inside.feeds.items ≡ link.feeds =
     ap (λ (l : LinkValue). l.feeds) (c.at.view_is ∙ c.link-at.ensures.value) in
-    let i = c.threes.i in
-    let one = c.index.result.now in
-    let two = c.index-in-threes.result.now in
-    let three = c.index-in-threes-2.result.now in
-    let first : one ≡ get_or link.feeds (3 * i) one =
-    c.index.ensures ∙ ap (λ (fs : List Feed). get_or fs (3 * i) one) feeds in
-    let second : two ≡ get_or link.feeds (3 * i + 1) two =
-    c.index-in-threes.ensures ∙ ap (λ (fs : List Feed). get_or fs (3 * i + 1) two) feeds in
-    let third : three ≡ get_or link.feeds (3 * i + 2) three =
-    c.index-in-threes-2.ensures ∙ ap (λ (fs : List Feed). get_or fs (3 * i + 2) three) feeds in
+    let p : ℕ = 4 * (c.len-fours.result / 4) + 3 * c.threes.i in
+    let next : p + 3 ≡ 4 * (c.len-fours.result / 4) + 3 * (c.threes.i + 1) = omega arith in
+    let one = c.index-in-threes.result.now in
+    let two = c.index-in-threes-2.result.now in
+    let three = c.index-in-threes-3.result.now in
+    let first : one ≡ get_or link.feeds p one =
+    c.index-in-threes.ensures ∙ ap (λ (fs : List Feed). get_or fs p one) feeds in
+    let second : two ≡ get_or link.feeds (p + 1) two =
+    c.index-in-threes-2.ensures ∙ ap (λ (fs : List Feed). get_or fs (p + 1) two) feeds in
+    let third : three ≡ get_or link.feeds (p + 2) three =
+    c.index-in-threes-3.ensures ∙ ap (λ (fs : List Feed). get_or fs (p + 2) three) feeds in
     record {
       room = search rules;
       come = search rules;
-      value = inflow_three c.args.net.now read link.entry link.feeds link.feeds i one two three c.threes.come
+      value = inflow_three c.args.net.now read link.entry link.feeds link.feeds p one two three c.threes.come
           (brought c.args.net.now read one) (brought c.args.net.now read two) (brought c.args.net.now read three) _ refl
-          (omega (arith, c.threes-test.true, c.len-threes.ensures, ap length feeds)) c.threes.invariant.value
-          (ap (brought c.args.net.now read) first) (ap (brought c.args.net.now read) second)
-          (ap (brought c.args.net.now read) third) c.add_three.ensures.value;
+          (omega (arith, c.threes-test.true, c.len.ensures, c.len-fours.ensures, ap length feeds)) c.threes.invariant.value
+          (ap (brought c.args.net.now read) first) (ap (brought c.args.net.now read) second) (ap (brought c.args.net.now read) third) c.add_three.ensures.value
+          ∙ ap (λ n. inflow_of c.args.net.now read link.entry (take n link.feeds)) next;
       small = λ k d h. omega (
         arith,
-        c.add_three.ensures.grows ((3 * c.threes.i + 1) * 2 ^ 44) c.threes.invariant.small k d h,
+        c.add_three.ensures.grows ((p + 1) * 2 ^ 44) c.threes.invariant.small k d h,
       );
     }
 

@@ -1,0 +1,16 @@
+-- A profile is shared and made ready step by step.
+use Rattle.std.proofs.Common.{◌≡◌, ℕ, ◌*◌, ◌^◌, ◌<◌, ◌≤◌, get_or, take, sum_by}
+use Rattle.transyt_profile.specs.Profile.{share_of}
+use Rattle.transyt_profile.proofs.readying.share_ready.Given as goal
+
+-- the steps passed have their shares and their products; they have this sum, and none is above the greatest so far
+abbrev pub invariant-loop-i : goal.invariant-loop-i
+invariant-loop-i l = record {
+  shared : (k : ℕ) → k < l.i → get_or l.out k 0 ≡ share_of l.part.part l.part.whole (get_or l.x k 0);
+  small : (k : ℕ) → k < l.i → get_or l.out k 0 < 2 ^ 44;
+  ready : (k : ℕ) → k < l.i → get_or l.out k 0 < 2 ^ 22 → get_or l.ready k 0 ≡ get_or l.out k 0 * l.factor;
+  most : (k : ℕ) → k < l.i → get_or l.out k 0 ≤ l.greatest;
+  greatest : l.greatest < 2 ^ 44;
+  so_far : l.total ≡ sum_by (share_of l.part.part l.part.whole) (take l.i l.x);
+  total : l.total ≤ l.i * 2 ^ 44;
+}
