@@ -21,3 +21,6 @@ pub use climbing::climb_by_rounds;
 pub use desks::Desks;
 pub use gate::{Gate, OpenGate};
 pub use settling::Round;
+
+#[cfg(test)]
+mod tests;

@@ -1,0 +1,7 @@
+-- Desks that stand for one network are alike.
+use Rattle.std.proofs.Common.{ap}
+use Rattle.transyt_net.specs.Shape.{shape}
+use Rattle.transyt_desks.proofs.tests.align.Goals as goal
+
+pub align-requires : goal.align-requires
+align-requires g c = record { shape = record { shape = λ k less. ap shape (c.requires.same k less) } }
