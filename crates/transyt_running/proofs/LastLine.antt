@@ -43,17 +43,12 @@ module _ {by : Answering} {before : List (List ℕ)} {out : List ℕ} {steps ste
 
   -- its steps are the last
   pub steps_line : {refused : Bool} {steps_new : ℕ} → by.ends before line ≡ Some refused
-      → steps_new ≡ steps_old + by.cost before line → StepsAll by left taken steps steps_new
+      → steps_new ≡ steps_old + by.cost before line → StepsAll by taken steps steps_new
   steps_line {refused} {steps_new} is cost =
-      let sum : (all behind : List (List ℕ)) → all ≡ (before ++ line ∷ []) ++ behind
-      → steps_new ≡ steps + costs_by by all = λ all behind parts.
-      let e : steps + costs_by by all ≡ steps_old + (by.cost before line + 0) =
-      ap (λ (ls : List (List ℕ)). steps + costs_by by ls) parts ∙ line_costs so line is behind in
-      omega (arith, e, cost) in
-      elim (whole_given stands) [
-        | inl at_end ↦ let all = lines_given stands in inl (at_end, sum (lines taken) all.0 all.1)
-        | inr some ↦ inr (sum (whole taken) some.0 some.1)
-      ]
+      let all = lines_given stands in
+      let e : steps + costs_by by (lines taken) ≡ steps_old + (by.cost before line + 0) =
+      ap (λ (ls : List (List ℕ)). steps + costs_by by ls) all.1 ∙ line_costs so line is all.0 in
+      omega (arith, e, cost)
 
   -- the answer to the line is cut off
   pub part_of_line : (front back : List ℕ) → front ++ back ≡ by.text before line → IsPart (of_lines by) left taken (out ++ front)

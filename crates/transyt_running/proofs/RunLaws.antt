@@ -14,8 +14,8 @@ use Rattle.transyt_io.specs.Reading.{HasRead, ReadsLine, HandedOut, AnswerSays, 
 use Rattle.transyt_io.specs.Streams.{Takes, Adds, AddsFront}
 use Rattle.transyt_io.proofs.Told.{takes_nothing, takes_both, adds_nothing, adds_both}
 use Rattle.transyt_io.proofs.Reading.{new_has_read}
-use Rattle.transyt_running.specs.declared.answerer.Stop.{Stop}
-use Rattle.transyt_running.specs.declared.answerer.Stop.TheVariants.{Write, Memory}
+use Rattle.transyt_running.specs.declared.ending.Stop.{Stop}
+use Rattle.transyt_running.specs.declared.ending.Stop.TheVariants.{Write, Memory}
 use Rattle.transyt_running.specs.declared.status.Status.{Status}
 use Rattle.transyt_running.specs.declared.status.Status.TheVariants.{Done, DeckRefused, ReadFault, TooLong, WriteFault}
 use Rattle.transyt_running.specs.declared.status.Status.TheVariants.{NoMemory}
@@ -104,7 +104,7 @@ module _ {by : Answering} {answered : List (List ℕ) → Type 0} {count : ℕ} 
       (out : List ℕ) {written_new : Option (List ℕ)} {steps_new : ℕ} (refused : Bool) {status : Status}
       → status ≡ (if refused then DeckRefused else Done) → Adds written written_new out
       → Finished (of_lines by) left_new (taken_by p) out refused
-      → (counted ≡ true → StepsAll by left_new (taken_by p) steps steps_new)
+      → (counted ≡ true → StepsAll by (taken_by p) steps steps_new)
       → Ran by counted left left_new last_new written written_new steps steps_new status
   ran_finished p out true is adds done sum = ran p out DeckRefused is adds done sum
   ran_finished p out false is adds done sum = ran p out Done is adds done sum
@@ -190,7 +190,7 @@ module _ {by : Answering} {answered : List (List ℕ) → Type 0} {count : ℕ} 
       let P : Bool → Type 0 = λ r. Finished (of_lines by) left_new (taken_by p) (way.out ++ text) r in
       ran_finished p (way.out ++ text) refused is (adds_both _ _ _ way.out text way.adds closed.adds)
       (subst P (sym closed.result_is) (finished_end way.so_far left_new (taken_by p) says.0 says.1 says.2))
-      (λ all. inl (says.1, sym (way.counted_all all) ∙ all_costs way.so_far says.0))
+      (λ all. sym (way.counted_all all) ∙ all_costs way.so_far says.0)
 
   -- the answer to the end stops
   pub end_stops : (stop : Stop) (p : ReadsLine old new left_old left_new last_old last_new (Ok End))

@@ -53,11 +53,9 @@ of_lines by = record {
   refused = λ input. is_refused_by by input;
 }
 
--- exactly the steps of all lines where the source was read to its end, else of the whole lines
-abbrev pub StepsAll : Answering → Option (List ℕ) → List ℕ → ℕ → ℕ → Type 0
-StepsAll by left taken steps steps_new =
-    (IsAtEnd left × (steps_new ≡ steps + costs_by by (lines taken)))
-    ⊎ (steps_new ≡ steps + costs_by by (whole taken))
+-- exactly the steps of the lines taken, up to the one that ends the run
+abbrev pub StepsAll : Answering → List ℕ → ℕ → ℕ → Type 0
+StepsAll by taken steps steps_new = steps_new ≡ steps + costs_by by (lines taken)
 
 -- at most these steps
 abbrev pub StepsMost : Answering → Option (List ℕ) → List ℕ → ℕ → ℕ → Type 0
@@ -67,8 +65,8 @@ StepsMost by left taken steps steps_new =
 
 -- the steps of the lines taken: exactly these where the run ended, else at most
 abbrev pub StepsRow : Answering → Option (List ℕ) → List ℕ → ℕ → ℕ → Status → Type 0
-StepsRow by left taken steps steps_new Done = StepsAll by left taken steps steps_new
-StepsRow by left taken steps steps_new DeckRefused = StepsAll by left taken steps steps_new
+StepsRow by left taken steps steps_new Done = StepsAll by taken steps steps_new
+StepsRow by left taken steps steps_new DeckRefused = StepsAll by taken steps steps_new
 StepsRow by left taken steps steps_new ReadFault = steps_new ≤ steps + costs_by by (whole taken)
 StepsRow by left taken steps steps_new TooLong = steps_new ≤ steps + costs_by by (whole taken)
 StepsRow by left taken steps steps_new WriteFault = StepsMost by left taken steps steps_new

@@ -1,5 +1,5 @@
 //! The run over an input that is taken whole: it is judged, and then its lines are written.
-ghost use Rattle.std.specs.Prelude.{◌≡◌, ◌≤◌, ◌+◌, ℕ, List, length, IfOk};
+ghost use Rattle.std.specs.Prelude.{◌≡◌, ◌≢◌, ◌≤◌, ◌+◌, ℕ, List, length, IfOk};
 ghost use Rattle.transyt_io.specs.Streams.{Rose};
 ghost use Rattle.transyt_running.specs.Outcome.{Outcome};
 ghost use Rattle.transyt_whole.specs.Answer.{AnswerValue, of_whole};
@@ -34,6 +34,19 @@ pub trait Whole {
         ensures more_steps { steps.old ≤ steps.new };
 }
 
+/// Writes the lines of an answer, one after another.
+pub fn say<K: Sink>(found: &Answer, line: &mut LineBuffer, sink: &mut K) -> Status
+    ensures told { Told found.now (K.written sink.old) (K.written sink.new) result }
+    ensures later { K.faults sink.old ≤ K.faults sink.new }
+    ensures fault { result ≡ Status.WriteFault → Rose (K.faults sink.old) (K.faults sink.new) }
+    ensures said { result ≢ Status.NoMemory }
+{
+    if let Err(Failed) = print_lines(found.lines(), line, sink) {
+        return Status::WriteFault;
+    }
+    ended(found.is_refused())
+}
+
 /// Judges an input and writes the lines of the answer.
 fn answer<T: Whole, K: Sink, L: Ledger>(
     alloc: Global,
@@ -55,10 +68,7 @@ fn answer<T: Whole, K: Sink, L: Ledger>(
     let Ok(found) = word.judge(alloc, input, steps) else {
         return Status::NoMemory;
     };
-    if let Err(Failed) = print_lines(found.lines(), line, sink) {
-        return Status::WriteFault;
-    }
-    ended(found.is_refused())
+    say(&found, line, sink)
 }
 
 /// Takes a source whole, and answers what it gave. The memory for reading and writing is taken before the first read,

@@ -1,0 +1,47 @@
+//! The status of a run by what ended it.
+ghost use Rattle.std.specs.Prelude.{◌≡◌, if◌then◌else◌};
+
+use crate::status::Status;
+use transyt_io::ReadStop;
+
+/// Why an answer stopped.
+#[derive(Clone, Copy, Drop)]
+pub enum Stop {
+    /// The sink failed.
+    Write,
+    /// Out of memory.
+    Memory,
+}
+
+/// The status of a run that a line or the end of the input ended.
+pub fn ended(refused: bool) -> Status
+    ensures { result ≡ (if refused then Status.DeckRefused else Status.Done) }
+{
+    if refused {
+        Status::DeckRefused
+    } else {
+        Status::Done
+    }
+}
+
+/// The status of a run that an answer ended.
+pub fn stopped(stop: Stop) -> Status
+    ensures write { stop ≡ Stop.Write → result ≡ Status.WriteFault }
+    ensures memory { stop ≡ Stop.Memory → result ≡ Status.NoMemory }
+{
+    match stop {
+        Stop::Write => Status::WriteFault,
+        Stop::Memory => Status::NoMemory,
+    }
+}
+
+/// The status of a run that a read ended.
+pub fn stopped_reading(stop: ReadStop) -> Status
+    ensures fault { stop ≡ ReadStop.Fault → result ≡ Status.ReadFault }
+    ensures long { stop ≡ ReadStop.TooLong → result ≡ Status.TooLong }
+{
+    match stop {
+        ReadStop::Fault => Status::ReadFault,
+        ReadStop::TooLong => Status::TooLong,
+    }
+}
