@@ -1,3 +1,4 @@
 pub mod AfterDeck
+pub mod Audit
 pub mod Counts
 pub mod Equisat

@@ -29,7 +29,8 @@ pub trait DeckWord {
         table: &[u8],
         steps: &mut Steps<L>,
     ) -> Result<Answer, AllocError>
-        requires { length table.now ≤ 4194304 }
+        requires table { length table.now ≤ 4194304 }
+        requires line { line ≤ 4194304 }
         ensures answer { IfOk result (λ found. found ≡ answer self.now net.now line table.now) }
         ensures steps { steps.new ≤ steps.old + most self.now net.now line table.now }
         ensures more_steps { steps.old ≤ steps.new };

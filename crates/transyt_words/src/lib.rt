@@ -1,12 +1,14 @@
-//! The words that take a deck and what stands after it: `counts` and `equisat`.
+//! The words that take a deck and what stands after it: `counts`, `equisat` and `audit`.
 #![tactic(auto)]
 
 mod after_deck;
+mod audit;
 mod counts;
 mod equisat;
 mod lines;
 
 pub use after_deck::{AfterDeck, DeckWord};
+pub use audit::AuditWord;
 pub use counts::CountsWord;
 pub use equisat::EquisatWord;
 

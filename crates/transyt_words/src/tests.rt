@@ -1,7 +1,7 @@
 //! Decks with their answers, which were worked out apart: taken whole and by single bytes.
 ghost use Rattle.std.specs.Prelude.{◌≡◌, ◌<◌};
 
-use crate::{AfterDeck, CountsWord, EquisatWord};
+use crate::{AfterDeck, AuditWord, CountsWord, EquisatWord};
 use std::alloc::{AllocError, Global};
 use std::marker::Brand;
 use std::sync::ledger::{Blank, Ledger};
@@ -23,9 +23,16 @@ const BALANCED: &str =
 const EMPTY: &str =
     "CYCLE 60 10 1 60 100\nNODE 1 0\nSTAGE 0 1 2\nSTAGE 5 1 2\nLINK 1 1 0 1800 1 1 1\nEND";
 
+const PLANNED: &str =
+    "CYCLE 60 10 1 60 100\nNODE 1 0\nSTAGE 8 1 2\nSTAGE 5 1 2\nLINK 1 1 360 1800 1 1 1\nSTEPS 100 1\nEND\n";
+
+const CERTIFICATE: &str =
+    "MOVE 0 OFFSET 1 1 INDEX 889826\nMOVE 1 OFFSET 1 9 INDEX 889826\nMOVE 2 CHANGE 1 1 9 INDEX 1352922\nMOVE 3 CHANGE 1 1 7 BARRED\nMOVE 4 CHANGE 1 2 6 BARRED\nMOVE 5 CHANGE 1 2 4 INDEX 1352922\nCERT 6 INDEX 889826\n";
+
 /// A word of this crate.
 #[derive(Clone, Copy, Drop)]
 enum Asked {
+    Audit,
     Counts,
     Equisat,
 }
@@ -44,6 +51,13 @@ fn run_counted<L: Ledger>(
 {
     let mut steps = Steps::<L>::begin(blank);
     match asked {
+        Asked::Audit => answer_whole(
+            alloc,
+            &AfterDeck { word: AuditWord },
+            source,
+            sink,
+            &mut steps,
+        ),
         Asked::Counts => answer_whole(
             alloc,
             &AfterDeck { word: CountsWord },
@@ -150,6 +164,41 @@ fn balances_each_node(rt: HostRuntime) -> Result<(), Fail> {
             let mut source = MemorySource::new(joined(alloc, deck, more)?, piece, Vec::new(alloc));
             let mut sink = MemorySink::new(alloc, 4096, piece, Vec::new(alloc))?;
             assert_eq!(rt; run(alloc, Asked::Equisat, &mut source, &mut sink), status);
+            assert_eq!(rt; sink.bytes(), wanted.as_bytes());
+        }
+    }
+    Ok(())
+}
+
+#[test]
+fn audits_a_certificate(rt: HostRuntime) -> Result<(), Fail> {
+    let alloc = rt.alloc();
+    let table: [(&str, &str, &str, Status); 4] = [
+        (
+            PLANNED,
+            CERTIFICATE,
+            "AUDIT YES 6 INDEX 889826\n",
+            Status::Done,
+        ),
+        (
+            PLANNED,
+            "MOVE 0 OFFSET 1 1 INDEX 889826\n",
+            "AUDIT NO 9 28\n",
+            Status::Done,
+        ),
+        (ONE, CERTIFICATE, "AUDIT NO 6 26\n", Status::Done),
+        (
+            "\n* x\n",
+            "CYCLE 90 18 3 45 37\n",
+            "CARD 4 REFUSED 21\n",
+            Status::DeckRefused,
+        ),
+    ];
+    for (deck, more, wanted, status) in table {
+        for piece in [1, 8192] {
+            let mut source = MemorySource::new(joined(alloc, deck, more)?, piece, Vec::new(alloc));
+            let mut sink = MemorySink::new(alloc, 4096, piece, Vec::new(alloc))?;
+            assert_eq!(rt; run(alloc, Asked::Audit, &mut source, &mut sink), status);
             assert_eq!(rt; sink.bytes(), wanted.as_bytes());
         }
     }

@@ -1,0 +1,7 @@
+-- The lemmas of the crate.
+pub mod TrueLines
+pub mod Onward
+pub mod GivenLines
+pub mod YesLaws
+pub mod OwnText
+pub mod Worked

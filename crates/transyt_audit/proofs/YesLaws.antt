@@ -1,0 +1,214 @@
+-- What Yes says.
+use Rattle.std.proofs.Common.{◌≡◌, ℕ, zero, suc, ◌+◌, ◌<◌, ◌≤◌, Bool, true, false, nat_le, nat_lt, List}
+use Rattle.std.proofs.Common.{[], ◌∷◌, map, length, get_or}
+use Rattle.std.proofs.Common.{Option, Some, None, refl, sym, ap, ◌∙◌, arith, cond, if◌then◌else◌}
+use Rattle.std.specs.Str.{bytes_eq}
+use Rattle.std.proofs.lemmas.Slice.Eq.{bytes_eq-Decides}
+use Rattle.std.proofs.lemmas.Bool.{and_parts, and_from}
+use Rattle.std.proofs.lemmas.List.{length-map}
+use Rattle.std.proofs.lemmas.List.Elements.{All-nil, All-cons, All-head, All-tail}
+use Rattle.std.proofs.Common.{All, is_some}
+use Rattle.transyt_syntax.specs.declared.code.Code.{Code}
+use Rattle.transyt_syntax.specs.declared.code.Code.TheVariants as code
+use Rattle.transyt_parts.specs.Parts.{PlanValue}
+use Rattle.std.proofs.lemmas.Bool.Decides.{nat_tests}
+use Rattle.transyt_io.specs.Lines.{lines, words}
+use Rattle.transyt_net.specs.Parts.{Network}
+use Rattle.transyt_moves.specs.Moves.{move_count}
+use Rattle.transyt_sweep.specs.Sweeps.{index}
+use Rattle.transyt_sweep.specs.Climb.{is_below}
+use Rattle.transyt_cert.specs.Certificate.{CertLine, cert_line, cert_lines, cert_text}
+use Rattle.transyt_cert.proofs.CertificateLaws.{lines_certificate}
+use Rattle.transyt_audit.specs.declared.verdict.Verdict.{Verdict}
+use Rattle.transyt_audit.specs.declared.verdict.Verdict.TheVariants.{Yes}
+use Rattle.transyt_audit.specs.Given.{Given, given_from, same_words, agrees, first_wrong, first_missing}
+use Rattle.transyt_audit.specs.Given.{first_lower}
+use Rattle.transyt_audit.specs.Verdict.{no_or, without_plan, judged, verdict}
+use Rattle.transyt_audit.specs.Certified.{IsShort, IsCertified}
+use Rattle.transyt_audit.proofs.TrueLines.{length-cert_lines, length-cert_texts, line_at, lowers_is}
+
+-- Yes comes where nothing was found
+none_found : (o : Option ℕ) (why : Code) (later : Verdict) (places x : ℕ) → no_or o why later ≡ Yes places x
+    → (o ≡ None) × (later ≡ Yes places x)
+none_found None why later places x h = (refl, h)
+none_found (Some line) why later places x h = absurd (cc)
+
+-- the same words are equal
+same_equal : (us vs : List (List ℕ)) → same_words us vs ≡ true → us ≡ vs
+same_equal [] [] h = refl
+same_equal [] (v ∷ vs) h = absurd (cc)
+same_equal (u ∷ us) [] h = absurd (cc)
+same_equal (u ∷ us) (v ∷ vs) h =
+    let both = and_parts (bytes_eq u v) (same_words us vs) h in
+    λ j. (bytes_eq-Decides u v).0 both.0 j ∷ same_equal us vs both.1 j
+
+-- where no given line is wrong and no true one missing, they agree line by line
+all_right : (gs : List Given) (truths : List (List ℕ)) (next : ℕ) → first_wrong gs truths ≡ None
+    → first_missing gs truths next ≡ None → map (λ g. words g.line) gs ≡ map words truths
+all_right [] [] next right there = refl
+all_right [] (t ∷ ts) next right there =
+    let more : nat_lt 0 (length (t ∷ ts)) ≡ true = grind (arith, nat_tests) in
+    let never : Some next ≡ None = sym (ap (λ b. cond b (Some next) None) more) ∙ there in
+    absurd (cc)
+all_right (g ∷ gs) [] next right there = absurd (cc)
+all_right (g ∷ gs) (t ∷ ts) next right there =
+    by (agrees g.line t) (λ right there. all_right gs ts next right there) refl right
+  where
+    by : (b : Bool) → (first_wrong gs ts ≡ None → first_missing gs ts next ≡ None
+        → map (λ g. words g.line) gs ≡ map words ts)
+        → agrees g.line t ≡ b → (if b then first_wrong gs ts else Some g.number) ≡ None
+        → map (λ g. words g.line) (g ∷ gs) ≡ map words (t ∷ ts)
+    by false more is h = absurd (cc)
+    by true more is h =
+        let same = and_parts (nat_le (length g.line) 4096) (same_words (words g.line) (words t)) is in
+        let shorter : nat_lt (length gs) (length ts)
+        ≡ nat_lt (length (g ∷ gs)) (length (t ∷ ts)) = grind (arith, nat_tests) in
+        let rest = more h (ap (λ t. cond t (Some next) None) shorter ∙ there) in
+        λ j. same_equal (words g.line) (words t) same.1 j ∷ rest j
+
+-- as many given lines as true ones
+right_length : (gs : List Given) (truths : List (List ℕ)) (next : ℕ) → first_wrong gs truths ≡ None
+    → first_missing gs truths next ≡ None → length truths ≤ length gs
+right_length gs truths next right there = by (nat_lt (length gs) (length truths)) refl there
+  where
+    by : (b : Bool) → nat_lt (length gs) (length truths) ≡ b → cond b (Some next) None ≡ None
+        → length truths ≤ length gs
+    by true is h = absurd (cc)
+    by false is h = grind (arith, nat_tests)
+
+-- where none was found to be lower, none is
+none_below : (x : ℕ) (gs : List Given) (ls : List CertLine) (i : ℕ) (d : CertLine) → first_lower x gs ls ≡ None
+    → length ls ≤ length gs → i < length ls → is_below x (get_or ls i d).tried ≡ false
+none_below x gs [] i d none enough inside = absurd (omega arith)
+none_below x [] (l ∷ ls) i d none enough inside = absurd (omega arith)
+none_below x (g ∷ gs) (l ∷ ls) i d none enough inside =
+    by (is_below x l.tried) i (λ k none inside. none_below x gs ls k d none (omega
+    (arith, enough)) inside) refl none inside
+  where
+    by : (b : Bool) (i : ℕ) → ((k : ℕ) → first_lower x gs ls ≡ None → k < length ls
+        → is_below x (get_or ls k d).tried ≡ false)
+        → is_below x l.tried ≡ b → (if b then Some g.number else first_lower x gs ls) ≡ None
+        → i < length (l ∷ ls) → is_below x (get_or (l ∷ ls) i d).tried ≡ false
+    by true i more is h inside = absurd (cc)
+    by false zero more is h inside = is
+    by false (suc i) more is h inside = more i h (omega (arith, inside))
+
+-- where no given line is wrong none is too long
+all_short : (gs : List Given) (truths : List (List ℕ)) → first_wrong gs truths ≡ None → All IsShort gs
+all_short [] truths right = All-nil IsShort
+all_short (g ∷ gs) [] right = absurd (cc)
+all_short (g ∷ gs) (t ∷ ts) right = by (agrees g.line t) (λ right. all_short gs ts right) refl right
+  where
+    by : (b : Bool) → (first_wrong gs ts ≡ None → All IsShort gs) → agrees g.line t ≡ b
+        → (if b then first_wrong gs ts else Some g.number) ≡ None → All IsShort (g ∷ gs)
+    by false more is h = absurd (cc)
+    by true more is h =
+        let both = and_parts (nat_le (length g.line) 4096) (same_words (words g.line) (words t)) is in
+        let few : length g.line ≤ 4096 = grind (arith, nat_tests, both.0) in
+        All-cons IsShort g gs few (more h)
+
+-- a test of a plan that passed
+planned_is : (plan : Option PlanValue) (line : ℕ) → without_plan plan line ≡ None → is_some plan ≡ true
+planned_is None line h = absurd (cc)
+planned_is (Some p) line h = refl
+
+-- Yes proves that no listed move lowers the index
+pub yes_certifies : (net : Network) (table : List ℕ) (line places x : ℕ) → verdict net table line ≡ Yes places x
+    → IsCertified net table line places x
+yes_certifies net table line places x is =
+    let given = given_from (line + 1) (lines table) in
+    let truths = lines (cert_text net) in
+    let next = line + 1 + length (lines table) in
+    let planned = none_found (without_plan net.plan line) code.NoPlan (judged net given next) places x is in
+    let right = none_found (first_wrong given truths) code.OtherLine _ places x planned.1 in
+    let there = none_found (first_missing given truths next) code.OtherLine _ places x right.1 in
+    let higher = none_found (first_lower (index net) given (cert_lines net)) code.LowerIndex
+    (Yes (move_count net) (index net)) places x there.1 in
+    record {
+      planned = planned_is net.plan line planned.0;
+      short = all_short given truths right.0;
+      same = all_right given truths next right.0 there.0;
+      local = λ place inside.
+          sym (lowers_is net place)
+          ∙ ap (λ l. is_below (index net) l.tried) (sym (line_at net place (cert_line net 0) inside))
+          ∙ none_below (index net) given (cert_lines net) place (cert_line net 0) higher.0
+          (omega (
+            arith,
+            right_length given truths next right.0 there.0,
+            ap length (lines_certificate net),
+            length-cert_texts net,
+            length-cert_lines net,
+          ))
+          (omega (arith, inside, length-cert_lines net));
+      count = cc;
+      present = cc;
+    }
+
+-- words are the same as themselves
+same_self : (us : List (List ℕ)) → same_words us us ≡ true
+same_self [] = refl
+same_self (u ∷ us) = and_from (bytes_eq u u) (same_words us us) ((bytes_eq-Decides u u).1 refl) (same_self us)
+
+-- a short line with the words of the true one agrees with it
+agrees_from : (line truth : List ℕ) → length line ≤ 4096 → words line ≡ words truth → agrees line truth ≡ true
+agrees_from line truth few same =
+    let short : nat_le (length line) 4096 ≡ true = grind (arith, nat_tests) in
+    and_from (nat_le (length line) 4096) (same_words (words line) (words truth)) short
+    (ap (same_words (words line)) (sym same) ∙ same_self (words line))
+
+-- lines that have the true words are not wrong
+right_from : (gs : List Given) (truths : List (List ℕ)) → All IsShort gs
+    → map (λ g. words g.line) gs ≡ map words truths → first_wrong gs truths ≡ None
+right_from [] truths short same = refl
+right_from (g ∷ gs) [] short same = absurd (cc)
+right_from (g ∷ gs) (t ∷ ts) short same =
+    let here : words g.line ≡ words t = cc in
+    let rest : map (λ g. words g.line) gs ≡ map words ts = cc in
+    ap (λ b. cond b (first_wrong gs ts) (Some g.number))
+    (agrees_from g.line t (All-head IsShort g gs short) here)
+    ∙ right_from gs ts (All-tail IsShort g gs short) rest
+
+-- and where they are as many as the true ones, none is missing
+there_from : (gs : List Given) (truths : List (List ℕ)) (next : ℕ) → length gs ≡ length truths
+    → first_missing gs truths next ≡ None
+there_from gs truths next same =
+    let none : nat_lt (length gs) (length truths) ≡ false = grind (arith, nat_tests, same) in
+    ap (λ b. cond b (Some next) None) none
+
+-- where no index is lower none is found
+higher_from : (x : ℕ) (gs : List Given) (ls : List CertLine) (d : CertLine)
+    → ((i : ℕ) → i < length ls → is_below x (get_or ls i d).tried ≡ false) → first_lower x gs ls ≡ None
+higher_from x [] ls d none = refl
+higher_from x (g ∷ gs) [] d none = refl
+higher_from x (g ∷ gs) (l ∷ ls) d none =
+    ap (λ b. cond b (Some g.number) (first_lower x gs ls)) (none 0 (omega arith))
+    ∙ higher_from x gs ls d (λ i inside. none (suc i) (omega (arith, inside)))
+
+-- there is a plan: the test passes
+without_none : (plan : Option PlanValue) (line : ℕ) → is_some plan ≡ true → without_plan plan line ≡ None
+without_none None line h = absurd (cc)
+without_none (Some p) line h = refl
+
+-- and what proves it is answered Yes
+pub certified_yes : (net : Network) (table : List ℕ) (line places x : ℕ) → IsCertified net table line places x
+    → verdict net table line ≡ Yes places x
+certified_yes net table line places x c =
+    let given = given_from (line + 1) (lines table) in
+    let truths = lines (cert_text net) in
+    let next = line + 1 + length (lines table) in
+    let yes = Yes (move_count net) (index net) in
+    let lower = first_lower (index net) given (cert_lines net) in
+    let as_many : length given ≡ length truths =
+    sym (length-map given (λ g. words g.line)) ∙ ap length c.same ∙ length-map truths words in
+    let higher = higher_from (index net) given (cert_lines net) (cert_line net 0) (λ i inside.
+    let here : i < move_count net = omega (arith, inside, length-cert_lines net) in
+    ap (λ l. is_below (index net) l.tried) (line_at net i (cert_line net 0) here) ∙ lowers_is net i
+    ∙ c.local i here) in
+    let count = sym c.count in
+    let present = sym c.present in
+    ap (λ o. no_or o code.NoPlan (judged net given next)) (without_none net.plan line c.planned)
+    ∙ ap (λ o. no_or o code.OtherLine (no_or (first_missing given truths next) code.OtherLine (no_or lower code.LowerIndex yes)))
+    (right_from given truths c.short c.same)
+    ∙ ap (λ o. no_or o code.OtherLine (no_or lower code.LowerIndex yes)) (there_from given truths next as_many)
+    ∙ ap (λ o. no_or o code.LowerIndex yes) higher
+    ∙ (λ j. Yes (count j) (present j))

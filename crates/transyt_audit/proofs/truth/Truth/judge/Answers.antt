@@ -1,0 +1,30 @@
+-- After the list of moves stands the last line.
+use Rattle.std.proofs.Common.{◌≡◌, false, ◌&&◌, nat_lt, cond, ap, sym, ◌∙◌, arith}
+use Rattle.std.proofs.lemmas.Bool.Decides.{nat_tests}
+use Rattle.transyt_moves.specs.Moves.{move_count}
+use Rattle.transyt_sweep.specs.Sweeps.{index}
+use Rattle.transyt_sweep.specs.Climb.{lowers}
+use Rattle.transyt_cert.specs.Texts.{joined}
+use Rattle.transyt_cert.specs.Certificate.{end_words}
+use Rattle.transyt_audit.specs.declared.truth.Finding.TheVariants.{Wrong}
+use Rattle.transyt_audit.specs.Given.{agrees}
+use Rattle.transyt_audit.specs.Findings.{finding_of}
+use Rattle.transyt_audit.proofs.TrueLines.{text_last}
+use Rattle.transyt_audit.proofs.truth.Truth.judge.Goals as goal
+
+pub returns-clause-finding : goal.returns-clause-finding
+returns-clause-finding g c =
+    let net = c.args.self.now in
+    let place = c.args.place in
+    let count : c.self.inside.places ≡ move_count net = c.self.invariant.0 ∙ ap move_count c.self.view_is in
+    let present : c.self.inside.present ≡ index net = c.self.invariant.1 ∙ ap index c.self.view_is in
+    let last : place ≡ move_count net = omega (arith, c.if-place-self.false, c.if-place-self-2.false, count) in
+    let text = c.bytes.ensures.bytes ∙ c.put_end.ensures.text ∙ (λ j. joined (end_words (count j) (present j)))
+    ∙ sym (text_last net place last) in
+    let there : nat_lt (move_count net) place ≡ false = grind (arith, nat_tests) in
+    let no_move : nat_lt place (move_count net) ≡ false = grind (arith, nat_tests) in
+    let same = c.agrees.ensures ∙ ap (agrees c.args.line.now) text in
+    let from_there = sym there in
+    let from_no_move = sym no_move in
+    c.finding_of.ensures
+    ∙ (λ j. cond (from_there j) Wrong (finding_of (same j) (from_no_move j && lowers net place)))
