@@ -1,0 +1,4 @@
+-- The lemmas of the crate.
+pub mod CountedLaws
+pub mod TableLaws
+pub mod RowLaws

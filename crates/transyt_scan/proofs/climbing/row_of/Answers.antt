@@ -1,0 +1,37 @@
+-- The numbers of the row are those of the climb.
+use Rattle.std.proofs.Common.{◌≡◌, Some, None, true, refl, sym, ◌∙◌, ap}
+use Rattle.transyt_parts.specs.declared.frame.Frame.{Frame}
+use Rattle.transyt_net.specs.Parts.{Network}
+use Rattle.transyt_sweep.specs.Sweeps.{index}
+use Rattle.transyt_sweep.specs.Climb.{climb, ended}
+use Rattle.transyt_climb.specs.Turns.{start_of}
+use Rattle.transyt_scan.proofs.RowLaws.{row_is, IsPlanned, planned, unplanned}
+use Rattle.transyt_scan.proofs.climbing.row_of.Goals as goal
+
+-- the climber is at its start
+pub count_steps-ended-requires-clause-start : goal.count_steps-ended-requires-clause-start
+count_steps-ended-requires-clause-start g c =
+    (planned c.args.session.now.net c.in-Some.climber
+    (sym c.in-Some.is ∙ c.start.ensures ∙ ap (λ (n : Network). start_of n n.plan) c.net-2.ensures)).start
+
+-- the row of a climb
+pub returns : goal.returns
+returns g c =
+    let net : Network = c.args.session.now.net in
+    let plan : IsPlanned net c.in-Some.climber =
+    planned net c.in-Some.climber
+    (sym c.in-Some.is ∙ c.start.ensures ∙ ap (λ (n : Network). start_of n n.plan) c.net-2.ensures) in
+    row_is net (climb net 0 c.in-Some.climber.budget) plan.climb_is
+    (ap (λ (f : Frame). f.cycle) c.frame-cycle.ensures.value ∙ ap (λ (n : Network). n.frame.cycle) c.net.ensures)
+    c.index-from.ensures c.count_steps-ended.ensures.took c.count_steps-ended.ensures.local
+    (c.looked.ensures.value ∙ c.count_steps-ended.ensures.looked)
+    (c.index.ensures ∙ ap index c.count_steps-ended.ensures.net)
+
+-- the row where nothing is listed
+pub returns-in_default : goal.returns-in_default
+returns-in_default g c =
+    let net : Network = c.args.session.now.net in
+    row_is net (ended true net 0 0)
+    (unplanned net (sym c.in_default.is ∙ c.start.ensures ∙ ap (λ (n : Network). start_of n n.plan) c.net-2.ensures))
+    (ap (λ (f : Frame). f.cycle) c.frame-cycle.ensures.value ∙ ap (λ (n : Network). n.frame.cycle) c.net.ensures)
+    c.index-from.ensures refl refl refl c.index-from.ensures

@@ -1,0 +1,4 @@
+pub mod Rows
+pub mod Best
+pub mod Scan
+pub mod WorkedScan

@@ -1,0 +1,58 @@
+-- Worked climbs over cycle times.
+use Rattle.std.specs.Prelude.{ℕ, Bool, true, false, List, [], ◌∷◌, Option, None, Some}
+use Rattle.transyt_parts.specs.Parts.{PlanValue}
+use Rattle.transyt_net.specs.Parts.{Network, with_cycle}
+use Rattle.transyt_stage.specs.ThreeJunctions.{three_junctions}
+use Rattle.transyt_climb.specs.WorkedTurns.{idle}
+use Rattle.transyt_whole.specs.declared.line.AnswerLine.{AnswerLine}
+use Rattle.transyt_whole.specs.declared.line.AnswerLine.TheVariants as line
+use Rattle.transyt_whole.specs.declared.line.ScanLine.TheVariants as said
+use Rattle.transyt_whole.specs.declared.line.Climbed.{Climbed}
+use Rattle.transyt_scan.specs.declared.asked.CycleTimes.{CycleTimes}
+
+-- from 60 to 120 seconds by 17, which misses the highest
+abbrev pub from_60 : CycleTimes
+from_60 = record { low = 60; high = 120; by = 17 }
+
+-- from 44 to 51 seconds by 7, which meets it
+abbrev pub from_44 : CycleTimes
+from_44 = record { low = 44; high = 51; by = 7 }
+
+-- 72 seconds alone
+abbrev pub at_72 : CycleTimes
+at_72 = record { low = 72; high = 72; by = 210 }
+
+-- the network without links, whose list has six places, with another climb plan or with none
+abbrev pub idle_with : Option PlanValue → Network
+idle_with plan = record idle { plan = plan }
+
+-- a climb plan with a budget of four looks
+abbrev pub four_looks : Option PlanValue
+four_looks = Some (record { budget = 4; sizes = 2 ∷ [] })
+
+-- the row of a climb that takes no step where the index is 0
+abbrev pub stayed : ℕ → Bool → ℕ → Climbed
+stayed cycle local looked = record { cycle = cycle; from = 0; took = 0; local = local; looked = looked; to = 0 }
+
+-- the three junctions, whose cycle time is 90 seconds, at 61
+abbrev pub junctions_at_61 : Network
+junctions_at_61 = with_cycle three_junctions 61
+
+-- a row
+abbrev pub row : ℕ → ℕ → ℕ → Bool → ℕ → ℕ → Climbed
+row cycle from took local looked to =
+    record { cycle = cycle; from = from; took = took; local = local; looked = looked; to = to }
+
+-- rows of which the second and the third have the least index at the end
+abbrev pub four_rows : List Climbed
+four_rows = row 50 9 1 true 11 7 ∷ row 58 8 2 false 20 3 ∷ row 66 5 4 true 13 3 ∷ row 74 4 0 true 6 4 ∷ []
+
+-- their lines, and the last line
+abbrev pub five_lines : List AnswerLine
+five_lines =
+    line.Scan (said.Cycle (row 50 9 1 true 11 7))
+    ∷ line.Scan (said.Cycle (row 58 8 2 false 20 3))
+    ∷ line.Scan (said.Cycle (row 66 5 4 true 13 3))
+    ∷ line.Scan (said.Cycle (row 74 4 0 true 6 4))
+    ∷ line.Scan (said.Best 58 3)
+    ∷ []
