@@ -1,0 +1,30 @@
+-- How many lines a deck is read from.
+use Rattle.std.proofs.Common.{◌≡◌, ℕ, ◌+◌, ◌≤◌, List, Result, Ok, Err, refl, arith}
+use Rattle.transyt_syntax.specs.declared.code.Code.{Code}
+use Rattle.transyt_deck.specs.declared.state.Part.TheVariants as p
+use Rattle.transyt_deck.specs.declared.state.State.{State}
+use Rattle.transyt_deck.specs.declared.state.State.TheVariants as s
+use Rattle.transyt_deck.specs.State.{state_after}
+use Rattle.transyt_deck.specs.Deck.{Deck, Refused, Complete, Open, deck_at, deck_by, next, line_count}
+
+-- a deck at a line
+count_at : (n : ℕ) (state : State) → line_count (deck_at n state) ≡ n
+count_at n s.Start = refl
+count_at n (s.Formed form) = refl
+count_at n (s.Making form p.Frame net) = refl
+count_at n (s.Making form p.Nodes net) = refl
+count_at n (s.Making form p.Links net) = refl
+count_at n (s.Making form p.Feeds net) = refl
+count_at n (s.Making form p.Plan net) = refl
+count_at n (s.Making form p.End net) = refl
+
+-- by the state after it or its code
+count_by : (n : ℕ) (r : Result State Code) → line_count (deck_by n r) ≡ n
+count_by n (Ok state) = count_at n state
+count_by n (Err code) = refl
+
+-- one line more at most
+pub count_next : (deck : Deck) (line : List ℕ) → line_count (next deck line) ≤ line_count deck + 1
+count_next (Refused number code) line = omega arith
+count_next (Complete number net) line = omega arith
+count_next (Open count state) line = let is = count_by (count + 1) (state_after state line) in omega (arith, is)

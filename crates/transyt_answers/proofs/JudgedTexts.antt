@@ -1,0 +1,62 @@
+-- The text of what was judged is over the session before.
+use Rattle.std.proofs.Common.{◌≡◌, ℕ, List, Option, None, Some, Result, Ok, Err, is_some, if◌then◌else◌, Bool, true, false, refl}
+use Rattle.transyt_syntax.specs.declared.code.Code.{Code}
+use Rattle.transyt_syntax.specs.declared.code.Code.TheVariants as code
+use Rattle.transyt_net.specs.declared.edit.EditFault.{EditFault}
+use Rattle.transyt_net.specs.EditFaults.{edit_fault}
+use Rattle.transyt_commands.specs.declared.command.Command.{Command}
+use Rattle.transyt_commands.specs.declared.command.Command.TheVariants as c
+use Rattle.transyt_commands.specs.Commands.{command_in}
+use Rattle.transyt_session.specs.Session.{SessionValue}
+use Rattle.transyt_answers.specs.declared.answer.Answer.TheVariants as a
+use Rattle.transyt_answers.specs.Commands.{edit_answer, answer_text, answer_to, judged, said_answer, said_judged, line_answer}
+use Rattle.transyt_answers.specs.Commands.{line_judged}
+
+module _ (s t : SessionValue) where
+  -- an edit's answer has no figure
+  edit_said : (fault : Option EditFault) → answer_text t (edit_answer fault) ≡ answer_text s (edit_answer fault)
+  edit_said None = refl
+  edit_said (Some f) = refl
+
+  -- nor has that of TRIAL
+  trial_said : (b : Bool) → answer_text t (if b then a.Refused code.OpenTrial else a.Done)
+      ≡ answer_text s (if b then a.Refused code.OpenTrial else a.Done)
+  trial_said true = refl
+  trial_said false = refl
+
+  -- nor that of BACK and KEEP
+  end_said : (b : Bool) → answer_text t (if b then a.Done else a.Refused code.NoTrial)
+      ≡ answer_text s (if b then a.Done else a.Refused code.NoTrial)
+  end_said true = refl
+  end_said false = refl
+
+-- a command
+command_said : (command : Command) (s : SessionValue)
+    → answer_text (judged command s) (answer_to s command) ≡ answer_text s (answer_to s command)
+command_said (c.Edit e) s = edit_said s (judged (c.Edit e) s) (edit_fault s.net e)
+command_said c.Trial s = trial_said s (judged c.Trial s) (is_some s.before)
+command_said c.Back s = end_said s (judged c.Back s) (is_some s.before)
+command_said c.Keep s = end_said s (judged c.Keep s) (is_some s.before)
+command_said c.Climb s = refl
+command_said c.Cert s = refl
+command_said c.Index s = refl
+command_said c.Links s = refl
+command_said c.Timing s = refl
+command_said (c.Profile link) s = refl
+command_said (c.Plot link) s = refl
+command_said (c.Queue link) s = refl
+command_said c.Work s = refl
+command_said c.Deck s = refl
+command_said c.Stop s = refl
+
+-- what a line says
+said_said : (said : Result (Option Command) Code) (s : SessionValue)
+    → answer_text (said_judged said s) (said_answer s said) ≡ answer_text s (said_answer s said)
+said_said (Err code) s = refl
+said_said (Ok None) s = refl
+said_said (Ok (Some command)) s = command_said command s
+
+-- a line
+pub line_said : (s : SessionValue) (line : List ℕ)
+    → answer_text (line_judged s line) (line_answer s line) ≡ answer_text s (line_answer s line)
+line_said s line = said_said (command_in line) s

@@ -1,0 +1,11 @@
+-- The lemmas of the crate.
+pub mod Answered
+pub mod BriefLaws
+pub mod ClimbTexts
+pub mod MoveLaws
+pub mod OpenedLaws
+pub mod ReadyLaws
+pub mod StepLaws
+pub mod WorkLaws
+pub mod CountLaws
+pub mod JudgedTexts

@@ -1,0 +1,172 @@
+-- What is answered to a command over a session, its text, and the session after it.
+use Rattle.std.specs.Prelude.{ℕ, ◌-◌, ◌++◌, List, [], ◌∷◌, Option, Some, None, Result, Ok, Err, is_some, codes}
+use Rattle.std.specs.Prelude.{flat_map, length, if◌then◌else◌}
+use Rattle.transyt_syntax.specs.declared.code.Code.{Code}
+use Rattle.transyt_syntax.specs.declared.code.Code.TheVariants as code
+use Rattle.transyt_syntax.specs.Codes.{number}
+use Rattle.transyt_parts.specs.Parts.{PlanValue}
+use Rattle.transyt_net.specs.declared.edit.EditFault.{EditFault}
+use Rattle.transyt_net.specs.declared.edit.EditFault.TheVariants as fault
+use Rattle.transyt_net.specs.Parts.{Network}
+use Rattle.transyt_net.specs.Valid.{place_of, link_numbers}
+use Rattle.transyt_net.specs.EditFaults.{edit_fault}
+use Rattle.transyt_deck.specs.Cards.{deck_text}
+use Rattle.transyt_commands.specs.declared.command.Command.{Command}
+use Rattle.transyt_commands.specs.declared.command.Command.TheVariants as c
+use Rattle.transyt_commands.specs.Commands.{command_in}
+use Rattle.transyt_moves.specs.Moves.{move_count}
+use Rattle.transyt_sweep.specs.Sweeps.{index}
+use Rattle.transyt_sweep.specs.Climb.{Step, Climb, climb}
+use Rattle.transyt_track.specs.Work.{cert_work}
+use Rattle.transyt_session.specs.Session.{SessionValue, edited, trial_of, back_of, keep_of, credited}
+use Rattle.transyt_climb.specs.Way.{climbed}
+use Rattle.transyt_cert.specs.Certificate.{cert_text}
+use Rattle.transyt_text.specs.Forms.{form_line}
+use Rattle.transyt_report.specs.declared.showing.Report.TheVariants as report
+use Rattle.transyt_report.specs.MoveTexts.{took_text, end_text}
+use Rattle.transyt_report.specs.Texts.{report_text}
+use Rattle.transyt_plot.specs.Plot.{plot_text}
+use Rattle.transyt_answers.specs.declared.answer.Answer.{Answer}
+use Rattle.transyt_answers.specs.declared.answer.Answer.TheVariants as a
+
+-- the code of an edit's fault
+abbrev pub edit_code : EditFault → Code
+edit_code fault.Unknown = code.Unknown
+edit_code fault.NoFeeder = code.NoFeeder
+edit_code fault.Range = code.Range
+edit_code fault.StageOrder = code.StageOrder
+edit_code fault.LeastGreen = code.LeastGreen
+
+-- what is answered to an edit, by its fault
+abbrev pub edit_answer : Option EditFault → Answer
+edit_answer None = a.Done
+edit_answer (Some f) = a.Refused (edit_code f)
+
+-- what is answered about the link at a place, or that there is none
+abbrev pub about : (ℕ → Answer) → Option ℕ → Answer
+about answer None = a.Refused code.Unknown
+about answer (Some place) = answer place
+
+-- what is answered about the link of this number
+abbrev pub about_link : Network → ℕ → (ℕ → Answer) → Answer
+about_link net number answer = about answer (place_of (link_numbers net.links) number)
+
+-- the refusal of CLIMB and CERT where there is no climb plan
+abbrev pub without_plan : Option PlanValue → Option Code
+without_plan None = Some code.NoPlan
+without_plan (Some plan) = None
+
+-- the refusal of CLIMB and CERT: a trial is open, or there is no climb plan
+abbrev pub plan_refusal : SessionValue → Option Code
+plan_refusal s = if is_some s.before then Some code.OpenTrial else without_plan s.net.plan
+
+-- a refusal, or else another answer
+abbrev pub refusal_or : Answer → Option Code → Answer
+refusal_or answer None = answer
+refusal_or answer (Some code) = a.Refused code
+
+-- what is answered to TRIAL
+abbrev pub trial_answer : SessionValue → Answer
+trial_answer s = if is_some s.before then a.Refused code.OpenTrial else a.Done
+
+-- what is answered to BACK and KEEP
+abbrev pub end_answer : SessionValue → Answer
+end_answer s = if is_some s.before then a.Done else a.Refused code.NoTrial
+
+-- what is answered to a command
+abbrev pub answer_to : SessionValue → Command → Answer
+answer_to s (c.Edit e) = edit_answer (edit_fault s.net e)
+answer_to s c.Trial = trial_answer s
+answer_to s c.Back = end_answer s
+answer_to s c.Keep = end_answer s
+answer_to s c.Climb = refusal_or a.Climb (plan_refusal s)
+answer_to s c.Cert = refusal_or a.Cert (plan_refusal s)
+answer_to s c.Index = a.Show report.Index
+answer_to s c.Links = a.Show report.Links
+answer_to s c.Timing = a.Show report.Timing
+answer_to s (c.Profile link) = about_link s.net link (λ place. a.Show (report.Profile place))
+answer_to s (c.Plot link) = about_link s.net link a.Plot
+answer_to s (c.Queue link) = about_link s.net link (λ place. a.Show (report.Queue place))
+answer_to s c.Work = a.Show report.Work
+answer_to s c.Deck = a.Deck
+answer_to s c.Stop = a.Stop
+
+-- the session when a command was judged: an edit and the commands of a trial are carried out
+abbrev pub judged : Command → SessionValue → SessionValue
+judged (c.Edit e) s = edited e s
+judged c.Trial s = trial_of s
+judged c.Back s = back_of s
+judged c.Keep s = keep_of s
+judged _ s = s
+
+-- how many places the climb plan lets a climb look at; none without a plan
+abbrev pub budget_of : Option PlanValue → ℕ
+budget_of None = 0
+budget_of (Some plan) = plan.budget
+
+-- the climb of a network by its plan
+abbrev pub climb_of : Network → Climb
+climb_of net = climb net 0 (budget_of net.plan)
+
+-- the session after an answer was carried out: a climb leaves the network at its end, and a climb and a certificate add
+-- their work
+abbrev pub after_answer : Answer → SessionValue → SessionValue
+after_answer a.Climb s = climbed (budget_of s.net.plan) s
+after_answer a.Cert s = credited (cert_work s.net (move_count s.net)) s
+after_answer _ s = s
+
+-- the lines of the steps of a climb
+abbrev pub steps_text : List Step → List ℕ
+steps_text steps = flat_map (λ (step : Step). took_text step.place step.edit step.index) steps
+
+-- the text of a climb: a line for each step, and its end
+abbrev pub climb_text : Climb → List ℕ
+climb_text climb = steps_text climb.steps ++ end_text climb.local (length climb.looks) (index climb.net)
+
+-- the line of an accepted edit, TRIAL, BACK or KEEP
+unfoldable pub done_text : List ℕ
+done_text = form_line (codes "DONE") []
+
+-- the line of a refused command
+unfoldable pub refused_text : Code → List ℕ
+refused_text code = form_line (codes "REFUSED #") (number code ∷ [])
+
+-- the text of an answer
+abbrev pub answer_text : SessionValue → Answer → List ℕ
+answer_text s a.Nothing = []
+answer_text s a.Stop = []
+answer_text s a.Done = done_text
+answer_text s (a.Refused code) = refused_text code
+answer_text s (a.Show what) = report_text s.net s.work what
+answer_text s (a.Plot place) = plot_text s.net place
+answer_text s a.Deck = deck_text s.net
+answer_text s a.Climb = climb_text (climb_of s.net)
+answer_text s a.Cert = cert_text s.net
+
+-- what is answered to a line, by what it says
+abbrev pub said_answer : SessionValue → Result (Option Command) Code → Answer
+said_answer s (Err code) = a.Refused code
+said_answer s (Ok None) = a.Nothing
+said_answer s (Ok (Some command)) = answer_to s command
+
+-- what is answered to a line
+abbrev pub line_answer : SessionValue → List ℕ → Answer
+line_answer s line = said_answer s (command_in line)
+
+-- the session when what a line says was judged
+abbrev pub said_judged : Result (Option Command) Code → SessionValue → SessionValue
+said_judged (Err code) s = s
+said_judged (Ok None) s = s
+said_judged (Ok (Some command)) s = judged command s
+
+-- the session when a line was judged
+abbrev pub line_judged : SessionValue → List ℕ → SessionValue
+line_judged s line = said_judged (command_in line) s
+
+-- the session after a line
+abbrev pub session_after : SessionValue → List ℕ → SessionValue
+session_after s line = after_answer (line_answer s line) (line_judged s line)
+
+-- the work of a line: what it adds
+abbrev pub line_work : SessionValue → List ℕ → ℕ
+line_work s line = (session_after s line).work - s.work

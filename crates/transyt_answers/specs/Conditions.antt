@@ -1,0 +1,67 @@
+-- What the code keeps to between two lines. No clause of the top call cites it.
+use Rattle.std.specs.Prelude.{ℕ, ◌+◌, ◌*◌, ◌≡◌, ◌<◌, ◌≤◌, true, length, Option, None, Some, IsSome, IfSome, List}
+use Rattle.transyt_net.specs.Shape.{SameShape}
+use Rattle.transyt_sweep.specs.Climb.{Step, climb}
+use Rattle.transyt_session.specs.Session.{SessionValue}
+use Rattle.transyt_session.specs.declared.answers.Tried.{Tried}
+use Rattle.transyt_session.specs.declared.answers.Tried.TheVariants.{Barred, Index}
+use Rattle.transyt_climb.specs.declared.turn.Turn.{Turn}
+use Rattle.transyt_climb.specs.declared.turn.Turn.TheVariants.{Took, Passed, Local, Budget}
+use Rattle.transyt_climb.specs.Turns.{Counters, machine}
+use Rattle.transyt_climb.specs.Way.{IsUnderWay}
+use Rattle.transyt_desks.specs.Desks.{desk_zero, AreAligned, AreAlike}
+use Rattle.transyt_text.specs.Prints.{Printed}
+use Rattle.transyt_report.specs.MoveTexts.{is_move}
+use Rattle.transyt_report.specs.Texts.{IsOfPlace}
+use Rattle.transyt_answers.specs.declared.answer.Answer.{Answer}
+use Rattle.transyt_answers.specs.declared.answer.Answer.TheVariants as a
+use Rattle.transyt_answers.specs.Commands.{steps_text}
+
+-- what an answer speaks of is there: the link of a report or a plot, and for CLIMB and CERT a plan and no trial
+abbrev pub IsOf : SessionValue → Answer → Type 0
+IsOf s (a.Show what) = IsOfPlace s.net what
+IsOf s (a.Plot place) = place < length s.net.links
+IsOf s a.Climb = IsSome s.net.plan × (s.before ≡ None)
+IsOf s a.Cert = IsSome s.net.plan × (s.before ≡ None)
+IsOf s _ = Unit {0}
+
+-- desks between two lines: each has the shape of desk 0, and so has the network before an open trial
+pub record AreReady (desks : List SessionValue) : Type 0 where
+  pub some : 0 < length desks
+  pub alike : AreAlike desks
+  pub before : IfSome (desk_zero desks).before (λ net. SameShape (desk_zero desks).net net)
+
+-- a climb on its way over desks, from those of its start, with the steps done
+pub record ClimbSoFar (budget : ℕ) (first desks : List SessionValue) (counters : Counters) (done : List Step) : Type 0 where
+  pub way : IsUnderWay (climb (desk_zero first).net 0 budget) (desk_zero first).work done
+      (machine counters (desk_zero desks))
+  pub aligned : AreAligned desks
+  pub len : length desks ≡ length first
+  pub budget_is : counters.budget ≡ budget
+  pub room : (desk_zero desks).work ≤ (desk_zero first).work + 8000 * counters.looked
+
+-- a climb whose steps are written as they are taken
+pub record ClimbWritten (budget : ℕ) (first desks : List SessionValue) (counters : Counters)
+    (written written_new : Option (List ℕ)) (faults faults_new : ℕ) : Type 0 where
+  pub done : List Step
+  pub climb : ClimbSoFar budget first desks counters done
+  pub printed : Printed written written_new faults faults_new (steps_text done)
+
+-- a climb whose steps are counted
+pub record ClimbCounted (budget : ℕ) (first desks : List SessionValue) (counters : Counters) (count : ℕ) : Type 0 where
+  pub done : List Step
+  pub climb : ClimbSoFar budget first desks counters done
+  pub count_is : count ≡ length done
+  pub few : count ≤ counters.looked
+
+-- the edit of a step is one of an offset or a change
+abbrev pub IsStep : Turn → Type 0
+IsStep (Took place edit index) = is_move edit ≡ true
+IsStep Passed = Unit {0}
+IsStep Local = Unit {0}
+IsStep Budget = Unit {0}
+
+-- the index that a try found, or none where the move is barred
+abbrev pub index_found : Tried → Option ℕ
+index_found Barred = None
+index_found (Index index work) = Some index

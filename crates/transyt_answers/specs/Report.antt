@@ -1,0 +1,134 @@
+-- The report of an input: a deck, and then the commands over its network.
+use Rattle.std.specs.Prelude.{ℕ, ◌+◌, ◌*◌, Bool, true, false, List, [], ◌∷◌, length, codes, Option, Some, None}
+use Rattle.std.specs.List.{fold}
+use Rattle.transyt_syntax.specs.declared.code.Code.{Code}
+use Rattle.transyt_syntax.specs.declared.code.Code.TheVariants as code
+use Rattle.transyt_syntax.specs.Codes.{number}
+use Rattle.transyt_net.specs.Parts.{Network}
+use Rattle.transyt_deck.specs.Deck.{Deck, Refused, Complete, Open, next, start}
+use Rattle.transyt_session.specs.Session.{SessionValue, opened}
+use Rattle.transyt_text.specs.Forms.{form_line}
+use Rattle.transyt_running.specs.Runs.{Answering, answering, of_lines, report_by}
+use Rattle.transyt_running.specs.Outcome.{Reporting, status_by}
+use Rattle.transyt_running.specs.declared.status.Status.{Status}
+use Rattle.transyt_answers.specs.declared.answer.Answer.{Answer}
+use Rattle.transyt_answers.specs.declared.answer.Answer.TheVariants as a
+use Rattle.transyt_answers.specs.Commands.{line_answer, answer_text, session_after, line_work}
+
+-- what the lines of an input have come to: the deck so far, or after END the session
+pub data RunState : Type 0 where
+  InDeck : Deck → RunState
+  InSession : SessionValue → RunState
+
+-- the line of a refused card
+unfoldable pub card_refused : ℕ → Code → List ℕ
+card_refused card code = form_line (codes "CARD # REFUSED #") (card ∷ number code ∷ [])
+
+-- the line of an accepted END, with the numbers of nodes and links
+unfoldable pub accepted : Network → List ℕ
+accepted net = form_line (codes "ACCEPTED # #") (length net.nodes ∷ length net.links ∷ [])
+
+-- the text of a line before END or of END, by the deck with it
+abbrev pub deck_said : Deck → List ℕ
+deck_said (Open count state) = []
+deck_said (Complete number net) = accepted net
+deck_said (Refused number code) = card_refused number code
+
+-- the text of the end of an input whose deck is this: it is refused where END didn't come
+abbrev pub deck_closing : Deck → List ℕ
+deck_closing (Open count state) = card_refused (count + 1) code.NoEnd
+deck_closing (Complete number net) = []
+deck_closing (Refused number code) = []
+
+-- a refused card ends the run, as a refusal
+abbrev pub deck_ends : Deck → Option Bool
+deck_ends (Open count state) = None
+deck_ends (Complete number net) = None
+deck_ends (Refused number code) = Some true
+
+-- an accepted STOP ends the run
+abbrev pub answer_ends : Answer → Option Bool
+answer_ends a.Stop = Some false
+answer_ends answer = None
+
+-- the steps of a line before END or of END, by the deck with it: an accepted END works out each sweep of each link
+abbrev pub deck_steps : Deck → ℕ
+deck_steps (Open count state) = 0
+deck_steps (Complete number net) = net.frame.sweeps * length net.links
+deck_steps (Refused number code) = 0
+
+-- what lines have come to whose deck is this: the accepted END opens a session of its network
+abbrev pub run_of : Deck → RunState
+run_of (Open count state) = InDeck (Open count state)
+run_of (Complete number net) = InSession (opened net)
+run_of (Refused number code) = InDeck (Refused number code)
+
+-- what lines have come to, after one more
+abbrev pub run_after : RunState → List ℕ → RunState
+run_after (InDeck deck) line = run_of (next deck line)
+run_after (InSession s) line = InSession (session_after s line)
+
+-- what lines have come to, one after another
+abbrev pub run_state : List (List ℕ) → RunState
+run_state before = fold run_after (InDeck start) before
+
+-- the text of a line over what the lines before it have come to
+abbrev pub line_text : RunState → List ℕ → List ℕ
+line_text (InDeck deck) line = deck_said (next deck line)
+line_text (InSession s) line = answer_text s (line_answer s line)
+
+-- whether the line ends the run, and then whether as a refusal
+abbrev pub line_ends : RunState → List ℕ → Option Bool
+line_ends (InDeck deck) line = deck_ends (next deck line)
+line_ends (InSession s) line = answer_ends (line_answer s line)
+
+-- the steps of the line: its work, and at END those of the whole evaluation
+abbrev pub line_steps : RunState → List ℕ → ℕ
+line_steps (InDeck deck) line = deck_steps (next deck line)
+line_steps (InSession s) line = line_work s line
+
+-- the text at the end of the input
+abbrev pub text_at_end : RunState → List ℕ
+text_at_end (InDeck deck) = deck_closing deck
+text_at_end (InSession s) = []
+
+-- whether the end of the input is a refusal: no END was accepted
+abbrev pub end_refused : RunState → Bool
+end_refused (InDeck deck) = true
+end_refused (InSession s) = false
+
+-- the text of a line after the lines before it
+abbrev pub text : List (List ℕ) → List ℕ → List ℕ
+text before line = line_text (run_state before) line
+
+-- whether a line ends the run
+abbrev pub ends : List (List ℕ) → List ℕ → Option Bool
+ends before line = line_ends (run_state before) line
+
+-- the text at the end of lines
+abbrev pub closing : List (List ℕ) → List ℕ
+closing before = text_at_end (run_state before)
+
+-- whether the end of lines is a refusal
+abbrev pub refused_at_end : List (List ℕ) → Bool
+refused_at_end before = end_refused (run_state before)
+
+-- the steps of a line
+abbrev pub cost : List (List ℕ) → List ℕ → ℕ
+cost before line = line_steps (run_state before) line
+
+-- how the lines of a deck and of its commands are answered
+abbrev pub deck_answering : Answering
+deck_answering = answering text ends closing refused_at_end cost
+
+-- what is reported of an input: the answers to its lines and, where it ends before END, the refusal of its deck
+abbrev pub reporting_run : Reporting
+reporting_run = of_lines deck_answering
+
+-- the report of an input
+abbrev pub report : List ℕ → List ℕ
+report input = report_by deck_answering input
+
+-- the status of the run of an input
+abbrev pub status : List ℕ → Status
+status input = status_by reporting_run input

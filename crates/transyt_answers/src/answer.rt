@@ -1,0 +1,41 @@
+//! What is answered to a line after END.
+ghost use Rattle.std.specs.Prelude.{◌≡◌};
+ghost use Rattle.transyt_answers.specs.Report.{answer_ends};
+
+use transyt_cards::Code;
+use transyt_report::Report;
+
+/// What is answered to a line after END.
+#[derive(Clone, Copy, Debug, PartialEq, Eq, Drop)]
+pub enum Answer {
+    /// A comment or a blank line: nothing is written.
+    Nothing,
+    /// STOP: nothing is written, and the run ends.
+    Stop,
+    /// An edit, a TRIAL, a BACK or a KEEP was carried out.
+    Done,
+    /// The command is refused and changes nothing.
+    Refused(Code),
+    /// A report.
+    Show(Report),
+    /// The plot of the link at a place, in card order from 0.
+    Plot(usize),
+    /// The deck text of the network.
+    Deck,
+    /// A climb by the network's plan.
+    Climb,
+    /// The index with each listed move.
+    Cert,
+}
+
+impl Answer {
+    /// Whether it ends the run, and then whether as a refusal.
+    pub(crate) fn ending(self) -> Option<bool>
+        ensures { result ≡ answer_ends self }
+    {
+        match self {
+            Answer::Stop => Some(false),
+            _ => None,
+        }
+    }
+}

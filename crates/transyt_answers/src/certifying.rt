@@ -1,0 +1,108 @@
+//! CERT: the line of each place is written before the next is tried.
+ghost use Rattle.std.specs.Prelude.{◌≡◌, ◌+◌, ◌^◌, ◌≤◌, ◌<◌, None, OnOk};
+ghost use Rattle.transyt_moves.specs.Moves.{move_count};
+ghost use Rattle.transyt_sweep.specs.Sweeps.{index};
+ghost use Rattle.transyt_sweep.specs.Climb.{tried_at};
+ghost use Rattle.transyt_climb.specs.Turns.{certified};
+ghost use Rattle.transyt_text.specs.Prints.{Prints};
+ghost use Rattle.transyt_cert.specs.Certificate.{place_text, last_text, cert_text};
+ghost use Rattle.transyt_answers.specs.Commands.{after_answer};
+ghost use Rattle.transyt_answers.specs.Conditions.{index_found};
+
+use crate::answer::Answer;
+use std::sync::ledger::Ledger;
+use transyt_climb::{certify, move_at, move_count};
+use transyt_io::{Failed, LineBuffer, Sink, write_line};
+use transyt_report::{cert_line, move_line};
+use transyt_session::{Session, Tried};
+use transyt_steps::Steps;
+
+/// The index that a try found, or none where the move is barred.
+fn index_of(tried: Tried) -> Option<u128>
+    ensures { result ≡ index_found tried }
+{
+    match tried {
+        Tried::Barred => None,
+        Tried::Index { index, .. } => Some(index),
+    }
+}
+
+/// Tries the move at a place, and gives its index, or none where it is barred. Its work is added.
+fn index_with_move<L: Ledger>(
+    session: &mut Session,
+    place: u32,
+    steps: &mut Steps<L>,
+) -> Option<u128>
+    requires place { place < move_count session.old.net }
+    requires closed { session.old.before ≡ None }
+    requires room { session.old.work ≤ 2 ^ 62 }
+    ensures tried { result ≡ tried_at session.old.net place }
+    ensures state { session.new ≡ certified place session.old }
+    ensures few { session.new.work ≤ session.old.work + 8000 }
+    ensures steps { steps.new + session.old.work ≡ steps.old + session.new.work }
+{
+    let tried = certify(session, place, steps);
+    index_of(tried)
+}
+
+/// Writes the line of a place, whose work is added.
+fn certify_place<K: Sink, L: Ledger>(
+    session: &mut Session,
+    place: u32,
+    line: &mut LineBuffer,
+    sink: &mut K,
+    steps: &mut Steps<L>,
+) -> Result<(), Failed>
+    requires place { place < move_count session.old.net }
+    requires closed { session.old.before ≡ None }
+    requires room { session.old.work ≤ 2 ^ 62 }
+    ensures prints { Prints (K.written sink.old) (K.written sink.new) (K.faults sink.old) (K.faults sink.new) result
+        (place_text session.old.net place) }
+    ensures state { session.new ≡ certified place session.old }
+    ensures few { session.new.work ≤ session.old.work + 8000 }
+    ensures steps { steps.new + session.old.work ≡ steps.old + session.new.work }
+{
+    let edit = move_at(session.net(), place);
+    let tried = index_with_move(session, place, steps);
+    move_line(&edit, place, tried, line);
+    write_line(line, sink)
+}
+
+/// Writes the last line.
+fn certify_end<K: Sink>(
+    places: u32,
+    session: &Session,
+    line: &mut LineBuffer,
+    sink: &mut K,
+) -> Result<(), Failed>
+    ensures { Prints (K.written sink.old) (K.written sink.new) (K.faults sink.old) (K.faults sink.new) result
+        (last_text places (index session.now.net)) }
+{
+    cert_line(places, session.index(), line);
+    write_line(line, sink)
+}
+
+/// Writes the certificate of the network now. On Failed some first bytes of it were written.
+pub(crate) fn certify_on<K: Sink, L: Ledger>(
+    session: &mut Session,
+    line: &mut LineBuffer,
+    sink: &mut K,
+    steps: &mut Steps<L>,
+) -> Result<(), Failed>
+    requires closed { session.old.before ≡ None }
+    requires room { session.old.work ≤ 2 ^ 60 }
+    ensures prints { Prints (K.written sink.old) (K.written sink.new) (K.faults sink.old) (K.faults sink.new) result
+        (cert_text session.old.net) }
+    ensures state { OnOk result (session.new ≡ after_answer Answer.Cert session.old) }
+    ensures same { session.new.net ≡ session.old.net }
+    ensures closed { session.new.before ≡ None }
+    ensures few { session.new.work ≤ session.old.work + 8000072000 }
+    ensures work { session.new.work ≤ (after_answer Answer.Cert session.old).work }
+    ensures steps { steps.new + session.old.work ≡ steps.old + session.new.work }
+{
+    let places = move_count(session.net());
+    for place in 0..places {
+        certify_place(session, place, line, sink, steps)?;
+    }
+    certify_end(places, session, line, sink)
+}

@@ -1,0 +1,16 @@
+//! What is answered to the lines of a run: a deck, and then the commands over a session.
+#![tactic(auto)]
+
+mod answer;
+mod brief;
+mod certifying;
+mod climbing;
+mod judging;
+mod laws;
+mod reporter;
+mod running;
+mod saying;
+
+pub use brief::write_brief;
+pub use laws::steps_lower;
+pub use running::run_deck;

@@ -1,0 +1,108 @@
+//! What was judged is said: its text is written.
+ghost use Rattle.std.specs.Prelude.{◌≡◌, ◌+◌, ◌*◌, ◌^◌, ◌≤◌, length, OnOk};
+ghost use Rattle.transyt_net.specs.Parts.{Network};
+ghost use Rattle.transyt_desks.specs.Desks.{desk_zero};
+ghost use Rattle.transyt_text.specs.Prints.{Prints};
+ghost use Rattle.transyt_answers.specs.Commands.{done_text, refused_text, answer_text, after_answer};
+ghost use Rattle.transyt_answers.specs.Conditions.{AreReady, IsOf};
+ghost use Rattle.transyt_answers.specs.Report.{card_refused, accepted};
+
+use crate::answer::Answer;
+use crate::certifying::certify_on;
+use crate::climbing::climb_on;
+use std::sync::ledger::Ledger;
+use std::thread::Threads;
+use transyt_cards::{Code, print_deck};
+use transyt_desks::{Desks, Gate};
+use transyt_io::{Failed, LineBuffer, Sink};
+use transyt_net::Net;
+use transyt_plot::plot;
+use transyt_report::{Report, show};
+use transyt_session::Session;
+use transyt_steps::Steps;
+use transyt_text::print_form;
+
+/// Writes the line of a refused card.
+#[tactic(auto, unfolding(crate::specs::Report::card_refused))]
+pub(crate) fn print_card_refused<K: Sink>(
+    card: u32,
+    code: Code,
+    line: &mut LineBuffer,
+    sink: &mut K,
+) -> Result<(), Failed>
+    ensures { Prints (K.written sink.old) (K.written sink.new) (K.faults sink.old) (K.faults sink.new) result
+        (card_refused card code) }
+{
+    let numbers = [u128::from(card), u128::from(code.number())];
+    print_form(b"CARD # REFUSED #", &numbers, line, sink)
+}
+
+/// Writes the line of an accepted END.
+#[tactic(auto, unfolding(crate::specs::Report::accepted))]
+pub(crate) fn print_accepted<K: Sink>(
+    net: &Net,
+    line: &mut LineBuffer,
+    sink: &mut K,
+) -> Result<(), Failed>
+    ensures { Prints (K.written sink.old) (K.written sink.new) (K.faults sink.old) (K.faults sink.new) result
+        (accepted net.now) }
+{
+    let numbers = [net.nodes().len() as u128, net.links().len() as u128];
+    print_form(b"ACCEPTED # #", &numbers, line, sink)
+}
+
+/// Writes the line of an accepted edit, TRIAL, BACK or KEEP.
+#[tactic(auto, unfolding(crate::specs::Commands::done_text))]
+fn print_done<K: Sink>(line: &mut LineBuffer, sink: &mut K) -> Result<(), Failed>
+    ensures { Prints (K.written sink.old) (K.written sink.new) (K.faults sink.old) (K.faults sink.new) result
+        done_text }
+{
+    print_form(b"DONE", &[], line, sink)
+}
+
+/// Writes the line of a refused command.
+#[tactic(auto, unfolding(crate::specs::Commands::refused_text))]
+fn print_refused<K: Sink>(code: Code, line: &mut LineBuffer, sink: &mut K) -> Result<(), Failed>
+    ensures { Prints (K.written sink.old) (K.written sink.new) (K.faults sink.old) (K.faults sink.new) result
+        (refused_text code) }
+{
+    print_form(b"REFUSED #", &[u128::from(code.number())], line, sink)
+}
+
+/// Writes the text of an answer; CLIMB and CERT are carried out line by line as they are written.
+///
+/// On Failed some first bytes of the text were written. It takes no memory.
+pub(crate) fn say<R: Threads + Sync, G: Gate, K: Sink, L: Ledger>(
+    rt: &R,
+    gate: &G,
+    answer: Answer,
+    desks: &mut Desks,
+    line: &mut LineBuffer,
+    sink: &mut K,
+    steps: &mut Steps<L>,
+) -> Result<(), Failed>
+    requires ready { AreReady desks.old }
+    requires few { length desks.old ≤ 8 }
+    requires of { IsOf (desk_zero desks.old) answer }
+    requires room { (desk_zero desks.old).work ≤ 2 ^ 60 }
+    ensures prints { Prints (K.written sink.old) (K.written sink.new) (K.faults sink.old) (K.faults sink.new) result
+        (answer_text (desk_zero desks.old) answer) }
+    ensures state { OnOk result (desk_zero desks.new ≡ after_answer answer (desk_zero desks.old)) }
+    ensures ready { AreReady desks.new }
+    ensures len { length desks.new ≡ length desks.old }
+    ensures few { (desk_zero desks.new).work ≤ (desk_zero desks.old).work + 8000072000 }
+    ensures work { (desk_zero desks.new).work ≤ (after_answer answer (desk_zero desks.old)).work }
+    ensures steps { length desks.old ≡ 1
+        → steps.new + (desk_zero desks.old).work ≡ steps.old + (desk_zero desks.new).work }
+{
+    match answer {
+        Answer::Nothing | Answer::Stop => Ok(()),
+        Answer::Done => print_done(line, sink),
+        Answer::Refused(code) => print_refused(code, line, sink),
+        Answer::Show(what) => show(what, desks.session(), line, sink),
+        Answer::Plot(place) => plot(desks.session(), place, line, sink),
+        Answer::Deck => print_deck(desks.session().net(), line, sink),
+        Answer::Climb => climb_on(rt, gate, desks, line, sink, steps),
+        Answer::Cert => certify_on(desks.session_mut(), line, sink, steps),
+    }
+}
