@@ -1,11 +1,6 @@
 -- The lemmas of the crate.
-pub mod Examples
-pub mod Fits
-pub mod Head
-pub mod Heard
-pub mod LastLine
-pub mod MoreBytes
-pub mod NoSteps
-pub mod SoFar
-pub mod UnderWayLaws
-pub mod ValidLaws
+pub mod BudgetLaws
+pub mod DeckLaws
+pub mod SaidCards
+pub mod TaskLaws
+pub mod ValidRuns

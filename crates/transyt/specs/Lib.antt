@@ -1,12 +1,4 @@
 -- The definitions of the crate.
-pub mod Cards
-pub mod Exit
-pub mod Junction
-pub mod Progress
-pub mod Report
-pub mod Runs
-pub mod Turns
-pub mod UnderWay
-pub mod Validity
+pub mod Climbs
+pub mod Tasks
 pub mod Words
-pub mod Texts

@@ -1,24 +1,18 @@
-//! The top call: it reads a deck and commands line by line and writes the report.
+//! The program as one call: [`transyt`] takes words, a source, a sink, a gate and a counter of steps, and ends with a
+//! [`Status`].
 //!
-//! A contract sees a report as a function of the input's bytes: cite `report` and `status_of` of `specs/Report` first,
-//! which are the answers to the lines one after another, each after the lines before it (`text`, `ends`). `Ran` of
-//! `specs/Runs` says what a run took, what it wrote and what each status says of both. `specs/Cards`, `specs/Validity`
-//! and `specs/Junction` have the deck so far: one node with two stages and one link. `Answerer` and `running` are the
-//! run over the lines, whatever answers them; `Clerk` answers: it judges a line into a value, and then says it.
-//! `Progress` and its definitions are the code's own, and no public clause cites them.
+//! With the words `run` it reads a deck and commands line by line and writes the report. A contract sees the report as a
+//! function of the input's bytes: cite `report` and `status` of transyt_answers' `specs/Report` first, the answers to the
+//! lines one after another over what the lines before them have come to. `Descends` of `specs/Climbs` says what a climb of
+//! the report is. What each word asks for is `task_of` of `specs/Tasks`: a report of an input, or a text for which nothing
+//! is read. `Outcome` of transyt_running says what a run took, what it wrote and what each status says of both.
 #![tactic(auto)]
 
-mod answerer;
-mod cards;
-mod clerk;
-mod junction;
-mod network;
-mod progress;
-mod running;
-mod said;
-mod status;
 mod top;
+mod town;
+mod word;
 
-pub use network::tells_validity;
-pub use status::Status;
 pub use top::transyt;
+pub use transyt_answers::steps_lower;
+pub use transyt_desks::{Gate, OpenGate};
+pub use transyt_running::Status;

@@ -1,76 +1,131 @@
 //! The top call.
-ghost use Rattle.std.specs.Prelude.{◌≡◌, ◌≢◌, ◌≤◌, ◌<◌, ◌++◌, ◌↔◌, ℕ, List, Some, None, false, true, length, map, take, string_bytes};
-ghost use Rattle.transyt_io.specs.Lines.{whole};
+ghost use Rattle.std.specs.Prelude.{◌≡◌, ◌≢◌, ◌≤◌, ◌++◌, ◌↔◌, ℕ, List, Some, None, length, map, string_bytes, IfSome};
 ghost use Rattle.transyt_io.specs.Streams.{Rose};
-ghost use Rattle.transyt.specs.Words.{is_run};
-ghost use Rattle.transyt.specs.Report.{deck_answering, ending, report, status_of};
-ghost use Rattle.transyt.specs.Runs.{Ran};
+ghost use Rattle.transyt_answers.specs.Report.{report, status, run_state};
+ghost use Rattle.transyt.specs.Climbs.{ClimbDescends};
+ghost use Rattle.transyt.specs.Tasks.{task, task_of, TaskOutcome, TaskHeadline, TaskComplete, TaskTooLong, WordSteps};
+ghost use Rattle.transyt.specs.Tasks.{IsRun, IsWriting};
+ghost use Rattle.transyt.specs.Words.{word_of, IsWord};
 
-use crate::clerk::Clerk;
-use crate::running::answer_all;
-use crate::status::Status;
+use crate::town::{write_made, write_made_brief};
+use crate::word::{Word, word_of};
 use std::alloc::Global;
 use std::sync::ledger::Ledger;
+use std::thread::Threads;
+use transyt_answers::run_deck;
+use transyt_desks::Gate;
 use transyt_io::{Sink, Source};
+use transyt_running::Status;
+use transyt_scan::{IdleBench, answer_scan};
 use transyt_steps::Steps;
+use transyt_whole::answer_whole;
+use transyt_words::{AfterDeck, AuditWord, CountsWord, EquisatWord};
 
-/// Whether the words are the one word `run`.
-fn is_run(words: &[String]) -> bool
-    ensures { result ≡ is_run (map string_bytes words.now) }
+/// Does what a word asks for.
+fn answer_word<R: Threads + Sync, S: Source, K: Sink, G: Gate, L: Ledger>(
+    rt: &R,
+    alloc: Global,
+    word: Word,
+    source: &mut S,
+    sink: &mut K,
+    gate: &G,
+    steps: &mut Steps<L>,
+) -> Status
+    requires { IsWord word }
+    ensures outcome { TaskOutcome (task word) (S.left source.old) (S.left source.new) (S.last source.new)
+        (K.written sink.old) (K.written sink.new) result }
+    ensures read_fault { result ≡ Status.ReadFault → Rose (S.faults source.old) (S.faults source.new) }
+    ensures write_fault { result ≡ Status.WriteFault → Rose (K.faults sink.old) (K.faults sink.new) }
+    ensures untouched { IsWriting (task word) → source.new ≡ source.old }
+    ensures steps { WordSteps word (S.left source.old) (S.left source.new) steps.old steps.new result }
 {
-    words.len() == 1 && words[0].as_str() == "run"
+    match word {
+        Word::Run { workers } => run_deck(rt, alloc, workers, source, sink, gate, steps),
+        Word::Make { seed, nodes } => write_made(alloc, seed, nodes, sink),
+        Word::Brief {
+            seed,
+            nodes,
+            workers,
+        } => write_made_brief(rt, alloc, seed, nodes, workers, gate, sink, steps),
+        Word::Counts => answer_whole(alloc, &AfterDeck { word: CountsWord }, source, sink, steps),
+        Word::Equisat => answer_whole(alloc, &AfterDeck { word: EquisatWord }, source, sink, steps),
+        Word::Audit => answer_whole(alloc, &AfterDeck { word: AuditWord }, source, sink, steps),
+        Word::Scan { asked } => answer_scan(rt, alloc, asked, &IdleBench, source, sink),
+    }
 }
 
-/// Runs the program with its words: with `run`, writes the report of the input.
+/// Runs the program with its words.
 ///
-/// Each line is answered before the next is read. The memory for reading and writing is taken before the first read,
-/// and all other memory before the first line is written.
-pub fn transyt<S: Source, K: Sink, L: Ledger>(
+/// - `run` and `run w` write the report of a deck and its commands, with one worker or w, 1 to 8;
+/// - `make seed nodes` writes the deck text of the town that is made from the seed;
+/// - `brief seed nodes` and `brief seed nodes w` climb once on that town and write one line;
+/// - `counts` turns a table of counts after a deck into commands;
+/// - `equisat` writes greens of equal saturation for each node of a deck;
+/// - `audit` tells whether the lines after a deck prove that no listed move lowers its index;
+/// - `scan w low high by` climbs on a deck at the cycle times low, low + by and so on up to high, with w workers.
+///
+/// What is written is the same for every number of workers. `run` answers each line of the input before the next is
+/// read, and each step of a climb is written before the next look; `counts`, `equisat`, `audit` and `scan` take their
+/// input whole. All memory is taken before the first line is written.
+pub fn transyt<R: Threads + Sync, S: Source, K: Sink, G: Gate, L: Ledger>(
+    rt: &R,
     alloc: Global,
     words: &[String],
     source: &mut S,
     sink: &mut K,
+    gate: &G,
     steps: &mut Steps<L>,
 ) -> Status
-    // BadWords exactly where the words are none that the program takes; then nothing is read or written
-    ensures bad_words { (result ≡ Status.BadWords) ↔ (is_run (map string_bytes words.now) ≡ false) }
-    ensures untouched { result ≡ Status.BadWords → (source.new ≡ source.old) × (sink.new ≡ sink.old) }
+    // BadWords exactly where the words are none that the program takes; then nothing is read, written or counted
+    ensures bad_words { (result ≡ Status.BadWords) ↔ (word_of (map string_bytes words.now) ≡ None) }
+    ensures untouched { result ≡ Status.BadWords
+        → (source.new ≡ source.old) × (sink.new ≡ sink.old) × (steps.new ≡ steps.old) }
 
     // what was taken and what was written, for each other status
-    ensures outcome { result ≢ Status.BadWords
-        → Ran deck_answering (S.left source.old) (S.left source.new) (S.last source.new)
-        (K.written sink.old) (K.written sink.new) steps.old steps.new result }
-    ensures steps { steps.new ≡ steps.old }
+    ensures outcome { IfSome (task_of (map string_bytes words.now)) (λ asked.
+        TaskOutcome asked (S.left source.old) (S.left source.new) (S.last source.new)
+        (K.written sink.old) (K.written sink.new) result) }
+    // with `make` and `brief` nothing is read
+    ensures reads_nothing { IfSome (task_of (map string_bytes words.now)) (λ asked.
+        IsWriting asked → source.new ≡ source.old) }
 
     // a fault of the source or the sink comes only where its count rose
     ensures read_fault { result ≡ Status.ReadFault → Rose (S.faults source.old) (S.faults source.new) }
     ensures write_fault { result ≡ Status.WriteFault → Rose (K.faults sink.old) (K.faults sink.new) }
 
-    // with no fault and no want of memory: the report, and its status
-    ensures headline { is_run (map string_bytes words.now) ≡ true → result ≢ Status.NoMemory
+    // with `run`, with no fault and no want of memory: the report of the input, and its status
+    ensures headline { IsRun (word_of (map string_bytes words.now)) → result ≢ Status.NoMemory
         → (Rose (S.faults source.old) (S.faults source.new) → ⊥)
         → (Rose (K.faults sink.old) (K.faults sink.new) → ⊥)
         → (input held : List ℕ) → S.left source.old ≡ Some input → K.written sink.old ≡ Some held
         → length input ≤ 4194304
-        → (K.written sink.new ≡ Some (held ++ report input)) × (result ≡ status_of input) }
-    // the same of the status alone, for a sink that doesn't tell
-    ensures complete { is_run (map string_bytes words.now) ≡ true → result ≢ Status.NoMemory
+        → (K.written sink.new ≡ Some (held ++ report input)) × (result ≡ status input) }
+    // a climb of the report, on what any lines have come to: each step strictly lowers the index within every least green
+    // and intergreen; it ends LOCAL where no listed move lowers the index, or BUDGET where the budget is spent
+    ensures climbs { (before : List (List ℕ)) → ClimbDescends (run_state before) }
+    // with any words that the program takes: what they ask for
+    ensures told { result ≢ Status.NoMemory
         → (Rose (S.faults source.old) (S.faults source.new) → ⊥)
         → (Rose (K.faults sink.old) (K.faults sink.new) → ⊥)
-        → (input : List ℕ) → S.left source.old ≡ Some input → length input ≤ 4194304
-        → result ≡ status_of input }
-    // TooLong where the first 4,194,304 bytes have no whole line that ends the run, and more come
-    ensures too_long { is_run (map string_bytes words.now) ≡ true → result ≢ Status.NoMemory
+        → IfSome (task_of (map string_bytes words.now)) (λ asked.
+        TaskHeadline asked (S.left source.old) (K.written sink.old) (K.written sink.new) result) }
+    // the status, for a sink that doesn't tell
+    ensures complete { result ≢ Status.NoMemory
         → (Rose (S.faults source.old) (S.faults source.new) → ⊥)
         → (Rose (K.faults sink.old) (K.faults sink.new) → ⊥)
-        → (input : List ℕ) → S.left source.old ≡ Some input → 4194304 < length input
-        → ending (whole (take 4194304 input)) ≡ None → result ≡ Status.TooLong }
+        → IfSome (task_of (map string_bytes words.now)) (λ asked. TaskComplete asked (S.left source.old) result) }
+    // TooLong where the first 4,194,304 bytes don't end the run and more come
+    ensures too_long { result ≢ Status.NoMemory
+        → (Rose (S.faults source.old) (S.faults source.new) → ⊥)
+        → (Rose (K.faults sink.old) (K.faults sink.new) → ⊥)
+        → IfSome (task_of (map string_bytes words.now)) (λ asked. TaskTooLong asked (S.left source.old) result) }
+
+    // the steps: with one worker, and of words without workers
+    ensures steps { IfSome (word_of (map string_bytes words.now)) (λ word.
+        WordSteps word (S.left source.old) (S.left source.new) steps.old steps.new result) }
 {
-    if !is_run(words) {
+    let Some(word) = word_of(words) else {
         return Status::BadWords;
-    }
-    let Ok(mut clerk) = Clerk::open(alloc) else {
-        return Status::NoMemory;
     };
-    answer_all(alloc, &mut clerk, source, sink, steps)
+    answer_word(rt, alloc, word, source, sink, gate, steps)
 }

@@ -1,27 +1,61 @@
--- All is said by the run over the lines.
-use Rattle.transyt.proofs.Head.{status_told}
-use Rattle.transyt.proofs.NoSteps.{same_steps}
+-- All is said by what was done for the word.
+use Rattle.std.proofs.Common.{Option, IfSome, sym, ◌∙◌, subst}
+use Rattle.std.specs.Option.{option_map}
+use Rattle.transyt.specs.declared.word.Word.{Word}
+use Rattle.transyt.specs.Tasks.{task, TaskHeadline, TaskComplete, TaskTooLong, IsRun}
+use Rattle.transyt.proofs.TaskLaws.{word_settled, task_headline, task_complete, task_too_long, run_headline}
+use Rattle.transyt.proofs.ValidRuns.{climb_descends}
 use Rattle.transyt.proofs.top.transyt.Goals as goal
 
--- no line costs a step
-pub returns-clause-steps : goal.returns-clause-steps
-returns-clause-steps g c =
-    let all = c.answer_all.ensures in
-    same_steps (g.S.Source.left c.answer_all.new.source) all.ran.taken c.args.steps.now c.answer_all.new.steps
-    c.answer_all.result all.ran.steps_row all.more_steps
-
--- the headline of the run
+-- the headline
 pub returns-clause-headline : goal.returns-clause-headline
-returns-clause-headline g c = λ run memory no_read no_write input held left written few.
-    c.answer_all.ensures.headline no_read no_write input held left written few memory
+returns-clause-headline g c = λ run memory no_read no_write.
+    let word = c.in-Some.word in
+    let is = sym c.in-Some.is ∙ c.word_of.ensures.word in
+    let P : Option Word → Type 0 = λ o. IsRun o in
+    let all = c.answer_word.ensures in
+    run_headline word (subst P (sym is) run)
+    (task_headline _ _ _ _ _ memory (λ e. no_read (all.read_fault e)) (λ e. no_write (all.write_fault e)) (task word)
+    (word_settled word) all.outcome)
 
--- no count rose, so the status is no fault
+-- what the words ask for
+pub returns-clause-told : goal.returns-clause-told
+returns-clause-told g c = λ memory no_read no_write.
+    let word = c.in-Some.word in
+    let all = c.answer_word.ensures in
+    let P : Option Word → Type 0 = λ o. IfSome (option_map task o) (λ asked. TaskHeadline asked
+    (g.S.Source.left c.args.source.now) (g.K.Sink.written c.args.sink.now) (g.K.Sink.written c.answer_word.new.sink)
+    c.answer_word.result) in
+    subst P (sym c.in-Some.is ∙ c.word_of.ensures.word)
+    (task_headline _ _ _ _ _ memory (λ e. no_read (all.read_fault e)) (λ e. no_write (all.write_fault e)) (task word)
+    (word_settled word) all.outcome)
+
+-- the status
 pub returns-clause-complete : goal.returns-clause-complete
-returns-clause-complete g c = λ run memory no_read no_write input left few.
-    let all = c.answer_all.ensures in
-    status_told all.ran (λ e. no_read (all.read_fault e)) (λ e. no_write (all.write_fault e)) input left few memory
+returns-clause-complete g c = λ memory no_read no_write.
+    let word = c.in-Some.word in
+    let all = c.answer_word.ensures in
+    let P : Option Word → Type 0 = λ o. IfSome (option_map task o) (λ asked. TaskComplete asked
+    (g.S.Source.left c.args.source.now) c.answer_word.result) in
+    subst P (sym c.in-Some.is ∙ c.word_of.ensures.word)
+    (task_complete _ _ _ _ _ memory (λ e. no_read (all.read_fault e)) (λ e. no_write (all.write_fault e)) (task word)
+    (word_settled word) all.outcome)
 
--- the limit of the run
+-- too many bytes
 pub returns-clause-too_long : goal.returns-clause-too_long
-returns-clause-too_long g c = λ run memory no_read no_write input left many open_yet.
-    c.answer_all.ensures.too_long no_read no_write input left many open_yet memory
+returns-clause-too_long g c = λ memory no_read no_write.
+    let word = c.in-Some.word in
+    let all = c.answer_word.ensures in
+    let P : Option Word → Type 0 = λ o. IfSome (option_map task o) (λ asked. TaskTooLong asked
+    (g.S.Source.left c.args.source.now) c.answer_word.result) in
+    subst P (sym c.in-Some.is ∙ c.word_of.ensures.word)
+    (task_too_long _ _ _ _ _ memory (λ e. no_read (all.read_fault e)) (λ e. no_write (all.write_fault e)) (task word)
+    (word_settled word) all.outcome)
+
+-- the climbs, whatever the words are
+pub returns-in_default-clause-climbs : goal.returns-in_default-clause-climbs
+returns-in_default-clause-climbs g c = climb_descends
+
+-- and of words that the program takes
+pub returns-clause-climbs : goal.returns-clause-climbs
+returns-clause-climbs g c = climb_descends

@@ -1,0 +1,20 @@
+-- What a climb of a report comes to.
+use Rattle.std.specs.Prelude.{◌≡◌, ℕ, true, false, length}
+use Rattle.transyt_net.specs.Parts.{Network}
+use Rattle.transyt_sweep.specs.Climb.{Climb}
+use Rattle.transyt_climb.specs.Way.{IsLocal}
+use Rattle.transyt_answers.specs.Commands.{budget_of, climb_of}
+use Rattle.transyt_answers.specs.Report.{RunState, InDeck, InSession}
+use Rattle.transyt_answers.specs.Steps.{LeadDown}
+
+-- A climb from a network: each step is a listed move that is allowed, and strictly lowers the index within every least
+-- green and intergreen. At LOCAL no listed move is allowed and lowers the index; at BUDGET all looks were taken.
+pub record Descends (net : Network) (budget : ℕ) (climb : Climb) : Type 0 where
+  pub steps : LeadDown net climb.steps climb.net
+  pub local : climb.local ≡ true → IsLocal climb.net
+  pub spent : climb.local ≡ false → length climb.looks ≡ budget
+
+-- the climb by the plan of what lines have come to
+abbrev pub ClimbDescends : RunState → Type 0
+ClimbDescends (InDeck deck) = Unit {0}
+ClimbDescends (InSession s) = Descends s.net (budget_of s.net.plan) (climb_of s.net)
