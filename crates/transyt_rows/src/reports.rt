@@ -1,0 +1,395 @@
+//! Reports of small decks, each number of which can be worked out by hand.
+
+use crate::decks;
+use crate::running::reports;
+use std::test::Fail;
+
+/// Decks of one junction with commands, and their reports.
+const ONE: [(&str, &str, &str); 20] = [
+    (
+        decks::ONE_JUNCTION,
+        "LINKS\nQUEUE 1\nPROFILE 1\n",
+        "\
+ACCEPTED 1 1
+LINK 1 UNIFORM 1380000 RANDOM 498618 STOPS 70000 INDEX 1948618
+INDEX 1948618
+QUEUE 1 3600000 1200000 0 0 0 600000 1200000 1800000 2400000 3000000
+IN 1 600000 600000 600000 600000 600000 600000 600000 600000 600000 600000
+GO 1 0 3000000 3000000 3000000 3000000 0 0 0 0 0
+OUT 1 0 3000000 1800000 600000 600000 0 0 0 0 0
+",
+    ),
+    (
+        decks::BUSY,
+        "LINKS\nQUEUE 1\n",
+        "\
+ACCEPTED 1 1
+LINK 1 UNIFORM 3600000 RANDOM 540832051 STOPS 180000 INDEX 544612051
+INDEX 544612051
+QUEUE 1 7200000 5400000 3600000 1800000 0 1200000 2400000 3600000 4800000 6000000
+",
+    ),
+    (
+        decks::EMPTY,
+        "LINKS\n",
+        "ACCEPTED 1 1\nLINK 1 UNIFORM 0 RANDOM 0 STOPS 0 INDEX 0\nINDEX 0\n",
+    ),
+    (
+        decks::ONE_JUNCTION,
+        "OFFSET 1 9\nQUEUE 1\nINDEX\n",
+        "\
+ACCEPTED 1 1
+DONE
+QUEUE 1 1200000 0 0 0 600000 1200000 1800000 2400000 3000000 3600000
+INDEX 1948618
+",
+    ),
+    (
+        decks::BOTH_STAGES,
+        "LINKS\nPROFILE 1\n",
+        "\
+ACCEPTED 1 1
+LINK 1 UNIFORM 0 RANDOM 124978 STOPS 0 INDEX 124978
+INDEX 124978
+IN 1 600000 600000 600000 600000 600000 600000 600000 600000 600000 600000
+GO 1 3000000 3000000 3000000 3000000 3000000 3000000 3000000 3000000 3000000 3000000
+OUT 1 600000 600000 600000 600000 600000 600000 600000 600000 600000 600000
+",
+    ),
+    (
+        decks::ONE_JUNCTION,
+        "OFFSET 1 0\nWORK\nWEIGHT 1 2 0\nINDEX\nWORK\n",
+        "ACCEPTED 1 1\nDONE\nWORK 0\nDONE\nINDEX 3757236\nWORK 0\n",
+    ),
+    (
+        decks::ONE_JUNCTION,
+        "OFFSET 1 4\nDECK\n",
+        "\
+ACCEPTED 1 1
+DONE
+FORM 2
+CYCLE 60 10 1 60 100 35
+NODE 1 4
+STAGE 0 1 2
+STAGE 5 1 2
+LINK 1 1 360 1800 1 1 0 0 1
+END
+",
+    ),
+    (decks::ONE_JUNCTION, "STOP\nHELLO\n", "ACCEPTED 1 1\n"),
+    (
+        decks::BOTH_STAGES,
+        "QUEUE 1\n",
+        "ACCEPTED 1 1\nQUEUE 1 0 0 0 0 0 0 0 0 0 0\n",
+    ),
+    (
+        decks::THREE_STAGES,
+        "QUEUE 1\n",
+        "ACCEPTED 1 1\nQUEUE 1 0 0 0 600000 1200000 1800000 2400000 0 0 0\n",
+    ),
+    (
+        decks::THREE_STAGES,
+        "PROFILE 1\n",
+        "\
+ACCEPTED 1 1
+IN 1 600000 600000 600000 600000 600000 600000 600000 600000 600000 600000
+GO 1 3000000 3000000 3000000 0 0 0 0 3000000 3000000 3000000
+OUT 1 600000 600000 600000 0 0 0 0 3000000 600000 600000
+",
+    ),
+    (
+        decks::ONE_JUNCTION,
+        "OFFSET 1 9\nOFFSET 1 0\nQUEUE 1\n",
+        "\
+ACCEPTED 1 1
+DONE
+DONE
+QUEUE 1 3600000 1200000 0 0 0 600000 1200000 1800000 2400000 3000000
+",
+    ),
+    (
+        decks::ONE_JUNCTION,
+        "INDEX\nWORK",
+        "ACCEPTED 1 1\nINDEX 1948618\nWORK 0\n",
+    ),
+    (
+        decks::LAGS,
+        "LINKS\nQUEUE 1\n",
+        "\
+ACCEPTED 1 1
+LINK 1 UNIFORM 960000 RANDOM 332922 STOPS 60000 INDEX 1352922
+INDEX 1352922
+QUEUE 1 2400000 3000000 600000 0 0 0 0 600000 1200000 1800000
+",
+    ),
+    (
+        decks::NO_GREEN,
+        "LINKS\n",
+        "ACCEPTED 1 1\nLINK 1 UNIFORM 0 RANDOM 180498618 STOPS 0 INDEX 180498618\nINDEX 180498618\n",
+    ),
+    (
+        decks::NO_GREEN_NO_FLOW,
+        "PLOT 1\n",
+        "\
+ACCEPTED 1 1
+PLOT 1 SCALE 0
+000 ....................|....................|....................
+001 ....................|....................|....................
+002 ....................|....................|....................
+003 ....................|....................|....................
+004 ....................|....................|....................
+005 ....................|....................|....................
+006 ....................|....................|....................
+007 ....................|....................|....................
+008 ....................|....................|....................
+009 ....................|....................|....................
+",
+    ),
+    (
+        decks::ONE_JUNCTION,
+        "PLOT 2\nPLOT 1\n",
+        "\
+ACCEPTED 1 1
+REFUSED 17
+PLOT 1 SCALE 3000000
+000 IIII................|....................|....................
+001 IIII................|GGGGGGGGGGGGGGGGGGGG|OOOOOOOOOOOOOOOOOOOO
+002 IIII................|GGGGGGGGGGGGGGGGGGGG|OOOOOOOOOOOO........
+003 IIII................|GGGGGGGGGGGGGGGGGGGG|OOOO................
+004 IIII................|GGGGGGGGGGGGGGGGGGGG|OOOO................
+005 IIII................|....................|....................
+006 IIII................|....................|....................
+007 IIII................|....................|....................
+008 IIII................|....................|....................
+009 IIII................|....................|....................
+",
+    ),
+    (
+        decks::ONE_JUNCTION,
+        "\
+CHANGE 1 2 2
+CHANGE 1 2 0
+CHANGE 1 3 0
+CHANGE 1 2 10
+OFFSET 1 10
+ENTRY 9 10
+ENTRY 9 10000
+PART 1 1 10
+OFFSET 1
+OFFSET 1 -1
+offset 1 1
+NODE 2 0
+QUEUE 2
+CLIMB
+KEEP
+INDEX
+WORK
+",
+        "\
+ACCEPTED 1 1
+REFUSED 19
+REFUSED 18
+REFUSED 17
+REFUSED 14
+REFUSED 14
+REFUSED 17
+REFUSED 17
+REFUSED 23
+REFUSED 12
+REFUSED 13
+REFUSED 10
+REFUSED 10
+REFUSED 17
+REFUSED 26
+REFUSED 24
+INDEX 1948618
+WORK 0
+",
+    ),
+    (
+        decks::ONE_JUNCTION,
+        "TRIAL\nENTRY 1 1800\nINDEX\nENTRY 1 0\nINDEX\nENTRY 1 900\nBACK\nINDEX\nWORK\nBACK\n",
+        "\
+ACCEPTED 1 1
+DONE
+DONE
+INDEX 544612051
+DONE
+INDEX 0
+DONE
+DONE
+INDEX 1948618
+WORK 3
+REFUSED 24
+",
+    ),
+    (
+        decks::CLIMBING,
+        "TRIAL\nENTRY 1 0\nTRIAL\nCLIMB\nCERT\nINDEX\nKEEP\nINDEX\n",
+        "ACCEPTED 1 1\nDONE\nDONE\nREFUSED 25\nREFUSED 25\nREFUSED 25\nINDEX 0\nDONE\nINDEX 0\n",
+    ),
+];
+
+#[test]
+fn of_one_junction(rt: HostRuntime) -> Result<(), Fail> {
+    for (deck, commands, report) in ONE {
+        reports(&rt, rt.alloc(), deck, commands, report)?;
+    }
+    Ok(())
+}
+
+/// Decks of links that feed each other or give way, with commands, and their reports.
+const SEVERAL: [(&str, &str, &str); 10] = [
+    (
+        decks::LOOP,
+        "PROFILE 1\nENTRY 3 3420\nWORK\nPROFILE 1\n",
+        "\
+ACCEPTED 1 3
+IN 1 900000 900000 900000 900000 900000 900000 900000 900000 900000 900000
+GO 1 3000000 3000000 3000000 3000000 3000000 3000000 3000000 3000000 3000000 3000000
+OUT 1 900000 900000 900000 900000 900000 900000 900000 900000 900000 900000
+DONE
+WORK 7
+IN 1 850000 850000 850000 850000 850000 850000 850000 850000 850000 850000
+GO 1 3000000 3000000 3000000 3000000 3000000 3000000 3000000 3000000 3000000 3000000
+OUT 1 850000 850000 850000 850000 850000 850000 850000 850000 850000 850000
+",
+    ),
+    (
+        decks::LOOP,
+        "ENTRY 3 3420\nPROFILE 2\n",
+        "\
+ACCEPTED 1 3
+DONE
+IN 2 750000 750000 750000 750000 750000 750000 750000 750000 750000 750000
+GO 2 3000000 3000000 3000000 3000000 3000000 3000000 3000000 3000000 3000000 3000000
+OUT 2 750000 750000 750000 750000 750000 750000 750000 750000 750000 750000
+",
+    ),
+    (
+        decks::FEEDS_ITSELF,
+        "PROFILE 1\n",
+        "\
+ACCEPTED 1 1
+IN 1 700000 700000 700000 700000 700000 700000 700000 700000 700000 700000
+GO 1 300000 300000 300000 300000 300000 300000 300000 300000 300000 300000
+OUT 1 300000 300000 300000 300000 300000 300000 300000 300000 300000 300000
+",
+    ),
+    (
+        decks::FEEDS_ITSELF_ONCE,
+        "PROFILE 1\n",
+        "\
+ACCEPTED 1 1
+IN 1 900000 900000 900000 900000 900000 900000 900000 900000 900000 900000
+GO 1 300000 300000 300000 300000 300000 300000 300000 300000 300000 300000
+OUT 1 300000 300000 300000 300000 300000 300000 300000 300000 300000 300000
+",
+    ),
+    (
+        decks::FEEDS_ITSELF,
+        "QUEUE 1\n",
+        "ACCEPTED 1 1\nQUEUE 1 0 0 0 0 0 0 0 0 0 0\n",
+    ),
+    (
+        decks::TWO_JUNCTIONS,
+        "\
+ENTRY 1 360
+WORK
+ENTRY 1 720
+WORK
+CRUISE 2 1 20
+WORK
+CRUISE 2 1 21
+WORK
+SATURATION 2 1800
+WORK
+OFFSET 1 1
+WORK
+OFFSET 2 4
+WORK
+WEIGHT 2 0 0
+WORK
+",
+        "\
+ACCEPTED 2 2
+DONE
+WORK 0
+DONE
+WORK 2
+DONE
+WORK 3
+DONE
+WORK 4
+DONE
+WORK 4
+DONE
+WORK 6
+DONE
+WORK 7
+DONE
+WORK 7
+",
+    ),
+    (
+        decks::LOOP,
+        "TRIAL\nENTRY 3 3420\nBACK\nWORK\nPROFILE 1\nENTRY 3 3420\nWORK\n",
+        "\
+ACCEPTED 1 3
+DONE
+DONE
+DONE
+WORK 7
+IN 1 900000 900000 900000 900000 900000 900000 900000 900000 900000 900000
+GO 1 3000000 3000000 3000000 3000000 3000000 3000000 3000000 3000000 3000000 3000000
+OUT 1 900000 900000 900000 900000 900000 900000 900000 900000 900000 900000
+DONE
+WORK 14
+",
+    ),
+    (
+        decks::GIVES_WAY,
+        "LINKS\nPROFILE 2\n",
+        "\
+ACCEPTED 1 2
+LINK 1 UNIFORM 1380000 RANDOM 498618 STOPS 70000 INDEX 1948618
+LINK 2 UNIFORM 59999 RANDOM 166615 STOPS 10000 INDEX 236614
+INDEX 2185232
+IN 2 600000 600000 600000 600000 600000 600000 600000 600000 600000 600000
+GO 2 3000000 1 1200000 2400000 2400000 3000000 3000000 3000000 3000000 3000000
+OUT 2 600000 1 1199999 600000 600000 600000 600000 600000 600000 600000
+",
+    ),
+    (
+        decks::GIVES_WAY,
+        "ENTRY 1 360\nWORK\nENTRY 1 0\nWORK\nLINKS\n",
+        "\
+ACCEPTED 1 2
+DONE
+WORK 0
+DONE
+WORK 2
+LINK 1 UNIFORM 0 RANDOM 0 STOPS 0 INDEX 0
+LINK 2 UNIFORM 0 RANDOM 124978 STOPS 0 INDEX 124978
+INDEX 124978
+",
+    ),
+    (
+        decks::GIVES_WAY_TO_A_LATER,
+        "PROFILE 2\n",
+        "\
+ACCEPTED 1 2
+IN 2 600000 600000 600000 600000 600000 600000 600000 600000 600000 600000
+GO 2 2400000 2400000 2400000 2400000 2400000 2400000 2400000 2400000 2400000 2400000
+OUT 2 600000 600000 600000 600000 600000 600000 600000 600000 600000 600000
+",
+    ),
+];
+
+#[test]
+fn of_links_that_feed_each_other_or_give_way(rt: HostRuntime) -> Result<(), Fail> {
+    for (deck, commands, report) in SEVERAL {
+        reports(&rt, rt.alloc(), deck, commands, report)?;
+    }
+    Ok(())
+}
