@@ -2,7 +2,7 @@
 
 use super::*;
 
-// the terms of one link in a cycle of 60 seconds and 10 steps, over 60 minutes, and its figures
+/// The terms of one link in a cycle of 60 seconds and 10 steps, over 60 minutes, and its figures.
 #[derive(Drop)]
 struct Link {
     arrivals: u64,

@@ -28,6 +28,7 @@ fn read_text<S: Source>(
     }
 }
 
+/// Appends a line and a bar.
 fn put_bar(line: &[u8], text: &mut Vec<u8>) -> Result<(), AllocError> {
     text.extend_from_slice(line)?;
     text.push(b'|')?;
@@ -64,6 +65,7 @@ fn plain_text(alloc: Global, bytes: &[u8], unended: bool) -> Result<Vec<u8>, All
     Ok(text)
 }
 
+/// Appends a line of the input, without its carriage return and up to its first 4,097 bytes, and a bar.
 fn put_plain(raw: &[u8], text: &mut Vec<u8>) -> Result<(), AllocError> {
     let line = raw.strip_suffix(b"\r").unwrap_or(raw);
     put_bar(&line[..line.len().min(4097)], text)
@@ -117,6 +119,7 @@ fn words_text(alloc: Global, line: &[u8]) -> Result<Vec<u8>, AllocError> {
     Ok(text)
 }
 
+/// So many bytes `x`, and this tail.
 fn run_of(alloc: Global, count: usize, tail: &[u8]) -> Result<Vec<u8>, AllocError> {
     let mut bytes = vec![in alloc; b'x'; count]?;
     bytes.extend_from_slice(tail)?;
@@ -326,6 +329,7 @@ struct InterruptedOnce {
 }
 
 impl InterruptedOnce {
+    /// One that was not called yet.
     fn new() -> InterruptedOnce {
         InterruptedOnce {
             calls: 0,

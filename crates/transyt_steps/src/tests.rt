@@ -6,6 +6,7 @@ use crate::Steps;
 use std::marker::Brand;
 use std::sync::ledger::{Blank, Ledger};
 
+/// Works out so many cells, a tick each, and says how many.
 fn work<L: Ledger>(cells: u32, steps: &mut Steps<L>) -> u32
     ensures done { result ≡ cells }
     ensures ticked { steps.new ≡ steps.old + cells }
@@ -26,6 +27,7 @@ fn counted<L: Ledger>(cells: u32, more: u32, steps: &mut Steps<L>)
     work(more, steps);
 }
 
+/// Begins a counter in the blank ledger and works in it, twice handed on and once here.
 fn begun<L: Ledger>(cells: u32, blank: Blank) -> u32
     requires name { blank.name ≡ L.name }
     requires parts { blank.parts ≡ L.parts }

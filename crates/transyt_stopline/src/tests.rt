@@ -2,7 +2,7 @@
 
 use super::*;
 
-// one cycle of ten steps: what comes, what the green lets pass, and what follows
+/// One cycle of ten steps: what comes, what the green lets pass, and what follows.
 #[derive(Drop)]
 struct Cycle {
     come: [u64; 10],
@@ -13,7 +13,7 @@ struct Cycle {
     stopped: u64,
 }
 
-// three vehicles a step at the four steps of green
+/// Three vehicles a step at the four steps of green.
 const GREEN: [u64; 10] = [0, 3000000, 3000000, 3000000, 3000000, 0, 0, 0, 0, 0];
 
 #[test]

@@ -10,12 +10,14 @@ use crate::code::Code;
 use crate::numbers::Further;
 use transyt_io::is_blank;
 
+/// Whether a byte may stand in a line: a blank, or a printing ASCII character.
 fn is_plain(byte: u8) -> bool
     ensures { result ≡ is_plain byte }
 {
     is_blank(byte) || (byte >= 33 && byte <= 126)
 }
 
+/// Whether each byte of a line may stand in it.
 fn is_plain_line(line: &[u8]) -> bool
     ensures { result ≡ list_all is_plain line.now }
 {

@@ -12,6 +12,7 @@ use crate::{
 use std::alloc::{AllocError, Global};
 use std::test::Fail;
 
+/// A frame in which each number is in its range.
 const FRAME: Frame = Frame {
     cycle: 60,
     step_count: 10,
