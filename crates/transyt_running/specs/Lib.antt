@@ -4,3 +4,4 @@ pub mod Outcome
 pub mod RunSoFar
 pub mod Runs
 pub mod Turns
+pub mod WorkedRuns

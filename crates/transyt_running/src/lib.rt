@@ -9,7 +9,9 @@
 #![tactic(auto)]
 
 mod ending;
+mod laws;
 mod status;
 
 pub use ending::{Stop, ended, stopped, stopped_reading};
+pub use laws::worked_runs;
 pub use status::Status;

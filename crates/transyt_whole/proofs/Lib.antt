@@ -1,2 +1,3 @@
 -- The lemmas of the crate.
 pub mod Settled
+pub mod Worked

@@ -1,5 +1,5 @@
 -- The answer to a whole input, and what is reported by it.
-use Rattle.std.specs.Prelude.{ℕ, List, [], Bool, true, false, Option, None}
+use Rattle.std.specs.Prelude.{ℕ, List, [], Bool, true, false, None}
 use Rattle.transyt_running.specs.Outcome.{Reporting}
 use Rattle.transyt_whole.specs.declared.line.AnswerLine.{AnswerLine}
 use Rattle.transyt_whole.specs.Texts.{lines_text}

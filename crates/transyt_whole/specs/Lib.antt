@@ -2,3 +2,4 @@
 pub mod Answer
 pub mod Texts
 pub mod Whole
+pub mod WorkedTexts

@@ -8,9 +8,11 @@
 #![tactic(auto)]
 
 mod answer;
+mod laws;
 mod line;
 mod whole;
 
 pub use answer::Answer;
+pub use laws::worked_texts;
 pub use line::{AnswerLine, AuditLine, BalanceLine, Climbed, CountsLine, ScanLine};
 pub use whole::{Whole, answer_whole, say};
