@@ -9,4 +9,4 @@ pub mod CodeLaws
 pub mod WrittenLaws
 pub mod FlowLaws
 pub mod ExactLaws
-mod KnownValues
+pub mod Worked

@@ -7,3 +7,4 @@ pub mod Counts
 pub mod Progress
 pub mod Entries
 pub mod Exact
+pub mod WorkedTables

@@ -9,11 +9,13 @@
 mod counting;
 mod counts;
 mod key;
+mod laws;
 mod row;
 mod tally;
 
 pub use counting::read_counts;
 pub use counts::{CountStop, Counts};
+pub use laws::worked_counts;
 
 #[cfg(test)]
 mod tests;

@@ -20,4 +20,3 @@ pub mod ReachedLaws
 pub mod NeedsLaws
 pub mod WorthLaws
 pub mod AnswerLaws
-mod KnownValues

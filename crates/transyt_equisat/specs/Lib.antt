@@ -5,3 +5,4 @@ pub mod Peaks
 pub mod Sharing
 pub mod Answer
 pub mod Balance
+pub mod WorkedBalances

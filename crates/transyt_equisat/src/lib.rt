@@ -10,10 +10,12 @@ mod balancing;
 mod demand;
 mod fraction;
 mod greens;
+mod laws;
 mod sharing;
 
 pub use balancing::balance;
 pub use greens::{Greens, Share};
+pub use laws::worked_balances;
 
 #[cfg(test)]
 mod tests;

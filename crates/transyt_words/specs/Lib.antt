@@ -2,3 +2,4 @@ pub mod AfterDeck
 pub mod Audit
 pub mod Counts
 pub mod Equisat
+pub mod WorkedAnswers

@@ -5,12 +5,14 @@ mod after_deck;
 mod audit;
 mod counts;
 mod equisat;
+mod laws;
 mod lines;
 
 pub use after_deck::{AfterDeck, DeckWord};
 pub use audit::AuditWord;
 pub use counts::CountsWord;
 pub use equisat::EquisatWord;
+pub use laws::worked_answers;
 
 #[cfg(test)]
 mod tests;
