@@ -2,3 +2,4 @@
 pub mod Climbs
 pub mod Tasks
 pub mod Words
+pub mod WorkedWords

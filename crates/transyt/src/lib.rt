@@ -8,10 +8,12 @@
 //! is read. `Outcome` of transyt_running says what a run took, what it wrote and what each status says of both.
 #![tactic(auto)]
 
+mod laws;
 mod top;
 mod town;
 mod word;
 
+pub use laws::worked_words;
 pub use top::transyt;
 pub use transyt_answers::steps_lower;
 pub use transyt_desks::{Gate, OpenGate};

@@ -3,3 +3,4 @@ pub mod PassingLaws
 pub mod LeastLaws
 pub mod DeskLaws
 pub mod RoundLaws
+pub mod WorkedLaws

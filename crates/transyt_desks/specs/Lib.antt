@@ -1,3 +1,4 @@
 pub mod Desks
 pub mod Rounds
 pub mod Lends
+pub mod WorkedRounds

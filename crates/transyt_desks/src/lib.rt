@@ -15,11 +15,13 @@ mod desk;
 mod desks;
 mod equal;
 mod gate;
+mod laws;
 mod settling;
 
 pub use climbing::climb_by_rounds;
 pub use desks::Desks;
 pub use gate::{Gate, OpenGate};
+pub use laws::worked_rounds;
 pub use settling::Round;
 
 #[cfg(test)]

@@ -1,0 +1,45 @@
+-- Worked words, each with what it asks for.
+use Rattle.std.specs.Prelude.{ℕ, List, [], ◌∷◌, Option, None, Some, codes}
+use Rattle.transyt_scan.specs.declared.asked.ScanWord.{ScanWord}
+use Rattle.transyt.specs.declared.word.Word.{Word}
+use Rattle.transyt.specs.declared.word.Word.TheVariants as w
+
+-- cycle times for a number of workers
+abbrev pub asked : ℕ → ℕ → ℕ → ℕ → ScanWord
+asked workers low high by = record { workers = workers; times = record { low = low; high = high; by = by } }
+
+-- lists of words, each with what it asks for
+abbrev pub worked_words : List (List (List ℕ) × Option Word)
+worked_words =
+    ([], None)
+    ∷ (codes "run" ∷ [], Some (w.Run 1))
+    ∷ (codes "Run" ∷ [], None)
+    ∷ (codes "runs" ∷ [], None)
+    ∷ (codes "run" ∷ codes "8" ∷ [], Some (w.Run 8))
+    ∷ (codes "run" ∷ codes "9" ∷ [], None)
+    ∷ (codes "run" ∷ codes "0" ∷ [], None)
+    ∷ (codes "run" ∷ codes "03" ∷ [], None)
+    ∷ (codes "run" ∷ [] ∷ [], None)
+    ∷ (codes "make" ∷ codes "7" ∷ codes "200" ∷ [], Some (w.Make 7 200))
+    ∷ (codes "make" ∷ codes "7" ∷ codes "201" ∷ [], None)
+    ∷ (codes "make" ∷ codes "7" ∷ codes "0" ∷ [], None)
+    ∷ (codes "make" ∷ codes "999999999" ∷ codes "1" ∷ [], Some (w.Make 999999999 1))
+    ∷ (codes "make" ∷ codes "1000000000" ∷ codes "1" ∷ [], None)
+    ∷ (codes "make" ∷ codes "7" ∷ codes "64" ∷ codes "2" ∷ [], None)
+    ∷ (codes "brief" ∷ codes "7" ∷ codes "64" ∷ [], Some (w.Brief 7 64 1))
+    ∷ (codes "brief" ∷ codes "7" ∷ codes "64" ∷ codes "5" ∷ [], Some (w.Brief 7 64 5))
+    ∷ (codes "brief" ∷ codes "7" ∷ codes "64" ∷ codes "9" ∷ [], None)
+    ∷ (codes "brief" ∷ codes "7" ∷ [], None)
+    ∷ (codes "counts" ∷ [], Some w.Counts)
+    ∷ (codes "equisat" ∷ [], Some w.Equisat)
+    ∷ (codes "audit" ∷ [], Some w.Audit)
+    ∷ (codes "counts" ∷ codes "2" ∷ [], None)
+    ∷ (codes "scan" ∷ codes "2" ∷ codes "60" ∷ codes "120" ∷ codes "17" ∷ [], Some (w.Scan (asked 2 60 120 17)))
+    ∷ (codes "scan" ∷ codes "8" ∷ codes "30" ∷ codes "240" ∷ codes "210" ∷ [], Some (w.Scan (asked 8 30 240 210)))
+    ∷ (codes "scan" ∷ codes "2" ∷ codes "29" ∷ codes "120" ∷ codes "17" ∷ [], None)
+    ∷ (codes "scan" ∷ codes "2" ∷ codes "60" ∷ codes "241" ∷ codes "17" ∷ [], None)
+    ∷ (codes "scan" ∷ codes "2" ∷ codes "61" ∷ codes "60" ∷ codes "17" ∷ [], None)
+    ∷ (codes "scan" ∷ codes "2" ∷ codes "60" ∷ codes "120" ∷ codes "0" ∷ [], None)
+    ∷ (codes "scan" ∷ codes "2" ∷ codes "60" ∷ codes "120" ∷ codes "211" ∷ [], None)
+    ∷ (codes "scan" ∷ codes "2" ∷ codes "60" ∷ codes "120" ∷ codes "17" ∷ codes "1" ∷ [], None)
+    ∷ []

@@ -1,0 +1,41 @@
+-- Worked rounds: how many places are tried at once, how many turns a round is, and the desks that are opened.
+use Rattle.std.specs.Prelude.{ℕ, List, [], ◌∷◌, Bool, true, false, None}
+use Rattle.transyt_net.specs.declared.edit.Edit.TheVariants.{Change}
+use Rattle.transyt_climb.specs.declared.turn.Turn.{Turn}
+use Rattle.transyt_climb.specs.declared.turn.Turn.TheVariants.{Took, Passed, Local, Budget}
+use Rattle.transyt_climb.specs.Turns.{Counters, Machine, machine}
+use Rattle.transyt_climb.specs.WorkedTurns.{gone_round, idle_session, junctions_session, on_way, used_up, way}
+use Rattle.transyt_session.specs.Session.{SessionValue}
+use Rattle.transyt_track.specs.WorkedWork.{junctions}
+
+-- numbers of workers and a climber, with how many places are tried at once: a worker each, but none past the budget,
+-- and none past a whole round of the list
+abbrev pub worked_rooms : List (ℕ × Counters × ℕ)
+worked_rooms =
+    (2, on_way 9, 2)
+    ∷ (8, on_way 9, 5)
+    ∷ (8, on_way 7, 4)
+    ∷ (1, on_way 7, 1)
+    ∷ (8, used_up, 0)
+    ∷ []
+
+-- numbers of workers and a climber, with how many turns its round is where no move lowers the index
+abbrev pub worked_rounds : List (ℕ × Machine × ℕ)
+worked_rounds =
+    (1, way 9, 1)
+    ∷ (3, way 9, 3)
+    ∷ (8, way 9, 5)
+    ∷ (8, way 5, 2)
+    ∷ (4, machine gone_round idle_session, 1)
+    ∷ (4, machine used_up idle_session, 1)
+    ∷ []
+
+-- turns, and whether each takes a step
+abbrev pub worked_tooks : List (Turn × Bool)
+worked_tooks = (Took 3 (Change 21 1 9) 1352922, true) ∷ (Passed, false) ∷ (Local, false) ∷ (Budget, false) ∷ []
+
+-- a session with some work, and two twins of it without
+abbrev pub three_desks : List SessionValue
+three_desks =
+    junctions_session ∷ record { net = junctions; before = None; work = 0 }
+    ∷ record { net = junctions; before = None; work = 0 } ∷ []
