@@ -38,21 +38,23 @@ stayed cycle local looked = record { cycle = cycle; from = 0; took = 0; local = 
 abbrev pub junctions_at_61 : Network
 junctions_at_61 = with_cycle three_junctions 61
 
--- a row
-abbrev pub row : ℕ → ℕ → ℕ → Bool → ℕ → ℕ → Climbed
-row cycle from took local looked to =
+-- a climb at a cycle time
+abbrev pub climbed_at : ℕ → ℕ → ℕ → Bool → ℕ → ℕ → Climbed
+climbed_at cycle from took local looked to =
     record { cycle = cycle; from = from; took = took; local = local; looked = looked; to = to }
 
 -- rows of which the second and the third have the least index at the end
 abbrev pub four_rows : List Climbed
-four_rows = row 50 9 1 true 11 7 ∷ row 58 8 2 false 20 3 ∷ row 66 5 4 true 13 3 ∷ row 74 4 0 true 6 4 ∷ []
+four_rows =
+    climbed_at 50 9 1 true 11 7 ∷ climbed_at 58 8 2 false 20 3 ∷ climbed_at 66 5 4 true 13 3
+    ∷ climbed_at 74 4 0 true 6 4 ∷ []
 
 -- their lines, and the last line
 abbrev pub five_lines : List AnswerLine
 five_lines =
-    line.Scan (said.Cycle (row 50 9 1 true 11 7))
-    ∷ line.Scan (said.Cycle (row 58 8 2 false 20 3))
-    ∷ line.Scan (said.Cycle (row 66 5 4 true 13 3))
-    ∷ line.Scan (said.Cycle (row 74 4 0 true 6 4))
+    line.Scan (said.Cycle (climbed_at 50 9 1 true 11 7))
+    ∷ line.Scan (said.Cycle (climbed_at 58 8 2 false 20 3))
+    ∷ line.Scan (said.Cycle (climbed_at 66 5 4 true 13 3))
+    ∷ line.Scan (said.Cycle (climbed_at 74 4 0 true 6 4))
     ∷ line.Scan (said.Best 58 3)
     ∷ []

@@ -6,7 +6,7 @@ ghost use Rattle.transyt_scan.specs.Rows.{cycles, row_at, table};
 ghost use Rattle.transyt_scan.specs.Best.{best};
 ghost use Rattle.transyt_scan.specs.Scan.{table_lines};
 ghost use Rattle.transyt_scan.specs.WorkedScan.{from_60, from_44, at_72, idle_with, four_looks, stayed};
-ghost use Rattle.transyt_scan.specs.WorkedScan.{junctions_at_61, row, four_rows, five_lines};
+ghost use Rattle.transyt_scan.specs.WorkedScan.{junctions_at_61, climbed_at, four_rows, five_lines};
 
 /// Worked cycle times, rows, a best row and the lines of a table.
 pub fn worked_scan()
@@ -17,6 +17,6 @@ pub fn worked_scan()
     ensures budget { row_at (idle_with four_looks) 44 ≡ stayed 44 false 4 }
     ensures unplanned { row_at (idle_with None) 44 ≡ stayed 44 true 0 }
     ensures from { (row_at junctions_at_61 90).from ≡ 556223009 }
-    ensures best { best four_rows ≡ row 58 8 2 false 20 3 }
+    ensures best { best four_rows ≡ climbed_at 58 8 2 false 20 3 }
     ensures lines { table_lines four_rows ≡ five_lines }
 {}
