@@ -9,3 +9,4 @@ pub mod StepLaws
 pub mod WorkLaws
 pub mod CountLaws
 pub mod JudgedTexts
+pub mod Worked

@@ -5,3 +5,4 @@ pub mod Conditions
 pub mod Report
 pub mod Reporter
 pub mod Steps
+pub mod WorkedReports

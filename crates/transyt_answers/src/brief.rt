@@ -1,8 +1,9 @@
 //! BRIEF: one climb on a network, told in one line.
-ghost use Rattle.std.specs.Prelude.{◌≡◌, ◌+◌, ◌*◌, ◌^◌, ◌≤◌, length, None, IsSome, IsErrOf, OnOk, OnErr};
+ghost use Rattle.std.specs.Prelude.{◌≡◌, ◌+◌, ◌*◌, ◌^◌, ◌≤◌, ◌∷◌, [], length, None, IsSome, IsErrOf, OnOk, OnErr};
 ghost use Rattle.transyt_io.specs.Streams.{Adds, AddsFront, Rose};
 ghost use Rattle.transyt_moves.specs.Moves.{move_count};
 ghost use Rattle.transyt_sweep.specs.Climb.{climb};
+ghost use Rattle.transyt_sweep.specs.Sweeps.{index};
 ghost use Rattle.transyt_climb.specs.Turns.{start_at};
 ghost use Rattle.transyt_climb.specs.Way.{climbed};
 ghost use Rattle.transyt_desks.specs.Desks.{desk_zero, AreAligned};
@@ -92,15 +93,37 @@ fn tell_climb<R: Threads + Sync, G: Gate, K: Sink, L: Ledger>(
     desks.align(steps);
     let mut climber = start_climber(desks.session().net());
     let climbed = count_steps(rt, gate, desks, &mut climber, steps);
-    let numbers = [
+    let numbers = numbers_of(
+        nodes,
+        links,
+        from,
+        climbed,
+        climber.looked(),
+        desks.session(),
+    );
+    print_brief(climbed.local, &numbers, line, sink)
+}
+
+/// The numbers of the line, in its order: of nodes and links, the index before the climb, the steps and the looks, and
+/// the index now.
+fn numbers_of(
+    nodes: usize,
+    links: usize,
+    from: u128,
+    climbed: Climbed,
+    looked: u32,
+    session: &Session,
+) -> [u128; 6]
+    ensures { result ≡ nodes ∷ links ∷ from ∷ climbed.took ∷ looked ∷ index session.now.net ∷ [] }
+{
+    [
         nodes as u128,
         links as u128,
         from,
         u128::from(climbed.took),
-        u128::from(climber.looked()),
-        desks.session().index(),
-    ];
-    print_brief(climbed.local, &numbers, line, sink)
+        u128::from(looked),
+        session.index(),
+    ]
 }
 
 /// Writes the line with these numbers.

@@ -7,7 +7,9 @@ use Rattle.transyt_session.specs.Session.{SessionValue}
 use Rattle.transyt_climb.specs.Turns.{Counters}
 use Rattle.transyt_desks.specs.Desks.{desk_zero}
 use Rattle.transyt_text.proofs.PrintLaws.{prints_same}
+use Rattle.transyt_text.specs.Forms.{form_line}
 use Rattle.transyt_answers.specs.Commands.{budget_of, climb_of}
+use Rattle.transyt_answers.specs.Brief.{brief_form}
 use Rattle.transyt_answers.proofs.BriefLaws.{brief_told}
 use Rattle.transyt_answers.proofs.brief.tell_climb.Goals as goal
 
@@ -29,14 +31,14 @@ returns-clause-prints g c =
     let whole : climb (desk_zero c.align.new.self).net 0 c.start_climber-climber.result.budget ≡ climb_of net =
     λ i. climb (zero i) 0 (budget i) in
     let last = c.count_steps-climbed.new.desks in
-    let to : c.index.result ≡ index (climb_of net).net =
-    c.index.ensures ∙ ap (λ (s : SessionValue). index s.net) (c.session-4.ensures ∙ told.state)
-    ∙ ap (λ (k : Climb). index k.net) whole in
+    let to : index c.session-4.result.now.net ≡ index (climb_of net).net =
+    ap (λ (s : SessionValue). index s.net) (c.session-4.ensures ∙ told.state) ∙ ap (λ (k : Climb). index k.net) whole in
     prints_same _ _ c.print_brief.result _ _ c.print_brief.ensures
-    (brief_told net _ _ _ _ _ _ _ (told.local ∙ ap (λ (k : Climb). k.local) whole)
+    (ap (form_line (brief_form c.count_steps-climbed.result.local)) c.numbers_of-numbers.ensures
+    ∙ brief_told net _ _ _ _ _ _ _ (told.local ∙ ap (λ (k : Climb). k.local) whole)
     (nodes_count)
     (links_count)
     (c.index-from.ensures ∙ ap (λ (s : SessionValue). index s.net) c.session-2.ensures)
-    (c.from.ensures ∙ told.took ∙ ap (λ (k : Climb). length k.steps) whole)
-    (c.from-2.ensures ∙ c.looked.ensures.value ∙ told.looked ∙ ap (λ (k : Climb). length k.looks) whole)
+    (told.took ∙ ap (λ (k : Climb). length k.steps) whole)
+    (c.looked.ensures.value ∙ told.looked ∙ ap (λ (k : Climb). length k.looks) whole)
     to)
