@@ -12,3 +12,8 @@ returns-clause-count c = refl
 pub returns-clause-place : goal.returns-clause-place
 unfolding move
 returns-clause-place c = refl
+
+-- after the last
+pub returns-clause-past_the_end : goal.returns-clause-past_the_end
+unfolding move
+returns-clause-past_the_end c = refl
