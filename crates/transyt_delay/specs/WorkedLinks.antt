@@ -1,7 +1,5 @@
 -- Worked links, with their figures. No number is neutral.
-use Rattle.std.specs.Prelude.{ℕ}
 use Rattle.transyt_delay.specs.declared.terms.Terms.{Terms}
-use Rattle.transyt_delay.specs.declared.terms.TermsFrame.{TermsFrame}
 use Rattle.transyt_delay.specs.declared.figures.Figures.{Figures}
 
 -- a link with fewer vehicles than can go
@@ -68,11 +66,11 @@ short_period = record {
 abbrev pub short_period_figures : Figures
 short_period_figures = record { uniform = 5388889; random = 327904; stops = 17988; index = 17163690 }
 
--- over two hours
+-- over two hours, with little less than can go
 abbrev pub long_period : Terms
 long_period = record {
   arrivals = 1733021;
-  room = 4310007;
+  room = 1733999;
   queued = 97000013;
   stopped = 1619003;
   frame = record { cycle = 90; step_count = 18; period = 120; stop_penalty = 37 };
@@ -82,7 +80,7 @@ long_period = record {
 
 -- its figures
 abbrev pub long_period_figures : Figures
-long_period_figures = record { uniform = 5388889; random = 335159; stops = 17988; index = 17185455 }
+long_period_figures = record { uniform = 5388889; random = 5867782; stops = 17988; index = 33783324 }
 
 -- with more vehicles than can go
 abbrev pub oversaturated : Terms
@@ -99,3 +97,15 @@ oversaturated = record {
 -- its figures
 abbrev pub oversaturated_figures : Figures
 oversaturated_figures = record { uniform = 5388889; random = 39473691; stops = 19255; index = 224362770 }
+
+-- a link with the greatest numbers, in the shortest cycle, of one step
+abbrev pub at_limits : Terms
+at_limits = record {
+  arrivals = 36028797018963967;
+  room = 36028797018963967;
+  queued = 36028797018963967;
+  stopped = 36028797018963967;
+  frame = record { cycle = 30; step_count = 1; period = 120; stop_penalty = 9999 };
+  delay_weight = 999;
+  stop_weight = 999;
+}
