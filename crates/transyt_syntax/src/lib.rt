@@ -12,11 +12,13 @@
 #![tactic(auto)]
 
 mod code;
+mod laws;
 mod line;
 mod numbers;
 mod words;
 
 pub use code::Code;
+pub use laws::worked_lines;
 pub use line::say;
 pub use numbers::{Further, Numbers, further_of};
 pub use words::{first_of, is_word, read_numbers, word_count};
