@@ -14,10 +14,9 @@ greens =
     ∷ replicate 18 1259722
     ∷ []
 
--- at which steps the fifth of them is green
+-- at which steps the first of them, whose lags differ, is green
 abbrev pub green_steps : List Bool
-green_steps =
-    replicate 1 true ++ replicate 5 false ++ replicate 2 true ++ replicate 8 false ++ replicate 2 true
+green_steps = replicate 8 false ++ replicate 6 true ++ replicate 4 false
 
 -- at which of four steps a link is shown, its start lag and its end lag, and at which steps it is green: one with
 -- neither lag, one that loses all its green, one that is shown at every step, and one whose lags lead past the cycle
