@@ -1,9 +1,15 @@
 -- The worked decks and codes, computed from the definitions.
-use Rattle.std.proofs.Common.{◌≡◌, List, map, Some, refl}
+use Rattle.std.proofs.Common.{◌≡◌, map, Some, refl}
 use Rattle.transyt_deck.specs.Deck.{Complete, code, deck}
 use Rattle.transyt_deck.specs.WorkedCodes.{each_card, limits, places}
 use Rattle.transyt_deck.specs.WorkedOrder.{in_order}
-use Rattle.transyt_deck.specs.WorkedTown.{town, town_net}
+use Rattle.transyt_deck.specs.WorkedTown.{town, town_net, town_text}
+use Rattle.transyt_deck.specs.WorkedVillage.{bytes_of, cuts, finishes, readers, village, village_net}
+use Rattle.transyt_deck.specs.Cards.{deck_text}
+use Rattle.transyt_deck.specs.Cut.{cut_of}
+use Rattle.transyt_deck.specs.Reader.{finished, may_finish}
+use Rattle.transyt_text.specs.Forms.{filled, form_line, values_line, values_text}
+use Rattle.std.specs.Fmt.{digits}
 
 -- the worked deck has its network
 pub town_is : deck town ≡ Complete 34 town_net
@@ -20,3 +26,24 @@ limits_are = refl
 -- each line has the first of its codes
 pub order_is : map (λ row. code row.0 row.1) in_order ≡ map (λ row. Some row.2) in_order
 order_is = refl
+
+-- the deck of form 1 has its network
+pub village_is : deck village ≡ Complete 6 village_net
+village_is = refl
+
+-- the network has its text
+pub text_is : deck_text town_net ≡ bytes_of town_text
+unfolding form_line values_line values_text filled digits
+text_is = refl
+
+-- bytes have their cut
+pub cuts_are : map (λ row. cut_of row.0) cuts ≡ map (λ row. row.1) cuts
+cuts_are = refl
+
+-- what a reader finishes with after these lines
+pub finishes_are : map (λ row. finished (deck row.0)) finishes ≡ map (λ row. row.1) finishes
+finishes_are = refl
+
+-- whether a reader may finish
+pub readers_are : map (λ row. may_finish row.0) readers ≡ map (λ row. row.1) readers
+readers_are = refl

@@ -8,3 +8,4 @@ pub mod Table
 pub mod WorkedCodes
 pub mod WorkedOrder
 pub mod WorkedTown
+pub mod WorkedVillage

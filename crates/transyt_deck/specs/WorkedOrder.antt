@@ -102,5 +102,5 @@ in_order =
     ∷ ([], codes "END", c.OutOfPlace)
     ∷ (with_node_1 (codes "STAGE 0 9 10" ∷ []), codes "END", c.FewStages)
     ∷ (with_node_1 (codes "STAGE 0 1 2" ∷ codes "STAGE 5 9 9" ∷ codes "STAGE 2 1 2" ∷ []), codes "END", c.StageOrder)
-    ∷ (with_node_1 (codes "STAGE 0 1 2" ∷ codes "STAGE 2 1 2" ∷ codes "NODE 2 0" ∷ []), codes "END", c.LeastGreen)
+    ∷ (with_node_1 (codes "STAGE 0 1 2" ∷ codes "STAGE 8 1 2" ∷ codes "NODE 2 0" ∷ []), codes "END", c.LeastGreen)
     ∷ []

@@ -1,5 +1,5 @@
--- A worked deck with every card, no number of which is neutral: its lines and its network.
-use Rattle.std.specs.Prelude.{List, [], ◌∷◌, codes, ℕ, Option, Some, None}
+-- A worked deck with every card, no number of which is neutral: its lines, its network, and the text of that.
+use Rattle.std.specs.Prelude.{List, [], ◌∷◌, ◌++◌, codes, take, ℕ, Option, Some, None}
 use Rattle.transyt_parts.specs.declared.link.Feed.{Feed}
 use Rattle.transyt_parts.specs.declared.link.GiveWay.{GiveWay}
 use Rattle.transyt_parts.specs.Made.{new_feed, new_link, new_plan, new_rule, new_stage}
@@ -61,3 +61,11 @@ town_net = record {
   links = town_links;
   plan = Some (new_plan 250 (4 ∷ 1 ∷ 7 ∷ []));
 }
+
+-- the lines of its text: all FEED cards before the YIELD cards, both in the order of their links
+abbrev pub town_text : List (List ℕ)
+town_text =
+    take 22 town
+    ++ codes "FEED 5 8 173 38" ∷ codes "FEED 4 5 311 23" ∷ codes "FEED 4 2 77 61" ∷ codes "FEED 8 9 402 47"
+    ∷ codes "FEED 8 3 219 300" ∷ codes "FEED 6 6 41 17" ∷ codes "FEED 11 4 88 9" ∷ codes "FEED 11 3 60 111"
+    ∷ codes "YIELD 4 9 35" ∷ codes "YIELD 11 5 150" ∷ codes "STEPS 250 4 1 7" ∷ codes "END" ∷ []

@@ -1,13 +1,18 @@
 //! Laws about the definitions.
-ghost use Rattle.std.specs.Prelude.{◌≡◌, ℕ, List, [], ◌∷◌, ◌++◌, length, map, Some};
+ghost use Rattle.std.specs.Prelude.{◌≡◌, ℕ, List, [], ◌∷◌, ◌++◌, length, map, Some, Err};
 ghost use Rattle.transyt_io.specs.Lines.{lines};
 ghost use Rattle.transyt_net.specs.Parts.{Network};
 ghost use Rattle.transyt_net.specs.Valid.{IsValid};
+ghost use Rattle.transyt_syntax.specs.declared.code.Code.TheVariants as c;
+ghost use Rattle.transyt_deck.specs.declared.reader.CardStop.TheVariants as stop;
 ghost use Rattle.transyt_deck.specs.Cards.{deck_cards, deck_text};
-ghost use Rattle.transyt_deck.specs.Deck.{deck, code, next, Complete};
+ghost use Rattle.transyt_deck.specs.Deck.{deck, code, next, start, Complete, Refused};
 ghost use Rattle.transyt_deck.specs.WorkedCodes.{each_card, limits, places};
 ghost use Rattle.transyt_deck.specs.WorkedOrder.{in_order};
-ghost use Rattle.transyt_deck.specs.WorkedTown.{town, town_net};
+ghost use Rattle.transyt_deck.specs.WorkedTown.{town, town_net, town_text};
+ghost use Rattle.transyt_deck.specs.WorkedVillage.{bytes_of, cuts, finishes, readers, village, village_net};
+ghost use Rattle.transyt_deck.specs.Cut.{cut_of};
+ghost use Rattle.transyt_deck.specs.Reader.{finished, may_finish, Answers};
 
 /// The deck text of a valid network reads back as that network, with END at its last line.
 #[tactic(auto, using(crate::proofs::ReadBack::deck_read_back))]
@@ -24,10 +29,11 @@ pub fn line_by_line()
         → deck (before ++ line ∷ []) ≡ next (deck before) line }
 {}
 
-/// The worked deck, in which no number is neutral, has the network that is written beside the definitions;
-/// each card in each place, each number at its limits and one past them, and each line of `in_order`
-/// comes out as it is written there.
-#[tactic(auto, using(crate::proofs::Worked::town_is, crate::proofs::Worked::places_are, crate::proofs::Worked::limits_are, crate::proofs::Worked::order_is))]
+/// The worked decks, in which no number is neutral, have the networks that are written beside the definitions;
+/// each card in each place, each number at its limits and one past them, each line of `in_order`, the text of a
+/// network, the cuts, what a reader finishes with and whether it may come out as they are written there; a reader is out
+/// of memory only where the line that it took has no code.
+#[tactic(auto, using(crate::proofs::Worked::town_is, crate::proofs::Worked::places_are, crate::proofs::Worked::limits_are, crate::proofs::Worked::order_is, crate::proofs::Worked::village_is, crate::proofs::Worked::text_is, crate::proofs::Worked::cuts_are, crate::proofs::Worked::finishes_are, crate::proofs::Worked::readers_are))]
 pub fn worked_decks()
     ensures town { deck town ≡ Complete 34 town_net }
     ensures places { map (λ row. map (code row.0) each_card) places
@@ -35,4 +41,11 @@ pub fn worked_decks()
     ensures limits { map (λ row. map (λ line. code row.0 line.0) row.1) limits
         ≡ map (λ row. map (λ line. line.1) row.1) limits }
     ensures order { map (λ row. code row.0 row.1) in_order ≡ map (λ row. Some row.2) in_order }
+    ensures village { deck village ≡ Complete 6 village_net }
+    ensures text { deck_text town_net ≡ bytes_of town_text }
+    ensures cuts { map (λ row. cut_of row.0) cuts ≡ map (λ row. row.1) cuts }
+    ensures finishes { map (λ row. finished (deck row.0)) finishes ≡ map (λ row. row.1) finishes }
+    ensures readers { map (λ row. may_finish row.0) readers ≡ map (λ row. row.1) readers }
+    ensures memory { Answers start (Err stop.Memory) }
+    ensures no_memory { Answers (Refused 2 c.OutOfPlace) (Err stop.Memory) → ⊥ }
 {}
