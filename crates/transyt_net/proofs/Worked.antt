@@ -1,7 +1,9 @@
 -- The worked values, computed from the definitions.
-use Rattle.std.proofs.Common.{◌≡◌, [], ◌∷◌, map, Some, None, refl}
+use Rattle.std.proofs.Common.{◌≡◌, [], ◌∷◌, map, Some, None, refl, arith, lit<}
 use Rattle.transyt_parts.specs.Made.{new_node, new_feed, new_rule, new_link}
 use Rattle.transyt_net.specs.EditFaults.{edit_fault}
+use Rattle.transyt_net.specs.Valid.{IsSound}
+use Rattle.transyt_net.specs.Parts.{no_link}
 use Rattle.transyt_net.specs.WorkedNets.{town}
 use Rattle.transyt_net.specs.WorkedNets as net
 use Rattle.transyt_net.specs.WorkedFaults as fault
@@ -47,5 +49,9 @@ pub rules : fault.rules ≡ Some (new_rule 9 35) ∷ None ∷ None ∷ []
 rules = refl
 
 -- what stands where there is nothing
-pub nothing : fault.nothing ≡ (new_node 0 0, new_link 0 0 0 0 0 0 0 0 [])
+pub nothing : fault.nothing ≡ (new_node 0 0, new_link 0 0 0 0 0 0 0 0 [], new_feed 0 0 0)
 nothing = refl
+
+-- a link that runs in no stage keeps to no count of stages
+pub stageless : IsSound fault.stageless → ⊥
+stageless sound = let some = (sound.links 0 no_link (lit< tt)).stage_count.0 in absurd (omega (arith, some))

@@ -7,7 +7,7 @@ use Rattle.transyt_parts.specs.Made.{new_stage, new_feed, new_rule, new_plan, ne
 use Rattle.transyt_net.specs.Parts.{Network, node_of, link_of}
 use Rattle.transyt_net.specs.Valid.{place_of, link_place, link_numbers, stages_at, feeds_at, rule_at}
 use Rattle.transyt_net.specs.Flow.{perstep}
-use Rattle.transyt_net.specs.Edits.{the_node, the_link}
+use Rattle.transyt_net.specs.Edits.{the_node, the_link, the_feed}
 use Rattle.transyt_net.specs.declared.edit.Edit.{Edit}
 use Rattle.transyt_net.specs.declared.edit.Edit.TheVariants.{Offset, Change, Entry, Part, Cruise, Saturation, Weight}
 use Rattle.transyt_net.specs.declared.edit.EditFault.{EditFault}
@@ -25,6 +25,7 @@ edits =
     ∷ (Change 21 4 3, Some edit.Unknown) ∷ (Change 22 1 18, Some edit.Unknown) ∷ (Change 21 1 18, Some edit.Range)
     ∷ (Change 21 2 16, Some edit.StageOrder) ∷ (Change 21 2 5, Some edit.LeastGreen) ∷ (Change 21 2 6, None)
     ∷ (Change 21 3 14, None) ∷ (Change 21 3 13, Some edit.LeastGreen)
+    ∷ (Change 7 1 4, None) ∷ (Change 7 1 3, Some edit.LeastGreen)
     ∷ (Entry 4 9999, None) ∷ (Entry 4 10000, Some edit.Range) ∷ (Entry 21 10000, Some edit.Unknown)
     ∷ (Part 4 5 9999, None) ∷ (Part 4 5 10000, Some edit.Range) ∷ (Part 4 4 10000, Some edit.NoFeeder)
     ∷ (Part 5 4 9, Some edit.NoFeeder) ∷ (Part 4 21 9, Some edit.Unknown) ∷ (Part 21 5 9, Some edit.Unknown)
@@ -138,6 +139,10 @@ feeds = feeds_at town.links 4 ∷ feeds_at town.links 5 ∷ feeds_at town.links 
 abbrev pub rules : List (Option GiveWay)
 rules = rule_at town.links 4 ∷ rule_at town.links 5 ∷ rule_at town.links 7 ∷ []
 
--- what stands where there is no node, and no link
-abbrev pub nothing : NodeValue × LinkValue
-nothing = (node_of town 2, link_of town 3)
+-- what stands where there is no node, no link, and no feed of a link
+abbrev pub nothing : NodeValue × LinkValue × Feed
+nothing = (node_of town 2, link_of town 3, the_feed (the_link town 5) 9)
+
+-- the worked network with a link that runs in no stage
+abbrev pub stageless : Network
+stageless = with_links (record (new 6) { stages = [] } ∷ [])

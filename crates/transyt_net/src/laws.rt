@@ -50,8 +50,9 @@ pub fn drafts_are_judged()
         → climb_fault d p ≡ None ↔ IsSound (with_plan d p) }
 {}
 
-/// The worked values come out as they are written beside the definitions.
-#[tactic(auto, using(crate::proofs::Worked::networks, crate::proofs::Worked::inverses, crate::proofs::Worked::edits, crate::proofs::Worked::nodes, crate::proofs::Worked::links, crate::proofs::Worked::others, crate::proofs::Worked::numbers, crate::proofs::Worked::places, crate::proofs::Worked::feeds, crate::proofs::Worked::rules, crate::proofs::Worked::nothing))]
+/// The worked values come out as they are written beside the definitions; a network in which a link runs in no stage
+/// isn't sound.
+#[tactic(auto, using(crate::proofs::Worked::networks, crate::proofs::Worked::inverses, crate::proofs::Worked::edits, crate::proofs::Worked::nodes, crate::proofs::Worked::links, crate::proofs::Worked::others, crate::proofs::Worked::numbers, crate::proofs::Worked::places, crate::proofs::Worked::feeds, crate::proofs::Worked::rules, crate::proofs::Worked::nothing, crate::proofs::Worked::stageless))]
 pub fn worked_networks()
     ensures networks { map (λ r. r.0) net.networks ≡ map (λ r. r.1) net.networks }
     ensures inverses { map (λ r. r.0) net.inverses ≡ map (λ r. r.1) net.inverses }
@@ -64,5 +65,6 @@ pub fn worked_networks()
     ensures places { fault.places ≡ Some 0 ∷ Some 2 ∷ None ∷ [] }
     ensures feeds { fault.feeds ≡ (new_feed 9 77 61 ∷ new_feed 5 311 23 ∷ []) ∷ [] ∷ [] ∷ [] }
     ensures rules { fault.rules ≡ Some (new_rule 9 35) ∷ None ∷ None ∷ [] }
-    ensures nothing { fault.nothing ≡ (new_node 0 0, new_link 0 0 0 0 0 0 0 0 []) }
+    ensures nothing { fault.nothing ≡ (new_node 0 0, new_link 0 0 0 0 0 0 0 0 [], new_feed 0 0 0) }
+    ensures stageless { IsSound fault.stageless → ⊥ }
 {}
