@@ -1,3 +1,4 @@
 pub mod Parts
 pub mod Mixing
+pub mod Turns
 pub mod KnownValues

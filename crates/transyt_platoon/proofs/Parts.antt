@@ -1,8 +1,10 @@
 -- The mean of two numbers by a reciprocal.
-use Rattle.std.proofs.Common.{◌≡◌, ℕ, ◌+◌, ◌-◌, ◌*◌, ◌/◌, ◌<◌, ◌≤◌, ap, ◌∙◌, arith}
-use Rattle.std.proofs.Math.Nat.{mul-le-mul_left, mul-lt-mul_of_pos_right}
+use Rattle.std.proofs.Common.{◌≡◌, ℕ, ◌+◌, ◌-◌, ◌*◌, ◌/◌, ◌^◌, ◌<◌, ◌≤◌, ap, ◌∙◌, arith}
+use Rattle.std.proofs.Math.Nat.{mul-le-mul_left, mul-le-mul_right, mul-lt-mul_of_pos_right}
 use Rattle.transyt_num.proofs.ReciprocalLaws.{by_reciprocal}
 use Rattle.transyt_platoon.specs.Platoon.{mixed}
+use Rattle.transyt_platoon.specs.Travels.{IsPlatoon, IsReady}
+use Rattle.transyt_platoon.specs.declared.platoon.Platoon.{Platoon}
 
 -- what is divided times what divides is below a power where numbers below `most` are mixed
 parts_fit : (w x z most p : ℕ) → most * (100 + w) * (100 + w) ≤ p → x < most → z < most
@@ -21,3 +23,26 @@ mixed_by w by x z most p least close room x_fits z_fits =
     let same : x * (100 * by) + z * (w * by) ≡ (100 * x + w * z) * by = omega arith in
     ap (λ n. n / p) same
     ∙ by_reciprocal (100 * x + w * z) (100 + w) by p (omega arith) least close (parts_fit w x z most p room x_fits z_fits)
+
+-- what is divided by the power fits
+pub parts_sum : (w by x z most : ℕ) → most ≤ 4194304 → w ≤ 96000 → by * (100 + w) < 1099511627776 + (100 + w)
+    → x < most → z < most → x * (100 * by) + z * (w * by) < 2 ^ 63
+parts_sum w by x z most small weight close x_fits z_fits =
+    let first : x * (100 * by) ≤ most * (100 * by) = mul-le-mul_right (100 * by) (omega arith) in
+    let second : z * (w * by) ≤ most * (w * by) = mul-le-mul_right (w * by) (omega arith) in
+    let both : most * (by * (100 + w)) ≤ 4194304 * (by * (100 + w)) = mul-le-mul_right (by * (100 + w)) small in
+    let apart : most * (by * (100 + w)) ≡ most * (100 * by) + most * (w * by) = omega arith in
+    omega (arith, first, second, both, apart, close, weight)
+
+-- a platoon whose values are all below a number that is within the travel's limit is ready
+pub all_ready : (n : ℕ) (p : Platoon) → IsPlatoon n p → p.above ≤ p.travel.now.limit → IsReady n p
+all_ready n p is within = record {
+  values_len = is.values_len;
+  ready_len = is.ready_len;
+  fit = λ k d h. omega (arith, is.above k d h, within);
+  ready = λ k below.
+      is.ready k below
+      (omega (arith, is.above k 0 (omega (arith, below, is.values_len)), is.travel.small, within));
+  total = is.total;
+  travel = is.travel;
+}

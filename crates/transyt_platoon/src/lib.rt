@@ -8,6 +8,7 @@
 mod dispersion;
 mod four;
 mod laws;
+mod platoon;
 mod quick;
 mod three;
 mod travel;
@@ -15,8 +16,9 @@ mod travel;
 pub use dispersion::disperse;
 pub use four::disperse_four;
 pub use laws::worked_platoons;
-pub use three::{Travel, disperse_three, travel_of};
-pub use travel::travel_steps;
+pub use platoon::Platoon;
+pub use three::disperse_three;
+pub use travel::{Travel, travel_of, travel_steps};
 
 #[cfg(test)]
 mod tests;

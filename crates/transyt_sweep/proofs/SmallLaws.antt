@@ -1,7 +1,7 @@
 -- What leaves a link of a valid network is below 2^30 in each step.
-use Rattle.std.proofs.Common.{◌≡◌, ℕ, zero, suc, ◌+◌, ◌-◌, ◌*◌, ◌/◌, ◌^◌, ◌<◌, ◌≤◌, Bool, true, false, nat_lt, refl}
-use Rattle.std.proofs.Common.{List, length, get_or, map, sum, All, Option, Some, None, subst, sym, ap, ◌∙◌, arith}
-use Rattle.std.proofs.Common.{◌⊎◌, inl, inr, if◌then◌else◌}
+use Rattle.std.proofs.Common.{◌≡◌, ℕ, zero, suc, ◌+◌, ◌*◌, ◌^◌, ◌<◌, ◌≤◌, Bool, true, false, nat_lt, refl}
+use Rattle.std.proofs.Common.{List, length, get_or, map, sum, All, Option, Some, None, subst, sym, ◌∙◌, arith}
+use Rattle.std.proofs.Common.{if◌then◌else◌}
 use Rattle.std.specs.List.{range_with_len}
 use Rattle.std.proofs.lemmas.Bool.Decides.{nat_tests}
 use Rattle.std.proofs.lemmas.List.FromFn.{get_or-map-range_with_len, length-map-range_with_len}
@@ -17,14 +17,14 @@ use Rattle.transyt_parts.specs.Valid.{IsFrame}
 use Rattle.transyt_net.specs.Parts.{Network, link_of, no_link}
 use Rattle.transyt_net.specs.Valid.{IsValid, IsLink, link_numbers, link_place}
 use Rattle.transyt_net.specs.Flow.{perstep}
-use Rattle.transyt_stage.specs.Green.{signal, shown_link, passed_at, green_at}
-use Rattle.transyt_stage.specs.GiveWay.{yielded, yielded_at, yielding}
+use Rattle.transyt_stage.specs.Green.{signal, shown_link, green_at}
+use Rattle.transyt_stage.specs.GiveWay.{yielded, yielded_at}
 use Rattle.transyt_stopline.specs.Cut.{arrivals_of, scaled}
-use Rattle.transyt_stopline.specs.Queue.{out_at, outs}
+use Rattle.transyt_stopline.specs.Queue.{out_at}
 use Rattle.transyt_stopline.proofs.CutLaws.{scaled_total}
 use Rattle.transyt_stopline.proofs.QueueLaws.{out-le-go}
 use Rattle.transyt_sweep.specs.Cell.{under_rule, inflow, go, worked}
-use Rattle.transyt_sweep.specs.Sweeps.{start, read_of, worked_at, out_of}
+use Rattle.transyt_sweep.specs.Sweeps.{read_of, out_of}
 use Rattle.transyt_sweep.proofs.SweepLaws.{out_of_start, out_of_pair}
 use Rattle.transyt_sweep.proofs.StepLaws.{length-inflow, length-go, length-cut}
 

@@ -1,5 +1,5 @@
 -- A move that lowers the index of the three junctions: the offset of the first, four steps on.
-use Rattle.std.proofs.Common.{◌≡◌, ℕ, List, [], ◌∷◌, Bool, true, Some, map, sum, ap, lit<, lit≤}
+use Rattle.std.proofs.Common.{◌≡◌, List, [], ◌∷◌, true, Some, map, sum, ap, lit<, lit≤}
 use Rattle.std.specs.List.{range_with_len}
 use Rattle.transyt_delay.specs.declared.figures.Figures.{Figures}
 use Rattle.transyt_platoon.specs.Platoon.{smoothed}

@@ -1,5 +1,5 @@
 -- Worked sweeps: a ring, a link that feeds itself, a link that gives way to a later one, and no link at all.
-use Rattle.std.specs.Prelude.{ℕ, List, [], ◌∷◌, ◌++◌, replicate, Some, None}
+use Rattle.std.specs.Prelude.{ℕ, List, [], ◌∷◌, ◌++◌, replicate, Some}
 use Rattle.transyt_parts.specs.Parts.{LinkValue}
 use Rattle.transyt_parts.specs.Made.{new_stage, new_link, new_feed, new_rule, new_plan}
 use Rattle.transyt_net.specs.Parts.{Network}

@@ -16,6 +16,7 @@ mod laws;
 mod row;
 mod rows;
 mod scratch;
+mod sending;
 mod whole;
 mod working;
 

@@ -7,9 +7,10 @@ ghost use Rattle.transyt_stopline.specs.Queue.{queues};
 ghost use Rattle.transyt_sweep.specs.Cell.{go, terms_of, worked};
 ghost use Rattle.transyt_sweep.specs.Rows.{Fits, read_in, AreSmall};
 
-use crate::inflow::{fill_inflow, link_place};
+use crate::inflow::fill_inflow;
 use crate::rows::Rows;
 use crate::scratch::Scratch;
+use crate::sending::link_place;
 use std::sync::ledger::Ledger;
 use transyt_delay::{Figures, Terms, TermsFrame, figures_of};
 use transyt_net::Net;

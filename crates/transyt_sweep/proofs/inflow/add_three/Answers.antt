@@ -29,12 +29,12 @@ returns-clause-value c =
     added_three c.args.come.now spread.x_out spread.y_out spread.z_out c.add_into.new.out c.add_into-2.new.out
     c.add_into-3.new.out (brought net read c.args.one) (brought net read c.args.two) (brought net read c.args.three)
     c.add_into.ensures.value c.add_into-2.ensures.value c.add_into-3.ensures.value
-    (brought_by net read c.args.one c.share_feed.new.shared spread.x_out _ _ c.disperse_three.ensures.x_value
-    c.share_feed.ensures.value c.travel.ensures.time c.travel.ensures.percent)
-    (brought_by net read c.args.two c.share_feed-2.new.shared spread.y_out _ _ c.disperse_three.ensures.y_value
-    c.share_feed-2.ensures.value c.travel-2.ensures.time c.travel-2.ensures.percent)
-    (brought_by net read c.args.three c.share_feed-3.new.shared spread.z_out _ _ c.disperse_three.ensures.z_value
-    c.share_feed-3.ensures.value c.travel-3.ensures.time c.travel-3.ensures.percent)
+    (brought_by net read c.args.one c.send_feed-one.new.shared spread.x_out _ _ c.disperse_three.ensures.x_value
+    c.send_feed-one.ensures.value c.send_feed-one.ensures.time c.send_feed-one.ensures.percent)
+    (brought_by net read c.args.two c.send_feed-two.new.shared spread.y_out _ _ c.disperse_three.ensures.y_value
+    c.send_feed-two.ensures.value c.send_feed-two.ensures.time c.send_feed-two.ensures.percent)
+    (brought_by net read c.args.three c.send_feed-three.new.shared spread.z_out _ _ c.disperse_three.ensures.z_value
+    c.send_feed-three.ensures.value c.send_feed-three.ensures.time c.send_feed-three.ensures.percent)
 
 -- three times as much as with one
 pub returns-clause-grows : goal.returns-clause-grows

@@ -1,6 +1,6 @@
 -- What is made ready.
 use Rattle.std.proofs.Common.{arith}
-use Rattle.transyt_sweep.proofs.inflow.send_feed.Goals as goal
+use Rattle.transyt_sweep.proofs.sending.send_feed.Goals as goal
 
 -- as `share_ready` leaves it
 pub returns-clause-ready : goal.returns-clause-ready

@@ -1,0 +1,106 @@
+//! What a feed's feeder sends on to a link.
+
+ghost use Rattle.std.specs.Prelude.{◌≡◌, ◌*◌, ◌^◌, ◌<◌, ◌≤◌, ℕ, length, sum, slice_index, All};
+ghost use Rattle.transyt_parts.specs.declared.link.Feed.{Feed};
+ghost use Rattle.transyt_net.specs.Valid.{link_place};
+ghost use Rattle.transyt_platoon.specs.Platoon.{travel_steps};
+ghost use Rattle.transyt_platoon.specs.Travels.{IsTravel};
+ghost use Rattle.transyt_sweep.specs.Cell.{taken};
+ghost use Rattle.transyt_sweep.specs.Rows.{Fits, read_in};
+
+use crate::rows::Rows;
+use transyt_net::{Feed, Net};
+use transyt_platoon::{Travel, travel_of, travel_steps};
+use transyt_profile::{Extent, part_of, share_into, share_ready};
+
+/// The place of a link's number; the first where there is no such link.
+pub(crate) fn link_place(net: &Net, number: u32) -> usize
+    requires { 0 < length net.now.links }
+    ensures value { result ≡ link_place net.now number }
+    ensures below { result < length net.now.links }
+{
+    match net.link_place(number) {
+        Some(place) => place,
+        None => 0,
+    }
+}
+
+/// The departures that a link, at a sweep, reads for a feed, and the feed's part of them in `shared`.
+pub(crate) fn share_feed(
+    net: &Net,
+    feed: Feed,
+    link: usize,
+    sweep: u32,
+    rows: &Rows,
+    shared: &mut [u64],
+)
+    requires some { 0 < length net.now.links }
+    requires sweep { sweep ≤ net.now.frame.sweeps }
+    requires flow { feed.flow ≤ 9999 }
+    requires fits { Fits net.now rows.now }
+    requires shared_len { length shared.old ≡ net.now.frame.step_count }
+    ensures value { shared.new ≡ taken net.now (read_in rows.now sweep link) feed }
+    ensures small { All (λ v. v < 2 ^ 44) shared.new }
+{
+    let feeder = link_place(net, feed.feeder);
+    let leaving = rows.read(sweep, link, feeder);
+    share_into(leaving, feed.flow, net.total_flow(feeder), shared);
+}
+
+/// How a feed's platoon travels.
+fn travel(net: &Net, feed: Feed) -> Travel
+    requires cruise { feed.cruise ≤ 300 }
+    ensures time { result.time ≡ travel_steps feed.cruise net.now.frame.step_count net.now.frame.cycle }
+    ensures percent { result.percent ≡ net.now.frame.dispersion }
+    ensures is { IsTravel net.now.frame.step_count result }
+    ensures factor { result.starting_factor ≤ 2 ^ 41 }
+{
+    let frame = net.frame();
+    let time = travel_steps(feed.cruise, frame.step_count, frame.cycle);
+    travel_of(time, frame.dispersion, frame.step_count as usize)
+}
+
+/// A feed's part on its way: how much it is, and how it travels.
+#[derive(Clone, Copy, Debug, PartialEq, Eq)]
+pub(crate) struct Sent {
+    /// How much it is.
+    pub(crate) extent: Extent,
+    /// How it travels.
+    pub(crate) travel: Travel,
+}
+
+/// What `share_feed` leaves in `shared`, and in `ready` each of it times the first factor of its travel.
+pub(crate) fn send_feed(
+    net: &Net,
+    feed: Feed,
+    link: usize,
+    sweep: u32,
+    rows: &Rows,
+    shared: &mut [u64],
+    ready: &mut [u64],
+) -> Sent
+    requires some { 0 < length net.now.links }
+    requires sweep { sweep ≤ net.now.frame.sweeps }
+    requires flow { feed.flow ≤ 9999 }
+    requires cruise { feed.cruise ≤ 300 }
+    requires fits { Fits net.now rows.now }
+    requires shared_len { length shared.old ≡ net.now.frame.step_count }
+    requires ready_len { length ready.old ≡ net.now.frame.step_count }
+    ensures value { shared.new ≡ taken net.now (read_in rows.now sweep link) feed }
+    ensures small { All (λ v. v < 2 ^ 44) shared.new }
+    ensures ready { (k : ℕ) → k < net.now.frame.step_count → slice_index shared.new k < 2 ^ 22
+        → slice_index ready.new k ≡ slice_index shared.new k * result.travel.starting_factor }
+    ensures total { result.extent.total ≡ sum shared.new }
+    ensures above { All (λ v. v < result.extent.above) shared.new }
+    ensures time { result.travel.time ≡ travel_steps feed.cruise net.now.frame.step_count net.now.frame.cycle }
+    ensures percent { result.travel.percent ≡ net.now.frame.dispersion }
+    ensures is { IsTravel net.now.frame.step_count result.travel }
+{
+    net.frame();
+    let travel = travel(net, feed);
+    let feeder = link_place(net, feed.feeder);
+    let leaving = rows.read(sweep, link, feeder);
+    let part = part_of(feed.flow, net.total_flow(feeder));
+    let extent = share_ready(leaving, &part, travel.starting_factor, shared, ready);
+    Sent { extent, travel }
+}
