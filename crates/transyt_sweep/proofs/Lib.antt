@@ -1,6 +1,7 @@
 pub mod SweepLaws
 pub mod RowLaws
 pub mod PairLaws
+pub mod FactorLaws
 pub mod InflowLaws
 pub mod IndexLaws
 pub mod ReadLaws

@@ -2,6 +2,7 @@ pub mod Cell
 pub mod Sweeps
 pub mod Rows
 pub mod Front
+pub mod Factors
 pub mod Scratch
 pub mod Climb
 pub mod WorkedLinks

@@ -4,8 +4,10 @@ ghost use Rattle.std.specs.Prelude.{◌≡◌, ◌+◌, ◌-◌, ◌*◌, ◌^�
 ghost use Rattle.transyt_parts.specs.declared.link.Feed.{Feed};
 ghost use Rattle.transyt_profile.specs.Profile.{added};
 ghost use Rattle.transyt_sweep.specs.Cell.{brought, inflow};
+ghost use Rattle.transyt_sweep.specs.Factors.{AreFactors};
 ghost use Rattle.transyt_sweep.specs.Rows.{Fits, read_in};
 
+use crate::factors::Factors;
 use crate::rows::Rows;
 use crate::sending::{send_feed, share_feed};
 use transyt_net::{Feed, Net};
@@ -43,7 +45,7 @@ fn add_feed(
 }
 
 /// Adds what three feeds bring to what comes. `room` is room for their work; side by side they take little more time
-/// than one.
+/// than one. Their factors are kept from `place` of `kept` on.
 fn add_three(
     net: &Net,
     one: Feed,
@@ -52,6 +54,8 @@ fn add_three(
     link: usize,
     sweep: u32,
     rows: &Rows,
+    place: usize,
+    kept: &mut [Factors],
     room: &mut [u64],
     come: &mut [u64],
 )
@@ -64,12 +68,15 @@ fn add_three(
     requires two_cruise { two.cruise ≤ 300 }
     requires three_cruise { three.cruise ≤ 300 }
     requires fits { Fits net.now rows.now }
+    requires place { place ≤ 8000 }
+    requires kept { All (AreFactors net.now.frame.step_count) kept.old }
     requires room_len { length room.old ≡ 12 * net.now.frame.step_count }
     requires come_len { length come.old ≡ net.now.frame.step_count }
     requires come_small { All (λ v. v < 2 ^ 48 - 3 * 2 ^ 44) come.old }
     ensures value { let read = read_in rows.now sweep link in come.new ≡ added (added (added come.old
         (brought net.now read one)) (brought net.now read two)) (brought net.now read three) }
     ensures grows { (limit : ℕ) → All (λ v. v < limit) come.old → All (λ v. v < limit + 3 * 2 ^ 44) come.new }
+    ensures kept { All (AreFactors net.now.frame.step_count) kept.new }
 {
     let steps = net.frame().step_count as usize;
     let (x, rest) = room.split_at_mut(steps);
@@ -81,9 +88,9 @@ fn add_three(
     let (z, rest) = rest.split_at_mut(steps);
     let (z_ready, rest) = rest.split_at_mut(steps);
     let (z_out, _) = rest.split_at_mut(steps);
-    let one = send_feed(net, one, link, sweep, rows, x, x_ready);
-    let two = send_feed(net, two, link, sweep, rows, y, y_ready);
-    let three = send_feed(net, three, link, sweep, rows, z, z_ready);
+    let one = send_feed(net, one, link, sweep, rows, place, kept, x, x_ready);
+    let two = send_feed(net, two, link, sweep, rows, place + 1, kept, y, y_ready);
+    let three = send_feed(net, three, link, sweep, rows, place + 2, kept, z, z_ready);
     disperse_three(
         &Platoon {
             values: x,
@@ -115,7 +122,7 @@ fn add_three(
     add_into(z_out, come);
 }
 
-/// Adds what four feeds bring to what comes. `room` is room for their work.
+/// Adds what four feeds bring to what comes, as `add_three` does of three.
 fn add_four(
     net: &Net,
     one: Feed,
@@ -125,6 +132,8 @@ fn add_four(
     link: usize,
     sweep: u32,
     rows: &Rows,
+    place: usize,
+    kept: &mut [Factors],
     room: &mut [u64],
     come: &mut [u64],
 )
@@ -139,6 +148,8 @@ fn add_four(
     requires three_cruise { three.cruise ≤ 300 }
     requires four_cruise { four.cruise ≤ 300 }
     requires fits { Fits net.now rows.now }
+    requires place { place ≤ 8000 }
+    requires kept { All (AreFactors net.now.frame.step_count) kept.old }
     requires room_len { length room.old ≡ 12 * net.now.frame.step_count }
     requires come_len { length come.old ≡ net.now.frame.step_count }
     requires come_small { All (λ v. v < 2 ^ 48 - 4 * 2 ^ 44) come.old }
@@ -146,6 +157,7 @@ fn add_four(
         (brought net.now read one)) (brought net.now read two)) (brought net.now read three))
         (brought net.now read four) }
     ensures grows { (limit : ℕ) → All (λ v. v < limit) come.old → All (λ v. v < limit + 4 * 2 ^ 44) come.new }
+    ensures kept { All (AreFactors net.now.frame.step_count) kept.new }
 {
     let steps = net.frame().step_count as usize;
     let (x, rest) = room.split_at_mut(steps);
@@ -160,10 +172,10 @@ fn add_four(
     let (u, rest) = rest.split_at_mut(steps);
     let (u_ready, rest) = rest.split_at_mut(steps);
     let (u_out, _) = rest.split_at_mut(steps);
-    let one = send_feed(net, one, link, sweep, rows, x, x_ready);
-    let two = send_feed(net, two, link, sweep, rows, y, y_ready);
-    let three = send_feed(net, three, link, sweep, rows, z, z_ready);
-    let four = send_feed(net, four, link, sweep, rows, u, u_ready);
+    let one = send_feed(net, one, link, sweep, rows, place, kept, x, x_ready);
+    let two = send_feed(net, two, link, sweep, rows, place + 1, kept, y, y_ready);
+    let three = send_feed(net, three, link, sweep, rows, place + 2, kept, z, z_ready);
+    let four = send_feed(net, four, link, sweep, rows, place + 3, kept, u, u_ready);
     disperse_four(
         &Platoon {
             values: x,
@@ -204,38 +216,57 @@ fn add_four(
     add_into(u_out, come);
 }
 
+/// The place of the factors of a link's first feed.
+fn own_place(net: &Net, link: usize) -> usize
+    requires { link < length net.now.links }
+    ensures { result ≤ 7992 }
+{
+    net.links();
+    8 * link
+}
+
 /// Fills `come` with what comes to the link at a place, in millionths of a vehicle per step. `room` is room for the
-/// work on four feeds.
+/// work on four feeds, and each feed's factors are kept in `kept`, eight places a link.
 pub(crate) fn fill_inflow(
     net: &Net,
     link: usize,
     sweep: u32,
     rows: &Rows,
+    kept: &mut [Factors],
     room: &mut [u64],
     come: &mut [u64],
 )
     requires link { link < length net.now.links }
     requires sweep { sweep ≤ net.now.frame.sweeps }
     requires fits { Fits net.now rows.now }
+    requires kept { All (AreFactors net.now.frame.step_count) kept.old }
     requires room_len { length room.old ≡ 12 * net.now.frame.step_count }
     requires come_len { length come.old ≡ net.now.frame.step_count }
     ensures value { come.new ≡ inflow net.now (read_in rows.now sweep link) link }
     ensures small { All (λ v. v < 2 ^ 48) come.new }
+    ensures kept { All (AreFactors net.now.frame.step_count) kept.new }
 {
+    let own = own_place(net, link);
     let at = net.link(link);
     fill_uniform(net.per_step(at.entry), come);
     let fours = at.feeds.len() / 4;
     'fours: for i in 0..fours {
         let (one, two) = (at.feeds[4 * i], at.feeds[4 * i + 1]);
         let (three, four) = (at.feeds[4 * i + 2], at.feeds[4 * i + 3]);
-        add_four(net, one, two, three, four, link, sweep, rows, room, come);
+        let place = own + 4 * i;
+        add_four(
+            net, one, two, three, four, link, sweep, rows, place, kept, room, come,
+        );
     }
     let done = 4 * fours;
     let threes = (at.feeds.len() - done) / 3;
     'threes: for i in 0..threes {
         let first = done + 3 * i;
         let (one, two, three) = (at.feeds[first], at.feeds[first + 1], at.feeds[first + 2]);
-        add_three(net, one, two, three, link, sweep, rows, room, come);
+        let place = own + first;
+        add_three(
+            net, one, two, three, link, sweep, rows, place, kept, room, come,
+        );
     }
     'rest: for i in done + 3 * threes..at.feeds.len() {
         add_feed(net, at.feeds[i], link, sweep, rows, room, come);

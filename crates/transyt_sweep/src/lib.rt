@@ -11,6 +11,7 @@
 //! are this project's own.
 #![tactic(auto)]
 
+mod factors;
 mod inflow;
 mod laws;
 mod row;
@@ -25,7 +26,7 @@ pub use laws::{
     worked_figures, worked_links, worked_rows, worked_sweeps,
 };
 pub use rows::Rows;
-pub use scratch::Scratch;
+pub use scratch::{FACTOR_BYTES, Scratch};
 pub use whole::full;
 pub use working::cell;
 

@@ -4,10 +4,15 @@ ghost use Rattle.std.specs.Prelude.{◌≡◌, ◌^◌, ◌<◌, ◌≤◌, ℕ,
 ghost use Rattle.transyt_delay.specs.declared.figures.Figures.{Figures};
 ghost use Rattle.transyt_sweep.specs.Rows.{no_figures};
 
+use crate::factors::{Factors, factors_of};
 use std::alloc::{AllocError, Global};
 use std::marker::Model;
+use std::mem::size_of;
 use transyt_delay::Figures;
-use transyt_net::Net;
+use transyt_net::{Feed, Net};
+
+/// The bytes of a scratch for each link of its network: eight feeds, and what was worked out last of each one's numbers.
+pub const FACTOR_BYTES: usize = 8 * size_of::<Factors>();
 
 /// Room to work out one link at one sweep, and what was worked out last.
 #[derive(Drop)]
@@ -20,6 +25,8 @@ pub struct Scratch {
     // the work on four feeds, what they share, its products and what they bring, and what reaches the stop line
     pub(crate) room: Vec<u64>,
     pub(crate) reaching: Vec<u64>,
+    // what was worked out last of each feed's numbers, eight places a link
+    pub(crate) factors: Vec<Factors>,
 }
 
 impl Model for Scratch {
@@ -37,7 +44,8 @@ impl Model for Scratch {
     } };
 
     ghost invariant = { λ s.
-        IsScratch s.arrivals.items s.go.items s.queue.items s.out.items s.figures s.room.items s.reaching.items };
+        IsScratch s.arrivals.items s.go.items s.queue.items s.out.items s.figures s.room.items s.reaching.items
+        s.factors.items };
 }
 
 impl Scratch {
@@ -46,6 +54,11 @@ impl Scratch {
         ensures { IfOk result (λ s. length s.arrivals ≡ net.now.frame.step_count) }
     {
         let step_count = net.frame().step_count as usize;
+        let none = Feed {
+            feeder: 0,
+            flow: 0,
+            cruise: 0,
+        };
         Ok(Scratch {
             arrivals: vec![in alloc; 0; step_count]?,
             go: vec![in alloc; 0; step_count]?,
@@ -59,6 +72,7 @@ impl Scratch {
             },
             room: vec![in alloc; 0; 12 * step_count]?,
             reaching: vec![in alloc; 0; step_count]?,
+            factors: vec![in alloc; factors_of(net, none, 0); 8 * net.links().len()]?,
         })
     }
 

@@ -6,12 +6,14 @@ ghost use Rattle.transyt_net.specs.Valid.{link_place};
 ghost use Rattle.transyt_platoon.specs.Platoon.{travel_steps};
 ghost use Rattle.transyt_platoon.specs.Travels.{IsTravel};
 ghost use Rattle.transyt_sweep.specs.Cell.{taken};
+ghost use Rattle.transyt_sweep.specs.Factors.{AreFactors};
 ghost use Rattle.transyt_sweep.specs.Rows.{Fits, read_in};
 
+use crate::factors::{Factors, factors_at};
 use crate::rows::Rows;
 use transyt_net::{Feed, Net};
-use transyt_platoon::{Travel, travel_of, travel_steps};
-use transyt_profile::{Extent, part_of, share_into, share_ready};
+use transyt_platoon::Travel;
+use transyt_profile::{Extent, share_into, share_ready};
 
 /// The place of a link's number; the first where there is no such link.
 pub(crate) fn link_place(net: &Net, number: u32) -> usize
@@ -47,19 +49,6 @@ pub(crate) fn share_feed(
     share_into(leaving, feed.flow, net.total_flow(feeder), shared);
 }
 
-/// How a feed's platoon travels.
-fn travel(net: &Net, feed: Feed) -> Travel
-    requires cruise { feed.cruise ≤ 300 }
-    ensures time { result.time ≡ travel_steps feed.cruise net.now.frame.step_count net.now.frame.cycle }
-    ensures percent { result.percent ≡ net.now.frame.dispersion }
-    ensures is { IsTravel net.now.frame.step_count result }
-    ensures factor { result.starting_factor ≤ 2 ^ 41 }
-{
-    let frame = net.frame();
-    let time = travel_steps(feed.cruise, frame.step_count, frame.cycle);
-    travel_of(time, frame.dispersion, frame.step_count as usize)
-}
-
 /// A feed's part on its way: how much it is, and how it travels.
 #[derive(Clone, Copy, Debug, PartialEq, Eq)]
 pub(crate) struct Sent {
@@ -69,13 +58,16 @@ pub(crate) struct Sent {
     pub(crate) travel: Travel,
 }
 
-/// What `share_feed` leaves in `shared`, and in `ready` each of it times the first factor of its travel.
+/// What `share_feed` leaves in `shared`, and in `ready` each of it times the first factor of its travel. The feed's
+/// factors are kept at `place` of `kept`.
 pub(crate) fn send_feed(
     net: &Net,
     feed: Feed,
     link: usize,
     sweep: u32,
     rows: &Rows,
+    place: usize,
+    kept: &mut [Factors],
     shared: &mut [u64],
     ready: &mut [u64],
 ) -> Sent
@@ -84,6 +76,7 @@ pub(crate) fn send_feed(
     requires flow { feed.flow ≤ 9999 }
     requires cruise { feed.cruise ≤ 300 }
     requires fits { Fits net.now rows.now }
+    requires kept { All (AreFactors net.now.frame.step_count) kept.old }
     requires shared_len { length shared.old ≡ net.now.frame.step_count }
     requires ready_len { length ready.old ≡ net.now.frame.step_count }
     ensures value { shared.new ≡ taken net.now (read_in rows.now sweep link) feed }
@@ -95,12 +88,21 @@ pub(crate) fn send_feed(
     ensures time { result.travel.time ≡ travel_steps feed.cruise net.now.frame.step_count net.now.frame.cycle }
     ensures percent { result.travel.percent ≡ net.now.frame.dispersion }
     ensures is { IsTravel net.now.frame.step_count result.travel }
+    ensures kept { All (AreFactors net.now.frame.step_count) kept.new }
 {
     net.frame();
-    let travel = travel(net, feed);
     let feeder = link_place(net, feed.feeder);
+    let factors = factors_at(net, feed, net.total_flow(feeder), place, kept);
     let leaving = rows.read(sweep, link, feeder);
-    let part = part_of(feed.flow, net.total_flow(feeder));
-    let extent = share_ready(leaving, &part, travel.starting_factor, shared, ready);
-    Sent { extent, travel }
+    let extent = share_ready(
+        leaving,
+        &factors.part,
+        factors.travel.starting_factor,
+        shared,
+        ready,
+    );
+    Sent {
+        extent,
+        travel: factors.travel,
+    }
 }

@@ -5,8 +5,10 @@ ghost use Rattle.transyt_delay.specs.Figures.{figures};
 ghost use Rattle.transyt_stopline.specs.Cut.{arrivals_of};
 ghost use Rattle.transyt_stopline.specs.Queue.{queues};
 ghost use Rattle.transyt_sweep.specs.Cell.{go, terms_of, worked};
+ghost use Rattle.transyt_sweep.specs.Factors.{AreFactors};
 ghost use Rattle.transyt_sweep.specs.Rows.{Fits, read_in, AreSmall};
 
+use crate::factors::Factors;
 use crate::inflow::fill_inflow;
 use crate::rows::Rows;
 use crate::scratch::Scratch;
@@ -45,6 +47,7 @@ pub fn cell<L: Ledger>(
         link,
         sweep,
         rows,
+        &mut scratch.factors,
         &mut scratch.room,
         &mut scratch.reaching,
         &mut scratch.arrivals,
@@ -56,12 +59,13 @@ pub fn cell<L: Ledger>(
 }
 
 /// Works out the link at a place at a sweep, and returns its figures. `room` and `reaching` are
-/// room for its work.
+/// room for its work, and `kept` are the factors of feeds that were worked out before.
 fn work_out(
     net: &Net,
     link: usize,
     sweep: u32,
     rows: &Rows,
+    kept: &mut [Factors],
     room: &mut [u64],
     reaching: &mut [u64],
     come: &mut [u64],
@@ -72,6 +76,7 @@ fn work_out(
     requires link { link < length net.now.links }
     requires sweep { sweep ≤ net.now.frame.sweeps }
     requires fits { Fits net.now rows.now }
+    requires kept { All (AreFactors net.now.frame.step_count) kept.old }
     requires room_len { length room.old ≡ 12 * net.now.frame.step_count }
     requires reaching_len { length reaching.old ≡ net.now.frame.step_count }
     requires come_len { length come.old ≡ net.now.frame.step_count }
@@ -85,9 +90,10 @@ fn work_out(
     ensures figures { result ≡ (worked net.now (read_in rows.now sweep link) link).figures }
     ensures small { All (λ v. v < 2 ^ 30) leaving.new }
     ensures figures_small { AreSmall result }
+    ensures kept { All (AreFactors net.now.frame.step_count) kept.new }
 {
     net.frame();
-    fill_inflow(net, link, sweep, rows, room, come);
+    fill_inflow(net, link, sweep, rows, kept, room, come);
     fill_going(net, link, sweep, rows, going);
     cut_arrivals(come, going, reaching);
     queue(reaching, going, standing, leaving);

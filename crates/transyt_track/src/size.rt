@@ -4,7 +4,7 @@ use crate::own::Places;
 use crate::saved::Saved;
 use std::mem::size_of;
 use transyt_delay::Figures;
-use transyt_sweep::{Rows, Scratch};
+use transyt_sweep::{FACTOR_BYTES, Rows, Scratch};
 
 // the limits of a network
 const LINKS: usize = 1000;
@@ -23,8 +23,8 @@ const ROWS: usize = (SWEEPS + 1) * LINKS * PROFILE + LINKS * (3 * PROFILE + size
 const SAVED: usize = ROWS + (SWEEPS + 1) * LINKS * size_of::<bool>();
 // the places of each link's node, feeders and rule
 const PLACES: usize = LINKS * (size_of::<Places>() + FEEDS * size_of::<usize>());
-// two flags for each link, and the room for one link's work
-const ROOM: usize = 2 * LINKS * size_of::<bool>() + 17 * PROFILE;
+// two flags for each link, the room for one link's work, and what was worked out last of each feed's numbers
+const ROOM: usize = 2 * LINKS * size_of::<bool>() + 17 * PROFILE + LINKS * FACTOR_BYTES;
 
 /// The most bytes that a tracker takes beside its two networks, at the limits of a network: 1,000 links of eight feeds,
 /// 120 steps and eight sweeps. It is below 25 million.

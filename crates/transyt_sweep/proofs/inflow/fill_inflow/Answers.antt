@@ -32,6 +32,7 @@ fours-preserved c =
     record {
       room = search rules;
       come = search rules;
+      kept = c.add_four.ensures.kept;
       value = inflow_four c.args.net.now read link.entry link.feeds link.feeds p one two three four c.fours.come
           (brought c.args.net.now read one) (brought c.args.net.now read two) (brought c.args.net.now read three) (brought c.args.net.now read four) _ refl
           (omega (arith, c.fours-test.true, c.len-fours.ensures, ap length feeds)) c.fours.invariant.value
@@ -64,6 +65,7 @@ threes-preserved c =
     record {
       room = search rules;
       come = search rules;
+      kept = c.add_three.ensures.kept;
       value = inflow_three c.args.net.now read link.entry link.feeds link.feeds p one two three c.threes.come
           (brought c.args.net.now read one) (brought c.args.net.now read two) (brought c.args.net.now read three) _ refl
           (omega (arith, c.threes-test.true, c.len.ensures, c.len-fours.ensures, ap length feeds)) c.threes.invariant.value
@@ -88,6 +90,7 @@ rest-preserved c =
     record {
       room = search rules;
       come = search rules;
+      kept = c.rest.invariant.kept;
       value = inflow_more c.args.net.now read link.entry link.feeds link.feeds c.rest.i one c.rest.come
           (brought c.args.net.now read one) _ refl
           (omega (arith, c.rest-test.true, c.len-i-end.ensures, ap length feeds)) c.rest.invariant.value

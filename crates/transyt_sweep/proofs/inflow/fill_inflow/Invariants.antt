@@ -2,6 +2,7 @@
 use Rattle.std.proofs.Common.{◌≡◌, ◌+◌, ◌*◌, ◌^◌, ◌<◌, length, take, All}
 use Rattle.transyt_net.specs.Parts.{link_of}
 use Rattle.transyt_sweep.specs.Cell.{inflow_of}
+use Rattle.transyt_sweep.specs.Factors.{AreFactors}
 use Rattle.transyt_sweep.specs.Rows.{read_in}
 use Rattle.transyt_sweep.proofs.inflow.fill_inflow.Given as goal
 
@@ -10,6 +11,7 @@ abbrev pub invariant-fours : goal.invariant-fours
 invariant-fours l = record {
   room : length l.room ≡ 12 * l.net.frame.step_count;
   come : length l.come ≡ l.net.frame.step_count;
+  kept : All (AreFactors l.net.frame.step_count) l.kept;
   value : l.come ≡ inflow_of l.net (read_in l.rows l.sweep l.link) (link_of l.net l.link).entry
       (take (4 * l.i) (link_of l.net l.link).feeds);
   small : All (λ v. v < (4 * l.i + 1) * 2 ^ 44) l.come;
@@ -20,6 +22,7 @@ abbrev pub invariant-threes : goal.invariant-threes
 invariant-threes l = record {
   room : length l.room ≡ 12 * l.net.frame.step_count;
   come : length l.come ≡ l.net.frame.step_count;
+  kept : All (AreFactors l.net.frame.step_count) l.kept;
   value : l.come ≡ inflow_of l.net (read_in l.rows l.sweep l.link) (link_of l.net l.link).entry
       (take (l.done + 3 * l.i) (link_of l.net l.link).feeds);
   small : All (λ v. v < (l.done + 3 * l.i + 1) * 2 ^ 44) l.come;
@@ -30,6 +33,7 @@ abbrev pub invariant-rest : goal.invariant-rest
 invariant-rest l = record {
   room : length l.room ≡ 12 * l.net.frame.step_count;
   come : length l.come ≡ l.net.frame.step_count;
+  kept : All (AreFactors l.net.frame.step_count) l.kept;
   value : l.come ≡ inflow_of l.net (read_in l.rows l.sweep l.link) (link_of l.net l.link).entry
       (take l.i (link_of l.net l.link).feeds);
   small : All (λ v. v < (l.i + 1) * 2 ^ 44) l.come;

@@ -1,5 +1,7 @@
 -- Each vector holds what its slice was filled with.
 use Rattle.std.proofs.Common.{◌<◌, ◌^◌, ℕ, List, length, All, subst, sym, ap, arith}
+use Rattle.transyt_sweep.specs.Cell.{CellValue}
+use Rattle.transyt_sweep.proofs.FactorLaws.{are_in}
 use Rattle.transyt_sweep.proofs.RowLaws.{written_back}
 use Rattle.transyt_sweep.proofs.working.cell.Goals as goal
 
@@ -10,16 +12,17 @@ invariant_of-scratch g c =
     let was = c.scratch.invariant in
     let new = c.work_out-scratch-inside.new in
     let same = c.work_out-scratch-inside.auto in
-    let lanes = written_back i.room.items new.room i.room.len (omega (arith, same.room, c.deref_mut.ensures.len)) in
+    let factors = written_back i.factors.items new.kept i.factors.len (omega (arith, same.kept, c.deref_mut.ensures.len)) in
+    let lanes = written_back i.room.items new.room i.room.len (omega (arith, same.room, c.deref_mut-2.ensures.len)) in
     let reaching = written_back i.reaching.items new.reaching i.reaching.len
-    (omega (arith, same.reaching, c.deref_mut-2.ensures.len)) in
+    (omega (arith, same.reaching, c.deref_mut-3.ensures.len)) in
     let come = written_back i.arrivals.items new.come i.arrivals.len
-    (omega (arith, same.come, c.deref_mut-3.ensures.len)) in
-    let going = written_back i.go.items new.going i.go.len (omega (arith, same.going, c.deref_mut-4.ensures.len)) in
+    (omega (arith, same.come, c.deref_mut-4.ensures.len)) in
+    let going = written_back i.go.items new.going i.go.len (omega (arith, same.going, c.deref_mut-5.ensures.len)) in
     let standing = written_back i.queue.items new.standing i.queue.len
-    (omega (arith, same.standing, c.deref_mut-5.ensures.len)) in
+    (omega (arith, same.standing, c.deref_mut-6.ensures.len)) in
     let leaving = written_back i.out.items new.leaving i.out.len
-    (omega (arith, same.leaving, c.deref_mut-6.ensures.len)) in
+    (omega (arith, same.leaving, c.deref_mut-7.ensures.len)) in
     record {
       go_len = omega (
         arith,
@@ -27,8 +30,8 @@ invariant_of-scratch g c =
         ap length going,
         same.come,
         same.going,
-        c.deref_mut-3.ensures.len,
         c.deref_mut-4.ensures.len,
+        c.deref_mut-5.ensures.len,
         was.go_len,
       );
       queue_len = omega (
@@ -37,8 +40,8 @@ invariant_of-scratch g c =
         ap length standing,
         same.come,
         same.standing,
-        c.deref_mut-3.ensures.len,
-        c.deref_mut-5.ensures.len,
+        c.deref_mut-4.ensures.len,
+        c.deref_mut-6.ensures.len,
         was.queue_len,
       );
       out_len = omega (
@@ -47,8 +50,8 @@ invariant_of-scratch g c =
         ap length leaving,
         same.come,
         same.leaving,
-        c.deref_mut-3.ensures.len,
-        c.deref_mut-6.ensures.len,
+        c.deref_mut-4.ensures.len,
+        c.deref_mut-7.ensures.len,
         was.out_len,
       );
       room_len = omega (
@@ -57,8 +60,8 @@ invariant_of-scratch g c =
         ap length lanes,
         same.come,
         same.room,
-        c.deref_mut-3.ensures.len,
-        c.deref_mut.ensures.len,
+        c.deref_mut-4.ensures.len,
+        c.deref_mut-2.ensures.len,
         was.room_len,
       );
       reaching_len = omega (
@@ -67,11 +70,21 @@ invariant_of-scratch g c =
         ap length reaching,
         same.come,
         same.reaching,
+        c.deref_mut-4.ensures.len,
         c.deref_mut-3.ensures.len,
-        c.deref_mut-2.ensures.len,
         was.reaching_len,
       );
       out_small = subst (λ (xs : List ℕ). All (λ v. v < 2 ^ 30) xs) (sym leaving)
           c.work_out-scratch-inside.ensures.small;
       figures_small = c.work_out-scratch-inside.ensures.figures_small;
+      right = are_in c.args.net.now.frame.step_count _ _ _
+          (omega (
+            arith,
+            ap length come,
+            same.come,
+            c.deref_mut-4.ensures.len,
+            c.requires.step_count,
+            ap (λ (v : CellValue). length v.arrivals) c.scratch.view_is,
+          )) factors
+          c.work_out-scratch-inside.ensures.kept;
     }

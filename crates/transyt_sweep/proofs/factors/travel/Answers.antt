@@ -1,6 +1,6 @@
 -- How large the first factor can be.
 use Rattle.transyt_sweep.proofs.InflowLaws.{factor_fits}
-use Rattle.transyt_sweep.proofs.sending.travel.Goals as goal
+use Rattle.transyt_sweep.proofs.factors.travel.Goals as goal
 
 -- 100 times a reciprocal against 2^40
 pub returns-clause-factor : goal.returns-clause-factor

@@ -1,0 +1,24 @@
+-- What is worked out of a feed's numbers once.
+use Rattle.std.proofs.Common.{◌≡◌, ℕ, List, All, ◌∙◌, ap, sym, subst}
+use Rattle.transyt_platoon.specs.Platoon.{travel_steps}
+use Rattle.transyt_parts.specs.declared.frame.Frame.{Frame}
+use Rattle.transyt_parts.specs.declared.link.Feed.{Feed}
+use Rattle.transyt_sweep.specs.declared.factors.Factors.{Factors}
+use Rattle.transyt_sweep.specs.Factors.{AreFactors, Serve}
+
+-- factors that name a feed's numbers serve it
+pub serves : (frame : Frame) (feed : Feed) (whole : ℕ) (f : Factors) → AreFactors frame.step_count f
+    → f.part.part ≡ feed.flow → f.part.whole ≡ whole → f.cruise ≡ feed.cruise → f.cycle ≡ frame.cycle
+    → f.travel.percent ≡ frame.dispersion → Serve frame feed whole f
+serves frame feed whole f are flow is_whole cruise cycle percent = record {
+  flow = flow;
+  whole = is_whole;
+  time = are.time ∙ ap (λ c. travel_steps c frame.step_count f.cycle) cruise
+      ∙ ap (travel_steps feed.cruise frame.step_count) cycle;
+  percent = percent;
+}
+
+-- equal lists of factors are right for equal numbers of steps
+pub are_in : (n m : ℕ) (fs gs : List Factors) → n ≡ m → fs ≡ gs → All (AreFactors n) gs → All (AreFactors m) fs
+are_in n m fs gs same equal are =
+    subst (λ k. All (AreFactors k) fs) same (subst (λ hs. All (AreFactors n) hs) (sym equal) are)

@@ -1,0 +1,94 @@
+//! What is worked out of a feed's numbers once, and kept.
+
+ghost use Rattle.std.specs.Prelude.{◌≡◌, ◌^◌, ◌≤◌, All, IsTrue};
+ghost use Rattle.transyt_parts.specs.declared.frame.Frame.{Frame};
+ghost use Rattle.transyt_parts.specs.declared.link.Feed.{Feed};
+ghost use Rattle.transyt_platoon.specs.Platoon.{travel_steps};
+ghost use Rattle.transyt_platoon.specs.Travels.{IsTravel};
+ghost use Rattle.transyt_sweep.specs.Factors.{AreFactors, Serve};
+
+use transyt_net::{Feed, Frame, Net};
+use transyt_platoon::{Travel, travel_of, travel_steps};
+use transyt_profile::{Part, part_of};
+
+/// A feed's part of what leaves its feeder, and how its platoon travels: what is worked out of a feed's numbers once.
+///
+/// It is right for the numbers that stand in it, whatever the network: the flow and its whole in `part`, the dispersion
+/// in `travel`, the cruise time and the cycle.
+#[derive(Clone, Copy)]
+pub(crate) struct Factors {
+    /// The cruise time, in seconds.
+    cruise: u32,
+    /// The cycle, in seconds.
+    cycle: u32,
+    /// The feed's part of what leaves its feeder.
+    pub(crate) part: Part,
+    /// How its platoon travels.
+    pub(crate) travel: Travel,
+}
+
+/// How a feed's platoon travels.
+fn travel(net: &Net, feed: Feed) -> Travel
+    requires cruise { feed.cruise ≤ 300 }
+    ensures time { result.time ≡ travel_steps feed.cruise net.now.frame.step_count net.now.frame.cycle }
+    ensures percent { result.percent ≡ net.now.frame.dispersion }
+    ensures is { IsTravel net.now.frame.step_count result }
+    ensures factor { result.starting_factor ≤ 2 ^ 41 }
+{
+    let frame = net.frame();
+    let time = travel_steps(feed.cruise, frame.step_count, frame.cycle);
+    travel_of(time, frame.dispersion, frame.step_count as usize)
+}
+
+/// The factors of a feed, of whose feeder `whole` vehicles per hour leave.
+pub(crate) fn factors_of(net: &Net, feed: Feed, whole: u32) -> Factors
+    requires flow { feed.flow ≤ 9999 }
+    requires cruise { feed.cruise ≤ 300 }
+    ensures are { AreFactors net.now.frame.step_count result }
+    ensures serve { Serve net.now.frame feed whole result }
+{
+    Factors {
+        cruise: feed.cruise,
+        cycle: net.frame().cycle,
+        part: part_of(feed.flow, whole),
+        travel: travel(net, feed),
+    }
+}
+
+/// Whether the numbers that factors name are a feed's.
+#[tactic(auto, using(crate::proofs::FactorLaws::serves))]
+fn serve(factors: &Factors, frame: Frame, feed: Feed, whole: u32) -> bool
+    requires { AreFactors frame.step_count factors.now }
+    ensures { IsTrue result → Serve frame feed whole factors.now }
+{
+    factors.part.part == feed.flow
+        && factors.part.whole == whole
+        && factors.cruise == feed.cruise
+        && factors.cycle == frame.cycle
+        && factors.travel.percent == frame.dispersion
+}
+
+/// The factors of a feed: those that are kept at a place where they name its numbers, else worked out anew and kept
+/// there. Past the last place nothing is kept.
+pub(crate) fn factors_at(
+    net: &Net,
+    feed: Feed,
+    whole: u32,
+    place: usize,
+    kept: &mut [Factors],
+) -> Factors
+    requires flow { feed.flow ≤ 9999 }
+    requires cruise { feed.cruise ≤ 300 }
+    requires kept { All (AreFactors net.now.frame.step_count) kept.old }
+    ensures are { AreFactors net.now.frame.step_count result }
+    ensures serve { Serve net.now.frame feed whole result }
+    ensures kept { All (AreFactors net.now.frame.step_count) kept.new }
+{
+    if place >= kept.len() {
+        return factors_of(net, feed, whole);
+    }
+    if !serve(&kept[place], net.frame(), feed, whole) {
+        kept[place] = factors_of(net, feed, whole);
+    }
+    kept[place]
+}
