@@ -15,3 +15,6 @@ mod session;
 pub use answers::{NoTrial, Reply, TrialOpen, Tried};
 pub use laws::worked_session;
 pub use session::Session;
+
+#[cfg(test)]
+mod tests;
