@@ -98,24 +98,6 @@ fn follow_town<L: Ledger>(net: &mut Net, tracker: &mut Tracker, steps: &mut Step
     follow_all(&TOWN_EDITS, net, tracker, steps)
 }
 
-/// The same with a tracker and a counter of its own.
-fn town_edits<L: Ledger>(alloc: Global, net: &mut Net, blank: Blank) -> Result<bool, AllocError>
-    requires name { blank.name ≡ L.name }
-    requires parts { blank.parts ≡ L.parts }
-    requires some { 0 < L.parts }
-{
-    let mut steps = Steps::<L>::begin(blank);
-    let mut tracker = Tracker::open(alloc, net, &mut steps)?;
-    Ok(follow_town(net, &mut tracker, &mut steps))
-}
-
-#[test]
-fn edits_of_each_kind_have_their_work(rt: HostRuntime) -> Result<(), Fail> {
-    let mut net = closed(town(rt.alloc())?)?;
-    assert!(rt; town_edits::<Brand>(rt.alloc(), &mut net, Blank::new(1))?);
-    Ok(())
-}
-
 /// Edits of the town, which a trial takes back together.
 const TAKEN_BACK: [Row; 4] = [
     (Offset(7, 3), 10, 210933388),
@@ -182,36 +164,6 @@ fn trials<L: Ledger>(base: &Net, net: &mut Net, tracker: &mut Tracker, steps: &m
     back == (true, 215925072) && entered == (Some((9, 183471529)), 183471529)
 }
 
-/// The same with a tracker and a counter of its own.
-fn town_trials<L: Ledger>(
-    alloc: Global,
-    base: &Net,
-    net: &mut Net,
-    blank: Blank,
-) -> Result<bool, AllocError>
-    requires base { net.old ≡ base.now }
-    requires name { blank.name ≡ L.name }
-    requires parts { blank.parts ≡ L.parts }
-    requires some { 0 < L.parts }
-{
-    let mut steps = Steps::<L>::begin(blank);
-    let mut tracker = Tracker::open(alloc, net, &mut steps)?;
-    Ok(trials(base, net, &mut tracker, &mut steps))
-}
-
-/// The same on a copy of the town.
-fn copy_trials(alloc: Global, base: &Net) -> Result<bool, AllocError> {
-    let mut net = base.copy(alloc)?;
-    town_trials::<Brand>(alloc, base, &mut net, Blank::new(1))
-}
-
-#[test]
-fn trials_are_taken_back_or_stay(rt: HostRuntime) -> Result<(), Fail> {
-    let base = closed(town(rt.alloc())?)?;
-    assert!(rt; copy_trials(rt.alloc(), &base)?);
-    Ok(())
-}
-
 /// What leaves a link at a sweep, in the first step; none where there is no such link or sweep.
 fn leaving(net: &Net, tracker: &Tracker, sweep: u32, link: usize) -> Option<u64>
     requires { tracker.now.net ≡ net.now }
@@ -264,36 +216,106 @@ fn edit_twin<L: Ledger>(
     Ok(edit_loop(net, &mut twin, steps))
 }
 
-/// Whether it does on a twin and a copy of the network, and leaves the first tracker as it is.
-fn edit_copy<L: Ledger>(
+/// Whether it does on a twin, and leaves the first tracker as it is.
+fn edit_beside<L: Ledger>(
     alloc: Global,
     base: &Net,
+    net: &mut Net,
     tracker: &Tracker,
     steps: &mut Steps<L>,
 ) -> Result<bool, AllocError>
-    requires net { tracker.now.net ≡ base.now }
+    requires net { tracker.now.net ≡ net.old }
+    requires base { net.old ≡ base.now }
     requires mark { tracker.now.mark ≡ None }
 {
-    let mut net = base.copy(alloc)?;
-    let right = edit_twin(alloc, &mut net, tracker, steps)?;
+    let right = edit_twin(alloc, net, tracker, steps)?;
     Ok(right && leaves(base, tracker, &OLD))
 }
 
+/// What is tried with a tracker.
+#[derive(Clone, Copy)]
+enum Case {
+    /// Edits of the town.
+    Edits,
+    /// Trials on the town.
+    Trials,
+    /// An edit of the loop.
+    Loop,
+}
+
+/// Whether a case is right.
+fn is_right<L: Ledger>(
+    case: Case,
+    alloc: Global,
+    base: &Net,
+    net: &mut Net,
+    tracker: &mut Tracker,
+    steps: &mut Steps<L>,
+) -> Result<bool, AllocError>
+    requires net { tracker.old.net ≡ net.old }
+    requires base { net.old ≡ base.now }
+    requires mark { tracker.old.mark ≡ None }
+{
+    match case {
+        Case::Edits => Ok(follow_town(net, tracker, steps)),
+        Case::Trials => Ok(trials(base, net, tracker, steps)),
+        Case::Loop => edit_beside(alloc, base, net, tracker, steps),
+    }
+}
+
 /// The same with a tracker and a counter of its own.
-fn loop_edit<L: Ledger>(alloc: Global, base: &Net, blank: Blank) -> Result<bool, AllocError>
+fn is_right_from<L: Ledger>(
+    case: Case,
+    alloc: Global,
+    base: &Net,
+    net: &mut Net,
+    blank: Blank,
+) -> Result<bool, AllocError>
+    requires base { net.old ≡ base.now }
     requires name { blank.name ≡ L.name }
     requires parts { blank.parts ≡ L.parts }
     requires some { 0 < L.parts }
 {
     let mut steps = Steps::<L>::begin(blank);
-    let tracker = Tracker::open(alloc, base, &mut steps)?;
-    edit_copy(alloc, base, &tracker, &mut steps)
+    let mut tracker = Tracker::open(alloc, base, &mut steps)?;
+    is_right(case, alloc, base, net, &mut tracker, &mut steps)
+}
+
+/// The same on a copy of the network.
+fn is_right_on(case: Case, alloc: Global, base: &Net) -> Result<bool, AllocError> {
+    let mut net = base.copy(alloc)?;
+    is_right_from::<Brand>(case, alloc, base, &mut net, Blank::new(1))
+}
+
+/// The network of a case.
+fn network_of(case: Case, alloc: Global) -> Result<Net, Fail> {
+    match case {
+        Case::Edits | Case::Trials => closed(town(alloc)?),
+        Case::Loop => closed(loop_of_three(alloc)?),
+    }
+}
+
+/// Whether a case is right on its network.
+fn holds(case: Case, alloc: Global) -> Result<bool, Fail> {
+    let base = network_of(case, alloc)?;
+    Ok(is_right_on(case, alloc, &base)?)
+}
+
+#[test]
+fn edits_of_each_kind_have_their_work(rt: HostRuntime) -> Result<(), Fail> {
+    assert!(rt; holds(Case::Edits, rt.alloc())?);
+    Ok(())
+}
+
+#[test]
+fn trials_are_taken_back_or_stay(rt: HostRuntime) -> Result<(), Fail> {
+    assert!(rt; holds(Case::Trials, rt.alloc())?);
+    Ok(())
 }
 
 #[test]
 fn an_edit_goes_round_a_loop(rt: HostRuntime) -> Result<(), Fail> {
-    let base = closed(loop_of_three(rt.alloc())?)?;
-    assert!(rt; loop_edit::<Brand>(rt.alloc(), &base, Blank::new(1))?);
+    assert!(rt; holds(Case::Loop, rt.alloc())?);
     Ok(())
 }
 
