@@ -1,15 +1,23 @@
 -- The worked turns, computed from the definitions.
-use Rattle.std.proofs.Common.{◌≡◌, true, false, [], ◌∷◌, Some, refl}
+use Rattle.std.proofs.Common.{◌≡◌, ℕ, ◌+◌, Bool, true, false, [], ◌∷◌, Option, Some, None, refl, ap, ◌∙◌}
+use Rattle.std.proofs.Common.{if◌then◌else◌}
 use Rattle.transyt_platoon.specs.Platoon.{smoothed}
 use Rattle.transyt_stopline.specs.LastSteps.{sum_back, greatest}
+use Rattle.transyt_net.specs.declared.edit.Edit.TheVariants.{Offset}
+use Rattle.transyt_net.specs.Edits.{with_edit}
+use Rattle.transyt_net.specs.Parts.{Network}
 use Rattle.transyt_moves.specs.Moves.{move, move_count}
-use Rattle.transyt_sweep.specs.Sweeps.{seen, out_of}
+use Rattle.transyt_stage.specs.ThreeJunctions.{three_junctions}
+use Rattle.transyt_sweep.specs.Sweeps.{seen, out_of, index}
 use Rattle.transyt_sweep.specs.Climb.{tried_at, lowers, moved, climb}
+use Rattle.transyt_sweep.proofs.WorkedMove.{tried_first, lowers_first}
 use Rattle.transyt_track.specs.Due.{differs, due_in, due_through, due}
-use Rattle.transyt_climb.specs.declared.turn.Turn.TheVariants.{Passed}
-use Rattle.transyt_climb.specs.Turns.{machine, start_of, answers, certified, turns}
+use Rattle.transyt_session.specs.Session.{SessionValue}
+use Rattle.transyt_climb.specs.declared.turn.Turn.TheVariants.{Took, Passed}
+use Rattle.transyt_climb.specs.Turns.{machine, start_of, answer_of, after_answer, turned, answers, certified, turns}
 use Rattle.transyt_climb.specs.Way.{climb_left}
 use Rattle.transyt_climb.specs.WorkedTurns.{idle, idle_session, junctions_session, way, stayed}
+use Rattle.transyt_climb.specs.WorkedTurns.{three_session, before_step, after_step, stepped_session}
 
 -- a climber at its start
 pub start : start_of idle idle.plan ≡ Some (record { place = 0; since = 0; looked = 0; budget = 7; count = 6 })
@@ -40,3 +48,44 @@ left_budget = refl
 pub certificate : certified 0 junctions_session ≡ record junctions_session { work = 11 }
 unfolding sum_back greatest smoothed seen out_of differs due_in due_through due move
 certificate = refl
+
+-- the three junctions after their first move
+abbrev after_move : Network
+after_move = with_edit three_junctions (Offset 21 8)
+
+-- the number that is there, if there is one
+abbrev number_of : Option ℕ → ℕ
+number_of None = 0
+number_of (Some n) = n
+
+-- the index after that move
+index_after : index after_move ≡ 554272112
+unfolding tried_at move
+index_after = ap number_of tried_first
+
+-- the work of it
+work_of_first : due three_junctions after_move ≡ 12
+unfolding sum_back greatest smoothed seen out_of differs due_in due_through due
+work_of_first = refl
+
+-- a turn that takes it
+pub took : answer_of (machine before_step three_session) ≡ Took 0 (Offset 21 8) 554272112
+unfolding move moved
+took =
+    ap (λ (b : Bool). if b then Took 0 (Offset 21 8) (index after_move) else Passed) lowers_first
+    ∙ ap (Took 0 (Offset 21 8)) index_after
+
+-- a session of a network with this work
+abbrev session_of : Network → ℕ → SessionValue
+session_of net work = record { net = net; before = None; work = work }
+
+-- the state after it
+pub stepped : turned (machine before_step three_session) ≡ machine after_step stepped_session
+unfolding move moved
+stepped =
+    ap (λ a. after_answer a (machine before_step three_session)) took
+    ∙ ap
+    (λ (b : Bool). machine after_step
+    (session_of (if b then after_move else three_junctions) (5 + due three_junctions after_move)))
+    lowers_first
+    ∙ ap (λ work. machine after_step (session_of after_move (5 + work))) work_of_first

@@ -1,7 +1,10 @@
--- Worked turns: over a network without links, where no move lowers the index, and over one of which no number is neutral.
+-- Worked turns: over a network without links, where no move lowers the index, and over two of which no number is neutral.
 use Rattle.std.specs.Prelude.{ℕ, List, [], ◌∷◌, map, Bool, None, Some}
 use Rattle.transyt_parts.specs.Made.{new_stage}
+use Rattle.transyt_net.specs.declared.edit.Edit.TheVariants.{Offset}
+use Rattle.transyt_net.specs.Edits.{with_edit}
 use Rattle.transyt_net.specs.Parts.{Network}
+use Rattle.transyt_stage.specs.ThreeJunctions.{three_junctions}
 use Rattle.transyt_sweep.specs.Climb.{Climb, Look}
 use Rattle.transyt_track.specs.WorkedWork.{junctions}
 use Rattle.transyt_session.specs.Session.{SessionValue}
@@ -48,3 +51,19 @@ stayed local places = record {
   looks = map (λ place. record { net = idle; place = place }) places;
   net = idle;
 }
+
+-- a session of three junctions, of which the first move lowers the index, and some work
+abbrev pub three_session : SessionValue
+three_session = record { net = three_junctions; before = None; work = 5 }
+
+-- a climber at the first of their moves, before its ninth look and three places after its last step
+abbrev pub before_step : Counters
+before_step = record { place = 0; since = 3; looked = 8; budget = 250; count = 72 }
+
+-- the same after the step
+abbrev pub after_step : Counters
+after_step = record { place = 0; since = 0; looked = 9; budget = 250; count = 72 }
+
+-- the session after the step, whose work is 12
+abbrev pub stepped_session : SessionValue
+stepped_session = record { net = with_edit three_junctions (Offset 21 8); before = None; work = 17 }

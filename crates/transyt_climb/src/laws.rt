@@ -1,14 +1,16 @@
 //! What the turns of a climber come to.
 
 ghost use Rattle.std.specs.Prelude.{◌≡◌, ℕ, true, false, None, Some, List, [], ◌∷◌, ◌++◌};
+ghost use Rattle.transyt_net.specs.declared.edit.Edit.TheVariants.{Offset};
 ghost use Rattle.transyt_net.specs.Parts.{Network};
 ghost use Rattle.transyt_sweep.specs.Climb.{climb, Climb, Step};
 ghost use Rattle.transyt_session.specs.Session.{SessionValue};
 ghost use Rattle.transyt_climb.specs.declared.turn.Turn.{Turn};
-ghost use Rattle.transyt_climb.specs.declared.turn.Turn.TheVariants.{Passed, Local, Budget};
+ghost use Rattle.transyt_climb.specs.declared.turn.Turn.TheVariants.{Took, Passed, Local, Budget};
 ghost use Rattle.transyt_climb.specs.Turns.{Machine, machine, start_of, noted, answer_of, answers, certified, is_end, is_local, started, step_then, turned, turns};
 ghost use Rattle.transyt_climb.specs.Way.{AreClimb, IsLocal, IsUnderWay, IsOver, IsRound, climb_left};
 ghost use Rattle.transyt_climb.specs.WorkedTurns.{idle, idle_session, junctions_session, on_way, way, gone_round, used_up, stayed};
+ghost use Rattle.transyt_climb.specs.WorkedTurns.{three_session, before_step, after_step, stepped_session};
 
 /// The turns of a climber, from its start to the first that answers Local or Budget, are the climb of the network.
 pub fn rule_of_turns()
@@ -34,7 +36,7 @@ pub fn rule_of_way()
         → IsOver whole work done (is_local last) after }
 {}
 
-/// Worked turns: the counters, the two ends, turns that pass, and the climb that is left.
+/// Worked turns: the counters, the two ends, turns that pass, one that takes a step, and the climb that is left.
 pub fn worked_turns()
     ensures start { start_of idle idle.plan ≡ Some (record { place = 0; since = 0; looked = 0; budget = 7; count = 6 }) }
     ensures no_start { start_of idle None ≡ None }
@@ -46,6 +48,8 @@ pub fn worked_turns()
     ensures passed { answers 2 (way 9) ≡ Passed ∷ (Passed ∷ []) }
     ensures turns { turns 3 (way 9)
         ≡ machine (record { place = 1; since = 4; looked = 6; budget = 9; count = 6 }) idle_session }
+    ensures took { answer_of (machine before_step three_session) ≡ Took 0 (Offset 21 8) 554272112 }
+    ensures stepped { turned (machine before_step three_session) ≡ machine after_step stepped_session }
     ensures left { climb_left (way 9) ≡ stayed true (4 ∷ (5 ∷ (0 ∷ (1 ∷ (2 ∷ []))))) }
     ensures left_budget { climb_left (way 5) ≡ stayed false (4 ∷ (5 ∷ [])) }
     ensures certified { certified 0 junctions_session ≡ record junctions_session { work = 11 } }

@@ -23,3 +23,6 @@ pub use climbing::climb_on;
 pub use laws::{rule_of_local, rule_of_turns, rule_of_way, worked_turns};
 pub use transyt_moves::{move_at, move_count};
 pub use turn::Turn;
+
+#[cfg(test)]
+mod tests;

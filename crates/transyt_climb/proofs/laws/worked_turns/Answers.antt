@@ -1,5 +1,5 @@
 -- The worked turns.
-use Rattle.transyt_climb.proofs.WorkedLaws.{start, passed, three, left, left_budget, certificate}
+use Rattle.transyt_climb.proofs.WorkedLaws.{start, passed, three, took, stepped, left, left_budget, certificate}
 use Rattle.transyt_climb.proofs.laws.worked_turns.Goals as goal
 
 pub returns-clause-start : goal.returns-clause-start
@@ -10,6 +10,12 @@ returns-clause-passed c = passed
 
 pub returns-clause-turns : goal.returns-clause-turns
 returns-clause-turns c = three
+
+pub returns-clause-took : goal.returns-clause-took
+returns-clause-took c = took
+
+pub returns-clause-stepped : goal.returns-clause-stepped
+returns-clause-stepped c = stepped
 
 pub returns-clause-left : goal.returns-clause-left
 returns-clause-left c = left
