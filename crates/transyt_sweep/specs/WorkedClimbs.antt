@@ -37,11 +37,11 @@ stayed local net places = record { steps = []; local = local; looks = map (look 
 abbrev pub step_back : Step
 step_back = record { place = 1; edit = Offset 1 9; index = 0 }
 
--- a climb that looks at places 4, 5, 0 and 1, takes the last, and then looks at all six from there
+-- a climb that looks at places 5, 0 and 1, takes the last, and then looks at all six from there
 abbrev pub stepped_back : Climb
 stepped_back = record {
   steps = step_back ∷ [];
   local = true;
-  looks = map (look idle) (4 ∷ 5 ∷ 0 ∷ 1 ∷ []) ++ map (look turned) (1 ∷ 2 ∷ 3 ∷ 4 ∷ 5 ∷ 0 ∷ []);
+  looks = map (look idle) (5 ∷ 0 ∷ 1 ∷ []) ++ map (look turned) (1 ∷ 2 ∷ 3 ∷ 4 ∷ 5 ∷ 0 ∷ []);
   net = turned;
 }

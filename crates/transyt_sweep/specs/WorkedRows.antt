@@ -1,5 +1,5 @@
--- Worked rows: two links at two sweeps in a cycle of two steps.
-use Rattle.std.specs.Prelude.{ℕ, List, [], ◌∷◌, Bool, true, false}
+-- Worked rows: two links at one sweep in a cycle of three steps.
+use Rattle.std.specs.Prelude.{ℕ, List, [], ◌∷◌, replicate, Bool, true, false}
 use Rattle.transyt_delay.specs.declared.figures.Figures.{Figures}
 use Rattle.transyt_sweep.specs.Cell.{CellValue}
 use Rattle.transyt_sweep.specs.Rows.{RowsValue, rows_of}
@@ -8,39 +8,41 @@ use Rattle.transyt_sweep.specs.WorkedLinks.{new_figures}
 -- rows in which each value tells its place
 abbrev pub rows : RowsValue
 rows =
-    rows_of 2 2 (1 ∷ 2 ∷ 3 ∷ 4 ∷ 11 ∷ 12 ∷ 13 ∷ 14 ∷ 21 ∷ 22 ∷ 23 ∷ 24 ∷ []) (31 ∷ 32 ∷ 33 ∷ 34 ∷ [])
-    (41 ∷ 42 ∷ 43 ∷ 44 ∷ []) (51 ∷ 52 ∷ 53 ∷ 54 ∷ []) (new_figures 61 62 63 64 ∷ new_figures 71 72 73 74 ∷ [])
+    rows_of 3 1 (1 ∷ 2 ∷ 3 ∷ 4 ∷ 5 ∷ 6 ∷ 11 ∷ 12 ∷ 13 ∷ 14 ∷ 15 ∷ 16 ∷ []) (31 ∷ 32 ∷ 33 ∷ 34 ∷ 35 ∷ 36 ∷ [])
+    (41 ∷ 42 ∷ 43 ∷ 44 ∷ 45 ∷ 46 ∷ []) (51 ∷ 52 ∷ 53 ∷ 54 ∷ 55 ∷ 56 ∷ [])
+    (new_figures 61 62 63 64 ∷ new_figures 71 72 73 74 ∷ [])
 
 -- the second link at the last sweep
 abbrev pub second_link : CellValue
 second_link = record {
-  arrivals = 33 ∷ 34 ∷ [];
-  go = 43 ∷ 44 ∷ [];
-  queue = 53 ∷ 54 ∷ [];
-  out = 23 ∷ 24 ∷ [];
+  arrivals = 34 ∷ 35 ∷ 36 ∷ [];
+  go = 44 ∷ 45 ∷ 46 ∷ [];
+  queue = 54 ∷ 55 ∷ 56 ∷ [];
+  out = 14 ∷ 15 ∷ 16 ∷ [];
   figures = new_figures 71 72 73 74;
 }
 
 -- another work of a link
 abbrev pub another : CellValue
 another = record {
-  arrivals = 5 ∷ 6 ∷ [];
-  go = 7 ∷ 8 ∷ [];
-  queue = 9 ∷ 10 ∷ [];
-  out = 15 ∷ 16 ∷ [];
+  arrivals = 37 ∷ 38 ∷ 39 ∷ [];
+  go = 47 ∷ 48 ∷ 49 ∷ [];
+  queue = 57 ∷ 58 ∷ 59 ∷ [];
+  out = 17 ∷ 18 ∷ 19 ∷ [];
   figures = new_figures 1 2 3 4;
 }
 
--- the rows with it as the second link at the first sweep: only what leaves is kept
+-- the rows with it as the second link before the last sweep: only what leaves is kept
 abbrev pub placed_before : RowsValue
 placed_before =
-    record rows { outs = 1 ∷ 2 ∷ 3 ∷ 4 ∷ 11 ∷ 12 ∷ 15 ∷ 16 ∷ 21 ∷ 22 ∷ 23 ∷ 24 ∷ [] }
+    record rows { outs = 1 ∷ 2 ∷ 3 ∷ 17 ∷ 18 ∷ 19 ∷ 11 ∷ 12 ∷ 13 ∷ 14 ∷ 15 ∷ 16 ∷ [] }
 
 -- the rows with it as the first link at the last sweep: all of it is kept
 abbrev pub placed_last : RowsValue
 placed_last =
-    rows_of 2 2 (1 ∷ 2 ∷ 3 ∷ 4 ∷ 11 ∷ 12 ∷ 13 ∷ 14 ∷ 15 ∷ 16 ∷ 23 ∷ 24 ∷ []) (5 ∷ 6 ∷ 33 ∷ 34 ∷ [])
-    (7 ∷ 8 ∷ 43 ∷ 44 ∷ []) (9 ∷ 10 ∷ 53 ∷ 54 ∷ []) (new_figures 1 2 3 4 ∷ new_figures 71 72 73 74 ∷ [])
+    rows_of 3 1 (1 ∷ 2 ∷ 3 ∷ 4 ∷ 5 ∷ 6 ∷ 17 ∷ 18 ∷ 19 ∷ 14 ∷ 15 ∷ 16 ∷ []) (37 ∷ 38 ∷ 39 ∷ 34 ∷ 35 ∷ 36 ∷ [])
+    (47 ∷ 48 ∷ 49 ∷ 44 ∷ 45 ∷ 46 ∷ []) (57 ∷ 58 ∷ 59 ∷ 54 ∷ 55 ∷ 56 ∷ [])
+    (new_figures 1 2 3 4 ∷ new_figures 71 72 73 74 ∷ [])
 
 -- the figures with the second link's index by the weights of the second of the three junctions' links, 5 and 7, and
 -- their 37 hundredths for a stop: 5 * (71 + 72) + 7 * 37 * 73 / 100
@@ -51,3 +53,8 @@ weighed = new_figures 61 62 63 64 ∷ new_figures 71 72 73 904 ∷ []
 abbrev pub orders : List (ℕ × ℕ × ℕ × ℕ × Bool)
 orders =
     (1, 5, 2, 0, true) ∷ (2, 0, 1, 5, false) ∷ (2, 1, 2, 2, true) ∷ (2, 2, 2, 2, false) ∷ (2, 3, 2, 2, false) ∷ []
+
+-- the rows of the ring, of three links at three sweeps in ten steps, before any link is worked out
+abbrev pub rows_at_first : RowsValue
+rows_at_first =
+    rows_of 10 3 (replicate 120 0) (replicate 30 0) (replicate 30 0) (replicate 30 0) (replicate 3 (new_figures 0 0 0 0))

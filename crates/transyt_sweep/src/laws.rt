@@ -9,14 +9,14 @@ ghost use Rattle.transyt_moves.specs.Moves.{move_count};
 ghost use Rattle.transyt_stage.specs.ThreeJunctions.{three_junctions};
 ghost use Rattle.transyt_sweep.specs.Sweeps.{out_of, start, worked_at, evaluated, index};
 ghost use Rattle.transyt_sweep.specs.Rows.{pair_in, read_in, placed, with_weights, index_in};
-ghost use Rattle.transyt_sweep.specs.Front.{is_before};
+ghost use Rattle.transyt_sweep.specs.Front.{is_before, empty_out, empty_rows};
 ghost use Rattle.transyt_sweep.specs.Climb.{tried_at, is_below, lowers, least, first, ended, after_search, climb};
 ghost use Rattle.transyt_sweep.specs.WorkedLinks.{arrivals_of_three, gos_of_three, queues_of_three, outs_of_three};
 ghost use Rattle.transyt_sweep.specs.WorkedLinks.{figures_of_three};
 ghost use Rattle.transyt_sweep.specs.WorkedSweeps.{ring, outs_of_ring, fed_by_itself, arrivals_of_itself};
 ghost use Rattle.transyt_sweep.specs.WorkedSweeps.{gives_way_to_later, no_links};
 ghost use Rattle.transyt_sweep.specs.WorkedRows.{rows, second_link, another, placed_before, placed_last, weighed};
-ghost use Rattle.transyt_sweep.specs.WorkedRows.{orders};
+ghost use Rattle.transyt_sweep.specs.WorkedRows.{orders, rows_at_first};
 ghost use Rattle.transyt_sweep.specs.WorkedClimbs.{idle, tried_in_idle, limits, leasts, stayed, stepped_back};
 
 /// The rule of the sweeps: before the first each link lets its total flow go, and at each sweep a link is worked out
@@ -72,10 +72,13 @@ pub fn worked_sweeps()
 
 /// So do what is read of rows and written in them, and which link comes before which.
 pub fn worked_rows()
-    ensures read { pair_in rows 2 1 ≡ second_link }
-    ensures sweeps { map (read_in rows 2 1) (range_with_len 0 2) ≡ (21 ∷ 22 ∷ []) ∷ (13 ∷ 14 ∷ []) ∷ [] }
-    ensures before { placed rows 1 1 another ≡ placed_before }
-    ensures last { placed rows 2 0 another ≡ placed_last }
+    ensures read { pair_in rows 1 1 ≡ second_link }
+    ensures sweeps { map (read_in rows 1 1) (range_with_len 0 2)
+        ≡ (11 ∷ 12 ∷ 13 ∷ []) ∷ (4 ∷ 5 ∷ 6 ∷ []) ∷ [] }
+    ensures before { placed rows 0 1 another ≡ placed_before }
+    ensures last { placed rows 1 0 another ≡ placed_last }
+    ensures first { empty_rows ring ≡ rows_at_first }
+    ensures nothing { empty_out ring 2 1 ≡ replicate 10 0 }
     ensures weights { with_weights rows three_junctions 1 ≡ record rows { figures = weighed } }
     ensures index { index_in rows ≡ 138 }
     ensures order { map (λ row. is_before row.0 row.1 row.2 row.3) orders ≡ map (λ row. row.4) orders }
@@ -91,6 +94,6 @@ pub fn worked_climbs()
     ensures least { map (λ row. least (nat_eq row.0) row.1) leasts ≡ map (λ row. row.2) leasts }
     ensures local { climb idle 0 6 ≡ stayed true idle (0 ∷ 1 ∷ 2 ∷ 3 ∷ 4 ∷ 5 ∷ []) }
     ensures budget { climb idle 4 3 ≡ stayed false idle (4 ∷ 5 ∷ 0 ∷ []) }
-    ensures step { after_search (ended true) idle 4 6 10 (Some 3) ≡ stepped_back }
+    ensures step { after_search (ended true) idle 5 6 9 (Some 2) ≡ stepped_back }
     ensures no_step { after_search (ended true) idle 4 6 3 (Some 3) ≡ stayed false idle (4 ∷ 5 ∷ 0 ∷ []) }
 {}
