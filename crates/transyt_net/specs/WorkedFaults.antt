@@ -146,3 +146,11 @@ nothing = (node_of town 2, link_of town 3, the_feed (the_link town 5) 9)
 -- the worked network with a link that runs in no stage
 abbrev pub stageless : Network
 stageless = with_links (record (new 6) { stages = [] } ∷ [])
+
+-- the node of number 21, which has three stages
+abbrev pub three_stages : NodeValue
+three_stages = the_node town 21
+
+-- the link of number 4, which is fed by 9 and by 5
+abbrev pub two_feeds : LinkValue
+two_feeds = the_link town 4
