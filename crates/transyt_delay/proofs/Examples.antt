@@ -4,9 +4,8 @@ use Rattle.transyt_num.proofs.RootLaws.{root_is}
 use Rattle.transyt_delay.specs.declared.terms.Terms.{Terms}
 use Rattle.transyt_delay.specs.declared.figures.Figures.{Figures}
 use Rattle.transyt_delay.specs.Index.{index_of}
-use Rattle.transyt_delay.specs.Figures.{figures, in_period, InLimits, stops_of, under_root, uniform_of}
+use Rattle.transyt_delay.specs.Figures.{figures, in_period, stops_of, under_root, uniform_of}
 use Rattle.transyt_delay.specs.WorkedLinks.{
-  at_limits,
   great_penalty,
   great_penalty_figures,
   long_period,
@@ -69,18 +68,3 @@ long_period_is = by_root long_period 23549370 (lit≤ tt) (lit< tt)
 -- with more vehicles than can go
 pub oversaturated_is : figures oversaturated ≡ oversaturated_figures
 oversaturated_is = by_root oversaturated 80585184 (lit≤ tt) (lit< tt)
-
--- a link at the limits
-pub limits_are : InLimits at_limits
-limits_are = record {
-  arrivals = lit< tt;
-  room = lit< tt;
-  queued = lit< tt;
-  stopped = lit< tt;
-  cycle = lit≤ tt;
-  step_count = lit< tt;
-  period = lit≤ tt;
-  stop_penalty = lit≤ tt;
-  delay_weight = lit≤ tt;
-  stop_weight = lit≤ tt;
-}

@@ -1,4 +1,5 @@
--- Worked links, with their figures. No number is neutral.
+-- Worked links, with their figures, and terms at the limits and past them. No number is neutral.
+use Rattle.std.specs.Prelude.{List, [], ◌∷◌, ◌^◌}
 use Rattle.transyt_delay.specs.declared.terms.Terms.{Terms}
 use Rattle.transyt_delay.specs.declared.figures.Figures.{Figures}
 
@@ -109,3 +110,22 @@ at_limits = record {
   delay_weight = 999;
   stop_weight = 999;
 }
+
+-- terms that are within the limits: none at a limit, and all of them
+abbrev pub within_limits : List Terms
+within_limits = usual ∷ at_limits ∷ []
+
+-- terms at the limits, but for one number that is past its own
+abbrev pub past_limits : List Terms
+past_limits =
+    record at_limits { arrivals = 2 ^ 55 }
+    ∷ record at_limits { room = 2 ^ 55 }
+    ∷ record at_limits { queued = 2 ^ 55 }
+    ∷ record at_limits { stopped = 2 ^ 55 }
+    ∷ record at_limits { frame = record at_limits.frame { cycle = 29 } }
+    ∷ record at_limits { frame = record at_limits.frame { step_count = 0 } }
+    ∷ record at_limits { frame = record at_limits.frame { period = 121 } }
+    ∷ record at_limits { frame = record at_limits.frame { stop_penalty = 10000 } }
+    ∷ record at_limits { delay_weight = 1000 }
+    ∷ record at_limits { stop_weight = 1000 }
+    ∷ []
