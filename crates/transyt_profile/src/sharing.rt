@@ -110,7 +110,7 @@ pub(crate) fn share_step(value: u64, part: &Part) -> u64
 
 /// The share of one step, by the factor.
 #[tactic(auto, using(crate::proofs::SharesFit::fits))]
-fn product(value: u64, part: &Part) -> u64
+pub(crate) fn product(value: u64, part: &Part) -> u64
     requires fits { value < 2 ^ 30 }
     requires quick { IsQuick part.now }
     ensures value { result ≡ share_of part.now.part part.now.whole value }

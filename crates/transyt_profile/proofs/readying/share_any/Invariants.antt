@@ -1,7 +1,7 @@
 -- A profile is shared and made ready step by step.
 use Rattle.std.proofs.Common.{◌≡◌, ℕ, ◌*◌, ◌^◌, ◌<◌, ◌≤◌, get_or, take, sum_by}
 use Rattle.transyt_profile.specs.Profile.{share_of}
-use Rattle.transyt_profile.proofs.readying.share_ready.Given as goal
+use Rattle.transyt_profile.proofs.readying.share_any.Given as goal
 
 -- the steps passed have their shares and their products; they have this sum, and none is above the greatest so far
 abbrev pub invariant-loop-i : goal.invariant-loop-i

@@ -1,10 +1,10 @@
 -- One step more, and what all of them come to.
-use Rattle.std.proofs.Common.{rules, arith, ◌≡◌, ℕ, List, ◌^◌, ◌<◌, ◌∙◌, sym, ap, map, sum, sum_by, get_or}
+use Rattle.std.proofs.Common.{rules, arith, ◌≡◌, ℕ, ◌∙◌, sym, ap, map, sum, sum_by}
 use Rattle.std.proofs.lemmas.List.{get_or_default, take_all, ext_get_or, get_or-map, length-map}
 use Rattle.std.proofs.lemmas.List.Sums.{sum_by_more, sum-map}
-use Rattle.transyt_profile.specs.Profile.{share_of, shared}
+use Rattle.transyt_profile.specs.Profile.{share_of}
 use Rattle.transyt_profile.proofs.ReadyLaws.{ready_more}
-use Rattle.transyt_profile.proofs.readying.share_ready.Goals as goal
+use Rattle.transyt_profile.proofs.readying.share_any.Goals as goal
 
 -- one step more
 pub loop-i-preserved : goal.loop-i-preserved
