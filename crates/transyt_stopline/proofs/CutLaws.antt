@@ -1,10 +1,14 @@
 -- Sums of scaled lists.
-use Rattle.std.proofs.Common.{◌≡◌, ℕ, ◌*◌, ◌/◌, ◌^◌, ◌<◌, ◌≤◌, List, [], ◌∷◌, length, get_or, ap, sym, ◌∙◌, arith, sum, map}
+use Rattle.std.proofs.Common.{◌≡◌, ℕ, zero, suc, ◌*◌, ◌/◌, ◌^◌, ◌<◌, ◌≤◌, List, [], ◌∷◌, length, get_or, ap, arith, sum, map, inl, inr}
+use Rattle.std.specs.List.{All}
+use Rattle.std.proofs.lemmas.Bool.{cases_lt}
+use Rattle.std.proofs.lemmas.Bool.Decides.{nat_tests}
+use Rattle.std.proofs.lemmas.List.Elements.{All-from_get_or}
 use Rattle.std.proofs.lemmas.List.Sums.{sum_by-cons}
 use Rattle.std.proofs.Math.Nat.{mul-le-mul_left, div-le_of_le-mul, le_of_mul-le-mul_right, div-mul-le_self}
 use Rattle.std.proofs.lemmas.Nat.{mul-lt}
-use Rattle.std.proofs.lemmas.List.{ext_get_or, length-map, get_or-map}
-use Rattle.transyt_stopline.specs.Cut.{scaled}
+use Rattle.std.proofs.lemmas.List.{length-map}
+use Rattle.transyt_stopline.specs.Cut.{scaled, arrivals_of}
 
 -- a part of a value is at most the value
 pub scaled-le : (a b value : ℕ) → b ≤ a → scaled a b value ≤ value
@@ -28,18 +32,6 @@ scaled_sum a b (x ∷ xs) =
 pub scaled_total : (b : ℕ) (xs : List ℕ) → b < sum xs → sum (map (scaled (sum xs) b) xs) ≤ b
 scaled_total b xs above = le_of_mul-le-mul_right {k = sum xs} (omega (arith, scaled_sum (sum xs) b xs)) (omega arith)
 
--- a list with f of each value in its place is the list mapped
-pub mapped : (f : ℕ → ℕ) (xs ys : List ℕ) → length ys ≡ length xs
-    → ((k : ℕ) → k < length xs → get_or ys k 0 ≡ f (get_or xs k 0)) → ys ≡ map f xs
-mapped f xs ys same_length at_each = ext_get_or 0 ys (map f xs) (omega (arith, length-map xs f))
-    (λ k below. at_each k (omega arith) ∙ sym (get_or-map f xs k 0 0 (omega arith)))
-
--- so what is cut sums to at most what the green lets pass
-pub cut_total : (xs go ys : List ℕ) → sum go < sum xs → length ys ≡ length xs
-    → ((k : ℕ) → k < length xs → get_or ys k 0 ≡ scaled (sum xs) (sum go) (get_or xs k 0)) → sum ys ≤ sum go
-cut_total xs go ys above same_length at_each =
-    omega (arith, ap sum (mapped (scaled (sum xs) (sum go)) xs ys same_length at_each), scaled_total (sum go) xs above)
-
 -- a part of what comes times what is served fits where what comes is below 2^32
 pub product_fits : (value served come : ℕ) → value ≤ come → served < come → come < 2 ^ 32 → value * served < 2 ^ 64
 product_fits value served come part less fits =
@@ -48,3 +40,40 @@ product_fits value served come part less fits =
 -- what is scaled down is no more than it was
 pub scaled_part : (a b value : ℕ) → b < a → value * b / a ≤ value
 scaled_part a b value less = scaled-le a b value (omega arith)
+
+-- at each step what is scaled down is no more than it was
+pub scaled_no_more : (a b : ℕ) (xs : List ℕ) (i : ℕ) → b ≤ a → get_or (map (scaled a b) xs) i 0 ≤ get_or xs i 0
+scaled_no_more a b [] i part = omega arith
+scaled_no_more a b (x ∷ xs) zero part = scaled-le a b x part
+scaled_no_more a b (x ∷ xs) (suc i) part = scaled_no_more a b xs i part
+
+-- what reaches the stop line sums to no more than the green lets pass
+pub arrivals_total : (xs go : List ℕ) → sum (arrivals_of xs go) ≤ sum go
+arrivals_total xs go =
+    elim (cases_lt (sum go) (sum xs)) as (λ w. sum (arrivals_of xs go) ≤ sum go) [
+      | inl more ↦ grind (arith, nat_tests, scaled_total (sum go) xs more)
+      | inr less ↦ grind (arith, nat_tests)
+    ]
+
+-- at each step no more reaches it than comes
+pub arrivals_no_more : (xs go : List ℕ) (i : ℕ) → get_or (arrivals_of xs go) i 0 ≤ get_or xs i 0
+arrivals_no_more xs go i =
+    elim (cases_lt (sum go) (sum xs)) as (λ w. get_or (arrivals_of xs go) i 0 ≤ get_or xs i 0) [
+      | inl more ↦ grind (arith, nat_tests, scaled_no_more (sum xs) (sum go) xs i (omega arith))
+      | inr less ↦ grind (arith, nat_tests)
+    ]
+
+-- it has a value for each step of what comes
+arrivals_length : (xs go : List ℕ) → length (arrivals_of xs go) ≡ length xs
+arrivals_length xs go =
+    elim (cases_lt (sum go) (sum xs)) as (λ w. length (arrivals_of xs go) ≡ length xs) [
+      | inl more ↦ grind (arith, nat_tests, length-map xs (scaled (sum xs) (sum go)))
+      | inr less ↦ grind (arith, nat_tests)
+    ]
+
+-- so it stays within each limit
+pub arrivals_small : (limit : ℕ) (xs go : List ℕ) → All (λ v. v < limit) xs → All (λ v. v < limit) (arrivals_of xs go)
+arrivals_small limit xs go fit =
+    All-from_get_or (λ v. v < limit) (arrivals_of xs go) 0
+    (λ i below. let small : get_or xs i 0 < limit = fit i 0 (omega (arith, arrivals_length xs go)) in
+    omega (arith, arrivals_no_more xs go i))

@@ -20,11 +20,14 @@ use Rattle.std.proofs.Common.{
   subst,
   map,
   take,
+  inl,
+  inr,
   ◌++◌,
   [],
   ◌∷◌,
 }
 use Rattle.std.specs.List.{range_with_len}
+use Rattle.std.proofs.lemmas.Bool.{cases_lt}
 use Rattle.std.proofs.lemmas.List.{take_all}
 use Rattle.std.proofs.lemmas.List.Sums.{sum_by_more, sum_by_push}
 use Rattle.std.proofs.lemmas.List.FromFn.{map-range_with_len_more}
@@ -38,6 +41,15 @@ use Rattle.transyt_stopline.proofs.Greatest.{greatest_shift, greatest_turn}
 -- the greatest excess over up to n last steps
 abbrev pub queue_over : List ℕ → List ℕ → ℕ → ℕ → ℕ
 queue_over arrivals go n i = greatest (λ m. sum_back arrivals i m - sum_back go i m) n
+
+-- the queue at the end of step i of the first turn, from an empty queue: the greatest excess of the steps passed
+abbrev pub first_at : List ℕ → List ℕ → ℕ → ℕ
+first_at arrivals go i = queue_over arrivals go (i + 1) i
+
+-- what leaves in step i of the first turn
+abbrev pub first_out : List ℕ → List ℕ → ℕ → ℕ
+first_out arrivals go i =
+    queue_over arrivals go i (step_before (length arrivals) i) + get_or arrivals i 0 - first_at arrivals go i
 
 -- the greatest excess over no step is 0
 pub queue_over_none : (arrivals go : List ℕ) (i : ℕ) → queue_over arrivals go 0 i ≡ 0
@@ -125,6 +137,55 @@ pub second_more : (arrivals go : List ℕ) (i waiting after : ℕ) → length go
     → after ≡ waiting + get_or arrivals i 0 - get_or go i 0 → after ≡ queue_at arrivals go i
 second_more arrivals go i waiting after same_length served below was is =
     omega (arith, queue_more arrivals go i same_length served below)
+
+-- before step i as much stands in the first turn as in every later one
+abbrev pub IsSameBefore : List ℕ → List ℕ → ℕ → Type 0
+IsSameBefore arrivals go i =
+    queue_over arrivals go i (step_before (length arrivals) i) ≡ queue_at arrivals go (step_before (length arrivals) i)
+
+-- so does it before every step from there on
+pub same_from : (arrivals go : List ℕ) (i n : ℕ) → length go ≡ length arrivals → sum arrivals ≤ sum go
+    → i ≤ n → n ≤ length arrivals → IsSameBefore arrivals go i → IsSameBefore arrivals go n
+same_from arrivals go i zero same_length served from most same = let first : i ≡ 0 = omega arith in rw first at same
+same_from arrivals go i (suc n) same_length served from most same =
+    elim (cases_lt n i) as (λ w. IsSameBefore arrivals go (suc n)) [
+      | inl last ↦ let here : i ≡ suc n = omega arith in subst (IsSameBefore arrivals go) here same
+      | inr before ↦
+          let so_far : IsSameBefore arrivals go n =
+          same_from arrivals go i n same_length served before (omega arith) same in
+          omega (
+            arith,
+            queue_over_more arrivals go n n same_length,
+            queue_more arrivals go n same_length served (omega arith),
+          )
+    ]
+
+-- and the queue at the end of each step from there on is that of the first turn
+pub same_queue : (arrivals go : List ℕ) (i k : ℕ) → length go ≡ length arrivals → sum arrivals ≤ sum go
+    → i ≤ k + 1 → k < length arrivals → IsSameBefore arrivals go i → first_at arrivals go k ≡ queue_at arrivals go k
+same_queue arrivals go i k same_length served from below same =
+    let next : k + 1 ≡ suc k = omega arith in
+    let there : IsSameBefore arrivals go (suc k) =
+    same_from arrivals go i (suc k) same_length served (omega arith) (omega arith) same in rw next there
+
+-- and what leaves in it
+pub same_out : (arrivals go : List ℕ) (i k : ℕ) → length go ≡ length arrivals → sum arrivals ≤ sum go
+    → i ≤ k → k < length arrivals → IsSameBefore arrivals go i → first_out arrivals go k ≡ out_at arrivals go k
+same_out arrivals go i k same_length served from below same =
+    omega (
+      arith,
+      same_from arrivals go i k same_length served from (omega arith) same,
+      same_queue arrivals go i k same_length served (omega arith) below same,
+    )
+
+-- where the second turn has the queue of the first at the end of step i, as much stands before the next in both
+pub same_after : (arrivals go : List ℕ) (i waiting after : ℕ) → length go ≡ length arrivals → sum arrivals ≤ sum go
+    → i < length arrivals → waiting ≡ queue_at arrivals go (step_before (length arrivals) i)
+    → after ≡ waiting + get_or arrivals i 0 - get_or go i 0 → after ≡ first_at arrivals go i
+    → IsSameBefore arrivals go (i + 1)
+same_after arrivals go i waiting after same_length served below was is first =
+    rw (step_before-add_one (length arrivals) i)
+    (sym first ∙ second_more arrivals go i waiting after same_length served below was is)
 
 -- no more leaves than the green lets pass
 pub out-le-go : (arrivals go : List ℕ) (i : ℕ)

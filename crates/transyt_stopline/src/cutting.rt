@@ -1,6 +1,6 @@
 //! What reaches the stop line of what comes to it.
 
-ghost use Rattle.std.specs.Prelude.{◌≡◌, ℕ, ◌^◌, ◌*◌, ◌<◌, ◌≤◌, length, sum, slice_index, All};
+ghost use Rattle.std.specs.Prelude.{◌≡◌, ℕ, ◌^◌, ◌*◌, ◌<◌, ◌≤◌, MatchBool, length, sum, slice_index, All};
 ghost use Rattle.transyt_stopline.specs.Cut.{arrivals_of, scaled};
 
 use transyt_num::{divided_near, mul_div};
@@ -11,6 +11,7 @@ use transyt_profile::total;
 /// All three slices have one value for each step of the cycle, in millionths of a vehicle; what stood in `out` is
 /// overwritten. `go` is what the green lets pass. Where more comes in a cycle than that, each step is scaled down
 /// to it, rounded down; else all of it arrives. This cut is this project's own.
+#[tactic(auto, using(crate::proofs::CutLaws::arrivals_total, crate::proofs::CutLaws::arrivals_no_more, crate::proofs::CutLaws::arrivals_small))]
 pub fn cut_arrivals(x: &[u64], go: &[u64], out: &mut [u64])
     requires most { length x.now ≤ 120 }
     requires go_len { length go.now ≡ length x.now }
@@ -22,13 +23,51 @@ pub fn cut_arrivals(x: &[u64], go: &[u64], out: &mut [u64])
     ensures no_more { (i : ℕ) → slice_index out.new i ≤ slice_index x.now i }
     ensures small { All (λ v. v < 2 ^ 48) out.new }
 {
-    let come = total(x);
-    let served = total(go);
-    if served < come {
-        scale(x, served, come, out);
-    } else {
+    if !cut(x, go, out) {
         out.copy_from_slice(x);
     }
+}
+
+/// What reaches the stop line of what comes to it, without a copy where all of it arrives.
+///
+/// The slices and the rule are those of `cut_arrivals`. Where nothing is cut the result is `x` itself, and `out` isn't
+/// read or written; else it is `out`.
+#[tactic(auto, using(crate::proofs::CutLaws::arrivals_total, crate::proofs::CutLaws::arrivals_no_more, crate::proofs::CutLaws::arrivals_small))]
+pub fn reaching<'a>(x: &'a [u64], go: &[u64], out: &'a mut [u64]) -> &'a [u64]
+    requires most { length x.now ≤ 120 }
+    requires go_len { length go.now ≡ length x.now }
+    requires out_len { length out.old ≡ length x.now }
+    requires fit { All (λ v. v < 2 ^ 48) x.now }
+    requires go_fit { All (λ v. v < 2 ^ 30) go.now }
+    ensures cut { result.now ≡ arrivals_of x.now go.now }
+    ensures len { length result.now ≡ length x.now }
+    ensures total { sum result.now ≤ sum go.now }
+    ensures no_more { (i : ℕ) → slice_index result.now i ≤ slice_index x.now i }
+    ensures small { All (λ v. v < 2 ^ 48) result.now }
+{
+    if cut(x, go, out) {
+        return out;
+    }
+    x
+}
+
+/// Writes what reaches the stop line where more comes than the green lets pass, and says whether it does. Else all of
+/// it arrives, and `out` is left as it was.
+fn cut(x: &[u64], go: &[u64], out: &mut [u64]) -> bool
+    requires most { length x.now ≤ 120 }
+    requires go_len { length go.now ≡ length x.now }
+    requires out_len { length out.old ≡ length x.now }
+    requires fit { All (λ v. v < 2 ^ 48) x.now }
+    requires go_fit { All (λ v. v < 2 ^ 30) go.now }
+    ensures { MatchBool result (out.new ≡ arrivals_of x.now go.now) (x.now ≡ arrivals_of x.now go.now) }
+{
+    let come = total(x);
+    let served = total(go);
+    let more = served < come;
+    if more {
+        scale(x, served, come, out);
+    }
+    more
 }
 
 /// Scales each step down to `served` of `come`, the sum of all steps.

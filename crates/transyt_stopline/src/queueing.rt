@@ -1,8 +1,9 @@
 //! The queue at the stop line, and what leaves.
 
-ghost use Rattle.std.specs.Prelude.{◌≡◌, ℕ, ◌+◌, ◌-◌, ◌^◌, ◌<◌, ◌≤◌, length, sum, slice_index, All};
+ghost use Rattle.std.specs.Prelude.{◌≡◌, ℕ, ◌+◌, ◌-◌, ◌*◌, ◌^◌, ◌<◌, ◌≤◌, length, sum, slice_index, All};
 ghost use Rattle.transyt_cycle.specs.Cycle.{step_before};
-ghost use Rattle.transyt_stopline.specs.Queue.{queues, outs, IsQueue};
+ghost use Rattle.transyt_stopline.specs.LastSteps.{greatest, sum_back};
+ghost use Rattle.transyt_stopline.specs.Queue.{IsQueue, out_at, outs, queue_at, queues};
 
 /// The queue at the end of each step, and what leaves in each step.
 ///
@@ -38,15 +39,72 @@ pub fn queue(arrivals: &[u64], go: &[u64], queue: &mut [u64], out: &mut [u64])
     ensures queue_small { All (λ v. v < 2 ^ 37) queue.new }
     ensures out_small { All (λ v. v < 2 ^ 30) out.new }
 {
+    let left = first_turn(arrivals, go, queue, out);
+    second_turn(arrivals, go, left, queue, out);
+}
+
+/// Once round the cycle from an empty queue, and what then is left: the queue of every later cycle at its last step.
+///
+/// What stands at a step is the greatest excess of the steps passed.
+fn first_turn(arrivals: &[u64], go: &[u64], queue: &mut [u64], out: &mut [u64]) -> u64
+    requires steps { 0 < length arrivals.now }
+    requires most { length arrivals.now ≤ 120 }
+    requires go_len { length go.now ≡ length arrivals.now }
+    requires queue_len { length queue.old ≡ length arrivals.now }
+    requires out_len { length out.old ≡ length arrivals.now }
+    requires arrivals_fit { All (λ v. v < 2 ^ 48) arrivals.now }
+    ensures left { result ≡ queue_at arrivals.now go.now (length arrivals.now - 1) }
+    ensures small { result ≤ length arrivals.now * 2 ^ 48 }
+    ensures queue { (i : ℕ) → i < length arrivals.now → slice_index queue.new i
+        ≡ greatest (λ n. sum_back arrivals.now i n - sum_back go.now i n) (i + 1) }
+    ensures out { (i : ℕ) → i < length arrivals.now → slice_index out.new i
+        ≡ greatest (λ n. sum_back arrivals.now (step_before (length arrivals.now) i) n
+        - sum_back go.now (step_before (length arrivals.now) i) n) i
+        + slice_index arrivals.now i - slice_index queue.new i }
+{
     let mut waiting: u64 = 0;
-    // from an empty queue, once round: then it stands as it does in every later cycle
-    'first: for i in 0..arrivals.len() {
-        waiting = (waiting + arrivals[i]).saturating_sub(go[i]);
-    }
-    'second: for i in 0..arrivals.len() {
+    for i in 0..arrivals.len() {
         let present = waiting + arrivals[i];
         waiting = present.saturating_sub(go[i]);
         queue[i] = waiting;
         out[i] = present - waiting;
+    }
+    waiting
+}
+
+/// Round the cycle again, from what was left, until what stands is what stood there in the first turn: from there on
+/// the two turns are the same.
+fn second_turn(arrivals: &[u64], go: &[u64], left: u64, queue: &mut [u64], out: &mut [u64])
+    requires steps { 0 < length arrivals.now }
+    requires most { length arrivals.now ≤ 120 }
+    requires go_len { length go.now ≡ length arrivals.now }
+    requires queue_len { length queue.old ≡ length arrivals.now }
+    requires out_len { length out.old ≡ length arrivals.now }
+    requires arrivals_fit { All (λ v. v < 2 ^ 48) arrivals.now }
+    requires served { sum arrivals.now ≤ sum go.now }
+    requires left { left ≡ queue_at arrivals.now go.now (length arrivals.now - 1) }
+    requires small { left ≤ length arrivals.now * 2 ^ 48 }
+    requires queue { (i : ℕ) → i < length arrivals.now → slice_index queue.old i
+        ≡ greatest (λ n. sum_back arrivals.now i n - sum_back go.now i n) (i + 1) }
+    requires out { (i : ℕ) → i < length arrivals.now → slice_index out.old i
+        ≡ greatest (λ n. sum_back arrivals.now (step_before (length arrivals.now) i) n
+        - sum_back go.now (step_before (length arrivals.now) i) n) i
+        + slice_index arrivals.now i - slice_index queue.old i }
+    ensures queue { (i : ℕ) → i < length arrivals.now
+        → slice_index queue.new i ≡ queue_at arrivals.now go.now i }
+    ensures out { (i : ℕ) → i < length arrivals.now → slice_index out.new i ≡ out_at arrivals.now go.now i }
+{
+    if left == 0 {
+        return;
+    }
+    let mut standing = left;
+    for i in 0..arrivals.len() {
+        let there = standing + arrivals[i];
+        standing = there.saturating_sub(go[i]);
+        out[i] = there - standing;
+        if standing == queue[i] {
+            return;
+        }
+        queue[i] = standing;
     }
 }

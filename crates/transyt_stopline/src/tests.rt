@@ -69,6 +69,21 @@ fn cycles_worked_out_by_hand(rt: HostRuntime) {
             out: [0, 0, 0, 0, 3000000, 1869075, 801109, 329868, 0, 0],
             stopped: 3780667,
         },
+        // three fifths of what comes, rounded down
+        Cycle {
+            come: [
+                5000000, 0, 4000000, 1000000, 0, 7, 2999993, 1000000, 4000000, 2000000,
+            ],
+            go: GREEN,
+            arrivals: [
+                3000000, 0, 2400000, 600000, 0, 4, 1799995, 600000, 2400000, 1200000,
+            ],
+            queue: [
+                8999999, 5999999, 5399999, 2999999, 0, 4, 1799999, 2399999, 4799999, 5999999,
+            ],
+            out: [0, 3000000, 3000000, 3000000, 2999999, 0, 0, 0, 0, 0],
+            stopped: 11999999,
+        },
     ];
     for cycle in cycles.iter() {
         assert!(rt; cycle.come.iter().all(|value| *value < 281474976710656));
@@ -78,6 +93,18 @@ fn cycles_worked_out_by_hand(rt: HostRuntime) {
         let mut out = [0u64; 10];
         cut_arrivals(&cycle.come, &cycle.go, &mut arrivals);
         assert_eq!(rt; arrivals, cycle.arrivals);
+        let mut room = [1u64; 10];
+        assert_eq!(rt;
+            reaching(&cycle.come, &cycle.go, &mut room),
+            cycle.arrivals.as_slice()
+        );
+        // the room is written only where something is cut
+        let written = if cycle.come == cycle.arrivals {
+            [1u64; 10]
+        } else {
+            cycle.arrivals
+        };
+        assert_eq!(rt; room, written);
         queue(&arrivals, &cycle.go, &mut waiting, &mut out);
         assert_eq!(rt; waiting, cycle.queue);
         assert_eq!(rt; out, cycle.out);
