@@ -1,3 +1,4 @@
 pub mod Platoon
 pub mod Travels
 pub mod WorkedPlatoons
+pub mod WorkedReady

@@ -1,8 +1,17 @@
 //! Laws about the definitions.
 
-ghost use Rattle.std.specs.Prelude.{◌≡◌, map};
+ghost use Rattle.std.specs.Prelude.{◌≡◌, All, map};
 ghost use Rattle.transyt_platoon.specs.Platoon.{dispersed, mixed, travel_steps};
+ghost use Rattle.transyt_platoon.specs.Travels.{IsPlatoon, IsReady, IsTravel};
 ghost use Rattle.transyt_platoon.specs.WorkedPlatoons.{uneven, worked_mixes, worked_platoons, worked_travels};
+ghost use Rattle.transyt_platoon.specs.WorkedReady.{
+  platoon,
+  ready_platoon,
+  ready_travels,
+  wrong_platoons,
+  wrong_ready,
+  wrong_travels,
+};
 
 /// The worked platoons come out as they are written beside the definitions.
 #[tactic(auto, using(crate::proofs::KnownValues::platoons))]
@@ -12,4 +21,14 @@ pub fn worked_platoons()
     ensures mixes { map (λ row. mixed row.0.0 row.0.1 row.0.2) worked_mixes ≡ map (λ row. row.1) worked_mixes }
     ensures platoons { map (λ row. dispersed uneven row.0.0 row.0.1) worked_platoons
         ≡ map (λ row. row.1) worked_platoons }
+{}
+
+/// The worked travels and platoons keep to what is said of them, and those with one wrong number don't.
+pub fn worked_ready()
+    ensures travels { All (IsTravel 18) ready_travels }
+    ensures wrong_travels { All (λ m. IsTravel 18 m → ⊥) wrong_travels }
+    ensures platoon { IsPlatoon 3 platoon }
+    ensures wrong_platoons { All (λ p. IsPlatoon 3 p → ⊥) wrong_platoons }
+    ensures ready { IsReady 3 ready_platoon }
+    ensures wrong_ready { All (λ p. IsReady 3 p → ⊥) wrong_ready }
 {}
