@@ -11,3 +11,4 @@ pub mod Reading
 pub mod RuleBlocks
 pub mod Small
 pub mod Worked
+pub mod WorkedAdds
