@@ -16,7 +16,7 @@ use Rattle.transyt_deck.specs.declared.state.State.TheVariants as s
 use Rattle.transyt_deck.specs.declared.state.Stop.{Stop}
 use Rattle.transyt_deck.specs.declared.state.Stop.TheVariants as stop
 use Rattle.transyt_deck.specs.Adds.{stopped}
-use Rattle.transyt_deck.specs.State.{form_of, framed, rank, state_with}
+use Rattle.transyt_deck.specs.State.{form_of, framed, state_with}
 use Rattle.transyt_deck.specs.Table.{new_link_of}
 use Rattle.transyt_deck.specs.WorkedTown.{town_net}
 
