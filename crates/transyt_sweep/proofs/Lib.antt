@@ -1,9 +1,11 @@
 pub mod SweepLaws
 pub mod RowLaws
 pub mod PairLaws
+pub mod TableLaws
 pub mod FactorLaws
 pub mod InflowLaws
 pub mod IndexLaws
+pub mod KeptLaws
 pub mod ReadLaws
 pub mod FrontLaws
 pub mod StepLaws

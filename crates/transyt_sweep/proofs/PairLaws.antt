@@ -3,7 +3,7 @@ use Rattle.std.proofs.Common.{◌≡◌, ◌≢◌, ℕ, ◌+◌, ◌*◌, ◌^�
 use Rattle.std.proofs.lemmas.Bool.{cases_lt}
 use Rattle.std.proofs.Math.Nat.{mul-le-mul_right}
 use Rattle.transyt_sweep.specs.Rows.{RowsValue, pair_place, out_at, with_out, AreRows}
-use Rattle.transyt_sweep.proofs.RowLaws.{row_here, row_elsewhere, length-put_row, all-put_row}
+use Rattle.transyt_sweep.proofs.RowLaws.{row_here, row_elsewhere, length-put_row, all-put_row, length-row, all-row}
 
 -- the first rows are those of sweep 0
 pub first_place : (links l : ℕ) → 0 * links + l ≡ l
@@ -61,3 +61,15 @@ module _ (rows : RowsValue) (kept : AreRows rows) (s l : ℕ) (x : List ℕ) (sw
     small = all-put_row (λ v. v < 2 ^ 30) rows.step_count rows.outs (pair_place rows s l) x kept.small small;
     figures = kept.figures;
   }
+
+-- what leaves link l at sweep s has as many values as there are steps
+pub out_steps : (rows : RowsValue) → AreRows rows → (s l : ℕ) → s ≤ rows.sweeps → l < length rows.figures
+    → length (out_at rows s l) ≡ rows.step_count
+out_steps rows kept s l swept inside =
+    length-row rows.step_count rows.outs (pair_place rows s l)
+    (omega (arith, kept.outs, pair_room rows.sweeps (length rows.figures) rows.step_count s l swept inside))
+
+-- and they are small
+pub out_small : (rows : RowsValue) → AreRows rows → (s l : ℕ) → All (λ v. v < 2 ^ 30) (out_at rows s l)
+out_small rows kept s l =
+    all-row (λ v. v < 2 ^ 30) rows.step_count rows.outs (pair_place rows s l) kept.small

@@ -50,6 +50,17 @@ all-put_row P n rows p x before new =
     (All-append P x (drop n (drop (p * n) rows)) new
     (All-drop P n (drop (p * n) rows) (All-drop P (p * n) rows before)))
 
+-- a row has n values
+pub length-row : (n : ℕ) (rows : List ℕ) (p : ℕ) → p * n + n ≤ length rows → length (row n rows p) ≡ n
+length-row n rows p room =
+    let rest : length (drop (p * n) rows) ≡ length rows - p * n = length-drop (p * n) rows in
+    length-take-le (p * n + n - p * n) (drop (p * n) rows) (omega (arith, rest, room)) ∙ omega arith
+
+-- what holds of all values holds of those of a row
+pub all-row : (P : ℕ → Type 0) (n : ℕ) (rows : List ℕ) (p : ℕ) → All P rows → All P (row n rows p)
+all-row P n rows p all =
+    All-take P (p * n + n - p * n) (drop (p * n) rows) (All-drop P (p * n) rows all)
+
 -- a vector whose slice was written has what the slice has
 pub written_back : {A : Type 0} (items new : List A) (len : ℕ) → length new ≡ len
     → take len (new ++ drop (length new) items) ≡ new

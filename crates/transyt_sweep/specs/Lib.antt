@@ -1,6 +1,7 @@
 pub mod Cell
 pub mod Sweeps
 pub mod Rows
+pub mod Table
 pub mod Front
 pub mod Factors
 pub mod Scratch

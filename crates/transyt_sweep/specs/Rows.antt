@@ -72,11 +72,19 @@ with_shown rows l arrivals go queue f = record rows {
   figures = slice_set rows.figures l f;
 }
 
+-- the same of a cell
+abbrev pub with_rest : RowsValue → ℕ → CellValue → RowsValue
+with_rest rows l c = with_shown rows l c.arrivals c.go c.queue c.figures
+
 -- the rows with link l at sweep s; at the last sweep all of it is kept
 abbrev pub placed : RowsValue → ℕ → ℕ → CellValue → RowsValue
 placed rows s l c =
     if s == rows.sweeps then with_shown (with_out rows s l c.out) l c.arrivals c.go c.queue c.figures
     else with_out rows s l c.out
+
+-- a cell that changed places with link l at sweep s: what leaves is that of the rows, and at the last sweep all of it
+abbrev pub left_by : RowsValue → ℕ → ℕ → CellValue → CellValue
+left_by rows s l c = if s == rows.sweeps then pair_in rows s l else record c { out = out_at rows s l }
 
 -- the figures with the index that these weights give
 abbrev pub reweighed : Network → ℕ → Figures → Figures

@@ -14,10 +14,10 @@
 mod factors;
 mod inflow;
 mod laws;
-mod row;
 mod rows;
 mod scratch;
 mod sending;
+mod table;
 mod whole;
 mod working;
 

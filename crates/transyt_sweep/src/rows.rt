@@ -4,12 +4,13 @@ ghost use Rattle.std.specs.Prelude.{◌≡◌, ◌+◌, ◌*◌, ◌<◌, ◌≤
 ghost use Rattle.transyt_delay.specs.declared.figures.Figures.{Figures};
 ghost use Rattle.transyt_sweep.specs.Rows.{RowsValue, row, out_at, read_in, pair_place, pair_in, index_in, no_figures};
 ghost use Rattle.transyt_sweep.specs.Rows.{with_out, with_weights, with_figures, with_shown, placed};
+ghost use Rattle.transyt_sweep.specs.Rows.{shown_at, with_rest, left_by};
 ghost use Rattle.transyt_sweep.specs.Rows.{Fits, SameSize, AreRows, AreSmall};
 ghost use Rattle.transyt_sweep.specs.Front.{AreOpened, empty_rows};
 ghost use Rattle.transyt_sweep.specs.Sweeps.{read_at, start};
 
-use crate::row::{fill_row, put_row, row};
 use crate::scratch::Scratch;
+use crate::table::Table;
 use std::alloc::{AllocError, Global};
 use std::marker::Model;
 use transyt_delay::{Figures, weigh};
@@ -24,17 +25,17 @@ use transyt_net::Net;
 pub struct Rows {
     step_count: usize,
     sweeps: u32,
-    outs: Vec<u64>,
-    arrivals: Vec<u64>,
-    go: Vec<u64>,
-    queue: Vec<u64>,
+    outs: Table,
+    arrivals: Table,
+    go: Table,
+    queue: Table,
     figures: Vec<Figures>,
     index: u128,
 }
 
 impl Model for Rows {
-    ghost use Rattle.std.specs.Prelude.{◌≡◌, sum_by};
-    ghost use Rattle.transyt_sweep.specs.Rows.{RowsValue, AreRows, index_in, rows_of};
+    ghost use Rattle.transyt_sweep.specs.Rows.{RowsValue, rows_of};
+    ghost use Rattle.transyt_sweep.specs.Table.{AreKept};
 
     ghost Value = { RowsValue };
 
@@ -42,9 +43,7 @@ impl Model for Rows {
         rows_of r.step_count r.sweeps r.outs.items r.arrivals.items r.go.items r.queue.items r.figures.items };
 
     // the kept index is the sum of the figures' indexes
-    ghost invariant = { λ r.
-        AreRows (rows_of r.step_count r.sweeps r.outs.items r.arrivals.items r.go.items r.queue.items r.figures.items)
-        × (r.index ≡ sum_by (λ f. f.index) r.figures.items) };
+    ghost invariant = { λ r. AreKept r.step_count r.sweeps r.outs r.arrivals r.go r.queue r.figures.items r.index };
 }
 
 /// The sweep at which a link, at a sweep, reads another.
@@ -79,7 +78,7 @@ impl Rows {
         ensures small { All (λ v. v < 2 ^ 30) result.now }
     {
         let place = self.pair_place(sweep, link);
-        row(&self.outs, self.step_count, place)
+        self.outs.row(place)
     }
 
     /// What a link, at a sweep, reads of another: what left that at this sweep where it stands earlier, else at the one
@@ -99,7 +98,7 @@ impl Rows {
         requires sweep { sweep ≤ self.now.sweeps }
         requires link { link < length self.now.figures }
         ensures value { result ≡ pair_place self.now sweep link }
-        ensures room { result * self.now.step_count + self.now.step_count ≤ length self.now.outs }
+        ensures within { result < (self.now.sweeps + 1) * length self.now.figures }
     {
         sweep as usize * self.figures.len() + link
     }
@@ -110,7 +109,7 @@ impl Rows {
         ensures value { result.now ≡ row self.now.step_count self.now.arrivals link }
         ensures steps { length result.now ≡ self.now.step_count }
     {
-        row(&self.arrivals, self.step_count, link)
+        self.arrivals.row(link)
     }
 
     /// What can go of a link at the last sweep, in millionths of a vehicle per step.
@@ -119,7 +118,7 @@ impl Rows {
         ensures value { result.now ≡ row self.now.step_count self.now.go link }
         ensures steps { length result.now ≡ self.now.step_count }
     {
-        row(&self.go, self.step_count, link)
+        self.go.row(link)
     }
 
     /// The queue at the end of each step of the last sweep, in millionths of a vehicle.
@@ -128,7 +127,7 @@ impl Rows {
         ensures value { result.now ≡ row self.now.step_count self.now.queue link }
         ensures steps { length result.now ≡ self.now.step_count }
     {
-        row(&self.queue, self.step_count, link)
+        self.queue.row(link)
     }
 
     /// The figures of a link at the last sweep, in millionths as those of `transyt_delay`.
@@ -173,10 +172,10 @@ impl Rows {
         Ok(Rows {
             step_count,
             sweeps: frame.sweeps,
-            outs: vec![in alloc; 0; (frame.sweeps as usize + 1) * link_count * step_count]?,
-            arrivals: vec![in alloc; 0; link_count * step_count]?,
-            go: vec![in alloc; 0; link_count * step_count]?,
-            queue: vec![in alloc; 0; link_count * step_count]?,
+            outs: Table::empty(alloc, (frame.sweeps as usize + 1) * link_count, step_count)?,
+            arrivals: Table::empty(alloc, link_count, step_count)?,
+            go: Table::empty(alloc, link_count, step_count)?,
+            queue: Table::empty(alloc, link_count, step_count)?,
             figures: vec![in alloc; none; link_count]?,
             index: 0,
         })
@@ -190,7 +189,7 @@ impl Rows {
         ensures kept { AreRows self.old }
     {
         let value = net.per_step(net.total_flow(link));
-        fill_row(&mut self.outs, self.step_count, link, value);
+        self.outs.fill(link, value);
     }
 
     /// Keeps a link at a sweep: what leaves it, and at the last sweep all of it.
@@ -210,6 +209,38 @@ impl Rows {
                 &scratch.queue,
                 scratch.figures,
             );
+        }
+    }
+
+    /// Keeps a link at a sweep as `place` does, and leaves what stood there in `scratch`. Nothing is copied.
+    pub fn put(&mut self, sweep: u32, link: usize, scratch: &mut Scratch)
+        requires last { sweep ≤ self.old.sweeps }
+        requires link { link < length self.old.figures }
+        requires steps { length scratch.old.arrivals ≡ self.old.step_count }
+        ensures value { self.new ≡ placed self.old sweep link scratch.old }
+        ensures left { scratch.new ≡ left_by self.old sweep link scratch.old }
+        ensures left_steps { length scratch.new.arrivals ≡ self.old.step_count }
+        ensures kept { AreRows self.old }
+    {
+        self.exchange_out(sweep, link, &mut scratch.out);
+        if sweep == self.sweeps {
+            self.exchange_shown(link, scratch);
+        }
+    }
+
+    /// These rows and others exchange a link at a sweep: what leaves it, and at the last sweep all of it. Nothing is copied.
+    pub fn exchange(&mut self, sweep: u32, link: usize, other: &mut Rows)
+        requires last { sweep ≤ self.old.sweeps }
+        requires link { link < length self.old.figures }
+        requires size { SameSize self.old other.old }
+        ensures here { self.new ≡ placed self.old sweep link (pair_in other.old sweep link) }
+        ensures there { other.new ≡ placed other.old sweep link (pair_in self.old sweep link) }
+        ensures kept { AreRows self.old }
+        ensures kept_there { AreRows other.old }
+    {
+        self.exchange_outs(sweep, link, other);
+        if sweep == self.sweeps {
+            self.exchange_rest(link, other);
         }
     }
 
@@ -261,7 +292,7 @@ impl Rows {
         ensures kept { AreRows self.old }
     {
         let place = self.pair_place(sweep, link);
-        put_row(&mut self.outs, place, values);
+        self.outs.put(place, values);
     }
 
     /// Keeps the rest of a link at the last sweep.
@@ -273,9 +304,9 @@ impl Rows {
         requires figures { AreSmall figures }
         ensures { self.new ≡ with_shown self.old link arrivals.now go.now queue.now figures }
     {
-        put_row(&mut self.arrivals, link, arrivals);
-        put_row(&mut self.go, link, go);
-        put_row(&mut self.queue, link, queue);
+        self.arrivals.put(link, arrivals);
+        self.go.put(link, go);
+        self.queue.put(link, queue);
         self.put_figures(link, figures);
     }
 
@@ -288,5 +319,65 @@ impl Rows {
         let index = self.index - self.figures[link].index + figures.index;
         self.figures[link] = figures;
         self.index = index;
+    }
+
+    /// What leaves a link at a sweep and this row change places.
+    fn exchange_out(&mut self, sweep: u32, link: usize, row: &mut Vec<u64>)
+        requires last { sweep ≤ self.old.sweeps }
+        requires link { link < length self.old.figures }
+        requires steps { length row.old.items ≡ self.old.step_count }
+        requires small { All (λ v. v < 2 ^ 30) row.old.items }
+        ensures value { self.new ≡ with_out self.old sweep link row.old.items }
+        ensures left { row.new.items ≡ out_at self.old sweep link }
+        ensures left_steps { length row.new.items ≡ self.old.step_count }
+        ensures left_small { All (λ v. v < 2 ^ 30) row.new.items }
+        ensures kept { AreRows self.old }
+    {
+        let place = self.pair_place(sweep, link);
+        self.outs.exchange(place, row);
+    }
+
+    /// The rest of a link at the last sweep and that in `scratch` change places.
+    fn exchange_shown(&mut self, link: usize, scratch: &mut Scratch)
+        requires link { link < length self.old.figures }
+        requires steps { length scratch.old.arrivals ≡ self.old.step_count }
+        ensures value { self.new ≡ with_rest self.old link scratch.old }
+        ensures left { scratch.new ≡ record (shown_at self.old link) { out = scratch.old.out } }
+    {
+        let figures = self.figures(link);
+        self.arrivals.exchange(link, &mut scratch.arrivals);
+        self.go.exchange(link, &mut scratch.go);
+        self.queue.exchange(link, &mut scratch.queue);
+        self.put_figures(link, scratch.figures);
+        scratch.figures = figures;
+    }
+
+    /// What leaves a link at a sweep in these rows and in others changes places.
+    fn exchange_outs(&mut self, sweep: u32, link: usize, other: &mut Rows)
+        requires last { sweep ≤ self.old.sweeps }
+        requires link { link < length self.old.figures }
+        requires size { SameSize self.old other.old }
+        ensures here { self.new ≡ with_out self.old sweep link (out_at other.old sweep link) }
+        ensures there { other.new ≡ with_out other.old sweep link (out_at self.old sweep link) }
+        ensures kept { AreRows self.old }
+        ensures kept_there { AreRows other.old }
+    {
+        let place = self.pair_place(sweep, link);
+        self.outs.exchange_with(place, &mut other.outs);
+    }
+
+    /// The rest of a link at the last sweep in these rows and in others changes places.
+    fn exchange_rest(&mut self, link: usize, other: &mut Rows)
+        requires link { link < length self.old.figures }
+        requires size { SameSize self.old other.old }
+        ensures here { self.new ≡ with_rest self.old link (shown_at other.old link) }
+        ensures there { other.new ≡ with_rest other.old link (shown_at self.old link) }
+    {
+        let figures = self.figures(link);
+        self.arrivals.exchange_with(link, &mut other.arrivals);
+        self.go.exchange_with(link, &mut other.go);
+        self.queue.exchange_with(link, &mut other.queue);
+        self.put_figures(link, other.figures(link));
+        other.put_figures(link, figures);
     }
 }
