@@ -1,6 +1,6 @@
 //! What reaches the stop line of what comes to it.
 
-ghost use Rattle.std.specs.Prelude.{◌≡◌, ℕ, ◌^◌, ◌*◌, ◌<◌, ◌≤◌, MatchBool, length, sum, slice_index, All};
+ghost use Rattle.std.specs.Prelude.{◌≡◌, ℕ, ◌^◌, ◌*◌, ◌<◌, ◌≤◌, ◌↔◌, IsTrue, MatchBool, length, sum, slice_index, All};
 ghost use Rattle.transyt_stopline.specs.Cut.{arrivals_of, scaled};
 
 use transyt_num::{divided_near, mul_div};
@@ -28,38 +28,21 @@ pub fn cut_arrivals(x: &[u64], go: &[u64], out: &mut [u64])
     }
 }
 
-/// What reaches the stop line of what comes to it, without a copy where all of it arrives.
+/// Writes what reaches the stop line only where more comes than the green lets pass, and says whether it does. Else all
+/// that comes arrives, and nobody need copy it: `out` then holds nothing of use.
 ///
-/// The slices and the rule are those of `cut_arrivals`. Where nothing is cut the result is `x` itself, and `out` isn't
-/// read or written; else it is `out`.
-#[tactic(auto, using(crate::proofs::CutLaws::arrivals_total, crate::proofs::CutLaws::arrivals_no_more, crate::proofs::CutLaws::arrivals_small))]
-pub fn reaching<'a>(x: &'a [u64], go: &[u64], out: &'a mut [u64]) -> &'a [u64]
+/// The slices and the rule are those of `cut_arrivals`.
+#[tactic(auto, using(crate::proofs::CutLaws::arrivals_total, crate::proofs::CutLaws::arrivals_small))]
+pub fn cut(x: &[u64], go: &[u64], out: &mut [u64]) -> bool
     requires most { length x.now ≤ 120 }
     requires go_len { length go.now ≡ length x.now }
     requires out_len { length out.old ≡ length x.now }
     requires fit { All (λ v. v < 2 ^ 48) x.now }
     requires go_fit { All (λ v. v < 2 ^ 30) go.now }
-    ensures cut { result.now ≡ arrivals_of x.now go.now }
-    ensures len { length result.now ≡ length x.now }
-    ensures total { sum result.now ≤ sum go.now }
-    ensures no_more { (i : ℕ) → slice_index result.now i ≤ slice_index x.now i }
-    ensures small { All (λ v. v < 2 ^ 48) result.now }
-{
-    if cut(x, go, out) {
-        return out;
-    }
-    x
-}
-
-/// Writes what reaches the stop line where more comes than the green lets pass, and says whether it does. Else all of
-/// it arrives, and `out` is left as it was.
-fn cut(x: &[u64], go: &[u64], out: &mut [u64]) -> bool
-    requires most { length x.now ≤ 120 }
-    requires go_len { length go.now ≡ length x.now }
-    requires out_len { length out.old ≡ length x.now }
-    requires fit { All (λ v. v < 2 ^ 48) x.now }
-    requires go_fit { All (λ v. v < 2 ^ 30) go.now }
-    ensures { MatchBool result (out.new ≡ arrivals_of x.now go.now) (x.now ≡ arrivals_of x.now go.now) }
+    ensures more { IsTrue result ↔ sum go.now < sum x.now }
+    ensures cut { MatchBool result (out.new ≡ arrivals_of x.now go.now) (x.now ≡ arrivals_of x.now go.now) }
+    ensures total { sum (arrivals_of x.now go.now) ≤ sum go.now }
+    ensures small { All (λ v. v < 2 ^ 48) (arrivals_of x.now go.now) }
 {
     let come = total(x);
     let served = total(go);

@@ -14,7 +14,7 @@ mod laws;
 mod queueing;
 mod stops;
 
-pub use cutting::{cut_arrivals, reaching};
+pub use cutting::{cut, cut_arrivals};
 pub use laws::{one_queue, worked_cycles};
 pub use queueing::queue;
 pub use stops::stopped;

@@ -94,17 +94,13 @@ fn cycles_worked_out_by_hand(rt: HostRuntime) {
         cut_arrivals(&cycle.come, &cycle.go, &mut arrivals);
         assert_eq!(rt; arrivals, cycle.arrivals);
         let mut room = [1u64; 10];
-        assert_eq!(rt;
-            reaching(&cycle.come, &cycle.go, &mut room),
-            cycle.arrivals.as_slice()
-        );
         // the room is written only where something is cut
-        let written = if cycle.come == cycle.arrivals {
-            [1u64; 10]
+        if cut(&cycle.come, &cycle.go, &mut room) {
+            assert_eq!(rt; room, cycle.arrivals);
         } else {
-            cycle.arrivals
-        };
-        assert_eq!(rt; room, written);
+            assert_eq!(rt; cycle.come, cycle.arrivals);
+            assert_eq!(rt; room, [1u64; 10]);
+        }
         queue(&arrivals, &cycle.go, &mut waiting, &mut out);
         assert_eq!(rt; waiting, cycle.queue);
         assert_eq!(rt; out, cycle.out);
