@@ -3,6 +3,7 @@ pub mod RowLaws
 pub mod PairLaws
 pub mod TableLaws
 pub mod FactorLaws
+pub mod FeederLaws
 pub mod InflowLaws
 pub mod IndexLaws
 pub mod KeptLaws

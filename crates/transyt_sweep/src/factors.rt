@@ -14,9 +14,11 @@ use transyt_profile::{Part, part_of};
 /// A feed's part of what leaves its feeder, and how its platoon travels: what is worked out of a feed's numbers once.
 ///
 /// It is right for the numbers that stand in it, whatever the network: the flow and its whole in `part`, the dispersion
-/// in `travel`, the cruise time and the cycle.
+/// in `travel`, the cruise time and the cycle. The feeder's place is only where to look first.
 #[derive(Clone, Copy)]
 pub(crate) struct Factors {
+    /// The place at which the feeder was found.
+    pub(crate) feeder: usize,
     /// The cruise time, in seconds.
     cruise: u32,
     /// The cycle, in seconds.
@@ -40,14 +42,15 @@ fn travel(net: &Net, feed: Feed) -> Travel
     travel_of(time, frame.dispersion, frame.step_count as usize)
 }
 
-/// The factors of a feed, of whose feeder `whole` vehicles per hour leave.
-pub(crate) fn factors_of(net: &Net, feed: Feed, whole: u32) -> Factors
+/// The factors of a feed whose feeder is at a place; `whole` vehicles per hour leave that.
+pub(crate) fn factors_of(net: &Net, feed: Feed, feeder: usize, whole: u32) -> Factors
     requires flow { feed.flow ≤ 9999 }
     requires cruise { feed.cruise ≤ 300 }
     ensures are { AreFactors net.now.frame.step_count result }
     ensures serve { Serve net.now.frame feed whole result }
 {
     Factors {
+        feeder,
         cruise: feed.cruise,
         cycle: net.frame().cycle,
         part: part_of(feed.flow, whole),
@@ -55,24 +58,26 @@ pub(crate) fn factors_of(net: &Net, feed: Feed, whole: u32) -> Factors
     }
 }
 
-/// Whether the numbers that factors name are a feed's.
+/// Whether the numbers that factors name are a feed's, and the place its feeder's.
 #[tactic(auto, using(crate::proofs::FactorLaws::serves))]
-fn serve(factors: &Factors, frame: Frame, feed: Feed, whole: u32) -> bool
+fn serve(factors: &Factors, frame: Frame, feed: Feed, feeder: usize, whole: u32) -> bool
     requires { AreFactors frame.step_count factors.now }
     ensures { IsTrue result → Serve frame feed whole factors.now }
 {
-    factors.part.part == feed.flow
+    factors.feeder == feeder
+        && factors.part.part == feed.flow
         && factors.part.whole == whole
         && factors.cruise == feed.cruise
         && factors.cycle == frame.cycle
         && factors.travel.percent == frame.dispersion
 }
 
-/// The factors of a feed: those that are kept at a place where they name its numbers, else worked out anew and kept
-/// there. Past the last place nothing is kept.
+/// The factors of a feed: those that are kept at a place where they name its numbers and its feeder's place, else
+/// worked out anew and kept there. Past the last place nothing is kept.
 pub(crate) fn factors_at(
     net: &Net,
     feed: Feed,
+    feeder: usize,
     whole: u32,
     place: usize,
     kept: &mut [Factors],
@@ -85,10 +90,10 @@ pub(crate) fn factors_at(
     ensures kept { All (AreFactors net.now.frame.step_count) kept.new }
 {
     if place >= kept.len() {
-        return factors_of(net, feed, whole);
+        return factors_of(net, feed, feeder, whole);
     }
-    if !serve(&kept[place], net.frame(), feed, whole) {
-        kept[place] = factors_of(net, feed, whole);
+    if !serve(&kept[place], net.frame(), feed, feeder, whole) {
+        kept[place] = factors_of(net, feed, feeder, whole);
     }
     kept[place]
 }

@@ -72,7 +72,7 @@ impl Scratch {
             },
             room: vec![in alloc; 0; 12 * step_count]?,
             reaching: vec![in alloc; 0; step_count]?,
-            factors: vec![in alloc; factors_of(net, none, 0); 8 * net.links().len()]?,
+            factors: vec![in alloc; factors_of(net, none, 0, 0); 8 * net.links().len()]?,
         })
     }
 

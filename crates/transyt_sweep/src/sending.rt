@@ -1,6 +1,6 @@
 //! What a feed's feeder sends on to a link.
 
-ghost use Rattle.std.specs.Prelude.{◌≡◌, ◌*◌, ◌^◌, ◌<◌, ◌≤◌, ℕ, length, sum, slice_index, All};
+ghost use Rattle.std.specs.Prelude.{◌≡◌, ◌*◌, ◌^◌, ◌<◌, ◌≤◌, ℕ, length, sum, slice_index, All, IsTrue};
 ghost use Rattle.transyt_parts.specs.declared.link.Feed.{Feed};
 ghost use Rattle.transyt_net.specs.Valid.{link_place};
 ghost use Rattle.transyt_platoon.specs.Platoon.{travel_steps};
@@ -25,6 +25,33 @@ pub(crate) fn link_place(net: &Net, number: u32) -> usize
         Some(place) => place,
         None => 0,
     }
+}
+
+/// The place of a feeder: the one that is kept at a place, where that is its, else looked up.
+#[tactic(auto, using(crate::proofs::FeederLaws::place_of_number))]
+fn feeder_place(net: &Net, feeder: u32, place: usize, kept: &[Factors]) -> usize
+    requires { 0 < length net.now.links }
+    ensures value { result ≡ link_place net.now feeder }
+    ensures below { result < length net.now.links }
+{
+    if place < kept.len() && is_at(net, kept[place].feeder, feeder) {
+        kept[place].feeder
+    } else {
+        link_place(net, feeder)
+    }
+}
+
+/// Whether the link of a number is at a place.
+#[tactic(auto, using(crate::proofs::FeederLaws::place_of_number))]
+fn is_at(net: &Net, place: usize, number: u32) -> bool
+    ensures below { IsTrue result → place < length net.now.links }
+    ensures place { IsTrue result → link_place net.now number ≡ place }
+{
+    if place >= net.links().len() {
+        return false;
+    }
+    let link = net.link(place);
+    link.number == number
 }
 
 /// The departures that a link, at a sweep, reads for a feed, and the feed's part of them in `shared`.
@@ -91,13 +118,14 @@ pub(crate) fn send_feed(
     ensures kept { All (AreFactors net.now.frame.step_count) kept.new }
 {
     net.frame();
-    let feeder = link_place(net, feed.feeder);
-    let factors = factors_at(net, feed, net.total_flow(feeder), place, kept);
+    let feeder = feeder_place(net, feed.feeder, place, kept);
+    let factors = factors_at(net, feed, feeder, net.total_flow(feeder), place, kept);
     let leaving = rows.read(sweep, link, feeder);
     let extent = share_ready(
         leaving,
         &factors.part,
         factors.travel.starting_factor,
+        factors.travel.limit,
         shared,
         ready,
     );
