@@ -4,7 +4,7 @@ use Rattle.std.specs.Borrow.{Bor}
 use Rattle.transyt_platoon.specs.declared.travel.Travel.{Travel}
 use Rattle.transyt_platoon.specs.declared.platoon.Platoon.{Platoon}
 
--- 100 and the weight are a power of 2, so that the limit has no room to spare, and the reciprocal is exact
+-- 100 and the weight come to 2^10, so that the limit leaves no room to spare, and the reciprocal is exact
 abbrev pub exact : Travel
 exact = record {
   time = 77;
@@ -17,7 +17,8 @@ exact = record {
   place = 5;
 }
 
--- the greatest limit; 100 and the weight divide 2^40 - 1, so that the reciprocal is as far above as can be
+-- the greatest limit; 100 and the weight come to 451, a divisor of 2^40 - 1, so that the reciprocal is as far above
+-- as can be
 abbrev pub far : Travel
 far = record {
   time = 27;
