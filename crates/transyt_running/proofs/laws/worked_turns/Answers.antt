@@ -1,8 +1,6 @@
 use Rattle.std.proofs.Common.{[], ◌∷◌, codes, refl, arith, rules}
 use Rattle.std.proofs.lemmas.List.{append-nil}
 use Rattle.transyt_running.specs.WorkedOutcomes.{two_lines, two_so_far}
-use Rattle.transyt_running.proofs.SoFar.{so_far_none}
-use Rattle.transyt_running.specs.WorkedRuns.{echo}
 use Rattle.transyt_running.proofs.laws.worked_turns.Goals as goal
 
 pub returns-clause-so_far_text : goal.returns-clause-so_far_text
@@ -43,7 +41,7 @@ returns-clause-way_most c bytes size = record {
   live = refl;
   most = omega arith;
   adds = refl;
-  so_far = so_far_none echo 7;
+  so_far = record { texts = λ more. refl; endings = λ more. refl; costs = λ more. refl };
   counted_all = λ _. refl;
   written_then = tt;
   answered = refl;
