@@ -1,6 +1,6 @@
 -- Rows of n values each, one after another: a row of them, and one of them set; and so the rows of a table.
-use Rattle.std.proofs.Common.{◌≡◌, ℕ, suc, ◌+◌, ◌-◌, ◌*◌, ◌<◌, ◌≤◌, List, [], ◌∷◌, length, take, drop, ◌++◌, get_or, set}
-use Rattle.std.proofs.Common.{All, flat_map, replicate, refl, ap, sym, ◌∙◌, arith, length-append, add-one}
+use Rattle.std.proofs.Common.{◌≡◌, ℕ, suc, ◌+◌, ◌-◌, ◌*◌, ◌<◌, List, [], ◌∷◌, length, take, drop, ◌++◌, get_or, set}
+use Rattle.std.proofs.Common.{All, flat_map, replicate, ap, sym, ◌∙◌, arith, length-append, add-one}
 use Rattle.std.proofs.Common.{append-nil, Vec, Global}
 use Rattle.std.proofs.lemmas.List.{take_at, drop_at, drop_more, set_split, take-append-drop, length-take-le, length-set}
 use Rattle.std.proofs.lemmas.List.{replicate-append-replicate}

@@ -228,7 +228,8 @@ impl Rows {
         }
     }
 
-    /// These rows and others exchange a link at a sweep: what leaves it, and at the last sweep all of it. Nothing is copied.
+    /// These rows and others exchange a link at a sweep: what leaves it, and at the last sweep all of it. Nothing is
+    /// copied.
     pub fn exchange(&mut self, sweep: u32, link: usize, other: &mut Rows)
         requires last { sweep ≤ self.old.sweeps }
         requires link { link < length self.old.figures }

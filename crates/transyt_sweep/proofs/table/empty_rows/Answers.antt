@@ -1,8 +1,7 @@
 -- One row of 0 more.
-use Rattle.std.proofs.Common.{◌≡◌, length, replicate, ap, ◌∙◌, subst, sym, arith, rules, ℕ, List, Vec, Global}
+use Rattle.std.proofs.Common.{◌≡◌, length, replicate, ap, ◌∙◌, arith, rules, ℕ, Vec, Global}
 use Rattle.std.proofs.lemmas.List.{length-replicate, length_push}
 use Rattle.std.proofs.lemmas.List.Elements.{All-push}
-use Rattle.transyt_sweep.specs.Table.{HaveSteps, values_in}
 use Rattle.transyt_sweep.proofs.TableLaws.{zeros_more}
 use Rattle.transyt_sweep.proofs.table.empty_rows.Goals as goal
 

@@ -1,6 +1,6 @@
 -- Each rows have the other's row, of values that are small.
-use Rattle.std.proofs.Common.{◌≡◌, ◌<◌, ◌≤◌, ◌+◌, ◌*◌, ℕ, length, ap, sym, refl, ◌∙◌, arith}
-use Rattle.transyt_sweep.specs.Rows.{RowsValue, row, pair_place, out_at}
+use Rattle.std.proofs.Common.{◌≡◌, ◌<◌, ◌≤◌, ◌+◌, ◌*◌, length, ap, sym, refl, ◌∙◌, arith}
+use Rattle.transyt_sweep.specs.Rows.{RowsValue, row, out_at}
 use Rattle.transyt_sweep.specs.Table.{with_row}
 use Rattle.transyt_sweep.proofs.KeptLaws.{kept_at, seen_steps, seen_small, taken_out}
 use Rattle.transyt_sweep.proofs.rows.Rows.exchange_outs.Goals as goal

@@ -1,9 +1,9 @@
 -- One row is written, of values that are small.
-use Rattle.std.proofs.Common.{◌≡◌, ◌<◌, ◌^◌, ℕ, List, length, All, sym, ap, ◌∙◌, arith}
+use Rattle.std.proofs.Common.{◌<◌, ◌^◌, ℕ, List, length, All, sym, ap, ◌∙◌, arith}
 use Rattle.std.proofs.lemmas.List.{length-replicate}
 use Rattle.std.proofs.lemmas.List.Elements.{All-replicate}
 use Rattle.transyt_profile.specs.Profile.{uniform}
-use Rattle.transyt_sweep.specs.Rows.{RowsValue, rows_of}
+use Rattle.transyt_sweep.specs.Rows.{RowsValue}
 use Rattle.transyt_sweep.specs.Table.{with_row}
 use Rattle.transyt_sweep.proofs.PairLaws.{first_place}
 use Rattle.transyt_sweep.proofs.KeptLaws.{kept_out}

@@ -1,5 +1,5 @@
 -- The two rows have changed places.
-use Rattle.std.proofs.Common.{length, ap, sym, ◌∙◌, Vec, Global, ℕ}
+use Rattle.std.proofs.Common.{length, ap, ◌∙◌, Vec, Global, ℕ}
 use Rattle.transyt_sweep.proofs.TableLaws.{row_read, row_written, read_steps, written_steps}
 use Rattle.transyt_sweep.proofs.table.Table.exchange.Goals as goal
 

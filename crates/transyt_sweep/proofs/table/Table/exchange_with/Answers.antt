@@ -1,7 +1,7 @@
 -- Each table has the other's row.
-use Rattle.std.proofs.Common.{◌≡◌, ◌<◌, ◌≤◌, ℕ, length, ap, sym, ◌∙◌, arith, Vec, Global}
+use Rattle.std.proofs.Common.{◌<◌, ℕ, ap, ◌∙◌, arith, Vec, Global}
 use Rattle.transyt_sweep.specs.Rows.{row}
-use Rattle.transyt_sweep.proofs.TableLaws.{row_read, row_written, read_steps, written_steps}
+use Rattle.transyt_sweep.proofs.TableLaws.{row_read, row_written}
 use Rattle.transyt_sweep.proofs.table.Table.exchange_with.Goals as goal
 
 pub returns-clause-here : goal.returns-clause-here
