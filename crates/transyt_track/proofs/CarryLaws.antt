@@ -1,21 +1,28 @@
 -- Rows that are written over or weighed: what the saved rows lead back to stays.
-use Rattle.std.proofs.Common.{◌≡◌, ℕ, ◌-◌, ◌<◌, ◌≤◌, Bool, true, false, List, length}
+use Rattle.std.proofs.Common.{◌≡◌, ℕ, ◌+◌, ◌-◌, ◌*◌, ◌<◌, ◌≤◌, Bool, true, false, not, ◌&&◌, List, length, set}
 use Rattle.std.proofs.Common.{refl, ap, sym, ◌∙◌, arith}
 use Rattle.std.proofs.Common.{◌==◌, ◌⊎◌, inl, inr, if◌then◌else◌}
 use Rattle.std.proofs.lemmas.Bool.{cases_eq}
 use Rattle.std.proofs.lemmas.List.{length-set}
 use Rattle.transyt_net.specs.Parts.{Network}
 use Rattle.transyt_sweep.specs.Cell.{CellValue, HasSteps}
-use Rattle.transyt_sweep.specs.Rows.{RowsValue, out_at, shown_at, placed, with_out}
+use Rattle.transyt_sweep.specs.Rows.{RowsValue, out_at, shown_at, placed, with_out, left_by}
 use Rattle.transyt_sweep.specs.Rows.{with_weights, reweighed, Fits, AreRows}
 use Rattle.transyt_sweep.proofs.PairLaws.{out_elsewhere}
-use Rattle.transyt_track.specs.Saved.{SavedValue, is_saved, saved_at, LeadBack, FitsRows}
+use Rattle.transyt_track.specs.Saved.{SavedValue, is_saved, saved_at, kept_at, LeadBack, FitsRows}
 use Rattle.transyt_track.specs.Saved.{Carries, AreSaved}
 use Rattle.transyt_track.specs.Front.{left_at, unweighed}
-use Rattle.transyt_track.proofs.PlacedLaws.{placed_elsewhere, placed_stays, placed_size}
+use Rattle.transyt_track.proofs.PlacedLaws.{placed_elsewhere, placed_stays, placed_size, placed_left}
 use Rattle.transyt_track.proofs.PlacedLaws.{shown_with_out, figures_out, figures_size, figures_here}
 use Rattle.transyt_track.proofs.PlacedLaws.{figures_elsewhere}
 use Rattle.transyt_track.proofs.SavedLaws.{carries_same, carries_moved}
+
+-- the saved rows become these, if a mark is open and none of a pair is saved
+abbrev put_at : SavedValue → ℕ → ℕ → RowsValue → SavedValue
+put_at saved s l rows =
+    if saved.live && not (is_saved saved s l)
+    then record saved { flags = set saved.flags (s * saved.link_count + l) true; rows = rows }
+    else saved
 
 module _ (rows : RowsValue) (saved : SavedValue) (fits : FitsRows rows saved) (kept : AreRows rows)
     (saved_kept : AreRows saved.rows) (room : AreSaved saved.link_count saved.flags saved.rows) (s l : ℕ)
@@ -34,6 +41,12 @@ module _ (rows : RowsValue) (saved : SavedValue) (fits : FitsRows rows saved) (k
       carries_moved rows saved fits kept saved_kept room s l swept inside (with_out rows s l x)
       (record { step_count = refl; sweeps = refl; link_count = refl })
       (out_elsewhere rows kept s l x swept inside long) (shown_with_out rows kept s l x swept inside long)
+
+-- what is kept of a cell that changed places with a pair of rows is what is saved of the pair
+pub kept_left : (saved : SavedValue) (rows : RowsValue) (s l : ℕ) (c : CellValue) → FitsRows rows saved
+    → kept_at saved s l (left_by rows s l c) ≡ saved_at saved rows s l
+kept_left saved rows s l c fits =
+    ap (put_at saved s l) (placed_left saved.rows rows s l c fits.size.sweeps)
 
 -- a link is weighed anew
 pub carries_weighed : (net : Network) (rows : RowsValue) (saved : SavedValue) → FitsRows rows saved → (l : ℕ)

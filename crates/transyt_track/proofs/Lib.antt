@@ -13,5 +13,6 @@ pub mod StartLaws
 pub mod SavedLaws
 pub mod CarryLaws
 pub mod BackLaws
+pub mod ReturnLaws
 pub mod TrackLaws
 pub mod RuleLaws

@@ -9,6 +9,7 @@ use Rattle.std.proofs.lemmas.Grind.{get_or-set_at}
 use Rattle.transyt_delay.specs.declared.figures.Figures.{Figures}
 use Rattle.transyt_sweep.specs.Cell.{CellValue, HasSteps}
 use Rattle.transyt_sweep.specs.Rows.{RowsValue, row, out_at, shown_at, with_out, with_figures, with_shown, placed}
+use Rattle.transyt_sweep.specs.Rows.{pair_in, left_by}
 use Rattle.transyt_sweep.specs.Rows.{no_figures}
 use Rattle.transyt_sweep.specs.Rows.{SameSize, AreRows}
 use Rattle.transyt_sweep.proofs.PairLaws.{out_here, out_elsewhere}
@@ -32,6 +33,21 @@ all_of_size rows s l c false = record { step_count = refl; sweeps = refl; link_c
 -- the rows have the same size
 pub placed_size : (rows : RowsValue) (s l : ℕ) (c : CellValue) → SameSize (placed rows s l c) rows
 placed_size rows s l c = all_of_size rows s l c (s == rows.sweeps)
+
+-- what a cell that changed places with a pair of rows has of it is enough to place the pair in others
+pub placed_left : (to rows : RowsValue) (s l : ℕ) (c : CellValue) → to.sweeps ≡ rows.sweeps
+    → placed to s l (left_by rows s l c) ≡ placed to s l (pair_in rows s l)
+placed_left to rows s l c same =
+    let test : (s == to.sweeps) ≡ (s == rows.sweeps) = ap (λ n. s == n) same in
+    ap (all_of to s l (left_by rows s l c)) test
+    ∙ by (s == rows.sweeps)
+    ∙ sym (ap (all_of to s l (pair_in rows s l)) test)
+  where
+    by : (b : Bool)
+        → all_of to s l (if b then pair_in rows s l else record c { out = out_at rows s l }) b
+        ≡ all_of to s l (pair_in rows s l) b
+    by true = refl
+    by false = refl
 
 module _ (rows : RowsValue) (kept : AreRows rows) (s l : ℕ) (c : CellValue) (swept : s ≤ rows.sweeps)
     (inside : l < length rows.figures) (long : HasSteps rows.step_count c) where

@@ -1,15 +1,16 @@
 -- Saved rows: each write keeps what they lead back to.
-use Rattle.std.proofs.Common.{◌≡◌, ℕ, ◌+◌, ◌-◌, ◌*◌, ◌<◌, ◌≤◌, Bool, true, false, not, ◌&&◌, List, length, set, drop}
+use Rattle.std.proofs.Common.{◌≡◌, ℕ, ◌+◌, ◌-◌, ◌*◌, ◌<◌, ◌≤◌, Bool, true, false, not, ◌&&◌, length, set}
 use Rattle.std.proofs.Common.{refl, ap, sym, subst, ◌∙◌, arith}
-use Rattle.std.proofs.Common.{◌⊎◌, inl, inr, if◌then◌else◌, length-drop}
+use Rattle.std.proofs.Common.{◌⊎◌, inl, inr, if◌then◌else◌}
 use Rattle.std.proofs.lemmas.Bool.{cases_eq}
-use Rattle.std.proofs.lemmas.List.{length-take-le, get_or-set_other}
+use Rattle.std.proofs.lemmas.List.{get_or-set_other}
 use Rattle.std.proofs.lemmas.Grind.{get_or-set_at}
 use Rattle.std.proofs.Math.Nat.{mul-le-mul_right}
 use Rattle.transyt_sweep.specs.Cell.{HasSteps}
-use Rattle.transyt_sweep.specs.Rows.{RowsValue, row, out_at, shown_at, pair_in, pair_place, placed}
+use Rattle.transyt_sweep.specs.Rows.{RowsValue, out_at, shown_at, pair_in, pair_place, placed}
 use Rattle.transyt_sweep.specs.Rows.{SameSize, AreRows}
 use Rattle.transyt_sweep.proofs.PairLaws.{pair_room, pairs_apart}
+use Rattle.transyt_sweep.proofs.RowLaws.{length-row}
 use Rattle.transyt_track.specs.Saved.{SavedValue, is_saved, saved_at, old_out, old_shown, FitsRows}
 use Rattle.transyt_track.specs.Saved.{Carries, AreSaved}
 use Rattle.transyt_track.specs.Front.{unweighed}
@@ -23,11 +24,6 @@ pair_cases t k s l = by (cases_eq t s) (cases_eq k l)
     by (inl sweep) (inl link) = inl (sweep, link)
     by (inl sweep) (inr other) = inr (λ _ e. other e)
     by (inr other) _ = inr (λ e _. other e)
-
-length-row : (n : ℕ) (rows : List ℕ) (p : ℕ) → p * n + n ≤ length rows → length (row n rows p) ≡ n
-length-row n rows p room =
-    let width : p * n + n - p * n ≡ n = omega arith in
-    length-take-le (p * n + n - p * n) (drop (p * n) rows) (omega (arith, length-drop (p * n) rows)) ∙ width
 
 shown_room : (links l n : ℕ) → l < links → l * n + n ≤ links * n
 shown_room links l n inside = omega (arith, mul-le-mul_right {m = l + 1} {n = links} n (omega arith))

@@ -13,7 +13,7 @@ use Rattle.transyt_sweep.specs.Rows.{RowsValue, Fits, out_at, shown_at}
 use Rattle.transyt_sweep.specs.Front.{AreEvaluation}
 use Rattle.transyt_track.specs.Own.{PlacesValue, ArePlaces, all_places}
 use Rattle.transyt_track.specs.Front.{unweighed}
-use Rattle.transyt_track.specs.Saved.{SavedValue, is_saved, begun, settled, Carries}
+use Rattle.transyt_track.specs.Saved.{SavedValue, is_saved, begun, settled, Carries, SaveAlike}
 use Rattle.transyt_track.specs.Tracker.{mark_of, IsTracking}
 use Rattle.transyt_track.proofs.ShapeLaws.{shape_frame, shape_count, shape_table}
 use Rattle.transyt_track.proofs.PlaceLaws.{all_places_are}
@@ -119,9 +119,9 @@ module _ (net marked : Network) (rows : RowsValue) (saved : SavedValue) (places 
   }
 
   -- the rows have gone back to the marked network
-  pub restored_tracks : (rows1 : RowsValue) → AreEvaluation marked rows1
-      → IsTracking marked net rows1 (settled saved) places own_changed changed scratch
-  restored_tracks rows1 evaluation =
+  pub restored_tracks : (rows1 : RowsValue) → AreEvaluation marked rows1 → (saved1 : SavedValue)
+      → SaveAlike saved1 saved → IsTracking marked net rows1 (settled saved1) places own_changed changed scratch
+  restored_tracks rows1 evaluation saved1 alike =
       let frame = shape_frame net marked tracking.shape in
       let count = shape_count net marked tracking.shape in
       record {
@@ -129,14 +129,17 @@ module _ (net marked : Network) (rows : RowsValue) (saved : SavedValue) (places 
         evaluation = evaluation;
         fits = record {
           size = record {
-            step_count = tracking.fits.size.step_count ∙ tracking.evaluation.fits.step_count
+            step_count = alike.size.step_count ∙ tracking.fits.size.step_count ∙ tracking.evaluation.fits.step_count
                 ∙ ap (λ (f : Frame). f.step_count) frame ∙ sym evaluation.fits.step_count;
-            sweeps = tracking.fits.size.sweeps ∙ tracking.evaluation.fits.sweeps ∙ ap (λ (f : Frame). f.sweeps) frame
+            sweeps = alike.size.sweeps ∙ tracking.fits.size.sweeps ∙ tracking.evaluation.fits.sweeps
+                ∙ ap (λ (f : Frame). f.sweeps) frame
                 ∙ sym evaluation.fits.sweeps;
-            link_count = tracking.fits.size.link_count ∙ tracking.evaluation.fits.link_count ∙ count
+            link_count = alike.size.link_count ∙ tracking.fits.size.link_count ∙ tracking.evaluation.fits.link_count
+                ∙ count
                 ∙ sym evaluation.fits.link_count;
           };
-          links = tracking.fits.links ∙ tracking.evaluation.fits.link_count ∙ count ∙ sym evaluation.fits.link_count;
+          links = alike.link_count ∙ tracking.fits.links ∙ tracking.evaluation.fits.link_count ∙ count
+              ∙ sym evaluation.fits.link_count;
         };
         back = record { outs = λ live t k within there. absurd (cc); shown = λ live k there. absurd (cc) };
         table = shape_table net marked tracking.shape places tracking.table;

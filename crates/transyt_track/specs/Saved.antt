@@ -4,6 +4,7 @@ use Rattle.std.specs.Prelude.{slice_index_or, slice_set, replicate}
 use Rattle.transyt_net.specs.Parts.{Network}
 use Rattle.transyt_sweep.specs.Cell.{CellValue}
 use Rattle.transyt_sweep.specs.Sweeps.{out_of, evaluated}
+use Rattle.transyt_sweep.specs.Front.{is_before}
 use Rattle.transyt_track.specs.Front.{unweighed}
 use Rattle.transyt_sweep.specs.Rows.{RowsValue, SameSize, out_at, shown_at, pair_in, placed}
 
@@ -19,15 +20,19 @@ pub record SavedValue : Type 0 where
 abbrev pub is_saved : SavedValue → ℕ → ℕ → Bool
 is_saved saved sweep link = slice_index_or saved.flags (sweep * saved.link_count + link) false
 
--- the saved rows with that of a link at a sweep, if a mark is open and none is saved
-abbrev pub saved_at : SavedValue → RowsValue → ℕ → ℕ → SavedValue
-saved_at saved rows sweep link =
+-- the saved rows with this as that of a link at a sweep, if a mark is open and none is saved
+abbrev pub kept_at : SavedValue → ℕ → ℕ → CellValue → SavedValue
+kept_at saved sweep link cell =
     if saved.live && not (is_saved saved sweep link)
     then record saved {
       flags = slice_set saved.flags (sweep * saved.link_count + link) true;
-      rows = placed saved.rows sweep link (pair_in rows sweep link);
+      rows = placed saved.rows sweep link cell;
     }
     else saved
+
+-- the saved rows with that of a link at a sweep, if a mark is open and none is saved
+abbrev pub saved_at : SavedValue → RowsValue → ℕ → ℕ → SavedValue
+saved_at saved rows sweep link = kept_at saved sweep link (pair_in rows sweep link)
 
 -- what leaves a link at a sweep by its saved row, if there is one, else by its row now
 abbrev pub old_out : SavedValue → RowsValue → ℕ → ℕ → List ℕ
@@ -86,3 +91,25 @@ settled saved = record saved { live = false }
 abbrev pub restored_at : SavedValue → ℕ → ℕ → RowsValue → RowsValue
 restored_at saved sweep link rows =
     if is_saved saved sweep link then placed rows sweep link (pair_in saved.rows sweep link) else rows
+
+-- the saved rows with the row of a link at a sweep, if one is saved
+abbrev pub returned_at : SavedValue → ℕ → ℕ → RowsValue → SavedValue
+returned_at saved sweep link rows =
+    if is_saved saved sweep link
+    then record saved { rows = placed saved.rows sweep link (pair_in rows sweep link) }
+    else saved
+
+-- two have the rows of the same pairs, as large
+pub record SaveAlike (a b : SavedValue) : Type 0 where
+  pub live : a.live ≡ b.live
+  pub link_count : a.link_count ≡ b.link_count
+  pub flags : a.flags ≡ b.flags
+  pub size : SameSize a.rows b.rows
+
+-- from a link at a sweep on the saved rows are what they were before
+pub record AreAhead (net : Network) (before : SavedValue) (sweep link : ℕ) (saved : SavedValue) : Type 0 where
+  pub alike : SaveAlike saved before
+  pub outs : (t k : ℕ) → t ≤ net.frame.sweeps → k < length net.links → is_before t k sweep link ≡ false
+      → out_at saved.rows t k ≡ out_at before.rows t k
+  pub shown : (k : ℕ) → k < length net.links → is_before net.frame.sweeps k sweep link ≡ false
+      → shown_at saved.rows k ≡ shown_at before.rows k

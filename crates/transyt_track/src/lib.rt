@@ -8,7 +8,7 @@
 //! law of the front is `AreAt` of `specs/Front`, that of the saved rows `LeadBack` of `specs/Saved`.
 //!
 //! All memory is taken by `Tracker::open` and `Tracker::twin`: beside its two networks a tracker takes at most
-//! `MOST_BYTES`, 24.1 million bytes. That a plan is evaluated again after each change is from LR 253; which pairs are
+//! `MOST_BYTES`, 24.7 million bytes. That a plan is evaluated again after each change is from LR 253; which pairs are
 //! worked out again, marks and saved rows are this project's own.
 #![tactic(auto)]
 

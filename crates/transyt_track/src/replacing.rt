@@ -13,18 +13,25 @@ use crate::saved::Saved;
 use transyt_net::Net;
 use transyt_sweep::{Rows, Scratch};
 
-/// A link at a sweep becomes what was worked out.
-pub(crate) fn place(sweep: u32, link: usize, rows: &mut Rows, saved: &mut Saved, scratch: &Scratch)
+/// A link at a sweep becomes what was worked out, and what stood there goes to the saved rows. Nothing is copied.
+pub(crate) fn place(
+    sweep: u32,
+    link: usize,
+    rows: &mut Rows,
+    saved: &mut Saved,
+    scratch: &mut Scratch,
+)
     requires fits { FitsRows rows.old saved.old }
     requires sweep { sweep ≤ rows.old.sweeps }
     requires link { link < length rows.old.figures }
-    requires steps { HasSteps rows.old.step_count scratch.now }
-    ensures value { rows.new ≡ placed rows.old sweep link scratch.now }
+    requires steps { HasSteps rows.old.step_count scratch.old }
+    ensures value { rows.new ≡ placed rows.old sweep link scratch.old }
     ensures carries { Carries rows.old saved.old rows.new saved.new }
     ensures rows { AreRows rows.old }
+    ensures steps { length scratch.new.arrivals ≡ rows.old.step_count }
 {
-    saved.save(sweep, link, rows);
-    rows.place(sweep, link, scratch);
+    rows.put(sweep, link, scratch);
+    saved.keep(sweep, link, scratch);
 }
 
 /// The departures of a link before the first sweep become those of its total flow.

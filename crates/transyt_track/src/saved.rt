@@ -6,14 +6,15 @@ ghost use Rattle.transyt_sweep.specs.Rows.{Fits, AreRows, out_at, shown_at, pair
 ghost use Rattle.transyt_sweep.specs.Front.{AreEvaluation};
 ghost use Rattle.transyt_track.specs.Front.{AreBetween, AreWeighed};
 ghost use Rattle.transyt_track.specs.Own.{HaveWeights};
-ghost use Rattle.transyt_track.specs.Saved.{is_saved, saved_at, restored_at, old_out, old_shown, begun, settled};
+ghost use Rattle.transyt_track.specs.Saved.{is_saved, saved_at, kept_at, restored_at, returned_at, old_out, old_shown};
+ghost use Rattle.transyt_track.specs.Saved.{begun, settled, SaveAlike};
 ghost use Rattle.transyt_track.specs.Saved.{FitsRows, AreSaved, AreUnsaved};
 
 use crate::own::same_weights;
 use std::alloc::{AllocError, Global};
 use std::marker::Model;
 use transyt_net::Net;
-use transyt_sweep::Rows;
+use transyt_sweep::{Rows, Scratch};
 
 /// The rows that were there when a mark was set, as far as they changed since.
 #[derive(Drop)]
@@ -78,19 +79,39 @@ impl Saved {
         }
     }
 
-    /// A link at a sweep becomes what was saved of it, if anything was.
-    fn restore(&self, sweep: u32, link: usize, rows: &mut Rows)
-        requires fits { FitsRows rows.old self.now }
+    /// Saves what `scratch` has as the row of a link at a sweep, if a mark is open and none is saved. Nothing is copied.
+    pub(crate) fn keep(&mut self, sweep: u32, link: usize, scratch: &mut Scratch)
+        requires sweep { sweep ≤ self.old.rows.sweeps }
+        requires link { link < self.old.link_count }
+        requires steps { length scratch.old.arrivals ≡ self.old.rows.step_count }
+        ensures value { self.new ≡ kept_at self.old sweep link scratch.old }
+        ensures steps { length scratch.new.arrivals ≡ self.old.rows.step_count }
+        ensures rows { AreRows self.old.rows }
+        ensures room { AreSaved self.old.link_count self.old.flags self.old.rows }
+    {
+        self.rows.index();
+        if !self.live || self.is_saved(sweep, link) {
+            return;
+        }
+        let place = self.place(sweep, link);
+        self.flags[place] = true;
+        self.rows.put(sweep, link, scratch);
+    }
+
+    /// A link at a sweep becomes what was saved of it, if anything was; the two change places. Nothing is copied.
+    fn restore(&mut self, sweep: u32, link: usize, rows: &mut Rows)
+        requires fits { FitsRows rows.old self.old }
         requires sweep { sweep ≤ rows.old.sweeps }
         requires link { link < length rows.old.figures }
-        ensures value { rows.new ≡ restored_at self.now sweep link rows.old }
+        ensures value { rows.new ≡ restored_at self.old sweep link rows.old }
+        ensures returned { self.new ≡ returned_at self.old sweep link rows.old }
         ensures rows { AreRows rows.old }
-        ensures saved { AreRows self.now.rows }
+        ensures saved { AreRows self.old.rows }
     {
         rows.index();
         self.rows.index();
         if self.is_saved(sweep, link) {
-            rows.take_pair(sweep, link, &self.rows);
+            rows.exchange(sweep, link, &mut self.rows);
         }
     }
 
@@ -134,13 +155,15 @@ fn clear(flags: &mut Vec<bool>)
     flags.fill(false);
 }
 
-/// All rows become what was saved of them, if anything was.
-pub(crate) fn restore_rows(net: &Net, rows: &mut Rows, saved: &Saved)
+/// All rows become what was saved of them, if anything was. Which are saved stays told.
+pub(crate) fn restore_rows(net: &Net, rows: &mut Rows, saved: &mut Saved)
     requires fits { Fits net.now rows.old }
-    requires fits_saved { FitsRows rows.old saved.now }
-    ensures { AreBetween net.now (old_out saved.now rows.old) (old_shown saved.now rows.old) (out_at rows.old)
+    requires fits_saved { FitsRows rows.old saved.old }
+    ensures rows { AreBetween net.now (old_out saved.old rows.old) (old_shown saved.old rows.old) (out_at rows.old)
         (shown_at rows.old) (net.now.frame.sweeps + 1) 0 rows.new }
+    ensures saved { SaveAlike saved.new saved.old }
 {
+    saved.rows.index();
     for sweep in 0..net.frame().sweeps + 1 {
         for link in 0..net.links().len() {
             saved.restore(sweep, link, rows);

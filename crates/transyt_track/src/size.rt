@@ -17,8 +17,10 @@ const SWEEPS: usize = 8;
 
 // a value for each step
 const PROFILE: usize = STEPS * size_of::<u64>();
+// a profile in memory of its own
+const ROW: usize = PROFILE + size_of::<Vec<u64>>();
 // what leaves each link at each sweep from 0 on, and the arrivals, green, queue and figures of the last
-const ROWS: usize = (SWEEPS + 1) * LINKS * PROFILE + LINKS * (3 * PROFILE + size_of::<Figures>());
+const ROWS: usize = (SWEEPS + 1) * LINKS * ROW + LINKS * (3 * ROW + size_of::<Figures>());
 // the saved rows, with a flag for each
 const SAVED: usize = ROWS + (SWEEPS + 1) * LINKS * size_of::<bool>();
 // the places of each link's node, feeders and rule

@@ -226,7 +226,7 @@ impl Tracker {
         ensures net { self.old.mark ≡ Some self.new.net }
         ensures mark { self.new.mark ≡ None }
     {
-        restore_rows(&self.marked, &mut self.rows, &self.saved);
+        restore_rows(&self.marked, &mut self.rows, &mut self.saved);
         weigh_all(&self.net, &self.marked, &mut self.rows, &self.saved);
         mem::swap(&mut self.net, &mut self.marked);
         self.saved.settle();

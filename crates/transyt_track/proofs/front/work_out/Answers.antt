@@ -1,10 +1,10 @@
 -- What is worked out is what the definition says.
-use Rattle.std.proofs.Common.{◌≡◌, not, length, sym, subst, ap, ◌∙◌}
+use Rattle.std.proofs.Common.{◌≡◌, not, sym, subst, ap, ◌∙◌}
 use Rattle.std.specs.Str.{bytes_eq}
-use Rattle.transyt_sweep.specs.Cell.{CellValue, HasSteps}
+use Rattle.transyt_sweep.specs.Cell.{HasSteps}
 use Rattle.transyt_sweep.specs.Sweeps.{out_of, worked_at}
 use Rattle.transyt_sweep.specs.Rows.{read_in, out_at}
-use Rattle.transyt_sweep.proofs.StepLaws.{length-inflow, worked_steps}
+use Rattle.transyt_sweep.proofs.StepLaws.{worked_steps}
 use Rattle.transyt_sweep.proofs.FrontLaws.{cell_is}
 use Rattle.transyt_track.proofs.FrontLaws.{turned_worked}
 use Rattle.transyt_track.proofs.front.work_out.Goals as goal
@@ -17,9 +17,7 @@ place-requires-clause-steps g c =
     (worked_steps c.args.after.now read c.args.link))
 
 pub returns-clause-step_count : goal.returns-clause-step_count
-returns-clause-step_count g c =
-    ap (λ (v : CellValue). length v.arrivals) c.cell.ensures.value
-    ∙ length-inflow c.args.after.now (read_in c.args.rows.now c.args.sweep c.args.link) c.args.link
+returns-clause-step_count g c = c.place.ensures.steps ∙ c.requires.at.outs.fits.step_count
 
 pub returns-clause-at : goal.returns-clause-at
 returns-clause-at g c =
