@@ -54,3 +54,20 @@ fn each_call_of_a_profile(rt: HostRuntime) {
         assert_eq!(rt; out, [row.total, row.total, row.total]);
     }
 }
+
+#[test]
+fn a_share_is_made_ready_below_a_limit_and_past_it(rt: HostRuntime) {
+    let x = [1733000, 0, 7, 600001, 431];
+    assert!(rt; x.iter().all(|value| *value < 1073741824));
+    let part = part_of(311, 742);
+    let mut out = [0; 5];
+    let mut ready = [0; 5];
+    for limit in [1000000, 726366, 726365, 0] {
+        assert!(rt; limit <= 4194304);
+        let extent = share_ready(&x, &part, 37, limit, &mut out, &mut ready);
+        assert_eq!(rt; out, [726365, 0, 2, 251482, 180]);
+        assert_eq!(rt; ready, [26875505, 0, 74, 9304834, 6660]);
+        assert_eq!(rt; extent.total, 978029);
+        assert!(rt; extent.above > 726365);
+    }
+}
