@@ -2,3 +2,4 @@
 pub mod CountedLaws
 pub mod TableLaws
 pub mod RowLaws
+pub mod WorkedLimits

@@ -9,6 +9,7 @@ use Rattle.transyt_whole.specs.declared.line.AnswerLine.TheVariants as line
 use Rattle.transyt_whole.specs.declared.line.ScanLine.TheVariants as said
 use Rattle.transyt_whole.specs.declared.line.Climbed.{Climbed}
 use Rattle.transyt_scan.specs.declared.asked.CycleTimes.{CycleTimes}
+use Rattle.transyt_scan.specs.declared.asked.ScanWord.{ScanWord}
 
 -- from 60 to 120 seconds by 17, which misses the highest
 abbrev pub from_60 : CycleTimes
@@ -58,3 +59,17 @@ five_lines =
     ∷ line.Scan (said.Cycle (climbed_at 74 4 0 true 6 4))
     ∷ line.Scan (said.Best 58 3)
     ∷ []
+
+-- what words may ask for
+abbrev pub asking : ℕ → ℕ → ℕ → ℕ → ScanWord
+asking workers low high by = record { workers = workers; times = record { low = low; high = high; by = by } }
+
+-- the least that may be asked for in each place, and the greatest
+abbrev pub in_range : List ScanWord
+in_range = asking 1 30 30 1 ∷ asking 8 240 240 210 ∷ []
+
+-- one number out of its range in each: no worker, nine, too low a cycle time, too high, none at all, no step, too long a one
+abbrev pub out_of_range : List ScanWord
+out_of_range =
+    asking 0 60 120 17 ∷ asking 9 60 120 17 ∷ asking 2 29 120 17 ∷ asking 2 60 241 17 ∷ asking 2 61 60 17
+    ∷ asking 2 60 120 0 ∷ asking 2 60 120 211 ∷ []

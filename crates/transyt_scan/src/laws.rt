@@ -1,12 +1,13 @@
 //! Worked climbs over cycle times, computed from the definitions.
 
-ghost use Rattle.std.specs.Prelude.{◌≡◌, [], ◌∷◌, true, false, None};
+ghost use Rattle.std.specs.Prelude.{◌≡◌, [], ◌∷◌, All, map, true, false, None, Some};
 ghost use Rattle.transyt_climb.specs.WorkedTurns.{idle};
-ghost use Rattle.transyt_scan.specs.Rows.{cycles, row_at, table};
-ghost use Rattle.transyt_scan.specs.Best.{best};
+ghost use Rattle.transyt_scan.specs.Rows.{IsScan, cycles, row_at, scan_of, table};
+ghost use Rattle.transyt_scan.specs.Best.{IsLeast, best};
 ghost use Rattle.transyt_scan.specs.Scan.{table_lines};
 ghost use Rattle.transyt_scan.specs.WorkedScan.{from_60, from_44, at_72, idle_with, four_looks, stayed};
 ghost use Rattle.transyt_scan.specs.WorkedScan.{junctions_at_61, climbed_at, four_rows, five_lines};
+ghost use Rattle.transyt_scan.specs.WorkedScan.{in_range, out_of_range};
 
 /// Worked cycle times, rows, a best row and the lines of a table.
 pub fn worked_scan()
@@ -19,4 +20,23 @@ pub fn worked_scan()
     ensures from { (row_at junctions_at_61 90).from ≡ 556223009 }
     ensures best { best four_rows ≡ climbed_at 58 8 2 false 20 3 }
     ensures lines { table_lines four_rows ≡ five_lines }
+{}
+
+/// What may be asked for: each number at its limits, and one past them.
+#[tactic(auto, using(crate::proofs::WorkedLimits::are_scans, crate::proofs::WorkedLimits::are_none))]
+pub fn worked_limits()
+    ensures within { map (λ a. scan_of a.workers a.times.low a.times.high a.times.by) in_range ≡ map Some in_range }
+    ensures beyond { map (λ a. scan_of a.workers a.times.low a.times.high a.times.by) out_of_range
+        ≡ map (λ _. None) out_of_range }
+    ensures are { All IsScan in_range }
+    ensures none { All (λ a. IsScan a → ⊥) out_of_range }
+{}
+
+/// The best of the worked rows stands at place 1; the row at place 2 is as good, and comes after it. Of no row none is.
+#[tactic(auto, using(crate::proofs::WorkedLimits::first_is_least, crate::proofs::WorkedLimits::later_is_not, crate::proofs::WorkedLimits::none_is))]
+pub fn worked_best()
+    ensures first { IsLeast four_rows 1 }
+    ensures later { IsLeast four_rows 2 → ⊥ }
+    ensures none { IsLeast [] 0 → ⊥ }
+    ensures no_row { best [] ≡ climbed_at 0 0 0 true 0 0 }
 {}
