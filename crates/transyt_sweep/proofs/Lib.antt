@@ -16,3 +16,4 @@ pub mod SmallLaws
 pub mod ClimbLaws
 pub mod WorkedFigures
 pub mod WorkedMove
+pub mod ScratchLaws

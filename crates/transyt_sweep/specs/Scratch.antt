@@ -1,12 +1,61 @@
 -- What room for one link's work keeps to. No public clause cites it.
-use Rattle.std.specs.Prelude.{◌≡◌, ℕ, ◌*◌, ◌^◌, ◌<◌, List, length, All}
+use Rattle.std.specs.Prelude.{◌≡◌, ℕ, ◌*◌, ◌^◌, ◌<◌, ◌≤◌, true, false, List, length, sum, All}
+use Rattle.transyt_stopline.specs.Cut.{arrivals_of}
+use Rattle.transyt_stopline.specs.Stops.{stopped_of}
+use Rattle.transyt_delay.specs.declared.terms.Terms.{Terms}
 use Rattle.transyt_delay.specs.declared.figures.Figures.{Figures}
+use Rattle.transyt_delay.specs.Figures.{figures}
 use Rattle.transyt_sweep.specs.declared.factors.Factors.{Factors}
+use Rattle.transyt_sweep.specs.declared.asked.Weights.{Weights}
+use Rattle.transyt_sweep.specs.declared.asked.Asked.{Asked}
+use Rattle.transyt_sweep.specs.declared.asked.Asked.TheVariants.{Known, Open}
 use Rattle.transyt_sweep.specs.Factors.{AreFactors}
 use Rattle.transyt_sweep.specs.Rows.{AreSmall}
 
--- all of it has a value for each step, what leaves and the figures are within bounds, and factors are right
-pub record IsScratch (arrivals go queue out : List ℕ) (figures : Figures) (room reaching : List ℕ)
+-- what figures are made of: what comes and what can go, what stops of what reaches the stop line, and the weights
+abbrev pub terms_in : List ℕ → List ℕ → List ℕ → Weights → Terms
+terms_in come room queue weights = record {
+  arrivals = sum come;
+  room = sum room;
+  queued = sum queue;
+  stopped = stopped_of (arrivals_of come room) queue;
+  frame = weights.frame;
+  delay_weight = weights.delay_weight;
+  stop_weight = weights.stop_weight;
+}
+
+-- the figures: those that are known, else what the rows give
+abbrev pub figures_in : List ℕ → List ℕ → List ℕ → Asked → Figures
+figures_in come room queue (Known f) = f
+figures_in come room queue (Open weights) = figures (terms_in come room queue weights)
+
+-- weights and a frame's numbers with which figures can be worked out
+pub record AreWeights (w : Weights) : Type 0 where
+  pub cycle : 30 ≤ w.frame.cycle
+  pub step_count : 0 < w.frame.step_count
+  pub period : w.frame.period ≤ 120
+  pub stop_penalty : w.frame.stop_penalty ≤ 9999
+  pub delay_weight : w.delay_weight ≤ 999
+  pub stop_weight : w.stop_weight ≤ 999
+
+-- figures can be worked out of these rows: they are within bounds, and what is cut is there where anything is
+pub record CanTell (come room queue reaching : List ℕ) (weights : Weights) : Type 0 where
+  pub steps : length come ≤ 120
+  pub come_small : All (λ v. v < 2 ^ 48) come
+  pub room_small : All (λ v. v < 2 ^ 30) room
+  pub queue_small : All (λ v. v < 2 ^ 37) queue
+  pub reached_small : All (λ v. v < 2 ^ 48) (arrivals_of come room)
+  pub uncut : weights.is_cut ≡ false → come ≡ arrivals_of come room
+  pub cut : weights.is_cut ≡ true → reaching ≡ arrivals_of come room
+  pub limits : AreWeights weights
+
+-- figures that are known are small, and others can be worked out
+abbrev pub AreTold : List ℕ → List ℕ → List ℕ → List ℕ → Asked → Type 0
+AreTold come room queue reaching (Known f) = AreSmall f
+AreTold come room queue reaching (Open weights) = CanTell come room queue reaching weights
+
+-- all of it has a value for each step, what leaves is small, figures can be told, and factors are right
+pub record IsScratch (arrivals go queue out : List ℕ) (asked : Asked) (room reaching : List ℕ)
     (factors : List Factors) : Type 0 where
   pub go_len : length go ≡ length arrivals
   pub queue_len : length queue ≡ length arrivals
@@ -14,5 +63,5 @@ pub record IsScratch (arrivals go queue out : List ℕ) (figures : Figures) (roo
   pub room_len : length room ≡ 12 * length arrivals
   pub reaching_len : length reaching ≡ length arrivals
   pub out_small : All (λ v. v < 2 ^ 30) out
-  pub figures_small : AreSmall figures
+  pub told : AreTold arrivals go queue reaching asked
   pub right : All (AreFactors (length arrivals)) factors

@@ -11,6 +11,7 @@
 //! are this project's own.
 #![tactic(auto)]
 
+mod asked;
 mod factors;
 mod inflow;
 mod laws;

@@ -9,6 +9,7 @@ ghost use Rattle.transyt_sweep.specs.Rows.{Fits, SameSize, AreRows, AreSmall};
 ghost use Rattle.transyt_sweep.specs.Front.{AreOpened, empty_rows};
 ghost use Rattle.transyt_sweep.specs.Sweeps.{read_at, start};
 
+use crate::asked::Asked;
 use crate::scratch::Scratch;
 use crate::table::Table;
 use std::alloc::{AllocError, Global};
@@ -207,7 +208,7 @@ impl Rows {
                 &scratch.arrivals,
                 &scratch.go,
                 &scratch.queue,
-                scratch.figures,
+                scratch.figures(),
             );
         }
     }
@@ -345,12 +346,12 @@ impl Rows {
         ensures value { self.new ≡ with_rest self.old link scratch.old }
         ensures left { scratch.new ≡ record (shown_at self.old link) { out = scratch.old.out } }
     {
-        let figures = self.figures(link);
+        let figures = scratch.figures();
+        scratch.asked = Asked::Known(self.figures(link));
         self.arrivals.exchange(link, &mut scratch.arrivals);
         self.go.exchange(link, &mut scratch.go);
         self.queue.exchange(link, &mut scratch.queue);
-        self.put_figures(link, scratch.figures);
-        scratch.figures = figures;
+        self.put_figures(link, figures);
     }
 
     /// What leaves a link at a sweep in these rows and in others changes places.

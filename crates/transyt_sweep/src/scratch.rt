@@ -1,27 +1,34 @@
 //! Room for the work on one link.
 
-ghost use Rattle.std.specs.Prelude.{◌≡◌, ◌^◌, ◌<◌, ◌≤◌, ℕ, length, replicate, IfOk};
-ghost use Rattle.transyt_delay.specs.declared.figures.Figures.{Figures};
-ghost use Rattle.transyt_sweep.specs.Rows.{no_figures};
+ghost use Rattle.std.specs.Prelude.{◌≡◌, length, IfOk};
+ghost use Rattle.transyt_delay.specs.Figures.{figures};
+ghost use Rattle.transyt_sweep.specs.Rows.{AreSmall};
+ghost use Rattle.transyt_sweep.specs.Scratch.{CanTell, terms_in};
 
+use crate::asked::{Asked, Weights};
 use crate::factors::{Factors, factors_of};
 use std::alloc::{AllocError, Global};
 use std::marker::Model;
 use std::mem::size_of;
-use transyt_delay::Figures;
+use transyt_delay::{Figures, Terms, figures_of};
 use transyt_net::{Feed, Net};
+use transyt_profile::total;
+use transyt_stopline::stopped;
 
 /// The bytes of a scratch for each link of its network: eight feeds, and what was worked out last of each one's numbers.
 pub const FACTOR_BYTES: usize = 8 * size_of::<Factors>();
 
 /// Room to work out one link at one sweep, and what was worked out last.
+///
+/// Figures are worked out only when they are asked for, since all sweeps but the last need none.
 #[derive(Drop)]
 pub struct Scratch {
     pub(crate) arrivals: Vec<u64>,
     pub(crate) go: Vec<u64>,
     pub(crate) queue: Vec<u64>,
     pub(crate) out: Vec<u64>,
-    pub(crate) figures: Figures,
+    // the figures, or what they take beside the rows
+    pub(crate) asked: Asked,
     // the work on four feeds, what they share, its products and what they bring, and what reaches the stop line
     pub(crate) room: Vec<u64>,
     pub(crate) reaching: Vec<u64>,
@@ -31,7 +38,7 @@ pub struct Scratch {
 
 impl Model for Scratch {
     ghost use Rattle.transyt_sweep.specs.Cell.{CellValue};
-    ghost use Rattle.transyt_sweep.specs.Scratch.{IsScratch};
+    ghost use Rattle.transyt_sweep.specs.Scratch.{IsScratch, figures_in};
 
     ghost Value = { CellValue };
 
@@ -40,11 +47,11 @@ impl Model for Scratch {
       go = s.go.items;
       queue = s.queue.items;
       out = s.out.items;
-      figures = s.figures;
+      figures = figures_in s.arrivals.items s.go.items s.queue.items s.asked;
     } };
 
     ghost invariant = { λ s.
-        IsScratch s.arrivals.items s.go.items s.queue.items s.out.items s.figures s.room.items s.reaching.items
+        IsScratch s.arrivals.items s.go.items s.queue.items s.out.items s.asked s.room.items s.reaching.items
         s.factors.items };
 }
 
@@ -64,12 +71,12 @@ impl Scratch {
             go: vec![in alloc; 0; step_count]?,
             queue: vec![in alloc; 0; step_count]?,
             out: vec![in alloc; 0; step_count]?,
-            figures: Figures {
+            asked: Asked::Known(Figures {
                 uniform: 0,
                 random: 0,
                 stops: 0,
                 index: 0,
-            },
+            }),
             room: vec![in alloc; 0; 12 * step_count]?,
             reaching: vec![in alloc; 0; step_count]?,
             factors: vec![in alloc; factors_of(net, none, 0, 0); 8 * net.links().len()]?,
@@ -104,10 +111,55 @@ impl Scratch {
         &self.out
     }
 
-    /// The figures of the link, in millionths as those of `transyt_delay`.
+    /// The figures of the link, in millionths as those of `transyt_delay`. Where they are open they are worked out.
     pub fn figures(&self) -> Figures
-        ensures { result ≡ self.now.figures }
+        ensures value { result ≡ self.now.figures }
+        ensures small { AreSmall result }
     {
-        self.figures
+        match self.asked {
+            Asked::Known(figures) => figures,
+            Asked::Open(weights) => {
+                work_out(
+                    &self.arrivals,
+                    &self.go,
+                    &self.queue,
+                    &self.reaching,
+                    weights,
+                )
+            }
+        }
     }
+}
+
+/// The figures of these rows: `come` comes and `room` can go, `queue` stands at the stop line, and `reaching` reaches it
+/// where it is cut.
+fn work_out(
+    come: &[u64],
+    room: &[u64],
+    queue: &[u64],
+    reaching: &[u64],
+    weights: Weights,
+) -> Figures
+    requires room_len { length room.now ≡ length come.now }
+    requires queue_len { length queue.now ≡ length come.now }
+    requires reaching_len { length reaching.now ≡ length come.now }
+    requires can { CanTell come.now room.now queue.now reaching.now weights }
+    ensures value { result ≡ figures (terms_in come.now room.now queue.now weights) }
+    ensures small { AreSmall result }
+{
+    let stopped = if weights.is_cut {
+        stopped(reaching, queue)
+    } else {
+        stopped(come, queue)
+    };
+    let terms = Terms {
+        arrivals: total(come),
+        room: total(room),
+        queued: total(queue),
+        stopped,
+        frame: weights.frame,
+        delay_weight: weights.delay_weight,
+        stop_weight: weights.stop_weight,
+    };
+    figures_of(&terms)
 }

@@ -1,25 +1,22 @@
 //! One link at one sweep: the cell of which an evaluation is made.
 
-ghost use Rattle.std.specs.Prelude.{◌≡◌, ◌+◌, ◌-◌, ◌*◌, ◌^◌, ◌<◌, ◌≤◌, ℕ, length, All};
-ghost use Rattle.transyt_delay.specs.Figures.{figures};
+ghost use Rattle.std.specs.Prelude.{◌≡◌, ◌+◌, ◌-◌, ◌*◌, ◌^◌, ◌<◌, ◌≤◌, ℕ, length, All, true, false};
 ghost use Rattle.transyt_stopline.specs.Cut.{arrivals_of};
-ghost use Rattle.transyt_stopline.specs.Queue.{queues};
-ghost use Rattle.transyt_sweep.specs.Cell.{go, terms_of, worked};
+ghost use Rattle.transyt_sweep.specs.Cell.{go, worked};
 ghost use Rattle.transyt_sweep.specs.Factors.{AreFactors};
-ghost use Rattle.transyt_sweep.specs.Rows.{Fits, read_in, AreSmall};
+ghost use Rattle.transyt_sweep.specs.Rows.{Fits, read_in};
 
+use crate::asked::{Asked, weights_of};
 use crate::factors::Factors;
 use crate::inflow::fill_inflow;
 use crate::rows::Rows;
 use crate::scratch::Scratch;
 use crate::sending::link_place;
 use std::sync::ledger::Ledger;
-use transyt_delay::{Figures, Terms, TermsFrame, figures_of};
 use transyt_net::Net;
-use transyt_profile::total;
 use transyt_stage::{fill_go, give_way};
 use transyt_steps::Steps;
-use transyt_stopline::{cut_arrivals, queue, stopped};
+use transyt_stopline::{cut, queue};
 
 /// Works out one link at one sweep, from the rows that it reads. It takes no memory.
 ///
@@ -42,7 +39,7 @@ pub fn cell<L: Ledger>(
     ensures value { scratch.new ≡ worked net.now (read_in rows.now sweep link) link }
     ensures steps { steps.new ≡ steps.old + 1 }
 {
-    scratch.figures = work_out(
+    let is_cut = work_out(
         net,
         link,
         sweep,
@@ -55,11 +52,13 @@ pub fn cell<L: Ledger>(
         &mut scratch.queue,
         &mut scratch.out,
     );
+    scratch.asked = Asked::Open(weights_of(net, link, is_cut));
     steps.tick();
 }
 
-/// Works out the link at a place at a sweep, and returns its figures. `room` and `reaching` are
-/// room for its work, and `kept` are the factors of feeds that were worked out before.
+/// Works out the link at a place at a sweep: what comes, what can go, the queue and what leaves. Returns whether less
+/// reaches the stop line than comes: `reaching` then is what does. `room` is room for its work, and `kept` are the
+/// factors of feeds that were worked out before.
 fn work_out(
     net: &Net,
     link: usize,
@@ -72,7 +71,7 @@ fn work_out(
     going: &mut [u64],
     standing: &mut [u64],
     leaving: &mut [u64],
-) -> Figures
+) -> bool
     requires link { link < length net.now.links }
     requires sweep { sweep ≤ net.now.frame.sweeps }
     requires fits { Fits net.now rows.now }
@@ -87,17 +86,26 @@ fn work_out(
     ensures going { going.new ≡ (worked net.now (read_in rows.now sweep link) link).go }
     ensures standing { standing.new ≡ (worked net.now (read_in rows.now sweep link) link).queue }
     ensures leaving { leaving.new ≡ (worked net.now (read_in rows.now sweep link) link).out }
-    ensures figures { result ≡ (worked net.now (read_in rows.now sweep link) link).figures }
-    ensures small { All (λ v. v < 2 ^ 30) leaving.new }
-    ensures figures_small { AreSmall result }
+    ensures cut { result ≡ true → reaching.new ≡ arrivals_of come.new going.new }
+    ensures uncut { result ≡ false → come.new ≡ arrivals_of come.new going.new }
+    ensures steps { length come.new ≤ 120 }
+    ensures come_small { All (λ v. v < 2 ^ 48) come.new }
+    ensures going_small { All (λ v. v < 2 ^ 30) going.new }
+    ensures reached_small { All (λ v. v < 2 ^ 48) (arrivals_of come.new going.new) }
+    ensures standing_small { All (λ v. v < 2 ^ 37) standing.new }
+    ensures leaving_small { All (λ v. v < 2 ^ 30) leaving.new }
     ensures kept { All (AreFactors net.now.frame.step_count) kept.new }
 {
     net.frame();
     fill_inflow(net, link, sweep, rows, kept, room, come);
     fill_going(net, link, sweep, rows, going);
-    cut_arrivals(come, going, reaching);
-    queue(reaching, going, standing, leaving);
-    figures_at(net, link, come, going, reaching, standing)
+    let is_cut = cut(come, going, reaching);
+    if is_cut {
+        queue(reaching, going, standing, leaving);
+    } else {
+        queue(come, going, standing, leaving);
+    }
+    is_cut
 }
 
 /// Fills `out` with what can go of the link at a place: its green, and what its rule leaves of it.
@@ -115,47 +123,4 @@ fn fill_going(net: &Net, link: usize, sweep: u32, rows: &Rows, out: &mut [u64])
         let other = link_place(net, rule.other);
         give_way(rows.read(sweep, link, other), rule.percent, out);
     }
-}
-
-/// The figures of the link at a place: `come` comes and `go` can go, `reaching` reaches the stop line and `queue`
-/// stands there.
-fn figures_at(
-    net: &Net,
-    link: usize,
-    come: &[u64],
-    go: &[u64],
-    reaching: &[u64],
-    queue: &[u64],
-) -> Figures
-    requires link { link < length net.now.links }
-    requires come_len { length come.now ≡ net.now.frame.step_count }
-    requires go_len { length go.now ≡ net.now.frame.step_count }
-    requires come_small { All (λ v. v < 2 ^ 48) come.now }
-    requires go_small { All (λ v. v < 2 ^ 30) go.now }
-    requires reaching_small { All (λ v. v < 2 ^ 48) reaching.now }
-    requires queue_small { All (λ v. v < 2 ^ 37) queue.now }
-    requires reaching { reaching.now ≡ arrivals_of come.now go.now }
-    requires queue { queue.now ≡ queues reaching.now go.now }
-    requires reaching_len { length reaching.now ≡ net.now.frame.step_count }
-    requires queue_len { length queue.now ≡ net.now.frame.step_count }
-    ensures value { result ≡ figures (terms_of net.now link come.now go.now) }
-    ensures small { AreSmall result }
-{
-    let frame = net.frame();
-    let link = net.link(link);
-    let terms = Terms {
-        arrivals: total(come),
-        room: total(go),
-        queued: total(queue),
-        stopped: stopped(reaching, queue),
-        frame: TermsFrame {
-            cycle: frame.cycle,
-            step_count: frame.step_count,
-            period: frame.period,
-            stop_penalty: frame.stop_penalty,
-        },
-        delay_weight: link.delay_weight,
-        stop_weight: link.stop_weight,
-    };
-    figures_of(&terms)
 }

@@ -1,0 +1,55 @@
+//! The figures of a link, which are worked out only when they are asked for: all sweeps but the last need none.
+
+ghost use Rattle.std.specs.Prelude.{◌≡◌, ◌<◌, length};
+ghost use Rattle.transyt_net.specs.Parts.{link_of};
+ghost use Rattle.transyt_sweep.specs.Cell.{terms_frame};
+ghost use Rattle.transyt_sweep.specs.Scratch.{AreWeights};
+
+use transyt_delay::{Figures, TermsFrame};
+use transyt_net::Net;
+
+/// What the figures of a link take beside its rows.
+#[derive(Clone, Copy)]
+pub(crate) struct Weights {
+    /// The numbers of the network's frame.
+    pub(crate) frame: TermsFrame,
+    /// The link's weight of delay, a whole number.
+    pub(crate) delay_weight: u32,
+    /// The link's weight of stops, a whole number.
+    pub(crate) stop_weight: u32,
+    /// Whether less reaches the stop line than comes.
+    pub(crate) is_cut: bool,
+}
+
+/// The figures of a link, known or still open.
+#[derive(Clone, Copy)]
+pub(crate) enum Asked {
+    /// These.
+    Known(Figures),
+    /// Those that the rows give with these weights.
+    Open(Weights),
+}
+
+/// The weights of the link at a place.
+pub(crate) fn weights_of(net: &Net, link: usize, is_cut: bool) -> Weights
+    requires link { link < length net.now.links }
+    ensures frame { result.frame ≡ terms_frame net.now.frame }
+    ensures delay_weight { result.delay_weight ≡ (link_of net.now link).delay_weight }
+    ensures stop_weight { result.stop_weight ≡ (link_of net.now link).stop_weight }
+    ensures is_cut { result.is_cut ≡ is_cut }
+    ensures are { AreWeights result }
+{
+    let frame = net.frame();
+    let at = net.link(link);
+    Weights {
+        frame: TermsFrame {
+            cycle: frame.cycle,
+            step_count: frame.step_count,
+            period: frame.period,
+            stop_penalty: frame.stop_penalty,
+        },
+        delay_weight: at.delay_weight,
+        stop_weight: at.stop_weight,
+        is_cut,
+    }
+}
