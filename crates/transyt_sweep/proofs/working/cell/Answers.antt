@@ -1,5 +1,5 @@
 -- Each vector holds what its slice was filled with.
-use Rattle.std.proofs.Common.{◌≡◌, ◌<◌, ◌^◌, ℕ, List, length, All, subst, sym, ap, ◌∙◌, arith}
+use Rattle.std.proofs.Common.{◌<◌, ◌^◌, ℕ, List, length, All, subst, sym, ap, ◌∙◌, arith}
 use Rattle.transyt_sweep.specs.Cell.{CellValue, go, inflow}
 use Rattle.transyt_sweep.specs.Rows.{read_in}
 use Rattle.transyt_sweep.proofs.FactorLaws.{are_in}
