@@ -1,8 +1,11 @@
 -- Worked tables of counts for the worked town. No number is neutral.
-use Rattle.std.specs.Prelude.{ℕ, List, [], ◌∷◌, None, Some, codes, Result, Ok, Err}
+use Rattle.std.specs.Prelude.{ℕ, List, [], ◌∷◌, Option, None, Some, codes, Result, Ok, Err}
 use Rattle.transyt_syntax.specs.declared.code.Code.{Code}
 use Rattle.transyt_syntax.specs.declared.code.Code.TheVariants as code
+use Rattle.transyt_net.specs.declared.edit.Edit.{Edit}
 use Rattle.transyt_net.specs.declared.edit.Edit.TheVariants.{Entry, Part}
+use Rattle.transyt_net.specs.Parts.{Network}
+use Rattle.transyt_net.specs.WorkedNets.{of, signals, streets}
 use Rattle.transyt_counts.specs.declared.key.Key.{Key}
 use Rattle.transyt_counts.specs.declared.row.Count.{Count}
 use Rattle.transyt_counts.specs.declared.counts.CountStop.{CountStop}
@@ -74,3 +77,31 @@ worked_texts = (
     ∷ (codes " \n", Err (stop.Refused 1 code.WrongCount))
     ∷ (codes "5,,37,15,\n", Err (stop.Refused 1 code.WrongCount))
     ∷ []
+
+-- a count of a link's flow by a row
+abbrev pub count_at : ℕ → ℕ → Option ℕ → ℕ → ℕ → Count
+count_at row link feeder vehicles minutes =
+    record { row = row; key = record { link = link; feeder = feeder }; vehicles = vehicles; minutes = minutes }
+
+-- what the rows of a table count: three flows of link 4, and one of them twice
+abbrev pub four_counts : List Count
+four_counts =
+    count_at 1 4 None 37 15 ∷ count_at 2 4 (Some 9) 25 10 ∷ count_at 3 4 None 41 20 ∷ count_at 4 4 (Some 5) 12 7 ∷ []
+
+-- the edits that they come to
+abbrev pub three_edits : List Edit
+three_edits = Entry 4 133 ∷ Part 4 9 150 ∷ Part 4 5 102 ∷ []
+
+-- what the first and the third row count, the edit that they come to, and the town with that flow and all else as it was
+abbrev pub two_counts : List Count
+two_counts = count_at 1 4 None 37 15 ∷ count_at 3 4 None 41 20 ∷ []
+
+abbrev pub town_of_two : Network
+town_of_two = of (signals 4 8) (streets 133 1451 4 6 311 23)
+
+-- what a row counts of the flow that link 4 takes from link 5, and the town with it
+abbrev pub fed_count : List Count
+fed_count = count_at 4 4 (Some 5) 12 7 ∷ []
+
+abbrev pub town_of_fed : Network
+town_of_fed = of (signals 4 8) (streets 151 1451 4 6 102 23)
