@@ -1,2 +1,3 @@
 pub mod ProfileLaws
 pub mod Worked
+pub mod WorkedReports

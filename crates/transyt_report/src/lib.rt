@@ -12,7 +12,7 @@ mod profiles;
 mod showing;
 mod timing;
 
-pub use laws::worked_texts;
+pub use laws::{worked_reports, worked_texts};
 pub use moves::{cert_line, end_line, move_line, took_line};
 pub use profiles::{arrivals, go, out, queue};
 pub use showing::{Report, show};
