@@ -16,3 +16,4 @@ pub mod BackLaws
 pub mod ReturnLaws
 pub mod TrackLaws
 pub mod RuleLaws
+pub mod CompareLaws

@@ -1,6 +1,8 @@
 //! The front: the rows go over from one network to another of its shape, a link at a sweep at a time, in order.
 
-ghost use Rattle.std.specs.Prelude.{◌≡◌, ◌+◌, ◌<◌, ◌≤◌, ◌||◌, false, length, if◌then◌else◌, All, IfSome, slice_index_or};
+ghost use Rattle.std.specs.Prelude.{◌≡◌, ◌+◌, ◌<◌, ◌≤◌, ◌||◌, false, not, length, if◌then◌else◌, All, IfSome};
+ghost use Rattle.std.specs.Prelude.{slice_index_or};
+ghost use Rattle.std.specs.Str.{bytes_eq};
 ghost use Rattle.std.specs.List.{list_any};
 ghost use Rattle.transyt_net.specs.Shape.{SameShape};
 ghost use Rattle.transyt_sweep.specs.Front.{AreEvaluation};
@@ -46,6 +48,18 @@ fn is_flagged(own_changed: bool, changed: &[bool], places: &Places) -> bool
     own_changed || any_changed(changed, &places.feeders) || is_changed(changed, places.rule)
 }
 
+/// Whether rows of as many steps differ. All steps are read: with no jump out, several are compared at a time.
+fn differ(one: &[u64], other: &[u64]) -> bool
+    requires { length one.now ≡ length other.now }
+    ensures { result ≡ not (bytes_eq one.now other.now) }
+{
+    let mut bits = 0;
+    for i in 0..one.len() {
+        bits |= one[i] ^ other[i];
+    }
+    bits != 0
+}
+
 /// The link at the front is due: it is worked out.
 fn work_out<L: Ledger>(
     before: &Net,
@@ -71,7 +85,7 @@ fn work_out<L: Ledger>(
     ensures steps { steps.new ≡ steps.old + 1 }
 {
     cell(after, link, sweep, rows, scratch, steps);
-    changed[link] = rows.out(sweep, link) != scratch.out();
+    changed[link] = differ(rows.out(sweep, link), scratch.out());
     place(sweep, link, rows, saved, scratch);
 }
 

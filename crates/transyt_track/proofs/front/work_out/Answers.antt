@@ -9,6 +9,14 @@ use Rattle.transyt_sweep.proofs.FrontLaws.{cell_is}
 use Rattle.transyt_track.proofs.FrontLaws.{turned_worked}
 use Rattle.transyt_track.proofs.front.work_out.Goals as goal
 
+pub differ-requires : goal.differ-requires
+differ-requires g c =
+    let read = read_in c.args.rows.now c.args.sweep c.args.link in
+    let worked : HasSteps c.args.after.now.frame.step_count c.cell.new.scratch =
+    subst (HasSteps c.args.after.now.frame.step_count) (sym c.cell.ensures.value)
+    (worked_steps c.args.after.now read c.args.link) in
+    c.out.ensures.steps ∙ c.requires.at.outs.fits.step_count ∙ sym (ap length c.out-2.ensures ∙ worked.out)
+
 pub place-requires-clause-steps : goal.place-requires-clause-steps
 place-requires-clause-steps g c =
     let read = read_in c.args.rows.now c.args.sweep c.args.link in
@@ -26,10 +34,10 @@ returns-clause-at g c =
     c.cell.ensures.value
     ∙ cell_is c.args.after.now (out_of c.args.before.now) c.args.sweep c.args.link c.args.rows.now r.at.outs r.first
     r.last r.link in
-    let told : c.ne.result ≡ not (bytes_eq (out_at c.args.rows.now c.args.sweep c.args.link) c.cell.new.scratch.out) =
-    c.ne.ensures
+    let told : c.differ.result ≡ not (bytes_eq (out_at c.args.rows.now c.args.sweep c.args.link) c.cell.new.scratch.out) =
+    c.differ.ensures
     ∙ ap (λ x. not (bytes_eq x c.out-2.result.now)) c.out.ensures.value
     ∙ ap (λ x. not (bytes_eq (out_at c.args.rows.now c.args.sweep c.args.link) x)) c.out-2.ensures in
     rw c.place.ensures.value (turned_worked c.args.before.now c.args.after.now c.args.sweep c.args.link c.args.rows.now
     c.args.changed.now.items r.at r.shape r.first r.last r.link c.place.ensures.rows c.cell.new.scratch made
-    c.ne.result told)
+    c.differ.result told)
