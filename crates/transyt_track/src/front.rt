@@ -19,12 +19,16 @@ use transyt_net::Net;
 use transyt_steps::Steps;
 use transyt_sweep::{Rows, Scratch, cell};
 
-/// Whether the flag of one of these is up.
+/// Whether the flag of one of these is up. All are read, since a jump out at the first that is up is seldom foreseen.
 fn any_changed(changed: &[bool], places: &[usize]) -> bool
     requires { All (λ p. p < length changed.now) places.now }
     ensures { result ≡ list_any (flag changed.now) places.now }
 {
-    places.iter().any(|place| changed[*place])
+    let mut any = false;
+    for place in places {
+        any |= changed[*place];
+    }
+    any
 }
 
 /// Whether the flag of this one is up.
@@ -45,7 +49,7 @@ fn is_flagged(own_changed: bool, changed: &[bool], places: &Places) -> bool
     ensures { result ≡ (own_changed || list_any (flag changed.now) places.now.feeders
         || is_some_and (flag changed.now) places.now.rule) }
 {
-    own_changed || any_changed(changed, &places.feeders) || is_changed(changed, places.rule)
+    own_changed | any_changed(changed, &places.feeders) | is_changed(changed, places.rule)
 }
 
 /// Whether rows of as many steps differ. All steps are read: with no jump out, several are compared at a time.
