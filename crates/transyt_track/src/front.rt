@@ -11,7 +11,7 @@ ghost use Rattle.transyt_track.specs.Due.{is_due, is_some_and, due_at, due, diff
 ghost use Rattle.transyt_track.specs.Front.{flag, AreFlags, own_differs, total_differs, AreAt, AreStarting};
 ghost use Rattle.transyt_track.specs.Saved.{FitsRows, Carries};
 
-use crate::own::{Places, same_own};
+use crate::own::{Places, other_total, same_own};
 use crate::replacing::{leave, place, start};
 use crate::saved::Saved;
 use std::sync::ledger::Ledger;
@@ -257,7 +257,7 @@ fn start_links(
     // a total flow that differs lets another profile go, since a vehicle per hour is more than a unit per step
     after.frame();
     for link in 0..after.links().len() {
-        let moves = before.total_flow(link) != after.total_flow(link);
+        let moves = other_total(before, after, link);
         start_link(before, after, link, moves, rows, saved, changed);
     }
 }

@@ -137,6 +137,36 @@ pub(crate) fn same_own(
         )
 }
 
+/// Whether feeds have equal flows, one after another.
+fn same_flows(before: &[Feed], after: &[Feed]) -> bool
+    ensures { IsTrue result ↔ map (λ f. f.flow) before.now ≡ map (λ f. f.flow) after.now }
+{
+    match (before, after) {
+        ([], []) => true,
+        ([x, xs @ ..], [y, ys @ ..]) => x.flow == y.flow && same_flows(xs, ys),
+        _ => false,
+    }
+}
+
+/// Whether links have equal entry flows and equal flows of their feeds.
+fn same_entries(old: &Link, new: &Link) -> bool
+    ensures { IsTrue result ↔ (old.now.entry ≡ new.now.entry)
+        × (map (λ f. f.flow) old.now.feeds ≡ map (λ f. f.flow) new.now.feeds) }
+{
+    old.entry == new.entry && same_flows(&old.feeds, &new.feeds)
+}
+
+/// Whether the total flow of a link differs. Nothing is summed up where each of the flows is equal.
+pub(crate) fn other_total(before: &Net, after: &Net, link: usize) -> bool
+    requires link { link < length before.now.links }
+    requires link_after { link < length after.now.links }
+    ensures { result ≡ total_differs before.now after.now link }
+{
+    let old = link_at(before, link);
+    let new = link_at(after, link);
+    !same_entries(old, new) && before.total_flow(link) != after.total_flow(link)
+}
+
 /// Whether a link has equal weights in two networks.
 pub(crate) fn same_weights(before: &Net, after: &Net, link: usize) -> bool
     requires link { link < length before.now.links }

@@ -1,7 +1,5 @@
 -- One link more.
-use Rattle.std.proofs.Common.{not, nat_eq, length, ap, sym, ◌∙◌, arith}
-use Rattle.transyt_parts.specs.Flow.{total_flow}
-use Rattle.transyt_net.specs.Parts.{link_of}
+use Rattle.std.proofs.Common.{length, ap, sym, ◌∙◌, arith}
 use Rattle.transyt_track.proofs.SavedLaws.{carries_same, carries_more}
 use Rattle.transyt_track.proofs.StartLaws.{total_start, started_none, started_end}
 use Rattle.transyt_track.proofs.front.start_links.Goals as goal
@@ -15,12 +13,8 @@ loop-link-init c = record {
 
 pub start_link-requires-clause-moves : goal.start_link-requires-clause-moves
 start_link-requires-clause-moves c =
-    let a = c.args.before.now in
-    let b = c.args.after.now in
-    let l = c.loop-link.link in
-    ap (λ n. not (nat_eq n c.total_flow-in-loop-link.result)) c.total_flow.ensures.value
-    ∙ ap (λ n. not (nat_eq (total_flow (link_of a l)) n)) c.total_flow-in-loop-link.ensures.value
-    ∙ total_start a b c.requires.shape c.frame.ensures.valid.sound.frame l
+    c.other_total-moves.ensures
+    ∙ total_start c.args.before.now c.args.after.now c.requires.shape c.frame.ensures.valid.sound.frame c.loop-link.link
 
 pub loop-link-preserved : goal.loop-link-preserved
 loop-link-preserved c = record {
