@@ -53,3 +53,8 @@ steps_more xs ys i d here there before =
     ∙ ap (λ t. t && nat_eq (get_or xs i 0) (get_or ys i 0)) before
     ∙ sym (steps_suc xs ys i here there)
     ∙ ap (λ n. bytes_eq (take n xs) (take n ys)) (sym on)
+
+-- rows of as many steps are as long
+pub as_long : (xs ys : List ℕ) (n : ℕ) → length xs ≡ n → (zs : List ℕ) → ys ≡ zs → length zs ≡ n
+    → length xs ≡ length ys
+as_long xs ys n one zs same other = one ∙ sym (ap length same ∙ other)

@@ -7,6 +7,7 @@ use Rattle.transyt_sweep.specs.Rows.{read_in, out_at}
 use Rattle.transyt_sweep.proofs.StepLaws.{worked_steps}
 use Rattle.transyt_sweep.proofs.FrontLaws.{cell_is}
 use Rattle.transyt_track.proofs.FrontLaws.{turned_worked}
+use Rattle.transyt_track.proofs.CompareLaws.{as_long}
 use Rattle.transyt_track.proofs.front.work_out.Goals as goal
 
 pub differ-requires : goal.differ-requires
@@ -15,7 +16,8 @@ differ-requires g c =
     let worked : HasSteps c.args.after.now.frame.step_count c.cell.new.scratch =
     subst (HasSteps c.args.after.now.frame.step_count) (sym c.cell.ensures.value)
     (worked_steps c.args.after.now read c.args.link) in
-    c.out.ensures.steps ∙ c.requires.at.outs.fits.step_count ∙ sym (ap length c.out-2.ensures ∙ worked.out)
+    as_long c.out.result.now c.out-2.result.now c.args.rows.now.step_count c.out.ensures.steps
+    c.cell.new.scratch.out c.out-2.ensures (worked.out ∙ sym c.requires.at.outs.fits.step_count)
 
 pub place-requires-clause-steps : goal.place-requires-clause-steps
 place-requires-clause-steps g c =
