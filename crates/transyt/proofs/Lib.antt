@@ -4,3 +4,4 @@ pub mod DeckLaws
 pub mod SaidCards
 pub mod TaskLaws
 pub mod ValidRuns
+pub mod WorkedSteps

@@ -15,6 +15,7 @@ worked_words =
     ∷ (codes "run" ∷ [], Some (w.Run 1))
     ∷ (codes "Run" ∷ [], None)
     ∷ (codes "runs" ∷ [], None)
+    ∷ (codes "run" ∷ codes "1" ∷ [], Some (w.Run 1))
     ∷ (codes "run" ∷ codes "8" ∷ [], Some (w.Run 8))
     ∷ (codes "run" ∷ codes "9" ∷ [], None)
     ∷ (codes "run" ∷ codes "0" ∷ [], None)
