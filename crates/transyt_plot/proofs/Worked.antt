@@ -1,13 +1,13 @@
 -- The worked plots, computed from the definitions.
-use Rattle.std.proofs.Common.{◌≡◌, [], ◌∷◌, codes, refl}
+use Rattle.std.proofs.Common.{◌≡◌, [], ◌∷◌, codes, map, refl}
 use Rattle.std.specs.Fmt.{digits}
 use Rattle.transyt_text.specs.Forms.{filled, form_line}
 use Rattle.transyt_plot.specs.Plot.{field, step_line, scale_line, plot_of, three_digits}
-use Rattle.transyt_plot.specs.WorkedPlots.{three_steps, two_steps, one_step}
+use Rattle.transyt_plot.specs.WorkedPlots.{three_steps, two_steps, one_step, unit_step}
 
--- a step in three digits
-pub digits_of_117 : three_digits 117 ≡ codes "117"
-digits_of_117 = refl
+-- steps in three digits
+pub three_digits_are : map three_digits (117 ∷ 99 ∷ 100 ∷ []) ≡ codes "117" ∷ codes "099" ∷ codes "100" ∷ []
+three_digits_are = refl
 
 -- three steps, where most can go; a share is rounded down
 pub three_are : plot_of 8 (558201 ∷ 468920 ∷ 1563415 ∷ []) (2776388 ∷ 2776388 ∷ 0 ∷ []) (2776388 ∷ 2776379 ∷ 0 ∷ []) ≡ three_steps
@@ -23,3 +23,8 @@ two_are = refl
 pub one_is : plot_of 1 (0 ∷ []) (0 ∷ []) (0 ∷ []) ≡ one_step
 unfolding field step_line scale_line form_line filled digits
 one_is = refl
+
+-- a step of a single unit
+pub unit_is : plot_of 2 (1 ∷ []) (0 ∷ []) (1 ∷ []) ≡ unit_step
+unfolding field step_line scale_line form_line filled digits
+unit_is = refl

@@ -37,3 +37,13 @@ one_step =
     ∷ codes "000 ....................|....................|...................."
     ∷ []
     )
+
+-- a step of a single unit, which is the scale
+abbrev pub unit_step : List ℕ
+unit_step =
+    ended
+    (
+    codes "PLOT 2 SCALE 1"
+    ∷ codes "000 IIIIIIIIIIIIIIIIIIII|....................|OOOOOOOOOOOOOOOOOOOO"
+    ∷ []
+    )

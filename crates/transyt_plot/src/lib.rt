@@ -9,5 +9,5 @@ mod field;
 mod laws;
 mod plotting;
 
-pub use laws::worked_plots;
+pub use laws::{worked_link, worked_plots};
 pub use plotting::plot;
