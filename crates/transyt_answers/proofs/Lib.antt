@@ -10,3 +10,4 @@ pub mod WorkLaws
 pub mod CountLaws
 pub mod JudgedTexts
 pub mod Worked
+pub mod WorkedBrief
