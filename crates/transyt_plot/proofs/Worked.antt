@@ -3,7 +3,7 @@ use Rattle.std.proofs.Common.{◌≡◌, [], ◌∷◌, codes, map, refl}
 use Rattle.std.specs.Fmt.{digits}
 use Rattle.transyt_text.specs.Forms.{filled, form_line}
 use Rattle.transyt_plot.specs.Plot.{field, step_line, scale_line, plot_of, three_digits}
-use Rattle.transyt_plot.specs.WorkedPlots.{three_steps, two_steps, one_step, unit_step}
+use Rattle.transyt_plot.specs.WorkedPlots.{three_steps, two_steps, one_step, unit_step, open_step}
 
 -- steps in three digits
 pub three_digits_are : map three_digits (117 ∷ 99 ∷ 100 ∷ []) ≡ codes "117" ∷ codes "099" ∷ codes "100" ∷ []
@@ -28,3 +28,8 @@ one_is = refl
 pub unit_is : plot_of 2 (1 ∷ []) (0 ∷ []) (1 ∷ []) ≡ unit_step
 unfolding field step_line scale_line form_line filled digits
 unit_is = refl
+
+-- a step in which more can go than comes or leaves
+pub open_is : plot_of 5 (2 ∷ []) (8 ∷ []) (5 ∷ []) ≡ open_step
+unfolding field step_line scale_line form_line filled digits
+open_is = refl

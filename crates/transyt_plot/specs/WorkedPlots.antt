@@ -47,3 +47,13 @@ unit_step =
     ∷ codes "000 IIIIIIIIIIIIIIIIIIII|....................|OOOOOOOOOOOOOOOOOOOO"
     ∷ []
     )
+
+-- a step in which more can go than comes or leaves
+abbrev pub open_step : List ℕ
+open_step =
+    ended
+    (
+    codes "PLOT 5 SCALE 8"
+    ∷ codes "000 IIIII...............|GGGGGGGGGGGGGGGGGGGG|OOOOOOOOOOOO........"
+    ∷ []
+    )
