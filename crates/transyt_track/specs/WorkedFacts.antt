@@ -1,11 +1,15 @@
 -- Worked saved rows: two links at two sweeps in a cycle of two steps, of which two rows are saved; and records of facts
 -- that hold, with such as are wrong in one thing.
-use Rattle.std.specs.Prelude.{ℕ, List, [], ◌∷◌, Bool, true, false, replicate, Option, Some}
+use Rattle.std.specs.Prelude.{ℕ, List, [], ◌∷◌, Bool, true, false, replicate, Option, Some, None}
 use Rattle.transyt_sweep.specs.Cell.{CellValue}
-use Rattle.transyt_sweep.specs.Rows.{RowsValue, rows_of}
+use Rattle.transyt_sweep.specs.Rows.{RowsValue, rows_of, no_figures}
 use Rattle.transyt_sweep.specs.WorkedLinks.{new_figures}
-use Rattle.transyt_net.specs.Parts.{Network}
+use Rattle.transyt_net.specs.declared.edit.Edit.{Edit}
+use Rattle.transyt_net.specs.declared.edit.Edit.TheVariants.{Offset, Change, Entry, Part, Cruise, Saturation, Weight}
+use Rattle.transyt_net.specs.Parts.{Network, no_link}
+use Rattle.transyt_track.specs.Own.{Own, PlacesValue}
 use Rattle.transyt_track.specs.Saved.{SavedValue}
+use Rattle.transyt_track.specs.WorkedWork.{junctions}
 
 -- rows now
 abbrev pub rows_now : RowsValue
@@ -173,3 +177,112 @@ begun_two = record saved_two { flags = false ∷ false ∷ false ∷ false ∷ f
 -- the other work but for its index
 abbrev pub another_unweighed : CellValue
 another_unweighed = record another { figures = new_figures 81 82 83 0 }
+
+-- the links of the two junctions: their own data, where they stand
+abbrev pub own_three : List Own
+own_three = record {
+  entry = 431;
+  saturation = 1733;
+  offset = 4;
+  changes = 2 ∷ 7 ∷ [];
+  parts = record { flow = 88; cruise = 9; whole = 408 } ∷ [];
+} ∷ record {
+  entry = 97;
+  saturation = 1619;
+  offset = 13;
+  changes = 5 ∷ 14 ∷ [];
+  parts = record { flow = 311; cruise = 23; whole = 519 } ∷ [];
+} ∷ record {
+  entry = 151;
+  saturation = 907;
+  offset = 13;
+  changes = 5 ∷ 14 ∷ [];
+  parts = record { flow = 77; cruise = 61; whole = 408 } ∷ [];
+} ∷ []
+
+abbrev pub places_three : List PlacesValue
+places_three =
+    record { node = 0; feeders = 1 ∷ []; rule = None }
+    ∷ record { node = 1; feeders = 0 ∷ []; rule = None }
+    ∷ record { node = 1; feeders = 1 ∷ []; rule = Some 0 }
+    ∷ []
+
+-- edits of the two junctions, with whether the own data and the total flow of each link differ then
+abbrev pub differing : List (Edit × List Bool × List Bool)
+differing =
+    (Offset 21 9, true ∷ false ∷ false ∷ [], false ∷ false ∷ false ∷ [])
+    ∷ (Change 7 2 15, false ∷ true ∷ true ∷ [], false ∷ false ∷ false ∷ [])
+    ∷ (Weight 9 1 99, false ∷ false ∷ false ∷ [], false ∷ false ∷ false ∷ [])
+    ∷ (Cruise 9 5 22, false ∷ true ∷ false ∷ [], false ∷ false ∷ false ∷ [])
+    ∷ (Saturation 4 1800, false ∷ false ∷ true ∷ [], false ∷ false ∷ false ∷ [])
+    ∷ (Part 4 9 300, false ∷ false ∷ true ∷ [], false ∷ false ∷ true ∷ [])
+    ∷ (Entry 9 9999, true ∷ true ∷ true ∷ [], false ∷ true ∷ false ∷ [])
+    ∷ []
+
+-- the rows now with the second link weighed anew by the weights 5 and 7 and 37 hundredths for a stop:
+-- 5 * (5 + 6) + 7 * 37 * 7 / 100
+abbrev pub rows_left : RowsValue
+rows_left = record rows_now { figures = new_figures 1 2 3 4 ∷ new_figures 5 6 7 73 ∷ [] }
+
+-- rows and saved rows of other sizes: in the steps, the sweeps and the links alone, and in the links that the saved rows
+-- count
+abbrev pub unfit_rows : List (RowsValue × SavedValue)
+unfit_rows =
+    (record rows_now { step_count = 3 }, saved_two)
+    ∷ (record rows_now { sweeps = 3 }, saved_two)
+    ∷ (record rows_now { figures = new_figures 1 2 3 4 ∷ [] }, record saved_two { link_count = 1 })
+    ∷ (rows_now, record saved_two { link_count = 3 })
+    ∷ []
+
+-- saved rows that are not alike: in the mark, the count of the links, a flag, and the sizes of the rows alone
+abbrev pub unlike_two : List SavedValue
+unlike_two =
+    record saved_two { live = false }
+    ∷ record saved_two { link_count = 3 }
+    ∷ record saved_two { flags = false ∷ true ∷ false ∷ true ∷ true ∷ false ∷ [] }
+    ∷ record saved_two { rows = record rows_before { step_count = 1 } }
+    ∷ record saved_two { rows = record rows_before { sweeps = 1 } }
+    ∷ record saved_two { rows = record rows_before { figures = new_figures 1 2 3 4 ∷ [] } }
+    ∷ []
+
+-- rows with nothing in them but so many sweeps and links
+abbrev pub bare_rows : ℕ → ℕ → RowsValue
+bare_rows sweeps link_count = rows_of 0 sweeps [] [] [] [] (replicate link_count no_figures)
+
+-- counts of links, flags and rows of saved rows: the smallest, the most sweeps, and the most links
+abbrev pub saved_parts : List (ℕ × List Bool × RowsValue)
+saved_parts =
+    (0, [], bare_rows 0 0)
+    ∷ (2, replicate 18 true, bare_rows 8 2)
+    ∷ (1000, replicate 1000 false, bare_rows 0 1000)
+    ∷ []
+
+-- such as are none: a link too few, a link too many, a sweep too many, a flag too few, and one too many
+abbrev pub unsaved_parts : List (ℕ × List Bool × RowsValue)
+unsaved_parts =
+    (1, replicate 9 true, bare_rows 8 2)
+    ∷ (1001, replicate 1001 false, bare_rows 0 1001)
+    ∷ (2, replicate 20 true, bare_rows 9 2)
+    ∷ (2, replicate 17 true, bare_rows 8 2)
+    ∷ (2, replicate 19 true, bare_rows 8 2)
+    ∷ []
+
+-- the two junctions with these weights of their second link
+abbrev pub weights_of_second : ℕ → ℕ → Network
+weights_of_second delay stop = record junctions {
+  links = no_link ∷ record no_link { delay_weight = delay; stop_weight = stop } ∷ [];
+}
+
+-- other weights than 3 and 4: in that of delay and in that of stops alone
+abbrev pub other_weights : List (ℕ × ℕ)
+other_weights = (4, 4) ∷ (3, 3) ∷ []
+
+-- other flags of three links than one for the second: a link too few, one too many, and each flag alone
+abbrev pub other_flags : List (List Bool)
+other_flags =
+    (false ∷ true ∷ [])
+    ∷ (false ∷ true ∷ false ∷ false ∷ [])
+    ∷ (true ∷ true ∷ false ∷ [])
+    ∷ (false ∷ false ∷ false ∷ [])
+    ∷ (false ∷ true ∷ true ∷ [])
+    ∷ []

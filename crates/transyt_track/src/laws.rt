@@ -1,16 +1,29 @@
 //! Laws about the definitions.
 
-ghost use Rattle.std.specs.Prelude.{◌≡◌, ◌↔◌, ℕ, [], ◌∷◌, false, true, map, IsTrue};
+ghost use Rattle.std.specs.Prelude.{◌≡◌, ◌↔◌, ℕ, [], ◌∷◌, false, true, map, nat_eq, All, IsTrue};
+ghost use Rattle.transyt_net.specs.Edits.{with_edit};
 ghost use Rattle.transyt_net.specs.Parts.{Network};
 ghost use Rattle.transyt_sweep.specs.Sweeps.{out_of};
-ghost use Rattle.transyt_track.specs.Own.{Own, same_own};
+ghost use Rattle.transyt_track.specs.Own.{HaveWeights, Own, all_places, own, same_own};
 ghost use Rattle.transyt_track.specs.Due.{differs, due};
 ghost use Rattle.transyt_track.specs.Work.{edit_work, work_of, cert_work};
-ghost use Rattle.transyt_track.specs.Front.{flag, unweighed};
+ghost use Rattle.transyt_track.specs.Front.{AreFlags, flag, left_at, own_differs, total_differs, unweighed};
 ghost use Rattle.transyt_track.specs.Saved.{begun, is_saved, kept_at, old_out, old_shown, restored_at};
-ghost use Rattle.transyt_track.specs.Saved.{returned_at, saved_at, settled};
+ghost use Rattle.transyt_track.specs.Saved.{AreSaved, FitsRows, SaveAlike, returned_at, saved_at, settled};
 ghost use Rattle.transyt_track.specs.WorkedFacts.{
   another,
+  bare_rows,
+  differing,
+  other_flags,
+  other_weights,
+  own_three,
+  places_three,
+  rows_left,
+  saved_parts,
+  unfit_rows,
+  unlike_two,
+  unsaved_parts,
+  weights_of_second,
   another_unweighed,
   begun_two,
   closed_two,
@@ -62,4 +75,35 @@ pub fn worked_saved()
     ensures settled { settled saved_two ≡ closed_two }
     ensures unweighed { unweighed another ≡ another_unweighed }
     ensures flags { map (flag (true ∷ false ∷ true ∷ [])) (0 ∷ 1 ∷ 2 ∷ 3 ∷ []) ≡ true ∷ false ∷ true ∷ false ∷ [] }
+{}
+
+/// So do the own data of links, where they stand, what differs of them after edits, and rows that are left at a sweep.
+pub fn worked_own()
+    ensures own { map (own junctions) (0 ∷ 1 ∷ 2 ∷ []) ≡ own_three }
+    ensures places { all_places junctions ≡ places_three }
+    ensures own_differs { map (λ row. map (own_differs junctions (with_edit junctions row.0)) (0 ∷ 1 ∷ 2 ∷ [])) differing
+        ≡ map (λ row. row.1) differing }
+    ensures total_differs { map (λ row. map (total_differs junctions (with_edit junctions row.0)) (0 ∷ 1 ∷ 2 ∷ []))
+        differing ≡ map (λ row. row.2) differing }
+    ensures left { left_at junctions 2 1 rows_now ≡ rows_left }
+    ensures left_before { left_at junctions 1 1 rows_now ≡ rows_now }
+{}
+
+/// The worked saved rows keep to what is said of them, and those with one thing wrong don't.
+pub fn worked_facts()
+    ensures fit { FitsRows rows_now saved_two }
+    ensures unfit { All (λ row. FitsRows row.0 row.1 → ⊥) unfit_rows }
+    ensures alike { SaveAlike saved_two saved_two }
+    ensures unlike { All (λ saved. SaveAlike saved saved_two → ⊥) unlike_two }
+    ensures parts { All (λ row. AreSaved row.0 row.1 row.2) saved_parts }
+    ensures no_parts { All (λ row. AreSaved row.0 row.1 row.2 → ⊥) unsaved_parts }
+    ensures weights { HaveWeights (weights_of_second 3 4) (weights_of_second 3 4) 1 }
+    ensures other_weights { All (λ row. HaveWeights (weights_of_second 3 4) (weights_of_second row.0 row.1) 1 → ⊥)
+        other_weights }
+{}
+
+/// So do flags.
+pub fn worked_flags()
+    ensures flags { AreFlags (nat_eq 1) 3 (false ∷ true ∷ false ∷ []) }
+    ensures other_flags { All (λ flags. AreFlags (nat_eq 1) 3 flags → ⊥) other_flags }
 {}
