@@ -1,14 +1,14 @@
 -- Worked saved rows: two links at two sweeps in a cycle of two steps, of which two rows are saved; and records of facts
 -- that hold, with such as are wrong in one thing.
-use Rattle.std.specs.Prelude.{ℕ, List, [], ◌∷◌, Bool, true, false, replicate, Option, Some, None}
+use Rattle.std.specs.Prelude.{ℕ, List, [], ◌∷◌, Bool, true, false, replicate, Option, Some, None, take, drop, ◌++◌}
 use Rattle.transyt_sweep.specs.Cell.{CellValue}
-use Rattle.transyt_sweep.specs.Rows.{RowsValue, rows_of, no_figures}
+use Rattle.transyt_sweep.specs.Rows.{RowsValue, rows_of, no_figures, placed}
 use Rattle.transyt_sweep.specs.WorkedLinks.{new_figures}
 use Rattle.transyt_net.specs.declared.edit.Edit.{Edit}
 use Rattle.transyt_net.specs.declared.edit.Edit.TheVariants.{Offset, Change, Entry, Part, Cruise, Saturation, Weight}
 use Rattle.transyt_net.specs.Parts.{Network, no_link}
-use Rattle.transyt_track.specs.Own.{Own, PlacesValue}
-use Rattle.transyt_track.specs.Saved.{SavedValue}
+use Rattle.transyt_track.specs.Own.{Own, PlacesValue, no_places}
+use Rattle.transyt_track.specs.Saved.{SavedValue, saved_at}
 use Rattle.transyt_track.specs.WorkedWork.{junctions}
 
 -- rows now
@@ -285,4 +285,104 @@ other_flags =
     ∷ (true ∷ true ∷ false ∷ [])
     ∷ (false ∷ false ∷ false ∷ [])
     ∷ (false ∷ true ∷ true ∷ [])
+    ∷ []
+
+-- two links at two sweeps in a cycle of two steps
+abbrev pub two_links : Network
+two_links = record junctions {
+  frame = record { cycle = 90; step_count = 2; sweeps = 2; period = 45; stop_penalty = 37; dispersion = 40 };
+  links = no_link ∷ no_link ∷ [];
+}
+
+-- what the worked rows and saved rows may become: themselves, the same with a row more saved, and such as differ where a
+-- row is saved, in what is saved of no pair, and in the indexes of the last sweep
+abbrev pub carried : List (RowsValue × SavedValue)
+carried =
+    (rows_now, saved_two)
+    ∷ (rows_now, saved_at saved_two rows_now 1 1)
+    ∷ (
+      placed (record rows_now { figures = new_figures 1 2 3 4 ∷ new_figures 5 6 7 9 ∷ [] }) 2 0 another,
+      record saved_two {
+        rows = record rows_before {
+          outs = 113 ∷ 112 ∷ 113 ∷ 114 ∷ 121 ∷ 122 ∷ 123 ∷ 129 ∷ 131 ∷ 132 ∷ 133 ∷ 134 ∷ [];
+          figures = new_figures 101 102 103 109 ∷ new_figures 1 2 3 4 ∷ [];
+        };
+      },
+    )
+    ∷ []
+
+-- what they may not become: what left before differs, where it is as now and where it is saved
+abbrev pub other_out : RowsValue
+other_out = placed rows_now 1 1 another
+
+abbrev pub other_saved : SavedValue
+other_saved = record saved_two { rows = placed rows_before 0 1 another }
+
+-- and the last sweep differs so
+abbrev pub other_arrivals : RowsValue
+other_arrivals = record rows_now { arrivals = 41 ∷ 42 ∷ 43 ∷ 45 ∷ [] }
+
+abbrev pub other_go : SavedValue
+other_go = record saved_two { rows = record rows_before { go = 151 ∷ 153 ∷ 153 ∷ 154 ∷ [] } }
+
+-- with no mark they may not become these, of another size, of sizes that don't fit, and with a mark
+abbrev pub uncarried_closed : List (RowsValue × SavedValue)
+uncarried_closed =
+    (record rows_now { sweeps = 3 }, record closed_two { rows = record rows_before { sweeps = 3 } })
+    ∷ (rows_now, record closed_two { link_count = 3 })
+    ∷ (rows_now, saved_two)
+    ∷ []
+
+-- saved rows that are the worked ones from the second link at sweep 1 on
+abbrev pub ahead : List SavedValue
+ahead =
+    saved_two
+    ∷ record saved_two {
+      rows = record rows_before {
+        outs = 11 ∷ 12 ∷ 13 ∷ 14 ∷ 21 ∷ 22 ∷ 123 ∷ 124 ∷ 131 ∷ 132 ∷ 133 ∷ 134 ∷ [];
+      };
+    }
+    ∷ []
+
+-- such as aren't: in what leaves the second link at sweep 1, and in what comes to the first at the last
+abbrev pub out_behind : SavedValue
+out_behind = record saved_two {
+  rows = record rows_before {
+    outs = 111 ∷ 112 ∷ 113 ∷ 114 ∷ 121 ∷ 122 ∷ 123 ∷ 125 ∷ 131 ∷ 132 ∷ 133 ∷ 134 ∷ [];
+  };
+}
+
+abbrev pub shown_behind : SavedValue
+shown_behind = record saved_two { rows = record rows_before { arrivals = 141 ∷ 143 ∷ 143 ∷ 144 ∷ [] } }
+
+-- the saved rows with other work of the first link at the last sweep
+abbrev pub first_placed : SavedValue
+first_placed = record saved_two { rows = placed rows_before 2 0 another }
+
+-- the rows before as far as the first link at the last sweep, and those now from the second on
+abbrev pub rows_between : RowsValue
+rows_between =
+    rows_of 2 2 (111 ∷ 112 ∷ 113 ∷ 114 ∷ 121 ∷ 122 ∷ 123 ∷ 124 ∷ 131 ∷ 132 ∷ 33 ∷ 34 ∷ []) (141 ∷ 142 ∷ 43 ∷ 44 ∷ [])
+    (151 ∷ 152 ∷ 53 ∷ 54 ∷ []) (161 ∷ 162 ∷ 63 ∷ 64 ∷ [])
+    (new_figures 101 102 103 104 ∷ new_figures 5 6 7 8 ∷ [])
+
+-- rows that aren't so: in what leaves alone, and in the last sweep alone, of the first link and of the second
+abbrev pub out_between : RowsValue
+out_between = placed rows_between 1 1 another
+
+abbrev pub first_between : RowsValue
+first_between = record rows_between { queue = 161 ∷ 62 ∷ 63 ∷ 64 ∷ [] }
+
+abbrev pub second_between : RowsValue
+second_between = record rows_between { queue = 161 ∷ 162 ∷ 63 ∷ 65 ∷ [] }
+
+-- places that aren't those of the three links: one too few, one too many, and another node, feeder and rule
+abbrev pub other_places : List (List PlacesValue)
+other_places =
+    (record { node = 0; feeders = 1 ∷ []; rule = None } ∷ record { node = 1; feeders = 0 ∷ []; rule = None } ∷ [])
+    ∷ (places_three ++ no_places ∷ [])
+    ∷ (record { node = 1; feeders = 1 ∷ []; rule = None } ∷ drop 1 places_three)
+    ∷ (record { node = 0; feeders = 2 ∷ []; rule = None } ∷ drop 1 places_three)
+    ∷ (record { node = 0; feeders = 1 ∷ []; rule = Some 0 } ∷ drop 1 places_three)
+    ∷ (take 2 places_three ++ no_places ∷ [])
     ∷ []

@@ -10,7 +10,29 @@ ghost use Rattle.transyt_track.specs.Work.{edit_work, work_of, cert_work};
 ghost use Rattle.transyt_track.specs.Front.{AreFlags, flag, left_at, own_differs, total_differs, unweighed};
 ghost use Rattle.transyt_track.specs.Saved.{begun, is_saved, kept_at, old_out, old_shown, restored_at};
 ghost use Rattle.transyt_track.specs.Saved.{AreSaved, FitsRows, SaveAlike, returned_at, saved_at, settled};
+ghost use Rattle.transyt_sweep.specs.Front.{AreMixed};
+ghost use Rattle.transyt_sweep.specs.Rows.{out_at, shown_at};
+ghost use Rattle.transyt_track.specs.Front.{AreBetween, AreShownMixed};
+ghost use Rattle.transyt_track.specs.Own.{ArePlaces};
+ghost use Rattle.transyt_track.specs.Saved.{AreAhead, Carries};
 ghost use Rattle.transyt_track.specs.WorkedFacts.{
+  ahead,
+  other_out,
+  other_saved,
+  other_arrivals,
+  other_go,
+  out_behind,
+  shown_behind,
+  carried,
+  first_placed,
+  out_between,
+  first_between,
+  second_between,
+  other_places,
+  rows_before,
+  rows_between,
+  two_links,
+  uncarried_closed,
   another,
   bare_rows,
   differing,
@@ -106,4 +128,44 @@ pub fn worked_facts()
 pub fn worked_flags()
     ensures flags { AreFlags (nat_eq 1) 3 (false ∷ true ∷ false ∷ []) }
     ensures other_flags { All (λ flags. AreFlags (nat_eq 1) 3 flags → ⊥) other_flags }
+{}
+
+/// What the worked rows and saved rows lead back to stays in these, and not in those with one thing changed; with no mark
+/// there is nothing to lead back to.
+pub fn worked_carries()
+    ensures carried { All (λ row. Carries rows_now saved_two row.0 row.1) carried }
+    ensures uncarried_out { Carries rows_now saved_two other_out saved_two → ⊥ }
+    ensures uncarried_saved { Carries rows_now saved_two rows_now other_saved → ⊥ }
+    ensures uncarried_arrivals { Carries rows_now saved_two other_arrivals saved_two → ⊥ }
+    ensures uncarried_go { Carries rows_now saved_two rows_now other_go → ⊥ }
+    ensures closed { Carries rows_now closed_two rows_before (settled begun_two) }
+    ensures uncarried_closed { All (λ row. Carries rows_now closed_two row.0 row.1 → ⊥) uncarried_closed }
+{}
+
+/// Saved rows are the worked ones from a link at a sweep on, rows are of one kind before it and of another from it on,
+/// and those with one thing wrong aren't.
+pub fn worked_fronts()
+    ensures ahead { All (AreAhead two_links saved_two 1 1) ahead }
+    ensures not_ahead { AreAhead two_links saved_two 1 1 closed_two → ⊥ }
+    ensures not_ahead_out { AreAhead two_links saved_two 1 1 out_behind → ⊥ }
+    ensures not_ahead_shown { AreAhead two_links saved_two 1 1 shown_behind → ⊥ }
+    ensures ahead_at_last { AreAhead two_links saved_two 2 1 first_placed }
+    ensures not_ahead_at_last { AreAhead two_links saved_two 2 0 first_placed → ⊥ }
+    ensures mixed { AreShownMixed two_links (shown_at rows_before) (shown_at rows_now) 2 1 rows_between }
+    ensures not_mixed { AreShownMixed two_links (shown_at rows_before) (shown_at rows_now) 2 0 rows_between → ⊥ }
+    ensures between_outs { AreMixed two_links (out_at rows_before) (out_at rows_now) 2 1 rows_between }
+    ensures between { AreBetween two_links (out_at rows_before) (shown_at rows_before) (out_at rows_now)
+        (shown_at rows_now) 2 1 rows_between }
+    ensures not_between_out { AreBetween two_links (out_at rows_before) (shown_at rows_before) (out_at rows_now)
+        (shown_at rows_now) 2 1 out_between → ⊥ }
+    ensures not_between_first { AreBetween two_links (out_at rows_before) (shown_at rows_before) (out_at rows_now)
+        (shown_at rows_now) 2 1 first_between → ⊥ }
+    ensures not_between_second { AreBetween two_links (out_at rows_before) (shown_at rows_before) (out_at rows_now)
+        (shown_at rows_now) 2 1 second_between → ⊥ }
+{}
+
+/// The places of the links of the two junctions are these and no others.
+pub fn worked_places()
+    ensures places { ArePlaces junctions places_three }
+    ensures other_places { All (λ places. ArePlaces junctions places → ⊥) other_places }
 {}

@@ -20,7 +20,10 @@ mod saved;
 mod size;
 mod tracker;
 
-pub use laws::{rule_of_due, worked_facts, worked_flags, worked_own, worked_saved, worked_work};
+pub use laws::{
+    rule_of_due, worked_carries, worked_facts, worked_flags, worked_fronts, worked_own,
+    worked_places, worked_saved, worked_work,
+};
 pub use size::MOST_BYTES;
 pub use tracker::Tracker;
 
