@@ -10,3 +10,4 @@ pub mod WorkedLinks
 pub mod WorkedSweeps
 pub mod WorkedRows
 pub mod WorkedClimbs
+pub mod WorkedFacts

@@ -9,6 +9,7 @@ ghost use Rattle.transyt_moves.specs.Moves.{move_count};
 ghost use Rattle.transyt_stage.specs.ThreeJunctions.{three_junctions};
 ghost use Rattle.transyt_sweep.specs.Sweeps.{out_of, start, worked_at, evaluated, index};
 ghost use Rattle.transyt_sweep.specs.Rows.{pair_in, read_in, placed, with_weights, index_in};
+ghost use Rattle.transyt_sweep.specs.Rows.{Fits, SameSize, AreSmall, AreRows};
 ghost use Rattle.transyt_sweep.specs.Front.{is_before, empty_out, empty_rows};
 ghost use Rattle.transyt_sweep.specs.Climb.{tried_at, is_below, lowers, least, first, ended, after_search, climb};
 ghost use Rattle.transyt_sweep.specs.WorkedLinks.{arrivals_of_three, gos_of_three, queues_of_three, outs_of_three};
@@ -17,6 +18,8 @@ ghost use Rattle.transyt_sweep.specs.WorkedSweeps.{ring, outs_of_ring, fed_by_it
 ghost use Rattle.transyt_sweep.specs.WorkedSweeps.{gives_way_to_later, no_links};
 ghost use Rattle.transyt_sweep.specs.WorkedRows.{rows, second_link, another, placed_before, placed_last, weighed};
 ghost use Rattle.transyt_sweep.specs.WorkedRows.{orders, rows_at_first};
+ghost use Rattle.transyt_sweep.specs.WorkedFacts.{fitting, unfitting, fitting_too, greatest, too_great};
+ghost use Rattle.transyt_sweep.specs.WorkedFacts.{right_rows, wrong_rows, wrong_links, wrong_outs};
 ghost use Rattle.transyt_sweep.specs.WorkedClimbs.{idle, tried_in_idle, limits, leasts, stayed, stepped_back};
 
 /// The rule of the sweeps: before the first each link lets its total flow go, and at each sweep a link is worked out
@@ -96,4 +99,18 @@ pub fn worked_climbs()
     ensures budget { climb idle 4 3 ≡ stayed false idle (4 ∷ 5 ∷ 0 ∷ []) }
     ensures step { after_search (ended true) idle 5 6 9 (Some 2) ≡ stepped_back }
     ensures no_step { after_search (ended true) idle 4 6 3 (Some 3) ≡ stayed false idle (4 ∷ 5 ∷ 0 ∷ []) }
+{}
+
+/// Worked rows and figures keep to what is said of them, at the limits too, and those that are wrong in one thing don't.
+pub fn worked_facts()
+    ensures fits { Fits three_junctions fitting }
+    ensures unfitting { All (λ r. Fits three_junctions r → ⊥) unfitting }
+    ensures same_size { SameSize fitting fitting_too }
+    ensures other_sizes { All (λ r. SameSize fitting_too r → ⊥) unfitting }
+    ensures small { AreSmall greatest }
+    ensures too_great { All (λ f. AreSmall f → ⊥) too_great }
+    ensures right_rows { All AreRows right_rows }
+    ensures wrong_rows { All (λ r. AreRows r → ⊥) wrong_rows }
+    ensures wrong_links { AreRows wrong_links → ⊥ }
+    ensures wrong_outs { AreRows wrong_outs → ⊥ }
 {}

@@ -24,7 +24,7 @@ mod working;
 
 pub use laws::{
     rule_of_climbs, rule_of_departures, rule_of_evaluation, rule_of_sweeps, worked_climbs,
-    worked_figures, worked_links, worked_rows, worked_sweeps,
+    worked_facts, worked_figures, worked_links, worked_rows, worked_sweeps,
 };
 pub use rows::Rows;
 pub use scratch::{FACTOR_BYTES, Scratch};
