@@ -1,6 +1,15 @@
 -- Worked facts of rows: such as keep to what is said of them, at the limits, and such as are wrong in one thing alone.
-use Rattle.std.specs.Prelude.{List, [], ◌∷◌, replicate}
+use Rattle.std.specs.Prelude.{ℕ, true, false, List, [], ◌∷◌, replicate}
 use Rattle.transyt_delay.specs.declared.figures.Figures.{Figures}
+use Rattle.transyt_platoon.specs.declared.travel.Travel.{Travel}
+use Rattle.transyt_parts.specs.declared.frame.Frame.{Frame}
+use Rattle.transyt_parts.specs.declared.link.Feed.{Feed}
+use Rattle.transyt_parts.specs.Made.{new_feed}
+use Rattle.transyt_sweep.specs.declared.factors.Factors.{Factors}
+use Rattle.transyt_sweep.specs.declared.asked.Asked.{Asked}
+use Rattle.transyt_sweep.specs.declared.asked.Asked.TheVariants.{Known, Open}
+use Rattle.transyt_sweep.specs.declared.asked.Weights.{Weights}
+use Rattle.transyt_sweep.specs.Table.{TableValue}
 use Rattle.transyt_sweep.specs.Rows.{RowsValue, rows_of, no_figures}
 use Rattle.transyt_sweep.specs.WorkedLinks.{new_figures}
 
@@ -72,3 +81,326 @@ wrong_outs = record sound { outs = 1073741824 ∷ replicate 17 0 }
 -- figures that are too great
 abbrev pub wrong_figures : RowsValue
 wrong_figures = record sound { figures = record greatest { uniform = 9223372036854775808 } ∷ no_figures ∷ [] }
+
+-- the weights and the frame's numbers at their limits
+abbrev pub limiting : Weights
+limiting = record {
+  frame = record { cycle = 30; step_count = 1; period = 120; stop_penalty = 9999 };
+  delay_weight = 999;
+  stop_weight = 999;
+  is_cut = false;
+}
+
+-- one past each limit
+abbrev pub past_limiting : List Weights
+past_limiting =
+    record limiting { frame = record { cycle = 29; step_count = 1; period = 120; stop_penalty = 9999 } }
+    ∷ record limiting { frame = record { cycle = 30; step_count = 0; period = 120; stop_penalty = 9999 } }
+    ∷ record limiting { frame = record { cycle = 30; step_count = 1; period = 121; stop_penalty = 9999 } }
+    ∷ record limiting { frame = record { cycle = 30; step_count = 1; period = 120; stop_penalty = 10000 } }
+    ∷ record limiting { delay_weight = 1000 }
+    ∷ record limiting { stop_weight = 1000 }
+    ∷ []
+
+-- the same weights where less reaches the stop line than comes
+abbrev pub cutting : Weights
+cutting = record limiting { is_cut = true }
+
+-- what comes, what can go, what waits, what was kept of what reaches the stop line, and weights
+abbrev pub TellRow : Type 0
+TellRow = List ℕ × List ℕ × List ℕ × List ℕ × Weights
+
+-- Figures can be worked out of these: all that comes can go, and what was kept is of no account; or all is the
+-- greatest, and what can go reaches the stop line.
+abbrev pub telling : List TellRow
+telling =
+    (2 ∷ 3 ∷ [], 1 ∷ 4 ∷ [], 6 ∷ 7 ∷ [], 8 ∷ [], limiting)
+    ∷ (281474976710655 ∷ [], 1073741823 ∷ [], 137438953471 ∷ [], 1073741823 ∷ [], cutting)
+    ∷ []
+
+-- None can be worked out of these: a step too many; one more than the greatest that comes, that can go and that waits;
+-- less reaches the stop line than comes, and the weights don't say so, or other than what was kept; and a weight.
+abbrev pub untelling : List TellRow
+untelling =
+    (replicate 121 0, [], [], [], limiting)
+    ∷ (281474976710656 ∷ [], 1073741823 ∷ [], 137438953471 ∷ [], 1073741823 ∷ [], cutting)
+    ∷ (2 ∷ [], 1073741824 ∷ [], 7 ∷ [], 2 ∷ [], limiting)
+    ∷ (2 ∷ [], 3 ∷ [], 137438953472 ∷ [], 2 ∷ [], limiting)
+    ∷ (5 ∷ [], 3 ∷ [], 7 ∷ [], 3 ∷ [], limiting)
+    ∷ (5 ∷ [], 3 ∷ [], 7 ∷ [], 4 ∷ [], cutting)
+    ∷ (5 ∷ [], 3 ∷ [], 7 ∷ [], 3 ∷ [], record cutting { stop_weight = 1000 })
+    ∷ []
+
+-- Factors round 18 steps: of a cruise of 160 seconds in a cycle of 30, and a part for which no product serves.
+abbrev pub ready_factors : Factors
+ready_factors = record {
+  feeder = 4;
+  cruise = 160;
+  cycle = 30;
+  part = record { part = 9999; whole = 997; reciprocal = 0; factor = 0; quick = false };
+  travel = record {
+    time = 77;
+    percent = 12;
+    weight = 924;
+    limit = 1048576;
+    reciprocal = 1073741824;
+    starting_factor = 107374182400;
+    before_factor = 992137445376;
+    place = 5;
+  };
+}
+
+-- the same without a cruise, so that nothing of the platoon disperses: the greatest factor of what sets out
+abbrev pub quickest : Factors
+quickest = record ready_factors {
+  cruise = 0;
+  travel = record {
+    time = 0;
+    percent = 12;
+    weight = 0;
+    limit = 7;
+    reciprocal = 10995116278;
+    starting_factor = 1099511627800;
+    before_factor = 0;
+    place = 0;
+  };
+}
+
+-- factors that are right round 18 steps
+abbrev pub right_factors : List Factors
+right_factors = ready_factors ∷ quickest ∷ []
+
+-- the way of its platoon with another place
+abbrev pub misplaced : Travel
+misplaced = record ready_factors.travel { place = 6 }
+
+-- None of these is right there: a part that is too great, a place, and a cruise and a cycle that are another's.
+abbrev pub wrong_factors : List Factors
+wrong_factors =
+    record ready_factors { part = record { part = 10000; whole = 997; reciprocal = 0; factor = 0; quick = false } }
+    ∷ record ready_factors { travel = misplaced }
+    ∷ record ready_factors { cruise = 158 }
+    ∷ record ready_factors { cruise = 162 }
+    ∷ record ready_factors { cycle = 29 }
+    ∷ []
+
+-- a frame of 18 steps and the dispersion of those factors, and the feed whose numbers they name
+abbrev pub served_frame : Frame
+served_frame =
+    record { cycle = 30; step_count = 18; sweeps = 3; period = 45; stop_penalty = 37; dispersion = 12 }
+
+abbrev pub served_feed : Feed
+served_feed = new_feed 5 9999 160
+
+-- a frame, a feed, what leaves its feeder, and factors
+abbrev pub ServeRow : Type 0
+ServeRow = Frame × Feed × ℕ × Factors
+
+-- The factors don't serve there: a flow less and one more, a whole less and one more, a cruise that takes fewer steps
+-- and one that takes more, and a dispersion less and one more.
+abbrev pub unserved : List ServeRow
+unserved =
+    (served_frame, new_feed 5 9998 160, 997, ready_factors)
+    ∷ (served_frame, new_feed 5 10000 160, 997, ready_factors)
+    ∷ (served_frame, served_feed, 996, ready_factors)
+    ∷ (served_frame, served_feed, 998, ready_factors)
+    ∷ (served_frame, new_feed 5 9999 158, 997, ready_factors)
+    ∷ (served_frame, new_feed 5 9999 162, 997, ready_factors)
+    ∷ (record served_frame { dispersion = 11 }, served_feed, 997, ready_factors)
+    ∷ (record served_frame { dispersion = 13 }, served_feed, 997, ready_factors)
+    ∷ []
+
+-- a table of three rows of two values; the values may be fewer or more
+abbrev pub table_of_three : TableValue
+table_of_three = record { step_count = 2; count = 3; items = 5 ∷ [] }
+
+-- a value and a row less and one more
+abbrev pub wrong_tables : List TableValue
+wrong_tables =
+    record table_of_three { step_count = 1 }
+    ∷ record table_of_three { step_count = 3 }
+    ∷ record table_of_three { count = 2 }
+    ∷ record table_of_three { count = 4 }
+    ∷ []
+
+-- so many zeros
+abbrev pub zeros : ℕ → List ℕ
+zeros count = replicate count 0
+
+-- 18 departures, the first the greatest
+abbrev pub most : List ℕ
+most = 1073741823 ∷ zeros 17
+
+-- all that IsScratch speaks of, in order
+abbrev pub ScratchRow : Type 0
+ScratchRow = List ℕ × List ℕ × List ℕ × List ℕ × Asked × List ℕ × List ℕ × List Factors
+
+-- of 18 steps: what comes, is green and waits, what leaves with the greatest value, and room for twelve rows
+abbrev pub right_scratch : List ScratchRow
+right_scratch =
+    (zeros 18, zeros 18, zeros 18, most, Known greatest, zeros 216, zeros 18, right_factors)
+    ∷ (zeros 18, zeros 18, zeros 18, most, Open limiting, zeros 216, zeros 18, [])
+    ∷ []
+
+-- None is right: a value less and one more of what is green, waits and leaves, of the room, and of what reaches the
+-- stop line; a value that is too great; figures too great, and weights; and factors.
+abbrev pub wrong_scratch : List ScratchRow
+wrong_scratch =
+    (zeros 18, zeros 17, zeros 18, most, Known greatest, zeros 216, zeros 18, right_factors)
+    ∷ (zeros 18, zeros 19, zeros 18, most, Known greatest, zeros 216, zeros 18, right_factors)
+    ∷ (zeros 18, zeros 18, zeros 17, most, Known greatest, zeros 216, zeros 18, right_factors)
+    ∷ (zeros 18, zeros 18, zeros 19, most, Known greatest, zeros 216, zeros 18, right_factors)
+    ∷ (zeros 18, zeros 18, zeros 18, zeros 17, Known greatest, zeros 216, zeros 18, right_factors)
+    ∷ (zeros 18, zeros 18, zeros 18, zeros 19, Known greatest, zeros 216, zeros 18, right_factors)
+    ∷ (zeros 18, zeros 18, zeros 18, most, Known greatest, zeros 215, zeros 18, right_factors)
+    ∷ (zeros 18, zeros 18, zeros 18, most, Known greatest, zeros 217, zeros 18, right_factors)
+    ∷ (zeros 18, zeros 18, zeros 18, most, Known greatest, zeros 216, zeros 17, right_factors)
+    ∷ (zeros 18, zeros 18, zeros 18, most, Known greatest, zeros 216, zeros 19, right_factors)
+    ∷ []
+
+-- departures that are too great, figures that are, weights that are, and factors that are wrong
+abbrev pub wrong_departures : ScratchRow
+wrong_departures =
+    (zeros 18, zeros 18, zeros 18, 1073741824 ∷ zeros 17, Known greatest, zeros 216, zeros 18, right_factors)
+
+abbrev pub wrong_known : ScratchRow
+wrong_known = (
+  zeros 18,
+  zeros 18,
+  zeros 18,
+  most,
+  Known (record greatest { random = 9223372036854775808 }),
+  zeros 216,
+  zeros 18,
+  right_factors,
+)
+
+abbrev pub wrong_open : ScratchRow
+wrong_open = (
+  zeros 18,
+  zeros 18,
+  zeros 18,
+  most,
+  Open (record limiting { stop_weight = 1000 }),
+  zeros 216,
+  zeros 18,
+  right_factors,
+)
+
+abbrev pub wrong_ready : ScratchRow
+wrong_ready = (
+  zeros 18,
+  zeros 18,
+  zeros 18,
+  most,
+  Known greatest,
+  zeros 216,
+  zeros 18,
+  record ready_factors { cruise = 158 } ∷ [],
+)
+
+-- the parts of those rows of three steps and two sweeps, and their index: all that AreKept speaks of, in order
+abbrev pub KeptRow : Type 0
+KeptRow = ℕ × ℕ × TableValue × TableValue × TableValue × TableValue × List Figures × ℕ
+
+-- a table of three steps
+abbrev pub tabled : ℕ → List ℕ → TableValue
+tabled count items = record { step_count = 3; count = count; items = items }
+
+-- what is kept for two links
+abbrev pub kept : KeptRow
+kept = (
+  3,
+  2,
+  tabled 6 (zeros 18),
+  tabled 2 (zeros 6),
+  tabled 2 (zeros 6),
+  tabled 2 (zeros 6),
+  new_figures 1 2 3 400 ∷ new_figures 5 6 7 80 ∷ [],
+  480,
+)
+
+-- None of these is kept: rows whose departures are a value less, an index less and one more, and of each table a row
+-- less and one more
+abbrev pub wrong_kept : List KeptRow
+wrong_kept = (
+  3,
+  2,
+  tabled 6 (zeros 17),
+  tabled 2 (zeros 6),
+  tabled 2 (zeros 6),
+  tabled 2 (zeros 6),
+  new_figures 1 2 3 400 ∷ new_figures 5 6 7 80 ∷ [],
+  480,
+)
+    ∷ (
+      3,
+      2,
+      tabled 6 (zeros 18),
+      tabled 2 (zeros 6),
+      tabled 2 (zeros 6),
+      tabled 2 (zeros 6),
+      new_figures 1 2 3 400 ∷ new_figures 5 6 7 80 ∷ [],
+      479,
+    )
+    ∷ (
+      3,
+      2,
+      tabled 6 (zeros 18),
+      tabled 2 (zeros 6),
+      tabled 2 (zeros 6),
+      tabled 2 (zeros 6),
+      new_figures 1 2 3 400 ∷ new_figures 5 6 7 80 ∷ [],
+      481,
+    )
+    ∷ (
+      3,
+      2,
+      tabled 5 (zeros 18),
+      tabled 2 (zeros 6),
+      tabled 2 (zeros 6),
+      tabled 2 (zeros 6),
+      new_figures 1 2 3 400 ∷ new_figures 5 6 7 80 ∷ [],
+      480,
+    )
+    ∷ (
+      3,
+      2,
+      tabled 7 (zeros 18),
+      tabled 2 (zeros 6),
+      tabled 2 (zeros 6),
+      tabled 2 (zeros 6),
+      new_figures 1 2 3 400 ∷ new_figures 5 6 7 80 ∷ [],
+      480,
+    )
+    ∷ (
+      3,
+      2,
+      tabled 6 (zeros 18),
+      tabled 1 (zeros 6),
+      tabled 2 (zeros 6),
+      tabled 2 (zeros 6),
+      new_figures 1 2 3 400 ∷ new_figures 5 6 7 80 ∷ [],
+      480,
+    )
+    ∷ (
+      3,
+      2,
+      tabled 6 (zeros 18),
+      tabled 2 (zeros 6),
+      tabled 3 (zeros 6),
+      tabled 2 (zeros 6),
+      new_figures 1 2 3 400 ∷ new_figures 5 6 7 80 ∷ [],
+      480,
+    )
+    ∷ (
+      3,
+      2,
+      tabled 6 (zeros 18),
+      tabled 2 (zeros 6),
+      tabled 2 (zeros 6),
+      tabled 1 (zeros 6),
+      new_figures 1 2 3 400 ∷ new_figures 5 6 7 80 ∷ [],
+      480,
+    )
+    ∷ []

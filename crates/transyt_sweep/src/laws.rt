@@ -9,7 +9,7 @@ ghost use Rattle.transyt_moves.specs.Moves.{move_count};
 ghost use Rattle.transyt_stage.specs.ThreeJunctions.{three_junctions};
 ghost use Rattle.transyt_sweep.specs.Sweeps.{out_of, start, worked_at, evaluated, index};
 ghost use Rattle.transyt_sweep.specs.Rows.{pair_in, read_in, placed, with_weights, index_in};
-ghost use Rattle.transyt_sweep.specs.Rows.{Fits, SameSize, AreSmall, AreRows};
+ghost use Rattle.transyt_sweep.specs.Rows.{Fits, SameSize, AreSmall, AreRows, rows_of, no_figures};
 ghost use Rattle.transyt_sweep.specs.Front.{is_before, empty_out, empty_rows};
 ghost use Rattle.transyt_sweep.specs.Climb.{tried_at, is_below, lowers, least, first, ended, after_search, climb};
 ghost use Rattle.transyt_sweep.specs.WorkedLinks.{arrivals_of_three, gos_of_three, queues_of_three, outs_of_three};
@@ -19,7 +19,15 @@ ghost use Rattle.transyt_sweep.specs.WorkedSweeps.{gives_way_to_later, no_links}
 ghost use Rattle.transyt_sweep.specs.WorkedRows.{rows, second_link, another, placed_before, placed_last, weighed};
 ghost use Rattle.transyt_sweep.specs.WorkedRows.{orders, rows_at_first};
 ghost use Rattle.transyt_sweep.specs.WorkedFacts.{fitting, unfitting, fitting_too, greatest, too_great};
-ghost use Rattle.transyt_sweep.specs.WorkedFacts.{right_rows, wrong_rows, wrong_links, wrong_outs};
+ghost use Rattle.transyt_sweep.specs.WorkedFacts.{right_rows, wrong_rows, wrong_links, wrong_outs, wrong_figures};
+ghost use Rattle.transyt_sweep.specs.WorkedFacts.{limiting, past_limiting, telling, untelling};
+ghost use Rattle.transyt_sweep.specs.WorkedFacts.{right_factors, wrong_factors, ready_factors};
+ghost use Rattle.transyt_sweep.specs.WorkedFacts.{served_frame, served_feed, unserved, table_of_three, wrong_tables};
+ghost use Rattle.transyt_sweep.specs.Scratch.{AreWeights, CanTell, IsScratch};
+ghost use Rattle.transyt_sweep.specs.Factors.{AreFactors, Serve};
+ghost use Rattle.transyt_sweep.specs.Table.{IsTable, AreKept};
+ghost use Rattle.transyt_sweep.specs.WorkedFacts.{right_scratch, wrong_scratch, wrong_departures, wrong_known};
+ghost use Rattle.transyt_sweep.specs.WorkedFacts.{wrong_open, wrong_ready, kept, wrong_kept};
 ghost use Rattle.transyt_sweep.specs.WorkedClimbs.{idle, tried_in_idle, limits, leasts, stayed, stepped_back};
 
 /// The rule of the sweeps: before the first each link lets its total flow go, and at each sweep a link is worked out
@@ -110,7 +118,44 @@ pub fn worked_facts()
     ensures small { AreSmall greatest }
     ensures too_great { All (λ f. AreSmall f → ⊥) too_great }
     ensures right_rows { All AreRows right_rows }
+    ensures most_links { AreRows (rows_of 0 5 [] [] [] [] (replicate 1000 no_figures)) }
     ensures wrong_rows { All (λ r. AreRows r → ⊥) wrong_rows }
     ensures wrong_links { AreRows wrong_links → ⊥ }
     ensures wrong_outs { AreRows wrong_outs → ⊥ }
+    ensures wrong_figures { AreRows wrong_figures → ⊥ }
+{}
+
+/// So do weights, and rows of which figures can be worked out.
+pub fn worked_telling()
+    ensures weights { AreWeights limiting }
+    ensures past_weights { All (λ w. AreWeights w → ⊥) past_limiting }
+    ensures telling { All (λ row. CanTell row.0 row.1 row.2 row.3 row.4) telling }
+    ensures untelling { All (λ row. CanTell row.0 row.1 row.2 row.3 row.4 → ⊥) untelling }
+    ensures most_steps { CanTell (replicate 120 0) [] [] [] limiting }
+{}
+
+/// So do factors, the feed that they serve, and tables.
+pub fn worked_factors()
+    ensures factors { All (AreFactors 18) right_factors }
+    ensures wrong_factors { All (λ f. AreFactors 18 f → ⊥) wrong_factors }
+    ensures serve { Serve served_frame served_feed 997 ready_factors }
+    ensures unserved { All (λ row. Serve row.0 row.1 row.2 row.3 → ⊥) unserved }
+    ensures table { IsTable 3 2 table_of_three }
+    ensures wrong_tables { All (λ t. IsTable 3 2 t → ⊥) wrong_tables }
+{}
+
+/// So does room for one link's work.
+pub fn worked_scratch()
+    ensures right { All (λ row. IsScratch row.0 row.1 row.2 row.3 row.4 row.5 row.6 row.7) right_scratch }
+    ensures wrong { All (λ row. IsScratch row.0 row.1 row.2 row.3 row.4 row.5 row.6 row.7 → ⊥) wrong_scratch }
+    ensures departures { IsScratch wrong_departures.0 wrong_departures.1 wrong_departures.2 wrong_departures.3 wrong_departures.4 wrong_departures.5 wrong_departures.6 wrong_departures.7 → ⊥ }
+    ensures known { IsScratch wrong_known.0 wrong_known.1 wrong_known.2 wrong_known.3 wrong_known.4 wrong_known.5 wrong_known.6 wrong_known.7 → ⊥ }
+    ensures open { IsScratch wrong_open.0 wrong_open.1 wrong_open.2 wrong_open.3 wrong_open.4 wrong_open.5 wrong_open.6 wrong_open.7 → ⊥ }
+    ensures ready { IsScratch wrong_ready.0 wrong_ready.1 wrong_ready.2 wrong_ready.3 wrong_ready.4 wrong_ready.5 wrong_ready.6 wrong_ready.7 → ⊥ }
+{}
+
+/// So do the tables that are kept, with their index.
+pub fn worked_kept()
+    ensures kept { AreKept kept.0 kept.1 kept.2 kept.3 kept.4 kept.5 kept.6 kept.7 }
+    ensures wrong { All (λ row. AreKept row.0 row.1 row.2 row.3 row.4 row.5 row.6 row.7 → ⊥) wrong_kept }
 {}

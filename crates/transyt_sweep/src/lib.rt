@@ -24,7 +24,8 @@ mod working;
 
 pub use laws::{
     rule_of_climbs, rule_of_departures, rule_of_evaluation, rule_of_sweeps, worked_climbs,
-    worked_facts, worked_figures, worked_links, worked_rows, worked_sweeps,
+    worked_factors, worked_facts, worked_figures, worked_kept, worked_links, worked_rows,
+    worked_scratch, worked_sweeps, worked_telling,
 };
 pub use rows::Rows;
 pub use scratch::{FACTOR_BYTES, Scratch};
