@@ -23,7 +23,7 @@ highest = record {
 }
 
 pub are_scans : All IsScan in_range
-are_scans = All-from_recursion IsScan in_range (lowest, highest, tt)
+are_scans = All-from_recursion IsScan in_range (lowest, (highest, tt))
 
 -- one past them
 no_worker : IsScan (asking 0 60 120 17) → ⊥
@@ -50,7 +50,7 @@ too_long s = let steps = s.times.steps in absurd (omega (arith, steps))
 pub are_none : All (λ (a : ScanWord). IsScan a → ⊥) out_of_range
 are_none =
     All-from_recursion (λ (a : ScanWord). IsScan a → ⊥) out_of_range
-    (no_worker, nine, too_low, too_high, no_time, no_step, too_long, tt)
+    (no_worker, (nine, (too_low, (too_high, (no_time, (no_step, (too_long, tt)))))))
 
 -- no row is below that at place 1
 none_below : (k : ℕ) → k < 4 → to_at four_rows 1 ≤ to_at four_rows k
