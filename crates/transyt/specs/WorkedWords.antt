@@ -44,3 +44,15 @@ worked_words =
     ∷ (codes "scan" ∷ codes "2" ∷ codes "60" ∷ codes "120" ∷ codes "211" ∷ [], None)
     ∷ (codes "scan" ∷ codes "2" ∷ codes "60" ∷ codes "120" ∷ codes "17" ∷ codes "1" ∷ [], None)
     ∷ []
+
+-- words whose numbers are in their ranges: each at its least and at its greatest
+abbrev pub words_in_range : List Word
+words_in_range =
+    w.Run 1 ∷ w.Run 8 ∷ w.Make 0 1 ∷ w.Make 999999999 200 ∷ w.Brief 0 200 1 ∷ w.Brief 999999999 1 8 ∷ w.Counts
+    ∷ w.Equisat ∷ w.Audit ∷ w.Scan (asked 1 30 240 210) ∷ []
+
+-- words with one number that is one past its range
+abbrev pub words_out_of_range : List Word
+words_out_of_range =
+    w.Run 0 ∷ w.Run 9 ∷ w.Make 1000000000 64 ∷ w.Make 7 0 ∷ w.Make 7 201 ∷ w.Brief 1000000000 64 3 ∷ w.Brief 7 0 3
+    ∷ w.Brief 7 201 3 ∷ w.Brief 7 64 0 ∷ w.Brief 7 64 9 ∷ w.Scan (asked 2 60 120 211) ∷ []

@@ -1,5 +1,5 @@
 //! Laws about the definitions.
-ghost use Rattle.std.specs.Prelude.{◌≡◌, ℕ, List, Option, None, map};
+ghost use Rattle.std.specs.Prelude.{◌≡◌, ℕ, List, Option, None, All, map};
 ghost use Rattle.transyt_make.specs.Made.{made};
 ghost use Rattle.transyt_running.specs.Runs.{StepsTaken};
 ghost use Rattle.transyt_running.specs.declared.status.Status.{Status};
@@ -7,12 +7,18 @@ ghost use Rattle.transyt_answers.specs.Brief.{brief_steps};
 ghost use Rattle.transyt_answers.specs.Report.{deck_answering};
 ghost use Rattle.transyt.specs.declared.word.Word.{Word};
 ghost use Rattle.transyt.specs.Tasks.{TextSteps, WordSteps};
-ghost use Rattle.transyt.specs.Words.{word_of};
-ghost use Rattle.transyt.specs.WorkedWords.{worked_words};
+ghost use Rattle.transyt.specs.Words.{IsWord, word_of};
+ghost use Rattle.transyt.specs.WorkedWords.{words_in_range, words_out_of_range, worked_words};
 
 /// The worked words ask for what is written beside the definitions.
 pub fn worked_words()
     ensures { map (λ row. word_of row.0) worked_words ≡ map (λ row. row.1) worked_words }
+{}
+
+/// The numbers of words are in their ranges at each limit, and not one past it.
+pub fn worked_ranges()
+    ensures within { All IsWord words_in_range }
+    ensures beyond { All (λ w. IsWord w → ⊥) words_out_of_range }
 {}
 
 /// The steps of a text are exactly its own where it was written, and else at most those. With one worker the steps of

@@ -13,7 +13,7 @@ mod top;
 mod town;
 mod word;
 
-pub use laws::{worked_steps, worked_words};
+pub use laws::{worked_ranges, worked_steps, worked_words};
 pub use top::transyt;
 pub use transyt_answers::steps_lower;
 pub use transyt_desks::{Gate, OpenGate};
