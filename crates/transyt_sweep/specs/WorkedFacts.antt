@@ -54,8 +54,8 @@ sound =
 abbrev pub right_rows : List RowsValue
 right_rows = sound ∷ rows_of 120 8 [] [] [] [] [] ∷ rows_of 0 5 [] [] [] [] (replicate 4 no_figures) ∷ []
 
--- None of these is right: a step and a sweep too many; of the departures a value less and one more; and a value less and
--- one more of the arrivals, of the green and of the queue.
+-- None of these is right: a step and a sweep too many; of the departures a value less and one more; and a value less
+-- and one more of the arrivals, of the green and of the queue.
 abbrev pub wrong_rows : List RowsValue
 wrong_rows =
     rows_of 121 8 [] [] [] [] []
@@ -242,8 +242,8 @@ right_scratch =
     ∷ (zeros 18, zeros 18, zeros 18, most, Open limiting, zeros 216, zeros 18, [])
     ∷ []
 
--- None is right: a value less and one more of what is green, waits and leaves, of the room, and of what reaches the
--- stop line; a value that is too great; figures too great, and weights; and factors.
+-- None is right: a value less and one more of what is green, of what waits, of what leaves, of the room, and of what
+-- reaches the stop line.
 abbrev pub wrong_scratch : List ScratchRow
 wrong_scratch =
     (zeros 18, zeros 17, zeros 18, most, Known greatest, zeros 216, zeros 18, right_factors)
@@ -258,11 +258,12 @@ wrong_scratch =
     ∷ (zeros 18, zeros 18, zeros 18, most, Known greatest, zeros 216, zeros 19, right_factors)
     ∷ []
 
--- departures that are too great, figures that are, weights that are, and factors that are wrong
+-- departures that are too great
 abbrev pub wrong_departures : ScratchRow
 wrong_departures =
     (zeros 18, zeros 18, zeros 18, 1073741824 ∷ zeros 17, Known greatest, zeros 216, zeros 18, right_factors)
 
+-- figures that are too great
 abbrev pub wrong_known : ScratchRow
 wrong_known = (
   zeros 18,
@@ -275,6 +276,7 @@ wrong_known = (
   right_factors,
 )
 
+-- weights that are too great
 abbrev pub wrong_open : ScratchRow
 wrong_open = (
   zeros 18,
@@ -287,6 +289,7 @@ wrong_open = (
   right_factors,
 )
 
+-- factors that are wrong
 abbrev pub wrong_ready : ScratchRow
 wrong_ready = (
   zeros 18,
@@ -320,8 +323,8 @@ kept = (
   480,
 )
 
--- None of these is kept: rows whose departures are a value less, an index less and one more, and of each table a row
--- less and one more
+-- None of these is kept: a value less in the departures, an index less and one more, a row less and one more of the
+-- departures, a row less of the arrivals and of the queue, and a row more of what is green.
 abbrev pub wrong_kept : List KeptRow
 wrong_kept = (
   3,

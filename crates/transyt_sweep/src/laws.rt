@@ -109,7 +109,7 @@ pub fn worked_climbs()
     ensures no_step { after_search (ended true) idle 4 6 3 (Some 3) ≡ stayed false idle (4 ∷ 5 ∷ 0 ∷ []) }
 {}
 
-/// Worked rows and figures keep to what is said of them, at the limits too, and those that are wrong in one thing don't.
+/// Worked rows and figures keep to what is said of them, at the limits too; those that are wrong in one thing don't.
 pub fn worked_facts()
     ensures fits { Fits three_junctions fitting }
     ensures unfitting { All (λ r. Fits three_junctions r → ⊥) unfitting }
@@ -125,7 +125,8 @@ pub fn worked_facts()
     ensures wrong_figures { AreRows wrong_figures → ⊥ }
 {}
 
-/// So do weights, and rows of which figures can be worked out.
+/// Weights at their limits are right, and of worked rows figures can be worked out; one past a limit, or with one thing
+/// wrong, that doesn't hold.
 pub fn worked_telling()
     ensures weights { AreWeights limiting }
     ensures past_weights { All (λ w. AreWeights w → ⊥) past_limiting }
@@ -134,7 +135,8 @@ pub fn worked_telling()
     ensures most_steps { CanTell (replicate 120 0) [] [] [] limiting }
 {}
 
-/// So do factors, the feed that they serve, and tables.
+/// Worked factors are right and serve a feed, and a worked table has its size; where one thing alone is wrong,
+/// that doesn't hold.
 pub fn worked_factors()
     ensures factors { All (AreFactors 18) right_factors }
     ensures wrong_factors { All (λ f. AreFactors 18 f → ⊥) wrong_factors }
@@ -144,17 +146,21 @@ pub fn worked_factors()
     ensures wrong_tables { All (λ t. IsTable 3 2 t → ⊥) wrong_tables }
 {}
 
-/// So does room for one link's work.
+/// Worked room for one link's work is right; with a size, a value, figures, weights or factors that are wrong it isn't.
 pub fn worked_scratch()
     ensures right { All (λ row. IsScratch row.0 row.1 row.2 row.3 row.4 row.5 row.6 row.7) right_scratch }
     ensures wrong { All (λ row. IsScratch row.0 row.1 row.2 row.3 row.4 row.5 row.6 row.7 → ⊥) wrong_scratch }
-    ensures departures { IsScratch wrong_departures.0 wrong_departures.1 wrong_departures.2 wrong_departures.3 wrong_departures.4 wrong_departures.5 wrong_departures.6 wrong_departures.7 → ⊥ }
-    ensures known { IsScratch wrong_known.0 wrong_known.1 wrong_known.2 wrong_known.3 wrong_known.4 wrong_known.5 wrong_known.6 wrong_known.7 → ⊥ }
-    ensures open { IsScratch wrong_open.0 wrong_open.1 wrong_open.2 wrong_open.3 wrong_open.4 wrong_open.5 wrong_open.6 wrong_open.7 → ⊥ }
-    ensures ready { IsScratch wrong_ready.0 wrong_ready.1 wrong_ready.2 wrong_ready.3 wrong_ready.4 wrong_ready.5 wrong_ready.6 wrong_ready.7 → ⊥ }
+    ensures departures { IsScratch wrong_departures.0 wrong_departures.1 wrong_departures.2 wrong_departures.3
+        wrong_departures.4 wrong_departures.5 wrong_departures.6 wrong_departures.7 → ⊥ }
+    ensures known { IsScratch wrong_known.0 wrong_known.1 wrong_known.2 wrong_known.3
+        wrong_known.4 wrong_known.5 wrong_known.6 wrong_known.7 → ⊥ }
+    ensures open { IsScratch wrong_open.0 wrong_open.1 wrong_open.2 wrong_open.3
+        wrong_open.4 wrong_open.5 wrong_open.6 wrong_open.7 → ⊥ }
+    ensures ready { IsScratch wrong_ready.0 wrong_ready.1 wrong_ready.2 wrong_ready.3
+        wrong_ready.4 wrong_ready.5 wrong_ready.6 wrong_ready.7 → ⊥ }
 {}
 
-/// So do the tables that are kept, with their index.
+/// Worked tables are kept with the sum of their links' indexes; with a size or an index that is wrong they aren't.
 pub fn worked_kept()
     ensures kept { AreKept kept.0 kept.1 kept.2 kept.3 kept.4 kept.5 kept.6 kept.7 }
     ensures wrong { All (λ row. AreKept row.0 row.1 row.2 row.3 row.4 row.5 row.6 row.7 → ⊥) wrong_kept }
