@@ -16,4 +16,5 @@ pub mod SmallLaws
 pub mod ClimbLaws
 pub mod WorkedFigures
 pub mod WorkedMove
+pub mod WorkedFronts
 pub mod ScratchLaws

@@ -11,3 +11,4 @@ pub mod WorkedSweeps
 pub mod WorkedRows
 pub mod WorkedClimbs
 pub mod WorkedFacts
+pub mod WorkedFronts

@@ -11,6 +11,9 @@ ghost use Rattle.transyt_sweep.specs.Sweeps.{out_of, start, worked_at, evaluated
 ghost use Rattle.transyt_sweep.specs.Rows.{pair_in, read_in, placed, with_weights, index_in};
 ghost use Rattle.transyt_sweep.specs.Rows.{Fits, SameSize, AreSmall, AreRows, rows_of, no_figures};
 ghost use Rattle.transyt_sweep.specs.Front.{is_before, empty_out, empty_rows};
+ghost use Rattle.transyt_sweep.specs.Front.{AreMixed, AreOpened, AreStarted};
+ghost use Rattle.transyt_sweep.specs.WorkedFronts.{two_links, before_front, from_front, mixed, unmixed};
+ghost use Rattle.transyt_sweep.specs.WorkedFronts.{opened, wrong_opened, started, wrong_started};
 ghost use Rattle.transyt_sweep.specs.Climb.{tried_at, is_below, lowers, least, first, ended, after_search, climb};
 ghost use Rattle.transyt_sweep.specs.WorkedLinks.{arrivals_of_three, gos_of_three, queues_of_three, outs_of_three};
 ghost use Rattle.transyt_sweep.specs.WorkedLinks.{figures_of_three};
@@ -164,4 +167,14 @@ pub fn worked_scratch()
 pub fn worked_kept()
     ensures kept { AreKept kept.0 kept.1 kept.2 kept.3 kept.4 kept.5 kept.6 kept.7 }
     ensures wrong { All (λ row. AreKept row.0 row.1 row.2 row.3 row.4 row.5 row.6 row.7 → ⊥) wrong_kept }
+{}
+
+/// Worked rows are mixed, opened and started as far as a link; those that are wrong in one thing alone aren't.
+pub fn worked_fronts()
+    ensures mixed { AreMixed two_links before_front from_front 1 1 mixed }
+    ensures unmixed { All (λ r. AreMixed two_links before_front from_front 1 1 r → ⊥) unmixed }
+    ensures opened { AreOpened two_links opened }
+    ensures wrong_opened { All (λ r. AreOpened two_links r → ⊥) wrong_opened }
+    ensures started { AreStarted two_links 1 started }
+    ensures wrong_started { All (λ r. AreStarted two_links 1 r → ⊥) wrong_started }
 {}
