@@ -1,4 +1,4 @@
--- Worked fronts: rows of two links at one sweep, as far as they are worked out, and such as are wrong in one thing.
+-- Worked fronts: rows of two links at one sweep, as far as they are worked out, and such as are wrong in one thing alone.
 use Rattle.std.specs.Prelude.{ℕ, ◌+◌, ◌*◌, List, [], ◌∷◌, ◌++◌, replicate, None}
 use Rattle.transyt_parts.specs.Made.{new_stage, new_link}
 use Rattle.transyt_net.specs.Parts.{Network}
@@ -67,4 +67,72 @@ wrong_started =
     ∷ record started { go = 1 ∷ replicate 5 0 }
     ∷ record started { queue = 1 ∷ replicate 5 0 }
     ∷ record started { figures = no_figures ∷ new_figures 0 0 0 1 ∷ [] }
+    ∷ []
+
+-- The rows of the evaluation. Nothing waits at the first link. Two vehicles wait at the second at the end of the first
+-- step, the one of the last step and its own, all three leave in the second, and one waits at the end of the last.
+-- The random delay of the first is a quarter of 1440499913 less 1440000000, that of the second of 420856270 less
+-- 420000000; these are the roots of 1440000000 squared and 4000000 times 360000000, and of 420000000 squared and 4000000
+-- times 180000000, rounded down.
+abbrev pub evaluation : RowsValue
+evaluation = rows_of 3 1
+    (2000000 ∷ 2000000 ∷ 2000000 ∷ 1000000 ∷ 1000000 ∷ 1000000 ∷ 2000000 ∷ 2000000 ∷ 2000000 ∷ 0 ∷ 3000000 ∷ 0 ∷ [])
+    (2000000 ∷ 2000000 ∷ 2000000 ∷ 1000000 ∷ 1000000 ∷ 1000000 ∷ [])
+    (10000000 ∷ 10000000 ∷ 10000000 ∷ 0 ∷ 10000000 ∷ 0 ∷ [])
+    (0 ∷ 0 ∷ 0 ∷ 2000000 ∷ 0 ∷ 1000000 ∷ [])
+    (new_figures 0 124978 0 124978 ∷ new_figures 1000000 214067 33333 2528133 ∷ [])
+
+-- rows that speak of one more sweep, whose departures are those of the last
+abbrev pub one_sweep_more : RowsValue
+one_sweep_more = record evaluation {
+  sweeps = 2;
+  outs =
+      evaluation.outs ++ (2000000 ∷ 2000000 ∷ 2000000 ∷ 0 ∷ 3000000 ∷ 0 ∷ []);
+}
+
+-- rows with another departure of the second link before the sweep
+abbrev pub other_start : RowsValue
+other_start = record evaluation {
+  outs =
+      2000000 ∷ 2000000 ∷ 2000000 ∷ 1000001 ∷ 1000000 ∷ 1000000 ∷ 2000000 ∷ 2000000 ∷ 2000000 ∷ 0 ∷ 3000000 ∷ 0 ∷ [];
+}
+
+-- what of the second link comes, can go and waits is another's in one step, and its index
+abbrev pub other_arrivals : RowsValue
+other_arrivals = record evaluation {
+  arrivals = 2000000 ∷ 2000000 ∷ 2000000 ∷ 1000001 ∷ 1000000 ∷ 1000000 ∷ [];
+}
+
+abbrev pub other_go : RowsValue
+other_go = record evaluation { go = 10000000 ∷ 10000000 ∷ 10000000 ∷ 1 ∷ 10000000 ∷ 0 ∷ [] }
+
+abbrev pub other_queue : RowsValue
+other_queue = record evaluation { queue = 0 ∷ 0 ∷ 0 ∷ 2000001 ∷ 0 ∷ 1000000 ∷ [] }
+
+abbrev pub other_figures : RowsValue
+other_figures = record evaluation {
+  figures = new_figures 0 124978 0 124978 ∷ new_figures 1000000 214067 33333 2528134 ∷ [];
+}
+
+-- None of these is the evaluation.
+abbrev pub wrong_evaluations : List RowsValue
+wrong_evaluations =
+    one_sweep_more ∷ other_start ∷ other_arrivals ∷ other_go ∷ other_queue ∷ other_figures ∷ []
+
+-- the rows when the second link is next at the last sweep: nothing is kept of it there
+abbrev pub filled : RowsValue
+filled = rows_of 3 1
+    (2000000 ∷ 2000000 ∷ 2000000 ∷ 1000000 ∷ 1000000 ∷ 1000000 ∷ 2000000 ∷ 2000000 ∷ 2000000 ∷ 0 ∷ 0 ∷ 0 ∷ [])
+    (2000000 ∷ 2000000 ∷ 2000000 ∷ 0 ∷ 0 ∷ 0 ∷ []) (10000000 ∷ 10000000 ∷ 10000000 ∷ 0 ∷ 0 ∷ 0 ∷ [])
+    (0 ∷ 0 ∷ 0 ∷ 0 ∷ 0 ∷ 0 ∷ []) (new_figures 0 124978 0 124978 ∷ no_figures ∷ [])
+
+-- None of these is filled so far: the whole evaluation, in which the second link leaves; and what of the first comes,
+-- can go and waits in one step, and its index.
+abbrev pub wrong_filled : List RowsValue
+wrong_filled =
+    evaluation
+    ∷ record filled { arrivals = 2000001 ∷ 2000000 ∷ 2000000 ∷ 0 ∷ 0 ∷ 0 ∷ [] }
+    ∷ record filled { go = 10000001 ∷ 10000000 ∷ 10000000 ∷ 0 ∷ 0 ∷ 0 ∷ [] }
+    ∷ record filled { queue = 1 ∷ 0 ∷ 0 ∷ 0 ∷ 0 ∷ 0 ∷ [] }
+    ∷ record filled { figures = new_figures 0 124978 0 124979 ∷ no_figures ∷ [] }
     ∷ []

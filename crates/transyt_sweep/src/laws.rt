@@ -11,9 +11,10 @@ ghost use Rattle.transyt_sweep.specs.Sweeps.{out_of, start, worked_at, evaluated
 ghost use Rattle.transyt_sweep.specs.Rows.{pair_in, read_in, placed, with_weights, index_in};
 ghost use Rattle.transyt_sweep.specs.Rows.{Fits, SameSize, AreSmall, AreRows, rows_of, no_figures};
 ghost use Rattle.transyt_sweep.specs.Front.{is_before, empty_out, empty_rows};
-ghost use Rattle.transyt_sweep.specs.Front.{AreMixed, AreOpened, AreStarted};
+ghost use Rattle.transyt_sweep.specs.Front.{AreMixed, AreEvaluation, AreOpened, AreStarted, AreFilled};
 ghost use Rattle.transyt_sweep.specs.WorkedFronts.{two_links, before_front, from_front, mixed, unmixed};
 ghost use Rattle.transyt_sweep.specs.WorkedFronts.{opened, wrong_opened, started, wrong_started};
+ghost use Rattle.transyt_sweep.specs.WorkedFronts.{evaluation, wrong_evaluations, filled, wrong_filled};
 ghost use Rattle.transyt_sweep.specs.Climb.{tried_at, is_below, lowers, least, first, ended, after_search, climb};
 ghost use Rattle.transyt_sweep.specs.WorkedLinks.{arrivals_of_three, gos_of_three, queues_of_three, outs_of_three};
 ghost use Rattle.transyt_sweep.specs.WorkedLinks.{figures_of_three};
@@ -177,4 +178,12 @@ pub fn worked_fronts()
     ensures wrong_opened { All (λ r. AreOpened two_links r → ⊥) wrong_opened }
     ensures started { AreStarted two_links 1 started }
     ensures wrong_started { All (λ r. AreStarted two_links 1 r → ⊥) wrong_started }
+{}
+
+/// Worked rows are the evaluation, the whole of it and as far as a link; those that are wrong in one thing alone aren't.
+pub fn worked_evaluations()
+    ensures right { AreEvaluation two_links evaluation }
+    ensures wrong { All (λ r. AreEvaluation two_links r → ⊥) wrong_evaluations }
+    ensures filled { AreFilled two_links 1 1 filled }
+    ensures wrong_filled { All (λ r. AreFilled two_links 1 1 r → ⊥) wrong_filled }
 {}

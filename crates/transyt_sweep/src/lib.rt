@@ -24,8 +24,8 @@ mod working;
 
 pub use laws::{
     rule_of_climbs, rule_of_departures, rule_of_evaluation, rule_of_sweeps, worked_climbs,
-    worked_factors, worked_facts, worked_figures, worked_fronts, worked_kept, worked_links,
-    worked_rows, worked_scratch, worked_sweeps, worked_telling,
+    worked_evaluations, worked_factors, worked_facts, worked_figures, worked_fronts, worked_kept,
+    worked_links, worked_rows, worked_scratch, worked_sweeps, worked_telling,
 };
 pub use rows::Rows;
 pub use scratch::{FACTOR_BYTES, Scratch};
