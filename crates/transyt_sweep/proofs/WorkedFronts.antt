@@ -11,7 +11,8 @@ use Rattle.transyt_stopline.specs.LastSteps.{sum_back, greatest}
 use Rattle.transyt_sweep.specs.Cell.{CellValue, terms_frame}
 use Rattle.transyt_sweep.specs.Sweeps.{seen, out_of, evaluated}
 use Rattle.transyt_sweep.specs.Rows.{RowsValue, out_at, shown_at, no_figures}
-use Rattle.transyt_sweep.specs.Front.{is_before, empty_out, AreMixed, AreOpened, AreStarted, AreShown, AreEvaluation, AreFilled}
+use Rattle.transyt_sweep.specs.Front.{is_before, empty_out, AreMixed, AreOpened, AreStarted}
+use Rattle.transyt_sweep.specs.Front.{AreShown, AreEvaluation, AreFilled}
 use Rattle.transyt_sweep.specs.WorkedLinks.{new_figures}
 use Rattle.transyt_sweep.specs.WorkedFronts.{two_links, rows_with, before_front, from_front, mixed, unmixed}
 use Rattle.transyt_sweep.specs.WorkedFronts.{opened, wrong_opened, started, wrong_started}

@@ -1,4 +1,4 @@
--- Worked fronts: rows of two links at one sweep, as far as they are worked out, and such as are wrong in one thing alone.
+-- Worked fronts: rows of two links at one sweep, as far as they are worked out, and such as are wrong in one thing.
 use Rattle.std.specs.Prelude.{ℕ, ◌+◌, ◌*◌, List, [], ◌∷◌, ◌++◌, replicate, None}
 use Rattle.transyt_parts.specs.Made.{new_stage, new_link}
 use Rattle.transyt_net.specs.Parts.{Network}
@@ -72,8 +72,8 @@ wrong_started =
 -- The rows of the evaluation. Nothing waits at the first link. Two vehicles wait at the second at the end of the first
 -- step, the one of the last step and its own, all three leave in the second, and one waits at the end of the last.
 -- The random delay of the first is a quarter of 1440499913 less 1440000000, that of the second of 420856270 less
--- 420000000; these are the roots of 1440000000 squared and 4000000 times 360000000, and of 420000000 squared and 4000000
--- times 180000000, rounded down.
+-- 420000000; these are the roots of 1440000000 squared and 4000000 times 360000000, and of 420000000 squared and
+-- 4000000 times 180000000, rounded down.
 abbrev pub evaluation : RowsValue
 evaluation = rows_of 3 1
     (2000000 ∷ 2000000 ∷ 2000000 ∷ 1000000 ∷ 1000000 ∷ 1000000 ∷ 2000000 ∷ 2000000 ∷ 2000000 ∷ 0 ∷ 3000000 ∷ 0 ∷ [])

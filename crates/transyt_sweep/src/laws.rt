@@ -180,7 +180,7 @@ pub fn worked_fronts()
     ensures wrong_started { All (λ r. AreStarted two_links 1 r → ⊥) wrong_started }
 {}
 
-/// Worked rows are the evaluation, the whole of it and as far as a link; those that are wrong in one thing alone aren't.
+/// Worked rows are the evaluation, whole and as far as a link; those that are wrong in one thing alone aren't.
 pub fn worked_evaluations()
     ensures right { AreEvaluation two_links evaluation }
     ensures wrong { All (λ r. AreEvaluation two_links r → ⊥) wrong_evaluations }
