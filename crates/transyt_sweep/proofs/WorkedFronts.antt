@@ -15,7 +15,7 @@ use Rattle.transyt_sweep.specs.Front.{is_before, empty_out, AreMixed, AreOpened,
 use Rattle.transyt_sweep.specs.Front.{AreShown, AreEvaluation, AreFilled}
 use Rattle.transyt_sweep.specs.WorkedLinks.{new_figures}
 use Rattle.transyt_sweep.specs.WorkedFronts.{two_links, rows_with, before_front, from_front, mixed, unmixed}
-use Rattle.transyt_sweep.specs.WorkedFronts.{opened, wrong_opened, started, wrong_started}
+use Rattle.transyt_sweep.specs.WorkedFronts.{opened, begun, wrong_opened, started, wrong_started}
 use Rattle.transyt_sweep.specs.WorkedFronts.{evaluation, one_sweep_more, other_start, other_arrivals, other_go}
 use Rattle.transyt_sweep.specs.WorkedFronts.{other_queue, other_figures, wrong_evaluations, filled, wrong_filled}
 use Rattle.transyt_sweep.proofs.WorkedFigures.{figures_by_root}
@@ -104,7 +104,12 @@ unfolding out_of
 not_opened o = let wrong : 0 ≡ 1000000 = ap first_of (o.outs.outs 0 1 (lit≤ tt) (lit< tt)) in
     absurd (omega (arith, wrong))
 
--- and where it leaves too
+-- the first leaves at the sweep
+not_begun : AreOpened two_links begun → ⊥
+not_begun o = let wrong : 2000000 ≡ 0 = ap first_of (o.outs.outs 1 0 (lit≤ tt) (lit< tt)) in
+    absurd (omega (arith, wrong))
+
+-- and where the second leaves too
 not_started : AreStarted two_links 1 opened → ⊥
 not_started s = let wrong : 1000000 ≡ 0 = ap first_of (s.outs.outs 0 1 (lit≤ tt) (lit< tt)) in
     absurd (omega (arith, wrong))
@@ -121,31 +126,40 @@ second_index fs = (slice_index_or fs 1 no_figures).index
 figured : no_figures ∷ new_figures 0 0 0 1 ∷ [] ≡ replicate 2 no_figures → ⊥
 figured same = let wrong : 1 ≡ 0 = ap second_index same in absurd (omega (arith, wrong))
 
+-- of each other list a value that isn't 0
+opened_coming : AreOpened two_links (record opened { arrivals = 1 ∷ replicate 5 0 }) → ⊥
+opened_coming o = one_is (replicate 6 0) o.arrivals refl
+
+opened_going : AreOpened two_links (record opened { go = 1 ∷ replicate 5 0 }) → ⊥
+opened_going o = one_is (replicate 6 0) o.go refl
+
+opened_waiting : AreOpened two_links (record opened { queue = 1 ∷ replicate 5 0 }) → ⊥
+opened_waiting o = one_is (replicate 6 0) o.queue refl
+
+opened_figured : AreOpened two_links (record opened { figures = no_figures ∷ new_figures 0 0 0 1 ∷ [] }) → ⊥
+opened_figured o = figured o.figures
+
 pub none_is_opened : All (λ (r : RowsValue). AreOpened two_links r → ⊥) wrong_opened
 none_is_opened =
-    All-from_recursion (λ (r : RowsValue). AreOpened two_links r → ⊥) wrong_opened (
-      not_opened,
-      (
-        (λ o. one_is (replicate 6 0) o.arrivals refl),
-        (
-          (λ o. one_is (replicate 6 0) o.go refl),
-          ((λ o. one_is (replicate 6 0) o.queue refl), ((λ o. figured o.figures), tt)),
-        ),
-      ),
-    )
+    All-from_recursion (λ (r : RowsValue). AreOpened two_links r → ⊥) wrong_opened
+    (not_opened, (not_begun, (opened_coming, (opened_going, (opened_waiting, (opened_figured, tt))))))
+
+started_coming : AreStarted two_links 1 (record started { arrivals = 1 ∷ replicate 5 0 }) → ⊥
+started_coming s = one_is (replicate 6 0) s.arrivals refl
+
+started_going : AreStarted two_links 1 (record started { go = 1 ∷ replicate 5 0 }) → ⊥
+started_going s = one_is (replicate 6 0) s.go refl
+
+started_waiting : AreStarted two_links 1 (record started { queue = 1 ∷ replicate 5 0 }) → ⊥
+started_waiting s = one_is (replicate 6 0) s.queue refl
+
+started_figured : AreStarted two_links 1 (record started { figures = no_figures ∷ new_figures 0 0 0 1 ∷ [] }) → ⊥
+started_figured s = figured s.figures
 
 pub none_is_started : All (λ (r : RowsValue). AreStarted two_links 1 r → ⊥) wrong_started
 none_is_started =
-    All-from_recursion (λ (r : RowsValue). AreStarted two_links 1 r → ⊥) wrong_started (
-      not_started,
-      (
-        (λ s. one_is (replicate 6 0) s.arrivals refl),
-        (
-          (λ s. one_is (replicate 6 0) s.go refl),
-          ((λ s. one_is (replicate 6 0) s.queue refl), ((λ s. figured s.figures), tt)),
-        ),
-      ),
-    )
+    All-from_recursion (λ (r : RowsValue). AreStarted two_links 1 r → ⊥) wrong_started
+    (not_started, (started_coming, (started_going, (started_waiting, (started_figured, tt)))))
 
 -- terms of these sums and weights
 abbrev of_terms : ℕ → ℕ → ℕ → ℕ → ℕ → ℕ → Terms

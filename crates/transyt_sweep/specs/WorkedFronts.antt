@@ -45,10 +45,16 @@ unmixed =
 abbrev pub opened : RowsValue
 opened = rows_with (replicate 3 2000000 ++ (replicate 3 1000000 ++ replicate 6 0))
 
--- None of these is opened so: nothing leaves the second link; and of each other list one value that isn't 0.
+-- the first link leaves at the sweep too
+abbrev pub begun : RowsValue
+begun = rows_with (replicate 3 2000000 ++ (replicate 3 1000000 ++ (replicate 3 2000000 ++ replicate 3 0)))
+
+-- None of these is opened so: nothing leaves the second link, and the first leaves at the sweep too; and of each other
+-- list one value that isn't 0.
 abbrev pub wrong_opened : List RowsValue
 wrong_opened =
     rows_with (replicate 3 2000000 ++ replicate 9 0)
+    ∷ begun
     ∷ record opened { arrivals = 1 ∷ replicate 5 0 }
     ∷ record opened { go = 1 ∷ replicate 5 0 }
     ∷ record opened { queue = 1 ∷ replicate 5 0 }
