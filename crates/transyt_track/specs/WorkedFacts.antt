@@ -1,6 +1,6 @@
 -- Worked saved rows: two links at two sweeps in a cycle of two steps, of which two rows are saved; and records of facts
 -- that hold, with such as are wrong in one thing.
-use Rattle.std.specs.Prelude.{ℕ, List, [], ◌∷◌, Bool, true, false, replicate, Option, Some, None, take, drop, ◌++◌}
+use Rattle.std.specs.Prelude.{ℕ, List, [], ◌∷◌, Bool, true, false, replicate, Some, None, take, drop, ◌++◌}
 use Rattle.transyt_sweep.specs.Cell.{CellValue}
 use Rattle.transyt_sweep.specs.Rows.{RowsValue, rows_of, no_figures, placed}
 use Rattle.transyt_sweep.specs.WorkedLinks.{new_figures}
@@ -267,7 +267,7 @@ unsaved_parts =
     ∷ (2, replicate 19 true, bare_rows 8 2)
     ∷ []
 
--- the two junctions with these weights of their second link
+-- the nodes of the two junctions with two empty links, the second with these weights
 abbrev pub weights_of_second : ℕ → ℕ → Network
 weights_of_second delay stop = record junctions {
   links = no_link ∷ record no_link { delay_weight = delay; stop_weight = stop } ∷ [];

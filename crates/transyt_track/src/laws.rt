@@ -3,63 +3,26 @@
 ghost use Rattle.std.specs.Prelude.{◌≡◌, ◌↔◌, ℕ, [], ◌∷◌, false, true, map, nat_eq, All, IsTrue};
 ghost use Rattle.transyt_net.specs.Edits.{with_edit};
 ghost use Rattle.transyt_net.specs.Parts.{Network};
-ghost use Rattle.transyt_sweep.specs.Sweeps.{out_of};
-ghost use Rattle.transyt_track.specs.Own.{HaveWeights, Own, all_places, own, same_own};
-ghost use Rattle.transyt_track.specs.Due.{differs, due};
-ghost use Rattle.transyt_track.specs.Work.{edit_work, work_of, cert_work};
-ghost use Rattle.transyt_track.specs.Front.{AreFlags, flag, left_at, own_differs, total_differs, unweighed};
-ghost use Rattle.transyt_track.specs.Saved.{begun, is_saved, kept_at, old_out, old_shown, restored_at};
-ghost use Rattle.transyt_track.specs.Saved.{AreSaved, FitsRows, SaveAlike, returned_at, saved_at, settled};
 ghost use Rattle.transyt_sweep.specs.Front.{AreMixed};
 ghost use Rattle.transyt_sweep.specs.Rows.{out_at, shown_at};
-ghost use Rattle.transyt_track.specs.Front.{AreBetween, AreShownMixed};
-ghost use Rattle.transyt_track.specs.Own.{ArePlaces};
-ghost use Rattle.transyt_track.specs.Saved.{AreAhead, Carries};
-ghost use Rattle.transyt_track.specs.WorkedFacts.{
-  ahead,
-  other_out,
-  other_saved,
-  other_arrivals,
-  other_go,
-  out_behind,
-  shown_behind,
-  carried,
-  first_placed,
-  out_between,
-  first_between,
-  second_between,
-  other_places,
-  rows_before,
-  rows_between,
-  two_links,
-  uncarried_closed,
-  another,
-  bare_rows,
-  differing,
-  other_flags,
-  other_weights,
-  own_three,
-  places_three,
-  rows_left,
-  saved_parts,
-  unfit_rows,
-  unlike_two,
-  unsaved_parts,
-  weights_of_second,
-  another_unweighed,
-  begun_two,
-  closed_two,
-  kept_pairs,
-  outs_before,
-  rows_now,
-  rows_restored,
-  rows_saved,
-  saved_pairs,
-  saved_returned,
-  saved_two,
-  shown_before,
-};
-ghost use Rattle.transyt_track.specs.WorkedWork.{junctions, worked_edits, worked_looks, loop_of_three};
+ghost use Rattle.transyt_sweep.specs.Sweeps.{out_of};
+ghost use Rattle.transyt_track.specs.Due.{differs, due};
+ghost use Rattle.transyt_track.specs.Front.{AreBetween, AreFlags, AreShownMixed, flag, left_at, own_differs};
+ghost use Rattle.transyt_track.specs.Front.{total_differs, unweighed};
+ghost use Rattle.transyt_track.specs.Own.{ArePlaces, HaveWeights, Own, all_places, own, same_own};
+ghost use Rattle.transyt_track.specs.Saved.{AreAhead, AreSaved, Carries, FitsRows, SaveAlike, begun, is_saved};
+ghost use Rattle.transyt_track.specs.Saved.{kept_at, old_out, old_shown, restored_at, returned_at, saved_at, settled};
+ghost use Rattle.transyt_track.specs.Work.{cert_work, edit_work, work_of};
+ghost use Rattle.transyt_track.specs.WorkedFacts.{ahead, another, another_unweighed, begun_two, carried, closed_two};
+ghost use Rattle.transyt_track.specs.WorkedFacts.{differing, first_between, first_placed, kept_pairs, other_arrivals};
+ghost use Rattle.transyt_track.specs.WorkedFacts.{other_flags, other_go, other_out, other_places, other_saved};
+ghost use Rattle.transyt_track.specs.WorkedFacts.{other_weights, out_behind, out_between, outs_before, own_three};
+ghost use Rattle.transyt_track.specs.WorkedFacts.{places_three, rows_before, rows_between, rows_left, rows_now};
+ghost use Rattle.transyt_track.specs.WorkedFacts.{rows_restored, rows_saved, saved_pairs, saved_parts};
+ghost use Rattle.transyt_track.specs.WorkedFacts.{saved_returned, saved_two, second_between, shown_before};
+ghost use Rattle.transyt_track.specs.WorkedFacts.{shown_behind, two_links, uncarried_closed, unfit_rows, unlike_two};
+ghost use Rattle.transyt_track.specs.WorkedFacts.{unsaved_parts, weights_of_second};
+ghost use Rattle.transyt_track.specs.WorkedWork.{junctions, loop_of_three, worked_edits, worked_looks};
 
 /// The tests by which pairs are counted: own data pass exactly where they are equal, and departures differ unless they
 /// are equal.

@@ -1,5 +1,5 @@
 -- The links, one after another.
-use Rattle.std.proofs.Common.{◌≡◌, ◌<◌, ℕ, not, length}
+use Rattle.std.proofs.Common.{◌≡◌, ◌<◌, ℕ, length}
 use Rattle.transyt_track.specs.Front.{flag, own_differs}
 use Rattle.transyt_track.proofs.front.flag_own.Given as goal
 

@@ -1,6 +1,5 @@
 -- One link more.
 use Rattle.std.proofs.Common.{◌<◌, length, ap, arith}
-use Rattle.transyt_track.specs.Saved.{AreUnsaved}
 use Rattle.transyt_track.proofs.BackLaws.{weighed_more, weighed_end, unsaved_more}
 use Rattle.transyt_track.proofs.ShapeLaws.{shape_count}
 use Rattle.transyt_track.proofs.saved.weigh_all.Goals as goal
