@@ -1,4 +1,5 @@
 pub mod WorkedLaws
+pub mod WorkedBack
 pub mod DataLaws
 pub mod OwnLaws
 pub mod ShapeLaws

@@ -1,6 +1,7 @@
 -- Worked saved rows: two links at two sweeps in a cycle of two steps, of which two rows are saved; and records of facts
 -- that hold, with such as are wrong in one thing.
 use Rattle.std.specs.Prelude.{ℕ, List, [], ◌∷◌, Bool, true, false, replicate, Some, None, take, drop, ◌++◌}
+use Rattle.transyt_parts.specs.Made.{new_stage}
 use Rattle.transyt_sweep.specs.Cell.{CellValue}
 use Rattle.transyt_sweep.specs.Rows.{RowsValue, rows_of, no_figures, placed}
 use Rattle.transyt_sweep.specs.WorkedLinks.{new_figures}
@@ -9,7 +10,8 @@ use Rattle.transyt_net.specs.declared.edit.Edit.TheVariants.{Offset, Change, Ent
 use Rattle.transyt_net.specs.Parts.{Network, no_link}
 use Rattle.transyt_track.specs.Own.{Own, PlacesValue, no_places}
 use Rattle.transyt_track.specs.Saved.{SavedValue, saved_at}
-use Rattle.transyt_track.specs.WorkedWork.{junctions}
+use Rattle.transyt_track.specs.Tracker.{TrackerValue}
+use Rattle.transyt_track.specs.WorkedWork.{junctions, green_link}
 
 -- rows now
 abbrev pub rows_now : RowsValue
@@ -386,3 +388,77 @@ other_places =
     ∷ (record { node = 0; feeders = 1 ∷ []; rule = Some 0 } ∷ drop 1 places_three)
     ∷ (take 2 places_three ++ no_places ∷ [])
     ∷ []
+
+-- two links that are always green, the second with this entry flow, in a cycle of two steps at one sweep
+abbrev pub two_green : ℕ → Network
+two_green entry = record {
+  frame = record { cycle = 60; step_count = 2; sweeps = 1; period = 60; stop_penalty = 100; dispersion = 35 };
+  nodes = record { number = 1; offset = 0; stages = new_stage 0 0 1 ∷ new_stage 1 0 1 ∷ [] } ∷ [];
+  links = green_link 1 360 [] ∷ green_link 2 entry [] ∷ [];
+  plan = None;
+}
+
+-- so much comes to a green link in each step, and leaves at once
+abbrev pub green_cell : ℕ → ℕ → ℕ → CellValue
+green_cell flow random index = record {
+  arrivals = flow ∷ flow ∷ [];
+  go = 15000000 ∷ 15000000 ∷ [];
+  queue = 0 ∷ 0 ∷ [];
+  out = flow ∷ flow ∷ [];
+  figures = new_figures 0 random 0 index;
+}
+
+-- the links at the entry flows 360, 720 and 1080
+abbrev pub cell_360 : CellValue
+cell_360 = green_cell 3000000 124978 124978
+
+abbrev pub cell_720 : CellValue
+cell_720 = green_cell 6000000 333127 333127
+
+abbrev pub cell_1080 : CellValue
+cell_1080 = green_cell 9000000 748443 748443
+
+-- the rows of the two links, where this leaves the second before the first sweep and this is it at the last
+abbrev pub green_rows : ℕ → CellValue → RowsValue
+green_rows started second =
+    rows_of 2 1
+    (3000000 ∷ 3000000 ∷ started ∷ started ∷ 3000000 ∷ 3000000 ∷ second.out)
+    (3000000 ∷ 3000000 ∷ second.arrivals) (15000000 ∷ 15000000 ∷ second.go) (0 ∷ 0 ∷ second.queue)
+    (cell_360.figures ∷ second.figures ∷ [])
+
+-- the rows at the two entry flows of the second link
+abbrev pub rows_720 : RowsValue
+rows_720 = green_rows 6000000 cell_720
+
+abbrev pub rows_1080 : RowsValue
+rows_1080 = green_rows 9000000 cell_1080
+
+-- saved are the rows of the second link at 720, but for its index; nothing is saved of the first
+abbrev pub green_saved : SavedValue
+green_saved = record {
+  live = true;
+  link_count = 2;
+  flags = false ∷ true ∷ false ∷ true ∷ [];
+  rows = rows_of 2 1 (1 ∷ 2 ∷ 6000000 ∷ 6000000 ∷ 3 ∷ 4 ∷ 6000000 ∷ 6000000 ∷ []) (5 ∷ 6 ∷ 6000000 ∷ 6000000 ∷ [])
+      (7 ∷ 8 ∷ 15000000 ∷ 15000000 ∷ []) (9 ∷ 10 ∷ 0 ∷ 0 ∷ [])
+      (new_figures 11 12 13 14 ∷ new_figures 0 333127 0 15 ∷ []);
+}
+
+-- nothing is saved of the second link at the last sweep
+abbrev pub green_less : SavedValue
+green_less = record green_saved { flags = false ∷ true ∷ false ∷ false ∷ [] }
+
+-- nothing is saved of the second link before the first sweep
+abbrev pub green_later : SavedValue
+green_later = record green_saved { flags = false ∷ false ∷ false ∷ true ∷ [] }
+
+-- what comes to the first link at the last sweep differs
+abbrev pub other_come : RowsValue
+other_come = record rows_1080 { arrivals = 3000000 ∷ 3000001 ∷ 9000000 ∷ 9000000 ∷ [] }
+
+-- a tracker with a mark and one without
+abbrev pub marked_green : TrackerValue
+marked_green = record { net = two_green 1080; mark = Some (two_green 720) }
+
+abbrev pub unmarked_green : TrackerValue
+unmarked_green = record { net = two_green 1080; mark = None }

@@ -1,6 +1,6 @@
 //! Laws about the definitions.
 
-ghost use Rattle.std.specs.Prelude.{◌≡◌, ◌↔◌, ℕ, [], ◌∷◌, false, true, map, nat_eq, All, IsTrue};
+ghost use Rattle.std.specs.Prelude.{◌≡◌, ◌↔◌, ℕ, [], ◌∷◌, false, true, map, nat_eq, All, IsTrue, Some, None};
 ghost use Rattle.transyt_net.specs.Edits.{with_edit};
 ghost use Rattle.transyt_net.specs.Parts.{Network};
 ghost use Rattle.transyt_sweep.specs.Front.{AreMixed};
@@ -10,18 +10,22 @@ ghost use Rattle.transyt_track.specs.Due.{differs, due};
 ghost use Rattle.transyt_track.specs.Front.{AreBetween, AreFlags, AreShownMixed, flag, left_at, own_differs};
 ghost use Rattle.transyt_track.specs.Front.{total_differs, unweighed};
 ghost use Rattle.transyt_track.specs.Own.{ArePlaces, HaveWeights, Own, all_places, own, same_own};
-ghost use Rattle.transyt_track.specs.Saved.{AreAhead, AreSaved, Carries, FitsRows, SaveAlike, begun, is_saved};
-ghost use Rattle.transyt_track.specs.Saved.{kept_at, old_out, old_shown, restored_at, returned_at, saved_at, settled};
+ghost use Rattle.transyt_track.specs.Saved.{AreAhead, AreSaved, AreUnsaved, Carries, FitsRows, LeadBack, SaveAlike};
+ghost use Rattle.transyt_track.specs.Saved.{begun, is_saved, kept_at, old_out, old_shown, restored_at, returned_at};
+ghost use Rattle.transyt_track.specs.Saved.{saved_at, settled};
+ghost use Rattle.transyt_track.specs.Tracker.{mark_of, tracker_of, unmarked};
 ghost use Rattle.transyt_track.specs.Work.{cert_work, edit_work, work_of};
 ghost use Rattle.transyt_track.specs.WorkedFacts.{ahead, another, another_unweighed, begun_two, carried, closed_two};
-ghost use Rattle.transyt_track.specs.WorkedFacts.{differing, first_between, first_placed, kept_pairs, other_arrivals};
+ghost use Rattle.transyt_track.specs.WorkedFacts.{differing, first_between, first_placed, green_later, green_less};
+ghost use Rattle.transyt_track.specs.WorkedFacts.{green_saved, kept_pairs, marked_green, other_arrivals, other_come};
 ghost use Rattle.transyt_track.specs.WorkedFacts.{other_flags, other_go, other_out, other_places, other_saved};
 ghost use Rattle.transyt_track.specs.WorkedFacts.{other_weights, out_behind, out_between, outs_before, own_three};
-ghost use Rattle.transyt_track.specs.WorkedFacts.{places_three, rows_before, rows_between, rows_left, rows_now};
-ghost use Rattle.transyt_track.specs.WorkedFacts.{rows_restored, rows_saved, saved_pairs, saved_parts};
-ghost use Rattle.transyt_track.specs.WorkedFacts.{saved_returned, saved_two, second_between, shown_before};
-ghost use Rattle.transyt_track.specs.WorkedFacts.{shown_behind, two_links, uncarried_closed, unfit_rows, unlike_two};
-ghost use Rattle.transyt_track.specs.WorkedFacts.{unsaved_parts, weights_of_second};
+ghost use Rattle.transyt_track.specs.WorkedFacts.{places_three, rows_1080, rows_720, rows_before, rows_between};
+ghost use Rattle.transyt_track.specs.WorkedFacts.{rows_left, rows_now, rows_restored, rows_saved, saved_pairs};
+ghost use Rattle.transyt_track.specs.WorkedFacts.{saved_parts, saved_returned, saved_two, second_between};
+ghost use Rattle.transyt_track.specs.WorkedFacts.{shown_before, shown_behind, two_green, two_links, uncarried_closed};
+ghost use Rattle.transyt_track.specs.WorkedFacts.{unfit_rows, unlike_two, unmarked_green, unsaved_parts};
+ghost use Rattle.transyt_track.specs.WorkedFacts.{weights_of_second};
 ghost use Rattle.transyt_track.specs.WorkedWork.{junctions, loop_of_three, worked_edits, worked_looks};
 
 /// The tests by which pairs are counted: own data pass exactly where they are equal, and departures differ unless they
@@ -131,4 +135,26 @@ pub fn worked_fronts()
 pub fn worked_places()
     ensures places { ArePlaces junctions places_three }
     ensures other_places { All (λ places. ArePlaces junctions places → ⊥) other_places }
+{}
+
+/// A tracker has the network that was marked while the mark is open, and none else.
+pub fn worked_marks()
+    ensures open { mark_of true (two_green 720) ≡ Some (two_green 720) }
+    ensures closed { mark_of false (two_green 720) ≡ None }
+    ensures tracker { tracker_of (two_green 1080) true (two_green 720) ≡ marked_green }
+    ensures tracker_closed { tracker_of (two_green 1080) false (two_green 720) ≡ unmarked_green }
+    ensures unmarked { unmarked (two_green 1080) ≡ unmarked_green }
+{}
+
+/// The saved rows of two links that are always green, and the rows where there are none, lead back to the network that
+/// was marked, and don't where a row is missing or wrong; with no mark there is nothing to lead back to.
+#[tactic(auto, using(crate::proofs::WorkedBack::back, crate::proofs::WorkedBack::no_back_shown, crate::proofs::WorkedBack::no_back_out, crate::proofs::WorkedBack::unsaved, crate::proofs::WorkedBack::no_unsaved))]
+pub fn worked_back()
+    ensures back { LeadBack (two_green 720) rows_1080 green_saved }
+    ensures back_closed { LeadBack (two_green 720) rows_1080 (settled green_less) }
+    ensures no_back_shown { LeadBack (two_green 720) other_come green_saved → ⊥ }
+    ensures no_back_out { LeadBack (two_green 720) rows_1080 green_later → ⊥ }
+    ensures unsaved { AreUnsaved (two_green 1080) green_saved 0 rows_720 }
+    ensures unsaved_from { AreUnsaved (two_green 1080) green_less 2 rows_720 }
+    ensures no_unsaved { AreUnsaved (two_green 1080) green_less 1 rows_720 → ⊥ }
 {}
