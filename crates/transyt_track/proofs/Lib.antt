@@ -1,5 +1,6 @@
 pub mod WorkedLaws
 pub mod WorkedBack
+pub mod WorkedGoing
 pub mod DataLaws
 pub mod OwnLaws
 pub mod ShapeLaws

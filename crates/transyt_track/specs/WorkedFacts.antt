@@ -462,3 +462,57 @@ marked_green = record { net = two_green 1080; mark = Some (two_green 720) }
 
 abbrev pub unmarked_green : TrackerValue
 unmarked_green = record { net = two_green 1080; mark = None }
+
+-- the rows while they go over from 720 to 1080, before the second link at sweep 1, and their flags
+abbrev pub rows_front : RowsValue
+rows_front = green_rows 9000000 cell_720
+
+abbrev pub flags_front : List Bool
+flags_front = false ∷ true ∷ []
+
+-- flags that are not so: of the first link, of the second, one too few and one too many
+abbrev pub flags_first : List Bool
+flags_first = true ∷ true ∷ []
+
+abbrev pub flags_second : List Bool
+flags_second = false ∷ false ∷ []
+
+abbrev pub flags_few : List Bool
+flags_few = false ∷ []
+
+abbrev pub flags_many : List Bool
+flags_many = false ∷ true ∷ false ∷ []
+
+-- rows in which other comes to the first link at the last sweep
+abbrev pub other_first : RowsValue → RowsValue
+other_first rows = record rows { arrivals = 3000000 ∷ 3000001 ∷ 6000000 ∷ 6000000 ∷ [] }
+
+-- the rows at 720, with another index of the second link
+abbrev pub rows_weighed : RowsValue
+rows_weighed = record rows_720 { figures = cell_360.figures ∷ new_figures 0 333127 0 15 ∷ [] }
+
+-- such as aren't: with another random delay of it, and at more sweeps
+abbrev pub other_random : RowsValue
+other_random = record rows_720 { figures = cell_360.figures ∷ new_figures 0 333128 0 333127 ∷ [] }
+
+abbrev pub more_sweeps : RowsValue
+more_sweeps = record rows_720 { sweeps = 2 }
+
+-- where the two links stand, and where they don't
+abbrev pub green_places : List PlacesValue
+green_places = no_places ∷ no_places ∷ []
+
+abbrev pub wrong_places : List PlacesValue
+wrong_places = no_places ∷ record { node = 0; feeders = 0 ∷ []; rule = None } ∷ []
+
+-- a network of another shape
+abbrev pub one_green : Network
+one_green = record (two_green 720) { links = green_link 1 360 [] ∷ [] }
+
+-- the saved rows with a link too many counted
+abbrev pub green_unfit : SavedValue
+green_unfit = record green_saved { link_count = 3 }
+
+-- room for a step too many
+abbrev pub long_scratch : CellValue
+long_scratch = record cell_360 { arrivals = 0 ∷ 0 ∷ 0 ∷ [] }

@@ -7,8 +7,8 @@ ghost use Rattle.transyt_sweep.specs.Front.{AreMixed};
 ghost use Rattle.transyt_sweep.specs.Rows.{out_at, shown_at};
 ghost use Rattle.transyt_sweep.specs.Sweeps.{out_of};
 ghost use Rattle.transyt_track.specs.Due.{differs, due};
-ghost use Rattle.transyt_track.specs.Front.{AreBetween, AreFlags, AreShownMixed, flag, left_at, own_differs};
-ghost use Rattle.transyt_track.specs.Front.{total_differs, unweighed};
+ghost use Rattle.transyt_track.specs.Front.{AreAt, AreBetween, AreFlags, AreShownMixed, AreStarting, AreWeighed};
+ghost use Rattle.transyt_track.specs.Front.{flag, left_at, own_differs, total_differs, unweighed};
 ghost use Rattle.transyt_track.specs.Own.{ArePlaces, HaveWeights, Own, all_places, own, same_own};
 ghost use Rattle.transyt_track.specs.Saved.{AreAhead, AreSaved, AreUnsaved, Carries, FitsRows, LeadBack, SaveAlike};
 ghost use Rattle.transyt_track.specs.Saved.{begun, is_saved, kept_at, old_out, old_shown, restored_at, returned_at};
@@ -16,12 +16,14 @@ ghost use Rattle.transyt_track.specs.Saved.{saved_at, settled};
 ghost use Rattle.transyt_track.specs.Tracker.{mark_of, tracker_of, unmarked};
 ghost use Rattle.transyt_track.specs.Work.{cert_work, edit_work, work_of};
 ghost use Rattle.transyt_track.specs.WorkedFacts.{ahead, another, another_unweighed, begun_two, carried, closed_two};
-ghost use Rattle.transyt_track.specs.WorkedFacts.{differing, first_between, first_placed, green_later, green_less};
-ghost use Rattle.transyt_track.specs.WorkedFacts.{green_saved, kept_pairs, marked_green, other_arrivals, other_come};
-ghost use Rattle.transyt_track.specs.WorkedFacts.{other_flags, other_go, other_out, other_places, other_saved};
-ghost use Rattle.transyt_track.specs.WorkedFacts.{other_weights, out_behind, out_between, outs_before, own_three};
-ghost use Rattle.transyt_track.specs.WorkedFacts.{places_three, rows_1080, rows_720, rows_before, rows_between};
-ghost use Rattle.transyt_track.specs.WorkedFacts.{rows_left, rows_now, rows_restored, rows_saved, saved_pairs};
+ghost use Rattle.transyt_track.specs.WorkedFacts.{differing, first_between, first_placed, flags_few, flags_first};
+ghost use Rattle.transyt_track.specs.WorkedFacts.{flags_front, flags_many, flags_second, green_later, green_less};
+ghost use Rattle.transyt_track.specs.WorkedFacts.{green_saved, kept_pairs, marked_green, more_sweeps, other_arrivals};
+ghost use Rattle.transyt_track.specs.WorkedFacts.{other_come, other_first, other_flags, other_go, other_out};
+ghost use Rattle.transyt_track.specs.WorkedFacts.{other_places, other_random, other_saved, other_weights, out_behind};
+ghost use Rattle.transyt_track.specs.WorkedFacts.{out_between, outs_before, own_three, places_three, rows_1080};
+ghost use Rattle.transyt_track.specs.WorkedFacts.{rows_720, rows_before, rows_between, rows_front, rows_left};
+ghost use Rattle.transyt_track.specs.WorkedFacts.{rows_now, rows_restored, rows_saved, rows_weighed, saved_pairs};
 ghost use Rattle.transyt_track.specs.WorkedFacts.{saved_parts, saved_returned, saved_two, second_between};
 ghost use Rattle.transyt_track.specs.WorkedFacts.{shown_before, shown_behind, two_green, two_links, uncarried_closed};
 ghost use Rattle.transyt_track.specs.WorkedFacts.{unfit_rows, unlike_two, unmarked_green, unsaved_parts};
@@ -157,4 +159,38 @@ pub fn worked_back()
     ensures unsaved { AreUnsaved (two_green 1080) green_saved 0 rows_720 }
     ensures unsaved_from { AreUnsaved (two_green 1080) green_less 2 rows_720 }
     ensures no_unsaved { AreUnsaved (two_green 1080) green_less 1 rows_720 → ⊥ }
+{}
+
+/// The rows of the two links while they go over from one entry flow to another, and the flags, keep to what is said of
+/// them, and those with one thing wrong don't.
+#[tactic(auto, using(crate::proofs::WorkedGoing::front, crate::proofs::WorkedGoing::front_out, crate::proofs::WorkedGoing::front_shown, crate::proofs::WorkedGoing::front_first, crate::proofs::WorkedGoing::front_second, crate::proofs::WorkedGoing::front_many))]
+pub fn worked_going()
+    ensures at { AreAt (two_green 720) (two_green 1080) 1 1 rows_front flags_front }
+    ensures not_at_out { AreAt (two_green 720) (two_green 1080) 1 1 rows_720 flags_front → ⊥ }
+    ensures not_at_shown { AreAt (two_green 720) (two_green 1080) 1 1 (other_first rows_front) flags_front → ⊥ }
+    ensures not_at_first { AreAt (two_green 720) (two_green 1080) 1 1 rows_front flags_first → ⊥ }
+    ensures not_at_second { AreAt (two_green 720) (two_green 1080) 1 1 rows_front flags_second → ⊥ }
+    ensures not_at_count { AreAt (two_green 720) (two_green 1080) 1 1 rows_front flags_many → ⊥ }
+{}
+
+/// So do they at the start: flags are known of the links before the front alone.
+#[tactic(auto, using(crate::proofs::WorkedGoing::start_at_second, crate::proofs::WorkedGoing::start_at_end, crate::proofs::WorkedGoing::start_out, crate::proofs::WorkedGoing::start_shown, crate::proofs::WorkedGoing::start_first, crate::proofs::WorkedGoing::start_second, crate::proofs::WorkedGoing::start_few))]
+pub fn worked_starts()
+    ensures starting { AreStarting (two_green 720) (two_green 1080) 1 rows_720 flags_second }
+    ensures starting_at_end { AreStarting (two_green 720) (two_green 1080) 2 rows_front flags_front }
+    ensures not_starting_out { AreStarting (two_green 720) (two_green 1080) 1 rows_front flags_second → ⊥ }
+    ensures not_starting_shown { AreStarting (two_green 720) (two_green 1080) 1 (other_first rows_720) flags_second → ⊥ }
+    ensures not_starting_first { AreStarting (two_green 720) (two_green 1080) 1 rows_720 flags_first → ⊥ }
+    ensures not_starting_second { AreStarting (two_green 720) (two_green 1080) 2 rows_front flags_second → ⊥ }
+    ensures not_starting_count { AreStarting (two_green 720) (two_green 1080) 1 rows_720 flags_few → ⊥ }
+{}
+
+/// So do rows of which the first links alone are weighed.
+#[tactic(auto, using(crate::proofs::WorkedGoing::weighed_to_second, crate::proofs::WorkedGoing::weighed_out, crate::proofs::WorkedGoing::weighed_index, crate::proofs::WorkedGoing::weighed_random, crate::proofs::WorkedGoing::weighed_size))]
+pub fn worked_weighed()
+    ensures weighed { AreWeighed (two_green 720) 1 rows_weighed }
+    ensures not_weighed_out { AreWeighed (two_green 720) 1 rows_front → ⊥ }
+    ensures not_weighed_index { AreWeighed (two_green 720) 2 rows_weighed → ⊥ }
+    ensures not_weighed_random { AreWeighed (two_green 720) 1 other_random → ⊥ }
+    ensures not_weighed_size { AreWeighed (two_green 720) 1 more_sweeps → ⊥ }
 {}
