@@ -1,6 +1,7 @@
 pub mod WorkedLaws
 pub mod WorkedBack
 pub mod WorkedGoing
+pub mod WorkedTracking
 pub mod DataLaws
 pub mod OwnLaws
 pub mod ShapeLaws

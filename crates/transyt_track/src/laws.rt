@@ -13,12 +13,13 @@ ghost use Rattle.transyt_track.specs.Own.{ArePlaces, HaveWeights, Own, all_place
 ghost use Rattle.transyt_track.specs.Saved.{AreAhead, AreSaved, AreUnsaved, Carries, FitsRows, LeadBack, SaveAlike};
 ghost use Rattle.transyt_track.specs.Saved.{begun, is_saved, kept_at, old_out, old_shown, restored_at, returned_at};
 ghost use Rattle.transyt_track.specs.Saved.{saved_at, settled};
-ghost use Rattle.transyt_track.specs.Tracker.{mark_of, tracker_of, unmarked};
+ghost use Rattle.transyt_track.specs.Tracker.{IsTracking, mark_of, tracker_of, unmarked};
 ghost use Rattle.transyt_track.specs.Work.{cert_work, edit_work, work_of};
-ghost use Rattle.transyt_track.specs.WorkedFacts.{ahead, another, another_unweighed, begun_two, carried, closed_two};
-ghost use Rattle.transyt_track.specs.WorkedFacts.{differing, first_between, first_placed, flags_few, flags_first};
-ghost use Rattle.transyt_track.specs.WorkedFacts.{flags_front, flags_many, flags_second, green_later, green_less};
-ghost use Rattle.transyt_track.specs.WorkedFacts.{green_saved, kept_pairs, marked_green, more_sweeps, other_arrivals};
+ghost use Rattle.transyt_track.specs.WorkedFacts.{ahead, another, another_unweighed, begun_two, carried, cell_360};
+ghost use Rattle.transyt_track.specs.WorkedFacts.{closed_two, differing, first_between, first_placed, flags_few};
+ghost use Rattle.transyt_track.specs.WorkedFacts.{flags_first, flags_front, flags_many, flags_second, green_later};
+ghost use Rattle.transyt_track.specs.WorkedFacts.{green_less, green_places, green_saved, green_unfit, kept_pairs};
+ghost use Rattle.transyt_track.specs.WorkedFacts.{long_scratch, marked_green, more_sweeps, one_green, other_arrivals};
 ghost use Rattle.transyt_track.specs.WorkedFacts.{other_come, other_first, other_flags, other_go, other_out};
 ghost use Rattle.transyt_track.specs.WorkedFacts.{other_places, other_random, other_saved, other_weights, out_behind};
 ghost use Rattle.transyt_track.specs.WorkedFacts.{out_between, outs_before, own_three, places_three, rows_1080};
@@ -27,7 +28,7 @@ ghost use Rattle.transyt_track.specs.WorkedFacts.{rows_now, rows_restored, rows_
 ghost use Rattle.transyt_track.specs.WorkedFacts.{saved_parts, saved_returned, saved_two, second_between};
 ghost use Rattle.transyt_track.specs.WorkedFacts.{shown_before, shown_behind, two_green, two_links, uncarried_closed};
 ghost use Rattle.transyt_track.specs.WorkedFacts.{unfit_rows, unlike_two, unmarked_green, unsaved_parts};
-ghost use Rattle.transyt_track.specs.WorkedFacts.{weights_of_second};
+ghost use Rattle.transyt_track.specs.WorkedFacts.{weights_of_second, wrong_places};
 ghost use Rattle.transyt_track.specs.WorkedWork.{junctions, loop_of_three, worked_edits, worked_looks};
 
 /// The tests by which pairs are counted: own data pass exactly where they are equal, and departures differ unless they
@@ -193,4 +194,27 @@ pub fn worked_weighed()
     ensures not_weighed_index { AreWeighed (two_green 720) 2 rows_weighed → ⊥ }
     ensures not_weighed_random { AreWeighed (two_green 720) 1 other_random → ⊥ }
     ensures not_weighed_size { AreWeighed (two_green 720) 1 more_sweeps → ⊥ }
+{}
+
+/// A tracker of the two links has these parts, and none with one thing wrong.
+#[tactic(auto, using(crate::proofs::WorkedTracking::tracks, crate::proofs::WorkedTracking::other_shape, crate::proofs::WorkedTracking::other_rows, crate::proofs::WorkedTracking::no_fit, crate::proofs::WorkedTracking::no_lead, crate::proofs::WorkedTracking::other_places, crate::proofs::WorkedTracking::few_own, crate::proofs::WorkedTracking::many_changed, crate::proofs::WorkedTracking::no_room))]
+pub fn worked_tracking()
+    ensures tracking { IsTracking (two_green 1080) (two_green 720) rows_1080 green_saved green_places flags_front
+        flags_first cell_360 }
+    ensures not_shape { IsTracking (two_green 1080) one_green rows_1080 green_saved green_places flags_front flags_first
+        cell_360 → ⊥ }
+    ensures not_evaluation { IsTracking (two_green 1080) (two_green 720) rows_front green_saved green_places flags_front
+        flags_first cell_360 → ⊥ }
+    ensures not_fits { IsTracking (two_green 1080) (two_green 720) rows_1080 green_unfit green_places flags_front
+        flags_first cell_360 → ⊥ }
+    ensures not_back { IsTracking (two_green 1080) (two_green 720) rows_1080 green_later green_places flags_front
+        flags_first cell_360 → ⊥ }
+    ensures not_table { IsTracking (two_green 1080) (two_green 720) rows_1080 green_saved wrong_places flags_front
+        flags_first cell_360 → ⊥ }
+    ensures not_own_count { IsTracking (two_green 1080) (two_green 720) rows_1080 green_saved green_places flags_few
+        flags_first cell_360 → ⊥ }
+    ensures not_changed_count { IsTracking (two_green 1080) (two_green 720) rows_1080 green_saved green_places
+        flags_front flags_many cell_360 → ⊥ }
+    ensures not_steps { IsTracking (two_green 1080) (two_green 720) rows_1080 green_saved green_places flags_front
+        flags_first long_scratch → ⊥ }
 {}
