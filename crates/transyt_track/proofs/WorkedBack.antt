@@ -1,5 +1,5 @@
 -- The two links that are always green, worked out, and what leads back to them.
-use Rattle.std.proofs.Common.{◌≡◌, ◌∙◌, ◌≤◌, ◌<◌, ℕ, zero, suc, [], ◌∷◌, true, false, ap, refl, sym, lit≤, lit<, arith}
+use Rattle.std.proofs.Common.{◌≡◌, ◌∙◌, ◌≤◌, ◌<◌, ℕ, zero, suc, false, ap, refl, sym, lit≤, lit<, arith}
 use Rattle.std.specs.Prelude.{slice_index}
 use Rattle.std.proofs.lemmas.Bool.{true≢false}
 use Rattle.transyt_platoon.specs.Platoon.{smoothed}
@@ -7,12 +7,12 @@ use Rattle.transyt_stopline.specs.LastSteps.{sum_back, greatest}
 use Rattle.transyt_delay.specs.declared.terms.Terms.{Terms}
 use Rattle.transyt_delay.specs.declared.figures.Figures.{Figures}
 use Rattle.transyt_sweep.specs.Cell.{CellValue, terms_frame}
-use Rattle.transyt_sweep.specs.Rows.{RowsValue, out_at, shown_at}
+use Rattle.transyt_sweep.specs.Rows.{shown_at}
 use Rattle.transyt_sweep.specs.Sweeps.{seen, out_of, evaluated}
 use Rattle.transyt_sweep.specs.WorkedLinks.{new_figures}
 use Rattle.transyt_sweep.proofs.WorkedFigures.{figures_by_root}
 use Rattle.transyt_track.specs.Front.{unweighed}
-use Rattle.transyt_track.specs.Saved.{LeadBack, AreUnsaved, SavedValue, is_saved, old_out, old_shown}
+use Rattle.transyt_track.specs.Saved.{LeadBack, AreUnsaved, is_saved, old_out, old_shown}
 use Rattle.transyt_track.specs.WorkedFacts.{two_green, cell_360, cell_720, cell_1080, rows_720, rows_1080}
 use Rattle.transyt_track.specs.WorkedFacts.{green_saved, green_less, green_later, other_come}
 

@@ -1,5 +1,5 @@
 -- The rows of the two links that are always green while they go over from one entry flow to another.
-use Rattle.std.proofs.Common.{◌≡◌, ◌∙◌, ◌≤◌, ◌<◌, ℕ, zero, suc, true, false, ap, refl, sym, lit≤, lit<, arith}
+use Rattle.std.proofs.Common.{◌≡◌, ◌∙◌, ◌≤◌, ◌<◌, ℕ, zero, suc, ap, refl, sym, lit≤, lit<, arith}
 use Rattle.std.specs.Prelude.{slice_index, if◌then◌else◌}
 use Rattle.std.proofs.lemmas.Bool.{true≢false}
 use Rattle.transyt_platoon.specs.Platoon.{smoothed}
@@ -7,9 +7,9 @@ use Rattle.transyt_stopline.specs.LastSteps.{sum_back, greatest}
 use Rattle.transyt_sweep.specs.Cell.{CellValue}
 use Rattle.transyt_sweep.specs.Rows.{Fits, out_at, shown_at}
 use Rattle.transyt_sweep.specs.Sweeps.{seen, out_of, evaluated}
-use Rattle.transyt_sweep.specs.Front.{AreMixed, is_before}
+use Rattle.transyt_sweep.specs.Front.{is_before}
 use Rattle.transyt_track.specs.Due.{differs, read_differs}
-use Rattle.transyt_track.specs.Front.{AreAt, AreStarting, AreWeighed, AreShownMixed, flag, unweighed}
+use Rattle.transyt_track.specs.Front.{AreAt, AreStarting, AreWeighed, flag, unweighed}
 use Rattle.transyt_track.specs.WorkedFacts.{two_green, cell_360, cell_720, rows_720, rows_front, flags_front}
 use Rattle.transyt_track.specs.WorkedFacts.{flags_first, flags_second, flags_few, flags_many, other_first}
 use Rattle.transyt_track.specs.WorkedFacts.{rows_weighed, other_random, more_sweeps}

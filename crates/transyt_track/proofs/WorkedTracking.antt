@@ -7,7 +7,7 @@ use Rattle.transyt_net.specs.Parts.{Network}
 use Rattle.transyt_sweep.specs.Rows.{out_at, shown_at}
 use Rattle.transyt_sweep.specs.Sweeps.{seen, out_of, evaluated}
 use Rattle.transyt_sweep.specs.Front.{AreEvaluation}
-use Rattle.transyt_track.specs.Own.{ArePlaces, PlacesValue, no_places, places_at}
+use Rattle.transyt_track.specs.Own.{PlacesValue, no_places, places_at}
 use Rattle.transyt_track.specs.Tracker.{IsTracking}
 use Rattle.transyt_track.specs.WorkedFacts.{two_green, one_green, cell_360, rows_1080, rows_front, green_saved}
 use Rattle.transyt_track.specs.WorkedFacts.{green_later, green_unfit, green_places, wrong_places, long_scratch}
