@@ -1,2 +1,3 @@
 pub mod SharesFit
 pub mod ReadyLaws
+pub mod AddedLaws

@@ -18,7 +18,7 @@ mod sharing;
 mod tests;
 mod totals;
 
-pub use adding::add_into;
+pub use adding::{add_four_into, add_into, add_three_into};
 pub use comparing::same;
 pub use filling::fill_uniform;
 pub use laws::worked_profiles;

@@ -56,6 +56,18 @@ fn each_call_of_a_profile(rt: HostRuntime) {
 }
 
 #[test]
+fn three_and_four_profiles_are_added_at_once(rt: HostRuntime) {
+    let (x, y, z) = ([600000, 0, 7], [1, 2, 3], [40, 500, 6000]);
+    let u = [11, 1300, 17];
+    let mut out = [190, 2300, 29];
+    let mut more = out;
+    add_three_into(&x, &y, &z, &mut out);
+    assert_eq!(rt; out, [600231, 2802, 6039]);
+    add_four_into(&x, &y, &z, &u, &mut more);
+    assert_eq!(rt; more, [600242, 4102, 6056]);
+}
+
+#[test]
 fn a_share_is_made_ready_below_a_limit_and_past_it(rt: HostRuntime) {
     let x = [1733000, 0, 7, 600001, 431];
     assert!(rt; x.iter().all(|value| *value < 1073741824));
