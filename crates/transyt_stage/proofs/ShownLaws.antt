@@ -1,14 +1,18 @@
 -- The steps at which a link is shown.
 use Rattle.std.proofs.Common.{◌≡◌, ◌≢◌, ℕ, ◌+◌, ◌%◌, ◌<◌, ◌≤◌, Bool, true, false, ◌&&◌, ◌||◌, List, length, get_or, set}
-use Rattle.std.proofs.Common.{nat_lt, nat_le, ap, sym, ◌∙◌, arith, ◌⊎◌, inl, inr}
-use Rattle.std.proofs.lemmas.Bool.{cases_eq, cases_lt}
+use Rattle.std.proofs.Common.{nat_lt, nat_le, ap, sym, ◌∙◌, arith, ◌⊎◌, inl, inr, refl, subst, map, replicate, if◌then◌else◌}
+use Rattle.std.specs.List.{range_with_len}
+use Rattle.std.proofs.lemmas.List.FromFn.{fill_by_all, get_or-map-range_with_len, length-map-range_with_len}
+use Rattle.std.proofs.lemmas.Bool.{cases_eq, cases_lt, cond-true, cond_both}
 use Rattle.std.proofs.lemmas.Bool.Decides.{nat_tests}
-use Rattle.std.proofs.lemmas.List.{get_or-set_other}
+use Rattle.std.proofs.lemmas.List.{get_or-set_other, get_or-replicate}
 use Rattle.std.proofs.lemmas.Grind.{get_or-set_at}
-use Rattle.std.proofs.Math.Bool.{or-true}
 use Rattle.std.proofs.Math.Nat.{mod-eq_of_lt}
 use Rattle.transyt_cycle.specs.Cycle.{minus_mod}
 use Rattle.transyt_cycle.proofs.CycleLaws.{minus_mod-of_add, minus_mod-add}
+use Rattle.transyt_parts.specs.Parts.{NodeValue}
+use Rattle.transyt_stage.specs.Green.{is_shown, shown_of, passed_at}
+use Rattle.transyt_stage.proofs.StepLaws.{green_without_lags}
 
 -- whether a step comes at least `from` and fewer than `to` steps after the change
 abbrev pub between : ℕ → ℕ → ℕ → Bool
@@ -33,30 +37,84 @@ between_end from to s m start end within once = by (cases_lt to from)
     by (inl none) = let same : s ≡ from = once (omega arith) in
         ap (λ k. between from k m) same ∙ between_none from to m (omega arith)
 
--- with the step s after the change added, the steps up to s are
-pub added_step : (shown first : List Bool) (n change from s place : ℕ)
-    → length shown ≡ n → s < n → from ≤ s → place ≡ (s + change) % length shown
-    → ((i : ℕ) → i < n → get_or shown i false ≡ (get_or first i false || between from s (minus_mod n i change)))
-    → (i : ℕ) → i < n
-    → get_or (set shown place true) i false
-    ≡ (get_or first i false || between from (s + 1) (minus_mod n i change))
-added_step shown first n change from s place len within start at so_far i below = by (cases_eq i place)
+-- with the step s after the change given the value, the steps up to s have it
+pub added_step : {X : Type 0} (value : X) (out first : List X) (n change from s place : ℕ)
+    → length out ≡ n → s < n → from ≤ s → place ≡ (s + change) % length out
+    → ((i : ℕ) (d : X) → i < n
+    → get_or out i d ≡ (if between from s (minus_mod n i change) then value else get_or first i d))
+    → (i : ℕ) (d : X) → i < n
+    → get_or (set out place value) i d
+    ≡ (if between from (s + 1) (minus_mod n i change) then value else get_or first i d)
+added_step {X} value out first n change from s place len within start at so_far i d below = by (cases_eq i place)
   where
     there : place ≡ (s + change) % n
     there = at ∙ ap (λ k. (s + change) % k) len
 
-    by : (i ≡ place) ⊎ (i ≡ place → ⊥) → get_or (set shown place true) i false
-        ≡ (get_or first i false || between from (s + 1) (minus_mod n i change))
+    by : (i ≡ place) ⊎ (i ≡ place → ⊥) → get_or (set out place value) i d
+        ≡ (if between from (s + 1) (minus_mod n i change) then value else get_or first i d)
     by (inl same) =
         let here : minus_mod n i change ≡ s =
         ap (λ k. minus_mod n k change) (same ∙ there) ∙ minus_mod-of_add n s change within in
-        get_or-set_at shown place i true false same (omega arith)
-        ∙ sym (or-true (get_or first i false))
-        ∙ ap (λ b. get_or first i false || b) (sym (between_here from s (minus_mod n i change) start here))
+        get_or-set_at out place i value d same (omega arith)
+        ∙ sym (cond-true _ value (get_or first i d) (between_here from s (minus_mod n i change) start here))
     by (inr other) =
         let apart : i ≢ place = other in
         let elsewhere : minus_mod n i change ≢ s =
         λ e. other (sym (mod-eq_of_lt below) ∙ sym (minus_mod-add n i change (omega arith))
         ∙ ap (λ m. (m + change) % n) e ∙ sym there) in
-        get_or-set_other shown place i true false apart ∙ so_far i below
-        ∙ ap (λ b. get_or first i false || b) (between_more from s (minus_mod n i change) elsewhere)
+        get_or-set_other out place i value d apart ∙ so_far i d below
+        ∙ ap (λ b. if b then value else get_or first i d)
+        (between_more from s (minus_mod n i change) elsewhere)
+
+-- a value that two tests give, one after the other
+pub cond_or : {X : Type 0} (a b : Bool) (x y : X) → (if b then x else (if a then x else y)) ≡ (if a || b then x else y)
+cond_or true true x y = refl
+cond_or true false x y = refl
+cond_or false true x y = refl
+cond_or false false x y = refl
+
+same_test : (b : Bool) → (if b then true else false) ≡ b
+same_test true = refl
+same_test false = refl
+
+-- a list of false, with true at each step at which the link is shown, is the definition's
+pub shown_is : (steps : ℕ) (node : NodeValue) (stages : List ℕ) (clear shown : List Bool)
+    → clear ≡ replicate steps false → length shown ≡ steps
+    → ((i : ℕ) (d : Bool) → i < steps
+    → get_or shown i d ≡ (if is_shown steps node stages i then true else get_or clear i d))
+    → shown ≡ shown_of steps node stages
+shown_is steps node stages clear shown none long each =
+    fill_by_all (is_shown steps node stages) shown steps false long
+    (λ i below. each i false below
+    ∙ ap (λ b. if is_shown steps node stages i then true else b)
+    (ap (λ xs. get_or xs i false) none ∙ get_or-replicate steps i false false below)
+    ∙ same_test (is_shown steps node stages i))
+
+-- a list of zeros, with `room` at each step at which the link is shown, is what passes without lags
+module _ (steps : ℕ) (node : NodeValue) (stages : List ℕ) (room : ℕ) (clear out : List ℕ)
+    (none : clear ≡ replicate steps 0) (long : length out ≡ steps)
+    (each : (i : ℕ) (d : ℕ) → i < steps
+    → get_or out i d ≡ (if is_shown steps node stages i then room else get_or clear i d)) where
+  -- each step has the one or the other
+  passes : (i : ℕ) (d : ℕ) → i < steps → get_or out i d ≡ (if is_shown steps node stages i then room else 0)
+  passes i d below =
+      each i d below
+      ∙ ap (λ n. if is_shown steps node stages i then room else n)
+      (ap (λ xs. get_or xs i d) none ∙ get_or-replicate steps i 0 d below)
+
+  -- the list is the definition's
+  pub passed_without_lags : (start_lag end_lag : ℕ) → start_lag ≡ 0 → end_lag ≡ 0
+      → out ≡ map (passed_at (shown_of steps node stages) start_lag end_lag room) (range_with_len 0 steps)
+  passed_without_lags start_lag end_lag no_start no_end =
+      fill_by_all (passed_at (shown_of steps node stages) start_lag end_lag room) out steps 0 long
+      (λ i below. passes i 0 below
+      ∙ ap (λ b. if b then room else 0)
+      (sym (get_or-map-range_with_len (is_shown steps node stages) 0 steps i i false below (omega arith))
+      ∙ sym (green_without_lags (shown_of steps node stages) start_lag end_lag i
+      (omega (arith, below, length-map-range_with_len (is_shown steps node stages) 0 steps)) no_start no_end)))
+
+  -- each number is below a limit of `room`
+  pub passed_below : (limit : ℕ) → room < limit → (i : ℕ) (d : ℕ) → i < length out → get_or out i d < limit
+  passed_below limit small i d below =
+      subst (λ (n : ℕ). n < limit) (sym (passes i d (omega (arith, below, long))))
+      (cond_both (is_shown steps node stages i) room 0 (λ (n : ℕ). n < limit) (λ _. small) (λ _. omega (arith, small)))

@@ -50,7 +50,26 @@ fn test_green(net: &Net, link: usize, step: u32) -> bool
 ///
 /// `out` has one value for each step of the cycle; what stood there is overwritten. It is the saturation flow of a
 /// step, rounded down, in each step of green, and 0 in the others.
+#[tactic(auto, using(crate::proofs::ShownLaws::passed_below))]
 pub fn fill_go(net: &Net, link: usize, out: &mut [u64])
+    requires link { link < length net.now.links }
+    requires steps { length out.old ≡ net.now.frame.step_count }
+    ensures value { out.new ≡ signal net.now link }
+    ensures small { All (λ v. v < 2 ^ 30) out.new }
+{
+    let node = net.node_of(link);
+    let found = net.link(link);
+    if found.start_lag > 0 || found.end_lag > 0 {
+        fill_lagged(net, link, out);
+        return;
+    }
+    let room = net.per_step(found.saturation);
+    out.fill(0);
+    show_stages(net.frame().step_count, node, &found.stages, room, out);
+}
+
+/// What `fill_go` does, for a link with lags: first the steps at which it is shown, then those that are green.
+fn fill_lagged(net: &Net, link: usize, out: &mut [u64])
     requires link { link < length net.now.links }
     requires steps { length out.old ≡ net.now.frame.step_count }
     ensures value { out.new ≡ signal net.now link }
@@ -97,19 +116,13 @@ fn passed_at(shown: &[bool], start_lag: u32, end_lag: u32, room: u64, step: usiz
 }
 
 /// Whether a link is green at a step, where `shown` tells at which steps it is shown.
-#[tactic(auto, using(crate::proofs::StepLaws::green_without_lags))]
 fn green_at(shown: &[bool], start_lag: u32, end_lag: u32, step: usize) -> bool
     requires step { step < length shown.now }
     requires most { length shown.now ≤ 120 }
     requires end_lag { end_lag < length shown.now }
     ensures { result ≡ green_at shown.now start_lag end_lag step }
 {
-    if start_lag == 0 && end_lag == 0 {
-        return shown[step];
-    }
-    let held = is_held(shown, end_lag, step);
-    let starting = is_starting(shown, start_lag, step);
-    held && !starting
+    is_held(shown, end_lag, step) && !is_starting(shown, start_lag, step)
 }
 
 /// Whether the link is shown at a step or at one of the steps of its end lag before it.
@@ -169,6 +182,7 @@ fn step_back(step_count: usize, step: usize, back: u32) -> usize
 }
 
 /// Tells for each step whether a link that runs in these stages is shown at it.
+#[tactic(auto, using(crate::proofs::ShownLaws::shown_is))]
 fn fill_shown(step_count: u32, node: &Node, stages: &[u32], shown: &mut [bool])
     requires node { IsNode step_count node.now }
     requires steps { length shown.old ≡ step_count }
@@ -177,20 +191,41 @@ fn fill_shown(step_count: u32, node: &Node, stages: &[u32], shown: &mut [bool])
     ensures { shown.new ≡ shown_of step_count node.now stages.now }
 {
     shown.fill(false);
+    show_stages(step_count, node, stages, true, shown);
+}
+
+/// Gives `value` to the steps at which a link that runs in these stages is shown.
+fn show_stages<T: Copy>(step_count: u32, node: &Node, stages: &[u32], value: T, out: &mut [T])
+    requires node { IsNode step_count node.now }
+    requires steps { length out.old ≡ step_count }
+    requires some { 0 < step_count }
+    requires most { step_count ≤ 120 }
+    ensures steps { length out.new ≡ length out.old }
+    ensures shown { (i : ℕ) → (other : T) → i < step_count → slice_index_or out.new i other
+        ≡ (if is_shown step_count node.now stages.now i then value else slice_index_or out.old i other) }
+{
     for place in 0..node.stages.len() {
-        show_stage(step_count, node, stages, place, shown);
+        show_stage(step_count, node, stages, place, value, out);
     }
 }
 
-/// Adds the steps at which the stage at a place shows a link that runs in these stages.
-fn show_stage(step_count: u32, node: &Node, stages: &[u32], place: usize, shown: &mut [bool])
+/// Gives `value` to the steps at which the stage at a place shows a link that runs in these stages.
+fn show_stage<T: Copy>(
+    step_count: u32,
+    node: &Node,
+    stages: &[u32],
+    place: usize,
+    value: T,
+    out: &mut [T],
+)
     requires node { IsNode step_count node.now }
     requires place { place < length node.now.stages }
-    requires steps { length shown.old ≡ step_count }
+    requires steps { length out.old ≡ step_count }
     requires some { 0 < step_count }
     requires most { step_count ≤ 120 }
-    ensures { (i : ℕ) → i < step_count → slice_index_or shown.new i false
-        ≡ (slice_index_or shown.old i false || shows step_count node.now stages.now i place) }
+    ensures steps { length out.new ≡ length out.old }
+    ensures shown { (i : ℕ) → (other : T) → i < step_count → slice_index_or out.new i other
+        ≡ (if shows step_count node.now stages.now i place then value else slice_index_or out.old i other) }
 {
     if !runs_in(stages, place) {
         return;
@@ -199,7 +234,7 @@ fn show_stage(step_count: u32, node: &Node, stages: &[u32], place: usize, shown:
     let before = step_before(node.stages.len() as u64, place as u64) as usize;
     let from = first_shown(stages, before, stage.intergreen);
     let to = stage_length(node, step_count, place as u32 + 1);
-    show_steps(node.offset + stage.change, from, to, shown);
+    show_steps(node.offset + stage.change, from, to, value, out);
 }
 
 /// The step of a stage from which it shows a link: its first where the link runs in the stage before too, else the
@@ -216,22 +251,23 @@ fn first_shown(stages: &[u32], before: usize, intergreen: u32) -> u32
     }
 }
 
-/// Adds the steps that come at least `from` and fewer than `to` steps after the change.
-fn show_steps(change: u32, from: u32, to: u32, shown: &mut [bool])
-    requires some { 0 < length shown.old }
-    requires most { length shown.old ≤ 120 }
+/// Gives `value` to the steps that come at least `from` and fewer than `to` steps after the change.
+fn show_steps<T: Copy>(change: u32, from: u32, to: u32, value: T, out: &mut [T])
+    requires some { 0 < length out.old }
+    requires most { length out.old ≤ 120 }
     requires change { change ≤ 240 }
     requires from { from ≤ 120 }
-    requires to { to ≤ length shown.old }
-    ensures { (i : ℕ) → i < length shown.old → slice_index_or shown.new i false
-        ≡ (slice_index_or shown.old i false || (nat_le from (minus_mod (length shown.old) i change)
-        && nat_lt (minus_mod (length shown.old) i change) to)) }
+    requires to { to ≤ length out.old }
+    ensures steps { length out.new ≡ length out.old }
+    ensures shown { (i : ℕ) → (other : T) → i < length out.old → slice_index_or out.new i other
+        ≡ (if nat_le from (minus_mod (length out.old) i change) && nat_lt (minus_mod (length out.old) i change) to
+        then value else slice_index_or out.old i other) }
 {
-    let mut step = (from + change) as usize % shown.len();
+    let mut step = (from + change) as usize % out.len();
     for since in from..to {
         let _ = since;
-        shown[step] = true;
-        step = step_after(shown.len(), step);
+        out[step] = value;
+        step = step_after(out.len(), step);
     }
 }
 

@@ -1,16 +1,17 @@
 -- The steps after the change, one after another.
-use Rattle.std.proofs.Common.{◌≡◌, ◌+◌, ◌%◌, ◌<◌, ◌≤◌, ◌||◌, ℕ, false, get_or, length}
+use Rattle.std.proofs.Common.{◌≡◌, ◌+◌, ◌%◌, ◌<◌, ◌≤◌, ℕ, if◌then◌else◌, get_or, length}
 use Rattle.transyt_cycle.specs.Cycle.{minus_mod}
 use Rattle.transyt_stage.proofs.ShownLaws.{between}
 use Rattle.transyt_stage.proofs.green.show_steps.Given as goal
 
--- those so far are added; where there is none to add, none is
+-- those so far have the value; where there is none to come, none has
 abbrev pub invariant-loop-since : goal.invariant-loop-since
-invariant-loop-since l = record {
+invariant-loop-since g l = record {
   none : l.to ≤ l.from → l.since ≡ l.from;
-  within : l.step < length l.initial.shown;
-  step : l.step ≡ (l.since + l.change) % length l.initial.shown;
-  shown : (i : ℕ) → i < length l.initial.shown
-      → get_or l.shown i false
-      ≡ (get_or l.initial.shown i false || between l.from l.since (minus_mod (length l.initial.shown) i l.change));
+  within : l.step < length l.initial.out;
+  step : l.step ≡ (l.since + l.change) % length l.initial.out;
+  shown : (i : ℕ) (d : g.row.T.Denot) → i < length l.initial.out
+      → get_or l.out i d
+      ≡ (if between l.from l.since (minus_mod (length l.initial.out) i l.change) then l.value
+      else get_or l.initial.out i d);
 }
