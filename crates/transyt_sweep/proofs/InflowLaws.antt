@@ -74,23 +74,22 @@ brought_by net read f part out time percent made is_part is_time is_percent =
     ∙ ap (λ t. dispersed (taken net read f) t percent) is_time
     ∙ ap (dispersed (taken net read f) (travel_steps f.cruise net.frame.step_count net.frame.cycle)) is_percent
 
--- three profiles added one after another
-pub added_three : (come x y z one two three a b c : List ℕ) → one ≡ added come x → two ≡ added one y
-    → three ≡ added two z → x ≡ a → y ≡ b → z ≡ c → three ≡ added (added (added come a) b) c
-added_three come x y z one two three a b c first second third is_a is_b is_c =
-    let once : one ≡ added come a = first ∙ ap (added come) is_a in
-    let twice : two ≡ added (added come a) b =
-    second ∙ ap (λ r. added r y) once ∙ ap (added (added come a)) is_b in
-    third ∙ ap (λ r. added r z) twice ∙ ap (added (added (added come a) b)) is_c
+-- three profiles added, by other names
+pub added_three : (come x y z new a b c : List ℕ) → new ≡ added (added (added come x) y) z
+    → x ≡ a → y ≡ b → z ≡ c → new ≡ added (added (added come a) b) c
+added_three come x y z new a b c sum is_a is_b is_c =
+    sum
+    ∙ ap (λ r. added (added (added come r) y) z) is_a
+    ∙ ap (λ r. added (added (added come a) r) z) is_b
+    ∙ ap (added (added (added come a) b)) is_c
 
--- four profiles added one after another
-pub added_four : (come x y z u one two three four a b c d : List ℕ) → one ≡ added come x → two ≡ added one y
-    → three ≡ added two z → four ≡ added three u → x ≡ a → y ≡ b → z ≡ c → u ≡ d
-    → four ≡ added (added (added (added come a) b) c) d
-added_four come x y z u one two three four a b c d first second third fourth is_a is_b is_c is_d =
-    let thrice : three ≡ added (added (added come a) b) c =
-    added_three come x y z one two three a b c first second third is_a is_b is_c in
-    fourth ∙ ap (λ r. added r u) thrice ∙ ap (added (added (added (added come a) b) c)) is_d
+-- four profiles added, by other names
+pub added_four : (come x y z u new a b c d : List ℕ) → new ≡ added (added (added (added come x) y) z) u
+    → x ≡ a → y ≡ b → z ≡ c → u ≡ d → new ≡ added (added (added (added come a) b) c) d
+added_four come x y z u new a b c d sum is_a is_b is_c is_d =
+    sum
+    ∙ ap (λ r. added r u) (added_three come x y z (added (added (added come x) y) z) a b c refl is_a is_b is_c)
+    ∙ ap (added (added (added (added come a) b) c)) is_d
 
 -- the first factor of a travel has 41 bits
 pub factor_fits : (reciprocal weight time percent factor : ℕ) → factor ≡ 100 * reciprocal → weight ≡ percent * time

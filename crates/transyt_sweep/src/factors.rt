@@ -1,6 +1,6 @@
 //! What is worked out of a feed's numbers once, and kept.
 
-ghost use Rattle.std.specs.Prelude.{◌≡◌, ◌^◌, ◌≤◌, All, IsTrue};
+ghost use Rattle.std.specs.Prelude.{◌≡◌, ◌^◌, ◌≤◌, IsTrue};
 ghost use Rattle.transyt_parts.specs.declared.frame.Frame.{Frame};
 ghost use Rattle.transyt_parts.specs.declared.link.Feed.{Feed};
 ghost use Rattle.transyt_platoon.specs.Platoon.{travel_steps};
@@ -72,28 +72,16 @@ fn serve(factors: &Factors, frame: Frame, feed: Feed, feeder: usize, whole: u32)
         && factors.travel.percent == frame.dispersion
 }
 
-/// The factors of a feed: those that are kept at a place where they name its numbers and its feeder's place, else
-/// worked out anew and kept there. Past the last place nothing is kept.
-pub(crate) fn factors_at(
-    net: &Net,
-    feed: Feed,
-    feeder: usize,
-    whole: u32,
-    place: usize,
-    kept: &mut [Factors],
-) -> Factors
+/// Works the factors that are kept in `slot` out anew, where the numbers that they name are not a feed's or the place
+/// not its feeder's.
+pub(crate) fn renew(net: &Net, feed: Feed, feeder: usize, whole: u32, slot: &mut Factors)
     requires flow { feed.flow ≤ 9999 }
     requires cruise { feed.cruise ≤ 300 }
-    requires kept { All (AreFactors net.now.frame.step_count) kept.old }
-    ensures are { AreFactors net.now.frame.step_count result }
-    ensures serve { Serve net.now.frame feed whole result }
-    ensures kept { All (AreFactors net.now.frame.step_count) kept.new }
+    requires are { AreFactors net.now.frame.step_count slot.old }
+    ensures are { AreFactors net.now.frame.step_count slot.new }
+    ensures serve { Serve net.now.frame feed whole slot.new }
 {
-    if place >= kept.len() {
-        return factors_of(net, feed, feeder, whole);
+    if !serve(slot, net.frame(), feed, feeder, whole) {
+        *slot = factors_of(net, feed, feeder, whole);
     }
-    if !serve(&kept[place], net.frame(), feed, feeder, whole) {
-        kept[place] = factors_of(net, feed, feeder, whole);
-    }
-    kept[place]
 }

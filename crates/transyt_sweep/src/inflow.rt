@@ -12,7 +12,7 @@ use crate::rows::Rows;
 use crate::sending::{send_feed, share_feed};
 use transyt_net::{Feed, Net};
 use transyt_platoon::{Platoon, disperse, disperse_four, disperse_three, travel_steps};
-use transyt_profile::{add_into, fill_uniform};
+use transyt_profile::{add_four_into, add_into, add_three_into, fill_uniform};
 
 /// Adds what one feed brings to what comes, in millionths of a vehicle per step. `room` is room for its work.
 fn add_feed(
@@ -117,9 +117,7 @@ fn add_three(
         y_out,
         z_out,
     );
-    add_into(x_out, come);
-    add_into(y_out, come);
-    add_into(z_out, come);
+    add_three_into(x_out, y_out, z_out, come);
 }
 
 /// Adds what four feeds bring to what comes, as `add_three` does of three.
@@ -210,10 +208,7 @@ fn add_four(
         z_out,
         u_out,
     );
-    add_into(x_out, come);
-    add_into(y_out, come);
-    add_into(z_out, come);
-    add_into(u_out, come);
+    add_four_into(x_out, y_out, z_out, u_out, come);
 }
 
 /// The place of the factors of a link's first feed.

@@ -5,11 +5,13 @@ ghost use Rattle.transyt_parts.specs.declared.link.Feed.{Feed};
 ghost use Rattle.transyt_net.specs.Valid.{link_place};
 ghost use Rattle.transyt_platoon.specs.Platoon.{travel_steps};
 ghost use Rattle.transyt_platoon.specs.Travels.{IsTravel};
+ghost use Rattle.transyt_profile.specs.Parts.{IsPart};
+ghost use Rattle.transyt_profile.specs.Profile.{shared};
 ghost use Rattle.transyt_sweep.specs.Cell.{taken};
 ghost use Rattle.transyt_sweep.specs.Factors.{AreFactors};
 ghost use Rattle.transyt_sweep.specs.Rows.{Fits, read_in};
 
-use crate::factors::{Factors, factors_at};
+use crate::factors::{Factors, factors_of, renew};
 use crate::rows::Rows;
 use transyt_net::{Feed, Net};
 use transyt_platoon::Travel;
@@ -86,7 +88,7 @@ pub(crate) struct Sent {
 }
 
 /// What `share_feed` leaves in `shared`, and in `ready` each of it times the first factor of its travel. The feed's
-/// factors are kept at `place` of `kept`.
+/// factors are kept at `place` of `kept`; past the last place nothing is kept.
 pub(crate) fn send_feed(
     net: &Net,
     feed: Feed,
@@ -119,14 +121,39 @@ pub(crate) fn send_feed(
 {
     net.frame();
     let feeder = feeder_place(net, feed.feeder, place, kept);
-    let factors = factors_at(net, feed, feeder, net.total_flow(feeder), place, kept);
+    let whole = net.total_flow(feeder);
     let leaving = rows.read(sweep, link, feeder);
+    if place >= kept.len() {
+        let factors = factors_of(net, feed, feeder, whole);
+        return send_by(&factors, leaving, shared, ready);
+    }
+    renew(net, feed, feeder, whole, &mut kept[place]);
+    send_by(&kept[place], leaving, shared, ready)
+}
+
+/// Leaves in `going` the part of what leaves a feeder that its factors say, and in `ready` what `send_feed` leaves.
+fn send_by(factors: &Factors, leaving: &[u64], going: &mut [u64], ready: &mut [u64]) -> Sent
+    requires most { length leaving.now ≤ 120 }
+    requires going_len { length going.old ≡ length leaving.now }
+    requires ready_len { length ready.old ≡ length leaving.now }
+    requires fit { All (λ v. v < 2 ^ 30) leaving.now }
+    requires part { IsPart factors.now.part }
+    requires factor { factors.now.travel.starting_factor ≤ 2 ^ 41 }
+    requires limit { factors.now.travel.limit ≤ 2 ^ 22 }
+    ensures value { going.new ≡ shared factors.now.part.part factors.now.part.whole leaving.now }
+    ensures small { All (λ v. v < 2 ^ 44) going.new }
+    ensures ready { (k : ℕ) → k < length leaving.now → slice_index going.new k < 2 ^ 22
+        → slice_index ready.new k ≡ slice_index going.new k * result.travel.starting_factor }
+    ensures total { result.extent.total ≡ sum going.new }
+    ensures above { All (λ v. v < result.extent.above) going.new }
+    ensures travel { result.travel ≡ factors.now.travel }
+{
     let extent = share_ready(
         leaving,
         &factors.part,
         factors.travel.starting_factor,
         factors.travel.limit,
-        shared,
+        going,
         ready,
     );
     Sent {
