@@ -4,6 +4,7 @@ pub mod BackLaws
 pub mod CopyLaws
 pub mod DraftLaws
 pub mod EditLaws
+pub mod FlowLaws
 pub mod FoundLaws
 pub mod KeptLaws
 pub mod NamedLaws

@@ -153,12 +153,15 @@ impl Net {
 
     /// A flow in vehicles per hour as units per step, rounded down. A unit is a millionth of a
     /// vehicle.
+    ///
+    /// Both terms are 400 times smaller than in the definition: a quotient of 32 bits takes a third of the time.
+    #[tactic(auto, using(crate::proofs::FlowLaws::perstep_is))]
     pub fn per_step(&self, flow: u32) -> u64
         requires { flow ≤ 100000 }
         ensures value { result ≡ perstep self.now.frame flow }
         ensures small { result < 2 ^ 30 }
     {
-        flow as u64 * self.frame.cycle as u64 * 1_000_000 / (3600 * self.frame.step_count as u64)
+        flow as u64 * self.frame.cycle as u64 * 2500 / (9 * self.frame.step_count as u64)
     }
 
     /// The entry flow of the link at a place and the flows of its feeds, in vehicles per hour.
