@@ -15,6 +15,6 @@ steps_by_both n = omega arith
 -- a flow a step by terms that are 400 times smaller
 pub perstep_is : (frame : Frame) (q : ℕ) → q * frame.cycle * 2500 / (9 * frame.step_count) ≡ perstep frame q
 perstep_is frame q =
-  sym (mul-div-mul_right (q * frame.cycle * 2500) (9 * frame.step_count) (omega arith))
-  ∙ ap (λ top. top / (9 * frame.step_count * 400)) (by_both (q * frame.cycle))
-  ∙ ap (λ low. q * frame.cycle * 1000000 / low) (steps_by_both frame.step_count)
+    sym (mul-div-mul_right (q * frame.cycle * 2500) (9 * frame.step_count) (omega arith))
+    ∙ ap (λ top. top / (9 * frame.step_count * 400)) (by_both (q * frame.cycle))
+    ∙ ap (λ low. q * frame.cycle * 1000000 / low) (steps_by_both frame.step_count)
