@@ -8,6 +8,7 @@ pub mod FlowLaws
 pub mod FoundLaws
 pub mod KeptLaws
 pub mod NamedLaws
+pub mod OrderLaws
 pub mod PlaceLaws
 pub mod ShapeLaws
 pub mod SoundLinks

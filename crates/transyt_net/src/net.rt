@@ -13,7 +13,7 @@ ghost use Rattle.transyt_parts.specs.Valid.{IsNode};
 mod apply;
 mod judge;
 
-use crate::places::{copy_numbers, node_at};
+use crate::places::{copy_numbers, in_order, node_at};
 use indexmap::IndexSet;
 use std::alloc::{AllocError, Global};
 use std::marker::Model;
@@ -112,12 +112,19 @@ impl Net {
     }
 
     /// The node at whose stop line the link at a place ends.
+    ///
+    /// Nodes that are numbered from 1 in card order are found without the map.
+    #[tactic(auto, using(crate::proofs::OrderLaws::node_found))]
     pub fn node_of(&self, link: usize) -> &Node
         requires { link < length self.now.links }
         ensures value { result.now ≡ the_node self.now (link_of self.now link).node }
         ensures kept { IsNode self.now.frame.step_count result.now }
     {
-        match node_at(&self.node_places, &self.nodes, self.link(link).node) {
+        let number = self.link(link).node;
+        if let Some(node) = in_order(self.nodes(), number) {
+            return node;
+        }
+        match node_at(&self.node_places, &self.nodes, number) {
             Some(node) => node,
             None => unreachable!(),
         }

@@ -3,10 +3,11 @@
 //! A set in the order of insertion is the map from a number to its place: its keys are the numbers
 //! of the nodes or links in order.
 
-ghost use Rattle.std.specs.Prelude.{◌≡◌, IfOk, ℕ, ◌<◌, ◌++◌, ◌∷◌, [], false};
+ghost use Rattle.std.specs.Prelude.{◌≡◌, IfOk, IfSome, ℕ, ◌<◌, ◌-◌, ◌++◌, ◌∷◌, [], false, length, slice_index_or};
 ghost use Rattle.std.specs.Option.{option_map};
 ghost use Rattle.indexmap.specs.IndexSet.{spare};
 ghost use Rattle.transyt_parts.specs.Valid.{is_fed, node_number, link_number};
+ghost use Rattle.transyt_net.specs.Parts.{no_node};
 ghost use Rattle.transyt_net.specs.Valid.{is_among, numbered, node_numbers, link_numbers, stages_at, feeds_at};
 
 use indexmap::IndexSet;
@@ -29,6 +30,19 @@ pub(crate) fn copy_numbers(places: &IndexSet<u32>) -> Result<IndexSet<u32>, Allo
     ensures { IfOk result (λ copy. copy.keys ≡ places.now.keys) }
 {
     places.clone()
+}
+
+/// The node of a number where nodes are numbered from 1 in order up to it.
+pub(crate) fn in_order(nodes: &[Node], number: u32) -> Option<&Node>
+    ensures { IfSome result (λ n. (n.now.number ≡ number) × (number - 1 < length nodes.now)
+        × (n.now ≡ slice_index_or nodes.now (number - 1) no_node)) }
+{
+    let node = nodes.get(number.saturating_sub(1) as usize)?;
+    if node.number == number {
+        Some(node)
+    } else {
+        None
+    }
 }
 
 /// The node of a number.

@@ -1,36 +1,15 @@
 -- Where a link is found.
-use Rattle.std.proofs.Common.{◌≡◌, ℕ, zero, suc, ◌<◌, Bool, true, false, nat_eq, nat_lt, cond, List, [], ◌∷◌, length}
-use Rattle.std.proofs.Common.{get_or, not, Some, None, refl, ap, sym, subst, ◌∙◌, arith}
-use Rattle.std.proofs.lemmas.Bool.{and_parts, not-true, eq-eqb, true≢false}
+use Rattle.std.proofs.Common.{◌≡◌, ℕ, ◌<◌, true, nat_eq, nat_lt, cond, List, length}
+use Rattle.std.proofs.Common.{get_or, Some, None, ap, sym, subst, ◌∙◌, arith}
+use Rattle.std.proofs.lemmas.Bool.{eq-eqb}
 use Rattle.std.proofs.lemmas.Bool.Decides.{nat_tests}
 use Rattle.std.proofs.lemmas.List.{length-map, get_or-map}
-use Rattle.std.proofs.lemmas.List.Folds.{list_any_at}
 use Rattle.std.proofs.lemmas.List.Sums.{position_or_len_is}
-use Rattle.std.specs.List.{list_any, position_or_len}
+use Rattle.std.specs.List.{position_or_len}
 use Rattle.transyt_parts.specs.Valid.{all_differ, link_number}
 use Rattle.transyt_net.specs.Parts.{Network, link_of, no_link}
 use Rattle.transyt_net.specs.Valid.{IsValid, link_numbers, link_place, place_of, found_or_first}
-use Rattle.transyt_net.proofs.PlaceLaws.{eq_swapped}
-
--- a number that is not among these is none of them
-none_of : (ns : List ℕ) (k i : ℕ) → list_any (nat_eq k) ns ≡ false → i < length ns → nat_eq k (get_or ns i 0) ≡ false
-none_of ns k i absent inside = by (nat_eq k (get_or ns i 0)) refl
-  where
-    by : (b : Bool) → nat_eq k (get_or ns i 0) ≡ b → nat_eq k (get_or ns i 0) ≡ false
-    by true e = absurd (true≢false (sym (list_any_at (nat_eq k) ns i 0 inside e) ∙ absent))
-    by false e = e
-
--- of numbers that differ one that stands later is not one that stands earlier
-earlier_differs : (ns : List ℕ) (i k : ℕ) → all_differ ns ≡ true → k < i → i < length ns
-    → nat_eq (get_or ns i 0) (get_or ns k 0) ≡ false
-earlier_differs [] i k differ earlier inside = absurd (omega arith)
-earlier_differs (x ∷ xs) zero k differ earlier inside = absurd (omega arith)
-earlier_differs (x ∷ xs) (suc i) zero differ earlier inside =
-    let parts = and_parts (not (list_any (nat_eq x) xs)) (all_differ xs) differ in
-    eq_swapped x (get_or xs i 0) (none_of xs x i (not-true _ parts.0) (omega arith))
-earlier_differs (x ∷ xs) (suc i) (suc k) differ earlier inside =
-    let parts = and_parts (not (list_any (nat_eq x) xs)) (all_differ xs) differ in
-    earlier_differs xs i k parts.1 (omega arith) (omega arith)
+use Rattle.transyt_net.proofs.OrderLaws.{earlier_differs}
 
 -- each is found where it stands
 found_where : (ns : List ℕ) (k p : ℕ) → all_differ ns ≡ true → p < length ns → get_or ns p 0 ≡ k

@@ -11,7 +11,7 @@ pub returns-clause-kept : goal.returns-clause-kept
 returns-clause-kept c =
     let steps : ℕ = c.self.inside.frame.step_count in
     let nodes : List NodeValue = c.self.inside.nodes.items in
-    let node : NodeValue = c.in-Some.node.now in
+    let node : NodeValue = c.in-Some-node_at.node.now in
     let number : ℕ = c.behind-self.inside.node in
     let at : numbered node_number nodes number ≡ Some node = search rules in
     let kept : IsNode steps node = all_numbered (IsNode steps) node_number nodes number node c.self.invariant.0.sound.nodes at in
