@@ -8,3 +8,4 @@ pub mod Progress
 pub mod Entries
 pub mod Exact
 pub mod WorkedTables
+pub mod WorkedTotals

@@ -37,20 +37,20 @@ with_key keys k = if list_any (same_key k) keys then keys else keys ++ k ∷ []
 abbrev pub keys_of : List Count → List Key
 keys_of counts = fold (λ keys c. with_key keys c.key) [] counts
 
--- the totals of a key with one row more
+-- the totals of a key with one row more. No public clause cites them.
 abbrev pub more_totals : Count → Option Totals → Totals
 more_totals c None = record { vehicles = c.vehicles; minutes = c.minutes; last = c.row }
 more_totals c (Some t) = record { vehicles = t.vehicles + c.vehicles; minutes = t.minutes + c.minutes; last = c.row }
 
--- the totals of a key
+-- the totals of a key. No public clause cites them.
 abbrev pub totals_of : List Count → Key → Totals
 totals_of counts k =
     record { vehicles = vehicles_of counts k; minutes = minutes_of counts k; last = last_row counts k }
 
--- each key with its totals
+-- each key with its totals. No public clause cites them.
 abbrev pub tally_of : List Count → List (Key × Totals)
 tally_of counts = map (λ k. (k, totals_of counts k)) (keys_of counts)
 
--- totals to which a row can be added
+-- totals to which a row can be added. No public clause cites them.
 abbrev pub HasRoom : Totals → Type 0
 HasRoom t = (t.vehicles < 2 ^ 63) × (t.minutes < 2 ^ 63)

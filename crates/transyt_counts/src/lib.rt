@@ -15,7 +15,7 @@ mod tally;
 
 pub use counting::read_counts;
 pub use counts::{CountStop, Counts};
-pub use laws::worked_counts;
+pub use laws::{worked_counts, worked_totals};
 
 #[cfg(test)]
 mod tests;
