@@ -20,3 +20,6 @@ pub mod ReachedLaws
 pub mod NeedsLaws
 pub mod WorthLaws
 pub mod AnswerLaws
+pub mod WorkedPeaks
+pub mod WorkedShares
+pub mod WorkedSettings

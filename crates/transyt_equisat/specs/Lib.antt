@@ -6,3 +6,5 @@ pub mod Sharing
 pub mod Answer
 pub mod Balance
 pub mod WorkedBalances
+pub mod WorkedPeaks
+pub mod WorkedShares

@@ -15,7 +15,9 @@ mod sharing;
 
 pub use balancing::balance;
 pub use greens::{Greens, Share};
-pub use laws::worked_balances;
+pub use laws::{
+    worked_balances, worked_best, worked_peaks, worked_settings, worked_shares, worked_worth,
+};
 
 #[cfg(test)]
 mod tests;
