@@ -19,6 +19,7 @@ pub fn worked_session()
     ensures open { opened shifted ≡ record { net = shifted; before = None; work = 0 } }
     ensures credit { credited 3 in_trial ≡ record in_trial { work = 14 } }
     ensures stand { standing_for shifted taken_back ≡ kept }
+    ensures stand_in_trial { standing_for junctions in_trial ≡ taken_back }
     ensures replies { map (λ row. reply_to junctions row.0) worked_replies ≡ map (λ row. row.1) worked_replies }
     ensures tried { try_of junctions (Offset 21 9) ≡ Index (index shifted) 6 }
     ensures barred { try_of junctions (Change 21 2 4) ≡ Barred }
