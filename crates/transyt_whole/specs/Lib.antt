@@ -3,3 +3,4 @@ pub mod Answer
 pub mod Texts
 pub mod Whole
 pub mod WorkedTexts
+pub mod WorkedTold

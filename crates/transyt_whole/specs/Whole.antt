@@ -1,12 +1,12 @@
 -- What a run does that takes its input whole.
-use Rattle.std.specs.Prelude.{◌≡◌, ◌≤◌, ◌+◌, ℕ, List, [], Bool, true, false, Option}
+use Rattle.std.specs.Prelude.{◌≡◌, ◌≤◌, ◌+◌, ℕ, List, [], true, false, Option}
 use Rattle.transyt_io.specs.Streams.{Takes, Adds}
 use Rattle.transyt_whole.specs.Answer.{AnswerValue}
 use Rattle.transyt_whole.specs.Texts.{lines_text}
 use Rattle.transyt_running.specs.Outcome.{IsFront}
 use Rattle.transyt_running.specs.declared.status.Status.{Status}
 use Rattle.transyt_running.specs.declared.status.Status.TheVariants.{Done, DeckRefused, ReadFault, TooLong, WriteFault}
-use Rattle.transyt_running.specs.declared.status.Status.TheVariants.{NoMemory, BadWords}
+use Rattle.transyt_running.specs.declared.status.Status.TheVariants.{NoMemory}
 
 -- what a status says of the answer to an input and of the bytes written
 abbrev pub ToldRow : AnswerValue → List ℕ → Status → Type 0

@@ -13,6 +13,6 @@ mod line;
 mod whole;
 
 pub use answer::Answer;
-pub use laws::worked_texts;
+pub use laws::{worked_texts, worked_told};
 pub use line::{AnswerLine, AuditLine, BalanceLine, Climbed, CountsLine, ScanLine};
 pub use whole::{Whole, answer_whole, say};

@@ -1,0 +1,54 @@
+-- Worked answers as they are written under each status: rows that may be, and rows that may not, each wrong in one thing.
+use Rattle.std.specs.Prelude.{ℕ, ◌++◌, List, [], ◌∷◌, codes}
+use Rattle.transyt_running.specs.declared.status.Status.{Status}
+use Rattle.transyt_running.specs.declared.status.Status.TheVariants.{Done, DeckRefused, ReadFault, TooLong, WriteFault}
+use Rattle.transyt_running.specs.declared.status.Status.TheVariants.{NoMemory, BadWords}
+use Rattle.transyt_whole.specs.declared.line.AnswerLine.{AnswerLine}
+use Rattle.transyt_whole.specs.declared.line.AnswerLine.TheVariants as line
+use Rattle.transyt_whole.specs.declared.line.CountsLine.TheVariants as counts
+use Rattle.transyt_whole.specs.Answer.{AnswerValue, done, refusal}
+
+-- two lines, the text of the first, and that of both
+abbrev pub two_lines : List AnswerLine
+two_lines = line.Counts (counts.Entry 21 640) ∷ line.Counts (counts.Counted 12 3) ∷ []
+
+abbrev pub first_text : List ℕ
+first_text = codes "ENTRY 21 640" ++ 10 ∷ []
+
+abbrev pub both_texts : List ℕ
+both_texts = codes "ENTRY 21 640" ++ 10 ∷ codes "* COUNTS 12 3" ++ 10 ∷ []
+
+-- of a run: the answer to its input, the bytes written, and its status
+abbrev pub WorkedRow : Type 0
+WorkedRow = AnswerValue × List ℕ × Status
+
+-- what a status may say
+abbrev pub told_rows : List WorkedRow
+told_rows =
+    (done two_lines, both_texts, Done)
+    ∷ (refusal two_lines, both_texts, DeckRefused)
+    ∷ (done two_lines, codes "ENTRY 2", WriteFault)
+    ∷ (refusal two_lines, both_texts, WriteFault)
+    ∷ (done two_lines, [], WriteFault)
+    ∷ (refusal two_lines, [], NoMemory)
+    ∷ []
+
+-- what it may not
+abbrev pub untold_rows : List WorkedRow
+untold_rows =
+    -- the input is refused, or a line is missing
+    (refusal two_lines, both_texts, Done)
+    ∷ (done two_lines, first_text, Done)
+    -- the input isn't refused, or a line is missing
+    ∷ (done two_lines, both_texts, DeckRefused)
+    ∷ (refusal two_lines, first_text, DeckRefused)
+    -- another byte is written, or one too many
+    ∷ (done two_lines, codes "ENTRY 3", WriteFault)
+    ∷ (done two_lines, both_texts ++ codes "*", WriteFault)
+    -- a byte is written
+    ∷ (done two_lines, codes "E", NoMemory)
+    -- an input that was read has an answer, and the words were good
+    ∷ (done two_lines, [], ReadFault)
+    ∷ (done two_lines, [], TooLong)
+    ∷ (done two_lines, [], BadWords)
+    ∷ []
