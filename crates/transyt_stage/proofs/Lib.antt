@@ -1,3 +1,4 @@
 pub mod StepLaws
 pub mod ShownLaws
 pub mod GreenLaws
+pub mod WorkedGreens

@@ -18,6 +18,13 @@ greens =
 abbrev pub green_steps : List Bool
 green_steps = replicate 8 false ++ replicate 6 true ++ replicate 4 false
 
+-- steps at which it is green, the first and the last, and steps at which it isn't, the last before and the first after
+abbrev pub greens_of_first : List ℕ
+greens_of_first = 8 ∷ 13 ∷ []
+
+abbrev pub reds_of_first : List ℕ
+reds_of_first = 7 ∷ 14 ∷ []
+
 -- at which of four steps a link is shown, its start lag and its end lag, and at which steps it is green: one with
 -- neither lag, one that loses all its green, one that is shown at every step, and one whose lags lead past the cycle
 abbrev pub lagging : List (List Bool × ℕ × ℕ × List Bool)
