@@ -1,11 +1,14 @@
 -- Rows are compared and flags are read step by step, with no jump out.
-use Rattle.std.proofs.Common.{◌≡◌, ℕ, zero, suc, ◌+◌, ◌<◌, ◌&&◌, List, [], ◌∷◌, length, nat_eq}
+use Rattle.std.proofs.Common.{◌≡◌, ℕ, zero, suc, ◌+◌, ◌<◌, ◌&&◌, ◌||◌, Bool, false, refl, List, [], ◌∷◌, length, nat_eq}
 use Rattle.std.proofs.Common.{take, get_or, ap, sym, ◌∙◌, arith}
 use Rattle.std.specs.Str.{bytes_eq}
+use Rattle.std.specs.List.{list_any}
 use Rattle.std.specs.Int.Bits.{bit_xor, bit_or, xor_self, xor_zero_l, xor_zero_r, xor_assoc, or_zero_l}
 use Rattle.std.proofs.Math.Bool.{and_assoc, and-true, true-and}
+use Rattle.std.proofs.lemmas.Bool.{or_parts}
 use Rattle.std.proofs.lemmas.Bool.Decides.{nat_tests}
 use Rattle.std.proofs.lemmas.Nat.{le_or_l, le_or_r}
+use Rattle.transyt_track.specs.Front.{flag}
 
 -- numbers with no bit apart are one
 xor_none : (a b : ℕ) → bit_xor a b ≡ 0 → a ≡ b
@@ -58,3 +61,15 @@ steps_more xs ys i d here there before =
 pub as_long : (xs ys : List ℕ) (n : ℕ) → length xs ≡ n → (zs : List ℕ) → ys ≡ zs → length zs ≡ n
     → length xs ≡ length ys
 as_long xs ys n one zs same other = one ∙ sym (ap length same ∙ other)
+
+none_up : (flags : List Bool) → list_any (λ f. f) flags ≡ false → (p : ℕ) → flag flags p ≡ false
+none_up [] none p = refl
+none_up (f ∷ fs) none zero = (or_parts f (list_any (λ g. g) fs) none).0
+none_up (f ∷ fs) none (suc p) = none_up fs (or_parts f (list_any (λ g. g) fs) none).1 p
+
+-- where no flag is up, none of these is
+pub none_of : (flags : List Bool) → list_any (λ f. f) flags ≡ false → (places : List ℕ)
+    → list_any (flag flags) places ≡ false
+none_of flags none [] = refl
+none_of flags none (p ∷ ps) =
+    ap (λ x. x || list_any (flag flags) ps) (none_up flags none p) ∙ none_of flags none ps

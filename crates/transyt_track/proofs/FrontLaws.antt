@@ -59,7 +59,8 @@ flag_more flags l d test inside before is m within = by (cases_eq m l)
         let apart : m ≢ l = other in
         get_or-set_other flags l m d false other ∙ before m (omega arith)
 
-any_flagged : (flags : List Bool) (test : ℕ → Bool) (count : ℕ)
+-- flags tell of several what the test does
+pub any_flagged : (flags : List Bool) (test : ℕ → Bool) (count : ℕ)
     → ((m : ℕ) → m < count → flag flags m ≡ test m) → (js : List ℕ) → All (λ j. j < count) js
     → list_any (flag flags) js ≡ list_any test js
 any_flagged flags test count same [] all = refl

@@ -20,3 +20,4 @@ pub mod ReturnLaws
 pub mod TrackLaws
 pub mod RuleLaws
 pub mod CompareLaws
+pub mod ChangeLaws

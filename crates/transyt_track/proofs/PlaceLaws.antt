@@ -1,5 +1,5 @@
 -- The node of a link stands at its place.
-use Rattle.std.proofs.Common.{◌≡◌, ℕ, ◌<◌, true, false, List, [], ◌∷◌, ◌++◌, ◌+◌, take, length, Option, Some, None}
+use Rattle.std.proofs.Common.{◌≡◌, ◌↔◌, ℕ, ◌<◌, true, false, List, [], ◌∷◌, ◌++◌, ◌+◌, take, length, Option, Some, None}
 use Rattle.std.proofs.Common.{map, All, IfSome, refl, ap, sym, subst, ◌∙◌, get_or, nat_eq, ◌≤◌, arith}
 use Rattle.std.proofs.lemmas.List.FromFn.{length-map-range_with_len, get_or-map-range_with_len}
 use Rattle.std.specs.List.{position_or_len}
@@ -11,7 +11,6 @@ use Rattle.std.proofs.lemmas.List.Elements.{All-nil, All-cons}
 use Rattle.transyt_parts.specs.declared.link.Feed.{Feed}
 use Rattle.transyt_parts.specs.declared.link.GiveWay.{GiveWay}
 use Rattle.transyt_net.proofs.PlaceLaws.{link_place-lt}
-use Rattle.transyt_parts.specs.Parts.{NodeValue}
 use Rattle.transyt_parts.specs.Valid.{node_number}
 use Rattle.transyt_net.specs.Parts.{Network, link_of, node_of, no_link, no_node}
 use Rattle.transyt_net.specs.Edits.{the_node, node_in}
@@ -19,7 +18,7 @@ use Rattle.transyt_net.specs.Valid.{IsValid, place_of, node_numbers, is_among}
 use Rattle.transyt_net.proofs.PlaceLaws.{place_is, numbered_here}
 use Rattle.transyt_net.specs.Valid.{found_or_first}
 use Rattle.transyt_track.specs.Own.{node_place, feeder_place, rule_place, places_at, no_places, PlacesValue}
-use Rattle.transyt_track.specs.Own.{all_places, ArePlaces}
+use Rattle.transyt_track.specs.Own.{all_places, ArePlaces, SameTimes, HaveNode}
 
 -- a number that is among these is found
 found_among : (ns : List ℕ) (number : ℕ) → is_among ns number ≡ true → place_of ns number ≡ None → ⊥
@@ -55,15 +54,24 @@ node_inside net l places valid inside is =
     let here = node_here net l valid inside in
     omega (arith, here.0, ap (λ (p : PlacesValue). p.node) is)
 
--- the node that stands there is the link's
-pub node_stands : (net : Network) (l : ℕ) (places : PlacesValue) → IsValid net → l < length net.links
-    → places ≡ places_at net l → (n : NodeValue) → n ≡ get_or net.nodes places.node n
-    → n ≡ the_node net (link_of net l).node
-node_stands net l places valid inside is n at =
-    let here = node_here net l valid inside in
-    let p : places.node ≡ (places_at net l).node = ap (λ (q : PlacesValue). q.node) is in
-    let there : places.node < length net.nodes = node_inside net l places valid inside is in
-    at ∙ get_or_default net.nodes places.node n no_node there ∙ ap (node_of net) p ∙ sym here.1
+-- and the node that stands there is the link's
+pub node_at : (net : Network) (l : ℕ) (places : PlacesValue) → IsValid net → l < length net.links
+    → places ≡ places_at net l → the_node net (link_of net l).node ≡ node_of net places.node
+node_at net l places valid inside is =
+    (node_here net l valid inside).1 ∙ ap (λ (q : PlacesValue). node_of net q.node) (sym is)
+
+-- so a node of equal times is one of equal times of the link
+pub times_here : (a b : Network) (l : ℕ) (places : PlacesValue) → IsValid a → IsValid b → l < length a.links
+    → l < length b.links → places ≡ places_at a l → places ≡ places_at b l
+    → (HaveNode a b places.node ↔ SameTimes (the_node a (link_of a l).node) (the_node b (link_of b l).node))
+times_here a b l places valid_a valid_b inside_a inside_b is_a is_b =
+    let x = the_node a (link_of a l).node in
+    let y = the_node b (link_of b l).node in
+    let first : x ≡ node_of a places.node = node_at a l places valid_a inside_a is_a in
+    let second : y ≡ node_of b places.node = node_at b l places valid_b inside_b is_b in (
+      λ here. subst (λ n. SameTimes n y) (sym first) (subst (SameTimes (node_of a places.node)) (sym second) here),
+      λ there. subst (λ n. SameTimes n (node_of b places.node)) first (subst (SameTimes x) second there),
+    )
 
 -- the table of all places
 pub all_places_are : (net : Network) → ArePlaces net (all_places net)

@@ -1,21 +1,17 @@
 -- The tests that Due counts by say what they are to say.
 use Rattle.std.proofs.Common.{◌≡◌, ◌↔◌, ℕ, Bool, true, false, sym, not, ◌&&◌, List, [], ◌∷◌, IsTrue, nat_eq, refl}
-use Rattle.std.proofs.Common.{ap, subst, ◌∙◌, arith, map, sum, sum_by}
+use Rattle.std.proofs.Common.{ap, subst, ◌∙◌, arith}
 use Rattle.std.specs.Str.{bytes_eq}
 use Rattle.std.proofs.lemmas.Bool.{and_from, true≢false}
 use Rattle.std.proofs.lemmas.Bool.Decides.{nat_tests}
-use Rattle.std.proofs.lemmas.List.Sums.{sum-map}
 use Rattle.std.proofs.lemmas.Slice.Eq.{bytes_eq-Decides}
-use Rattle.transyt_parts.specs.declared.link.Feed.{Feed}
-use Rattle.transyt_parts.specs.Flow.{total_flow}
-use Rattle.transyt_parts.specs.Parts.{LinkValue}
 use Rattle.transyt_net.specs.Parts.{Network}
 use Rattle.transyt_sweep.specs.Sweeps.{out_of}
 use Rattle.transyt_track.specs.Own.{Part, Own, same_part, same_parts, same_timing, same_own}
 use Rattle.transyt_track.specs.Due.{differs}
 use Rattle.transyt_track.proofs.DueLaws.{own_told, same_out, differs_is}
 
-same_number : (n : ℕ) → nat_eq n n ≡ true
+pub same_number : (n : ℕ) → nat_eq n n ≡ true
 same_number n = grind (arith, nat_tests)
 
 part_self : (x : Part) → same_part x x ≡ true
@@ -59,23 +55,3 @@ differs_decides a b s j = (
   same_out a b s j,
   λ same. differs_is a b s j ∙ ap not ((bytes_eq-Decides (out_of a s j) (out_of b s j)).1 same),
 )
-
--- where each of the flows is equal, so is their sum
-entries_total : (x y : LinkValue) → x.entry ≡ y.entry
-    → map (λ (f : Feed). f.flow) x.feeds ≡ map (λ (f : Feed). f.flow) y.feeds → total_flow x ≡ total_flow y
-entries_total x y entry flows =
-    let sums : sum_by (λ (f : Feed). f.flow) x.feeds ≡ sum_by (λ (f : Feed). f.flow) y.feeds =
-    sym (sum-map (λ (f : Feed). f.flow) x.feeds) ∙ ap sum flows ∙ sum-map (λ (f : Feed). f.flow) y.feeds in
-    omega (arith, entry, sums)
-
--- links of equal flows have no other total flow
-pub entries_told : (told : Bool) (x y p q : LinkValue) → x ≡ p → y ≡ q
-    → (IsTrue told ↔ (x.entry ≡ y.entry)
-    × (map (λ (f : Feed). f.flow) x.feeds ≡ map (λ (f : Feed). f.flow) y.feeds)) → told ≡ true
-    → not told ≡ not (nat_eq (total_flow p) (total_flow q))
-entries_told true x y p q old new same none =
-    let parts = same.0 refl in
-    let totals : total_flow p ≡ total_flow q =
-    ap total_flow (sym old) ∙ entries_total x y parts.0 parts.1 ∙ ap total_flow new in
-    sym (ap not (ap (λ n. nat_eq n (total_flow q)) totals ∙ same_number (total_flow q)))
-entries_told false x y p q old new same none = absurd (true≢false (sym none))

@@ -1,5 +1,5 @@
 -- The rows while they go over from the evaluation of one network to that of another of its shape.
-use Rattle.std.specs.Prelude.{◌≡◌, ℕ, ◌<◌, ◌≤◌, ◌==◌, Bool, false, not, nat_eq, List, length, slice_index_or}
+use Rattle.std.specs.Prelude.{◌≡◌, ◌↔◌, ℕ, ◌<◌, ◌≤◌, ◌==◌, Bool, false, not, nat_eq, List, length, slice_index_or}
 use Rattle.std.specs.Prelude.{if◌then◌else◌}
 use Rattle.transyt_parts.specs.Flow.{total_flow}
 use Rattle.transyt_net.specs.Parts.{Network, link_of}
@@ -28,6 +28,11 @@ flag flags link = slice_index_or flags link false
 pub record AreFlags (test : ℕ → Bool) (link_count : ℕ) (flags : List Bool) : Type 0 where
   pub count : length flags ≡ link_count
   pub flagged : (link : ℕ) → link < link_count → flag flags link ≡ test link
+
+-- a flag for each of at least so many places: down exactly where the fact holds of the place
+pub record AreDownWhere (fact : ℕ → Type 0) (place_count : ℕ) (flags : List Bool) : Type 0 where
+  pub count : place_count ≤ length flags
+  pub down : (place : ℕ) → place < place_count → (flag flags place ≡ false ↔ fact place)
 
 -- whether a link's own data differ
 abbrev pub own_differs : Network → Network → ℕ → Bool

@@ -6,3 +6,4 @@ pub mod WorkedWork
 pub mod Front
 pub mod Saved
 pub mod Tracker
+pub mod WorkedSame

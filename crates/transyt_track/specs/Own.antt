@@ -7,7 +7,8 @@ use Rattle.transyt_parts.specs.declared.node.Stage.{Stage}
 use Rattle.transyt_parts.specs.declared.link.Feed.{Feed}
 use Rattle.transyt_parts.specs.declared.link.GiveWay.{GiveWay}
 use Rattle.transyt_parts.specs.Flow.{total_flow}
-use Rattle.transyt_net.specs.Parts.{Network, link_of}
+use Rattle.transyt_parts.specs.Parts.{NodeValue, LinkValue}
+use Rattle.transyt_net.specs.Parts.{Network, node_of, link_of}
 use Rattle.transyt_net.specs.Edits.{the_node}
 use Rattle.transyt_net.specs.Valid.{place_of, node_numbers}
 use Rattle.transyt_net.specs.Valid.{found_or_first, link_place}
@@ -29,6 +30,14 @@ pub record Own : Type 0 where
 -- a stage's change
 abbrev pub change_of : Stage → ℕ
 change_of stage = stage.change
+
+-- a feed's flow
+abbrev pub flow_of : Feed → ℕ
+flow_of feed = feed.flow
+
+-- a feed's cruise time
+abbrev pub cruise_of : Feed → ℕ
+cruise_of feed = feed.cruise
 
 -- the place of the link that a feed comes from
 abbrev pub feeder_place : Network → Feed → ℕ
@@ -72,6 +81,27 @@ same_timing one other =
 -- two links have equal own data
 abbrev pub same_own : Own → Own → Bool
 same_own one other = same_timing one other && same_parts one.parts other.parts
+
+-- two nodes have equal offsets and equal changes
+pub record SameTimes (old new : NodeValue) : Type 0 where
+  pub offset : old.offset ≡ new.offset
+  pub changes : map change_of old.stages ≡ map change_of new.stages
+
+-- two links have equal flows, and feeds of equal flows and cruise times
+pub record SameNumbers (old new : LinkValue) : Type 0 where
+  pub entry : old.entry ≡ new.entry
+  pub saturation : old.saturation ≡ new.saturation
+  pub flows : map flow_of old.feeds ≡ map flow_of new.feeds
+  pub cruises : map cruise_of old.feeds ≡ map cruise_of new.feeds
+
+-- the node at a place has equal times in two networks
+abbrev pub HaveNode : Network → Network → ℕ → Type 0
+HaveNode before after place = SameTimes (node_of before place) (node_of after place)
+
+-- a link has equal own data in two networks, the total flows of its feeders apart
+pub record HaveData (before after : Network) (link : ℕ) : Type 0 where
+  pub numbers : SameNumbers (link_of before link) (link_of after link)
+  pub times : SameTimes (the_node before (link_of before link).node) (the_node after (link_of after link).node)
 
 -- a link has equal weights in two networks
 pub record HaveWeights (before after : Network) (link : ℕ) : Type 0 where

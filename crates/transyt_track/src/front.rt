@@ -6,18 +6,21 @@ ghost use Rattle.std.specs.Str.{bytes_eq};
 ghost use Rattle.std.specs.List.{list_any};
 ghost use Rattle.transyt_net.specs.Shape.{SameShape};
 ghost use Rattle.transyt_sweep.specs.Front.{AreEvaluation};
-ghost use Rattle.transyt_track.specs.Own.{ArePlaces, no_places, places_at};
+ghost use Rattle.transyt_track.specs.Own.{ArePlaces, HaveData, HaveNode, no_places, places_at};
 ghost use Rattle.transyt_track.specs.Due.{is_due, is_some_and, due_at, due, differs};
-ghost use Rattle.transyt_track.specs.Front.{flag, AreFlags, own_differs, total_differs, AreAt, AreStarting};
+ghost use Rattle.transyt_track.specs.Front.{flag, AreFlags, AreDownWhere, own_differs, total_differs, AreAt, AreStarting};
 ghost use Rattle.transyt_track.specs.Saved.{FitsRows, Carries};
 
-use crate::own::{Places, other_total, same_own};
+use crate::own::{Places, other_total, same_data, same_times};
 use crate::replacing::{leave, place, start};
 use crate::saved::Saved;
 use std::sync::ledger::Ledger;
 use transyt_net::Net;
 use transyt_steps::Steps;
 use transyt_sweep::{Rows, Scratch, cell};
+
+/// The most nodes that a network has.
+const MOST_NODES: usize = 200;
 
 /// Whether the flag of one of these is up. All are read, since a jump out at the first that is up is seldom foreseen.
 fn any_changed(changed: &[bool], places: &[usize]) -> bool
@@ -193,23 +196,16 @@ fn sweep_links<L: Ledger>(
     count
 }
 
-/// Flags the links whose own data differ; those whose total flow differs are flagged.
-fn flag_own(
-    before: &Net,
-    after: &Net,
-    places: &[Places],
-    total_changed: &[bool],
-    own_changed: &mut Vec<bool>,
-)
-    requires places { ArePlaces before.now places.now }
-    requires places_after { ArePlaces after.now places.now }
-    requires links { length before.now.links ≡ length after.now.links }
-    requires totals { AreFlags (total_differs before.now after.now) (length after.now.links) total_changed.now }
-    requires count { length own_changed.old.items ≡ length after.now.links }
-    ensures { AreFlags (own_differs before.now after.now) (length after.now.links) own_changed.new.items }
+/// Flags the nodes whose times differ.
+fn flag_nodes(before: &Net, after: &Net, node_changed: &mut [bool])
+    requires nodes { length before.now.nodes ≡ length after.now.nodes }
+    requires room { length after.now.nodes ≤ length node_changed.old }
+    ensures { AreDownWhere (HaveNode before.now after.now) (length after.now.nodes) node_changed.new }
 {
-    for link in 0..after.links().len() {
-        own_changed[link] = !same_own(before, after, link, &places[link], total_changed);
+    let old = before.nodes();
+    let new = after.nodes();
+    for place in 0..new.len() {
+        node_changed[place] = !same_times(&old[place], &new[place]);
     }
 }
 
@@ -238,27 +234,78 @@ fn start_link(
     }
 }
 
-/// Starts the links anew whose departures before the first sweep differ.
+/// Flags the links whose data differ, and starts those anew whose departures before the first sweep do.
 fn start_links(
     before: &Net,
     after: &Net,
+    places: &[Places],
     rows: &mut Rows,
     saved: &mut Saved,
+    own_changed: &mut Vec<bool>,
     changed: &mut Vec<bool>,
 )
     requires shape { SameShape before.now after.now }
+    requires places { ArePlaces before.now places.now }
     requires rows { AreEvaluation before.now rows.old }
     requires fits { FitsRows rows.old saved.old }
+    requires own_count { length own_changed.old.items ≡ length after.now.links }
     requires count { length changed.old.items ≡ length after.now.links }
     ensures at { AreAt before.now after.now 1 0 rows.new changed.new.items }
     ensures totals { AreFlags (total_differs before.now after.now) (length after.now.links) changed.new.items }
+    ensures own_count { length own_changed.new.items ≡ length after.now.links }
+    ensures down { AreDownWhere (HaveData before.now after.now) (length after.now.links) own_changed.new.items }
     ensures carries { Carries rows.old saved.old rows.new saved.new }
 {
     // a total flow that differs lets another profile go, since a vehicle per hour is more than a unit per step
     after.frame();
+    let mut node_changed = [false; MOST_NODES];
+    flag_nodes(before, after, &mut node_changed);
     for link in 0..after.links().len() {
-        let moves = other_total(before, after, link);
+        let same = same_data(before, after, link, &places[link], &node_changed);
+        own_changed[link] = !same;
+        let moves = other_total(before, after, link, same);
         start_link(before, after, link, moves, rows, saved, changed);
+    }
+}
+
+/// Whether a flag is up. All are read: with no jump out, several are read at a time.
+fn any_up(flags: &[bool]) -> bool
+    ensures { result ≡ list_any (λ f. f) flags.now }
+{
+    let mut any = false;
+    for flag in flags {
+        any |= *flag;
+    }
+    any
+}
+
+/// Whether the flag of one of a link's feeders is up, where `any` is whether any flag is.
+fn is_fed_anew(any: bool, changed: &[bool], places: &Places) -> bool
+    requires inside { All (λ p. p < length changed.now) places.now.feeders }
+    requires any { any ≡ list_any (λ f. f) changed.now }
+    ensures { result ≡ list_any (flag changed.now) places.now.feeders }
+{
+    any && any_changed(changed, &places.feeders)
+}
+
+/// Flags the links that have a feeder whose total flow differs; those whose data differ are flagged.
+fn flag_own(
+    before: &Net,
+    after: &Net,
+    places: &[Places],
+    total_changed: &[bool],
+    own_changed: &mut Vec<bool>,
+)
+    requires shape { SameShape before.now after.now }
+    requires places { ArePlaces before.now places.now }
+    requires totals { AreFlags (total_differs before.now after.now) (length after.now.links) total_changed.now }
+    requires count { length own_changed.old.items ≡ length after.now.links }
+    requires down { AreDownWhere (HaveData before.now after.now) (length after.now.links) own_changed.old.items }
+    ensures { AreFlags (own_differs before.now after.now) (length after.now.links) own_changed.new.items }
+{
+    let any = any_up(total_changed);
+    for link in 0..after.links().len() {
+        own_changed[link] |= is_fed_anew(any, total_changed, &places[link]);
     }
 }
 
@@ -290,7 +337,7 @@ pub(crate) fn follow_rows<L: Ledger>(
     ensures few { result ≤ 8000 }
     ensures steps { steps.new ≡ steps.old + result }
 {
-    start_links(before, after, rows, saved, changed);
+    start_links(before, after, places, rows, saved, own_changed, changed);
     flag_own(before, after, places, changed, own_changed);
     let mut count = 0;
     for sweep in 1..after.frame().sweeps + 1 {

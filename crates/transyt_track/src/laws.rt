@@ -2,13 +2,16 @@
 
 ghost use Rattle.std.specs.Prelude.{◌≡◌, ◌↔◌, ℕ, [], ◌∷◌, false, true, map, nat_eq, All, IsTrue, Some, None};
 ghost use Rattle.transyt_net.specs.Edits.{with_edit};
-ghost use Rattle.transyt_net.specs.Parts.{Network};
+ghost use Rattle.transyt_net.specs.declared.edit.Edit.TheVariants.{Offset};
+ghost use Rattle.transyt_net.specs.Parts.{Network, node_of, link_of};
 ghost use Rattle.transyt_sweep.specs.Front.{AreMixed};
 ghost use Rattle.transyt_sweep.specs.Rows.{out_at, shown_at};
 ghost use Rattle.transyt_sweep.specs.Sweeps.{out_of};
 ghost use Rattle.transyt_track.specs.Due.{differs, due};
+ghost use Rattle.transyt_track.specs.Front.{AreDownWhere};
 ghost use Rattle.transyt_track.specs.Front.{AreAt, AreBetween, AreFlags, AreShownMixed, AreStarting, AreWeighed};
 ghost use Rattle.transyt_track.specs.Front.{flag, left_at, own_differs, total_differs, unweighed};
+ghost use Rattle.transyt_track.specs.Own.{HaveData, HaveNode, SameNumbers, SameTimes};
 ghost use Rattle.transyt_track.specs.Own.{ArePlaces, HaveWeights, Own, all_places, own, same_own};
 ghost use Rattle.transyt_track.specs.Saved.{AreAhead, AreSaved, AreUnsaved, Carries, FitsRows, LeadBack, SaveAlike};
 ghost use Rattle.transyt_track.specs.Saved.{begun, is_saved, kept_at, old_out, old_shown, restored_at, returned_at};
@@ -29,6 +32,8 @@ ghost use Rattle.transyt_track.specs.WorkedFacts.{saved_parts, saved_returned, s
 ghost use Rattle.transyt_track.specs.WorkedFacts.{shown_before, shown_behind, two_green, two_links, uncarried_closed};
 ghost use Rattle.transyt_track.specs.WorkedFacts.{unfit_rows, unlike_two, unmarked_green, unsaved_parts};
 ghost use Rattle.transyt_track.specs.WorkedFacts.{weights_of_second, wrong_places};
+ghost use Rattle.transyt_track.specs.WorkedSame.{numbered_link, other_after, other_numbers, other_times, same_after};
+ghost use Rattle.transyt_track.specs.WorkedSame.{second_down, second_not_down, timed};
 ghost use Rattle.transyt_track.specs.WorkedWork.{junctions, loop_of_three, worked_edits, worked_looks};
 
 /// The tests by which pairs are counted: own data pass exactly where they are equal, and departures differ unless they
@@ -98,6 +103,20 @@ pub fn worked_facts()
 pub fn worked_flags()
     ensures flags { AreFlags (nat_eq 1) 3 (false ∷ true ∷ false ∷ []) }
     ensures other_flags { All (λ flags. AreFlags (nat_eq 1) 3 flags → ⊥) other_flags }
+{}
+
+/// The worked nodes, links and flags are the same in what counts, and those with one thing wrong aren't.
+pub fn worked_same()
+    ensures times { SameTimes (node_of junctions 0) (timed 4 2 7) }
+    ensures other_times { All (λ row. SameTimes (node_of junctions 0) (timed row.0 row.1 row.2) → ⊥) other_times }
+    ensures numbers { SameNumbers (link_of junctions 1) (numbered_link 97 1619 311 23) }
+    ensures other_numbers { All (λ link. SameNumbers (link_of junctions 1) link → ⊥) other_numbers }
+    ensures node { HaveNode junctions (with_edit junctions (Offset 21 9)) 1 }
+    ensures other_node { HaveNode junctions (with_edit junctions (Offset 21 9)) 0 → ⊥ }
+    ensures own { All (λ row. HaveData junctions (with_edit junctions row.0) row.1) same_after }
+    ensures other_own { All (λ row. HaveData junctions (with_edit junctions row.0) row.1 → ⊥) other_after }
+    ensures down { All (AreDownWhere (λ place. place ≡ 1) 3) second_down }
+    ensures not_down { All (λ flags. AreDownWhere (λ place. place ≡ 1) 3 flags → ⊥) second_not_down }
 {}
 
 /// What the worked rows and saved rows lead back to stays in these, and not in those with one thing changed; with no mark

@@ -22,8 +22,8 @@ mod tracker;
 
 pub use laws::{
     rule_of_due, worked_back, worked_carries, worked_facts, worked_flags, worked_fronts,
-    worked_going, worked_marks, worked_own, worked_places, worked_saved, worked_starts,
-    worked_tracking, worked_weighed, worked_work,
+    worked_going, worked_marks, worked_own, worked_places, worked_same, worked_saved,
+    worked_starts, worked_tracking, worked_weighed, worked_work,
 };
 pub use size::MOST_BYTES;
 pub use tracker::Tracker;

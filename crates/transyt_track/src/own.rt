@@ -1,13 +1,11 @@
 //! The own data of a link, and where its node and the links that it reads stand.
 
 ghost use Rattle.std.specs.Prelude.{◌≡◌, ◌↔◌, ◌<◌, length, map, IfOk, IsTrue};
-ghost use Rattle.transyt_parts.specs.Flow.{total_flow};
 ghost use Rattle.transyt_net.specs.Parts.{link_of};
-ghost use Rattle.transyt_net.specs.Edits.{the_node};
-ghost use Rattle.transyt_net.specs.Valid.{link_place};
-ghost use Rattle.transyt_track.specs.Own.{change_of, feeder_place, rule_place, node_place, all_places};
-ghost use Rattle.transyt_track.specs.Own.{own, part_of, places_at, HaveWeights};
-ghost use Rattle.transyt_track.specs.Front.{AreFlags, total_differs};
+ghost use Rattle.transyt_net.specs.Valid.{IsValid, link_place};
+ghost use Rattle.transyt_track.specs.Own.{change_of, flow_of, cruise_of, feeder_place, rule_place, node_place};
+ghost use Rattle.transyt_track.specs.Own.{all_places, places_at, SameTimes, SameNumbers, HaveNode, HaveData, HaveWeights};
+ghost use Rattle.transyt_track.specs.Front.{AreDownWhere, total_differs};
 
 use std::alloc::{AllocError, Global};
 use std::marker::Model;
@@ -32,19 +30,10 @@ impl Model for Places {
 /// The link at a place.
 pub(crate) fn link_at(net: &Net, link: usize) -> &Link
     requires { link < length net.now.links }
-    ensures { result.now ≡ link_of net.now link }
+    ensures value { result.now ≡ link_of net.now link }
+    ensures valid { IsValid net.now }
 {
     &net.links()[link]
-}
-
-/// The node at the end of a link, which stands where `places` says.
-#[tactic(auto, using(crate::proofs::PlaceLaws::node_inside, crate::proofs::PlaceLaws::node_stands))]
-fn node_at<'a>(net: &'a Net, link: usize, places: &Places) -> &'a Node
-    requires link { link < length net.now.links }
-    requires places { places.now ≡ places_at net.now link }
-    ensures { result.now ≡ the_node net.now (link_of net.now link).node }
-{
-    &net.nodes()[places.node]
 }
 
 /// Whether stages have equal changes.
@@ -58,113 +47,64 @@ fn same_changes(before: &[Stage], after: &[Stage]) -> bool
     }
 }
 
-/// Whether the total flow of a link is equal, by its flag.
-fn same_total(before: &Net, after: &Net, total_changed: &[bool], link: usize) -> bool
-    requires link { link < length after.now.links }
-    requires totals { AreFlags (total_differs before.now after.now) (length after.now.links) total_changed.now }
-    ensures { IsTrue result ↔ total_flow (link_of before.now link) ≡ total_flow (link_of after.now link) }
+/// Whether nodes have equal offsets and changes.
+pub(crate) fn same_times(old: &Node, new: &Node) -> bool
+    ensures { IsTrue result ↔ SameTimes old.now new.now }
 {
-    !total_changed[link]
+    old.offset == new.offset && same_changes(&old.stages, &new.stages)
 }
 
-/// Whether feeds have equal flows, cruise times and total flows of their feeders, which stand at these places.
-fn same_parts(
-    before: &Net,
-    after: &Net,
-    total_changed: &[bool],
-    old: &[Feed],
-    new: &[Feed],
-    feeders: &[usize],
-) -> bool
-    requires some { 0 < length before.now.links }
-    requires some_after { 0 < length after.now.links }
-    requires feeders { feeders.now ≡ map (feeder_place before.now) old.now }
-    requires feeders_after { feeders.now ≡ map (feeder_place after.now) new.now }
-    requires totals { AreFlags (total_differs before.now after.now) (length after.now.links) total_changed.now }
-    ensures { IsTrue result ↔ map (part_of before.now) old.now ≡ map (part_of after.now) new.now }
+/// Whether feeds have equal flows and cruise times, one after another.
+fn same_feeds(before: &[Feed], after: &[Feed]) -> bool
+    ensures { IsTrue result ↔ (map flow_of before.now ≡ map flow_of after.now)
+        × (map cruise_of before.now ≡ map cruise_of after.now) }
 {
-    match (old, new, feeders) {
-        ([], [], _) => true,
-        ([x, xs @ ..], [y, ys @ ..], [place, places @ ..]) => {
-            x.flow == y.flow
-                && x.cruise == y.cruise
-                && same_total(before, after, total_changed, *place)
-                && same_parts(before, after, total_changed, xs, ys, places)
+    match (before, after) {
+        ([], []) => true,
+        ([x, xs @ ..], [y, ys @ ..]) => {
+            x.flow == y.flow && x.cruise == y.cruise && same_feeds(xs, ys)
         }
         _ => false,
     }
 }
 
-/// Whether a link's flows and its node's times are equal.
-fn same_timing(old: &Link, new: &Link, old_node: &Node, new_node: &Node) -> bool
-    ensures { IsTrue result ↔ (old.now.entry ≡ new.now.entry) × (old.now.saturation ≡ new.now.saturation)
-        × (old_node.now.offset ≡ new_node.now.offset)
-        × (map change_of old_node.now.stages ≡ map change_of new_node.now.stages) }
+/// Whether links have equal flows, and feeds of equal flows and cruise times.
+fn same_numbers(old: &Link, new: &Link) -> bool
+    ensures { IsTrue result ↔ SameNumbers old.now new.now }
 {
-    old.entry == new.entry
-        && old.saturation == new.saturation
-        && old_node.offset == new_node.offset
-        && same_changes(&old_node.stages, &new_node.stages)
+    old.entry == new.entry && old.saturation == new.saturation && same_feeds(&old.feeds, &new.feeds)
 }
 
-/// Whether a link has equal own data in two networks of one shape, which have these places.
-pub(crate) fn same_own(
+/// Whether a link has equal data in two networks of one shape, the total flows of its feeders apart. The flags of nodes
+/// with equal times are down.
+#[tactic(auto, using(crate::proofs::PlaceLaws::node_inside))]
+pub(crate) fn same_data(
     before: &Net,
     after: &Net,
     link: usize,
     places: &Places,
-    total_changed: &[bool],
+    node_changed: &[bool],
 ) -> bool
     requires link { link < length before.now.links }
     requires link_after { link < length after.now.links }
     requires places { places.now ≡ places_at before.now link }
     requires places_after { places.now ≡ places_at after.now link }
-    requires totals { AreFlags (total_differs before.now after.now) (length after.now.links) total_changed.now }
-    ensures { IsTrue result ↔ own before.now link ≡ own after.now link }
+    requires nodes { AreDownWhere (HaveNode before.now after.now) (length after.now.nodes) node_changed.now }
+    ensures { IsTrue result ↔ HaveData before.now after.now link }
 {
     let old = link_at(before, link);
     let new = link_at(after, link);
-    let old_node = node_at(before, link, places);
-    let new_node = node_at(after, link, places);
-    same_timing(old, new, old_node, new_node)
-        && same_parts(
-            before,
-            after,
-            total_changed,
-            &old.feeds,
-            &new.feeds,
-            &places.feeders,
-        )
+    !node_changed[places.node] && same_numbers(old, new)
 }
 
-/// Whether feeds have equal flows, one after another.
-fn same_flows(before: &[Feed], after: &[Feed]) -> bool
-    ensures { IsTrue result ↔ map (λ f. f.flow) before.now ≡ map (λ f. f.flow) after.now }
-{
-    match (before, after) {
-        ([], []) => true,
-        ([x, xs @ ..], [y, ys @ ..]) => x.flow == y.flow && same_flows(xs, ys),
-        _ => false,
-    }
-}
-
-/// Whether links have equal entry flows and equal flows of their feeds.
-fn same_entries(old: &Link, new: &Link) -> bool
-    ensures { IsTrue result ↔ (old.now.entry ≡ new.now.entry)
-        × (map (λ f. f.flow) old.now.feeds ≡ map (λ f. f.flow) new.now.feeds) }
-{
-    old.entry == new.entry && same_flows(&old.feeds, &new.feeds)
-}
-
-/// Whether the total flow of a link differs. Nothing is summed up where each of the flows is equal.
-pub(crate) fn other_total(before: &Net, after: &Net, link: usize) -> bool
+/// Whether the total flow of a link differs. Nothing is summed up where the link has equal data.
+pub(crate) fn other_total(before: &Net, after: &Net, link: usize, same: bool) -> bool
     requires link { link < length before.now.links }
     requires link_after { link < length after.now.links }
+    requires same { IsTrue same ↔ HaveData before.now after.now link }
     ensures { result ≡ total_differs before.now after.now link }
 {
-    let old = link_at(before, link);
-    let new = link_at(after, link);
-    !same_entries(old, new) && before.total_flow(link) != after.total_flow(link)
+    !same && before.total_flow(link) != after.total_flow(link)
 }
 
 /// Whether a link has equal weights in two networks.

@@ -3,15 +3,11 @@ use Rattle.std.proofs.Common.{◌≡◌, ◌+◌, ◌-◌, sym, subst, ap, ◌�
 use Rattle.transyt_parts.specs.declared.frame.Frame.{Frame}
 use Rattle.transyt_track.specs.Due.{due_through}
 use Rattle.transyt_track.specs.Front.{AreAt}
-use Rattle.transyt_track.proofs.ShapeLaws.{shape_table, shape_frame}
+use Rattle.transyt_track.proofs.ShapeLaws.{shape_frame}
 use Rattle.transyt_track.proofs.DueLaws.{due_through_none, due_through_more, due_is}
 use Rattle.transyt_track.proofs.SavedLaws.{carries_more}
 use Rattle.transyt_track.proofs.FrontLaws.{ended}
 use Rattle.transyt_track.proofs.front.follow_rows.Goals as goal
-
-pub flag_own-requires-clause-places_after : goal.flag_own-requires-clause-places_after
-flag_own-requires-clause-places_after g c =
-    shape_table c.args.before.now c.args.after.now c.requires.shape c.args.places.now c.requires.places
 
 pub loop-sweep-init : goal.loop-sweep-init
 loop-sweep-init g c = record {
