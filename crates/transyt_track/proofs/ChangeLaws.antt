@@ -13,8 +13,8 @@ use Rattle.transyt_parts.specs.Parts.{NodeValue, LinkValue}
 use Rattle.transyt_parts.specs.Flow.{total_flow}
 use Rattle.transyt_net.specs.Parts.{Network, link_of}
 use Rattle.transyt_net.specs.Edits.{the_node}
-use Rattle.transyt_track.specs.Own.{Part, Own, PlacesValue, SameTimes, SameNumbers, HaveData, flow_of, cruise_of, part_of, own}
-use Rattle.transyt_track.specs.Own.{feeder_place, places_at}
+use Rattle.transyt_track.specs.Own.{Part, Own, PlacesValue, SameTimes, SameNumbers, HaveData, flow_of, cruise_of}
+use Rattle.transyt_track.specs.Own.{part_of, own, feeder_place, places_at}
 use Rattle.transyt_track.specs.Front.{flag, total_differs, own_differs}
 use Rattle.transyt_track.proofs.DueLaws.{not_false}
 use Rattle.transyt_track.proofs.RuleLaws.{own_test, same_number}

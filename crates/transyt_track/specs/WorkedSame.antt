@@ -20,8 +20,8 @@ timed offset first second = record {
 abbrev pub other_times : List (ℕ × ℕ × ℕ)
 other_times = (5, 2, 7) ∷ (4, 3, 7) ∷ (4, 2, 8) ∷ []
 
--- the second link of the two junctions with this entry and saturation flow, and a feed of this flow and cruise time; all
--- else of it differs
+-- the third link of the two junctions with this entry and saturation flow, and a feed of this flow and cruise time from
+-- itself
 abbrev pub numbered_link : ℕ → ℕ → ℕ → ℕ → LinkValue
 numbered_link entry saturation flow cruise = record (link_of junctions 2) {
   entry = entry;

@@ -8,7 +8,8 @@ ghost use Rattle.transyt_net.specs.Shape.{SameShape};
 ghost use Rattle.transyt_sweep.specs.Front.{AreEvaluation};
 ghost use Rattle.transyt_track.specs.Own.{ArePlaces, HaveData, HaveNode, no_places, places_at};
 ghost use Rattle.transyt_track.specs.Due.{is_due, is_some_and, due_at, due, differs};
-ghost use Rattle.transyt_track.specs.Front.{flag, AreFlags, AreDownWhere, own_differs, total_differs, AreAt, AreStarting};
+ghost use Rattle.transyt_track.specs.Front.{flag, AreFlags, AreDownWhere, own_differs, total_differs, AreAt};
+ghost use Rattle.transyt_track.specs.Front.{AreStarting};
 ghost use Rattle.transyt_track.specs.Saved.{FitsRows, Carries};
 
 use crate::own::{Places, other_total, same_data, same_times};
@@ -234,7 +235,8 @@ fn start_link(
     }
 }
 
-/// Flags the links whose data differ, and starts those anew whose departures before the first sweep do.
+/// Flags the links whose own data differ, the total flows of their feeders apart, and starts those anew whose departures
+/// before the first sweep differ.
 fn start_links(
     before: &Net,
     after: &Net,
@@ -288,7 +290,7 @@ fn is_fed_anew(any: bool, changed: &[bool], places: &Places) -> bool
     any && any_changed(changed, &places.feeders)
 }
 
-/// Flags the links that have a feeder whose total flow differs; those whose data differ are flagged.
+/// Flags the links that have a feeder whose total flow differs; those whose other own data differ are flagged.
 fn flag_own(
     before: &Net,
     after: &Net,

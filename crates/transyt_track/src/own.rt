@@ -4,7 +4,8 @@ ghost use Rattle.std.specs.Prelude.{◌≡◌, ◌↔◌, ◌<◌, length, map, 
 ghost use Rattle.transyt_net.specs.Parts.{link_of};
 ghost use Rattle.transyt_net.specs.Valid.{IsValid, link_place};
 ghost use Rattle.transyt_track.specs.Own.{change_of, flow_of, cruise_of, feeder_place, rule_place, node_place};
-ghost use Rattle.transyt_track.specs.Own.{all_places, places_at, SameTimes, SameNumbers, HaveNode, HaveData, HaveWeights};
+ghost use Rattle.transyt_track.specs.Own.{all_places, places_at, SameTimes, SameNumbers, HaveNode, HaveData};
+ghost use Rattle.transyt_track.specs.Own.{HaveWeights};
 ghost use Rattle.transyt_track.specs.Front.{AreDownWhere, total_differs};
 
 use std::alloc::{AllocError, Global};
@@ -75,8 +76,8 @@ fn same_numbers(old: &Link, new: &Link) -> bool
     old.entry == new.entry && old.saturation == new.saturation && same_feeds(&old.feeds, &new.feeds)
 }
 
-/// Whether a link has equal data in two networks of one shape, the total flows of its feeders apart. The flags of nodes
-/// with equal times are down.
+/// Whether a link has equal own data in two networks of one shape, the total flows of its feeders apart. The flags of
+/// nodes with equal offsets and changes are down.
 #[tactic(auto, using(crate::proofs::PlaceLaws::node_inside))]
 pub(crate) fn same_data(
     before: &Net,
@@ -97,7 +98,7 @@ pub(crate) fn same_data(
     !node_changed[places.node] && same_numbers(old, new)
 }
 
-/// Whether the total flow of a link differs. Nothing is summed up where the link has equal data.
+/// Whether the total flow of a link differs. Nothing is summed up where `same` tells that its data are equal.
 pub(crate) fn other_total(before: &Net, after: &Net, link: usize, same: bool) -> bool
     requires link { link < length before.now.links }
     requires link_after { link < length after.now.links }

@@ -42,7 +42,8 @@ loop-link-preserved c =
     feeders_inside a l (length b.links) p (omega arith) links is in
     let fed : any ≡ list_any (total_differs a b) (places_at a l).feeders =
     c.is_fed_anew.ensures
-    ∙ any_flagged c.args.total_changed.now (total_differs a b) (length b.links) c.requires.totals.flagged p.feeders within
+    ∙ any_flagged c.args.total_changed.now (total_differs a b) (length b.links) c.requires.totals.flagged p.feeders
+    within
     ∙ ap (λ (q : PlacesValue). list_any (total_differs a b) q.feeders) is in
     record {
       count = length-set flags l (up || any) ∙ c.loop-link.invariant.count;
