@@ -5,3 +5,4 @@ pub mod TurnLaws
 pub mod LocalLaws
 pub mod WayLaws
 pub mod WorkedLaws
+pub mod WorkedWayLaws

@@ -14,7 +14,8 @@ use Rattle.transyt_sweep.proofs.WorkedMove.{tried_first, lowers_first}
 use Rattle.transyt_track.specs.Due.{differs, due_in, due_through, due}
 use Rattle.transyt_session.specs.Session.{SessionValue}
 use Rattle.transyt_climb.specs.declared.turn.Turn.TheVariants.{Took, Passed}
-use Rattle.transyt_climb.specs.Turns.{machine, start_of, answer_of, after_answer, turned, answers, certified, turns}
+use Rattle.transyt_climb.specs.Turns.{machine, start_of, answer_of, after_answer, look_answer, looked_at, found_at, turned}
+use Rattle.transyt_climb.specs.Turns.{answers, certified, started, turns}
 use Rattle.transyt_climb.specs.Way.{climb_left}
 use Rattle.transyt_climb.specs.WorkedTurns.{idle, idle_session, junctions_session, way, stayed}
 use Rattle.transyt_climb.specs.WorkedTurns.{three_session, before_step, after_step, stepped_session}
@@ -50,7 +51,7 @@ unfolding sum_back greatest smoothed seen out_of differs due_in due_through due 
 certificate = refl
 
 -- the three junctions after their first move
-abbrev after_move : Network
+abbrev pub after_move : Network
 after_move = with_edit three_junctions (Offset 21 8)
 
 -- the number that is there, if there is one
@@ -59,33 +60,55 @@ number_of None = 0
 number_of (Some n) = n
 
 -- the index after that move
-index_after : index after_move ≡ 554272112
+pub index_after : index after_move ≡ 554272112
 unfolding tried_at move
 index_after = ap number_of tried_first
 
 -- the work of it
-work_of_first : due three_junctions after_move ≡ 12
+pub work_of_first : due three_junctions after_move ≡ 12
 unfolding sum_back greatest smoothed seen out_of differs due_in due_through due
 work_of_first = refl
 
--- a turn that takes it
-pub took : answer_of (machine before_step three_session) ≡ Took 0 (Offset 21 8) 554272112
+-- a look at the first place takes it
+pub look_first : look_answer three_junctions 0 ≡ Took 0 (Offset 21 8) 554272112
 unfolding move moved
-took =
+look_first =
     ap (λ (b : Bool). if b then Took 0 (Offset 21 8) (index after_move) else Passed) lowers_first
     ∙ ap (Took 0 (Offset 21 8)) index_after
 
 -- a session of a network with this work
-abbrev session_of : Network → ℕ → SessionValue
+abbrev pub session_of : Network → ℕ → SessionValue
 session_of net work = record { net = net; before = None; work = work }
+
+-- the session after it
+pub session_first : looked_at 0 three_session ≡ stepped_session
+unfolding move moved
+session_first =
+    ap (λ (b : Bool). session_of (if b then after_move else three_junctions) (5 + due three_junctions after_move)) lowers_first
+    ∙ ap (λ work. session_of after_move (5 + work)) work_of_first
+
+-- a turn that takes it
+pub took : answer_of (machine before_step three_session) ≡ Took 0 (Offset 21 8) 554272112
+took = look_first
 
 -- the state after it
 pub stepped : turned (machine before_step three_session) ≡ machine after_step stepped_session
+stepped = ap (λ a. after_answer a (machine before_step three_session)) took ∙ ap (machine after_step) session_first
+
+-- the index that a look there finds
+pub found : found_at three_junctions 0 ≡ Some 554272112
 unfolding move moved
-stepped =
-    ap (λ a. after_answer a (machine before_step three_session)) took
-    ∙ ap
-    (λ (b : Bool). machine after_step
-    (session_of (if b then after_move else three_junctions) (5 + due three_junctions after_move)))
-    lowers_first
-    ∙ ap (λ work. machine after_step (session_of after_move (5 + work))) work_of_first
+found =
+    ap (λ (b : Bool). if b then Some (index after_move) else None) lowers_first
+    ∙ ap Some index_after
+
+-- a network without links has none to find
+pub not_found : found_at idle 0 ≡ None
+unfolding move tried_at lowers moved
+not_found = refl
+
+-- a climber at the start of a climb of that
+pub start_idle : started 9 idle_session
+    ≡ machine (record { place = 0; since = 0; looked = 0; budget = 9; count = 6 }) idle_session
+unfolding move_count
+start_idle = refl

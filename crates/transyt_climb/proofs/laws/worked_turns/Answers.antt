@@ -1,5 +1,5 @@
 -- The worked turns.
-use Rattle.transyt_climb.proofs.WorkedLaws.{start, passed, three, took, stepped, left, left_budget, certificate}
+use Rattle.transyt_climb.proofs.WorkedLaws.{start, passed, three, took, stepped, left, left_budget, certificate, found, not_found, start_idle}
 use Rattle.transyt_climb.proofs.laws.worked_turns.Goals as goal
 
 pub returns-clause-start : goal.returns-clause-start
@@ -25,3 +25,12 @@ returns-clause-left_budget c = left_budget
 
 pub returns-clause-certified : goal.returns-clause-certified
 returns-clause-certified c = certificate
+
+pub returns-clause-started : goal.returns-clause-started
+returns-clause-started c = start_idle
+
+pub returns-clause-found : goal.returns-clause-found
+returns-clause-found c = found
+
+pub returns-clause-not_found : goal.returns-clause-not_found
+returns-clause-not_found c = not_found
