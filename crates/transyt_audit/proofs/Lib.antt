@@ -5,3 +5,4 @@ pub mod GivenLines
 pub mod YesLaws
 pub mod OwnText
 pub mod Worked
+pub mod WorkedFindings

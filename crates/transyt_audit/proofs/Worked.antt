@@ -1,5 +1,6 @@
 -- The worked verdicts: each move's network evaluated by the root that its random delay takes, and then the lines.
-use Rattle.std.proofs.Common.{◌≡◌, ℕ, ◌+◌, List, [], ◌∷◌, ◌++◌, map, sum, length, Option, Some, None, refl, ap, ◌∙◌, lit<, lit≤}
+use Rattle.std.proofs.Common.{◌≡◌, ℕ, ◌+◌, List, [], ◌∷◌, ◌++◌, map, sum, length, codes, Option, Some, None}
+use Rattle.std.proofs.Common.{refl, ap, ◌∙◌, lit<, lit≤}
 use Rattle.std.specs.Fmt.{digits}
 use Rattle.transyt_io.specs.Lines.{lines}
 use Rattle.transyt_syntax.specs.declared.code.Code.TheVariants as code
@@ -20,8 +21,8 @@ use Rattle.transyt_audit.specs.declared.verdict.Verdict.{Verdict}
 use Rattle.transyt_audit.specs.declared.verdict.Verdict.TheVariants.{Yes, No}
 use Rattle.transyt_audit.specs.Given.{given_from, first_wrong, first_missing, first_lower}
 use Rattle.transyt_audit.specs.Verdict.{no_or, without_plan, verdict}
-use Rattle.transyt_audit.specs.WorkedVerdicts.{junction, best, other, best_lines, other_lines, first_line, spaced_line}
-use Rattle.transyt_audit.specs.WorkedVerdicts.{changed_line, note}
+use Rattle.transyt_audit.specs.WorkedVerdicts.{junction, best, other, best_lines, other_moves, other_lines}
+use Rattle.transyt_audit.specs.WorkedVerdicts.{first_line, spaced_line, changed_line, note}
 
 -- the figures of the link by the steps that its green has: 11, 9, 7 and 5
 abbrev green_11 : Figures
@@ -86,13 +87,13 @@ unfolding sum_back greatest smoothed seen out_of evaluated
 other_second_back = figures_by_root (its_terms 10774998 12034720 67518043 10176387 3 2) 52165211 (lit≤ tt) (lit< tt)
 
 -- a try of each move
-tries_best : map (tried_at best) (0 ∷ 1 ∷ 2 ∷ 3 ∷ 4 ∷ 5 ∷ [])
+pub tries_best : map (tried_at best) (0 ∷ 1 ∷ 2 ∷ 3 ∷ 4 ∷ 5 ∷ [])
     ≡ Some 4358279 ∷ Some 4358279 ∷ Some 6915416 ∷ None ∷ None ∷ Some 6915416 ∷ []
 unfolding tried_at move
 tries_best = λ j. Some (one_link 7 16 9 green_11 best_on j) ∷ Some (one_link 3 16 9 green_11 best_back j)
     ∷ Some (one_link 5 0 9 green_9 first_at_0 j) ∷ None ∷ None ∷ Some (one_link 5 16 7 green_9 second_at_7 j) ∷ []
 
-tries_other : map (tried_at other) (0 ∷ 1 ∷ 2 ∷ 3 ∷ 4 ∷ 5 ∷ [])
+pub tries_other : map (tried_at other) (0 ∷ 1 ∷ 2 ∷ 3 ∷ 4 ∷ 5 ∷ [])
     ≡ Some 10773335 ∷ Some 10773335 ∷ Some 22116838 ∷ Some 6915416 ∷ Some 6915416 ∷ Some 22116838 ∷ []
 unfolding tried_at move
 tries_other = λ j. Some (one_link 7 2 9 green_7 other_on j) ∷ Some (one_link 3 2 9 green_7 other_back j)
@@ -135,30 +136,39 @@ verdict_by net ls count x table line ls_is count_is x_is =
     (Yes (move_count net) (index net)))))) (lines_certificate net)
     ∙ (λ j. verdict_from net.plan (ls_is j) (count_is j) (x_is j) table line)
 
-count_best : move_count best ≡ 6
+pub count_best : move_count best ≡ 6
 unfolding move_count
 count_best = refl
 
-count_other : move_count other ≡ 6
+pub count_other : move_count other ≡ 6
 unfolding move_count
 count_other = refl
 
-abbrev best_cert : List CertLine
+abbrev pub best_cert : List CertLine
 best_cert = lines_of best 0 (Some 4358279 ∷ Some 4358279 ∷ Some 6915416 ∷ None ∷ None ∷ Some 6915416 ∷ [])
 
-abbrev other_cert : List CertLine
+abbrev pub other_cert : List CertLine
 other_cert = lines_of other 0 (Some 10773335 ∷ Some 10773335 ∷ Some 22116838 ∷ Some 6915416 ∷ Some 6915416
     ∷ Some 22116838 ∷ [])
 
+pub lines_best : cert_lines best ≡ best_cert
+lines_best = cert_best ∙ ap (lines_of best 0) tries_best
+
+pub lines_other : cert_lines other ≡ other_cert
+lines_other = cert_other ∙ ap (lines_of other 0) tries_other
+
+-- their indices
+pub index_best : index best ≡ 4358279
+index_best = one_link 5 16 9 green_11 best_is
+
+pub index_other : index other ≡ 10773335
+index_other = one_link 5 2 9 green_7 other_is
+
 on_best : (table : List ℕ) → verdict best table 8 ≡ verdict_from best.plan best_cert 6 4358279 table 8
-on_best table =
-    verdict_by best best_cert 6 4358279 table 8 (cert_best ∙ ap (lines_of best 0) tries_best) count_best
-    (one_link 5 16 9 green_11 best_is)
+on_best table = verdict_by best best_cert 6 4358279 table 8 lines_best count_best index_best
 
 on_other : (table : List ℕ) → verdict other table 8 ≡ verdict_from other.plan other_cert 6 10773335 table 8
-on_other table =
-    verdict_by other other_cert 6 10773335 table 8 (cert_other ∙ ap (lines_of other 0) tries_other) count_other
-    (one_link 5 2 9 green_7 other_is)
+on_other table = verdict_by other other_cert 6 10773335 table 8 lines_other count_other index_other
 
 pub yes : verdict best (lines_text (first_line ∷ best_lines)) 8 ≡ Yes 6 4358279
 unfolding move digits
@@ -183,6 +193,16 @@ missing = on_best (lines_text (first_line ∷ note ∷ []))
 pub lower : verdict other (lines_text (note ∷ other_lines)) 8 ≡ No 13 code.LowerIndex
 unfolding move digits
 lower = on_other (lines_text (note ∷ other_lines))
+
+-- a wrong line, and a missing one, come before a lower index
+pub wrong_first : verdict other (lines_text (other_moves ++ codes "CERT 6 INDEX 10773336" ∷ [])) 8
+    ≡ No 15 code.OtherLine
+unfolding move digits
+wrong_first = on_other (lines_text (other_moves ++ codes "CERT 6 INDEX 10773336" ∷ []))
+
+pub missing_first : verdict other (lines_text (other_moves ++ note ∷ [])) 8 ≡ No 16 code.OtherLine
+unfolding move digits
+missing_first = on_other (lines_text (other_moves ++ note ∷ []))
 
 pub no_plan : verdict (record best { plan = None }) (lines_text (first_line ∷ best_lines)) 8 ≡ No 8 code.NoPlan
 no_plan = refl

@@ -4,3 +4,4 @@ pub mod Verdict
 pub mod Findings
 pub mod Certified
 pub mod WorkedVerdicts
+pub mod WorkedFindings

@@ -1,5 +1,5 @@
 -- Worked verdicts: a junction with one link, at its best and away from it, and the lines of its certificates.
-use Rattle.std.specs.Prelude.{ℕ, List, [], ◌∷◌, codes, Some}
+use Rattle.std.specs.Prelude.{ℕ, List, [], ◌∷◌, ◌++◌, codes, Some}
 use Rattle.transyt_parts.specs.Made.{new_stage, new_link, new_plan}
 use Rattle.transyt_net.specs.Parts.{Network}
 
@@ -30,16 +30,18 @@ best_lines =
     ∷ codes "CERT 6 INDEX 4358279"
     ∷ []
 
-abbrev pub other_lines : List (List ℕ)
-other_lines =
+abbrev pub other_moves : List (List ℕ)
+other_moves =
     codes "MOVE 0 OFFSET 7 7 INDEX 10773335"
     ∷ codes "MOVE 1 OFFSET 7 3 INDEX 10773335"
     ∷ codes "MOVE 2 CHANGE 7 1 4 INDEX 22116838"
     ∷ codes "MOVE 3 CHANGE 7 1 0 INDEX 6915416"
     ∷ codes "MOVE 4 CHANGE 7 2 11 INDEX 6915416"
     ∷ codes "MOVE 5 CHANGE 7 2 7 INDEX 22116838"
-    ∷ codes "CERT 6 INDEX 10773335"
     ∷ []
+
+abbrev pub other_lines : List (List ℕ)
+other_lines = other_moves ++ codes "CERT 6 INDEX 10773335" ∷ []
 
 -- the first line of the first, as it is, with a blank more, and with another index
 abbrev pub first_line : List ℕ

@@ -1,4 +1,4 @@
--- Worked answers as they are written under each status: rows that may be, and rows that may not, each wrong in one thing.
+-- Worked answers as they are written under each status: rows that may be, and rows that may not.
 use Rattle.std.specs.Prelude.{ℕ, ◌++◌, List, [], ◌∷◌, codes}
 use Rattle.transyt_running.specs.declared.status.Status.{Status}
 use Rattle.transyt_running.specs.declared.status.Status.TheVariants.{Done, DeckRefused, ReadFault, TooLong, WriteFault}

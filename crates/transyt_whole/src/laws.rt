@@ -25,8 +25,8 @@ pub fn worked_texts()
     ensures no_more_steps { ¬ StepsWithin (λ bytes. 8 * length bytes) (Some (5 ∷ 7 ∷ 9 ∷ [])) (Some (9 ∷ [])) 40 57 }
 {}
 
-/// Of an answer of two lines each status says what is written beside the definitions, and not what is written there that
-/// it doesn't. With three statuses nothing was written.
+/// Of an answer of two lines each status says what is written beside the definitions, and not what is written there
+/// that it doesn't. With three statuses nothing was written.
 #[tactic(auto, using(crate::proofs::Worked::both_are, crate::proofs::Worked::rows_told, crate::proofs::Worked::rows_untold, crate::proofs::Worked::told, crate::proofs::Worked::told_over))]
 pub fn worked_told()
     ensures lines { lines_text two_lines ≡ both_texts }
