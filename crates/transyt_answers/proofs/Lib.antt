@@ -11,3 +11,5 @@ pub mod CountLaws
 pub mod JudgedTexts
 pub mod Worked
 pub mod WorkedBrief
+pub mod WorkedCommands
+pub mod WorkedConditions

@@ -40,6 +40,10 @@ pub steps_of_climb : costs_by deck_answering (no_link ++ climb_commands) ≡ 0
 unfolding climb move move_count tried_at lowers moved due due_through due_in
 steps_of_climb = refl
 
+-- and nothing for a refused card
+pub steps_of_refused : costs_by deck_answering taken_number ≡ 0
+steps_of_refused = refl
+
 -- a climb and a certificate
 pub climb_reported : report (text_of (no_link ++ climb_commands)) ≡ text_of climb_answers
 unfolding accepted done_text index_line work_line form_line filled digits climb move move_count tried_at lowers moved due due_through due_in

@@ -31,6 +31,10 @@ pub record AreReady (desks : List SessionValue) : Type 0 where
   pub alike : AreAlike desks
   pub before : IfSome (desk_zero desks).before (λ net. SameShape (desk_zero desks).net net)
 
+-- the most work of a session after so many looks of a climb that began with some work
+abbrev pub most_work : ℕ → ℕ → ℕ
+most_work work looked = work + 8000 * looked
+
 -- a climb on its way over desks, from those of its start, with the steps done
 pub record ClimbSoFar (budget : ℕ) (first desks : List SessionValue) (counters : Counters) (done : List Step) : Type 0 where
   pub way : IsUnderWay (climb (desk_zero first).net 0 budget) (desk_zero first).work done
@@ -38,7 +42,7 @@ pub record ClimbSoFar (budget : ℕ) (first desks : List SessionValue) (counters
   pub aligned : AreAligned desks
   pub len : length desks ≡ length first
   pub budget_is : counters.budget ≡ budget
-  pub room : (desk_zero desks).work ≤ (desk_zero first).work + 8000 * counters.looked
+  pub room : (desk_zero desks).work ≤ most_work (desk_zero first).work counters.looked
 
 -- a climb whose steps are written as they are taken
 pub record ClimbWritten (budget : ℕ) (first desks : List SessionValue) (counters : Counters)

@@ -5,4 +5,6 @@ pub mod Conditions
 pub mod Report
 pub mod Reporter
 pub mod Steps
+pub mod WorkedCommands
+pub mod WorkedConditions
 pub mod WorkedReports

@@ -12,5 +12,7 @@ mod running;
 mod saying;
 
 pub use brief::write_brief;
-pub use laws::steps_lower;
+pub use laws::{
+    steps_lower, worked_brief, worked_commands, worked_conditions, worked_lowering, worked_reports,
+};
 pub use running::run_deck;
