@@ -262,6 +262,19 @@ is_filled = record {
   shown = shown_first;
 }
 
+-- after the last link of the last sweep both are
+pub is_whole : AreFilled two_links 2 0 evaluation
+unfolding sum_back greatest seen out_of
+is_whole = record {
+  outs = record {
+    fits = record { step_count = refl; sweeps = refl; link_count = refl };
+    outs = at_each
+        (λ t k. out_at evaluation t k ≡ (if is_before t k 2 0 then out_of two_links t k else empty_out two_links t k))
+        refl refl refl refl;
+  };
+  shown = λ l there before. all_shown l there;
+}
+
 -- rows that aren't filled so far
 abbrev AreNot : RowsValue → Type 0
 AreNot r = AreFilled two_links 1 1 r → ⊥

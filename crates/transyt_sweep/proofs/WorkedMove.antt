@@ -1,5 +1,7 @@
 -- A move that lowers the index of the three junctions: the offset of the first, four steps on.
-use Rattle.std.proofs.Common.{◌≡◌, List, [], ◌∷◌, true, Some, map, sum, ap, lit<, lit≤}
+use Rattle.std.proofs.Common.{◌≡◌, ℕ, suc, ◌+◌, ◌%◌, List, [], ◌∷◌, Bool, true, false, Some, map, sum, ap, refl, ◌∙◌}
+use Rattle.std.proofs.Common.{lit<, lit≤, if◌then◌else◌}
+use Rattle.std.specs.Option.{option_map}
 use Rattle.std.specs.List.{range_with_len}
 use Rattle.transyt_delay.specs.declared.figures.Figures.{Figures}
 use Rattle.transyt_platoon.specs.Platoon.{smoothed}
@@ -7,10 +9,10 @@ use Rattle.transyt_stopline.specs.LastSteps.{sum_back, greatest}
 use Rattle.transyt_net.specs.declared.edit.Edit.TheVariants.{Offset}
 use Rattle.transyt_net.specs.Parts.{Network}
 use Rattle.transyt_net.specs.Edits.{with_edit}
-use Rattle.transyt_moves.specs.Moves.{move}
+use Rattle.transyt_moves.specs.Moves.{move, move_count}
 use Rattle.transyt_stage.specs.ThreeJunctions.{three_junctions}
 use Rattle.transyt_sweep.specs.Sweeps.{seen, out_of, evaluated, index}
-use Rattle.transyt_sweep.specs.Climb.{tried_at, is_below, lowers}
+use Rattle.transyt_sweep.specs.Climb.{tried_at, is_below, lowers, least, first}
 use Rattle.transyt_sweep.specs.WorkedLinks.{new_figures}
 use Rattle.transyt_sweep.proofs.WorkedFigures.{figures_by_root, its_terms, index_comes_out}
 
@@ -81,3 +83,27 @@ tried_first = ap Some index_moves
 pub lowers_first : lowers three_junctions 0 ≡ true
 unfolding lowers
 lowers_first = λ j. is_below (index_comes_out j) (tried_first j)
+
+-- the second is the least that passes where it does and the first doesn't
+second_passes : (test : ℕ → Bool) (n : ℕ) → test 0 ≡ false → test 1 ≡ true → least test (suc (suc n)) ≡ Some 1
+second_passes test n fails passes =
+    ap (λ b. if b then Some 0 else option_map (λ r. r + 1) (least (λ r. test (r + 1)) (suc n))) fails
+    ∙ ap
+    (λ b. option_map (λ r. r + 1)
+    (if b then Some 0 else option_map (λ r. r + 1) (least (λ r. test (r + 1 + 1)) n)))
+    passes
+
+-- the last move is barred
+barred_last : lowers three_junctions 71 ≡ false
+unfolding move tried_at lowers
+barred_last = refl
+
+count_of_moves : move_count three_junctions ≡ 72
+unfolding move_count
+count_of_moves = refl
+
+-- from the last place on it is the next that lowers the index, which is the first move
+pub first_from_last : first three_junctions 71 ≡ Some 1
+first_from_last =
+    ap (λ n. least (λ r. lowers three_junctions ((71 + r) % n)) n) count_of_moves
+    ∙ second_passes (λ r. lowers three_junctions ((71 + r) % 72)) 70 barred_last lowers_first

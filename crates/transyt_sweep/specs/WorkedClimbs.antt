@@ -13,6 +13,10 @@ idle = one_node 0 3 1 []
 abbrev pub turned : Network
 turned = one_node 9 3 1 []
 
+-- the same without a climb plan, so that there is no move
+abbrev pub planless : Network
+planless = record idle { plan = None }
+
 -- what a try of each of its six moves finds: an offset never is barred, and a first stage of two steps is
 abbrev pub tried_in_idle : List (Option ℕ)
 tried_in_idle = Some 0 ∷ Some 0 ∷ None ∷ Some 0 ∷ Some 0 ∷ None ∷ []

@@ -1,5 +1,6 @@
 -- Worked facts of rows: such as keep to what is said of them, at the limits, and such as are wrong in one thing alone.
 use Rattle.std.specs.Prelude.{ℕ, true, false, List, [], ◌∷◌, replicate}
+use Rattle.transyt_delay.specs.declared.terms.Terms.{Terms}
 use Rattle.transyt_delay.specs.declared.figures.Figures.{Figures}
 use Rattle.transyt_platoon.specs.declared.travel.Travel.{Travel}
 use Rattle.transyt_parts.specs.declared.frame.Frame.{Frame}
@@ -131,6 +132,37 @@ untelling =
     ∷ (5 ∷ [], 3 ∷ [], 7 ∷ [], 3 ∷ [], record cutting { stop_weight = 1000 })
     ∷ []
 
+-- weights of a link, of whose arrivals less reaches the stop line
+abbrev pub its_weights : Weights
+its_weights = record {
+  frame = record { cycle = 90; step_count = 3; period = 45; stop_penalty = 37 };
+  delay_weight = 5;
+  stop_weight = 7;
+  is_cut = true;
+}
+
+-- in three steps: what comes, what can go, and what waits
+abbrev pub its_come : List ℕ
+its_come = 20 ∷ 30 ∷ 50 ∷ []
+
+abbrev pub its_room : List ℕ
+its_room = 4 ∷ 21 ∷ 15 ∷ []
+
+abbrev pub its_queue : List ℕ
+its_queue = 6 ∷ 0 ∷ 7 ∷ []
+
+-- what its figures are made of: 8, 12 and 20 reach the stop line, of which the first and the last stop
+abbrev pub its_terms : Terms
+its_terms = record {
+  arrivals = 100;
+  room = 40;
+  queued = 13;
+  stopped = 28;
+  frame = its_weights.frame;
+  delay_weight = 5;
+  stop_weight = 7;
+}
+
 -- Factors round 18 steps: of a cruise of 160 seconds in a cycle of 30, and a part for which no product serves.
 abbrev pub ready_factors : Factors
 ready_factors = record {
@@ -235,11 +267,22 @@ most = 1073741823 ∷ zeros 17
 abbrev pub ScratchRow : Type 0
 ScratchRow = List ℕ × List ℕ × List ℕ × List ℕ × Asked × List ℕ × List ℕ × List Factors
 
--- of 18 steps: what comes, is green and waits, what leaves with the greatest value, and room for twelve rows
+-- of 18 steps: what comes, is green and waits, what leaves with the greatest value, and room for twelve rows; and of two
+-- steps, where twice as much comes as can go, so that half of it reaches the stop line
 abbrev pub right_scratch : List ScratchRow
 right_scratch =
     (zeros 18, zeros 18, zeros 18, most, Known greatest, zeros 216, zeros 18, right_factors)
     ∷ (zeros 18, zeros 18, zeros 18, most, Open limiting, zeros 216, zeros 18, [])
+    ∷ (
+      2000000000 ∷ 0 ∷ [],
+      600000000 ∷ 400000000 ∷ [],
+      137438953471 ∷ 0 ∷ [],
+      3 ∷ 4 ∷ [],
+      Open cutting,
+      zeros 24,
+      1000000000 ∷ 0 ∷ [],
+      [],
+    )
     ∷ []
 
 -- None is right: a value less and one more of what is green, of what waits, of what leaves, of the room, and of what
@@ -324,7 +367,8 @@ kept = (
 )
 
 -- None of these is kept: a value less in the departures, an index less and one more, a row less and one more of the
--- departures, a row less of the arrivals and of the queue, and a row more of what is green.
+-- departures, a row less of the arrivals and of the queue, and a row more of what is green; a value less in the
+-- arrivals and in the queue, and one more in what is green.
 abbrev pub wrong_kept : List KeptRow
 wrong_kept = (
   3,
@@ -406,4 +450,44 @@ wrong_kept = (
       new_figures 1 2 3 400 ∷ new_figures 5 6 7 80 ∷ [],
       480,
     )
+    ∷ (
+      3,
+      2,
+      tabled 6 (zeros 18),
+      tabled 2 (zeros 5),
+      tabled 2 (zeros 6),
+      tabled 2 (zeros 6),
+      new_figures 1 2 3 400 ∷ new_figures 5 6 7 80 ∷ [],
+      480,
+    )
+    ∷ (
+      3,
+      2,
+      tabled 6 (zeros 18),
+      tabled 2 (zeros 6),
+      tabled 2 (zeros 7),
+      tabled 2 (zeros 6),
+      new_figures 1 2 3 400 ∷ new_figures 5 6 7 80 ∷ [],
+      480,
+    )
+    ∷ (
+      3,
+      2,
+      tabled 6 (zeros 18),
+      tabled 2 (zeros 6),
+      tabled 2 (zeros 6),
+      tabled 2 (zeros 5),
+      new_figures 1 2 3 400 ∷ new_figures 5 6 7 80 ∷ [],
+      480,
+    )
     ∷ []
+
+-- a table of three rows of two values, the same with another second row, and one in which all is 0
+abbrev pub table_of_six : TableValue
+table_of_six = record { step_count = 2; count = 3; items = 5 ∷ 6 ∷ 7 ∷ 8 ∷ 9 ∷ 4 ∷ [] }
+
+abbrev pub table_with_row : TableValue
+table_with_row = record { step_count = 2; count = 3; items = 5 ∷ 6 ∷ 2 ∷ 3 ∷ 9 ∷ 4 ∷ [] }
+
+abbrev pub table_of_zeros : TableValue
+table_of_zeros = record { step_count = 2; count = 3; items = zeros 6 }

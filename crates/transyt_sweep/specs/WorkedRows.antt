@@ -44,6 +44,30 @@ placed_last =
     (47 ∷ 48 ∷ 49 ∷ 44 ∷ 45 ∷ 46 ∷ []) (57 ∷ 58 ∷ 59 ∷ 54 ∷ 55 ∷ 56 ∷ [])
     (new_figures 1 2 3 4 ∷ new_figures 71 72 73 74 ∷ [])
 
+-- the rows with all of it but what leaves as the first link
+abbrev pub with_another : RowsValue
+with_another =
+    rows_of 3 1 (1 ∷ 2 ∷ 3 ∷ 4 ∷ 5 ∷ 6 ∷ 11 ∷ 12 ∷ 13 ∷ 14 ∷ 15 ∷ 16 ∷ []) (37 ∷ 38 ∷ 39 ∷ 34 ∷ 35 ∷ 36 ∷ [])
+    (47 ∷ 48 ∷ 49 ∷ 44 ∷ 45 ∷ 46 ∷ []) (57 ∷ 58 ∷ 59 ∷ 54 ∷ 55 ∷ 56 ∷ [])
+    (new_figures 1 2 3 4 ∷ new_figures 71 72 73 74 ∷ [])
+
+-- the other work once it has changed places with the second link before the last sweep: only what leaves is the link's
+abbrev pub another_left : CellValue
+another_left = record another { out = 4 ∷ 5 ∷ 6 ∷ [] }
+
+-- work that has a value less or one more than three in one part
+abbrev pub uneven : List CellValue
+uneven =
+    record another { arrivals = 37 ∷ 38 ∷ [] }
+    ∷ record another { arrivals = 37 ∷ 38 ∷ 39 ∷ 40 ∷ [] }
+    ∷ record another { go = 47 ∷ 48 ∷ [] }
+    ∷ record another { go = 47 ∷ 48 ∷ 49 ∷ 50 ∷ [] }
+    ∷ record another { queue = 57 ∷ 58 ∷ [] }
+    ∷ record another { queue = 57 ∷ 58 ∷ 59 ∷ 60 ∷ [] }
+    ∷ record another { out = 17 ∷ 18 ∷ [] }
+    ∷ record another { out = 17 ∷ 18 ∷ 19 ∷ 20 ∷ [] }
+    ∷ []
+
 -- the figures with the second link's index by the weights of the second of the three junctions' links, 5 and 7, and
 -- their 37 hundredths for a stop: 5 * (71 + 72) + 7 * 37 * 73 / 100
 abbrev pub weighed : List Figures

@@ -6,9 +6,12 @@ ghost use Rattle.std.specs.List.{range_with_len};
 ghost use Rattle.transyt_net.specs.Parts.{Network};
 ghost use Rattle.transyt_net.specs.Valid.{IsValid};
 ghost use Rattle.transyt_moves.specs.Moves.{move_count};
+ghost use Rattle.transyt_delay.specs.Figures.{figures};
 ghost use Rattle.transyt_stage.specs.ThreeJunctions.{three_junctions};
 ghost use Rattle.transyt_sweep.specs.Sweeps.{out_of, start, worked_at, evaluated, index};
-ghost use Rattle.transyt_sweep.specs.Rows.{pair_in, read_in, placed, with_weights, index_in};
+ghost use Rattle.transyt_sweep.specs.Rows.{pair_in, read_in, placed, with_rest, left_by, with_weights};
+ghost use Rattle.transyt_sweep.specs.Rows.{index_in};
+ghost use Rattle.transyt_sweep.specs.Cell.{HasSteps};
 ghost use Rattle.transyt_sweep.specs.Rows.{Fits, SameSize, AreSmall, AreRows, rows_of, no_figures};
 ghost use Rattle.transyt_sweep.specs.Front.{is_before, empty_out, empty_rows};
 ghost use Rattle.transyt_sweep.specs.Front.{AreMixed, AreEvaluation, AreOpened, AreStarted, AreFilled};
@@ -21,18 +24,21 @@ ghost use Rattle.transyt_sweep.specs.WorkedLinks.{figures_of_three};
 ghost use Rattle.transyt_sweep.specs.WorkedSweeps.{ring, outs_of_ring, fed_by_itself, arrivals_of_itself};
 ghost use Rattle.transyt_sweep.specs.WorkedSweeps.{gives_way_to_later, no_links};
 ghost use Rattle.transyt_sweep.specs.WorkedRows.{rows, second_link, another, placed_before, placed_last, weighed};
-ghost use Rattle.transyt_sweep.specs.WorkedRows.{orders, rows_at_first};
+ghost use Rattle.transyt_sweep.specs.WorkedRows.{orders, rows_at_first, with_another, another_left, uneven};
 ghost use Rattle.transyt_sweep.specs.WorkedFacts.{fitting, unfitting, fitting_too, greatest, too_great};
 ghost use Rattle.transyt_sweep.specs.WorkedFacts.{right_rows, wrong_rows, wrong_links, wrong_outs, wrong_figures};
 ghost use Rattle.transyt_sweep.specs.WorkedFacts.{limiting, past_limiting, telling, untelling};
 ghost use Rattle.transyt_sweep.specs.WorkedFacts.{right_factors, wrong_factors, ready_factors};
 ghost use Rattle.transyt_sweep.specs.WorkedFacts.{served_frame, served_feed, unserved, table_of_three, wrong_tables};
-ghost use Rattle.transyt_sweep.specs.Scratch.{AreWeights, CanTell, IsScratch};
+ghost use Rattle.transyt_sweep.specs.Scratch.{AreWeights, CanTell, IsScratch, terms_in, figures_in};
+ghost use Rattle.transyt_sweep.specs.declared.asked.Asked.TheVariants.{Known, Open};
+ghost use Rattle.transyt_sweep.specs.WorkedFacts.{its_weights, its_come, its_room, its_queue, its_terms};
 ghost use Rattle.transyt_sweep.specs.Factors.{AreFactors, Serve};
-ghost use Rattle.transyt_sweep.specs.Table.{IsTable, AreKept};
+ghost use Rattle.transyt_sweep.specs.Table.{IsTable, AreKept, with_row, empty_table};
 ghost use Rattle.transyt_sweep.specs.WorkedFacts.{right_scratch, wrong_scratch, wrong_departures, wrong_known};
 ghost use Rattle.transyt_sweep.specs.WorkedFacts.{wrong_open, wrong_ready, kept, wrong_kept};
-ghost use Rattle.transyt_sweep.specs.WorkedClimbs.{idle, tried_in_idle, limits, leasts, stayed, stepped_back};
+ghost use Rattle.transyt_sweep.specs.WorkedFacts.{table_of_six, table_with_row, table_of_zeros};
+ghost use Rattle.transyt_sweep.specs.WorkedClimbs.{idle, planless, tried_in_idle, limits, leasts, stayed, stepped_back};
 
 /// The rule of the sweeps: before the first each link lets its total flow go, and at each sweep a link is worked out
 /// of what it reads, at this sweep of the links before it and at the one before of all others.
@@ -92,23 +98,30 @@ pub fn worked_rows()
         ≡ (11 ∷ 12 ∷ 13 ∷ []) ∷ (4 ∷ 5 ∷ 6 ∷ []) ∷ [] }
     ensures before { placed rows 0 1 another ≡ placed_before }
     ensures last { placed rows 1 0 another ≡ placed_last }
+    ensures rest { with_rest rows 0 another ≡ with_another }
+    ensures left_before { left_by rows 0 1 another ≡ another_left }
+    ensures left_last { left_by rows 1 1 another ≡ second_link }
     ensures first { empty_rows ring ≡ rows_at_first }
     ensures nothing { empty_out ring 2 1 ≡ replicate 10 0 }
     ensures weights { with_weights rows three_junctions 1 ≡ record rows { figures = weighed } }
     ensures index { index_in rows ≡ 138 }
+    ensures even { HasSteps 3 another }
+    ensures uneven { All (λ c. HasSteps 3 c → ⊥) uneven }
     ensures order { map (λ row. is_before row.0 row.1 row.2 row.3) orders ≡ map (λ row. row.4) orders }
 {}
 
 /// So do tries of moves, searches and climbs. The first move on the three junctions lowers their index.
-#[tactic(auto, using(crate::proofs::WorkedMove::tried_first, crate::proofs::WorkedMove::lowers_first))]
+#[tactic(auto, using(crate::proofs::WorkedMove::tried_first, crate::proofs::WorkedMove::lowers_first, crate::proofs::WorkedMove::first_from_last))]
 pub fn worked_climbs()
     ensures lowered { tried_at three_junctions 0 ≡ Some 554272112 }
     ensures lowers { lowers three_junctions 0 ≡ true }
     ensures tried { map (tried_at idle) (range_with_len 0 6) ≡ tried_in_idle }
     ensures limits { map (λ row. is_below row.0 row.1) limits ≡ map (λ row. row.2) limits }
     ensures least { map (λ row. least (nat_eq row.0) row.1) leasts ≡ map (λ row. row.2) leasts }
+    ensures first { first three_junctions 71 ≡ Some 1 }
     ensures local { climb idle 0 6 ≡ stayed true idle (0 ∷ 1 ∷ 2 ∷ 3 ∷ 4 ∷ 5 ∷ []) }
     ensures budget { climb idle 4 3 ≡ stayed false idle (4 ∷ 5 ∷ 0 ∷ []) }
+    ensures no_move { climb planless 0 0 ≡ stayed true planless [] }
     ensures step { after_search (ended true) idle 5 6 9 (Some 2) ≡ stepped_back }
     ensures no_step { after_search (ended true) idle 4 6 3 (Some 3) ≡ stayed false idle (4 ∷ 5 ∷ 0 ∷ []) }
 {}
@@ -129,9 +142,12 @@ pub fn worked_facts()
     ensures wrong_figures { AreRows wrong_figures → ⊥ }
 {}
 
-/// Weights at their limits are right, and of worked rows figures can be worked out; one past a limit, or with one thing
-/// wrong, that doesn't hold.
+/// Figures are known, or are made of what worked rows give; weights at their limits are right, and of worked rows figures
+/// can be worked out; one past a limit, or with one thing wrong, that doesn't hold.
 pub fn worked_telling()
+    ensures terms { terms_in its_come its_room its_queue its_weights ≡ its_terms }
+    ensures known { figures_in its_come its_room its_queue (Known greatest) ≡ greatest }
+    ensures open { figures_in its_come its_room its_queue (Open its_weights) ≡ figures its_terms }
     ensures weights { AreWeights limiting }
     ensures past_weights { All (λ w. AreWeights w → ⊥) past_limiting }
     ensures telling { All (λ row. CanTell row.0 row.1 row.2 row.3 row.4) telling }
@@ -164,8 +180,11 @@ pub fn worked_scratch()
         wrong_ready.4 wrong_ready.5 wrong_ready.6 wrong_ready.7 → ⊥ }
 {}
 
-/// Worked tables are kept with the sum of their links' indexes; with a size or an index that is wrong they aren't.
+/// Worked tables have their rows, and are kept with the sum of their links' indexes; with a size or an index that is
+/// wrong they aren't.
 pub fn worked_kept()
+    ensures row { with_row table_of_six 1 (2 ∷ 3 ∷ []) ≡ table_with_row }
+    ensures zeros { empty_table 3 2 ≡ table_of_zeros }
     ensures kept { AreKept kept.0 kept.1 kept.2 kept.3 kept.4 kept.5 kept.6 kept.7 }
     ensures wrong { All (λ row. AreKept row.0 row.1 row.2 row.3 row.4 row.5 row.6 row.7 → ⊥) wrong_kept }
 {}
@@ -185,5 +204,6 @@ pub fn worked_evaluations()
     ensures right { AreEvaluation two_links evaluation }
     ensures wrong { All (λ r. AreEvaluation two_links r → ⊥) wrong_evaluations }
     ensures filled { AreFilled two_links 1 1 filled }
+    ensures whole { AreFilled two_links 2 0 evaluation }
     ensures wrong_filled { All (λ r. AreFilled two_links 1 1 r → ⊥) wrong_filled }
 {}

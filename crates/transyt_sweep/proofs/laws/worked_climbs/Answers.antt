@@ -19,6 +19,11 @@ pub returns-clause-budget : goal.returns-clause-budget
 unfolding move move_count tried_at lowers moved climb
 returns-clause-budget c = refl
 
+-- one where there is no move
+pub returns-clause-no_move : goal.returns-clause-no_move
+unfolding move move_count tried_at lowers moved climb
+returns-clause-no_move c = refl
+
 -- a step, and what follows it
 pub returns-clause-step : goal.returns-clause-step
 unfolding move move_count tried_at lowers moved
