@@ -4,3 +4,4 @@ pub mod LeastLaws
 pub mod DeskLaws
 pub mod RoundLaws
 pub mod WorkedLaws
+pub mod WorkedDeskLaws

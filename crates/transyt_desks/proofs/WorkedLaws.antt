@@ -1,11 +1,19 @@
 -- The worked rounds, computed from the definitions.
-use Rattle.std.proofs.Common.{◌≡◌, ◌<◌, ℕ, zero, suc, map, refl, arith}
+use Rattle.std.proofs.Common.{◌≡◌, ◌<◌, ◌+◌, ℕ, zero, suc, map, refl, ap, ◌∙◌, arith}
+use Rattle.std.proofs.Common.{Some, if◌then◌else◌}
+use Rattle.std.specs.Option.{option_map}
 use Rattle.transyt_net.specs.Shape.{SameShape}
 use Rattle.transyt_moves.specs.Moves.{move_count, move}
-use Rattle.transyt_sweep.specs.Climb.{tried_at, lowers, moved}
+use Rattle.transyt_sweep.specs.Climb.{tried_at, lowers, moved, least}
 use Rattle.transyt_track.specs.Due.{due_in, due_through, due}
 use Rattle.transyt_desks.specs.Desks.{AreAligned, AreAlike, desk_zero, session_at}
-use Rattle.transyt_desks.specs.Rounds.{turns_of, turns_up_to}
+use Rattle.transyt_climb.specs.declared.turn.Turn.{Turn}
+use Rattle.transyt_climb.specs.declared.turn.Turn.TheVariants.{Took, Passed}
+use Rattle.transyt_climb.specs.Turns.{Machine, machine, answer_of, is_end, turned, turns}
+use Rattle.transyt_climb.specs.WorkedTurns.{three_session}
+use Rattle.transyt_climb.proofs.WorkedLaws.{look_first}
+use Rattle.transyt_desks.specs.Rounds.{is_took, turns_of, turns_up_to, up_to}
+use Rattle.transyt_desks.specs.WorkedDesks.{seven_left}
 use Rattle.transyt_desks.specs.WorkedRounds.{three_desks, worked_rounds}
 
 -- each round is as long as it is written
@@ -32,3 +40,28 @@ alike_at (suc (suc (suc k))) below = absurd (omega (arith, below))
 
 pub are_alike : AreAlike three_desks
 are_alike = record { shape = alike_at }
+
+-- the last move is barred
+last_passes : answer_of seven_left ≡ Passed
+unfolding move tried_at lowers
+last_passes = refl
+
+-- a climber after that turn
+abbrev six_left : Machine
+six_left = machine (record { place = 0; since = 2; looked = 3; budget = 9; count = 72 }) three_session
+
+last_passed : turned seven_left ≡ six_left
+unfolding move tried_at lowers
+last_passed = refl
+
+-- so a round is two turns, of which the second takes a step
+pub step_round : turns_of 8 seven_left ≡ 2
+unfolding turns_up_to
+step_round =
+    ap (λ (a : Turn). if is_end a then 1
+    else up_to (if is_took a then Some 0
+    else option_map (λ r. r + 1) (least (λ r. is_took (answer_of (turns (r + 1) seven_left))) 6)) 7) last_passes
+    ∙ ap (λ (m : Machine). up_to (option_map (λ r. r + 1) (if is_took (answer_of m) then Some 0
+    else option_map (λ r. r + 1) (least (λ r. is_took (answer_of (turns (r + 1 + 1) seven_left))) 5))) 7) last_passed
+    ∙ ap (λ (a : Turn). up_to (option_map (λ r. r + 1) (if is_took a then Some 0
+    else option_map (λ r. r + 1) (least (λ r. is_took (answer_of (turns (r + 1 + 1) seven_left))) 5))) 7) look_first

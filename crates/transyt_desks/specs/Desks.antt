@@ -1,5 +1,6 @@
 -- Desks: sessions that try candidates for one climb, desk 0 first.
-use Rattle.std.specs.Prelude.{◌≡◌, ℕ, ◌+◌, ◌%◌, ◌-◌, ◌<◌, ◌≤◌, List, [], ◌∷◌, map, length, None, slice_index_or, replicate}
+use Rattle.std.specs.Prelude.{◌≡◌, ℕ, ◌+◌, ◌-◌, ◌*◌, ◌%◌, ◌<◌, ◌≤◌, List, [], ◌∷◌, map, length, None, replicate}
+use Rattle.std.specs.Prelude.{slice_index_or, slice_set}
 use Rattle.transyt_parts.specs.declared.frame.Frame.{Frame}
 use Rattle.transyt_net.specs.Parts.{Network, network_of}
 use Rattle.transyt_net.specs.Shape.{SameShape}
@@ -26,6 +27,10 @@ session_at sessions k = slice_index_or sessions k no_session
 -- the session of desk 0
 abbrev pub desk_zero : List SessionValue → SessionValue
 desk_zero sessions = session_at sessions 0
+
+-- desks with another session at desk 0
+abbrev pub with_zero : List SessionValue → SessionValue → List SessionValue
+with_zero sessions session = slice_set sessions 0 session
 
 -- a session and its twins at so many desks in all
 abbrev pub opened_desks : SessionValue → ℕ → List SessionValue
@@ -67,10 +72,18 @@ tried_at desks k = (slice_index_or desks k no_desk).tried
 abbrev pub new_desk : SessionValue → Desk
 new_desk session = record { session = session; tried = Barred }
 
+-- no more than the most work of an edit
+abbrev pub IsLittle : ℕ → Type 0
+IsLittle work = work ≤ 8000
+
+-- work grows by no more than that a turn
+abbrev pub AddsLittle : ℕ → ℕ → ℕ → Type 0
+AddsLittle before after turns = after ≤ before + 8000 * turns
+
 -- what trying the move at a place of a network finds, in little work
 pub record IsTried (net : Network) (place : ℕ) (tried : Tried) : Type 0 where
   pub found : tried ≡ try_of net (move net place)
-  pub few : edit_work net (move net place) ≤ 8000
+  pub few : IsLittle (edit_work net (move net place))
 
 -- what trying the next moves of the list found, from a climber's place on, round the list
 pub record AreTried (net : Network) (c : Counters) (answers : List Tried) : Type 0 where

@@ -2,3 +2,4 @@ pub mod Desks
 pub mod Rounds
 pub mod Lends
 pub mod WorkedRounds
+pub mod WorkedDesks

@@ -1,5 +1,5 @@
 -- A round: the turns that several desks make together.
-use Rattle.std.specs.Prelude.{◌≡◌, ℕ, ◌+◌, ◌-◌, ◌*◌, ◌≤◌, min, Bool, true, false, List, length, Option, Some, None, if◌then◌else◌}
+use Rattle.std.specs.Prelude.{◌≡◌, ℕ, ◌+◌, ◌-◌, min, Bool, true, false, List, length, Option, Some, None, if◌then◌else◌}
 use Rattle.transyt_moves.specs.Moves.{move_count}
 use Rattle.transyt_session.specs.Session.{SessionValue}
 use Rattle.transyt_sweep.specs.Climb.{least}
@@ -8,7 +8,7 @@ use Rattle.transyt_climb.specs.declared.turn.Turn.TheVariants.{Took, Passed, Loc
 use Rattle.transyt_climb.specs.Turns.{Counters, Machine, machine, answer_of, turns, is_end}
 use Rattle.transyt_climb.specs.Way.{IsRound}
 use Rattle.transyt_desks.specs.declared.settling.Round.{Round}
-use Rattle.transyt_desks.specs.Desks.{desk_zero, AreAligned}
+use Rattle.transyt_desks.specs.Desks.{desk_zero, AreAligned, AddsLittle}
 
 -- whether a turn takes a step
 abbrev pub is_took : Turn → Bool
@@ -42,4 +42,4 @@ pub record RoundsTo (before : Counters) (olds : List SessionValue) (after : Coun
   pub aligned : AreAligned news
   pub kept : after.count ≡ move_count (desk_zero news).net
   pub closed : (desk_zero news).before ≡ None
-  pub few : (desk_zero news).work ≤ (desk_zero olds).work + 8000 * result.turns
+  pub few : AddsLittle (desk_zero olds).work (desk_zero news).work result.turns

@@ -21,7 +21,7 @@ mod settling;
 pub use climbing::climb_by_rounds;
 pub use desks::Desks;
 pub use gate::{Gate, OpenGate};
-pub use laws::worked_rounds;
+pub use laws::{worked_desks, worked_rounds, worked_tries};
 pub use settling::Round;
 
 #[cfg(test)]
