@@ -1,11 +1,11 @@
 -- A climb on its way whose steps are counted.
-use Rattle.std.proofs.Common.{◌≡◌, ℕ, ◌+◌, ◌-◌, ◌*◌, ◌≤◌, ◌<◌, true, false, List, [], ◌∷◌, ◌++◌, length, None}
-use Rattle.std.proofs.Common.{refl, sym, ◌∙◌, ap, subst, arith, length-append}
+use Rattle.std.proofs.Common.{◌≡◌, ℕ, ◌+◌, ◌-◌, ◌*◌, ◌≤◌, ◌<◌, true, false, List, [], ◌++◌, length, None}
+use Rattle.std.proofs.Common.{refl, sym, ◌∙◌, subst, arith, length-append}
 use Rattle.transyt_moves.specs.Moves.{move_count}
 use Rattle.transyt_sweep.specs.Climb.{Step, climb}
 use Rattle.transyt_session.specs.Session.{SessionValue}
 use Rattle.transyt_climb.specs.declared.turn.Turn.{Turn}
-use Rattle.transyt_climb.specs.Turns.{Counters, Machine, machine, start_at, started, answer_of, turned, step_then, is_end, is_local}
+use Rattle.transyt_climb.specs.Turns.{Counters, Machine, machine, start_at, answer_of, turned, step_then, is_end, is_local}
 use Rattle.transyt_climb.specs.Way.{IsUnderWay, IsOver, IsRound}
 use Rattle.transyt_climb.proofs.WayLaws.{way_start, way_round, way_over, round_one, round_looks, HasLooked}
 

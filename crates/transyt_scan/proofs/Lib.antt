@@ -3,3 +3,4 @@ pub mod CountedLaws
 pub mod TableLaws
 pub mod RowLaws
 pub mod WorkedLimits
+pub mod WorkedRows

@@ -6,7 +6,6 @@ use Rattle.transyt_moves.specs.Moves.{move_count}
 use Rattle.transyt_sweep.specs.Sweeps.{index}
 use Rattle.transyt_sweep.specs.Climb.{Climb, climb, ended}
 use Rattle.transyt_climb.specs.Turns.{Counters, start_at, start_of}
-use Rattle.transyt_whole.specs.declared.line.Climbed.{Climbed}
 use Rattle.transyt_scan.specs.Rows.{climb_by, climbed_row, row_of}
 
 -- a row of these numbers is the network's, by its climb

@@ -1,5 +1,5 @@
 -- What may be asked for at its limits, and the least of the worked rows.
-use Rattle.std.proofs.Common.{◌≡◌, ◌≤◌, ◌<◌, ℕ, zero, suc, [], lit≤, lit<, arith}
+use Rattle.std.proofs.Common.{◌≤◌, ◌<◌, ℕ, zero, suc, [], lit≤, lit<, arith}
 use Rattle.std.specs.List.{All}
 use Rattle.std.proofs.lemmas.List.Elements.{All-from_recursion}
 use Rattle.transyt_scan.specs.declared.asked.ScanWord.{ScanWord}

@@ -1,8 +1,11 @@
 -- Worked climbs over cycle times.
-use Rattle.std.specs.Prelude.{ℕ, Bool, true, false, List, [], ◌∷◌, Option, None, Some}
+use Rattle.std.specs.Prelude.{ℕ, Bool, true, false, List, [], ◌∷◌, map, Option, Some}
 use Rattle.transyt_parts.specs.Parts.{PlanValue}
+use Rattle.transyt_net.specs.declared.edit.Edit.TheVariants.{Offset}
+use Rattle.transyt_net.specs.Edits.{with_edit}
 use Rattle.transyt_net.specs.Parts.{Network, with_cycle}
 use Rattle.transyt_stage.specs.ThreeJunctions.{three_junctions}
+use Rattle.transyt_sweep.specs.Climb.{Climb, Step}
 use Rattle.transyt_climb.specs.WorkedTurns.{idle}
 use Rattle.transyt_whole.specs.declared.line.AnswerLine.{AnswerLine}
 use Rattle.transyt_whole.specs.declared.line.AnswerLine.TheVariants as line
@@ -38,6 +41,27 @@ stayed cycle local looked = record { cycle = cycle; from = 0; took = 0; local = 
 -- the three junctions, whose cycle time is 90 seconds, at 61
 abbrev pub junctions_at_61 : Network
 junctions_at_61 = with_cycle three_junctions 61
+
+-- the three junctions after their first move, which lowers the index
+abbrev pub junctions_moved : Network
+junctions_moved = with_edit three_junctions (Offset 21 8)
+
+-- a climb plan of theirs with a budget of one look
+abbrev pub one_look : Option PlanValue
+one_look = Some (record { budget = 1; sizes = 4 ∷ 1 ∷ 7 ∷ [] })
+
+-- a step by that move
+abbrev pub first_step : Step
+first_step = record { place = 0; edit = Offset 21 8; index = 554272112 }
+
+-- a climb that ended there with two steps after three looks
+abbrev pub two_steps : Climb
+two_steps = record {
+  steps = first_step ∷ first_step ∷ [];
+  local = false;
+  looks = map (λ place. record { net = three_junctions; place = place }) (71 ∷ 0 ∷ 0 ∷ []);
+  net = junctions_moved;
+}
 
 -- a climb at a cycle time
 abbrev pub climbed_at : ℕ → ℕ → ℕ → Bool → ℕ → ℕ → Climbed

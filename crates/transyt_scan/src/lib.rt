@@ -22,7 +22,7 @@ mod word;
 pub use asked::{CycleTimes, ScanWord};
 pub use bench::{Bench, IdleBench};
 pub use best::least;
-pub use laws::{worked_best, worked_limits, worked_scan};
+pub use laws::{worked_best, worked_limits, worked_rows, worked_scan};
 pub use scanning::scan;
 pub use word::{answer_scan, scan_deck};
 

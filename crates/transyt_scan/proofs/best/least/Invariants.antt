@@ -1,5 +1,5 @@
 -- The best of the rows so far.
-use Rattle.std.proofs.Common.{◌≡◌, ℕ, ◌<◌, ◌≤◌, length, get_or, drop}
+use Rattle.std.proofs.Common.{◌≡◌, ℕ, ◌<◌, ◌≤◌, get_or, drop}
 use Rattle.transyt_scan.specs.Best.{to_at, no_row, best, best_from}
 use Rattle.transyt_scan.proofs.best.least.Given as goal
 

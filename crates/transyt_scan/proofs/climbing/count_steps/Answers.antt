@@ -2,7 +2,7 @@
 use Rattle.std.proofs.Common.{List, length, sym, ◌∙◌, ap}
 use Rattle.transyt_sweep.specs.Climb.{Step}
 use Rattle.transyt_climb.specs.Turns.{Machine, machine}
-use Rattle.transyt_scan.proofs.CountedLaws.{IsCounted, counted_start, counted_on, fewer_left, counted_over}
+use Rattle.transyt_scan.proofs.CountedLaws.{counted_start, counted_on, fewer_left, counted_over}
 use Rattle.transyt_scan.proofs.climbing.count_steps.Goals as goal
 
 -- no step is counted yet

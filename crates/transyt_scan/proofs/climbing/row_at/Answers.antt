@@ -1,5 +1,5 @@
 -- The session is that of the network with the cycle time.
-use Rattle.std.proofs.Common.{◌≡◌, None, ◌∙◌, ap, arith}
+use Rattle.std.proofs.Common.{◌≡◌, ◌∙◌, ap, arith}
 use Rattle.transyt_session.specs.Session.{SessionValue}
 use Rattle.transyt_scan.specs.Rows.{row_of}
 use Rattle.transyt_scan.proofs.climbing.row_at.Goals as goal

@@ -1,5 +1,5 @@
 -- The numbers of the row are those of the climb.
-use Rattle.std.proofs.Common.{◌≡◌, Some, None, true, refl, sym, ◌∙◌, ap}
+use Rattle.std.proofs.Common.{true, refl, sym, ◌∙◌, ap}
 use Rattle.transyt_parts.specs.declared.frame.Frame.{Frame}
 use Rattle.transyt_net.specs.Parts.{Network}
 use Rattle.transyt_sweep.specs.Sweeps.{index}

@@ -25,3 +25,8 @@ returns-clause-unplanned c = refl
 pub returns-clause-from : goal.returns-clause-from
 unfolding row_of
 returns-clause-from c = index_comes_out
+
+-- the two rows and the last line
+pub returns-clause-answer : goal.returns-clause-answer
+unfolding row_of climb move_count move tried_at lowers moved
+returns-clause-answer c = refl

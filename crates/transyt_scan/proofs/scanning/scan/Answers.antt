@@ -1,5 +1,5 @@
 -- The rows that were all made are the table.
-use Rattle.std.proofs.Common.{◌≡◌, ◌<◌, List, Option, Some, map, drop, length, ◌∙◌, arith, rules}
+use Rattle.std.proofs.Common.{◌≡◌, List, Option, Some, map, drop, length, ◌∙◌, arith, rules}
 use Rattle.std.proofs.lemmas.List.{take-append-le, take_all}
 use Rattle.std.proofs.lemmas.Result.{IfOk-weaker}
 use Rattle.transyt_whole.specs.declared.line.Climbed.{Climbed}
