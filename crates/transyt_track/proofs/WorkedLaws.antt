@@ -4,9 +4,10 @@ use Rattle.transyt_platoon.specs.Platoon.{smoothed}
 use Rattle.transyt_stopline.specs.LastSteps.{sum_back, greatest}
 use Rattle.transyt_sweep.specs.Sweeps.{seen, out_of}
 use Rattle.transyt_moves.specs.Moves.{move}
-use Rattle.transyt_track.specs.Due.{differs, due_in, due_through, due}
+use Rattle.transyt_track.specs.Due.{differs, is_due, due_in, due_through, due}
 use Rattle.transyt_track.specs.Work.{edit_work, work_of, cert_work}
-use Rattle.transyt_track.specs.WorkedWork.{junctions, worked_edits, worked_looks, loop_of_three}
+use Rattle.transyt_track.specs.WorkedWork.{junctions, worked_edits, worked_looks, loop_of_three, fed_by_two}
+use Rattle.transyt_track.specs.WorkedWork.{due_of_three}
 
 -- each edit has the work that is written beside it
 pub edits : map (λ row. edit_work junctions row.0) worked_edits ≡ map (λ row. row.1) worked_edits
@@ -28,3 +29,9 @@ certificate = refl
 pub loop_work : due (loop_of_three 360) (loop_of_three 3420) ≡ 7
 unfolding sum_back greatest smoothed seen out_of differs due_in due_through due
 loop_work = refl
+
+-- what leaves the second link differs, and the first is as it was
+pub due_by_one : map (λ row. is_due (fed_by_two 1800) (fed_by_two 300) 1 row.0) due_of_three
+    ≡ map (λ row. row.1) due_of_three
+unfolding sum_back greatest smoothed seen out_of differs
+due_by_one = refl

@@ -1,5 +1,5 @@
 -- A worked network with the work of an edit of each kind, of a climb and of its certificate; and a loop of links.
-use Rattle.std.specs.Prelude.{ℕ, List, [], ◌∷◌, Some, None}
+use Rattle.std.specs.Prelude.{ℕ, List, [], ◌∷◌, Bool, true, false, Some, None}
 use Rattle.transyt_parts.specs.declared.link.Feed.{Feed}
 use Rattle.transyt_parts.specs.Parts.{LinkValue}
 use Rattle.transyt_parts.specs.Made.{new_stage, new_feed, new_rule}
@@ -107,3 +107,16 @@ loop_of_three entry = record {
       ∷ green_link 3 entry (new_feed 1 180 15 ∷ []) ∷ [];
   plan = None;
 }
+
+-- two links that nothing feeds, the second with this saturation flow, and a third that both of them feed
+abbrev pub fed_by_two : ℕ → Network
+fed_by_two saturation = record (loop_of_three 360) {
+  links = green_link 1 360 []
+      ∷ record (green_link 2 360 []) { saturation = saturation }
+      ∷ green_link 3 0 (new_feed 1 180 15 ∷ new_feed 2 90 30 ∷ []) ∷ [];
+}
+
+-- the places of its three links, and whether each is due where the second lets go less than comes to it: the third for
+-- one of the two that it reads
+abbrev pub due_of_three : List (ℕ × Bool)
+due_of_three = (0, false) ∷ (1, true) ∷ (2, true) ∷ []

@@ -7,7 +7,7 @@ ghost use Rattle.transyt_net.specs.Parts.{Network, node_of, link_of};
 ghost use Rattle.transyt_sweep.specs.Front.{AreMixed};
 ghost use Rattle.transyt_sweep.specs.Rows.{out_at, shown_at};
 ghost use Rattle.transyt_sweep.specs.Sweeps.{out_of};
-ghost use Rattle.transyt_track.specs.Due.{differs, due};
+ghost use Rattle.transyt_track.specs.Due.{differs, due, is_due};
 ghost use Rattle.transyt_track.specs.Front.{AreDownWhere};
 ghost use Rattle.transyt_track.specs.Front.{AreAt, AreBetween, AreFlags, AreShownMixed, AreStarting, AreWeighed};
 ghost use Rattle.transyt_track.specs.Front.{flag, left_at, own_differs, total_differs, unweighed};
@@ -34,7 +34,8 @@ ghost use Rattle.transyt_track.specs.WorkedFacts.{unfit_rows, unlike_two, unmark
 ghost use Rattle.transyt_track.specs.WorkedFacts.{weights_of_second, wrong_places};
 ghost use Rattle.transyt_track.specs.WorkedSame.{numbered_link, other_after, other_numbers, other_times, same_after};
 ghost use Rattle.transyt_track.specs.WorkedSame.{second_down, second_not_down, timed};
-ghost use Rattle.transyt_track.specs.WorkedWork.{junctions, loop_of_three, worked_edits, worked_looks};
+ghost use Rattle.transyt_track.specs.WorkedWork.{due_of_three, fed_by_two, junctions, loop_of_three};
+ghost use Rattle.transyt_track.specs.WorkedWork.{worked_edits, worked_looks};
 
 /// The tests by which pairs are counted: own data pass exactly where they are equal, and departures differ unless they
 /// are equal.
@@ -45,12 +46,15 @@ pub fn rule_of_due()
 {}
 
 /// The worked networks have the work that is written beside them: edits of each kind, places that a climb looks at, the
-/// certificate of all moves, and an edit that goes round a loop until what leaves a link stays the same.
-#[tactic(auto, using(crate::proofs::WorkedLaws::edits, crate::proofs::WorkedLaws::looks, crate::proofs::WorkedLaws::certificate, crate::proofs::WorkedLaws::loop_work))]
+/// certificate of all moves, and an edit that goes round a loop until what leaves a link stays the same. A link is due for
+/// one of two that it reads.
+#[tactic(auto, using(crate::proofs::WorkedLaws::edits, crate::proofs::WorkedLaws::looks, crate::proofs::WorkedLaws::certificate, crate::proofs::WorkedLaws::due_by_one, crate::proofs::WorkedLaws::loop_work))]
 pub fn worked_work()
     ensures edits { map (λ row. edit_work junctions row.0) worked_edits ≡ map (λ row. row.1) worked_edits }
     ensures looks { work_of worked_looks ≡ 16 }
     ensures certificate { cert_work junctions 12 ≡ 66 }
+    ensures by_one { map (λ row. is_due (fed_by_two 1800) (fed_by_two 300) 1 row.0) due_of_three
+        ≡ map (λ row. row.1) due_of_three }
     ensures loop_work { due (loop_of_three 360) (loop_of_three 3420) ≡ 7 }
 {}
 
