@@ -9,7 +9,7 @@ use Rattle.transyt_parts.specs.declared.frame.Frame.{Frame}
 use Rattle.transyt_net.specs.Parts.{Network}
 use Rattle.transyt_net.specs.Shape.{shape, SameShape}
 use Rattle.transyt_sweep.specs.Cell.{CellValue}
-use Rattle.transyt_sweep.specs.Rows.{RowsValue, Fits, out_at, shown_at}
+use Rattle.transyt_sweep.specs.Rows.{RowsValue, Fits, SameSize, out_at, shown_at}
 use Rattle.transyt_sweep.specs.Front.{AreEvaluation}
 use Rattle.transyt_track.specs.Own.{PlacesValue, ArePlaces, all_places}
 use Rattle.transyt_track.specs.Front.{unweighed}
@@ -118,32 +118,38 @@ module _ (net marked : Network) (rows : RowsValue) (saved : SavedValue) (places 
     steps = tracking.steps;
   }
 
-  -- the rows have gone back to the marked network
-  pub restored_tracks : (rows1 : RowsValue) → AreEvaluation marked rows1 → (saved1 : SavedValue)
-      → SaveAlike saved1 saved → IsTracking marked net rows1 (settled saved1) places own_changed changed scratch
-  restored_tracks rows1 evaluation saved1 alike =
-      let frame = shape_frame net marked tracking.shape in
-      let count = shape_count net marked tracking.shape in
+  -- the rows are those of another network, and no mark is open
+  pub closed_tracks : (after other : Network) → SameShape net after → SameShape after other → (rows1 : RowsValue)
+      → AreEvaluation after rows1 → (saved1 : SavedValue) → saved1.live ≡ false → SameSize saved1.rows saved.rows
+      → saved1.link_count ≡ saved.link_count → IsTracking after other rows1 saved1 places own_changed changed scratch
+  closed_tracks after other same same_other rows1 evaluation saved1 closed size links =
+      let frame = shape_frame net after same in
+      let count = shape_count net after same in
       record {
-        shape = sym tracking.shape;
+        shape = same_other;
         evaluation = evaluation;
         fits = record {
           size = record {
-            step_count = alike.size.step_count ∙ tracking.fits.size.step_count ∙ tracking.evaluation.fits.step_count
+            step_count = size.step_count ∙ tracking.fits.size.step_count ∙ tracking.evaluation.fits.step_count
                 ∙ ap (λ (f : Frame). f.step_count) frame ∙ sym evaluation.fits.step_count;
-            sweeps = alike.size.sweeps ∙ tracking.fits.size.sweeps ∙ tracking.evaluation.fits.sweeps
-                ∙ ap (λ (f : Frame). f.sweeps) frame
-                ∙ sym evaluation.fits.sweeps;
-            link_count = alike.size.link_count ∙ tracking.fits.size.link_count ∙ tracking.evaluation.fits.link_count
-                ∙ count
-                ∙ sym evaluation.fits.link_count;
+            sweeps = size.sweeps ∙ tracking.fits.size.sweeps ∙ tracking.evaluation.fits.sweeps
+                ∙ ap (λ (f : Frame). f.sweeps) frame ∙ sym evaluation.fits.sweeps;
+            link_count = size.link_count ∙ tracking.fits.size.link_count ∙ tracking.evaluation.fits.link_count
+                ∙ count ∙ sym evaluation.fits.link_count;
           };
-          links = alike.link_count ∙ tracking.fits.links ∙ tracking.evaluation.fits.link_count ∙ count
+          links = links ∙ tracking.fits.links ∙ tracking.evaluation.fits.link_count ∙ count
               ∙ sym evaluation.fits.link_count;
         };
         back = record { outs = λ live t k within there. absurd (cc); shown = λ live k there. absurd (cc) };
-        table = shape_table net marked tracking.shape places tracking.table;
+        table = shape_table net after same places tracking.table;
         own_count = tracking.own_count ∙ count;
         changed_count = tracking.changed_count ∙ count;
         steps = tracking.steps ∙ ap (λ (f : Frame). f.step_count) frame;
       }
+
+  -- the rows have gone back to the marked network
+  pub restored_tracks : (rows1 : RowsValue) → AreEvaluation marked rows1 → (saved1 : SavedValue)
+      → SaveAlike saved1 saved → IsTracking marked net rows1 (settled saved1) places own_changed changed scratch
+  restored_tracks rows1 evaluation saved1 alike =
+      closed_tracks marked net tracking.shape (sym tracking.shape) rows1 evaluation (settled saved1) refl alike.size
+      alike.link_count

@@ -94,6 +94,9 @@ const TOWN_EDITS: [Row; 12] = [
 /// Whether the edits of the town, one after another, have the work and the index beside them.
 fn follow_town<L: Ledger>(net: &mut Net, tracker: &mut Tracker, steps: &mut Steps<L>) -> bool
     requires { tracker.old.net ≡ net.old }
+    ensures net { tracker.new.net ≡ net.new }
+    ensures mark { tracker.new.mark ≡ tracker.old.mark }
+    ensures shape { SameShape net.new net.old }
 {
     follow_all(&TOWN_EDITS, net, tracker, steps)
 }
@@ -164,6 +167,27 @@ fn trials<L: Ledger>(base: &Net, net: &mut Net, tracker: &mut Tracker, steps: &m
     back == (true, 215925072) && entered == (Some((9, 183471529)), 183471529)
 }
 
+/// Whether a twin that has followed the edits of the town takes over a tracker of the town without them, and follows other
+/// edits from there.
+fn taken_over<L: Ledger>(
+    alloc: Global,
+    base: &Net,
+    net: &mut Net,
+    tracker: &Tracker,
+    steps: &mut Steps<L>,
+) -> Result<bool, AllocError>
+    requires net { tracker.now.net ≡ net.old }
+    requires base { net.old ≡ base.now }
+    requires mark { tracker.now.mark ≡ None }
+{
+    let mut twin = tracker.twin(alloc)?;
+    let ahead = follow_town(net, &mut twin, steps);
+    twin.take_over(tracker);
+    net.take_numbers(base);
+    let index = twin.index();
+    Ok(ahead && index == 215925072 && follow_taken_back(net, &mut twin, steps))
+}
+
 /// What leaves a link at a sweep, in the first step; none where there is no such link or sweep.
 fn leaving(net: &Net, tracker: &Tracker, sweep: u32, link: usize) -> Option<u64>
     requires { tracker.now.net ≡ net.now }
@@ -195,6 +219,8 @@ const NEW: [u64; 6] = [900000, 900000, 850000, 900000, 750000, 750000];
 /// Whether an edit of link 3's entry flow goes round the loop, as far as what leaves a link differs.
 fn edit_loop<L: Ledger>(net: &mut Net, tracker: &mut Tracker, steps: &mut Steps<L>) -> bool
     requires { tracker.old.net ≡ net.old }
+    ensures mark { tracker.new.mark ≡ tracker.old.mark }
+    ensures shape { SameShape tracker.new.net tracker.old.net }
 {
     match follow(edit_of(Entry(3, 3420)), net, tracker, steps) {
         Some((work, _)) => work == 7 && leaves(net, tracker, &NEW),
@@ -202,18 +228,22 @@ fn edit_loop<L: Ledger>(net: &mut Net, tracker: &mut Tracker, steps: &mut Steps<
     }
 }
 
-/// The same on a twin of a tracker.
+/// The same on a twin of a tracker, and whether the old values leave its links once it has taken over that tracker.
 fn edit_twin<L: Ledger>(
     alloc: Global,
+    base: &Net,
     net: &mut Net,
     tracker: &Tracker,
     steps: &mut Steps<L>,
 ) -> Result<bool, AllocError>
     requires net { tracker.now.net ≡ net.old }
+    requires base { net.old ≡ base.now }
     requires mark { tracker.now.mark ≡ None }
 {
     let mut twin = tracker.twin(alloc)?;
-    Ok(edit_loop(net, &mut twin, steps))
+    let right = edit_loop(net, &mut twin, steps);
+    twin.take_over(tracker);
+    Ok(right && leaves(base, &twin, &OLD))
 }
 
 /// Whether it does on a twin, and leaves the first tracker as it is.
@@ -228,7 +258,7 @@ fn edit_beside<L: Ledger>(
     requires base { net.old ≡ base.now }
     requires mark { tracker.now.mark ≡ None }
 {
-    let right = edit_twin(alloc, net, tracker, steps)?;
+    let right = edit_twin(alloc, base, net, tracker, steps)?;
     Ok(right && leaves(base, tracker, &OLD))
 }
 
@@ -239,6 +269,8 @@ enum Case {
     Edits,
     /// Trials on the town.
     Trials,
+    /// A tracker of the town that takes over another.
+    Over,
     /// An edit of the loop.
     Loop,
 }
@@ -259,6 +291,7 @@ fn is_right<L: Ledger>(
     match case {
         Case::Edits => Ok(follow_town(net, tracker, steps)),
         Case::Trials => Ok(trials(base, net, tracker, steps)),
+        Case::Over => taken_over(alloc, base, net, tracker, steps),
         Case::Loop => edit_beside(alloc, base, net, tracker, steps),
     }
 }
@@ -290,7 +323,7 @@ fn is_right_on(case: Case, alloc: Global, base: &Net) -> Result<bool, AllocError
 /// The network of a case.
 fn network_of(case: Case, alloc: Global) -> Result<Net, Fail> {
     match case {
-        Case::Edits | Case::Trials => closed(town(alloc)?),
+        Case::Edits | Case::Trials | Case::Over => closed(town(alloc)?),
         Case::Loop => closed(loop_of_three(alloc)?),
     }
 }
@@ -310,6 +343,12 @@ fn edits_of_each_kind_have_their_work(rt: HostRuntime) -> Result<(), Fail> {
 #[test]
 fn trials_are_taken_back_or_stay(rt: HostRuntime) -> Result<(), Fail> {
     assert!(rt; holds(Case::Trials, rt.alloc())?);
+    Ok(())
+}
+
+#[test]
+fn a_tracker_takes_over_another(rt: HostRuntime) -> Result<(), Fail> {
+    assert!(rt; holds(Case::Over, rt.alloc())?);
     Ok(())
 }
 

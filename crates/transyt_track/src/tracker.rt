@@ -210,6 +210,17 @@ impl Tracker {
         due
     }
 
+    /// Stands for the network of another tracker of the same shape. It works out no link and takes no memory.
+    pub fn take_over(&mut self, from: &Tracker)
+        requires shape { SameShape self.old.net from.now.net }
+        requires closed { self.old.mark ≡ None }
+        ensures net { self.new.net ≡ from.now.net }
+        ensures mark { self.new.mark ≡ None }
+    {
+        copy_rows(&from.net, &from.rows, &mut self.rows);
+        self.net.take_numbers(&from.net);
+    }
+
     /// Marks the network that it stands for. It takes no memory.
     pub fn begin(&mut self)
         requires { self.old.mark ≡ None }

@@ -1,0 +1,27 @@
+-- The rows are those of the other tracker.
+use Rattle.std.proofs.Common.{◌≡◌, false, refl, ap, sym, ◌∙◌}
+use Rattle.transyt_net.specs.Shape.{shape, SameShape}
+use Rattle.transyt_track.specs.Tracker.{TrackerValue}
+use Rattle.transyt_track.proofs.TrackLaws.{fits_shape, not_live_of, closed_tracks}
+use Rattle.transyt_track.proofs.tracker.Tracker.take_over.Goals as goal
+
+pub copy_rows-requires-clause-fits : goal.copy_rows-requires-clause-fits
+copy_rows-requires-clause-fits c =
+    let i = c.self.inside in
+    let same : SameShape i.net c.from.inside.net =
+    ap (λ (t : TrackerValue). shape t.net) c.self.view_is ∙ c.requires.shape
+    ∙ sym (ap (λ (t : TrackerValue). shape t.net) c.from.view_is) in
+    fits_shape i.net c.from.inside.net same i.rows c.self.invariant.evaluation.fits
+
+pub invariant_of-self : goal.invariant_of-self
+invariant_of-self c =
+    let i = c.self.inside in
+    let same : SameShape i.net c.from.inside.net =
+    ap (λ (t : TrackerValue). shape t.net) c.self.view_is ∙ c.requires.shape
+    ∙ sym (ap (λ (t : TrackerValue). shape t.net) c.from.view_is) in
+    let closed : i.saved.live ≡ false =
+    not_live_of i.saved.live i.marked (ap (λ (t : TrackerValue). t.mark) c.self.view_is ∙ c.requires.closed) in
+    rw c.take_numbers.ensures
+    (closed_tracks i.net i.marked i.rows i.saved i.places.items i.own_changed.items i.changed.items i.scratch
+    c.self.invariant c.from.inside.net i.marked same (sym same ∙ c.self.invariant.shape) c.copy_rows.new.rows
+    c.copy_rows.ensures i.saved closed (record { step_count = refl; sweeps = refl; link_count = refl }) refl)
