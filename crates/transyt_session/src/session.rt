@@ -247,6 +247,17 @@ impl Session {
         self.net.take_numbers(net);
         self.tracker.follow(net, steps);
     }
+
+    /// Stands for the network of another session of the same shape from now on, with the work as it was. It works out
+    /// nothing and takes no memory.
+    pub fn take_over(&mut self, from: &Session)
+        requires shape { SameShape self.old.net from.now.net }
+        requires closed { self.old.before ≡ None }
+        ensures { self.new ≡ standing_for from.now.net self.old }
+    {
+        self.net.take_numbers(&from.net);
+        self.tracker.take_over(&from.tracker);
+    }
 }
 
 /// Makes an edit where it is allowed, and gives its inverse.
