@@ -9,12 +9,13 @@ ghost use Rattle.transyt_session.specs.declared.answers.Tried.TheVariants.{Barre
 ghost use Rattle.transyt_desks.specs.Desks.{HasTried, IsTried, AreAlike, AreAligned, OthersClosed, sessions_of, session_at, desk_zero, tried_at};
 ghost use Rattle.transyt_desks.specs.declared.desk.Desk.{Desk};
 
+use crate::equal::same_net;
 use crate::gate::Gate;
 use std::marker::Brand;
 use std::sync::ledger::{Blank, Ledger};
 use std::thread::{self, Threads};
 use transyt_moves::move_at;
-use transyt_net::{Edit, Net};
+use transyt_net::Edit;
 use transyt_session::{Session, Tried};
 use transyt_steps::Steps;
 
@@ -90,17 +91,28 @@ pub(crate) fn try_all<R: Threads + Sync, G: Gate>(
     );
 }
 
-/// Lets every desk stand for a network.
-pub(crate) fn stand_all<L: Ledger>(desks: &mut [Desk], net: &Net, steps: &mut Steps<L>)
-    requires shape { All (λ d. SameShape d.session.net net.now) desks.old }
+/// Lets a desk stand for the network of a session, if it doesn't yet.
+fn follow(desk: &mut Desk, zero: &Session)
+    requires shape { SameShape desk.old.session.net zero.now.net }
+    requires closed { desk.old.session.before ≡ None }
+    ensures net { desk.new.session.net ≡ zero.now.net }
+    ensures closed { desk.new.session.before ≡ None }
+{
+    if !same_net(desk.session.net(), zero.net()) {
+        desk.session.take_over(zero);
+    }
+}
+
+/// Lets every desk stand for the network of a session.
+fn stand_all(desks: &mut [Desk], zero: &Session)
+    requires shape { All (λ d. SameShape d.session.net zero.now.net) desks.old }
     requires closed { All (λ d. d.session.before ≡ None) desks.old }
     ensures len { length desks.new ≡ length desks.old }
-    ensures net { All (λ d. d.session.net ≡ net.now) desks.new }
+    ensures net { All (λ d. d.session.net ≡ zero.now.net) desks.new }
     ensures closed { All (λ d. d.session.before ≡ None) desks.new }
-    ensures none { length desks.old ≡ 0 → steps.new ≡ steps.old }
 {
     for i in 0..desks.len() {
-        desks[i].session.stand_for(net, steps);
+        follow(&mut desks[i], zero);
     }
 }
 
@@ -142,7 +154,7 @@ pub(crate) fn answers_of(desks: &[Desk], room: usize) -> [Tried; 8]
 }
 
 /// Lets every other desk stand for the network of desk 0.
-pub(crate) fn follow_zero<L: Ledger>(desks: &mut [Desk], steps: &mut Steps<L>)
+pub(crate) fn follow_zero(desks: &mut [Desk])
     requires some { 0 < length desks.old }
     requires shape { AreAlike (sessions_of desks.old) }
     requires closed { OthersClosed (sessions_of desks.old) }
@@ -150,8 +162,7 @@ pub(crate) fn follow_zero<L: Ledger>(desks: &mut [Desk], steps: &mut Steps<L>)
     ensures aligned { AreAligned (sessions_of desks.new) }
     ensures zero { desk_zero (sessions_of desks.new) ≡ desk_zero (sessions_of desks.old) }
     ensures closed { OthersClosed (sessions_of desks.new) }
-    ensures alone { length desks.old ≡ 1 → steps.new ≡ steps.old }
 {
     let (zero, others) = desks.split_at_mut(1);
-    stand_all(others, zero[0].session.net(), steps);
+    stand_all(others, &zero[0].session);
 }

@@ -24,7 +24,7 @@ use transyt_steps::Steps;
 
 /// One to eight desks. Desk 0's session is the one that counts; the others follow it.
 ///
-/// `spare` is a network of the shape of the others, on which a move is made before they all take it over.
+/// `spare` is a network of the shape of the others, on which a move is made before desk 0 stands for it.
 #[derive(Drop)]
 pub struct Desks {
     desks: Vec<Desk>,
@@ -86,7 +86,7 @@ impl Desks {
         ensures workers { length self.new ≡ length self.old }
         ensures alone { length self.old ≡ 1 → steps.new ≡ steps.old }
     {
-        follow_zero(self.desks.as_mut_slice(), steps);
+        follow_zero(self.desks.as_mut_slice());
     }
 
     /// Whether every desk stands for the network of desk 0.
@@ -258,6 +258,6 @@ fn together<R: Threads + Sync, G: Gate, L: Ledger>(
     try_front(rt, gate, desks, room, climber.place(), climber.count());
     let answers = answers_of(desks, room);
     let round = settle_zero(climber, desks, spare, &answers[..room], steps);
-    follow_zero(desks, steps);
+    follow_zero(desks);
     round
 }

@@ -1,5 +1,5 @@
 -- The desks after the first stand for its network.
-use Rattle.std.proofs.Common.{◌≡◌, ℕ, ◌+◌, ◌<◌, ◌++◌, List, length, drop, slice_index_or, sym, ap, ◌∙◌, subst, arith}
+use Rattle.std.proofs.Common.{◌≡◌, ◌+◌, ◌<◌, ◌++◌, List, length, drop, slice_index_or, sym, ap, ◌∙◌, subst, arith}
 use Rattle.transyt_net.specs.Shape.{shape}
 use Rattle.transyt_session.specs.Session.{SessionValue}
 use Rattle.transyt_desks.specs.declared.desk.Desk.{Desk}
@@ -8,7 +8,7 @@ use Rattle.transyt_desks.proofs.DeskLaws.{session_read, sessions_count, first_ze
 use Rattle.transyt_desks.proofs.desk.follow_zero.Goals as goal
 
 pub stand_all-requires-clause-shape : goal.stand_all-requires-clause-shape
-stand_all-requires-clause-shape g c =
+stand_all-requires-clause-shape c =
     let S : List SessionValue = sessions_of c.args.desks.now in
     let z : Desk = c.index-zero-0.result in
     let front : List Desk = c.split_at_mut-zero.result.0.now in
@@ -16,8 +16,8 @@ stand_all-requires-clause-shape g c =
     let zero_read = session_read front 0 z (omega (arith, c.split_at_mut-zero.ensures.front_len)) in
     let zero_first : desk_zero (sessions_of front) ≡ desk_zero S =
     ap (λ (ds : List Desk). desk_zero (sessions_of ds)) c.split_at_mut-zero.ensures.front ∙ first_zero c.args.desks.now in
-    let zero_whole : z.session ≡ desk_zero S = ap (λ (d : Desk). d.session) c.index-zero-0.is ∙ zero_read ∙ zero_first in
-    let net_is : c.net.result.now ≡ (desk_zero S).net = cc in
+    let given : SessionValue = (slice_index_or front 0 z).session in
+    let net_is : given.net ≡ (desk_zero S).net = ap (λ (s : SessionValue). s.net) (zero_read ∙ zero_first) in
     λ k d less.
     (let inside : k + 1 < length S = omega (arith, less, sessions_count c.args.desks.now, c.split_at_mut-zero.ensures.back_len) in
     let there : k < length (drop 1 c.args.desks.now) =
@@ -28,7 +28,7 @@ stand_all-requires-clause-shape g c =
     ap (λ (s : SessionValue). shape s.net) other ∙ c.requires.shape.shape (k + 1) inside ∙ sym (ap shape net_is))
 
 pub stand_all-requires-clause-closed : goal.stand_all-requires-clause-closed
-stand_all-requires-clause-closed g c =
+stand_all-requires-clause-closed c =
     let S : List SessionValue = sessions_of c.args.desks.now in
     let back : List Desk = c.split_at_mut-zero.result.1.now in
     λ k d less.
@@ -41,7 +41,7 @@ stand_all-requires-clause-closed g c =
     ap (λ (s : SessionValue). s.before) other ∙ c.requires.closed.closed (k + 1) (omega arith) inside)
 
 pub returns-clause-aligned : goal.returns-clause-aligned
-returns-clause-aligned g c =
+returns-clause-aligned c =
     let S : List SessionValue = sessions_of c.args.desks.now in
     let z : Desk = c.index-zero-0.result in
     let front : List Desk = c.split_at_mut-zero.result.0.now in
@@ -49,12 +49,12 @@ returns-clause-aligned g c =
     let zero_read = session_read front 0 z (omega (arith, c.split_at_mut-zero.ensures.front_len)) in
     let zero_first : desk_zero (sessions_of front) ≡ desk_zero S =
     ap (λ (ds : List Desk). desk_zero (sessions_of ds)) c.split_at_mut-zero.ensures.front ∙ first_zero c.args.desks.now in
-    let zero_whole : z.session ≡ desk_zero S = ap (λ (d : Desk). d.session) c.index-zero-0.is ∙ zero_read ∙ zero_first in
-    let net_is : c.net.result.now ≡ (desk_zero S).net = cc in
+    let given : SessionValue = (slice_index_or front 0 z).session in
+    let net_is : given.net ≡ (desk_zero S).net = ap (λ (s : SessionValue). s.net) (zero_read ∙ zero_first) in
     subst (λ (ds : List Desk). AreAligned (sessions_of (ds ++ c.stand_all.new.desks))) (sym c.split_at_mut-zero.ensures.front)
-    (joined_aligned c.args.desks.now c.stand_all.new.desks c.net.result.now c.requires.some net_is c.stand_all.ensures.net)
+    (joined_aligned c.args.desks.now c.stand_all.new.desks given.net c.requires.some net_is c.stand_all.ensures.net)
 
 pub returns-clause-closed : goal.returns-clause-closed
-returns-clause-closed g c =
+returns-clause-closed c =
     subst (λ (ds : List Desk). OthersClosed (sessions_of (ds ++ c.stand_all.new.desks))) (sym c.split_at_mut-zero.ensures.front)
     (joined_closed c.args.desks.now c.stand_all.new.desks c.requires.some c.stand_all.ensures.closed)

@@ -5,10 +5,9 @@ use Rattle.transyt_desks.proofs.desk.stand_all.Given as goal
 
 -- and none has an open trial
 abbrev pub invariant-loop-i : goal.invariant-loop-i
-invariant-loop-i g l = record {
+invariant-loop-i l = record {
   len : length l.desks ≡ length l.fn.desks;
-  done : (k : ℕ) (d : Desk) → k < l.i → (slice_index_or l.desks k d).session.net ≡ l.net;
+  done : (k : ℕ) (d : Desk) → k < l.i → (slice_index_or l.desks k d).session.net ≡ l.zero.net;
   closed : (k : ℕ) (d : Desk) → k < length l.desks → (slice_index_or l.desks k d).session.before ≡ None;
   rest : (k : ℕ) (d : Desk) → l.i ≤ k → slice_index_or l.desks k d ≡ slice_index_or l.fn.desks k d;
-  none : length l.fn.desks ≡ 0 → l.steps ≡ l.fn.steps;
 }
