@@ -1,7 +1,6 @@
 //! Sessions call by call, on small networks whose answers were worked out apart.
 
 ghost use Rattle.std.specs.Prelude.{◌≡◌, ◌<◌, None};
-ghost use Rattle.transyt_net.specs.Shape.{SameShape};
 
 mod calls;
 mod short;
@@ -10,8 +9,8 @@ mod towns;
 use self::calls::Call::{Back, Index, Keep, Make, Trial, Try, Work};
 use self::calls::Said::{Barred, Closed, Done, Found, Open, Refused, Yes};
 use self::calls::{Call, Said, answer};
+use self::short::Short;
 use self::short::Short::{Change, Cruise, Entry, Offset, Part, Saturation, Weight};
-use self::short::{Short, edit_of};
 use self::towns::{one_link, two_junctions};
 use crate::Session;
 use std::alloc::{AllocError, Global};
@@ -20,7 +19,7 @@ use std::sync::ledger::{Blank, Ledger};
 use std::test::Fail;
 use std::thread::{Threads, join};
 use transyt_net::EditFault::{LeastGreen, NoFeeder, Range, StageOrder, Unknown};
-use transyt_net::{Edit, EditFault, Net};
+use transyt_net::{EditFault, Net};
 use transyt_steps::Steps;
 
 /// The place of the first call whose answer isn't the one beside it; none where each is.
@@ -177,63 +176,6 @@ const DUE: [(Call, Said); 9] = [
 fn work_is_what_is_due(rt: HostRuntime) -> Result<(), Fail> {
     let net = two_junctions(rt.alloc())?;
     assert_eq!(rt; wrong_on(rt.alloc(), net, &DUE)?, None);
-    Ok(())
-}
-
-/// What a session answers when it has taken over another that stands for an entry flow of 1800.
-const OVER: [(Call, Said); 7] = [
-    (Index, Said::Index(544612051)),
-    (Work, Said::Work(5)),
-    (Make(Entry(1, 1800)), Done(0)),
-    (Trial, Yes),
-    (Make(Entry(1, 360)), Done(1)),
-    (Index, Said::Index(1948618)),
-    (Work, Said::Work(6)),
-];
-
-/// Lets a session stand for its network with an edit.
-fn stand_with<L: Ledger>(
-    alloc: Global,
-    session: &mut Session,
-    edit: Edit,
-    steps: &mut Steps<L>,
-) -> Result<(), AllocError>
-    requires closed { session.old.before ≡ None }
-    ensures shape { SameShape session.old.net session.new.net }
-{
-    let mut net = session.net().copy(alloc)?;
-    let _ = net.apply(edit);
-    session.stand_for(&net, steps);
-    Ok(())
-}
-
-/// The first wrong answer of a twin with work of its own, which takes over the session after that stands for more flow.
-fn wrong_over<L: Ledger>(
-    alloc: Global,
-    net: Net,
-    rows: &[(Call, Said)],
-    blank: Blank,
-) -> Result<Option<usize>, AllocError>
-    requires name { blank.name ≡ L.name }
-    requires parts { blank.parts ≡ L.parts }
-    requires some { 0 < L.parts }
-{
-    let mut steps = Steps::<L>::begin(blank);
-    let mut session = Session::open(alloc, net, &mut steps)?;
-    let mut twin = session.twin(alloc)?;
-    twin.credit(5);
-    stand_with(alloc, &mut session, edit_of(Entry(1, 1800)), &mut steps)?;
-    twin.take_over(&session);
-    Ok(first_wrong(&mut twin, rows, &mut steps))
-}
-
-#[test]
-fn a_session_takes_over_another(rt: HostRuntime) -> Result<(), Fail> {
-    let net = one_link(rt.alloc())?;
-    assert_eq!(rt;
-        wrong_over::<Brand>(rt.alloc(), net, &OVER, Blank::new(1))?,
-        None
-    );
     Ok(())
 }
 
