@@ -1,5 +1,5 @@
 -- The mean of two numbers by a reciprocal.
-use Rattle.std.proofs.Common.{◌≡◌, ℕ, ◌+◌, ◌-◌, ◌*◌, ◌/◌, ◌^◌, ◌<◌, ◌≤◌, ap, ◌∙◌, arith}
+use Rattle.std.proofs.Common.{◌≡◌, ℕ, ◌+◌, ◌-◌, ◌*◌, ◌/◌, ◌^◌, ◌<◌, ◌≤◌, length, ap, ◌∙◌, arith}
 use Rattle.std.proofs.Math.Nat.{mul-le-mul_left, mul-le-mul_right, mul-lt-mul_of_pos_right}
 use Rattle.transyt_num.proofs.ReciprocalLaws.{by_reciprocal}
 use Rattle.transyt_platoon.specs.Platoon.{mixed}
@@ -46,3 +46,7 @@ all_ready n p is within = record {
   total = is.total;
   travel = is.travel;
 }
+
+-- a platoon of as many steps as another is one of its own
+pub platoon_itself : (n : ℕ) (p : Platoon) → IsPlatoon n p → IsPlatoon (length p.values.now) p
+platoon_itself n p is = rw is.values_len is

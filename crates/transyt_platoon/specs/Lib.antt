@@ -1,4 +1,6 @@
 pub mod Platoon
 pub mod Travels
+pub mod Going
 pub mod WorkedPlatoons
 pub mod WorkedReady
+pub mod WorkedGoing

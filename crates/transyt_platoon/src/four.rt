@@ -4,8 +4,8 @@ ghost use Rattle.std.specs.Prelude.{◌≡◌, ◌^◌, ◌<◌, ◌≤◌, leng
 ghost use Rattle.transyt_platoon.specs.Platoon.{dispersed};
 ghost use Rattle.transyt_platoon.specs.Travels.{IsPlatoon, IsReady};
 
-use crate::dispersion::{after, disperse};
-use crate::platoon::{Platoon, is_ready, mean_of, mix_ready};
+use crate::going::Going;
+use crate::platoon::{Platoon, disperse_one, is_ready};
 
 /// Disperses four platoons, each with its own travel, as `disperse` does each.
 ///
@@ -43,10 +43,10 @@ pub fn disperse_four(
     if is_ready(x) && is_ready(y) && is_ready(z) && is_ready(u) {
         go_round_four(x, y, z, u, x_out, y_out, z_out, u_out);
     } else {
-        disperse(x.values, x.travel.time, x.travel.percent, x_out);
-        disperse(y.values, y.travel.time, y.travel.percent, y_out);
-        disperse(z.values, z.travel.time, z.travel.percent, z_out);
-        disperse(u.values, u.travel.time, u.travel.percent, u_out);
+        disperse_one(x, x_out);
+        disperse_one(y, y_out);
+        disperse_one(z, z_out);
+        disperse_one(u, u_out);
     }
 }
 
@@ -63,9 +63,12 @@ fn go_round_four(
 )
     requires steps { 0 < length x.now.values.now }
     requires x_ready { IsReady (length x.now.values.now) x.now }
-    requires y_ready { IsReady (length x.now.values.now) y.now }
-    requires z_ready { IsReady (length x.now.values.now) z.now }
-    requires u_ready { IsReady (length x.now.values.now) u.now }
+    requires y_ready { IsReady (length y.now.values.now) y.now }
+    requires y_steps { length y.now.values.now ≡ length x.now.values.now }
+    requires z_ready { IsReady (length z.now.values.now) z.now }
+    requires z_steps { length z.now.values.now ≡ length x.now.values.now }
+    requires u_ready { IsReady (length u.now.values.now) u.now }
+    requires u_steps { length u.now.values.now ≡ length x.now.values.now }
     requires x_outs { length x_out.old ≡ length x.now.values.now }
     requires y_outs { length y_out.old ≡ length x.now.values.now }
     requires z_outs { length z_out.old ≡ length x.now.values.now }
@@ -79,33 +82,20 @@ fn go_round_four(
     ensures z_small { All (λ k. k < 2 ^ 44) z_out.new }
     ensures u_small { All (λ k. k < 2 ^ 44) u_out.new }
 {
-    let steps = x.values.len();
-    let mut one = mean_of(x);
-    let mut two = mean_of(y);
-    let mut three = mean_of(z);
-    let mut four = mean_of(u);
-    'first: for i in 0..steps {
-        one = mix_ready(x, i, one);
-        two = mix_ready(y, i, two);
-        three = mix_ready(z, i, three);
-        four = mix_ready(u, i, four);
+    let mut one = Going::begin(x);
+    let mut two = Going::begin(y);
+    let mut three = Going::begin(z);
+    let mut four = Going::begin(u);
+    'first: for i in 0..x.values.len() {
+        one.pass(x, i);
+        two.pass(y, i);
+        three.pass(z, i);
+        four.pass(u, i);
     }
-    let mut one_place = x.travel.place;
-    let mut two_place = y.travel.place;
-    let mut three_place = z.travel.place;
-    let mut four_place = u.travel.place;
-    'second: for i in 0..steps {
-        one = mix_ready(x, i, one);
-        two = mix_ready(y, i, two);
-        three = mix_ready(z, i, three);
-        four = mix_ready(u, i, four);
-        x_out[one_place] = one;
-        y_out[two_place] = two;
-        z_out[three_place] = three;
-        u_out[four_place] = four;
-        one_place = after(steps, one_place);
-        two_place = after(steps, two_place);
-        three_place = after(steps, three_place);
-        four_place = after(steps, four_place);
+    'second: for i in 0..x.values.len() {
+        one.write(x, i, x_out);
+        two.write(y, i, y_out);
+        three.write(z, i, z_out);
+        four.write(u, i, u_out);
     }
 }

@@ -1,8 +1,10 @@
 //! Laws about the definitions.
 
 ghost use Rattle.std.specs.Prelude.{◌≡◌, All, map};
+ghost use Rattle.transyt_platoon.specs.Going.{HasPassed, HasWritten};
 ghost use Rattle.transyt_platoon.specs.Platoon.{dispersed, mixed, travel_steps};
 ghost use Rattle.transyt_platoon.specs.Travels.{IsPlatoon, IsReady, IsTravel};
+ghost use Rattle.transyt_platoon.specs.WorkedGoing.{limited, passed, written, written_out, wrong_passed, wrong_written};
 ghost use Rattle.transyt_platoon.specs.WorkedPlatoons.{uneven, worked_mixes, worked_platoons, worked_travels};
 ghost use Rattle.transyt_platoon.specs.WorkedReady.{
   platoon,
@@ -31,4 +33,16 @@ pub fn worked_ready()
     ensures wrong_platoons { All (λ p. IsPlatoon 3 p → ⊥) wrong_platoons }
     ensures ready { IsReady 3 ready_platoon }
     ensures wrong_ready { All (λ p. IsReady 3 p → ⊥) wrong_ready }
+{}
+
+/// A worked platoon that is part of the way through each turn keeps to what is said of it, and such as has one wrong
+/// number doesn't.
+#[tactic(auto, unfolding(crate::specs::Platoon::smoothed))]
+pub fn worked_going()
+    ensures passed { HasPassed ready_platoon 2 passed }
+    ensures wrong_passed { All (λ g. HasPassed ready_platoon 2 g → ⊥) wrong_passed }
+    ensures limit_passed { HasPassed (limited 485562) 2 passed → ⊥ }
+    ensures written { HasWritten ready_platoon 2 written written_out }
+    ensures wrong_written { All (λ w. HasWritten ready_platoon 2 w.0 w.1 → ⊥) wrong_written }
+    ensures limit_written { HasWritten (limited 480954) 2 written written_out → ⊥ }
 {}

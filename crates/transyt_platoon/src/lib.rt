@@ -7,6 +7,7 @@
 
 mod dispersion;
 mod four;
+mod going;
 mod laws;
 mod platoon;
 mod quick;
@@ -15,7 +16,7 @@ mod travel;
 
 pub use dispersion::disperse;
 pub use four::disperse_four;
-pub use laws::{worked_platoons, worked_ready};
+pub use laws::{worked_going, worked_platoons, worked_ready};
 pub use platoon::Platoon;
 pub use three::disperse_three;
 pub use travel::{Travel, travel_of, travel_steps};

@@ -1,9 +1,10 @@
 //! A platoon on its way, of whose profile the products are ready.
 
-ghost use Rattle.std.specs.Prelude.{◌≡◌, ◌/◌, ◌<◌, length, slice_index, sum, IsTrue};
-ghost use Rattle.transyt_platoon.specs.Platoon.{mixed};
+ghost use Rattle.std.specs.Prelude.{◌≡◌, ◌/◌, ◌^◌, ◌<◌, ◌≤◌, length, slice_index, sum, All, IsTrue};
+ghost use Rattle.transyt_platoon.specs.Platoon.{dispersed, mixed};
 ghost use Rattle.transyt_platoon.specs.Travels.{IsPlatoon, IsReady};
 
+use crate::dispersion::disperse;
 use crate::travel::Travel;
 
 /// A platoon on its way, with what is worked out of its profile once. `IsPlatoon` says how its parts hang together.
@@ -21,6 +22,23 @@ pub struct Platoon<'a> {
     pub above: u64,
     /// How it travels.
     pub travel: &'a Travel,
+}
+
+/// Disperses one platoon, as `disperse` does.
+pub(crate) fn disperse_one(platoon: &Platoon<'_>, out: &mut [u64])
+    requires steps { 0 < length platoon.now.values.now }
+    requires most { length platoon.now.values.now ≤ 120 }
+    requires is { IsPlatoon (length platoon.now.values.now) platoon.now }
+    requires out_len { length out.old ≡ length platoon.now.values.now }
+    ensures value { out.new ≡ dispersed platoon.now.values.now platoon.now.travel.now.time platoon.now.travel.now.percent }
+    ensures small { All (λ k. k < 2 ^ 44) out.new }
+{
+    disperse(
+        platoon.values,
+        platoon.travel.time,
+        platoon.travel.percent,
+        out,
+    );
 }
 
 /// Whether all of a platoon leaves room for the products of its travel.

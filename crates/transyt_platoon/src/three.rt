@@ -4,8 +4,8 @@ ghost use Rattle.std.specs.Prelude.{◌≡◌, ◌^◌, ◌<◌, ◌≤◌, leng
 ghost use Rattle.transyt_platoon.specs.Platoon.{dispersed};
 ghost use Rattle.transyt_platoon.specs.Travels.{IsPlatoon, IsReady};
 
-use crate::dispersion::{after, disperse};
-use crate::platoon::{Platoon, is_ready, mean_of, mix_ready};
+use crate::going::Going;
+use crate::platoon::{Platoon, disperse_one, is_ready};
 
 /// Disperses three platoons, each with its own travel, as `disperse` does each.
 ///
@@ -37,9 +37,9 @@ pub fn disperse_three(
     if is_ready(x) && is_ready(y) && is_ready(z) {
         go_round_three(x, y, z, x_out, y_out, z_out);
     } else {
-        disperse(x.values, x.travel.time, x.travel.percent, x_out);
-        disperse(y.values, y.travel.time, y.travel.percent, y_out);
-        disperse(z.values, z.travel.time, z.travel.percent, z_out);
+        disperse_one(x, x_out);
+        disperse_one(y, y_out);
+        disperse_one(z, z_out);
     }
 }
 
@@ -54,8 +54,10 @@ fn go_round_three(
 )
     requires steps { 0 < length x.now.values.now }
     requires x_ready { IsReady (length x.now.values.now) x.now }
-    requires y_ready { IsReady (length x.now.values.now) y.now }
-    requires z_ready { IsReady (length x.now.values.now) z.now }
+    requires y_ready { IsReady (length y.now.values.now) y.now }
+    requires y_steps { length y.now.values.now ≡ length x.now.values.now }
+    requires z_ready { IsReady (length z.now.values.now) z.now }
+    requires z_steps { length z.now.values.now ≡ length x.now.values.now }
     requires x_outs { length x_out.old ≡ length x.now.values.now }
     requires y_outs { length y_out.old ≡ length x.now.values.now }
     requires z_outs { length z_out.old ≡ length x.now.values.now }
@@ -66,27 +68,17 @@ fn go_round_three(
     ensures y_small { All (λ k. k < 2 ^ 44) y_out.new }
     ensures z_small { All (λ k. k < 2 ^ 44) z_out.new }
 {
-    let steps = x.values.len();
-    let mut one = mean_of(x);
-    let mut two = mean_of(y);
-    let mut three = mean_of(z);
-    'first: for i in 0..steps {
-        one = mix_ready(x, i, one);
-        two = mix_ready(y, i, two);
-        three = mix_ready(z, i, three);
+    let mut one = Going::begin(x);
+    let mut two = Going::begin(y);
+    let mut three = Going::begin(z);
+    'first: for i in 0..x.values.len() {
+        one.pass(x, i);
+        two.pass(y, i);
+        three.pass(z, i);
     }
-    let mut one_place = x.travel.place;
-    let mut two_place = y.travel.place;
-    let mut three_place = z.travel.place;
-    'second: for i in 0..steps {
-        one = mix_ready(x, i, one);
-        two = mix_ready(y, i, two);
-        three = mix_ready(z, i, three);
-        x_out[one_place] = one;
-        y_out[two_place] = two;
-        z_out[three_place] = three;
-        one_place = after(steps, one_place);
-        two_place = after(steps, two_place);
-        three_place = after(steps, three_place);
+    'second: for i in 0..x.values.len() {
+        one.write(x, i, x_out);
+        two.write(y, i, y_out);
+        three.write(z, i, z_out);
     }
 }

@@ -1,32 +1,19 @@
 -- Three platoons go by twice, step by step.
-use Rattle.std.proofs.Common.{◌≡◌, ◌+◌, ◌%◌, ◌<◌}
-use Rattle.transyt_platoon.proofs.Turns.{gone_by, IsPlaced}
+use Rattle.transyt_platoon.specs.Going.{HasPassed, HasWritten}
 use Rattle.transyt_platoon.proofs.three.go_round_three.Given as goal
 
--- the values after i steps of the first turn
+-- the first turn
 abbrev pub invariant-first : goal.invariant-first
 invariant-first l = record {
-  one_small : l.one < l.x.travel.now.limit;
-  one : l.one ≡ gone_by l.x l.i;
-  two_small : l.two < l.y.travel.now.limit;
-  two : l.two ≡ gone_by l.y l.i;
-  three_small : l.three < l.z.travel.now.limit;
-  three : l.three ≡ gone_by l.z l.i;
+  one : HasPassed l.x l.i l.one;
+  two : HasPassed l.y l.i l.two;
+  three : HasPassed l.z l.i l.three;
 }
 
--- the values after i steps of the second turn, and where they will stand; those before stand in their places
+-- the second turn
 abbrev pub invariant-second : goal.invariant-second
 invariant-second l = record {
-  one_small : l.one < l.x.travel.now.limit;
-  one : l.one ≡ gone_by l.x (l.steps + l.i);
-  one_place : l.one_place ≡ (l.i + l.x.travel.now.time) % l.steps;
-  one_placed : IsPlaced l.x l.x_out l.i;
-  two_small : l.two < l.y.travel.now.limit;
-  two : l.two ≡ gone_by l.y (l.steps + l.i);
-  two_place : l.two_place ≡ (l.i + l.y.travel.now.time) % l.steps;
-  two_placed : IsPlaced l.y l.y_out l.i;
-  three_small : l.three < l.z.travel.now.limit;
-  three : l.three ≡ gone_by l.z (l.steps + l.i);
-  three_place : l.three_place ≡ (l.i + l.z.travel.now.time) % l.steps;
-  three_placed : IsPlaced l.z l.z_out l.i;
+  one : HasWritten l.x l.i l.one l.x_out;
+  two : HasWritten l.y l.i l.two l.y_out;
+  three : HasWritten l.z l.i l.three l.z_out;
 }

@@ -1,0 +1,12 @@
+-- One step more of the first turn.
+use Rattle.transyt_platoon.proofs.Turns.{first_gone}
+use Rattle.transyt_platoon.proofs.going.Going.pass.Goals as goal
+
+-- the place stays where it was
+pub returns : goal.returns
+returns c = record {
+  value = first_gone c.args.platoon.now c.args.step c.args.self.now.value _ c.requires.ready c.requires.step
+      c.requires.passed.value c.mix_ready-self.ensures.value;
+  small = c.mix_ready-self.ensures.small;
+  place = c.requires.passed.place;
+}
