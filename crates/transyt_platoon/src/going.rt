@@ -1,8 +1,7 @@
 //! A platoon as it goes by, step by step.
 
-ghost use Rattle.std.specs.Prelude.{◌≡◌, ◌+◌, ◌^◌, ◌<◌, length, All};
+ghost use Rattle.std.specs.Prelude.{◌≡◌, ◌+◌, ◌<◌, length};
 ghost use Rattle.transyt_platoon.specs.Going.{HasPassed, HasWritten};
-ghost use Rattle.transyt_platoon.specs.Platoon.{dispersed};
 ghost use Rattle.transyt_platoon.specs.Travels.{IsReady};
 
 use crate::dispersion::after;

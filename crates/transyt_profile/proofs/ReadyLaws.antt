@@ -1,5 +1,5 @@
 -- What is made ready beside a profile, one step more.
-use Rattle.std.proofs.Common.{◌≡◌, ◌≢◌, ℕ, ◌+◌, ◌*◌, ◌^◌, ◌<◌, List, length, get_or, set, arith}
+use Rattle.std.proofs.Common.{◌≡◌, ◌≢◌, ℕ, ◌+◌, ◌*◌, ◌^◌, ◌<◌, List, length, get_or, set, refl, arith}
 use Rattle.std.proofs.Common.{get_or-set_same, get_or-set_other, below_more}
 
 -- the first n steps that are below 2^22 are ready: each times f
@@ -15,3 +15,14 @@ ready_more out ready f n v r inside within before here =
     let apart : k ≢ n = λ same. omega arith in
     rw (get_or-set_other, get_or-set_other) (before k low))
     (rw (get_or-set_same, get_or-set_same) here)
+
+-- where all are ready, one step more
+pub all_more : (out ready : List ℕ) (f n v : ℕ) → n < length out → n < length ready
+    → ((k : ℕ) → k < n → get_or ready k 0 ≡ get_or out k 0 * f)
+    → (k : ℕ) → k < n + 1 → get_or (set ready n (v * f)) k 0 ≡ get_or (set out n v) k 0 * f
+all_more out ready f n v inside within before =
+    below_more _ _
+    (λ k low.
+    let apart : k ≢ n = λ same. omega arith in
+    rw (get_or-set_other, get_or-set_other) (before k low))
+    (rw (get_or-set_same, get_or-set_same) refl)

@@ -48,3 +48,40 @@ pub returns-clause-z_small : goal.returns-clause-z_small
 returns-clause-z_small c =
     all_small c.args.z.now c.second.i c.second.three c.second.z_out c.requires.z_ready (omega arith) (omega arith)
     c.second.invariant.three
+
+-- each platoon goes by as the turn finds it
+pub pass-requires-clause-ready : goal.pass-requires-clause-ready
+pass-requires-clause-ready c = c.requires.x_ready
+
+pub pass-requires-clause-passed : goal.pass-requires-clause-passed
+pass-requires-clause-passed c = c.first.invariant.one
+
+pub write-requires-clause-ready : goal.write-requires-clause-ready
+write-requires-clause-ready c = c.requires.x_ready
+
+pub write-requires-clause-written : goal.write-requires-clause-written
+write-requires-clause-written c = c.second.invariant.one
+
+pub pass-requires-in-first-clause-ready : goal.pass-requires-in-first-clause-ready
+pass-requires-in-first-clause-ready c = c.requires.y_ready
+
+pub pass-requires-in-first-clause-passed : goal.pass-requires-in-first-clause-passed
+pass-requires-in-first-clause-passed c = c.first.invariant.two
+
+pub write-requires-in-second-clause-ready : goal.write-requires-in-second-clause-ready
+write-requires-in-second-clause-ready c = c.requires.y_ready
+
+pub write-requires-in-second-clause-written : goal.write-requires-in-second-clause-written
+write-requires-in-second-clause-written c = c.second.invariant.two
+
+pub pass-requires-in-first-2-clause-ready : goal.pass-requires-in-first-2-clause-ready
+pass-requires-in-first-2-clause-ready c = c.requires.z_ready
+
+pub pass-requires-in-first-2-clause-passed : goal.pass-requires-in-first-2-clause-passed
+pass-requires-in-first-2-clause-passed c = c.first.invariant.three
+
+pub write-requires-in-second-2-clause-ready : goal.write-requires-in-second-2-clause-ready
+write-requires-in-second-2-clause-ready c = c.requires.z_ready
+
+pub write-requires-in-second-2-clause-written : goal.write-requires-in-second-2-clause-written
+write-requires-in-second-2-clause-written c = c.second.invariant.three
