@@ -1,3 +1,4 @@
 pub mod Profile
 pub mod Parts
 pub mod WorkedProfiles
+pub mod WorkedParts

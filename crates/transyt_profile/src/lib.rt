@@ -21,7 +21,7 @@ mod totals;
 pub use adding::{add_four_into, add_into, add_three_into};
 pub use comparing::same;
 pub use filling::fill_uniform;
-pub use laws::worked_profiles;
+pub use laws::{worked_parts, worked_profiles};
 pub use readying::{Extent, share_ready};
 pub use sharing::{Part, part_of, share_into, share_part};
 pub use totals::total;
