@@ -1,0 +1,5 @@
+pub mod Each
+pub mod WorkedPulls
+pub mod WorkedReading
+pub mod WorkedShortest
+pub mod WorkedStreams
