@@ -1,4 +1,5 @@
 //! Laws about what calls of sources and sinks do, and about whole inputs and lines.
+
 ghost use Rattle.std.specs.Prelude.{
   ◌≡◌,
   ℕ,

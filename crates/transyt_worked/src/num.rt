@@ -1,4 +1,5 @@
 //! Laws about the texts of numbers.
+
 ghost use Rattle.std.specs.Prelude.{All};
 ghost use Rattle.transyt_num.specs.Number.{IsShortest};
 ghost use Rattle.transyt_worked.specs.WorkedShortest.{other_texts, shortest_texts};
