@@ -17,6 +17,7 @@ pub mod SavedLaws
 pub mod CarryLaws
 pub mod BackLaws
 pub mod ReturnLaws
+pub mod CopiedLaws
 pub mod TrackLaws
 pub mod RuleLaws
 pub mod CompareLaws

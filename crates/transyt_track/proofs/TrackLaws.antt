@@ -1,5 +1,5 @@
 -- What a tracker keeps to stays.
-use Rattle.std.proofs.Common.{◌≡◌, ℕ, ◌+◌, ◌*◌, ◌<◌, ◌≤◌, Bool, true, false, List, length, replicate, get_or, None}
+use Rattle.std.proofs.Common.{◌≡◌, ℕ, ◌+◌, ◌*◌, ◌<◌, ◌≤◌, Bool, true, false, List, length, replicate, get_or, Some, None}
 use Rattle.std.proofs.Common.{IsSome, refl, ap, sym, subst, ◌∙◌, arith}
 use Rattle.std.proofs.Common.{◌⊎◌, inl, inr, if◌then◌else◌}
 use Rattle.std.proofs.lemmas.Bool.{cases_lt}
@@ -31,6 +31,11 @@ fits_shape a b same rows fits = record {
 pub live_of : (live : Bool) (marked : Network) → IsSome (mark_of live marked) → live ≡ true
 live_of true marked some = refl
 live_of false marked none = absurd (cc)
+
+-- and which network is marked
+pub marked_of : (live : Bool) (marked net : Network) → mark_of live marked ≡ Some net → (live ≡ true) × (marked ≡ net)
+marked_of true marked net e = (refl, cc)
+marked_of false marked net e = absurd (cc)
 
 -- and no mark too
 pub not_live_of : (live : Bool) (marked : Network) → mark_of live marked ≡ None → live ≡ false

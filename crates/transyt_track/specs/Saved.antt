@@ -87,10 +87,14 @@ begun saved = record saved { live = true; flags = replicate (length saved.flags)
 abbrev pub settled : SavedValue → SavedValue
 settled saved = record saved { live = false }
 
+-- the rows with that of other rows as that of a link at a sweep, if it is saved
+abbrev pub changed_at : SavedValue → ℕ → ℕ → RowsValue → RowsValue → RowsValue
+changed_at saved sweep link from rows =
+    if is_saved saved sweep link then placed rows sweep link (pair_in from sweep link) else rows
+
 -- the rows with the saved row of a link at a sweep, if there is one
 abbrev pub restored_at : SavedValue → ℕ → ℕ → RowsValue → RowsValue
-restored_at saved sweep link rows =
-    if is_saved saved sweep link then placed rows sweep link (pair_in saved.rows sweep link) else rows
+restored_at saved sweep link rows = changed_at saved sweep link saved.rows rows
 
 -- the saved rows with the row of a link at a sweep, if one is saved
 abbrev pub returned_at : SavedValue → ℕ → ℕ → RowsValue → SavedValue

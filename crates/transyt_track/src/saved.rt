@@ -6,9 +6,9 @@ ghost use Rattle.transyt_sweep.specs.Rows.{Fits, AreRows, out_at, shown_at, pair
 ghost use Rattle.transyt_sweep.specs.Front.{AreEvaluation};
 ghost use Rattle.transyt_track.specs.Front.{AreBetween, AreWeighed};
 ghost use Rattle.transyt_track.specs.Own.{HaveWeights};
-ghost use Rattle.transyt_track.specs.Saved.{is_saved, saved_at, kept_at, restored_at, returned_at, old_out, old_shown};
+ghost use Rattle.transyt_track.specs.Saved.{is_saved, saved_at, kept_at, restored_at, returned_at, changed_at, old_out, old_shown};
 ghost use Rattle.transyt_track.specs.Saved.{begun, settled, SaveAlike};
-ghost use Rattle.transyt_track.specs.Saved.{FitsRows, AreSaved, AreUnsaved};
+ghost use Rattle.transyt_track.specs.Saved.{FitsRows, AreSaved, AreUnsaved, LeadBack};
 
 use crate::own::same_weights;
 use std::alloc::{AllocError, Global};
@@ -181,6 +181,43 @@ pub(crate) fn copy_rows(net: &Net, from: &Rows, rows: &mut Rows)
         for link in 0..net.links().len() {
             copy_pair(net, sweep, link, from, rows);
         }
+    }
+}
+
+/// The rows of an evaluation of the marked network become those of an evaluation of the network after it, but for the
+/// weights: what was saved since the mark tells which pairs changed, and no other is copied.
+pub(crate) fn copy_saved(marked: &Net, net: &Net, from: &Rows, saved: &Saved, rows: &mut Rows)
+    requires shape { SameShape net.now marked.now }
+    requires from { AreEvaluation net.now from.now }
+    requires fits { FitsRows from.now saved.now }
+    requires live { saved.now.live ≡ true }
+    requires back { LeadBack marked.now from.now saved.now }
+    requires rows { AreEvaluation marked.now rows.old }
+    ensures weighed { AreWeighed net.now 0 rows.new }
+    ensures unsaved { AreUnsaved marked.now saved.now 0 rows.new }
+{
+    for sweep in 0..net.frame().sweeps + 1 {
+        for link in 0..net.links().len() {
+            copy_changed(net, sweep, link, from, saved, rows);
+        }
+    }
+}
+
+/// A link at a sweep becomes that of other rows, if it is saved.
+fn copy_changed(net: &Net, sweep: u32, link: usize, from: &Rows, saved: &Saved, rows: &mut Rows)
+    requires fits { Fits net.now rows.old }
+    requires fits_from { Fits net.now from.now }
+    requires fits_saved { FitsRows from.now saved.now }
+    requires sweep { sweep ≤ net.now.frame.sweeps }
+    requires link { link < length net.now.links }
+    ensures value { rows.new ≡ changed_at saved.now sweep link from.now rows.old }
+    ensures rows { AreRows rows.old }
+    ensures from { AreRows from.now }
+{
+    rows.index();
+    from.index();
+    if saved.is_saved(sweep, link) {
+        copy_pair(net, sweep, link, from, rows);
     }
 }
 

@@ -188,6 +188,24 @@ fn taken_over<L: Ledger>(
     Ok(ahead && index == 215925072 && follow_taken_back(net, &mut twin, steps))
 }
 
+/// Whether a twin takes what four edits of the town under a mark change, weights among them.
+fn changes_taken<L: Ledger>(
+    alloc: Global,
+    net: &mut Net,
+    tracker: &mut Tracker,
+    steps: &mut Steps<L>,
+) -> Result<bool, AllocError>
+    requires net { tracker.old.net ≡ net.old }
+    requires mark { tracker.old.mark ≡ None }
+{
+    let mut twin = tracker.twin(alloc)?;
+    tracker.begin();
+    let right = follow_taken_back(net, tracker, steps);
+    twin.take_changes(tracker);
+    tracker.restore();
+    Ok(right && twin.index() == 172358733 && tracker.index() == 215925072)
+}
+
 /// What leaves a link at a sweep, in the first step; none where there is no such link or sweep.
 fn leaving(net: &Net, tracker: &Tracker, sweep: u32, link: usize) -> Option<u64>
     requires { tracker.now.net ≡ net.now }
@@ -271,6 +289,8 @@ enum Case {
     Trials,
     /// A tracker of the town that takes over another.
     Over,
+    /// A tracker of the town that takes the changes of another.
+    Changes,
     /// An edit of the loop.
     Loop,
 }
@@ -292,6 +312,7 @@ fn is_right<L: Ledger>(
         Case::Edits => Ok(follow_town(net, tracker, steps)),
         Case::Trials => Ok(trials(base, net, tracker, steps)),
         Case::Over => taken_over(alloc, base, net, tracker, steps),
+        Case::Changes => changes_taken(alloc, net, tracker, steps),
         Case::Loop => edit_beside(alloc, base, net, tracker, steps),
     }
 }
@@ -323,7 +344,7 @@ fn is_right_on(case: Case, alloc: Global, base: &Net) -> Result<bool, AllocError
 /// The network of a case.
 fn network_of(case: Case, alloc: Global) -> Result<Net, Fail> {
     match case {
-        Case::Edits | Case::Trials | Case::Over => closed(town(alloc)?),
+        Case::Edits | Case::Trials | Case::Over | Case::Changes => closed(town(alloc)?),
         Case::Loop => closed(loop_of_three(alloc)?),
     }
 }
@@ -349,6 +370,12 @@ fn trials_are_taken_back_or_stay(rt: HostRuntime) -> Result<(), Fail> {
 #[test]
 fn a_tracker_takes_over_another(rt: HostRuntime) -> Result<(), Fail> {
     assert!(rt; holds(Case::Over, rt.alloc())?);
+    Ok(())
+}
+
+#[test]
+fn a_tracker_takes_the_changes_of_another(rt: HostRuntime) -> Result<(), Fail> {
+    assert!(rt; holds(Case::Changes, rt.alloc())?);
     Ok(())
 }
 

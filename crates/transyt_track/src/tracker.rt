@@ -10,7 +10,7 @@ ghost use Rattle.transyt_track.specs.Tracker.{tracker_of, unmarked, IsTracking};
 
 use crate::front::follow_rows;
 use crate::own::{Places, all_places};
-use crate::saved::{Saved, copy_rows, restore_rows, weigh_all};
+use crate::saved::{Saved, copy_rows, copy_saved, restore_rows, weigh_all};
 use std::alloc::{AllocError, Global};
 use std::marker::Model;
 use std::mem;
@@ -218,6 +218,25 @@ impl Tracker {
         ensures mark { self.new.mark ≡ None }
     {
         copy_rows(&from.net, &from.rows, &mut self.rows);
+        self.net.take_numbers(&from.net);
+    }
+
+    /// Stands for the network of another tracker, whose mark is the network that this one stands for. Only what changed
+    /// since that mark is copied; it works out no link and takes no memory.
+    pub fn take_changes(&mut self, from: &Tracker)
+        requires marked { from.now.mark ≡ Some self.old.net }
+        requires closed { self.old.mark ≡ None }
+        ensures net { self.new.net ≡ from.now.net }
+        ensures mark { self.new.mark ≡ None }
+    {
+        copy_saved(
+            &self.net,
+            &from.net,
+            &from.rows,
+            &from.saved,
+            &mut self.rows,
+        );
+        weigh_all(&self.net, &from.net, &mut self.rows, &from.saved);
         self.net.take_numbers(&from.net);
     }
 
