@@ -1,12 +1,10 @@
 -- The number of moves, which no edit changes.
-use Rattle.std.proofs.Common.{◌≡◌, ℕ, ◌+◌, ◌*◌, List, [], ◌∷◌, length, map, ap, refl, sym, ◌∙◌, arith, length-append}
+use Rattle.std.proofs.Common.{◌≡◌, ℕ, ◌+◌, ◌*◌, List, [], ◌∷◌, length, map, ap, refl, sym, ◌∙◌, length-append}
 use Rattle.std.specs.List.{flat_map}
 use Rattle.std.proofs.lemmas.List.{length-map}
 use Rattle.transyt_parts.specs.Parts.{NodeValue}
 use Rattle.transyt_parts.specs.Shape.{bare_node, bare_stage}
-use Rattle.transyt_net.specs.declared.edit.Edit.{Edit}
 use Rattle.transyt_net.specs.Parts.{Network}
-use Rattle.transyt_net.specs.Edits.{with_edit}
 use Rattle.transyt_net.specs.Shape.{shape, SameShape}
 use Rattle.transyt_net.proofs.KeptLaws.{shape_kept}
 use Rattle.transyt_moves.specs.Moves.{node_moves, size_moves, sizes_of, move, move_count}

@@ -1,5 +1,5 @@
 -- The turns of a climber are the climb.
-use Rattle.std.proofs.Common.{◌≡◌, ℕ, zero, suc, ◌+◌, ◌-◌, ◌%◌, ◌<◌, ◌≤◌, Bool, true, false, [], ◌∷◌, length, refl, ap, sym, ◌∙◌, subst, arith}
+use Rattle.std.proofs.Common.{◌≡◌, ℕ, zero, suc, ◌+◌, ◌-◌, ◌%◌, ◌<◌, Bool, true, false, [], ◌∷◌, length, refl, ap, sym, ◌∙◌, subst, arith}
 use Rattle.std.proofs.Common.{if◌then◌else◌, ◌==◌}
 use Rattle.std.proofs.Math.Nat.{mod-eq_of_lt, mod-lt}
 use Rattle.std.proofs.lemmas.Bool.Decides.{nat_tests}
@@ -13,7 +13,7 @@ use Rattle.transyt_track.specs.Work.{work_of}
 use Rattle.transyt_climb.specs.declared.turn.Turn.{Turn}
 use Rattle.transyt_climb.specs.declared.turn.Turn.TheVariants.{Took, Passed, Local, Budget}
 use Rattle.transyt_climb.specs.Turns.{Machine, started, look_answer, answer_of, after_look, after_answer, turned, turns, answers, step_then, steps_in, is_end, is_local}
-use Rattle.transyt_climb.specs.Way.{IsReady, AreClimb, onward, climb_left}
+use Rattle.transyt_climb.specs.Way.{IsReady, AreClimb, onward}
 use Rattle.transyt_climb.proofs.CountLaws.{count_moved}
 use Rattle.transyt_climb.proofs.LookLaws.{count_looked}
 use Rattle.transyt_climb.proofs.OnwardLaws.{looked, onward_local, onward_budget, onward_passes, onward_takes}

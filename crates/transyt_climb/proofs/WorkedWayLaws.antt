@@ -1,26 +1,25 @@
 -- The worked rounds and climbs on their way, computed from the definitions.
-use Rattle.std.proofs.Common.{◌≡◌, ℕ, zero, suc, ◌+◌, ◌-◌, ◌%◌, ◌<◌, Bool, true, false, List, [], ◌∷◌, All, length, refl, ap, sym, ◌∙◌}
+use Rattle.std.proofs.Common.{◌≡◌, ℕ, zero, suc, ◌+◌, ◌-◌, ◌%◌, ◌<◌, Bool, true, false, [], ◌∷◌, All, length, refl, ap, sym, ◌∙◌}
 use Rattle.std.proofs.Common.{Option, Some, None, nat_lt, if◌then◌else◌, arith, lit<, lit≤}
 use Rattle.std.proofs.lemmas.Bool.Decides.{nat_tests}
 use Rattle.std.specs.Option.{option_map}
 use Rattle.transyt_platoon.specs.Platoon.{smoothed}
 use Rattle.transyt_stopline.specs.LastSteps.{sum_back, greatest}
-use Rattle.transyt_net.specs.declared.edit.Edit.TheVariants.{Offset}
 use Rattle.transyt_moves.specs.Moves.{move, move_count}
 use Rattle.transyt_stage.specs.ThreeJunctions.{three_junctions}
-use Rattle.transyt_sweep.specs.Sweeps.{seen, out_of, index}
+use Rattle.transyt_sweep.specs.Sweeps.{seen, out_of}
 use Rattle.transyt_sweep.specs.Climb.{Climb, tried_at, lowers, moved, climb, climb_within, after_search, ended, first, least}
 use Rattle.transyt_sweep.specs.Climb.{stepped as climb_stepped}
 use Rattle.transyt_sweep.proofs.WorkedMove.{lowers_first}
 use Rattle.transyt_track.specs.Due.{differs, due_in, due_through, due}
 use Rattle.transyt_track.specs.Work.{work_of}
 use Rattle.transyt_climb.specs.declared.turn.Turn.{Turn}
-use Rattle.transyt_climb.specs.declared.turn.Turn.TheVariants.{Took, Passed, Local, Budget}
-use Rattle.transyt_climb.specs.Turns.{Machine, machine, noted, answer_of, after_answer, turned, turns, is_local, steps_in}
+use Rattle.transyt_climb.specs.declared.turn.Turn.TheVariants.{Passed}
+use Rattle.transyt_climb.specs.Turns.{Machine, machine, answer_of, after_answer, turned, turns, is_local, steps_in}
 use Rattle.transyt_climb.specs.Way.{AreClimb, IsLocal, IsReady, IsRound, IsUnderWay, IsOver, climb_left, climbed, after_climb}
-use Rattle.transyt_climb.specs.WorkedTurns.{idle, idle_session, way, gone_round, three_session, before_step, after_step}
+use Rattle.transyt_climb.specs.WorkedTurns.{idle, idle_session, way, gone_round, three_session}
 use Rattle.transyt_climb.specs.WorkedTurns.{stepped_session}
-use Rattle.transyt_climb.specs.WorkedWay.{ready, rounds, step_rounds, four_looked, gone, two_left, none_left, look}
+use Rattle.transyt_climb.specs.WorkedWay.{ready, rounds, step_rounds, four_looked, two_left, none_left}
 use Rattle.transyt_climb.specs.WorkedWay.{three_moved, three_earlier, earlier_step, first_step, left_of_three, whole_of_three}
 use Rattle.transyt_climb.specs.WorkedWay.{on_its_way, at_its_end}
 use Rattle.transyt_climb.proofs.WorkedLaws.{index_after, work_of_first, look_first, session_of, session_first, took, stepped}

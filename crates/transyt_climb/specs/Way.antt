@@ -1,5 +1,5 @@
 -- A climb on its way: what is done, what is left, and what all of it is.
-use Rattle.std.specs.Prelude.{ℕ, ◌≡◌, ◌+◌, ◌-◌, ◌%◌, ◌<◌, ◌≤◌, Bool, true, false, List, ◌++◌, length, None}
+use Rattle.std.specs.Prelude.{ℕ, ◌≡◌, ◌+◌, ◌-◌, ◌%◌, ◌<◌, ◌≤◌, Bool, false, List, ◌++◌, length, None}
 use Rattle.transyt_net.specs.Parts.{Network}
 use Rattle.transyt_moves.specs.Moves.{move_count}
 use Rattle.transyt_sweep.specs.Climb.{Climb, Step, after_search, least, lowers, climb}

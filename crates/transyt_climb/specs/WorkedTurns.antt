@@ -5,7 +5,7 @@ use Rattle.transyt_net.specs.declared.edit.Edit.TheVariants.{Offset}
 use Rattle.transyt_net.specs.Edits.{with_edit}
 use Rattle.transyt_net.specs.Parts.{Network}
 use Rattle.transyt_stage.specs.ThreeJunctions.{three_junctions}
-use Rattle.transyt_sweep.specs.Climb.{Climb, Look}
+use Rattle.transyt_sweep.specs.Climb.{Climb}
 use Rattle.transyt_track.specs.WorkedWork.{junctions}
 use Rattle.transyt_session.specs.Session.{SessionValue}
 use Rattle.transyt_climb.specs.Turns.{Counters, Machine, machine}

@@ -5,7 +5,6 @@ use Rattle.transyt_net.specs.Edits.{with_edit}
 use Rattle.transyt_net.specs.Parts.{Network}
 use Rattle.transyt_stage.specs.ThreeJunctions.{three_junctions}
 use Rattle.transyt_sweep.specs.Climb.{Climb, Look, Step}
-use Rattle.transyt_session.specs.Session.{SessionValue}
 use Rattle.transyt_climb.specs.declared.turn.Turn.{Turn}
 use Rattle.transyt_climb.specs.declared.turn.Turn.TheVariants.{Took, Passed, Local, Budget}
 use Rattle.transyt_climb.specs.Turns.{Counters, Machine, machine}

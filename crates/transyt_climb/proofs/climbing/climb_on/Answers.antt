@@ -1,6 +1,6 @@
 -- One turn more of a climb under way, or its last.
-use Rattle.std.proofs.Common.{◌≡◌, ◌++◌, ◌+◌, ◌*◌, ◌≤◌, List, [], true, false, refl, sym, ◌∙◌, subst, ap, arith}
-use Rattle.transyt_sweep.specs.Climb.{Climb, Step, climb}
+use Rattle.std.proofs.Common.{◌≡◌, ◌++◌, [], false, refl, sym, ◌∙◌, subst, ap, arith}
+use Rattle.transyt_sweep.specs.Climb.{Climb, climb}
 use Rattle.transyt_climb.specs.Turns.{Counters, Machine, machine, is_end, is_local, step_then, started}
 use Rattle.transyt_climb.specs.Way.{IsUnderWay, IsOver, IsRound}
 use Rattle.transyt_climb.proofs.WayLaws.{way_start, way_round, way_over, round_one, round_looks, over_climbed, HasLooked}
