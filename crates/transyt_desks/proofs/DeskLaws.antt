@@ -1,6 +1,6 @@
 -- Desks as a list, and the sessions of desks.
-use Rattle.std.proofs.Common.{◌≡◌, ℕ, zero, suc, ◌+◌, ◌-◌, ◌%◌, ◌<◌, ◌≤◌, List, [], ◌∷◌, ◌++◌, length, map, take, drop}
-use Rattle.std.proofs.Common.{slice_index_or, slice_set, replicate, refl, ap, sym, ◌∙◌, arith, subst, Option, None}
+use Rattle.std.proofs.Common.{◌≡◌, ℕ, zero, suc, ◌+◌, ◌-◌, ◌%◌, ◌<◌, ◌≤◌, List, [], ◌∷◌, ◌++◌, length, take, drop}
+use Rattle.std.proofs.Common.{slice_index_or, slice_set, replicate, refl, ap, sym, ◌∙◌, arith, subst, None}
 use Rattle.std.proofs.Math.ListN.{get_or-map}
 use Rattle.std.proofs.lemmas.List.{length-map, map-append, same_lists, take-append-drop, get_or_default, get_or-set_other}
 use Rattle.std.proofs.lemmas.List.{length-replicate, get_or-replicate, replicate-append-replicate, get_or-take, length-take}
@@ -14,7 +14,7 @@ use Rattle.transyt_net.specs.Shape.{SameShape, shape as shape_word}
 use Rattle.transyt_moves.specs.Moves.{move_count}
 use Rattle.transyt_session.specs.Session.{SessionValue, opened}
 use Rattle.transyt_desks.specs.declared.desk.Desk.{Desk}
-use Rattle.transyt_desks.specs.Desks.{no_session, no_desk, new_desk, session_at, desk_zero, sessions_of, opened_desks, AreAligned, tried_at, OthersClosed, AreAlike, AreDesks, HasTried, IsTried}
+use Rattle.transyt_desks.specs.Desks.{no_session, no_desk, new_desk, session_at, desk_zero, sessions_of, opened_desks, AreAligned, tried_at, OthersClosed, AllStandFor, AreAlike, AreDesks, HasTried, IsTried}
 
 -- the session at a place is that of the desk there
 pub session_is : (desks : List Desk) (k : ℕ) → session_at (sessions_of desks) k ≡ (slice_index_or desks k no_desk).session
@@ -151,6 +151,39 @@ other_read desks k d less =
     ap (λ (x : Desk). x.session) (get_or_after_one desks k d)
     ∙ session_read desks (1 + k) d (omega (arith, length-drop 1 desks))
     ∙ ap (session_at (sessions_of desks)) next
+
+-- of aligned desks those after the first stand for its network
+pub rest_stand : (desks : List Desk) → AreAligned (sessions_of desks) → OthersClosed (sessions_of desks)
+    → AllStandFor (desk_zero (sessions_of desks)).net (drop 1 desks)
+rest_stand desks aligned others = record {
+  stand = λ k d less. ap (λ (s : SessionValue). s.net) (other_read desks k d less)
+      ∙ aligned.same (k + 1) (omega (arith, length-drop 1 desks, sessions_count desks));
+  closed = λ k d less. ap (λ (s : SessionValue). s.before) (other_read desks k d less)
+      ∙ others.closed (k + 1) (omega arith) (omega (arith, length-drop 1 desks, sessions_count desks));
+}
+
+-- the first desk is desk 0 of all
+pub before_zero : (front ys : List Desk) → 0 < length front
+    → desk_zero (sessions_of (front ++ ys)) ≡ desk_zero (sessions_of front)
+before_zero [] ys some = absurd (omega arith)
+before_zero (x ∷ xs) ys some = refl
+
+all_taken : (front : List Desk) → length front ≡ 1 → take 1 front ≡ front
+all_taken front one = ap (λ n. take n front) (sym one) ∙ take-length front
+
+-- they are aligned where the others stand for its network
+pub before_aligned : (front ys : List Desk) → length front ≡ 1 → AllStandFor (desk_zero (sessions_of front)).net ys
+    → AreAligned (sessions_of (front ++ ys))
+before_aligned front ys one all =
+    subst (λ (ds : List Desk). AreAligned (sessions_of (ds ++ ys))) (all_taken front one)
+    (joined_aligned front ys (desk_zero (sessions_of front)).net (omega arith) refl all.stand)
+
+-- and none but it has a trial
+pub before_closed : (front ys : List Desk) (net : Network) → length front ≡ 1 → AllStandFor net ys
+    → OthersClosed (sessions_of (front ++ ys))
+before_closed front ys net one all =
+    subst (λ (ds : List Desk). OthersClosed (sessions_of (ds ++ ys))) (all_taken front one)
+    (joined_closed front ys (omega arith) all.closed)
 
 -- the first desks, with their sessions as they were, before the others
 pub front_sessions : (desks front : List Desk) (room : ℕ) → room ≤ length desks → length front ≡ room

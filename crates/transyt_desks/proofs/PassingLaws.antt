@@ -1,14 +1,11 @@
 -- Turns that pass, one after another.
-use Rattle.std.proofs.Common.{◌≡◌, ℕ, zero, suc, ◌+◌, ◌-◌, ◌%◌, ◌<◌, ◌≤◌, Bool, true, false, None, refl, ap, sym, ◌∙◌, subst, arith}
+use Rattle.std.proofs.Common.{◌≡◌, ℕ, ◌+◌, ◌-◌, ◌%◌, ◌<◌, Bool, true, false, refl, ap, sym, ◌∙◌, arith}
 use Rattle.std.proofs.Common.{nat_lt}
 use Rattle.std.proofs.lemmas.Bool.Decides.{nat_tests}
 use Rattle.std.proofs.Math.Nat.{mod-add-mod, mod-eq_of_lt}
-use Rattle.transyt_track.specs.Work.{edit_work}
-use Rattle.transyt_moves.specs.Moves.{move, move_count}
-use Rattle.transyt_session.specs.Session.{SessionValue}
 use Rattle.transyt_climb.specs.declared.turn.Turn.{Turn}
 use Rattle.transyt_climb.specs.declared.turn.Turn.TheVariants.{Took, Passed, Local, Budget}
-use Rattle.transyt_climb.specs.Turns.{Counters, Machine, machine, answer_of, after_answer, turned, turns, noted}
+use Rattle.transyt_climb.specs.Turns.{Machine, answer_of, after_answer, turned, turns}
 use Rattle.transyt_climb.specs.Way.{IsRound}
 use Rattle.transyt_climb.proofs.WayLaws.{turns_more}
 use Rattle.transyt_desks.specs.Rounds.{is_took, turns_up_to}

@@ -1,6 +1,6 @@
 -- What the desks have tried, as a list of answers; and a round of one desk and of several.
-use Rattle.std.proofs.Common.{◌≡◌, ℕ, zero, suc, ◌+◌, ◌-◌, ◌*◌, ◌%◌, ◌<◌, ◌≤◌, List, length, take, slice_index_or, ap, sym, ◌∙◌, subst, refl, arith}
-use Rattle.std.proofs.Common.{Bool, true, false, None, min, if◌then◌else◌}
+use Rattle.std.proofs.Common.{◌≡◌, ℕ, zero, suc, ◌+◌, ◌*◌, ◌%◌, ◌<◌, ◌≤◌, List, length, take, slice_index_or, ap, sym, ◌∙◌, subst, refl, arith}
+use Rattle.std.proofs.Common.{Bool, true, false, None, if◌then◌else◌}
 use Rattle.std.proofs.Common.{slice_set, ◌==◌}
 use Rattle.std.proofs.lemmas.Bool.Decides.{nat_tests}
 use Rattle.std.proofs.lemmas.List.{get_or-take, length-take, length-set}
@@ -9,7 +9,7 @@ use Rattle.transyt_session.specs.declared.answers.Tried.{Tried}
 use Rattle.transyt_session.specs.declared.answers.Tried.TheVariants.{Barred}
 use Rattle.transyt_session.specs.Session.{SessionValue}
 use Rattle.transyt_net.specs.declared.edit.Edit.{Edit}
-use Rattle.transyt_net.specs.Shape.{SameShape, shape as shape_word}
+use Rattle.transyt_net.specs.Shape.{SameShape}
 use Rattle.transyt_moves.specs.Moves.{move, move_count}
 use Rattle.transyt_sweep.specs.Sweeps.{index}
 use Rattle.transyt_sweep.specs.Climb.{lowers, moved}
@@ -24,7 +24,7 @@ use Rattle.transyt_desks.proofs.LeastLaws.{up_to_one}
 use Rattle.transyt_climb.proofs.WayLaws.{round_one}
 use Rattle.transyt_desks.proofs.DeskLaws.{session_read, sessions_count, lent_zero}
 use Rattle.transyt_desks.specs.declared.desk.Desk.{Desk}
-use Rattle.transyt_desks.specs.Desks.{session_at, desk_zero, sessions_of, tried_at, AreAligned, AreAlike, AreTried, IsTried, OthersClosed, AreDesks}
+use Rattle.transyt_desks.specs.Desks.{session_at, desk_zero, sessions_of, tried_at, AreAligned, AreTried, IsTried, OthersClosed, AreDesks}
 
 -- the answers of desks that stand for one network are what the next moves of the list make of it
 pub front_tried : (sessions : List SessionValue) (desks : List Desk) (c : Counters) (answers : List Tried) (room : ℕ)
@@ -131,54 +131,26 @@ rounds_end c sessions result aligned turns last end round kept closed = record {
   few = omega arith;
 }
 
--- a round of several desks: the sessions before it, after the tries, after the turns at desk 0, and at its end
-pub rounds_together : (before after : Counters) (s0 s1 s2 s3 : List SessionValue) (result : Round) (room : ℕ) → s1 ≡ s0
-    → desk_zero s3 ≡ desk_zero s2 → AreAligned s3
-    → IsRound (machine before (desk_zero s1)) (machine after (desk_zero s2)) result.turns result.last
-    → result.turns ≡ turns_up_to room (machine before (desk_zero s1)) → room ≡ room_of (length s0) before
+-- a round of several desks: the sessions before it, desk 0 after its turns, and the sessions at the end
+pub rounds_together : (before after : Counters) (s0 s1 s2 : List SessionValue) (result : Round) (room : ℕ)
+    → desk_zero s2 ≡ desk_zero s1 → AreAligned s2
+    → IsRound (machine before (desk_zero s0)) (machine after (desk_zero s1)) result.turns result.last
+    → result.turns ≡ turns_up_to room (machine before (desk_zero s0)) → room ≡ room_of (length s0) before
     → before.since < before.count → before.looked < before.budget
-    → after.count ≡ move_count (desk_zero s2).net → (desk_zero s2).before ≡ None
-    → (desk_zero s2).work ≤ (desk_zero s1).work + 8000 * result.turns → RoundsTo before s0 after s3 result
-rounds_together before after s0 s1 s2 s3 result room tried zero_same aligned round turns room_is since looked kept closed few =
+    → after.count ≡ move_count (desk_zero s1).net → (desk_zero s1).before ≡ None
+    → (desk_zero s1).work ≤ (desk_zero s0).work + 8000 * result.turns → RoundsTo before s0 after s2 result
+rounds_together before after s0 s1 s2 result room zero_same aligned round turns room_is since looked kept closed few =
     record {
       round = subst (λ (s : SessionValue). IsRound (machine before (desk_zero s0)) (machine after s) result.turns result.last)
-          (sym zero_same)
-          (subst (λ (ss : List SessionValue). IsRound (machine before (desk_zero ss)) (machine after (desk_zero s2))
-          result.turns result.last) tried round);
+          (sym zero_same) round;
       turns = turns
-          ∙ ap (λ (ss : List SessionValue). turns_up_to room (machine before (desk_zero ss))) tried
           ∙ ap (λ n. turns_up_to n (machine before (desk_zero s0))) room_is
           ∙ sym (turns_number (length s0) (machine before (desk_zero s0)) since looked);
       aligned = aligned;
       kept = kept ∙ sym (ap (λ (s : SessionValue). move_count s.net) zero_same);
       closed = ap (λ (s : SessionValue). s.before) zero_same ∙ closed;
-      few = subst (λ (s : SessionValue). s.work ≤ (desk_zero s0).work + 8000 * result.turns) (sym zero_same)
-          (subst (λ (ss : List SessionValue). (desk_zero s2).work ≤ (desk_zero ss).work + 8000 * result.turns) tried few);
+      few = subst (λ (s : SessionValue). s.work ≤ (desk_zero s0).work + 8000 * result.turns) (sym zero_same) few;
     }
-
--- after the turns at desk 0 its network still has the shape of the others'
-pub settled_alike : (s0 s1 s2 : List SessionValue) → s1 ≡ s0 → AreAligned s0 → length s2 ≡ length s0
-    → ((k : ℕ) → 0 < k → session_at s2 k ≡ session_at s1 k)
-    → SameShape (desk_zero s2).net (desk_zero s1).net → AreAlike s2
-settled_alike s0 s1 s2 tried aligned count others alike = record { shape = shape }
-  where
-    shape : (k : ℕ) → k < length s2 → SameShape (session_at s2 k).net (desk_zero s2).net
-    shape zero less = refl
-    shape (suc k) less =
-        let there : session_at s2 (suc k) ≡ session_at s0 (suc k) =
-        others (suc k) (omega arith) ∙ ap (λ ss. session_at ss (suc k)) tried in
-        let net : (session_at s2 (suc k)).net ≡ (desk_zero s1).net =
-        ap (λ (s : SessionValue). s.net) there ∙ aligned.same (suc k) (omega arith)
-        ∙ sym (ap (λ ss. (desk_zero ss).net) tried) in
-        ap shape_word net ∙ sym alike
-
--- the others still have no trial
-pub settled_closed : (s0 s1 s2 : List SessionValue) → s1 ≡ s0 → OthersClosed s0 → length s2 ≡ length s0
-    → ((k : ℕ) → 0 < k → session_at s2 k ≡ session_at s1 k) → OthersClosed s2
-settled_closed s0 s1 s2 tried closed count others = record {
-  closed = λ k other less. ap (λ (s : SessionValue). s.before) (others k other ∙ ap (λ ss. session_at ss k) tried)
-      ∙ closed.closed k other (omega arith);
-}
 
 -- desks that are aligned, with a spare network of the shape of desk 0's
 pub aligned_desks : (spare : Network) (sessions : List SessionValue) → 0 < length sessions → length sessions ≤ 8

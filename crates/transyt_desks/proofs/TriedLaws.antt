@@ -11,12 +11,10 @@ use Rattle.transyt_moves.specs.Moves.{move}
 use Rattle.transyt_sweep.specs.Sweeps.{index}
 use Rattle.transyt_sweep.specs.Climb.{lowers, moved, is_below, index_with}
 use Rattle.transyt_track.specs.Work.{edit_work, work_with}
-use Rattle.transyt_session.specs.declared.answers.Tried.{Tried}
 use Rattle.transyt_session.specs.declared.answers.Tried.TheVariants.{Barred, Index}
 use Rattle.transyt_session.specs.Session.{SessionValue, try_of, tried_with}
-use Rattle.transyt_climb.specs.declared.turn.Turn.{Turn}
 use Rattle.transyt_climb.specs.declared.turn.Turn.TheVariants.{Took, Passed, Local, Budget}
-use Rattle.transyt_climb.specs.Turns.{Counters, Machine, machine, look_answer, answer_of, after_look, after_answer, turned, noted, looked_at}
+use Rattle.transyt_climb.specs.Turns.{Counters, Machine, machine, look_answer, answer_of, after_answer, turned, noted}
 use Rattle.transyt_climb.proofs.LookLaws.{lowers_is}
 use Rattle.transyt_desks.specs.Rounds.{is_took}
 

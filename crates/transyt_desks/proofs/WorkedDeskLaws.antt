@@ -1,5 +1,5 @@
 -- The worked desks and tries, computed from the definitions.
-use Rattle.std.proofs.Common.{◌≡◌, ◌<◌, ◌+◌, ◌%◌, ℕ, zero, suc, List, [], ◌∷◌, All, length, map, sum, refl, ap, sym, subst}
+use Rattle.std.proofs.Common.{◌≡◌, ◌<◌, ◌+◌, ◌%◌, ℕ, zero, suc, [], ◌∷◌, All, length, map, sum, refl, ap, sym, subst}
 use Rattle.std.proofs.Common.{None, Some, slice_index_or, arith, lit<, lit≤}
 use Rattle.std.proofs.lemmas.List.{get_or-replicate}
 use Rattle.transyt_parts.specs.Parts.{NodeValue}

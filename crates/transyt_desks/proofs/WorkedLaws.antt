@@ -8,7 +8,7 @@ use Rattle.transyt_sweep.specs.Climb.{tried_at, lowers, moved, least}
 use Rattle.transyt_track.specs.Due.{due_in, due_through, due}
 use Rattle.transyt_desks.specs.Desks.{AreAligned, AreAlike, desk_zero, session_at}
 use Rattle.transyt_climb.specs.declared.turn.Turn.{Turn}
-use Rattle.transyt_climb.specs.declared.turn.Turn.TheVariants.{Took, Passed}
+use Rattle.transyt_climb.specs.declared.turn.Turn.TheVariants.{Passed}
 use Rattle.transyt_climb.specs.Turns.{Machine, machine, answer_of, is_end, turned, turns}
 use Rattle.transyt_climb.specs.WorkedTurns.{three_session}
 use Rattle.transyt_climb.proofs.WorkedLaws.{look_first}

@@ -1,5 +1,5 @@
 -- Desks: sessions that try candidates for one climb, desk 0 first.
-use Rattle.std.specs.Prelude.{◌≡◌, ℕ, ◌+◌, ◌-◌, ◌*◌, ◌%◌, ◌<◌, ◌≤◌, List, [], ◌∷◌, map, length, None, replicate}
+use Rattle.std.specs.Prelude.{◌≡◌, ℕ, ◌+◌, ◌-◌, ◌*◌, ◌%◌, ◌<◌, ◌≤◌, List, [], ◌∷◌, map, length, All, None, replicate}
 use Rattle.std.specs.Prelude.{slice_index_or, slice_set}
 use Rattle.transyt_parts.specs.declared.frame.Frame.{Frame}
 use Rattle.transyt_net.specs.Parts.{Network, network_of}
@@ -59,6 +59,11 @@ pub record AreDesks (spare : Network) (sessions : List SessionValue) : Type 0 wh
 -- the sessions of desks
 abbrev pub sessions_of : List Desk → List SessionValue
 sessions_of desks = map (λ d. d.session) desks
+
+-- each of these desks stands for a network, with no open trial
+pub record AllStandFor (net : Network) (desks : List Desk) : Type 0 where
+  pub stand : All (λ d. d.session.net ≡ net) desks
+  pub closed : All (λ d. d.session.before ≡ None) desks
 
 -- what stands where there is no desk
 abbrev pub no_desk : Desk

@@ -1,12 +1,12 @@
 //! One desk, and many that try at once.
 
-ghost use Rattle.std.specs.Prelude.{◌≡◌, ℕ, ◌+◌, ◌%◌, ◌<◌, ◌≤◌, length, List, All, None, slice_index_or};
+ghost use Rattle.std.specs.Prelude.{◌≡◌, ℕ, ◌+◌, ◌%◌, ◌<◌, ◌≤◌, length, List, All, Some, None, slice_index_or};
 ghost use Rattle.transyt_net.specs.Shape.{SameShape};
 ghost use Rattle.transyt_moves.specs.Moves.{move, move_count};
 ghost use Rattle.transyt_session.specs.Session.{try_of};
 ghost use Rattle.transyt_track.specs.Work.{edit_work};
 ghost use Rattle.transyt_session.specs.declared.answers.Tried.TheVariants.{Barred};
-ghost use Rattle.transyt_desks.specs.Desks.{HasTried, IsTried, AreAlike, AreAligned, OthersClosed, sessions_of, session_at, desk_zero, tried_at};
+ghost use Rattle.transyt_desks.specs.Desks.{HasTried, IsTried, AllStandFor, AreAlike, AreAligned, OthersClosed, sessions_of, session_at, desk_zero, tried_at};
 ghost use Rattle.transyt_desks.specs.declared.desk.Desk.{Desk};
 
 use crate::equal::same_net;
@@ -113,6 +113,28 @@ fn stand_all(desks: &mut [Desk], zero: &Session)
 {
     for i in 0..desks.len() {
         follow(&mut desks[i], zero);
+    }
+}
+
+/// Lets a desk stand for the network of a session in a trial of the desk's network.
+fn take_trial(desk: &mut Desk, zero: &Session)
+    requires before { zero.now.before ≡ Some desk.old.session.net }
+    requires closed { desk.old.session.before ≡ None }
+    ensures net { desk.new.session.net ≡ zero.now.net }
+    ensures closed { desk.new.session.before ≡ None }
+{
+    desk.session.take_trial(zero);
+}
+
+/// Lets every desk stand for the network of a session in a trial of the one that they stand for.
+pub(crate) fn take_all(desks: &mut [Desk], zero: &Session)
+    requires before { All (λ d. zero.now.before ≡ Some d.session.net) desks.old }
+    requires closed { All (λ d. d.session.before ≡ None) desks.old }
+    ensures len { length desks.new ≡ length desks.old }
+    ensures all { AllStandFor zero.now.net desks.new }
+{
+    for i in 0..desks.len() {
+        take_trial(&mut desks[i], zero);
     }
 }
 

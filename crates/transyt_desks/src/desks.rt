@@ -257,7 +257,6 @@ fn together<R: Threads + Sync, G: Gate, L: Ledger>(
     let room = room(desks.len(), climber);
     try_front(rt, gate, desks, room, climber.place(), climber.count());
     let answers = answers_of(desks, room);
-    let round = settle_zero(climber, desks, spare, &answers[..room], steps);
-    follow_zero(desks);
-    round
+    let (zero, others) = desks.split_at_mut(1);
+    settle_zero(climber, zero, others, spare, &answers[..room], steps)
 }

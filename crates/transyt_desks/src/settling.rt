@@ -9,10 +9,11 @@ ghost use Rattle.transyt_sweep.specs.Sweeps.{index};
 ghost use Rattle.transyt_session.specs.declared.answers.Tried.TheVariants.{Index};
 ghost use Rattle.transyt_climb.specs.Turns.{machine, answer_of, turned};
 ghost use Rattle.transyt_climb.specs.Way.{IsRound};
-ghost use Rattle.transyt_desks.specs.Desks.{IsTried, AreTried, session_at, desk_zero, sessions_of};
+ghost use Rattle.transyt_session.specs.Session.{standing_for};
+ghost use Rattle.transyt_desks.specs.Desks.{IsTried, AreTried, AllStandFor, desk_zero, sessions_of};
 ghost use Rattle.transyt_desks.specs.Rounds.{is_took, turns_up_to};
 
-use crate::desk::Desk;
+use crate::desk::{Desk, take_all};
 use std::sync::ledger::Ledger;
 use transyt_climb::{Climber, Turn, move_at};
 use transyt_net::{Edit, Net};
@@ -44,10 +45,25 @@ fn take_move(spare: &mut Net, session: &Session, edit: Edit)
     let _ = spare.apply(edit);
 }
 
+/// Lets desk 0 stand for another network of its shape, and the other desks with it, which take only what changes.
+fn step_all<L: Ledger>(session: &mut Session, others: &mut [Desk], net: &Net, steps: &mut Steps<L>)
+    requires shape { SameShape session.old.net net.now }
+    requires closed { session.old.before ≡ None }
+    requires others { AllStandFor session.old.net others.old }
+    ensures state { session.new ≡ standing_for net.now session.old }
+    ensures len { length others.new ≡ length others.old }
+    ensures others { AllStandFor session.new.net others.new }
+{
+    session.trial_for(net, steps);
+    take_all(others, session);
+    let _ = session.keep();
+}
+
 /// A turn whose move was tried before, as `tried` says. A lowering move is made on `spare` first.
 fn judge<L: Ledger>(
     climber: &mut Climber,
     session: &mut Session,
+    others: &mut [Desk],
     spare: &mut Net,
     tried: Tried,
     steps: &mut Steps<L>,
@@ -59,18 +75,23 @@ fn judge<L: Ledger>(
     requires looked { climber.old.looked < climber.old.budget }
     requires shape { SameShape spare.old session.old.net }
     requires tried { IsTried session.old.net climber.old.place tried }
+    requires others { AllStandFor session.old.net others.old }
     ensures answer { result ≡ answer_of (machine climber.old session.old) }
     ensures state { machine climber.new session.new ≡ turned (machine climber.old session.old) }
     ensures few { session.new.work ≤ session.old.work + 8000 }
     ensures shape { SameShape spare.new session.new.net }
     ensures alike { SameShape session.new.net session.old.net }
+    ensures len { length others.new ≡ length others.old }
+    ensures others { AllStandFor session.new.net others.new }
 {
     match tried {
         Tried::Barred => {
             climber.note(false);
             Turn::Passed
         }
-        Tried::Index { index, work } => weigh(climber, session, spare, index, work, steps),
+        Tried::Index { index, work } => {
+            weigh(climber, session, others, spare, index, work, steps)
+        }
     }
 }
 
@@ -78,6 +99,7 @@ fn judge<L: Ledger>(
 fn weigh<L: Ledger>(
     climber: &mut Climber,
     session: &mut Session,
+    others: &mut [Desk],
     spare: &mut Net,
     index: u128,
     work: u64,
@@ -90,18 +112,21 @@ fn weigh<L: Ledger>(
     requires looked { climber.old.looked < climber.old.budget }
     requires shape { SameShape spare.old session.old.net }
     requires tried { IsTried session.old.net climber.old.place (Index index work) }
+    requires others { AllStandFor session.old.net others.old }
     ensures answer { result ≡ answer_of (machine climber.old session.old) }
     ensures state { machine climber.new session.new ≡ turned (machine climber.old session.old) }
     ensures few { session.new.work ≤ session.old.work + 8000 }
     ensures shape { SameShape spare.new session.new.net }
     ensures alike { SameShape session.new.net session.old.net }
+    ensures len { length others.new ≡ length others.old }
+    ensures others { AllStandFor session.new.net others.new }
 {
     session.credit(work);
     if is_lower(session, index) {
         let place = climber.place();
         let edit = move_at(session.net(), place);
         take_move(spare, session, edit);
-        session.stand_for(spare, steps);
+        step_all(session, others, spare, steps);
         climber.note(true);
         return Turn::Took { place, edit, index };
     }
@@ -121,6 +146,7 @@ fn is_lower(session: &Session, found: u128) -> bool
 fn settle<L: Ledger>(
     climber: &mut Climber,
     session: &mut Session,
+    others: &mut [Desk],
     spare: &mut Net,
     answers: &[Tried],
     steps: &mut Steps<L>,
@@ -134,6 +160,7 @@ fn settle<L: Ledger>(
     requires looked { climber.old.looked + length answers.now ≤ climber.old.budget }
     requires shape { SameShape spare.old session.old.net }
     requires tried { AreTried session.old.net climber.old answers.now }
+    requires others { AllStandFor session.old.net others.old }
     ensures round { IsRound (machine climber.old session.old) (machine climber.new session.new) result.turns result.last }
     ensures turns { result.turns ≡ turns_up_to (length answers.now) (machine climber.old session.old) }
     ensures kept { climber.new.count ≡ move_count session.new.net }
@@ -141,12 +168,14 @@ fn settle<L: Ledger>(
     ensures few { session.new.work ≤ session.old.work + 8000 * result.turns }
     ensures shape { SameShape spare.new session.new.net }
     ensures alike { SameShape session.new.net session.old.net }
+    ensures len { length others.new ≡ length others.old }
+    ensures others { AllStandFor session.new.net others.new }
 {
     let _ = climber.place();
     let mut turns = 0;
     for i in 0..answers.len() {
         turns += 1;
-        let last = judge(climber, session, spare, answers[i], steps);
+        let last = judge(climber, session, others, spare, answers[i], steps);
         if is_took(last) {
             return Round { turns, last };
         }
@@ -157,36 +186,38 @@ fn settle<L: Ledger>(
     }
 }
 
-/// The turns of a round at desk 0; the other desks stay as they are.
+/// The turns of a round at desk 0, which stands alone in `zero`; the other desks then stand for its network.
 pub(crate) fn settle_zero<L: Ledger>(
     climber: &mut Climber,
-    desks: &mut [Desk],
+    zero: &mut [Desk],
+    others: &mut [Desk],
     spare: &mut Net,
     answers: &[Tried],
     steps: &mut Steps<L>,
 ) -> Round
-    requires desks { 0 < length desks.old }
+    requires zero { 0 < length zero.old }
     requires some { 0 < length answers.now }
     requires few { length answers.now ≤ 8 }
-    requires count { climber.old.count ≡ move_count (desk_zero (sessions_of desks.old)).net }
-    requires closed { (desk_zero (sessions_of desks.old)).before ≡ None }
-    requires room { (desk_zero (sessions_of desks.old)).work ≤ 2 ^ 61 }
+    requires count { climber.old.count ≡ move_count (desk_zero (sessions_of zero.old)).net }
+    requires closed { (desk_zero (sessions_of zero.old)).before ≡ None }
+    requires room { (desk_zero (sessions_of zero.old)).work ≤ 2 ^ 61 }
     requires since { climber.old.since + length answers.now ≤ climber.old.count }
     requires looked { climber.old.looked + length answers.now ≤ climber.old.budget }
-    requires shape { SameShape spare.old (desk_zero (sessions_of desks.old)).net }
-    requires tried { AreTried (desk_zero (sessions_of desks.old)).net climber.old answers.now }
-    ensures round { IsRound (machine climber.old (desk_zero (sessions_of desks.old)))
-        (machine climber.new (desk_zero (sessions_of desks.new))) result.turns result.last }
+    requires shape { SameShape spare.old (desk_zero (sessions_of zero.old)).net }
+    requires tried { AreTried (desk_zero (sessions_of zero.old)).net climber.old answers.now }
+    requires others { AllStandFor (desk_zero (sessions_of zero.old)).net others.old }
+    ensures round { IsRound (machine climber.old (desk_zero (sessions_of zero.old)))
+        (machine climber.new (desk_zero (sessions_of zero.new))) result.turns result.last }
     ensures turns { result.turns
-        ≡ turns_up_to (length answers.now) (machine climber.old (desk_zero (sessions_of desks.old))) }
-    ensures kept { climber.new.count ≡ move_count (desk_zero (sessions_of desks.new)).net }
-    ensures closed { (desk_zero (sessions_of desks.new)).before ≡ None }
-    ensures few { (desk_zero (sessions_of desks.new)).work
-        ≤ (desk_zero (sessions_of desks.old)).work + 8000 * result.turns }
-    ensures shape { SameShape spare.new (desk_zero (sessions_of desks.new)).net }
-    ensures alike { SameShape (desk_zero (sessions_of desks.new)).net (desk_zero (sessions_of desks.old)).net }
-    ensures len { length desks.new ≡ length desks.old }
-    ensures others { (k : ℕ) → 0 < k → session_at (sessions_of desks.new) k ≡ session_at (sessions_of desks.old) k }
+        ≡ turns_up_to (length answers.now) (machine climber.old (desk_zero (sessions_of zero.old))) }
+    ensures kept { climber.new.count ≡ move_count (desk_zero (sessions_of zero.new)).net }
+    ensures closed { (desk_zero (sessions_of zero.new)).before ≡ None }
+    ensures few { (desk_zero (sessions_of zero.new)).work
+        ≤ (desk_zero (sessions_of zero.old)).work + 8000 * result.turns }
+    ensures shape { SameShape spare.new (desk_zero (sessions_of zero.new)).net }
+    ensures zero_len { length zero.new ≡ length zero.old }
+    ensures len { length others.new ≡ length others.old }
+    ensures others { AllStandFor (desk_zero (sessions_of zero.new)).net others.new }
 {
-    settle(climber, &mut desks[0].session, spare, answers, steps)
+    settle(climber, &mut zero[0].session, others, spare, answers, steps)
 }

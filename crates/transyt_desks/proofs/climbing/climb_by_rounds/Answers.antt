@@ -1,6 +1,6 @@
 -- One round more of a climb under way, or its last.
-use Rattle.std.proofs.Common.{◌≡◌, ◌++◌, ◌+◌, ◌*◌, ◌≤◌, List, [], true, false, refl, sym, ◌∙◌, subst, ap, arith}
-use Rattle.transyt_sweep.specs.Climb.{Climb, Step, climb}
+use Rattle.std.proofs.Common.{◌≡◌, ◌++◌, [], false, refl, sym, ◌∙◌, subst, ap, arith}
+use Rattle.transyt_sweep.specs.Climb.{Climb, climb}
 use Rattle.transyt_session.specs.Session.{SessionValue}
 use Rattle.transyt_climb.specs.Turns.{Counters, Machine, machine, is_end, is_local, step_then, started}
 use Rattle.transyt_climb.specs.Way.{IsUnderWay, IsOver}

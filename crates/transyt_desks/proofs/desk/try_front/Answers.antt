@@ -1,8 +1,6 @@
 -- The first desks have tried, and the others are as they were.
-use Rattle.std.proofs.Common.{◌≡◌, ◌<◌, ◌+◌, ℕ, List, length, take, drop, slice_index_or, ap, ◌∙◌, arith}
+use Rattle.std.proofs.Common.{◌≡◌, length, drop, arith}
 use Rattle.std.proofs.lemmas.List.{length-take}
-use Rattle.transyt_desks.specs.declared.desk.Desk.{Desk}
-use Rattle.transyt_desks.specs.Desks.{HasTried}
 use Rattle.transyt_desks.proofs.DeskLaws.{front_sessions, front_tried_at}
 use Rattle.transyt_desks.proofs.desk.try_front.Goals as goal
 

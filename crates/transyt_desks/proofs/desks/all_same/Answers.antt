@@ -1,9 +1,9 @@
 -- One desk more stands for the network of the first, or it doesn't.
-use Rattle.std.proofs.Common.{◌≡◌, ℕ, ◌+◌, ◌<◌, Bool, true, false, List, refl, sym, ap, ◌∙◌, arith}
+use Rattle.std.proofs.Common.{◌≡◌, true, false, List, sym, ap, ◌∙◌, arith}
 use borrow.Author.Count.{below_more}
 use Rattle.transyt_session.specs.Session.{SessionValue}
 use Rattle.transyt_desks.specs.declared.desk.Desk.{Desk}
-use Rattle.transyt_desks.specs.Desks.{session_at, desk_zero, sessions_of, AreAligned}
+use Rattle.transyt_desks.specs.Desks.{session_at, desk_zero, sessions_of}
 use Rattle.transyt_desks.proofs.DeskLaws.{session_read, sessions_count}
 use Rattle.transyt_desks.proofs.desks.all_same.Goals as goal
 

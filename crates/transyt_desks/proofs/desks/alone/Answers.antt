@@ -1,5 +1,5 @@
 -- A turn at the only desk is a round.
-use Rattle.std.proofs.Common.{◌<◌, length, slice_index_or, ap, ◌∙◌, arith}
+use Rattle.std.proofs.Common.{slice_index_or, arith}
 use Rattle.transyt_desks.specs.declared.desk.Desk.{Desk}
 use Rattle.transyt_desks.proofs.DeskLaws.{session_read}
 use Rattle.transyt_desks.proofs.RoundLaws.{alone_rounds}

@@ -1,5 +1,5 @@
 -- A barred move is passed.
-use Rattle.std.proofs.Common.{◌≡◌, ◌+◌, refl, sym, ap, ◌∙◌, arith}
+use Rattle.std.proofs.Common.{refl, sym, ◌∙◌, arith}
 use Rattle.transyt_climb.specs.Turns.{Machine, machine}
 use Rattle.transyt_desks.proofs.TriedLaws.{IsBarred, tried_barred, answers_passed, state_passed}
 use Rattle.transyt_desks.proofs.settling.judge.Goals as goal

@@ -1,6 +1,6 @@
 -- One turn more of a round: it passes, or its step ends the round.
-use Rattle.std.proofs.Common.{◌≡◌, ◌+◌, ◌<◌, ℕ, length, true, false, refl, sym, ap, ◌∙◌, subst, arith}
-use Rattle.transyt_climb.specs.Turns.{Machine, machine, answer_of, turned}
+use Rattle.std.proofs.Common.{◌≡◌, ◌+◌, ◌<◌, length, sym, ap, ◌∙◌, subst, arith}
+use Rattle.transyt_climb.specs.Turns.{Machine, machine, answer_of}
 use Rattle.transyt_climb.specs.declared.turn.Turn.TheVariants.{Passed}
 use Rattle.transyt_climb.specs.Way.{IsRound}
 use Rattle.transyt_climb.proofs.CountLaws.{count_same}
@@ -60,6 +60,8 @@ loop-i-preserved g c =
           ∙ turned_passed now passes (passed_higher now passes));
       few = omega (arith, c.judge-last.ensures.few, c.loop-i.invariant.few);
       shape = c.judge-last.ensures.shape;
+      len = c.judge-last.ensures.len ∙ c.loop-i.invariant.len;
+      others = c.judge-last.ensures.others;
     }
 
 pub returns-clause-turns : goal.returns-clause-turns

@@ -1,6 +1,5 @@
 -- Desks that were aligned keep to what desks keep to.
 use Rattle.std.proofs.Common.{◌≡◌, List, length, sym, ap, ◌∙◌, subst, arith}
-use Rattle.transyt_session.specs.Session.{SessionValue}
 use Rattle.transyt_desks.specs.declared.desk.Desk.{Desk}
 use Rattle.transyt_desks.specs.Desks.{desk_zero, sessions_of, AreAlike, AreDesks}
 use Rattle.transyt_desks.proofs.DeskLaws.{sessions_count, written_whole, align_desks}

@@ -1,5 +1,5 @@
 -- One twin more, and the desks when all are made.
-use Rattle.std.proofs.Common.{◌≡◌, ◌<◌, ◌+◌, ◌++◌, List, [], ◌∷◌, length, slice_index_or, length-append, rules, sym, ap, ◌∙◌, subst, arith}
+use Rattle.std.proofs.Common.{◌≡◌, ◌++◌, List, [], ◌∷◌, length, slice_index_or, length-append, rules, sym, ap, ◌∙◌, subst, arith}
 use Rattle.std.proofs.lemmas.List.{get_or_append_left}
 use Rattle.transyt_net.specs.Parts.{Network}
 use Rattle.transyt_session.specs.Session.{SessionValue, opened}

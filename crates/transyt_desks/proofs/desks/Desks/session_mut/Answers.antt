@@ -1,6 +1,5 @@
 -- Whatever is left at desk 0, the desks keep to what they keep to.
-use Rattle.std.proofs.Common.{slice_set, sym, subst}
-use Rattle.transyt_session.specs.Session.{SessionValue}
+use Rattle.std.proofs.Common.{sym, subst}
 use Rattle.transyt_desks.specs.Desks.{sessions_of, AreDesks}
 use Rattle.transyt_desks.proofs.DeskLaws.{lent_sessions, desks_lent}
 use Rattle.transyt_desks.proofs.desks.Desks.session_mut.Goals as goal
