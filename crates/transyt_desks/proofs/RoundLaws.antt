@@ -100,15 +100,15 @@ all_closed desks (suc k) d others zero_closed less =
     ∙ others.closed (suc k) (omega arith) (omega (arith, sessions_count desks))
 
 -- a round of one desk
-pub rounds_alone : (before after : Counters) (olds news : List SessionValue) (result : Round) → length olds ≡ 1
+pub rounds_alone : (workers : ℕ) (before after : Counters) (olds news : List SessionValue) (result : Round) → workers ≡ 1
     → length news ≡ 1 → before.since < before.count → before.looked < before.budget → result.turns ≡ 1
     → IsRound (machine before (desk_zero olds)) (machine after (desk_zero news)) 1 result.last
     → after.count ≡ move_count (desk_zero news).net → (desk_zero news).before ≡ None
-    → (desk_zero news).work ≤ (desk_zero olds).work + 8000 → RoundsTo before olds after news result
-rounds_alone before after olds news result one same since looked turns round kept closed few = record {
+    → (desk_zero news).work ≤ (desk_zero olds).work + 8000 → RoundsTo workers before olds after news result
+rounds_alone workers before after olds news result one same since looked turns round kept closed few = record {
   round = subst (λ n. IsRound (machine before (desk_zero olds)) (machine after (desk_zero news)) n result.last)
       (sym turns) round;
-  turns = turns ∙ sym (turns_one (length olds) (machine before (desk_zero olds)) one since looked);
+  turns = turns ∙ sym (turns_one workers (machine before (desk_zero olds)) one since looked);
   aligned = one_aligned news same;
   kept = kept;
   closed = closed;
@@ -116,15 +116,15 @@ rounds_alone before after olds news result one same since looked turns round kep
 }
 
 -- a round that ends the climb
-pub rounds_end : (c : Counters) (sessions : List SessionValue) (result : Round) → AreAligned sessions
+pub rounds_end : (workers : ℕ) (c : Counters) (sessions : List SessionValue) (result : Round) → AreAligned sessions
     → result.turns ≡ 1 → result.last ≡ answer_of (machine c (desk_zero sessions)) → is_end result.last ≡ true
     → IsRound (machine c (desk_zero sessions)) (machine c (desk_zero sessions)) 1 result.last
     → c.count ≡ move_count (desk_zero sessions).net → (desk_zero sessions).before ≡ None
-    → RoundsTo c sessions c sessions result
-rounds_end c sessions result aligned turns last end round kept closed = record {
+    → RoundsTo workers c sessions c sessions result
+rounds_end workers c sessions result aligned turns last end round kept closed = record {
   round = subst (λ n. IsRound (machine c (desk_zero sessions)) (machine c (desk_zero sessions)) n result.last)
       (sym turns) round;
-  turns = turns ∙ sym (turns_end (length sessions) (machine c (desk_zero sessions)) (sym (ap is_end last) ∙ end));
+  turns = turns ∙ sym (turns_end workers (machine c (desk_zero sessions)) (sym (ap is_end last) ∙ end));
   aligned = aligned;
   kept = kept;
   closed = closed;
@@ -132,20 +132,20 @@ rounds_end c sessions result aligned turns last end round kept closed = record {
 }
 
 -- a round of several desks: the sessions before it, desk 0 after its turns, and the sessions at the end
-pub rounds_together : (before after : Counters) (s0 s1 s2 : List SessionValue) (result : Round) (room : ℕ)
+pub rounds_together : (workers : ℕ) (before after : Counters) (s0 s1 s2 : List SessionValue) (result : Round) (room : ℕ)
     → desk_zero s2 ≡ desk_zero s1 → AreAligned s2
     → IsRound (machine before (desk_zero s0)) (machine after (desk_zero s1)) result.turns result.last
-    → result.turns ≡ turns_up_to room (machine before (desk_zero s0)) → room ≡ room_of (length s0) before
+    → result.turns ≡ turns_up_to room (machine before (desk_zero s0)) → room ≡ room_of workers before
     → before.since < before.count → before.looked < before.budget
     → after.count ≡ move_count (desk_zero s1).net → (desk_zero s1).before ≡ None
-    → (desk_zero s1).work ≤ (desk_zero s0).work + 8000 * result.turns → RoundsTo before s0 after s2 result
-rounds_together before after s0 s1 s2 result room zero_same aligned round turns room_is since looked kept closed few =
+    → (desk_zero s1).work ≤ (desk_zero s0).work + 8000 * result.turns → RoundsTo workers before s0 after s2 result
+rounds_together workers before after s0 s1 s2 result room zero_same aligned round turns room_is since looked kept closed few =
     record {
       round = subst (λ (s : SessionValue). IsRound (machine before (desk_zero s0)) (machine after s) result.turns result.last)
           (sym zero_same) round;
       turns = turns
           ∙ ap (λ n. turns_up_to n (machine before (desk_zero s0))) room_is
-          ∙ sym (turns_number (length s0) (machine before (desk_zero s0)) since looked);
+          ∙ sym (turns_number workers (machine before (desk_zero s0)) since looked);
       aligned = aligned;
       kept = kept ∙ sym (ap (λ (s : SessionValue). move_count s.net) zero_same);
       closed = ap (λ (s : SessionValue). s.before) zero_same ∙ closed;
@@ -163,21 +163,20 @@ aligned_desks spare sessions some few aligned closed shape = record {
 }
 
 -- a turn at the only desk is a round
-pub alone_rounds : (desks : List Desk) (d : Desk) (before after : Counters) (s : SessionValue) (last : Turn)
-    → length desks ≡ 1 → before.since < before.count → before.looked < before.budget → s ≡ desk_zero (sessions_of desks)
+pub alone_rounds : (workers : ℕ) (desks : List Desk) (d : Desk) (before after : Counters) (s : SessionValue) (last : Turn)
+    → workers ≡ 1 → length desks ≡ 1 → before.since < before.count → before.looked < before.budget → s ≡ desk_zero (sessions_of desks)
     → last ≡ answer_of (machine before s) → machine after d.session ≡ turned (machine before s)
     → after.count ≡ move_count d.session.net → d.session.before ≡ None → d.session.work ≤ s.work + 8000
-    → RoundsTo before (sessions_of desks) after (sessions_of (slice_set desks 0 d)) (record { turns = 1; last = last })
-alone_rounds desks d before after s last one since looked zero_is answer state kept closed few =
+    → RoundsTo workers before (sessions_of desks) after (sessions_of (slice_set desks 0 d)) (record { turns = 1; last = last })
+alone_rounds workers desks d before after s last alone one since looked zero_is answer state kept closed few =
     let zero_new : desk_zero (sessions_of (slice_set desks 0 d)) ≡ d.session = lent_zero desks d (omega arith) in
-    let olds : length (sessions_of desks) ≡ 1 = sessions_count desks ∙ one in
     let news : length (sessions_of (slice_set desks 0 d)) ≡ 1 =
     sessions_count (slice_set desks 0 d) ∙ length-set desks 0 d ∙ one in
     let round : IsRound (machine before (desk_zero (sessions_of desks))) (machine after d.session) 1 last =
     subst (λ (x : SessionValue). IsRound (machine before x) (machine after d.session) 1 last) zero_is
     (round_one (machine before s) (machine after d.session) last answer state) in
-    rounds_alone before after (sessions_of desks) (sessions_of (slice_set desks 0 d)) (record { turns = 1; last = last })
-    olds news since looked refl
+    rounds_alone workers before after (sessions_of desks) (sessions_of (slice_set desks 0 d)) (record { turns = 1; last = last })
+    alone news since looked refl
     (subst (λ (x : SessionValue). IsRound (machine before (desk_zero (sessions_of desks))) (machine after x) 1 last)
     (sym zero_new) round)
     (kept ∙ sym (ap (λ (x : SessionValue). move_count x.net) zero_new))
@@ -201,21 +200,21 @@ budget_end m some all =
     ∙ ap (λ b. if b then Budget else look_answer m.session.net m.counters.place) spent
 
 -- a round that answers Local at once
-pub rounds_local : (c : Counters) (sessions : List SessionValue) → AreAligned sessions → c.since ≡ c.count
+pub rounds_local : (workers : ℕ) (c : Counters) (sessions : List SessionValue) → AreAligned sessions → c.since ≡ c.count
     → c.count ≡ move_count (desk_zero sessions).net → (desk_zero sessions).before ≡ None
-    → RoundsTo c sessions c sessions (record { turns = 1; last = Local })
-rounds_local c sessions aligned all kept closed =
+    → RoundsTo workers c sessions c sessions (record { turns = 1; last = Local })
+rounds_local workers c sessions aligned all kept closed =
     let m : Machine = machine c (desk_zero sessions) in
     let answer : Local ≡ answer_of m = sym (local_end m all) in
-    rounds_end c sessions (record { turns = 1; last = Local }) aligned refl answer refl
+    rounds_end workers c sessions (record { turns = 1; last = Local }) aligned refl answer refl
     (round_one m m Local answer (ap (λ a. after_answer a m) answer)) kept closed
 
 -- a round that answers Budget at once
-pub rounds_budget : (c : Counters) (sessions : List SessionValue) → AreAligned sessions → c.since < c.count
+pub rounds_budget : (workers : ℕ) (c : Counters) (sessions : List SessionValue) → AreAligned sessions → c.since < c.count
     → c.looked ≡ c.budget → c.count ≡ move_count (desk_zero sessions).net → (desk_zero sessions).before ≡ None
-    → RoundsTo c sessions c sessions (record { turns = 1; last = Budget })
-rounds_budget c sessions aligned some all kept closed =
+    → RoundsTo workers c sessions c sessions (record { turns = 1; last = Budget })
+rounds_budget workers c sessions aligned some all kept closed =
     let m : Machine = machine c (desk_zero sessions) in
     let answer : Budget ≡ answer_of m = sym (budget_end m some all) in
-    rounds_end c sessions (record { turns = 1; last = Budget }) aligned refl answer refl
+    rounds_end workers c sessions (record { turns = 1; last = Budget }) aligned refl answer refl
     (round_one m m Budget answer (ap (λ a. after_answer a m) answer)) kept closed

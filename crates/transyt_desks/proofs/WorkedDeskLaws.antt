@@ -154,7 +154,7 @@ its_round : IsRound (way 9) (machine two_turns idle_session) 2 Passed
 unfolding move_count move tried_at lowers moved due due_through due_in
 its_round = record { some = lit< tt; after_is = refl; passed = passes; last_is = refl }
 
-pub made : RoundsTo (on_way 9) idle_desks two_turns idle_desks two_passed
+pub made : RoundsTo 2 (on_way 9) idle_desks two_turns idle_desks two_passed
 unfolding turns_up_to move_count move tried_at lowers moved due due_through due_in
 made = record {
   round = its_round;
@@ -166,7 +166,7 @@ made = record {
 }
 
 -- what it isn't
-pub not_made : All (λ row. RoundsTo (on_way 9) idle_desks row.0 row.1 row.2 → ⊥) unmade
+pub not_made : All (λ row. RoundsTo 2 (on_way 9) idle_desks row.0 row.1 row.2 → ⊥) unmade
 unfolding turns_up_to move_count move tried_at lowers moved due due_through due_in
 not_made zero d below = λ is. (let both : 1 ≡ 2 = is.turns in absurd (omega (arith, both)))
 not_made (suc zero) d below =

@@ -1,5 +1,5 @@
 -- A round: the turns that several desks make together.
-use Rattle.std.specs.Prelude.{◌≡◌, ℕ, ◌+◌, ◌-◌, min, Bool, true, false, List, length, Option, Some, None, if◌then◌else◌}
+use Rattle.std.specs.Prelude.{◌≡◌, ℕ, ◌+◌, ◌-◌, min, Bool, true, false, List, Option, Some, None, if◌then◌else◌}
 use Rattle.transyt_moves.specs.Moves.{move_count}
 use Rattle.transyt_session.specs.Session.{SessionValue}
 use Rattle.transyt_sweep.specs.Climb.{least}
@@ -34,11 +34,15 @@ room_of workers c = min workers (min (c.budget - c.looked) (c.count - c.since))
 abbrev pub turns_of : ℕ → Machine → ℕ
 turns_of workers m = if is_end (answer_of m) then 1 else turns_up_to (room_of workers m.counters) m
 
--- what a round makes of a climber and the desks that it is made on
-pub record RoundsTo (before : Counters) (olds : List SessionValue) (after : Counters) (news : List SessionValue)
+-- how many of so many desks try in a short round: two more than the places that have passed since the last step
+abbrev pub tries_of : ℕ → Counters → ℕ
+tries_of desks c = min desks (c.since + 2)
+
+-- what a round of so many workers makes of a climber and the desks that it is made on
+pub record RoundsTo (workers : ℕ) (before : Counters) (olds : List SessionValue) (after : Counters) (news : List SessionValue)
     (result : Round) : Type 0 where
   pub round : IsRound (machine before (desk_zero olds)) (machine after (desk_zero news)) result.turns result.last
-  pub turns : result.turns ≡ turns_of (length olds) (machine before (desk_zero olds))
+  pub turns : result.turns ≡ turns_of workers (machine before (desk_zero olds))
   pub aligned : AreAligned news
   pub kept : after.count ≡ move_count (desk_zero news).net
   pub closed : (desk_zero news).before ≡ None

@@ -19,6 +19,10 @@ worked_rooms =
     ∷ (8, used_up, 0)
     ∷ []
 
+-- numbers of desks and a climber, with how many of them try in a short round
+abbrev pub worked_tries_of : List (ℕ × Counters × ℕ)
+worked_tries_of = (8, on_way 9, 3) ∷ (2, on_way 9, 2) ∷ (8, gone_round, 8) ∷ (7, used_up, 7) ∷ []
+
 -- numbers of workers and a climber, with how many turns its round is where no move lowers the index
 abbrev pub worked_rounds : List (ℕ × Machine × ℕ)
 worked_rounds =

@@ -7,7 +7,7 @@ ghost use Rattle.transyt_climb.specs.Turns.{machine};
 ghost use Rattle.transyt_climb.specs.Way.{IsRound};
 ghost use Rattle.transyt_desks.specs.Desks.{desk_zero, new_desk, opened_desks, sessions_of, AreAligned, AreAlike, AreDesks};
 ghost use Rattle.transyt_desks.specs.Lends.{LendsZero};
-ghost use Rattle.transyt_desks.specs.Rounds.{room_of, turns_of, RoundsTo};
+ghost use Rattle.transyt_desks.specs.Rounds.{room_of, tries_of, turns_of, RoundsTo};
 
 use crate::desk::{Desk, answers_of, follow_zero, try_front};
 use crate::equal::same_net;
@@ -124,8 +124,49 @@ impl Desks {
         ensures steps { length self.old ≡ 1
             → steps.new + (desk_zero self.old).work ≡ steps.old + (desk_zero self.new).work }
     {
+        let workers = self.desks.len();
         round_on(
             rt,
+            workers,
+            self.desks.as_mut_slice(),
+            &mut self.spare,
+            climber,
+            gate,
+            steps,
+        )
+    }
+
+    /// A round in which fewer desks try just after a step: two more than the moves that have passed since it.
+    ///
+    /// After a step the next is mostly near, and what is tried behind it is lost; the longer no move lowers the index,
+    /// the more are tried at once. All else is as in `round`.
+    pub fn short_round<R: Threads + Sync, G: Gate, L: Ledger>(
+        &mut self,
+        rt: &R,
+        climber: &mut Climber,
+        gate: &G,
+        steps: &mut Steps<L>,
+    ) -> Round
+        requires aligned { AreAligned self.old }
+        requires count { climber.old.count ≡ move_count (desk_zero self.old).net }
+        requires closed { (desk_zero self.old).before ≡ None }
+        requires room { (desk_zero self.old).work ≤ 2 ^ 61 }
+        ensures round { IsRound (machine climber.old (desk_zero self.old)) (machine climber.new (desk_zero self.new))
+            result.turns result.last }
+        ensures turns { result.turns
+            ≡ turns_of (tries_of (length self.old) climber.old) (machine climber.old (desk_zero self.old)) }
+        ensures aligned { AreAligned self.new }
+        ensures workers { length self.new ≡ length self.old }
+        ensures kept { climber.new.count ≡ move_count (desk_zero self.new).net }
+        ensures closed { (desk_zero self.new).before ≡ None }
+        ensures few { (desk_zero self.new).work ≤ (desk_zero self.old).work + 8000 * result.turns }
+        ensures steps { length self.old ≡ 1
+            → steps.new + (desk_zero self.old).work ≡ steps.old + (desk_zero self.new).work }
+    {
+        let workers = tries(self.desks.len(), climber);
+        round_on(
+            rt,
+            workers,
             self.desks.as_mut_slice(),
             &mut self.spare,
             climber,
@@ -161,6 +202,13 @@ fn all_same(desks: &[Desk]) -> bool
     true
 }
 
+/// How many of so many desks try in a short round.
+fn tries(desks: usize, climber: &Climber) -> usize
+    ensures { result ≡ tries_of desks climber.now }
+{
+    desks.min(climber.since() as usize + 2)
+}
+
 /// How many places are tried at once.
 fn room(workers: usize, climber: &Climber) -> usize
     requires few { workers ≤ 8 }
@@ -171,21 +219,24 @@ fn room(workers: usize, climber: &Climber) -> usize
     workers.min(looks.min(places) as usize)
 }
 
-/// A round on desks that all stand for one network.
+/// A round of so many workers on desks that all stand for one network.
 fn round_on<R: Threads + Sync, G: Gate, L: Ledger>(
     rt: &R,
+    workers: usize,
     desks: &mut [Desk],
     spare: &mut Net,
     climber: &mut Climber,
     gate: &G,
     steps: &mut Steps<L>,
 ) -> Round
+    requires some { 0 < workers }
+    requires inside { workers ≤ length desks.old }
     requires desks { AreDesks spare.old (sessions_of desks.old) }
     requires aligned { AreAligned (sessions_of desks.old) }
     requires count { climber.old.count ≡ move_count (desk_zero (sessions_of desks.old)).net }
     requires closed { (desk_zero (sessions_of desks.old)).before ≡ None }
     requires room { (desk_zero (sessions_of desks.old)).work ≤ 2 ^ 61 }
-    ensures round { RoundsTo climber.old (sessions_of desks.old) climber.new (sessions_of desks.new) result }
+    ensures round { RoundsTo workers climber.old (sessions_of desks.old) climber.new (sessions_of desks.new) result }
     ensures desks { AreDesks spare.new (sessions_of desks.new) }
     ensures len { length desks.new ≡ length desks.old }
     ensures steps { length desks.old ≡ 1 → steps.new + (desk_zero (sessions_of desks.old)).work
@@ -204,25 +255,27 @@ fn round_on<R: Threads + Sync, G: Gate, L: Ledger>(
         };
     }
     if desks.len() == 1 {
-        return alone(desks, climber, gate, steps);
+        return alone(workers, desks, climber, gate, steps);
     }
-    together(rt, desks, spare, climber, gate, steps)
+    together(rt, workers, desks, spare, climber, gate, steps)
 }
 
 /// A round of one desk: a turn, which passes the gate.
 fn alone<G: Gate, L: Ledger>(
+    workers: usize,
     desks: &mut [Desk],
     climber: &mut Climber,
     gate: &G,
     steps: &mut Steps<L>,
 ) -> Round
+    requires alone { workers ≡ 1 }
     requires one { length desks.old ≡ 1 }
     requires count { climber.old.count ≡ move_count (desk_zero (sessions_of desks.old)).net }
     requires closed { (desk_zero (sessions_of desks.old)).before ≡ None }
     requires room { (desk_zero (sessions_of desks.old)).work ≤ 2 ^ 61 }
     requires since { climber.old.since < climber.old.count }
     requires looked { climber.old.looked < climber.old.budget }
-    ensures round { RoundsTo climber.old (sessions_of desks.old) climber.new (sessions_of desks.new) result }
+    ensures round { RoundsTo workers climber.old (sessions_of desks.old) climber.new (sessions_of desks.new) result }
     ensures len { length desks.new ≡ length desks.old }
     ensures steps { steps.new + (desk_zero (sessions_of desks.old)).work
         ≡ steps.old + (desk_zero (sessions_of desks.new)).work }
@@ -236,12 +289,15 @@ fn alone<G: Gate, L: Ledger>(
 /// A round of several desks.
 fn together<R: Threads + Sync, G: Gate, L: Ledger>(
     rt: &R,
+    workers: usize,
     desks: &mut [Desk],
     spare: &mut Net,
     climber: &mut Climber,
     gate: &G,
     steps: &mut Steps<L>,
 ) -> Round
+    requires some { 0 < workers }
+    requires inside { workers ≤ length desks.old }
     requires several { 1 < length desks.old }
     requires desks { AreDesks spare.old (sessions_of desks.old) }
     requires aligned { AreAligned (sessions_of desks.old) }
@@ -250,11 +306,11 @@ fn together<R: Threads + Sync, G: Gate, L: Ledger>(
     requires room { (desk_zero (sessions_of desks.old)).work ≤ 2 ^ 61 }
     requires since { climber.old.since < climber.old.count }
     requires looked { climber.old.looked < climber.old.budget }
-    ensures round { RoundsTo climber.old (sessions_of desks.old) climber.new (sessions_of desks.new) result }
+    ensures round { RoundsTo workers climber.old (sessions_of desks.old) climber.new (sessions_of desks.new) result }
     ensures desks { AreDesks spare.new (sessions_of desks.new) }
     ensures len { length desks.new ≡ length desks.old }
 {
-    let room = room(desks.len(), climber);
+    let room = room(workers, climber);
     try_front(rt, gate, desks, room, climber.place(), climber.count());
     let answers = answers_of(desks, room);
     let (zero, others) = desks.split_at_mut(1);

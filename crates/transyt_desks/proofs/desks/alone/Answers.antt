@@ -12,9 +12,9 @@ returns-clause-round g c =
       session = c.turn-last.new.session;
       tried = (slice_index_or c.args.desks.now 0 c.index-desks-0.result).tried;
     } in
-    alone_rounds c.args.desks.now d c.args.climber.now c.turn-last.new.self
+    alone_rounds c.args.workers c.args.desks.now d c.args.climber.now c.turn-last.new.self
     (slice_index_or c.args.desks.now 0 c.index-desks-0.result).session c.turn-last.result
-    c.requires.one c.requires.since c.requires.looked
+    c.requires.alone c.requires.one c.requires.since c.requires.looked
     (session_read c.args.desks.now 0 c.index-desks-0.result (omega arith))
     c.turn-last.ensures.answer c.turn-last.ensures.state c.turn-last.ensures.kept c.turn-last.ensures.closed
     c.turn-last.ensures.few

@@ -8,7 +8,7 @@ use Rattle.transyt_climb.specs.Turns.{machine}
 use Rattle.transyt_climb.specs.Way.{IsRound}
 use Rattle.transyt_desks.specs.declared.desk.Desk.{Desk}
 use Rattle.transyt_desks.specs.Desks.{session_at, desk_zero, sessions_of, tried_at, AllStandFor, AreAligned, OthersClosed, AreTried, IsTried}
-use Rattle.transyt_desks.specs.Rounds.{room_of, turns_up_to}
+use Rattle.transyt_desks.specs.Rounds.{turns_up_to}
 use Rattle.transyt_desks.proofs.DeskLaws.{sessions_count, aligned_count, first_zero, rest_stand, before_zero, before_aligned, before_closed}
 use Rattle.transyt_desks.proofs.RoundLaws.{front_tried, all_closed, rounds_together, aligned_desks}
 use Rattle.transyt_desks.proofs.desks.together.Goals as goal
@@ -111,14 +111,14 @@ returns-clause-round g c =
       c.requires.desks.few,
       sessions_count c.args.desks.now,
     ) in
-    rounds_together c.args.climber.now c.settle_zero.new.climber s0 (sessions_of zero) (sessions_of (zero ++ others))
+    rounds_together c.args.workers c.args.climber.now c.settle_zero.new.climber s0 (sessions_of zero) (sessions_of (zero ++ others))
     c.settle_zero.result room (before_zero zero others (omega arith)) (before_aligned zero others one c.settle_zero.ensures.others)
     (subst (λ (s : SessionValue). IsRound (machine c.args.climber.now s)
     (machine c.settle_zero.new.climber (desk_zero (sessions_of zero))) c.settle_zero.result.turns c.settle_zero.result.last) zero_is
     c.settle_zero.ensures.round)
     (c.settle_zero.ensures.turns ∙ ap (λ n. turns_up_to n (machine c.args.climber.now (desk_zero (sessions_of front)))) taken
     ∙ ap (λ (s : SessionValue). turns_up_to room (machine c.args.climber.now s)) zero_is)
-    (c.room-room.ensures ∙ ap (λ n. room_of n c.args.climber.now) (sym (sessions_count c.args.desks.now)))
+    c.room-room.ensures
     c.requires.since c.requires.looked c.settle_zero.ensures.kept c.settle_zero.ensures.closed
     (subst (λ (s : SessionValue). (desk_zero (sessions_of zero)).work ≤ s.work + 8000 * c.settle_zero.result.turns) zero_is
     c.settle_zero.ensures.few)
