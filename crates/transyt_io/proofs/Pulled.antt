@@ -3,7 +3,7 @@ use Rattle.std.proofs.Common.{◌≡◌, ◌≢◌, ◌<◌, ◌≤◌, ◌⊎�
 use Rattle.std.proofs.Common.{◌∷◌, Option, None, Some, Result, Ok, Err, nat_lt, length, take, drop, refl, sym, ◌∙◌, ap}
 use Rattle.std.proofs.Common.{subst, arith}
 use Rattle.std.proofs.lemmas.List.{append-nil, drop-drop, length-append}
-use Rattle.std.proofs.lemmas.List.Edits.{length-between}
+use Rattle.std.proofs.lemmas.List.Edits.{between_none, length-between}
 use Rattle.std.proofs.lemmas.Slice.{between_is}
 use Rattle.std.proofs.lemmas.Bool.Decides.{nat_tests}
 use Rattle.std.specs.List.{between}
@@ -11,7 +11,7 @@ use Rattle.transyt_io.specs.declared.reader.Line.TheVariants.{Text, End}
 use Rattle.transyt_io.specs.declared.reader.ReadStop.TheVariants.{Fault, TooLong}
 use Rattle.transyt_io.specs.declared.reader.Pull.{Pull}
 use Rattle.transyt_io.specs.declared.reader.ReadStop.{ReadStop}
-use Rattle.transyt_io.specs.Lines.{line_of, lines_by, has_end}
+use Rattle.transyt_io.specs.Lines.{line_of, lines_by, lines, has_end}
 use Rattle.transyt_io.specs.Gather.{Gathers, Gathered}
 use Rattle.transyt_io.specs.Model.{Reading}
 use Rattle.transyt_io.specs.Pull.{Pulled, PulledAll, PulledLine}
@@ -51,6 +51,33 @@ pub not_due : (old : Reading) (line : List ℕ) (taken : ℕ) → Begun old line
 not_due old line taken b (inl e) = let h : true ≡ false = sym e ∙ b.first.open_yet in cc
 not_due old line taken b (inr e) = let h : true ≡ false = sym e ∙ b.going in cc
 
+-- a reader that has ended holds nothing, and all its lines were handed out
+pub reads_over : (old new : Reading) (left : Option (List ℕ)) (last : Option ℕ) (taken at upto : ℕ)
+    (block : List ℕ) (ended live : Bool) (told : Option (List ℕ))
+    → read_as taken at upto block ended live told ≡ old → ended ≡ true → (ended ≡ true → at ≡ upto) → taken ≤ 4194304
+    → ReadsLine old new left left last last (Ok End)
+reads_over old new left last taken at upto block ended live told view over none most =
+    let empty : old.held ≡ [] =
+    sym (ap (λ (r : Reading). r.held) view) ∙ ap (λ (i : ℕ). between i upto block) (none over)
+    ∙ between_none block upto in
+    let over_now : old.ended ≡ true = sym (ap (λ (r : Reading). r.ended) view) ∙ over in
+    record {
+      front = [];
+      back = [];
+      takes = takes_nothing left;
+      reads = inl (refl, refl, refl);
+      says = λ sofar given has_read.
+          let had : old.taken ≡ length sofar = has_read.count in
+          let has : taken ≡ old.taken = ap (λ (r : Reading). r.taken) view in
+          let all : lines (sofar ++ []) ≡ given ++ lines (old.held ++ []) =
+          has_read.to_come true [] (λ _. (refl, refl)) in
+          let short : length (sofar ++ []) ≡ length sofar = ap length (append-nil sofar) in (
+            sym (all ∙ ap (λ (xs : List ℕ). given ++ lines (xs ++ [])) empty ∙ append-nil given),
+            has_read.at_end over_now,
+            omega arith,
+          );
+    }
+
 -- a line ended in what was held
 pub reads_held : (old new : Reading) (left : Option (List ℕ)) (last : Option ℕ) (taken at upto n : ℕ)
     (block seen line : List ℕ) (ended live : Bool) (told : Option (List ℕ))
@@ -82,6 +109,21 @@ reads_held old new left last taken at upto n block seen line ended live told vie
     ap (λ (xs : List ℕ). lines_by keep (xs ++ ys)) (append-nil old.held ∙ sym piece_is)
     ∙ gathered [] (record { first = refl; open_yet = refl }) keep ys
     ∙ ap (λ (xs : List ℕ). line ∷ lines_by keep (xs ++ ys)) rest)
+
+-- a line that ended in what was held leaves fewer that may come
+pub less_held : (old : Reading) (taken at upto n : ℕ) (block seen : List ℕ) (ended live : Bool)
+    (told : Option (List ℕ))
+    → read_as taken at upto block ended live told ≡ old → seen ≡ block → upto ≤ length block
+    → n < length (between at upto seen)
+    → most_lines_left (read_as taken (at + (n + 1)) upto block true true None) < most_lines_left old
+less_held old taken at upto n block seen ended live told view same high within =
+    let held : between at upto block ≡ old.held = ap (λ (r : Reading). r.held) view in
+    let old_long : length old.held ≡ upto - at = ap length (sym held) ∙ length-between block at upto high in
+    let new_long : length (between (at + (n + 1)) upto block) ≡ upto - (at + (n + 1)) =
+    length-between block (at + (n + 1)) upto high in
+    let inside : n < length old.held =
+    subst (λ (xs : List ℕ). n < length xs) (ap (λ (xs : List ℕ). between at upto xs) same ∙ held) within in
+    let has : taken ≡ old.taken = ap (λ (r : Reading). r.taken) view in omega arith
 
 -- the reads of a call that read on
 pulled_reads : (old : Reading) (line line_new block : List ℕ) (taken taken_new : ℕ)
@@ -115,6 +157,21 @@ reads_pulled_line old new line line_new block kept taken taken_new left left_new
     (pulled_reads old line line_new block taken taken_new left left_new last last_new (Ok (Some found)) b p)
     (λ keep ys. a.ends old.held b.first keep ys
     ∙ ap (λ (xs : List ℕ). line_new ∷ lines_by keep (xs ++ ys)) (sym held))
+
+-- a line that ended in what was read leaves fewer that may come
+pub less_pulled : (old : Reading) (line line_new block kept : List ℕ) (taken taken_new : ℕ)
+    (left left_new : Option (List ℕ)) (last_new : Option ℕ) (found : Pull)
+    → Begun old line taken → Pulled line line_new block taken taken_new left left_new last_new (Ok (Some found))
+    → kept ≡ block → taken_new ≤ 4194304
+    → most_lines_left (read_as taken_new found.at found.«end» kept true true None) < most_lines_left old
+less_pulled old line line_new block kept taken taken_new left left_new last_new found b p same most =
+    let a : PulledLine line line_new block taken taken_new p.front p.back found = p.answer in
+    let had : taken ≡ old.taken = b.had in
+    let count : taken_new ≡ taken + (length p.front + length p.back) = a.taken_now in
+    let less : found.«end» - found.at < length p.back = a.less in
+    let long : length (between found.at found.«end» kept) ≡ found.«end» - found.at =
+    ap (λ (xs : List ℕ). length (between found.at found.«end» xs)) same
+    ∙ length-between block found.at found.«end» a.high in omega arith
 
 -- all that was gathered where the source ended
 pub record GatheredAll (old : Reading) (line_new front back : List ℕ) (taken_new : ℕ) : Type 0 where

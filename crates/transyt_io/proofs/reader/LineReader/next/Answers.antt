@@ -1,8 +1,13 @@
 use Rattle.std.proofs.Common.{◌∙◌, refl, arith, sym}
 use Rattle.std.proofs.lemmas.List.{with_items_is}
 use Rattle.transyt_io.proofs.Pulled.{begun, not_due, reads_held, reads_pulled_line, reads_pulled_last, less_at_last}
-use Rattle.transyt_io.proofs.Pulled.{reads_pulled_end, reads_stop}
+use Rattle.transyt_io.proofs.Pulled.{reads_pulled_end, reads_stop, reads_over, less_held, less_pulled}
 use Rattle.transyt_io.proofs.reader.LineReader.next.Goals as goal
+
+-- the source had ended before this call
+pub returns-then-self-clause-reads : goal.returns-then-self-clause-reads
+returns-then-self-clause-reads g c =
+    reads_over _ _ _ _ _ _ _ _ _ _ _ c.self.view_is c.if-self.true c.self.invariant.none c.self.invariant.most
 
 -- a line ended in what was held
 pub returns-in-Some-clause-reads : goal.returns-in-Some-clause-reads
@@ -12,6 +17,13 @@ returns-in-Some-clause-reads g c =
     reads_held _ _ _ _ _ _ _ _ _ _ _ _ _ _ c.self.view_is c.if-self.false c.deref.ensures.value
     (omega (arith, c.self.invariant.high)) c.in-Some.ensures.within c.in-Some.ensures.begun refl
 
+-- a line that was held leaves fewer that may come
+pub returns-in-Some-clause-less : goal.returns-in-Some-clause-less
+returns-in-Some-clause-less g c =
+    let size = c.self.inside.block.ok.0 in
+    λ _. less_held _ _ _ _ _ _ _ _ _ _ c.self.view_is c.deref.ensures.value (omega (arith, c.self.invariant.high))
+    c.in-Some.ensures.within
+
 -- a line ended in what was read
 pub returns-in-Ok-Some-clause-reads : goal.returns-in-Ok-Some-clause-reads
 returns-in-Ok-Some-clause-reads g c =
@@ -19,6 +31,14 @@ returns-in-Ok-Some-clause-reads g c =
     let told = rw c.in-Ok-Some.field-0-is at c.in-Ok-Some.ensures in
     let same = with_items_is c.self.inside.block c.read_on.new.block (c.read_on.auto.block ∙ c.deref_mut.ensures.len) in
     reads_pulled_line _ _ _ _ _ _ _ _ _ _ _ _ c.in-Ok-Some.found _ _ b told.pulled c.if-self.false same refl
+
+-- a line that was read leaves fewer that may come
+pub returns-in-Ok-Some-clause-less : goal.returns-in-Ok-Some-clause-less
+returns-in-Ok-Some-clause-less g c =
+    let b = begun _ _ _ _ _ _ _ _ _ _ c.self.view_is c.if-self.false c.deref.ensures.value c.in_default.ensures.begun in
+    let told = rw c.in-Ok-Some.field-0-is at c.in-Ok-Some.ensures in
+    let same = with_items_is c.self.inside.block c.read_on.new.block (c.read_on.auto.block ∙ c.deref_mut.ensures.len) in
+    λ _. less_pulled _ _ _ _ _ _ _ _ _ _ c.in-Ok-Some.found b told.pulled same c.read_on.ensures.most
 
 -- the source was read where no line end was held
 pub returns-in-Ok-Some-clause-unread : goal.returns-in-Ok-Some-clause-unread
