@@ -59,7 +59,6 @@ ghost use Rattle.transyt_io.specs.WorkedEnds.{
 ghost use Rattle.transyt_io.specs.WorkedLines.{worked_inputs, worked_lengths, worked_skips, worked_words};
 
 /// The worked inputs and lines come out as they are written beside the definitions.
-#[tactic(auto, using(crate::proofs::Worked::inputs, crate::proofs::Worked::lengths, crate::proofs::Worked::skips))]
 pub fn worked_lines()
     ensures inputs { map (λ row. (lines row.0, whole row.0, after_first_line row.0, has_end row.0)) worked_inputs
         ≡ map (λ row. row.1) worked_inputs }
