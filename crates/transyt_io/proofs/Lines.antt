@@ -171,6 +171,15 @@ gathered_line raw piece ys n keep h below before here =
     ap (λ (p : List ℕ). (raw ++ p) ++ ys) parts ∙ regroup raw (take n piece) 10 (drop (n + 1) piece) ys in
     ap (lines_by keep) all ∙ ap (map line_of) (cut_line keep whole_raw (drop (n + 1) piece ++ ys) none)
 
+-- a line that ended in the last piece ended in all that was read
+pub ends_in_piece : (keep : Bool) (raw front back piece rest after line ys : List ℕ) → piece ≡ back → rest ≡ after
+    → lines_by keep (((raw ++ front) ++ piece) ++ ys) ≡ line ∷ lines_by keep (after ++ ys)
+    → lines_by keep ((raw ++ (front ++ back)) ++ ys) ≡ line ∷ lines_by keep (rest ++ ys)
+ends_in_piece keep raw front back piece rest after line ys same is told =
+    ap (λ (xs : List ℕ). lines_by keep (xs ++ ys)) (sym (append_assoc raw front back)
+    ∙ ap (λ (xs : List ℕ). (raw ++ front) ++ xs) (sym same)) ∙ told
+    ∙ ap (λ (xs : List ℕ). line ∷ lines_by keep (xs ++ ys)) (sym is)
+
 -- what fits in the room that is left
 pub take_onto : {X : Type 0} → (n : ℕ) (xs ys : List X) → length xs ≤ n
     → take n (xs ++ ys) ≡ xs ++ take (min (length ys) (n - length xs)) ys

@@ -29,7 +29,7 @@ loop-n-preserved g c =
     c.read.auto.buf c.room-want.ensures.within c.in-Ok.ensures.bound in
     let good : is_ok c.extend_from_slice.result ≡ true = search rules in
     let items : c.extend_from_slice.new.self.items ≡ front ++ take n buf =
-    c.extend_from_slice.ensures.items ∙ (rw good (ap (λ (xs : List ℕ). front ++ xs) piece.same)) in
+    ◌∙◌ {A = List ℕ} c.extend_from_slice.ensures.items (rw good (ap (λ (xs : List ℕ). front ++ xs) piece.same)) in
     record {
       takes = subst (λ (xs : List ℕ). Takes (left c.args.source.now) (left c.read.new.self) xs) (sym items)
           (takes_both _ _ _ front (take n buf) c.loop-n.invariant.takes c.in-Ok.ensures.bytes.0);

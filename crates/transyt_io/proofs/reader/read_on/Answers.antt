@@ -1,9 +1,8 @@
-use Rattle.std.proofs.Common.{◌≡◌, ◌∙◌, ◌<◌, ◌+◌, ◌++◌, ◌∷◌, ℕ, List, [], length, take, drop, sym, ap, subst, arith, rules}
+use Rattle.std.proofs.Common.{◌≡◌, ◌∙◌, ◌<◌, ◌+◌, ◌++◌, ℕ, List, [], length, take, drop, sym, ap, subst, arith, rules}
 use Rattle.std.proofs.Common.{append_assoc, refl, IfSome}
 use Rattle.std.proofs.lemmas.Slice.{between_is}
-use Rattle.std.specs.List.{between}
 use Rattle.transyt_io.specs.Gather.{Gathers}
-use Rattle.transyt_io.specs.Lines.{lines_by}
+use Rattle.transyt_io.proofs.Lines.{ends_in_piece}
 use Rattle.transyt_io.proofs.Pieces.{piece_read}
 use Rattle.transyt_io.proofs.Told.{takes_both, takes_no_more}
 use Rattle.transyt_io.proofs.reader.read_on.Goals as goal
@@ -71,13 +70,8 @@ returns-in-Some-clause-pulled g c =
         taken_now = omega (arith, piece.long);
         less = omega (arith, piece.long);
         ends = λ raw h keep ys.
-            let told = c.in-Some.ensures.gathered (raw ++ front) (sofar.gathers raw h) keep ys in
-            let all : (raw ++ (front ++ back)) ++ ys ≡ ((raw ++ front) ++ take n block) ++ ys =
-            ap (λ (xs : List ℕ). xs ++ ys) (sym (append_assoc raw front back)
-            ∙ ap (λ (xs : List ℕ). (raw ++ front) ++ xs) (sym piece.same)) in
-            let after : drop (at + 1) (take n block) ++ ys ≡ between (at + 1) n block ++ ys =
-            ap (λ (xs : List ℕ). xs ++ ys) (sym (between_is block (at + 1) n)) in
-            ap (lines_by keep) all ∙ told ∙ ap (λ (xs : List ℕ). c.gather.new.line.items ∷ lines_by keep xs) after;
+            ends_in_piece keep raw front back (take n block) _ _ _ ys piece.same (between_is block (at + 1) n)
+            (c.in-Some.ensures.gathered (raw ++ front) (sofar.gathers raw h) keep ys);
       };
     }
 
