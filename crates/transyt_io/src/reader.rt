@@ -176,7 +176,7 @@ impl LineReader {
 }
 
 /// Where the block holds what came after a line.
-#[derive(Debug, Drop)]
+#[derive(Drop)]
 struct Pull {
     at: usize,
     end: usize,
