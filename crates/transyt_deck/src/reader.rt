@@ -123,10 +123,13 @@ impl CardReader {
                 draft,
                 ..
             } => Ok(draft.close()),
-            _ => Err(CardStop::Refused {
-                card: self.taken + 1,
-                code: Code::NoEnd,
-            }),
+            state => {
+                drop(state);
+                Err(CardStop::Refused {
+                    card: self.taken + 1,
+                    code: Code::NoEnd,
+                })
+            }
         }
     }
 }

@@ -8,6 +8,7 @@ ghost use Rattle.transyt_deck.specs.Adds.{Adds, Begins, CanAdd, IsTied, IsTiedSt
 
 use crate::card::{Card, read_card};
 use std::alloc::Global;
+use std::mem;
 use transyt_net::{Draft, DraftFault, Feed, GiveWay, NewLink, PlanFault, Stage};
 use transyt_syntax::{Code, Numbers};
 
@@ -135,14 +136,16 @@ fn add(alloc: Global, state: &mut State, card: &Card) -> Result<(), Stop>
     }
 }
 
-/// Puts the state that a card begins in the place of the one before; a card that is refused changes nothing.
+/// Puts the state that a card begins in the place of the one before; a card that is refused changes nothing. The old
+/// state is dropped by a call, as wherever a state is dropped: its drop is then proved once.
 fn replace(state: &mut State, begun: Result<State, Stop>) -> Result<(), Stop>
     ensures begun { IfOk begun (λ new. (state.new ≡ new) × (result ≡ Ok tt)) }
     ensures refused { IfErr begun (λ stop. (state.new ≡ state.old) × (result ≡ Err stop)) }
 {
     match begun {
         Ok(new) => {
-            *state = new;
+            let old = mem::replace(state, new);
+            drop(old);
             Ok(())
         }
         Err(stop) => Err(stop),
