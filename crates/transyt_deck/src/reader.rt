@@ -87,7 +87,6 @@ impl CardReader {
 
     /// Takes the next line, or refuses it with its number and the first code that holds of it after the lines before
     /// it. After `Complete` or an error the reader is no longer live; an error changes nothing else.
-    #[tactic(auto, using(crate::proofs::Adding::no_code))]
     pub fn take(&mut self, line: &[u8]) -> Result<Progress, CardStop>
         requires live { IsTrue self.old.live }
         requires few { line_count self.old.deck < 4294967294 }
