@@ -1,6 +1,7 @@
 -- The lists of a card that is read, and the deck after a line.
 use Rattle.std.proofs.Common.{◌≡◌, ℕ, zero, suc, ◌+◌, List, [], ◌∷◌, ◌++◌, length, Bool, true, Option, Some, None, Result, Ok, Err}
-use Rattle.std.proofs.Common.{refl, sym, subst, ap, false, not, is_some, IsOk, IfOk, IfSome}
+use Rattle.std.proofs.Common.{refl, sym, subst, ap, ◌∙◌, false, not, is_some, IsOk, IfOk, IfSome, OnErr}
+use Rattle.std.specs.Result.{IsErrAnd}
 use Rattle.std.specs.List.{fold}
 use Rattle.std.proofs.lemmas.List.Sums.{fold-append}
 use Rattle.std.specs.Option.{option_map}
@@ -65,6 +66,23 @@ adds_refused {T} true first part to old new net fault r fits refuses same is =
     subst (λ (r : Result T Stop). Adds (placed true first to net) (part, old) (part, new) r) (sym is)
     (by_first T first to net (part, old) (part, new) fault refuses (ap (λ (d : Network). (part, d)) same))
 
+-- the same after a call of the network whose fault is a stop
+pub adds_stopped : (fits : Bool) (first : Option DraftFault) (part to : Part) (old new net : Network)
+    (call : Result (Unit {0}) DraftFault) (made r : Result (Unit {0}) Stop) (stop : Stop)
+    → fits ≡ true → Refuses call first (Some Memory) → OnErr call (new ≡ old) → made ≡ stopped call
+    → made ≡ Err stop → IsErrAnd r (λ e. e ≡ stop) → Adds (placed fits first to net) (part, old) (part, new) r
+adds_stopped fits first part to old new net (Ok x) made r stop fit refuses same is was told = absurd (cc)
+adds_stopped fits first part to old new net (Err fault) made (Ok x) stop fit refuses same is was told = absurd (told)
+adds_stopped fits first part to old new net (Err fault) made (Err e) stop fit refuses same is was told =
+    adds_refused fits first part to old new net fault (Err e) fit refuses same (ap (λ (s : Stop). Err s) told ∙ sym was ∙ is)
+
+-- a call that takes no memory
+pub no_memory : (call : Result (Unit {0}) DraftFault) (first : Option DraftFault) → Refuses call first None
+    → Refuses call first (Some Memory)
+no_memory (Ok x) first refuses = refuses
+no_memory (Err fault) (Some first) refuses = refuses
+no_memory (Err fault) None refuses = absurd (cc)
+
 count_at : (n : ℕ) (state : State) → line_count (deck_at n state) ≡ n
 count_at n s.Start = refl
 count_at n (s.Formed form) = refl
@@ -96,6 +114,18 @@ no_code n (Ok (s.Making form p.Links net)) ok = refl
 no_code n (Ok (s.Making form p.Feeds net)) ok = refl
 no_code n (Ok (s.Making form p.Plan net)) ok = refl
 no_code n (Ok (s.Making form p.End net)) ok = refl
+
+-- nor has a reader's deck with that line
+pub still_fits : (n : ℕ) (state : State) (line : List ℕ) → is_open (deck_at n state) ≡ true
+    → IsOk (state_after state line) → not (is_some (code_of (next (deck_at n state) line))) ≡ true
+still_fits n s.Start line still ok = no_code (n + 1) _ ok
+still_fits n (s.Formed form) line still ok = no_code (n + 1) _ ok
+still_fits n (s.Making form p.Frame net) line still ok = no_code (n + 1) _ ok
+still_fits n (s.Making form p.Nodes net) line still ok = no_code (n + 1) _ ok
+still_fits n (s.Making form p.Links net) line still ok = no_code (n + 1) _ ok
+still_fits n (s.Making form p.Feeds net) line still ok = no_code (n + 1) _ ok
+still_fits n (s.Making form p.Plan net) line still ok = no_code (n + 1) _ ok
+still_fits n (s.Making form p.End net) line still ok = absurd (cc)
 
 -- a deck that is complete stays so
 pub stays_complete : (d : Deck) (more : List (List ℕ)) → is_complete d ≡ true → fold next d more ≡ d

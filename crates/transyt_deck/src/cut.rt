@@ -36,7 +36,10 @@ pub fn cut_deck(alloc: Global, input: &[u8]) -> Result<Cut, CardStop>
         match reader.take(line) {
             Ok(Progress::More) => rest = after,
             Ok(Progress::Complete) => return close(reader, input.len() - after.len()),
-            Err(stop) => return Err(stop),
+            Err(stop) => {
+                drop(reader);
+                return Err(stop);
+            }
         }
     }
     close(reader, input.len())

@@ -87,7 +87,6 @@ impl CardReader {
 
     /// Takes the next line, or refuses it with its number and the first code that holds of it after the lines before
     /// it. After `Complete` or an error the reader is no longer live; an error changes nothing else.
-    #[tactic(auto, using(crate::proofs::Adding::no_code))]
     pub fn take(&mut self, line: &[u8]) -> Result<Progress, CardStop>
         requires live { IsTrue self.old.live }
         requires few { line_count self.old.deck < 4294967294 }
@@ -123,10 +122,13 @@ impl CardReader {
                 draft,
                 ..
             } => Ok(draft.close()),
-            _ => Err(CardStop::Refused {
-                card: self.taken + 1,
-                code: Code::NoEnd,
-            }),
+            state => {
+                drop(state);
+                Err(CardStop::Refused {
+                    card: self.taken + 1,
+                    code: Code::NoEnd,
+                })
+            }
         }
     }
 }

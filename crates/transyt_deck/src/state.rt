@@ -1,12 +1,14 @@
 //! What the cards of a deck have come to, and one card more.
-ghost use Rattle.std.specs.Prelude.{◌≡◌, ◌≤◌, ℕ, length, OnOk, OnErr, IfOk, true, false};
+ghost use Rattle.std.specs.Prelude.{◌≡◌, ◌≤◌, ℕ, length, OnOk, OnErr, IfOk, IfErr, Ok, Err, true, false};
 ghost use Rattle.transyt_deck.specs.Deck.{deck_at, is_open, is_complete};
 ghost use Rattle.transyt_deck.specs.declared.card.Card.TheVariants as card;
+ghost use Rattle.transyt_deck.specs.declared.state.State.TheVariants as state;
 ghost use Rattle.transyt_deck.specs.State.{rank, up_to, form_of, framed, added, state_with, state_after, plan_code};
 ghost use Rattle.transyt_deck.specs.Adds.{Adds, Begins, CanAdd, IsTied, IsTiedState, stopped};
 
 use crate::card::{Card, read_card};
 use std::alloc::Global;
+use std::mem;
 use transyt_net::{Draft, DraftFault, Feed, GiveWay, NewLink, PlanFault, Stage};
 use transyt_syntax::{Code, Numbers};
 
@@ -125,25 +127,45 @@ fn add(alloc: Global, state: &mut State, card: &Card) -> Result<(), Stop>
     ensures stays_tied { IsTiedState state.new }
 {
     match state {
-        State::Start => match card {
-            Card::Form(form) => {
-                if *form < 1 || *form > 2 {
-                    return Err(Stop::Code(Code::Range));
-                }
-                *state = State::Formed { form: *form };
-            }
-            _ => {
-                let begun = begin(alloc, 1, card)?;
-                *state = begun;
-            }
-        },
+        State::Start => replace(state, first(alloc, card)),
         State::Formed { form } => {
-            let begun = begin(alloc, *form, card)?;
-            *state = begun;
+            let begun = begin(alloc, *form, card);
+            replace(state, begun)
         }
-        State::Making { part, draft, .. } => return add_to(part, draft, card),
+        State::Making { part, draft, .. } => add_to(part, draft, card),
     }
-    Ok(())
+}
+
+/// Puts the state that a card begins in the place of the one before; a card that is refused changes nothing. The old
+/// state is dropped by a call, as wherever a state is dropped: its drop is then proved once.
+fn replace(state: &mut State, begun: Result<State, Stop>) -> Result<(), Stop>
+    ensures begun { IfOk begun (λ new. (state.new ≡ new) × (result ≡ Ok tt)) }
+    ensures refused { IfErr begun (λ stop. (state.new ≡ state.old) × (result ≡ Err stop)) }
+{
+    match begun {
+        Ok(new) => {
+            let old = mem::replace(state, new);
+            drop(old);
+            Ok(())
+        }
+        Err(stop) => Err(stop),
+    }
+}
+
+/// The first card of a deck.
+fn first(alloc: Global, card: &Card) -> Result<State, Stop>
+    ensures begun { Begins (state_with state.Start card.now) result }
+    ensures tied { IfOk result IsTiedState }
+{
+    match card {
+        Card::Form(form) => {
+            if *form < 1 || *form > 2 {
+                return Err(Stop::Code(Code::Range));
+            }
+            Ok(State::Formed { form: *form })
+        }
+        _ => begin(alloc, 1, card),
+    }
 }
 
 /// A card before the CYCLE card, in a deck of this form.
