@@ -58,7 +58,7 @@ all_within_true low high (x ∷ xs) all =
     (all_within_true low high xs (All-tail (λ k. (low ≤ k) × (k ≤ high)) x xs all))
 
 -- what stands at a place
-stands : {A : Type 0} (xs : List A) (p : ℕ) (d : A) → p < length xs → slice_get xs p ≡ Some (get_or xs p d)
+pub stands : {A : Type 0} (xs : List A) (p : ℕ) (d : A) → p < length xs → slice_get xs p ≡ Some (get_or xs p d)
 stands [] p d h = absurd (omega arith)
 stands (x ∷ xs) zero d h = refl
 stands (x ∷ xs) (suc p) d h = stands xs p d (omega arith)

@@ -1,7 +1,8 @@
 //! The first fault of an edit.
 
-ghost use Rattle.std.specs.Prelude.{◌≡◌, ℕ, ◌-◌, ◌<◌, ◌≤◌, length, true, take};
-ghost use Rattle.transyt_net.specs.Valid.{on_place};
+ghost use Rattle.std.specs.Prelude.{◌≡◌, ℕ, ◌-◌, ◌<◌, ◌≤◌, ◌&&◌, length, true, take};
+ghost use Rattle.transyt_parts.specs.Valid.{is_fed};
+ghost use Rattle.transyt_net.specs.Valid.{on_place, feeds_at};
 ghost use Rattle.transyt_net.specs.EditFaults.{range_fault, feed_fault, order_fault, change_fault, edit_fault, is_link, has_stage, changed};
 ghost use Rattle.transyt_net.specs.Edits.{change_to};
 
@@ -89,20 +90,12 @@ impl Net {
                 change,
             } => self.change_fault(node, stage, change),
             Edit::Entry { link, flow } => range_fault(self.is_link(link), is_flow(flow)),
-            Edit::Part { link, feeder, flow } => part_fault(
-                self.is_link(link) && self.is_link(feeder),
-                is_fed(&self.link_places, &self.links, link, feeder),
-                is_flow(flow),
-            ),
+            Edit::Part { link, feeder, flow } => self.feed_fault(link, feeder, is_flow(flow)),
             Edit::Cruise {
                 link,
                 feeder,
                 seconds,
-            } => part_fault(
-                self.is_link(link) && self.is_link(feeder),
-                is_fed(&self.link_places, &self.links, link, feeder),
-                is_cruise(seconds),
-            ),
+            } => self.feed_fault(link, feeder, is_cruise(seconds)),
             Edit::Saturation { link, flow } => {
                 range_fault(self.is_link(link), is_saturation(flow))
             }
@@ -110,6 +103,18 @@ impl Net {
                 range_fault(self.is_link(link), is_weight(delay) && is_weight(stop))
             }
         }
+    }
+
+    /// The first fault of an edit of a feed, whose new number is in its range or not.
+    fn feed_fault(&self, link: u32, feeder: u32, fits: bool) -> Option<EditFault>
+        ensures { result ≡ feed_fault (is_link self.now link && is_link self.now feeder)
+            (is_fed (feeds_at self.now.links link) feeder) fits }
+    {
+        part_fault(
+            self.is_link(link) && self.is_link(feeder),
+            is_fed(&self.link_places, &self.links, link, feeder),
+            fits,
+        )
     }
 
     /// The first fault of a change.

@@ -16,6 +16,14 @@ returns-in-Some c =
     let place : IsPlace link_number xs c.args.number p = place_is link_number xs c.args.number p at in
     sym (found_here link_number xs c.args.number p c.index-links-place.result place c.index-links-place.is)
 
+-- and the place is inside the list
+pub bounds-links-place : goal.bounds-links-place
+bounds-links-place c =
+    let xs : List LinkValue = c.args.links.now in
+    let p : ℕ = c.in-Some.place in
+    let at : place_of (link_numbers xs) c.args.number ≡ Some p = search rules in
+    (place_is link_number xs c.args.number p at).inside
+
 -- a number that is not there has no link
 pub returns-in-None : goal.returns-in-None
 returns-in-None c =

@@ -16,6 +16,14 @@ returns-in-Some c =
     let place : IsPlace node_number xs c.args.number p = place_is node_number xs c.args.number p at in
     sym (found_here node_number xs c.args.number p c.index-nodes-place.result place c.index-nodes-place.is)
 
+-- and the place is inside the list
+pub bounds-nodes-place : goal.bounds-nodes-place
+bounds-nodes-place c =
+    let xs : List NodeValue = c.args.nodes.now in
+    let p : ℕ = c.in-Some.place in
+    let at : place_of (node_numbers xs) c.args.number ≡ Some p = search rules in
+    (place_is node_number xs c.args.number p at).inside
+
 -- a number that is not there has no node
 pub returns-in-None : goal.returns-in-None
 returns-in-None c =

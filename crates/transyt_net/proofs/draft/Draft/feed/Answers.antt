@@ -1,5 +1,6 @@
 -- The draft with the new feed is sound, and has no new number.
-use Rattle.std.proofs.Common.{rules, ◌≡◌, ℕ, List, Some, None, refl, sym, ap, ◌∙◌, subst, set}
+use Rattle.std.proofs.Common.{rules, ◌≡◌, ℕ, ◌<◌, List, length, Some, None, refl, sym, ap, ◌∙◌, subst, set, arith}
+use Rattle.std.proofs.lemmas.List.{set-get_or}
 use Rattle.transyt_parts.specs.declared.link.Feed.{Feed}
 use Rattle.transyt_parts.specs.Parts.{LinkValue}
 use Rattle.transyt_net.specs.Parts.{Network, network_of}
@@ -48,3 +49,39 @@ returns-clause-ok c =
     let asked : Feed = new_feed c.args.feeder c.args.flow c.args.cruise in
     ap (λ (ls : List LinkValue). record net { links = ls }) (written c)
     ∙ ap (λ (n : Network). with_feed n c.args.link asked) c.self.view_is
+
+-- the place is that of a link
+pub index_mut-owner-requires : goal.index_mut-owner-requires
+index_mut-owner-requires c =
+    let items : List LinkValue = c.self.inside.links.items in
+    let p : ℕ = c.in-Some-get_index_of.place in
+    let at : place_of (link_numbers items) c.args.link ≡ Some p = search rules in
+    let inside : p < length items = (place_is link_number items c.args.link p at).inside in
+    omega (arith, c.self.inside.links.ok.0)
+
+-- where there is no memory, the links are as they were
+kept : (c : goal.After-from_residual)
+    → set c.self.inside.links.items c.in-Some-get_index_of.place c.add_feed.new.link ≡ c.self.inside.links.items
+kept c =
+    let items : List LinkValue = c.self.inside.links.items in
+    let p : ℕ = c.in-Some-get_index_of.place in
+    ap (set items p) (c.in_err-add_feed.ensures.err ∙ c.index_mut-owner.ensures.value)
+    ∙ set-get_or items p c.index_mut-owner.result.now
+
+-- so the draft is sound
+pub invariant_of-self : goal.invariant_of-self
+invariant_of-self c =
+    let net : Network = network_of c.self.inside.frame c.self.inside.nodes.items
+    c.self.inside.links.items c.self.inside.plan in (
+      subst (λ (ls : List LinkValue). IsSound (record net { links = ls })) (sym (kept c)) c.self.invariant.0,
+      c.self.invariant.1,
+      c.self.invariant.2 ∙ ap link_numbers (sym (kept c)),
+    )
+
+-- and the network is as it was
+pub returns-in_err-add_feed-clause-err : goal.returns-in_err-add_feed-clause-err
+returns-in_err-add_feed-clause-err c =
+    let net : Network = network_of c.self.inside.frame c.self.inside.nodes.items
+    c.self.inside.links.items c.self.inside.plan in
+    let same = ap (λ (ls : List LinkValue). record net { links = ls }) (kept c) ∙ c.self.view_is in
+    search rules

@@ -1,5 +1,5 @@
 -- The draft with the new give-way rule is sound, and has no new number.
-use Rattle.std.proofs.Common.{rules, ◌≡◌, ℕ, List, Some, None, refl, sym, ap, ◌∙◌, subst, set}
+use Rattle.std.proofs.Common.{rules, ◌≡◌, ℕ, ◌<◌, List, length, Some, None, refl, sym, ap, ◌∙◌, subst, set, arith}
 use Rattle.transyt_parts.specs.declared.link.GiveWay.{GiveWay}
 use Rattle.transyt_parts.specs.Parts.{LinkValue}
 use Rattle.transyt_net.specs.Parts.{Network, network_of}
@@ -47,3 +47,12 @@ returns-clause-ok c =
     let asked : GiveWay = new_rule c.args.other c.args.percent in
     ap (λ (ls : List LinkValue). record net { links = ls }) (written c)
     ∙ ap (λ (n : Network). with_rule n c.args.link asked) c.self.view_is
+
+-- the place is that of a link
+pub index_mut-owner-requires : goal.index_mut-owner-requires
+index_mut-owner-requires c =
+    let items : List LinkValue = c.self.inside.links.items in
+    let p : ℕ = c.in-Some-get_index_of.place in
+    let at : place_of (link_numbers items) c.args.link ≡ Some p = search rules in
+    let inside : p < length items = (place_is link_number items c.args.link p at).inside in
+    omega (arith, c.self.inside.links.ok.0)

@@ -1,5 +1,6 @@
 -- The draft with the new stage of its last node is sound, and has no new number.
 use Rattle.std.proofs.Common.{rules, ◌≡◌, ℕ, List, ◌<◌, ◌-◌, None, refl, sym, ap, ◌∙◌, subst, length, set, get_or}
+use Rattle.std.proofs.lemmas.List.{set-get_or}
 use Rattle.transyt_parts.specs.declared.node.Stage.{Stage}
 use Rattle.transyt_parts.specs.Parts.{NodeValue}
 use Rattle.transyt_net.specs.Parts.{Network, network_of}
@@ -59,3 +60,30 @@ returns-clause-count c =
     let stage : Stage = new_stage c.args.change c.args.intergreen c.args.least in
     ap (λ (n : Network). length n.nodes) (returns-clause-ok c)
     ∙ length_kept_at node_number (add_stage stage) (λ x. refl) nodes (last_place nodes)
+
+-- where there is no memory, the nodes are as they were
+kept : (c : goal.After-from_residual)
+    → set c.self.inside.nodes.items (c.len-last.result - 1) c.add_stage.new.node ≡ c.self.inside.nodes.items
+kept c =
+    let items : List NodeValue = c.self.inside.nodes.items in
+    let last : ℕ = c.len-last.result - 1 in
+    ap (set items last) (c.in_err-add_stage.ensures.err ∙ c.index_mut-node.ensures.value)
+    ∙ set-get_or items last c.index_mut-node.result.now
+
+-- so the draft is sound
+pub invariant_of-self : goal.invariant_of-self
+invariant_of-self c =
+    let net : Network = network_of c.self.inside.frame c.self.inside.nodes.items
+    c.self.inside.links.items c.self.inside.plan in (
+      subst (λ (ns : List NodeValue). IsSound (record net { nodes = ns })) (sym (kept c)) c.self.invariant.0,
+      c.self.invariant.1 ∙ ap node_numbers (sym (kept c)),
+      c.self.invariant.2,
+    )
+
+-- and the network is as it was
+pub returns-in_err-add_stage-clause-err : goal.returns-in_err-add_stage-clause-err
+returns-in_err-add_stage-clause-err c =
+    let net : Network = network_of c.self.inside.frame c.self.inside.nodes.items
+    c.self.inside.links.items c.self.inside.plan in
+    let same = ap (λ (ns : List NodeValue). record net { nodes = ns }) (kept c) ∙ c.self.view_is in
+    search rules

@@ -1,5 +1,5 @@
 -- The link that an edit names is there and takes it; the network is then the edited one, and stays valid.
-use Rattle.std.proofs.Common.{rules, ◌≡◌, List, Some, None, sym, ap, ◌∙◌, subst, true}
+use Rattle.std.proofs.Common.{rules, ◌≡◌, ℕ, ◌<◌, List, length, Some, None, sym, ap, ◌∙◌, subst, true, arith}
 use Rattle.transyt_parts.specs.Parts.{LinkValue}
 use Rattle.transyt_parts.specs.Valid.{link_number}
 use Rattle.transyt_net.specs.declared.edit.Edit.{Edit}
@@ -22,6 +22,15 @@ unreachable-requires c =
     let known : is_among (link_numbers net.links) c.args.number ≡ true =
     link_named net e c.args.number c.requires.names allowed in
     search rules
+
+-- the place is that of a link
+pub index_mut-link-requires : goal.index_mut-link-requires
+index_mut-link-requires c =
+    let items : List LinkValue = c.self.inside.links.items in
+    let p : ℕ = c.in-Some.place in
+    let at : place_of (link_numbers items) c.args.number ≡ Some p = search rules in
+    let inside : p < length items = (place_is link_number items c.args.number p at).inside in
+    omega (arith, c.self.inside.links.ok.0)
 
 -- the link takes the edit
 pub edit_link-requires : goal.edit_link-requires

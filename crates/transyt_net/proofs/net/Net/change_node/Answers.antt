@@ -1,5 +1,5 @@
 -- The node that an edit names is there and takes it; the network is then the edited one, and stays valid.
-use Rattle.std.proofs.Common.{rules, ◌≡◌, List, Some, None, sym, ap, ◌∙◌, subst, true}
+use Rattle.std.proofs.Common.{rules, ◌≡◌, ℕ, ◌<◌, List, length, Some, None, sym, ap, ◌∙◌, subst, true, arith}
 use Rattle.transyt_parts.specs.Parts.{NodeValue}
 use Rattle.transyt_parts.specs.Valid.{node_number}
 use Rattle.transyt_net.specs.declared.edit.Edit.{Edit}
@@ -22,6 +22,15 @@ unreachable-requires c =
     let known : is_among (node_numbers net.nodes) c.args.number ≡ true =
     node_named net e c.args.number c.requires.names allowed in
     search rules
+
+-- the place is that of a node
+pub index_mut-node-requires : goal.index_mut-node-requires
+index_mut-node-requires c =
+    let items : List NodeValue = c.self.inside.nodes.items in
+    let p : ℕ = c.in-Some.place in
+    let at : place_of (node_numbers items) c.args.number ≡ Some p = search rules in
+    let inside : p < length items = (place_is node_number items c.args.number p at).inside in
+    omega (arith, c.self.inside.nodes.ok.0)
 
 -- the node takes the edit
 pub edit_node-requires : goal.edit_node-requires
