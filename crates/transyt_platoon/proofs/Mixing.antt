@@ -53,6 +53,13 @@ mixed-le w x z m x_within z_within = div-le_of_le-mul (100 + w) (omega (arith, m
 pub mixed_same : (w v : ℕ) → mixed w v v ≡ v
 mixed_same w v = ap (λ k. k / (100 + w)) (omega arith) ∙ mul-div_cancel_left v {n = 100 + w} (omega arith)
 
+-- the mean of numbers below a bound is below it
+pub mean_below : (xs : List ℕ) (b : ℕ) → 0 < length xs → All (λ v. v < b) xs → sum xs / length xs < b
+mean_below xs b some fit =
+    let first : get_or xs 0 0 < b = fit 0 0 some in
+    let mean : sum xs / length xs ≤ b - 1 =
+    div-le_of_le-mul (length xs) (sum_by-le (λ x. x) (b - 1) xs (λ k d h. omega (arith, fit k d h))) in omega arith
+
 -- the smoothed profile begins with the mean
 pub smoothed_none : (xs : List ℕ) (w : ℕ) → smoothed xs w 0 ≡ sum xs / length xs
 unfolding smoothed

@@ -1,5 +1,6 @@
 -- The mean of two numbers by a reciprocal.
 use Rattle.std.proofs.Common.{◌≡◌, ℕ, ◌+◌, ◌-◌, ◌*◌, ◌/◌, ◌^◌, ◌<◌, ◌≤◌, length, ap, ◌∙◌, arith}
+use Rattle.std.proofs.lemmas.Nat.{mul-le}
 use Rattle.std.proofs.Math.Nat.{mul-le-mul_left, mul-le-mul_right, mul-lt-mul_of_pos_right}
 use Rattle.transyt_num.proofs.ReciprocalLaws.{by_reciprocal}
 use Rattle.transyt_platoon.specs.Platoon.{mixed}
@@ -33,6 +34,16 @@ parts_sum w by x z most small weight close x_fits z_fits =
     let both : most * (by * (100 + w)) ≤ 4194304 * (by * (100 + w)) = mul-le-mul_right (by * (100 + w)) small in
     let apart : most * (by * (100 + w)) ≡ most * (100 * by) + most * (w * by) = omega arith in
     omega (arith, first, second, both, apart, close, weight)
+
+-- so the products of a platoon that is ready fit
+pub ready_sum : (n : ℕ) (p : Platoon) (x z : ℕ) → IsReady n p → x < p.travel.now.limit → z < p.travel.now.limit
+    → x * p.travel.now.starting_factor + z * p.travel.now.before_factor < 2 ^ 63
+ready_sum n p x z is x_fits z_fits =
+    let m = p.travel.now in
+    let weight : m.percent * m.time ≤ 100 * 960 = mul-le m.percent m.time 100 960 is.travel.percent is.travel.time in
+    rw (is.travel.starting_factor, is.travel.before_factor)
+    (parts_sum m.weight m.reciprocal x z m.limit is.travel.small (omega (arith, weight, is.travel.weight))
+    is.travel.close x_fits z_fits)
 
 -- a platoon whose values are all below a number that is within the travel's limit is ready
 pub all_ready : (n : ℕ) (p : Platoon) → IsPlatoon n p → p.above ≤ p.travel.now.limit → IsReady n p

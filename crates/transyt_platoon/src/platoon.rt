@@ -42,7 +42,6 @@ pub(crate) fn disperse_one(platoon: &Platoon<'_>, out: &mut [u64])
 }
 
 /// Whether all of a platoon leaves room for the products of its travel.
-#[tactic(auto, using(crate::proofs::Parts::all_ready))]
 pub(crate) fn is_ready(platoon: &Platoon<'_>) -> bool
     requires { IsPlatoon (length platoon.now.values.now) platoon.now }
     ensures { IsTrue result → IsReady (length platoon.now.values.now) platoon.now }

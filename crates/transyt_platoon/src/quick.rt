@@ -6,7 +6,7 @@ ghost use Rattle.transyt_platoon.specs.Platoon.{mixed, smoothed};
 use crate::dispersion::after;
 use transyt_num::reciprocal;
 
-/// A number below which `mix_by` mixes values with `weight`.
+/// A number below which a `Mixer` mixes values with `weight`.
 pub(crate) fn most_of(weight: u64) -> u64
     requires { weight ≤ 96000 }
     ensures fits { result * (100 + weight) * (100 + weight) ≤ 2 ^ 64 }
@@ -16,6 +16,62 @@ pub(crate) fn most_of(weight: u64) -> u64
         274877906944
     } else {
         1073741824
+    }
+}
+
+/// What `travel_by` mixes with: factors that take the place of a division.
+#[derive(Clone, Copy)]
+struct Mixer {
+    /// The weight of what went by a step before, against 100 of what sets out.
+    weight: u64,
+    /// Values below this are mixed.
+    most: u64,
+    /// The reciprocal of 100 and the weight, against 2^64.
+    reciprocal: u64,
+    /// 100 times the reciprocal: the factor of what sets out.
+    starting_factor: u64,
+    /// The weight times the reciprocal: the factor of what went by a step before.
+    before_factor: u64,
+    ghost some: { 0 < weight },
+    ghost weight_fits: { weight ≤ 96000 },
+    ghost room: { most * (100 + weight) * (100 + weight) ≤ 2 ^ 64 },
+    ghost most_fits: { most < 2 ^ 44 },
+    ghost least: { 2 ^ 64 ≤ reciprocal * (100 + weight) },
+    ghost close: { reciprocal * (100 + weight) < 2 ^ 64 + (100 + weight) },
+    ghost starting: { starting_factor ≡ 100 * reciprocal },
+    ghost before: { before_factor ≡ weight * reciprocal },
+}
+
+impl Mixer {
+    /// For this weight and values below `most`.
+    fn new(weight: u64, most: u64) -> Mixer
+        requires some { 0 < weight }
+        requires weight { weight ≤ 96000 }
+        requires room { most * (100 + weight) * (100 + weight) ≤ 2 ^ 64 }
+        requires most_fits { most < 2 ^ 44 }
+        ensures weight { result.weight ≡ weight }
+        ensures most { result.most ≡ most }
+    {
+        let reciprocal = reciprocal(100 + weight);
+        Mixer {
+            weight,
+            most,
+            reciprocal,
+            starting_factor: 100 * reciprocal,
+            before_factor: weight * reciprocal,
+        }
+    }
+
+    /// What goes by in one step, where `before` went by a step before.
+    fn mix(&self, starting: u64, before: u64) -> u64
+        requires starting { starting < self.now.most }
+        requires before { before < self.now.most }
+        ensures value { result ≡ mixed self.now.weight starting before }
+        ensures small { result < self.now.most }
+    {
+        let mixed = u128::from(starting) * u128::from(self.starting_factor)
+            + u128::from(before) * u128::from(self.before_factor);
+        (mixed >> 64) as u64
     }
 }
 
@@ -35,64 +91,15 @@ pub(crate) fn travel_by(x: &[u64], t: u32, percent: u32, mean: u64, most: u64, o
     ensures { (m : ℕ) → m < length x.now → slice_index out.new ((m + t) % length x.now)
         ≡ smoothed x.now (percent * t) (length x.now + 1 + m) }
 {
-    let weight = u64::from(percent) * u64::from(t);
-    let reciprocal = reciprocal(100 + weight);
-    let starting_factor = 100 * reciprocal;
-    let before_factor = weight * reciprocal;
+    let mixer = Mixer::new(u64::from(percent) * u64::from(t), most);
     let mut value = mean;
     'first: for i in 0..x.len() {
-        value = mix_by(
-            weight,
-            most,
-            reciprocal,
-            starting_factor,
-            before_factor,
-            x[i],
-            value,
-        );
+        value = mixer.mix(x[i], value);
     }
     let mut place = t as usize % x.len();
     'second: for i in 0..x.len() {
-        value = mix_by(
-            weight,
-            most,
-            reciprocal,
-            starting_factor,
-            before_factor,
-            x[i],
-            value,
-        );
+        value = mixer.mix(x[i], value);
         out[place] = value;
         place = after(x.len(), place);
     }
-}
-
-/// What goes by in one step. `reciprocal` is that of 100 + `weight`; 100 times it is `starting_factor`, and `weight`
-/// times it is `before_factor`.
-fn mix_by(
-    weight: u64,
-    most: u64,
-    reciprocal: u64,
-    starting_factor: u64,
-    before_factor: u64,
-    starting: u64,
-    before: u64,
-) -> u64
-    requires some { 0 < weight }
-    requires weight { weight ≤ 96000 }
-    requires least { 2 ^ 64 ≤ reciprocal * (100 + weight) }
-    requires close { reciprocal * (100 + weight) < 2 ^ 64 + (100 + weight) }
-    requires starting_factor { starting_factor ≡ 100 * reciprocal }
-    requires before_factor { before_factor ≡ weight * reciprocal }
-    requires most { most * (100 + weight) * (100 + weight) ≤ 2 ^ 64 }
-    requires most_fits { most < 2 ^ 44 }
-    requires starting { starting < most }
-    requires before { before < most }
-    ensures value { result ≡ mixed weight starting before }
-    ensures small { result < most }
-{
-    let _ = (weight, most, reciprocal);
-    let mixed = u128::from(starting) * u128::from(starting_factor)
-        + u128::from(before) * u128::from(before_factor);
-    (mixed >> 64) as u64
 }

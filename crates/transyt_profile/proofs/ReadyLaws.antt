@@ -2,6 +2,16 @@
 use Rattle.std.proofs.Common.{◌≡◌, ◌≢◌, ℕ, ◌+◌, ◌*◌, ◌^◌, ◌<◌, List, length, get_or, set, refl, arith}
 use Rattle.std.proofs.Common.{get_or-set_same, get_or-set_other, below_more}
 
+-- what holds of each of the first n steps, one step more
+pub value_more : (P : ℕ → ℕ → Type 0) (out : List ℕ) (n v : ℕ) → n < length out
+    → ((k : ℕ) → k < n → P k (get_or out k 0)) → P n v → (k : ℕ) → k < n + 1 → P k (get_or (set out n v) k 0)
+value_more P out n v inside before here =
+    below_more _ _
+    (λ k low.
+    let apart : k ≢ n = λ same. omega arith in
+    rw get_or-set_other (before k low))
+    (rw get_or-set_same here)
+
 -- the first n steps that are below 2^22 are ready: each times f
 abbrev pub Ready : List ℕ → List ℕ → ℕ → ℕ → Type 0
 Ready out ready f n = (k : ℕ) → k < n → get_or out k 0 < 2 ^ 22 → get_or ready k 0 ≡ get_or out k 0 * f

@@ -1,22 +1,60 @@
 -- Each platoon has as many steps as the first.
-use Rattle.std.proofs.Common.{length}
-use Rattle.transyt_platoon.proofs.Parts.{platoon_itself}
+use Rattle.std.proofs.Common.{rules}
 use Rattle.transyt_platoon.proofs.four.disperse_four.Goals as goal
 
-pub is_ready-requires-then-is_ready : goal.is_ready-requires-then-is_ready
-is_ready-requires-then-is_ready c = platoon_itself (length c.args.x.now.values.now) c.args.y.now c.requires.y_is
+pub is_ready-requires : goal.is_ready-requires
+is_ready-requires c = c.requires.x_is
 
-pub disperse_one-requires-else-is_ready-clause-is : goal.disperse_one-requires-else-is_ready-clause-is
-disperse_one-requires-else-is_ready-clause-is c = platoon_itself (length c.args.x.now.values.now) c.args.y.now c.requires.y_is
+pub is_ready-requires-then-is_ready : goal.is_ready-requires-then-is_ready
+is_ready-requires-then-is_ready c = rw c.requires.y_is.values_len c.requires.y_is
 
 pub is_ready-requires-then-is_ready-2 : goal.is_ready-requires-then-is_ready-2
-is_ready-requires-then-is_ready-2 c = platoon_itself (length c.args.x.now.values.now) c.args.z.now c.requires.z_is
-
-pub disperse_one-requires-else-is_ready-2-clause-is : goal.disperse_one-requires-else-is_ready-2-clause-is
-disperse_one-requires-else-is_ready-2-clause-is c = platoon_itself (length c.args.x.now.values.now) c.args.z.now c.requires.z_is
+is_ready-requires-then-is_ready-2 c = rw c.requires.z_is.values_len c.requires.z_is
 
 pub is_ready-requires-then-is_ready-3 : goal.is_ready-requires-then-is_ready-3
-is_ready-requires-then-is_ready-3 c = platoon_itself (length c.args.x.now.values.now) c.args.u.now c.requires.u_is
+is_ready-requires-then-is_ready-3 c = rw c.requires.u_is.values_len c.requires.u_is
 
-pub disperse_one-requires-else-is_ready-3-clause-is : goal.disperse_one-requires-else-is_ready-3-clause-is
-disperse_one-requires-else-is_ready-3-clause-is c = platoon_itself (length c.args.x.now.values.now) c.args.u.now c.requires.u_is
+pub go_round_four-requires : goal.go_round_four-requires
+go_round_four-requires c = record {
+  steps = c.requires.steps;
+  x_ready = c.is_ready.ensures c.if-is_ready.true;
+  y_ready = c.is_ready-then-is_ready.ensures c.if-is_ready-2.true;
+  y_steps = c.requires.y_is.values_len;
+  z_ready = c.is_ready-then-is_ready-2.ensures c.if-is_ready-3.true;
+  z_steps = c.requires.z_is.values_len;
+  u_ready = c.is_ready-then-is_ready-3.ensures c.if-is_ready-4.true;
+  u_steps = c.requires.u_is.values_len;
+  x_outs = c.requires.x_outs;
+  y_outs = c.requires.y_outs;
+  z_outs = c.requires.z_outs;
+  u_outs = c.requires.u_outs;
+}
+
+pub disperse_one-requires : goal.disperse_one-requires
+disperse_one-requires c = record {
+  steps = c.requires.steps;
+  most = c.requires.most;
+  is = c.requires.x_is;
+  out_len = c.requires.x_outs;
+}
+
+pub disperse_one-requires-else-is_ready : goal.disperse_one-requires-else-is_ready
+disperse_one-requires-else-is_ready c =
+    rw c.requires.y_is.values_len
+    (record { steps = c.requires.steps; most = c.requires.most; is = c.requires.y_is; out_len = c.requires.y_outs })
+
+pub disperse_one-requires-else-is_ready-2 : goal.disperse_one-requires-else-is_ready-2
+disperse_one-requires-else-is_ready-2 c =
+    rw c.requires.z_is.values_len
+    (record { steps = c.requires.steps; most = c.requires.most; is = c.requires.z_is; out_len = c.requires.z_outs })
+
+pub disperse_one-requires-else-is_ready-3 : goal.disperse_one-requires-else-is_ready-3
+disperse_one-requires-else-is_ready-3 c =
+    rw c.requires.u_is.values_len
+    (record { steps = c.requires.steps; most = c.requires.most; is = c.requires.u_is; out_len = c.requires.u_outs })
+
+pub returns-then-is_ready-4 : goal.returns-then-is_ready-4
+returns-then-is_ready-4 c = c.go_round_four.ensures
+
+pub returns-else-is_ready : goal.returns-else-is_ready
+returns-else-is_ready c = search rules

@@ -1,9 +1,25 @@
 -- The two turns write the dispersed profile.
-use Rattle.std.proofs.Common.{◌≡◌, ℕ, ◌+◌, ◌*◌, rules, List, length, ap, sym, ◌∙◌, arith}
+use Rattle.std.proofs.Common.{◌≡◌, ℕ, ◌+◌, ◌*◌, List, length, ap, sym, ◌∙◌, arith}
+use Rattle.std.proofs.lemmas.List.Sums.{get_or-le-sum_by}
 use Rattle.transyt_platoon.specs.Platoon.{smoothed}
 use Rattle.transyt_platoon.proofs.Mixing.{smoothed_none, first_more, second_more}
 use Rattle.transyt_platoon.proofs.Mixing.{placed_more, place_more}
 use Rattle.transyt_platoon.proofs.quick.travel_by.Goals as goal
+
+-- the weight is the dispersion times the time
+pub new-mixer-requires-clause-room : goal.new-mixer-requires-clause-room
+new-mixer-requires-clause-room c = rw (c.from.ensures, c.from-2.ensures) c.requires.most
+
+-- no value is above the sum
+pub mix-value-requires : goal.mix-value-requires
+mix-value-requires c =
+    let one = get_or-le-sum_by (λ v. v) c.args.x.now c.first.i 0 c.first-test.true in
+    record { starting = omega arith; before = omega arith }
+
+pub mix-value-requires-in-second : goal.mix-value-requires-in-second
+mix-value-requires-in-second c =
+    let one = get_or-le-sum_by (λ v. v) c.args.x.now c.second.i 0 c.second-test.true in
+    record { starting = omega arith; before = omega arith }
 
 -- both turns begin with the mean
 pub first-init : goal.first-init
@@ -17,9 +33,9 @@ pub first-preserved : goal.first-preserved
 first-preserved c =
     let weight : ℕ = c.args.percent * c.args.t in
     record {
-      small = c.mix_by-value.ensures.small;
+      small = omega arith;
       here = first_more c.args.x.now weight c.first.i c.first.value _ (omega arith)
-          c.first.invariant.here (search rules);
+          c.first.invariant.here (cc);
     }
 
 -- one step of the second turn, written in its place
@@ -29,11 +45,11 @@ second-preserved c =
     let i : ℕ = c.second.i in
     let weight : ℕ = c.args.percent * c.args.t in
     let at = c.second.invariant in
-    let now : c.mix_by-value-in-second.result ≡ smoothed xs weight (length xs + 1 + i) =
-    second_more xs weight i c.second.value _ (omega arith) at.here (search rules) in
+    let now : c.mix-value-in-second.result ≡ smoothed xs weight (length xs + 1 + i) =
+    second_more xs weight i c.second.value _ (omega arith) at.here (cc) in
     let next : length xs + 1 + i ≡ length xs + (i + 1) = omega arith in
     record {
-      small = c.mix_by-value-in-second.ensures.small;
+      small = omega arith;
       here = now ∙ ap (smoothed xs weight) next;
       place = place_more (length xs) i c.args.t c.second.place _ at.place c.after-place.ensures.value;
       placed = placed_more xs c.second.out c.args.t c.args.percent i c.second.place _
@@ -43,3 +59,10 @@ second-preserved c =
 -- at its end the whole turn is placed
 pub returns : goal.returns
 returns c = λ m below. c.second.invariant.placed m (omega arith)
+
+-- each turn has one step less to go
+pub first-smaller : goal.first-smaller
+first-smaller c = omega arith
+
+pub second-smaller : goal.second-smaller
+second-smaller c = omega arith

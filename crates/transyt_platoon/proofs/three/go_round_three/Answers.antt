@@ -49,39 +49,53 @@ returns-clause-z_small c =
     all_small c.args.z.now c.second.i c.second.three c.second.z_out c.requires.z_ready (omega arith) (omega arith)
     c.second.invariant.three
 
--- each platoon goes by as the turn finds it
-pub pass-requires-clause-ready : goal.pass-requires-clause-ready
-pass-requires-clause-ready c = c.requires.x_ready
+-- each platoon begins with as many steps as the first
+pub begin-one-requires : goal.begin-one-requires
+begin-one-requires c = record { steps = c.requires.steps; ready = c.requires.x_ready }
 
-pub pass-requires-clause-passed : goal.pass-requires-clause-passed
-pass-requires-clause-passed c = c.first.invariant.one
+pub begin-two-requires : goal.begin-two-requires
+begin-two-requires c = record { steps = rw c.requires.y_steps c.requires.steps; ready = c.requires.y_ready }
 
-pub write-requires-clause-ready : goal.write-requires-clause-ready
-write-requires-clause-ready c = c.requires.x_ready
+pub begin-three-requires : goal.begin-three-requires
+begin-three-requires c = record { steps = rw c.requires.z_steps c.requires.steps; ready = c.requires.z_ready }
 
-pub write-requires-clause-written : goal.write-requires-clause-written
-write-requires-clause-written c = c.second.invariant.one
+-- and goes by as the turn finds it
+pub pass-requires : goal.pass-requires
+pass-requires c = record { ready = c.requires.x_ready; step = c.first-test.true; passed = c.first.invariant.one }
 
-pub pass-requires-in-first-clause-ready : goal.pass-requires-in-first-clause-ready
-pass-requires-in-first-clause-ready c = c.requires.y_ready
+pub pass-requires-in-first : goal.pass-requires-in-first
+pass-requires-in-first c = record { ready = c.requires.y_ready; step = rw c.requires.y_steps c.first-test.true; passed = c.first.invariant.two }
 
-pub pass-requires-in-first-clause-passed : goal.pass-requires-in-first-clause-passed
-pass-requires-in-first-clause-passed c = c.first.invariant.two
+pub pass-requires-in-first-2 : goal.pass-requires-in-first-2
+pass-requires-in-first-2 c = record { ready = c.requires.z_ready; step = rw c.requires.z_steps c.first-test.true; passed = c.first.invariant.three }
 
-pub write-requires-in-second-clause-ready : goal.write-requires-in-second-clause-ready
-write-requires-in-second-clause-ready c = c.requires.y_ready
+pub write-requires : goal.write-requires
+write-requires c = record {
+  ready = c.requires.x_ready;
+  step = c.second-test.true;
+  out_len = omega arith;
+  written = c.second.invariant.one;
+}
 
-pub write-requires-in-second-clause-written : goal.write-requires-in-second-clause-written
-write-requires-in-second-clause-written c = c.second.invariant.two
+pub write-requires-in-second : goal.write-requires-in-second
+write-requires-in-second c = record {
+  ready = c.requires.y_ready;
+  step = rw c.requires.y_steps c.second-test.true;
+  out_len = omega arith;
+  written = c.second.invariant.two;
+}
 
-pub pass-requires-in-first-2-clause-ready : goal.pass-requires-in-first-2-clause-ready
-pass-requires-in-first-2-clause-ready c = c.requires.z_ready
+pub write-requires-in-second-2 : goal.write-requires-in-second-2
+write-requires-in-second-2 c = record {
+  ready = c.requires.z_ready;
+  step = rw c.requires.z_steps c.second-test.true;
+  out_len = omega arith;
+  written = c.second.invariant.three;
+}
 
-pub pass-requires-in-first-2-clause-passed : goal.pass-requires-in-first-2-clause-passed
-pass-requires-in-first-2-clause-passed c = c.first.invariant.three
+-- each turn has one step less to go
+pub first-smaller : goal.first-smaller
+first-smaller c = omega arith
 
-pub write-requires-in-second-2-clause-ready : goal.write-requires-in-second-2-clause-ready
-write-requires-in-second-2-clause-ready c = c.requires.z_ready
-
-pub write-requires-in-second-2-clause-written : goal.write-requires-in-second-2-clause-written
-write-requires-in-second-2-clause-written c = c.second.invariant.three
+pub second-smaller : goal.second-smaller
+second-smaller c = omega arith
