@@ -12,7 +12,7 @@ use Rattle.transyt_sweep.specs.Sweeps.{seen, out_of, index}
 use Rattle.transyt_sweep.specs.Climb.{tried_at, lowers, moved, climb}
 use Rattle.transyt_sweep.proofs.WorkedMove.{tried_first, lowers_first}
 use Rattle.transyt_track.specs.Due.{differs, due_in, due_through, due}
-use Rattle.transyt_session.specs.Session.{SessionValue}
+use Rattle.transyt_session.specs.Session.{SessionValue, lowered, lower_index}
 use Rattle.transyt_climb.specs.declared.turn.Turn.TheVariants.{Took, Passed}
 use Rattle.transyt_climb.specs.Turns.{machine, start_of, answer_of, after_answer, look_answer, looked_at, found_at, turned}
 use Rattle.transyt_climb.specs.Turns.{answers, certified, started, turns}
@@ -87,6 +87,11 @@ session_first =
     ap (λ (b : Bool). session_of (if b then after_move else three_junctions) (5 + due three_junctions after_move)) lowers_first
     ∙ ap (λ work. session_of after_move (5 + work)) work_of_first
 
+-- a look at that edit
+pub lowered_first : lowered (Offset 21 8) three_session ≡ stepped_session
+unfolding lowers tried_at move moved
+lowered_first = session_first
+
 -- a turn that takes it
 pub took : answer_of (machine before_step three_session) ≡ Took 0 (Offset 21 8) 554272112
 took = look_first
@@ -101,6 +106,19 @@ unfolding move moved
 found =
     ap (λ (b : Bool). if b then Some (index after_move) else None) lowers_first
     ∙ ap Some index_after
+
+-- as does a look at that edit
+pub found_first : lower_index three_junctions (Offset 21 8) ≡ Some 554272112
+unfolding lowers tried_at move moved
+found_first = found
+
+-- an edit that leaves the index isn't made, and answers none
+pub tied : lowered (Offset 21 8) idle_session ≡ idle_session
+unfolding differs due_in due_through due
+tied = refl
+
+pub tied_found : lower_index idle (Offset 21 8) ≡ None
+tied_found = refl
 
 -- a network without links has none to find
 pub not_found : found_at idle 0 ≡ None

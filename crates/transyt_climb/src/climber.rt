@@ -1,10 +1,8 @@
 //! A climber: where it stands in the list of moves, and its turns.
 
 ghost use Rattle.std.specs.Prelude.{◌≡◌, ℕ, ◌+◌, ◌*◌, ◌%◌, ◌^◌, ◌≤◌, ◌<◌, Option, Some, None, if◌then◌else◌};
-ghost use Rattle.transyt_net.specs.EditFaults.{edit_fault};
 ghost use Rattle.transyt_moves.specs.Moves.{move, move_count};
-ghost use Rattle.transyt_sweep.specs.Climb.{lowers, moved, is_below, index_with};
-ghost use Rattle.transyt_session.specs.Session.{edited};
+ghost use Rattle.transyt_sweep.specs.Climb.{lowers, moved};
 ghost use Rattle.transyt_track.specs.Work.{edit_work};
 ghost use Rattle.transyt_climb.specs.Turns.{Counters, Machine, machine, start_of, noted, looked_at, found_at, answer_of, turned};
 
@@ -12,8 +10,8 @@ use crate::turn::Turn;
 use std::marker::Model;
 use std::sync::ledger::Ledger;
 use transyt_moves::{move_at, move_count};
-use transyt_net::{Edit, Net};
-use transyt_session::{Reply, Session};
+use transyt_net::Net;
+use transyt_session::Session;
 use transyt_steps::Steps;
 
 /// How far a climb has come: five counters of places of the list of moves, whose places count from 0.
@@ -151,31 +149,5 @@ fn look<L: Ledger>(session: &mut Session, place: u32, steps: &mut Steps<L>) -> O
     ensures steps { steps.new ≡ steps.old + edit_work session.old.net (move session.old.net place) }
 {
     let edit = move_at(session.net(), place);
-    let before = session.index();
-    let _ = session.trial();
-    if is_lower(session, edit, before, steps) {
-        let _ = session.keep();
-        return Some(session.index());
-    }
-    let _ = session.back();
-    None
-}
-
-/// Makes an edit, and tells whether it is allowed and gives an index below this one.
-fn is_lower<L: Ledger>(
-    session: &mut Session,
-    edit: Edit,
-    before: u128,
-    steps: &mut Steps<L>,
-) -> bool
-    requires { session.old.work ≤ 2 ^ 62 }
-    ensures lower { result ≡ is_below before (index_with session.old.net edit (edit_fault session.old.net edit)) }
-    ensures state { session.new ≡ edited edit session.old }
-    ensures few { session.new.work ≤ session.old.work + 8000 }
-    ensures steps { steps.new ≡ steps.old + edit_work session.old.net edit }
-{
-    match session.edit(edit, steps) {
-        Reply::Done { .. } => session.index() < before,
-        Reply::Refused(_) => false,
-    }
+    session.lower(edit, steps)
 }

@@ -5,7 +5,7 @@ ghost use Rattle.transyt_net.specs.declared.edit.Edit.TheVariants.{Offset};
 ghost use Rattle.transyt_net.specs.Parts.{Network};
 ghost use Rattle.transyt_stage.specs.ThreeJunctions.{three_junctions};
 ghost use Rattle.transyt_sweep.specs.Climb.{climb, Climb, Step};
-ghost use Rattle.transyt_session.specs.Session.{SessionValue};
+ghost use Rattle.transyt_session.specs.Session.{SessionValue, lowered, lower_index};
 ghost use Rattle.transyt_climb.specs.declared.turn.Turn.{Turn};
 ghost use Rattle.transyt_climb.specs.declared.turn.Turn.TheVariants.{Took, Passed, Local, Budget};
 ghost use Rattle.transyt_climb.specs.Turns.{AreCounters, Machine, machine, start_of, noted, answer_of, answers, certified};
@@ -54,6 +54,10 @@ pub fn worked_turns()
     ensures turns { turns 3 (way 9)
         ≡ machine (record { place = 1; since = 4; looked = 6; budget = 9; count = 6 }) idle_session }
     ensures took { answer_of (machine before_step three_session) ≡ Took 0 (Offset 21 8) 554272112 }
+    ensures lowered { lowered (Offset 21 8) three_session ≡ stepped_session }
+    ensures lower_index { lower_index three_junctions (Offset 21 8) ≡ Some 554272112 }
+    ensures tied { lowered (Offset 21 8) idle_session ≡ idle_session }
+    ensures tied_index { lower_index idle (Offset 21 8) ≡ None }
     ensures stepped { turned (machine before_step three_session) ≡ machine after_step stepped_session }
     ensures left { climb_left (way 9) ≡ stayed true (4 ∷ (5 ∷ (0 ∷ (1 ∷ (2 ∷ []))))) }
     ensures left_budget { climb_left (way 5) ≡ stayed false (4 ∷ (5 ∷ [])) }

@@ -1,1 +1,2 @@
+pub mod LowerLaws
 pub mod WorkedLaws

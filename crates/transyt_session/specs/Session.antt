@@ -1,10 +1,11 @@
 -- A session, and what each of its calls makes of it.
-use Rattle.std.specs.Prelude.{ℕ, ◌+◌, Option, Some, None, is_some, if◌then◌else◌}
+use Rattle.std.specs.Prelude.{ℕ, ◌+◌, Bool, Option, Some, None, is_some, if◌then◌else◌}
 use Rattle.transyt_net.specs.declared.edit.Edit.{Edit}
 use Rattle.transyt_net.specs.declared.edit.EditFault.{EditFault}
 use Rattle.transyt_net.specs.Parts.{Network}
 use Rattle.transyt_net.specs.Edits.{with_edit}
 use Rattle.transyt_net.specs.EditFaults.{edit_fault}
+use Rattle.transyt_sweep.specs.Climb.{index_with, is_below}
 use Rattle.transyt_sweep.specs.Sweeps.{index}
 use Rattle.transyt_track.specs.Due.{due}
 use Rattle.transyt_track.specs.Work.{edit_work}
@@ -53,6 +54,22 @@ tried_with net e (Some fault) = Barred
 -- what trying an edit finds: the index with the edit made and the work of it, or that it isn't allowed
 abbrev pub try_of : Network → Edit → Tried
 try_of net e = tried_with net e (edit_fault net e)
+
+-- whether an edit is allowed and lowers the index
+abbrev pub edit_lowers : Network → Edit → Bool
+edit_lowers net e = is_below (index net) (index_with net e (edit_fault net e))
+
+-- a look at an edit: one that is allowed and lowers the index is made, and the work of an allowed one is added
+abbrev pub lowered : Edit → SessionValue → SessionValue
+lowered e s = record {
+  net = if edit_lowers s.net e then with_edit s.net e else s.net;
+  before = None;
+  work = s.work + edit_work s.net e;
+}
+
+-- what is answered to a look at an edit: the index with the edit made, where it is allowed and lowers it
+abbrev pub lower_index : Network → Edit → Option ℕ
+lower_index net e = if edit_lowers net e then Some (index (with_edit net e)) else None
 
 -- a trial begins: where none is open, the network now is kept as the one before
 abbrev pub trial_of : SessionValue → SessionValue

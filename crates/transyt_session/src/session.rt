@@ -7,7 +7,7 @@ ghost use Rattle.transyt_net.specs.Shape.{SameShape};
 ghost use Rattle.transyt_sweep.specs.Sweeps.{index, out_of, evaluated};
 ghost use Rattle.transyt_track.specs.Due.{due};
 ghost use Rattle.transyt_track.specs.Work.{edit_work};
-ghost use Rattle.transyt_session.specs.Session.{SessionValue, opened, edited_net, edited, reply_to, try_of, trial_of, back_of, keep_of, credited, standing_for, trial_for};
+ghost use Rattle.transyt_session.specs.Session.{SessionValue, opened, edited_net, edited, reply_to, try_of, trial_of, back_of, keep_of, credited, standing_for, trial_for, lowered, lower_index};
 
 use crate::answers::{NoTrial, Reply, TrialOpen, Tried};
 use std::alloc::{AllocError, Global};
@@ -19,27 +19,22 @@ use transyt_steps::Steps;
 use transyt_track::Tracker;
 
 /// A network with its evaluation, at most one open trial, and the work so far.
-///
-/// `before` has the numbers of the network before the trial while one is open, and only its shape otherwise.
 #[derive(Drop)]
 pub struct Session {
     net: Net,
-    before: Net,
     tracker: Tracker,
     work: u64,
 }
 
 impl Model for Session {
-    ghost use Rattle.std.specs.Prelude.{◌≡◌, IfSome};
-    ghost use Rattle.transyt_net.specs.Shape.{SameShape};
+    ghost use Rattle.std.specs.Prelude.{◌≡◌};
     ghost use Rattle.transyt_session.specs.Session.{SessionValue};
 
     ghost Value = { SessionValue };
 
     ghost view = { λ s. record { net = s.net; before = s.tracker.mark; work = s.work } };
 
-    ghost invariant = { λ s. (s.tracker.net ≡ s.net) × SameShape s.net s.before
-        × IfSome (s.tracker.mark) (λ m. m ≡ s.before) };
+    ghost invariant = { λ s. s.tracker.net ≡ s.net };
 }
 
 impl Session {
@@ -55,11 +50,9 @@ impl Session {
         ensures ok { OnOk result (steps.new ≡ steps.old + net.frame.sweeps * length net.links) }
         ensures err { OnErr result (steps.new ≤ steps.old + net.frame.sweeps * length net.links) }
     {
-        let before = net.copy(alloc)?;
         let tracker = Tracker::open(alloc, &net, steps)?;
         Ok(Session {
             net,
-            before,
             tracker,
             work: 0,
         })
@@ -71,11 +64,9 @@ impl Session {
         ensures { IfOk result (λ s. s ≡ opened self.now.net) }
     {
         let net = self.net.copy(alloc)?;
-        let before = self.before.copy(alloc)?;
         let tracker = self.tracker.twin(alloc)?;
         Ok(Session {
             net,
-            before,
             tracker,
             work: 0,
         })
@@ -161,7 +152,7 @@ impl Session {
     {
         match make(&mut self.net, e) {
             Ok(_) => {
-                let work = self.tracker.follow(&self.net, steps);
+                let work = self.tracker.follow_edit(&self.net, e, steps);
                 self.work += work;
                 Reply::Done { work }
             }
@@ -177,7 +168,6 @@ impl Session {
         if self.tracker.is_marked() {
             return Err(TrialOpen);
         }
-        self.before.take_numbers(&self.net);
         self.tracker.begin();
         Ok(())
     }
@@ -192,7 +182,7 @@ impl Session {
             return Err(NoTrial);
         }
         self.tracker.restore();
-        self.net.take_numbers(&self.before);
+        self.net.take_numbers(self.tracker.net());
         Ok(())
     }
 
@@ -218,15 +208,39 @@ impl Session {
     {
         match make(&mut self.net, e) {
             Ok(back) => {
-                self.tracker.begin();
-                let work = self.tracker.follow(&self.net, steps);
-                let index = self.tracker.index();
-                self.tracker.restore();
+                let found = self.tracker.follow_below(&self.net, e, 0, steps);
                 let _ = self.net.apply(back);
-                Tried::Index { index, work }
+                Tried::Index {
+                    index: found.index,
+                    work: found.due,
+                }
             }
             Err(_) => Tried::Barred,
         }
+    }
+
+    /// Makes an edit where it is allowed and lowers the index, and answers the index then. Otherwise all but the work
+    /// stays as it is; the work of an allowed edit counts in either case. It takes no memory.
+    pub fn lower<L: Ledger>(&mut self, e: Edit, steps: &mut Steps<L>) -> Option<u128>
+        requires closed { self.old.before ≡ None }
+        requires room { self.old.work ≤ 2 ^ 62 }
+        ensures state { self.new ≡ lowered e self.old }
+        ensures found { result ≡ lower_index self.old.net e }
+        ensures few { self.new.work ≤ self.old.work + 8000 }
+        ensures steps { steps.new ≡ steps.old + edit_work self.old.net e }
+    {
+        let Ok(back) = make(&mut self.net, e) else {
+            return None;
+        };
+        let bound = self.tracker.index();
+        let found = self.tracker.follow_below(&self.net, e, bound, steps);
+        self.work += found.due;
+        let lowers = found.index < bound;
+        if lowers {
+            return Some(found.index);
+        }
+        let _ = self.net.apply(back);
+        None
     }
 
     /// Adds to the work.
@@ -256,7 +270,6 @@ impl Session {
         ensures state { self.new ≡ trial_for net.now self.old }
         ensures steps { steps.new ≡ steps.old + due self.old.net net.now }
     {
-        self.before.take_numbers(&self.net);
         self.tracker.begin();
         self.net.take_numbers(net);
         self.tracker.follow(net, steps);
@@ -269,8 +282,8 @@ impl Session {
         requires closed { self.old.before ≡ None }
         ensures { self.new ≡ standing_for from.now.net self.old }
     {
-        self.net.take_numbers(&from.net);
         self.tracker.take_changes(&from.tracker);
+        self.net.take_numbers(self.tracker.net());
     }
 
     /// Stands for the network of another session of the same shape from now on, with the work as it was. It works out

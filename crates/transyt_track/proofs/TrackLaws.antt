@@ -1,17 +1,19 @@
 -- What a tracker keeps to stays.
 use Rattle.std.proofs.Common.{◌≡◌, ℕ, ◌+◌, ◌*◌, ◌<◌, ◌≤◌, Bool, true, false, List, length, replicate, get_or, Some, None}
-use Rattle.std.proofs.Common.{IsSome, refl, ap, sym, subst, ◌∙◌, arith}
+use Rattle.std.proofs.Common.{IsSome, IsTrue, refl, ap, sym, subst, ◌∙◌, arith}
 use Rattle.std.proofs.Common.{◌⊎◌, inl, inr, if◌then◌else◌}
 use Rattle.std.proofs.lemmas.Bool.{cases_lt}
 use Rattle.std.proofs.lemmas.List.{get_or-replicate, length-replicate}
 use Rattle.std.proofs.Math.ListN.{get_or-eq_default}
 use Rattle.transyt_parts.specs.declared.frame.Frame.{Frame}
 use Rattle.transyt_net.specs.Parts.{Network}
+use Rattle.transyt_net.specs.declared.edit.Edit.{Edit}
+use Rattle.transyt_net.specs.Edits.{with_edit}
 use Rattle.transyt_net.specs.Shape.{shape, SameShape}
 use Rattle.transyt_sweep.specs.Cell.{CellValue}
 use Rattle.transyt_sweep.specs.Rows.{RowsValue, Fits, SameSize, out_at, shown_at}
 use Rattle.transyt_sweep.specs.Front.{AreEvaluation}
-use Rattle.transyt_track.specs.Own.{PlacesValue, ArePlaces, all_places}
+use Rattle.transyt_track.specs.Own.{PlacesValue, ArePlaces, LinksStay, all_places}
 use Rattle.transyt_track.specs.Front.{unweighed}
 use Rattle.transyt_track.specs.Saved.{SavedValue, is_saved, begun, settled, Carries, SaveAlike}
 use Rattle.transyt_track.specs.Tracker.{mark_of, IsTracking}
@@ -25,6 +27,22 @@ fits_shape a b same rows fits = record {
   step_count = fits.step_count ∙ ap (λ (f : Frame). f.step_count) (shape_frame a b same);
   sweeps = fits.sweeps ∙ ap (λ (f : Frame). f.sweeps) (shape_frame a b same);
   link_count = fits.link_count ∙ shape_count a b same;
+}
+
+-- the links stay in a network with an edit that leaves them
+pub stay_made : (stay : Bool) (net after : Network) (e : Edit)
+    → (IsTrue stay → (n : Network) → (with_edit n e).links ≡ n.links) → after ≡ with_edit net e
+    → LinksStay stay net after
+stay_made stay net after e leaves made = record {
+  links = λ stays. sym (ap (λ (n : Network). n.links) made ∙ leaves stays net);
+}
+
+-- and the other way round
+pub stay_back : (stay : Bool) (net after : Network) (e : Edit)
+    → (IsTrue stay → (n : Network) → (with_edit n e).links ≡ n.links) → after ≡ with_edit net e
+    → LinksStay stay after net
+stay_back stay net after e leaves made = record {
+  links = λ stays. ap (λ (n : Network). n.links) made ∙ leaves stays net;
 }
 
 -- an open mark tells so

@@ -1,6 +1,6 @@
 -- What a link's work is made of that edits change, departures and weights apart, and which links it reads.
 use Rattle.std.specs.Prelude.{◌≡◌, ℕ, ◌<◌, Bool, true, false, ◌&&◌, nat_eq, List, [], ◌∷◌, length, map, Option, Some}
-use Rattle.std.specs.Prelude.{None, slice_index_or}
+use Rattle.std.specs.Prelude.{None, slice_index_or, IsTrue}
 use Rattle.std.specs.Str.{bytes_eq}
 use Rattle.std.specs.List.{range_with_len}
 use Rattle.transyt_parts.specs.declared.node.Stage.{Stage}
@@ -102,6 +102,10 @@ HaveNode before after place = SameTimes (node_of before place) (node_of after pl
 pub record HaveData (before after : Network) (link : ℕ) : Type 0 where
   pub numbers : SameNumbers (link_of before link) (link_of after link)
   pub times : SameTimes (the_node before (link_of before link).node) (the_node after (link_of after link).node)
+
+-- where it is told that links stay, all links are equal in two networks
+pub record LinksStay (stay : Bool) (before after : Network) : Type 0 where
+  pub links : IsTrue stay → before.links ≡ after.links
 
 -- a link has equal weights in two networks
 pub record HaveWeights (before after : Network) (link : ℕ) : Type 0 where

@@ -6,7 +6,7 @@ ghost use Rattle.std.specs.Str.{bytes_eq};
 ghost use Rattle.std.specs.List.{list_any};
 ghost use Rattle.transyt_net.specs.Shape.{SameShape};
 ghost use Rattle.transyt_sweep.specs.Front.{AreEvaluation};
-ghost use Rattle.transyt_track.specs.Own.{ArePlaces, HaveData, HaveNode, no_places, places_at};
+ghost use Rattle.transyt_track.specs.Own.{ArePlaces, HaveData, HaveNode, LinksStay, no_places, places_at};
 ghost use Rattle.transyt_track.specs.Due.{is_due, is_some_and, due_at, due, differs};
 ghost use Rattle.transyt_track.specs.Front.{flag, AreFlags, AreDownWhere, own_differs, total_differs, AreAt};
 ghost use Rattle.transyt_track.specs.Front.{AreStarting};
@@ -101,6 +101,7 @@ fn work_out<L: Ledger>(
 fn pass_by(
     before: &Net,
     after: &Net,
+    links_stay: bool,
     sweep: u32,
     link: usize,
     rows: &mut Rows,
@@ -108,6 +109,7 @@ fn pass_by(
     changed: &mut Vec<bool>,
 )
     requires shape { SameShape before.now after.now }
+    requires stay { LinksStay links_stay before.now after.now }
     requires first { 1 ≤ sweep }
     requires last { sweep ≤ after.now.frame.sweeps }
     requires link { link < length after.now.links }
@@ -118,13 +120,14 @@ fn pass_by(
     ensures carries { Carries rows.old saved.now rows.new saved.now }
 {
     changed[link] = false;
-    leave(before, after, sweep, link, rows, saved);
+    leave(before, after, links_stay, sweep, link, rows, saved);
 }
 
 /// One turn: the link at the front is worked out if it is due. Returns how many links were: 1 or 0.
 fn turn<L: Ledger>(
     before: &Net,
     after: &Net,
+    links_stay: bool,
     sweep: u32,
     link: usize,
     due: bool,
@@ -135,6 +138,7 @@ fn turn<L: Ledger>(
     steps: &mut Steps<L>,
 ) -> u64
     requires shape { SameShape before.now after.now }
+    requires stay { LinksStay links_stay before.now after.now }
     requires first { 1 ≤ sweep }
     requires last { sweep ≤ after.now.frame.sweeps }
     requires link { link < length after.now.links }
@@ -154,7 +158,7 @@ fn turn<L: Ledger>(
         );
         1
     } else {
-        pass_by(before, after, sweep, link, rows, saved, changed);
+        pass_by(before, after, links_stay, sweep, link, rows, saved, changed);
         0
     }
 }
@@ -163,6 +167,7 @@ fn turn<L: Ledger>(
 fn sweep_links<L: Ledger>(
     before: &Net,
     after: &Net,
+    links_stay: bool,
     places: &[Places],
     own_changed: &[bool],
     sweep: u32,
@@ -173,6 +178,7 @@ fn sweep_links<L: Ledger>(
     steps: &mut Steps<L>,
 ) -> u64
     requires shape { SameShape before.now after.now }
+    requires stay { LinksStay links_stay before.now after.now }
     requires places { ArePlaces before.now places.now }
     requires own_changed { AreFlags (own_differs before.now after.now) (length after.now.links) own_changed.now }
     requires first { 1 ≤ sweep }
@@ -191,7 +197,7 @@ fn sweep_links<L: Ledger>(
     for link in 0..after.links().len() {
         let due = is_flagged(own_changed[link], changed, &places[link]);
         count += turn(
-            before, after, sweep, link, due, rows, saved, changed, scratch, steps,
+            before, after, links_stay, sweep, link, due, rows, saved, changed, scratch, steps,
         );
     }
     count
@@ -240,6 +246,7 @@ fn start_link(
 fn start_links(
     before: &Net,
     after: &Net,
+    links_stay: bool,
     places: &[Places],
     rows: &mut Rows,
     saved: &mut Saved,
@@ -247,6 +254,7 @@ fn start_links(
     changed: &mut Vec<bool>,
 )
     requires shape { SameShape before.now after.now }
+    requires stay { LinksStay links_stay before.now after.now }
     requires places { ArePlaces before.now places.now }
     requires rows { AreEvaluation before.now rows.old }
     requires fits { FitsRows rows.old saved.old }
@@ -263,7 +271,14 @@ fn start_links(
     let mut node_changed = [false; MOST_NODES];
     flag_nodes(before, after, &mut node_changed);
     for link in 0..after.links().len() {
-        let same = same_data(before, after, link, &places[link], &node_changed);
+        let same = same_data(
+            before,
+            after,
+            link,
+            links_stay,
+            &places[link],
+            &node_changed,
+        );
         own_changed[link] = !same;
         let moves = other_total(before, after, link, same);
         start_link(before, after, link, moves, rows, saved, changed);
@@ -315,6 +330,7 @@ fn flag_own(
 pub(crate) fn follow_rows<L: Ledger>(
     before: &Net,
     after: &Net,
+    links_stay: bool,
     places: &[Places],
     rows: &mut Rows,
     saved: &mut Saved,
@@ -324,6 +340,7 @@ pub(crate) fn follow_rows<L: Ledger>(
     steps: &mut Steps<L>,
 ) -> u64
     requires shape { SameShape before.now after.now }
+    requires stay { LinksStay links_stay before.now after.now }
     requires places { ArePlaces before.now places.now }
     requires rows { AreEvaluation before.now rows.old }
     requires fits { FitsRows rows.old saved.old }
@@ -339,13 +356,23 @@ pub(crate) fn follow_rows<L: Ledger>(
     ensures few { result ≤ 8000 }
     ensures steps { steps.new ≡ steps.old + result }
 {
-    start_links(before, after, places, rows, saved, own_changed, changed);
+    start_links(
+        before,
+        after,
+        links_stay,
+        places,
+        rows,
+        saved,
+        own_changed,
+        changed,
+    );
     flag_own(before, after, places, changed, own_changed);
     let mut count = 0;
     for sweep in 1..after.frame().sweeps + 1 {
         count += sweep_links(
             before,
             after,
+            links_stay,
             places,
             own_changed,
             sweep,

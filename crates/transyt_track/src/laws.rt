@@ -2,7 +2,7 @@
 
 ghost use Rattle.std.specs.Prelude.{◌≡◌, ◌↔◌, ℕ, [], ◌∷◌, false, true, map, nat_eq, All, IsTrue, Some, None};
 ghost use Rattle.transyt_net.specs.Edits.{with_edit};
-ghost use Rattle.transyt_net.specs.declared.edit.Edit.TheVariants.{Offset};
+ghost use Rattle.transyt_net.specs.declared.edit.Edit.TheVariants.{Offset, Weight};
 ghost use Rattle.transyt_net.specs.Parts.{Network, node_of, link_of};
 ghost use Rattle.transyt_sweep.specs.Front.{AreMixed};
 ghost use Rattle.transyt_sweep.specs.Rows.{out_at, shown_at};
@@ -11,7 +11,7 @@ ghost use Rattle.transyt_track.specs.Due.{differs, due, is_due};
 ghost use Rattle.transyt_track.specs.Front.{AreDownWhere};
 ghost use Rattle.transyt_track.specs.Front.{AreAt, AreBetween, AreFlags, AreShownMixed, AreStarting, AreWeighed};
 ghost use Rattle.transyt_track.specs.Front.{flag, left_at, own_differs, total_differs, unweighed};
-ghost use Rattle.transyt_track.specs.Own.{HaveData, HaveNode, SameNumbers, SameTimes};
+ghost use Rattle.transyt_track.specs.Own.{HaveData, HaveNode, LinksStay, SameNumbers, SameTimes};
 ghost use Rattle.transyt_track.specs.Own.{ArePlaces, HaveWeights, Own, all_places, own, same_own};
 ghost use Rattle.transyt_track.specs.Saved.{AreAhead, AreSaved, AreUnsaved, Carries, FitsRows, LeadBack, SaveAlike};
 ghost use Rattle.transyt_track.specs.Saved.{begun, is_saved, kept_at, old_out, old_shown, restored_at, returned_at};
@@ -118,6 +118,9 @@ pub fn worked_same()
     ensures node { HaveNode junctions (with_edit junctions (Offset 21 9)) 1 }
     ensures other_node { HaveNode junctions (with_edit junctions (Offset 21 9)) 0 → ⊥ }
     ensures own { All (λ row. HaveData junctions (with_edit junctions row.0) row.1) same_after }
+    ensures links_stay { LinksStay true junctions (with_edit junctions (Offset 21 9)) }
+    ensures untold { LinksStay false junctions (with_edit junctions (Weight 9 1 99)) }
+    ensures other_links { LinksStay true junctions (with_edit junctions (Weight 9 1 99)) → ⊥ }
     ensures other_own { All (λ row. HaveData junctions (with_edit junctions row.0) row.1 → ⊥) other_after }
     ensures down { All (AreDownWhere (λ place. place ≡ 1) 3) second_down }
     ensures not_down { All (λ flags. AreDownWhere (λ place. place ≡ 1) 3 flags → ⊥) second_not_down }

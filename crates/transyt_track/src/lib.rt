@@ -12,6 +12,7 @@
 //! worked out again, marks and saved rows are this project's own.
 #![tactic(auto)]
 
+mod found;
 mod front;
 mod laws;
 mod own;
@@ -20,6 +21,7 @@ mod saved;
 mod size;
 mod tracker;
 
+pub use found::Found;
 pub use laws::{
     rule_of_due, worked_back, worked_carries, worked_facts, worked_flags, worked_fronts,
     worked_going, worked_marks, worked_own, worked_places, worked_same, worked_saved,

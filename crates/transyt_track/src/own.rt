@@ -1,16 +1,17 @@
 //! The own data of a link, and where its node and the links that it reads stand.
 
 ghost use Rattle.std.specs.Prelude.{◌≡◌, ◌↔◌, ◌<◌, length, map, IfOk, IsTrue};
-ghost use Rattle.transyt_net.specs.Parts.{link_of};
+ghost use Rattle.transyt_net.specs.Parts.{Network, link_of};
+ghost use Rattle.transyt_net.specs.Edits.{with_edit};
 ghost use Rattle.transyt_net.specs.Valid.{IsValid, link_place};
 ghost use Rattle.transyt_track.specs.Own.{change_of, flow_of, cruise_of, feeder_place, rule_place, node_place};
 ghost use Rattle.transyt_track.specs.Own.{all_places, places_at, SameTimes, SameNumbers, HaveNode, HaveData};
-ghost use Rattle.transyt_track.specs.Own.{HaveWeights};
+ghost use Rattle.transyt_track.specs.Own.{HaveWeights, LinksStay};
 ghost use Rattle.transyt_track.specs.Front.{AreDownWhere, total_differs};
 
 use std::alloc::{AllocError, Global};
 use std::marker::Model;
-use transyt_net::{Feed, GiveWay, Link, Net, Node, Stage};
+use transyt_net::{Edit, Feed, GiveWay, Link, Net, Node, Stage};
 
 /// Where the node of a link stands, its feeders in order, and the link to which it gives way.
 #[derive(Drop)]
@@ -76,6 +77,21 @@ fn same_numbers(old: &Link, new: &Link) -> bool
     old.entry == new.entry && old.saturation == new.saturation && same_feeds(&old.feeds, &new.feeds)
 }
 
+/// Whether an edit leaves all links as they are: one of a node does.
+pub(crate) fn leaves_links(e: &Edit) -> bool
+    ensures { IsTrue result → (net : Network) → (with_edit net e.now).links ≡ net.links }
+{
+    matches!(e, Edit::Offset { .. } | Edit::Change { .. })
+}
+
+/// Whether links have equal numbers. Nothing is compared where it is told that they are equal.
+fn keeps_numbers(links_stay: bool, old: &Link, new: &Link) -> bool
+    requires { IsTrue links_stay → old.now ≡ new.now }
+    ensures { IsTrue result ↔ SameNumbers old.now new.now }
+{
+    links_stay || same_numbers(old, new)
+}
+
 /// Whether a link has equal own data in two networks of one shape, the total flows of its feeders apart. The flags of
 /// nodes with equal offsets and changes are down.
 #[tactic(auto, using(crate::proofs::PlaceLaws::node_inside))]
@@ -83,6 +99,7 @@ pub(crate) fn same_data(
     before: &Net,
     after: &Net,
     link: usize,
+    links_stay: bool,
     places: &Places,
     node_changed: &[bool],
 ) -> bool
@@ -90,12 +107,13 @@ pub(crate) fn same_data(
     requires link_after { link < length after.now.links }
     requires places { places.now ≡ places_at before.now link }
     requires places_after { places.now ≡ places_at after.now link }
+    requires stay { LinksStay links_stay before.now after.now }
     requires nodes { AreDownWhere (HaveNode before.now after.now) (length after.now.nodes) node_changed.now }
     ensures { IsTrue result ↔ HaveData before.now after.now link }
 {
     let old = link_at(before, link);
     let new = link_at(after, link);
-    !node_changed[places.node] && same_numbers(old, new)
+    !node_changed[places.node] && keeps_numbers(links_stay, old, new)
 }
 
 /// Whether the total flow of a link differs. Nothing is summed up where `same` tells that its data are equal.
@@ -108,15 +126,16 @@ pub(crate) fn other_total(before: &Net, after: &Net, link: usize, same: bool) ->
     !same && before.total_flow(link) != after.total_flow(link)
 }
 
-/// Whether a link has equal weights in two networks.
-pub(crate) fn same_weights(before: &Net, after: &Net, link: usize) -> bool
+/// Whether a link has equal weights in two networks. Nothing is compared where no link's numbers differ.
+pub(crate) fn same_weights(before: &Net, after: &Net, link: usize, links_stay: bool) -> bool
     requires link { link < length before.now.links }
     requires link_after { link < length after.now.links }
+    requires stay { LinksStay links_stay before.now after.now }
     ensures { IsTrue result ↔ HaveWeights before.now after.now link }
 {
     let old = link_at(before, link);
     let new = link_at(after, link);
-    old.delay_weight == new.delay_weight && old.stop_weight == new.stop_weight
+    links_stay || (old.delay_weight == new.delay_weight && old.stop_weight == new.stop_weight)
 }
 
 /// The place of a link's number; the first where there is no such link.

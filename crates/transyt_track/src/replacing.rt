@@ -6,6 +6,7 @@ ghost use Rattle.transyt_sweep.specs.Cell.{HasSteps};
 ghost use Rattle.transyt_sweep.specs.Rows.{Fits, AreRows, shown_at, placed, with_out};
 ghost use Rattle.transyt_sweep.specs.Sweeps.{start, evaluated};
 ghost use Rattle.transyt_track.specs.Front.{left_at};
+ghost use Rattle.transyt_track.specs.Own.{LinksStay};
 ghost use Rattle.transyt_track.specs.Saved.{FitsRows, Carries};
 
 use crate::own::same_weights;
@@ -52,12 +53,14 @@ pub(crate) fn start(net: &Net, link: usize, rows: &mut Rows, saved: &mut Saved)
 pub(crate) fn leave(
     before: &Net,
     after: &Net,
+    links_stay: bool,
     sweep: u32,
     link: usize,
     rows: &mut Rows,
     saved: &Saved,
 )
     requires shape { SameShape before.now after.now }
+    requires stay { LinksStay links_stay before.now after.now }
     requires fits { Fits after.now rows.old }
     requires fits_saved { FitsRows rows.old saved.now }
     requires link { link < length after.now.links }
@@ -68,7 +71,7 @@ pub(crate) fn leave(
     if sweep != after.frame().sweeps {
         return;
     }
-    if !same_weights(before, after, link) {
+    if !same_weights(before, after, link, links_stay) {
         rows.reweigh(after, link);
     }
 }

@@ -5,10 +5,10 @@ ghost use Rattle.transyt_net.specs.Shape.{SameShape};
 ghost use Rattle.transyt_sweep.specs.Rows.{Fits, AreRows, out_at, shown_at, pair_in, placed, with_weights};
 ghost use Rattle.transyt_sweep.specs.Front.{AreEvaluation};
 ghost use Rattle.transyt_track.specs.Front.{AreBetween, AreWeighed};
-ghost use Rattle.transyt_track.specs.Own.{HaveWeights};
+ghost use Rattle.transyt_track.specs.Own.{HaveWeights, LinksStay};
 ghost use Rattle.transyt_track.specs.Saved.{is_saved, saved_at, kept_at, restored_at, returned_at, changed_at, old_out, old_shown};
-ghost use Rattle.transyt_track.specs.Saved.{begun, settled, SaveAlike};
-ghost use Rattle.transyt_track.specs.Saved.{FitsRows, AreSaved, AreUnsaved, LeadBack};
+ghost use Rattle.transyt_track.specs.Saved.{begun, settled};
+ghost use Rattle.transyt_track.specs.Saved.{FitsRows, AreSaved, AreUnsaved, LeadBack, SaveAlike};
 
 use crate::own::same_weights;
 use std::alloc::{AllocError, Global};
@@ -171,6 +171,22 @@ pub(crate) fn restore_rows(net: &Net, rows: &mut Rows, saved: &mut Saved)
     }
 }
 
+/// The rows go back to those of the marked network: those that were saved, weighed anew where the weights differ. Which
+/// are saved stays told.
+pub(crate) fn go_back(net: &Net, marked: &Net, links_stay: bool, rows: &mut Rows, saved: &mut Saved)
+    requires shape { SameShape net.now marked.now }
+    requires stay { LinksStay links_stay net.now marked.now }
+    requires rows { AreEvaluation net.now rows.old }
+    requires fits { FitsRows rows.old saved.old }
+    requires live { saved.old.live ≡ true }
+    requires back { LeadBack marked.now rows.old saved.old }
+    ensures rows { AreEvaluation marked.now rows.new }
+    ensures saved { SaveAlike saved.new saved.old }
+{
+    restore_rows(marked, rows, saved);
+    weigh_all(net, marked, links_stay, rows, saved);
+}
+
 /// All rows become those of an evaluation of the network.
 pub(crate) fn copy_rows(net: &Net, from: &Rows, rows: &mut Rows)
     requires fits { Fits net.now rows.old }
@@ -237,21 +253,30 @@ fn copy_pair(net: &Net, sweep: u32, link: usize, from: &Rows, rows: &mut Rows)
 }
 
 /// Whether the index of a link is by the marked network's weights: nothing is saved of it, and its weights are equal.
-fn is_weighed(net: &Net, marked: &Net, link: usize, saved: &Saved) -> bool
+fn is_weighed(net: &Net, marked: &Net, link: usize, links_stay: bool, saved: &Saved) -> bool
     requires link { link < length net.now.links }
     requires link_marked { link < length marked.now.links }
+    requires stay { LinksStay links_stay net.now marked.now }
     requires sweeps { saved.now.rows.sweeps ≡ net.now.frame.sweeps }
     requires links { saved.now.link_count ≡ length net.now.links }
     ensures saved { IsTrue result → is_saved saved.now net.now.frame.sweeps link ≡ false }
     ensures weights { IsTrue result → HaveWeights net.now marked.now link }
 {
     let sweep = net.frame().sweeps;
-    !saved.is_saved(sweep, link) && same_weights(net, marked, link)
+    !saved.is_saved(sweep, link) && same_weights(net, marked, link, links_stay)
 }
 
 /// A link is weighed anew, if its index isn't by the marked network's weights.
-fn weigh_link(net: &Net, marked: &Net, link: usize, rows: &mut Rows, saved: &Saved)
+fn weigh_link(
+    net: &Net,
+    marked: &Net,
+    link: usize,
+    links_stay: bool,
+    rows: &mut Rows,
+    saved: &Saved,
+)
     requires shape { SameShape net.now marked.now }
+    requires stay { LinksStay links_stay net.now marked.now }
     requires fits { Fits marked.now rows.old }
     requires link { link < length net.now.links }
     requires link_marked { link < length marked.now.links }
@@ -260,14 +285,15 @@ fn weigh_link(net: &Net, marked: &Net, link: usize, rows: &mut Rows, saved: &Sav
     requires unsaved { AreUnsaved net.now saved.now link rows.old }
     ensures { rows.new ≡ with_weights rows.old marked.now link }
 {
-    if !is_weighed(net, marked, link, saved) {
+    if !is_weighed(net, marked, link, links_stay, saved) {
         rows.reweigh(marked, link);
     }
 }
 
 /// All links get the indexes of the marked network's weights.
-pub(crate) fn weigh_all(net: &Net, marked: &Net, rows: &mut Rows, saved: &Saved)
+pub(crate) fn weigh_all(net: &Net, marked: &Net, links_stay: bool, rows: &mut Rows, saved: &Saved)
     requires shape { SameShape net.now marked.now }
+    requires stay { LinksStay links_stay net.now marked.now }
     requires sweeps { saved.now.rows.sweeps ≡ net.now.frame.sweeps }
     requires links { saved.now.link_count ≡ length net.now.links }
     requires unsaved { AreUnsaved net.now saved.now 0 rows.old }
@@ -275,6 +301,6 @@ pub(crate) fn weigh_all(net: &Net, marked: &Net, rows: &mut Rows, saved: &Saved)
     ensures { AreEvaluation marked.now rows.new }
 {
     for link in 0..marked.links().len() {
-        weigh_link(net, marked, link, rows, saved);
+        weigh_link(net, marked, link, links_stay, rows, saved);
     }
 }

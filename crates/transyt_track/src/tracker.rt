@@ -1,22 +1,27 @@
 //! A tracker and its calls.
 
 ghost use Rattle.std.specs.Prelude.{◌≡◌, ◌+◌, ◌*◌, ◌≤◌, ◌<◌, length, IfOk, OnOk, OnErr, None, Some, IsSome};
+ghost use Rattle.std.specs.Prelude.{if◌then◌else◌, nat_lt, true};
 ghost use Rattle.std.specs.Option.{is_some};
+ghost use Rattle.transyt_net.specs.EditFaults.{edit_fault};
+ghost use Rattle.transyt_net.specs.Edits.{with_edit};
 ghost use Rattle.transyt_net.specs.Shape.{SameShape};
 ghost use Rattle.transyt_sweep.specs.Front.{AreEvaluation};
 ghost use Rattle.transyt_sweep.specs.Sweeps.{out_of, evaluated, index};
 ghost use Rattle.transyt_track.specs.Due.{due};
+ghost use Rattle.transyt_track.specs.Saved.{FitsRows, LeadBack, SaveAlike};
 ghost use Rattle.transyt_track.specs.Tracker.{tracker_of, unmarked, IsTracking};
 
+use crate::found::Found;
 use crate::front::follow_rows;
-use crate::own::{Places, all_places};
-use crate::saved::{Saved, copy_rows, copy_saved, restore_rows, weigh_all};
+use crate::own::{Places, all_places, leaves_links};
+use crate::saved::{Saved, copy_rows, copy_saved, go_back, weigh_all};
 use std::alloc::{AllocError, Global};
 use std::marker::Model;
 use std::mem;
 use std::sync::ledger::Ledger;
 use transyt_delay::Figures;
-use transyt_net::Net;
+use transyt_net::{Edit, Net};
 use transyt_steps::Steps;
 use transyt_sweep::{Rows, Scratch, full};
 
@@ -127,6 +132,13 @@ impl Tracker {
         }
     }
 
+    /// The network that it stands for.
+    pub fn net(&self) -> &Net
+        ensures { result.now ≡ self.now.net }
+    {
+        &self.net
+    }
+
     /// Whether a mark is open.
     pub fn is_marked(&self) -> bool
         ensures { result ≡ is_some self.now.mark }
@@ -198,6 +210,7 @@ impl Tracker {
         let due = follow_rows(
             &self.net,
             after,
+            false,
             &self.places,
             &mut self.rows,
             &mut self.saved,
@@ -208,6 +221,86 @@ impl Tracker {
         );
         self.net.take_numbers(after);
         due
+    }
+
+    /// Follows an allowed edit: stands for `after`, the network with it made, and returns how many pairs were due.
+    ///
+    /// As `follow`, but it copies no more of the network than the edit sets, and compares no links where the edit leaves
+    /// them.
+    #[tactic(auto, using(crate::proofs::DueBounds::due_most))]
+    pub fn follow_edit<L: Ledger>(&mut self, after: &Net, e: Edit, steps: &mut Steps<L>) -> u64
+        requires shape { SameShape self.old.net after.now }
+        requires allowed { edit_fault self.old.net e ≡ None }
+        requires after { after.now ≡ with_edit self.old.net e }
+        ensures net { self.new.net ≡ after.now }
+        ensures mark { self.new.mark ≡ self.old.mark }
+        ensures due { result ≡ due self.old.net after.now }
+        ensures few { result ≤ 8000 }
+        ensures steps { steps.new ≡ steps.old + result }
+    {
+        let due = follow_rows(
+            &self.net,
+            after,
+            leaves_links(&e),
+            &self.places,
+            &mut self.rows,
+            &mut self.saved,
+            &mut self.own_changed,
+            &mut self.changed,
+            &mut self.scratch,
+            steps,
+        );
+        make(&mut self.net, e);
+        due
+    }
+
+    /// Follows an allowed edit to `after`, the network with it made, where the index is below a bound then, and else
+    /// stays as it was. Returns what it found there.
+    ///
+    /// Each pair that is due is worked out once, in one step, and no other is. No network is copied. It takes no memory.
+    #[tactic(auto, using(crate::proofs::DueBounds::due_most))]
+    pub fn follow_below<L: Ledger>(
+        &mut self,
+        after: &Net,
+        e: Edit,
+        bound: u128,
+        steps: &mut Steps<L>,
+    ) -> Found
+        requires closed { self.old.mark ≡ None }
+        requires shape { SameShape self.old.net after.now }
+        requires allowed { edit_fault self.old.net e ≡ None }
+        requires after { after.now ≡ with_edit self.old.net e }
+        ensures net { self.new.net ≡ (if nat_lt (index after.now) bound then after.now else self.old.net) }
+        ensures mark { self.new.mark ≡ None }
+        ensures index { result.index ≡ index after.now }
+        ensures due { result.due ≡ due self.old.net after.now }
+        ensures few { result.due ≤ 8000 }
+        ensures steps { steps.new ≡ steps.old + result.due }
+    {
+        self.saved.begin();
+        let due = follow_rows(
+            &self.net,
+            after,
+            leaves_links(&e),
+            &self.places,
+            &mut self.rows,
+            &mut self.saved,
+            &mut self.own_changed,
+            &mut self.changed,
+            &mut self.scratch,
+            steps,
+        );
+        let index = self.rows.index();
+        settle_on(
+            &mut self.net,
+            after,
+            e,
+            index < bound,
+            &mut self.rows,
+            &mut self.saved,
+        );
+        self.saved.settle();
+        Found { index, due }
     }
 
     /// Stands for the network of another tracker of the same shape. It works out no link and takes no memory.
@@ -236,7 +329,7 @@ impl Tracker {
             &from.saved,
             &mut self.rows,
         );
-        weigh_all(&self.net, &from.net, &mut self.rows, &from.saved);
+        weigh_all(&self.net, &from.net, false, &mut self.rows, &from.saved);
         self.net.take_numbers(&from.net);
     }
 
@@ -255,9 +348,15 @@ impl Tracker {
         requires { IsSome self.old.mark }
         ensures net { self.old.mark ≡ Some self.new.net }
         ensures mark { self.new.mark ≡ None }
+        ensures shape { SameShape self.old.net self.new.net }
     {
-        restore_rows(&self.marked, &mut self.rows, &mut self.saved);
-        weigh_all(&self.net, &self.marked, &mut self.rows, &self.saved);
+        go_back(
+            &self.net,
+            &self.marked,
+            false,
+            &mut self.rows,
+            &mut self.saved,
+        );
         mem::swap(&mut self.net, &mut self.marked);
         self.saved.settle();
     }
@@ -270,4 +369,34 @@ impl Tracker {
     {
         self.saved.settle();
     }
+}
+
+/// Makes an allowed edit.
+fn make(net: &mut Net, e: Edit)
+    requires { edit_fault net.old e ≡ None }
+    ensures { net.new ≡ with_edit net.old e }
+{
+    let _ = net.apply(e);
+}
+
+/// The rows of an evaluation of `after`, which is a network with an allowed edit made, are kept, and the edit is made in
+/// the network itself, or the rows go back to those that were saved.
+fn settle_on(net: &mut Net, after: &Net, e: Edit, keeps: bool, rows: &mut Rows, saved: &mut Saved)
+    requires shape { SameShape net.old after.now }
+    requires allowed { edit_fault net.old e ≡ None }
+    requires after { after.now ≡ with_edit net.old e }
+    requires rows { AreEvaluation after.now rows.old }
+    requires fits { FitsRows rows.old saved.old }
+    requires live { saved.old.live ≡ true }
+    requires back { LeadBack net.old rows.old saved.old }
+    ensures net { net.new ≡ (if keeps then after.now else net.old) }
+    ensures shape { SameShape after.now net.new }
+    ensures rows { AreEvaluation net.new rows.new }
+    ensures saved { SaveAlike saved.new saved.old }
+{
+    if keeps {
+        make(net, e);
+        return;
+    }
+    go_back(after, net, leaves_links(&e), rows, saved);
 }

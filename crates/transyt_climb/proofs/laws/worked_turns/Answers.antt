@@ -1,5 +1,5 @@
 -- The worked turns.
-use Rattle.transyt_climb.proofs.WorkedLaws.{start, passed, three, took, stepped, left, left_budget, certificate, found, not_found, start_idle}
+use Rattle.transyt_climb.proofs.WorkedLaws.{start, passed, three, took, stepped, left, left_budget, certificate, found, not_found, start_idle, lowered_first, found_first, tied, tied_found}
 use Rattle.transyt_climb.proofs.laws.worked_turns.Goals as goal
 
 pub returns-clause-start : goal.returns-clause-start
@@ -34,3 +34,15 @@ returns-clause-found c = found
 
 pub returns-clause-not_found : goal.returns-clause-not_found
 returns-clause-not_found c = not_found
+
+pub returns-clause-lowered : goal.returns-clause-lowered
+returns-clause-lowered c = lowered_first
+
+pub returns-clause-lower_index : goal.returns-clause-lower_index
+returns-clause-lower_index c = found_first
+
+pub returns-clause-tied : goal.returns-clause-tied
+returns-clause-tied c = tied
+
+pub returns-clause-tied_index : goal.returns-clause-tied_index
+returns-clause-tied_index c = tied_found

@@ -8,4 +8,4 @@ use Rattle.transyt_session.proofs.session.Session.figures.Goals as goal
 pub returns : goal.returns
 returns c =
     c.figures.ensures
-    ∙ ap (λ net. (evaluated net c.args.link).figures) (c.self.invariant.0 ∙ ap (λ (s : SessionValue). s.net) c.self.view_is)
+    ∙ ap (λ net. (evaluated net c.args.link).figures) (c.self.invariant ∙ ap (λ (s : SessionValue). s.net) c.self.view_is)

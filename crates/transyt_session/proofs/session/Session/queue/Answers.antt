@@ -8,4 +8,4 @@ use Rattle.transyt_session.proofs.session.Session.queue.Goals as goal
 pub returns : goal.returns
 returns c =
     c.queue.ensures
-    ∙ ap (λ net. (evaluated net c.args.link).queue) (c.self.invariant.0 ∙ ap (λ (s : SessionValue). s.net) c.self.view_is)
+    ∙ ap (λ net. (evaluated net c.args.link).queue) (c.self.invariant ∙ ap (λ (s : SessionValue). s.net) c.self.view_is)

@@ -1,0 +1,66 @@
+-- The rows are those of the network with the edit made, or those from before it.
+use Rattle.std.proofs.Common.{◌≡◌, refl, ap, sym, subst, if◌then◌else◌, nat_lt, ◌∙◌}
+use Rattle.transyt_net.specs.Shape.{shape, SameShape}
+use Rattle.transyt_net.specs.Edits.{with_edit}
+use Rattle.transyt_sweep.specs.Sweeps.{index}
+use Rattle.transyt_sweep.proofs.IndexLaws.{index_is}
+use Rattle.transyt_track.specs.Saved.{Carries, begun, settled}
+use Rattle.transyt_track.specs.Tracker.{TrackerValue, IsTracking}
+use Rattle.transyt_track.proofs.TrackLaws.{begun_tracks, followed_tracks, closed_tracks, stay_made}
+use Rattle.transyt_track.proofs.tracker.Tracker.follow_below.Goals as goal
+
+pub follow_rows-due-requires-clause-stay : goal.follow_rows-due-requires-clause-stay
+follow_rows-due-requires-clause-stay g c =
+    stay_made c.leaves_links.result c.self.inside.net c.args.after.now c.args.e c.leaves_links.ensures
+    (c.requires.after ∙ sym (ap (λ (t : TrackerValue). with_edit t.net c.args.e) c.self.view_is))
+
+pub settle_on-requires-clause-live : goal.settle_on-requires-clause-live
+settle_on-requires-clause-live g c =
+    c.follow_rows-due.ensures.carries.live ∙ ap (λ s. s.live) c.begin.ensures
+
+pub settle_on-requires-clause-back : goal.settle_on-requires-clause-back
+settle_on-requires-clause-back g c =
+    let i = c.self.inside in
+    let new = c.follow_rows-due.new in
+    let say = c.follow_rows-due.ensures in
+    let same : SameShape i.net c.args.after.now =
+    ap (λ (t : TrackerValue). shape t.net) c.self.view_is ∙ c.requires.shape in
+    (followed_tracks i.net i.net i.rows (begun i.saved) i.places.items i.own_changed.items i.changed.items i.scratch
+    (begun_tracks i.net i.marked i.rows i.saved i.places.items i.own_changed.items i.changed.items i.scratch
+    c.self.invariant) c.args.after.now same new.rows new.saved new.own_changed.items new.changed.items new.scratch
+    say.rows (subst (λ s. Carries i.rows s new.rows new.saved) c.begin.ensures say.carries)
+    say.own_changed say.changed say.step_count).back
+
+pub invariant_of-self : goal.invariant_of-self
+invariant_of-self g c =
+    let i = c.self.inside in
+    let new = c.follow_rows-due.new in
+    let say = c.follow_rows-due.ensures in
+    let end = c.settle_on.ensures in
+    let same : SameShape i.net c.args.after.now =
+    ap (λ (t : TrackerValue). shape t.net) c.self.view_is ∙ c.requires.shape in
+    let followed : IsTracking c.args.after.now i.net new.rows new.saved i.places.items new.own_changed.items
+    new.changed.items new.scratch =
+    followed_tracks i.net i.net i.rows (begun i.saved) i.places.items i.own_changed.items i.changed.items i.scratch
+    (begun_tracks i.net i.marked i.rows i.saved i.places.items i.own_changed.items i.changed.items i.scratch
+    c.self.invariant) c.args.after.now same new.rows new.saved new.own_changed.items new.changed.items new.scratch
+    say.rows (subst (λ s. Carries i.rows s new.rows new.saved) c.begin.ensures say.carries)
+    say.own_changed say.changed say.step_count in
+    rw c.settle.ensures
+    (closed_tracks c.args.after.now i.net new.rows new.saved i.places.items new.own_changed.items new.changed.items
+    new.scratch followed c.settle_on.new.net i.marked end.shape (sym end.shape ∙ sym same ∙ c.self.invariant.shape)
+    c.settle_on.new.rows end.rows (settled c.settle_on.new.saved) refl end.saved.size end.saved.link_count)
+
+pub returns-clause-net : goal.returns-clause-net
+returns-clause-net g c =
+    let after = c.args.after.now in
+    let i = c.self.inside in
+    let found : c.index-index.result ≡ index after =
+    c.index-index.ensures.value ∙ index_is after c.follow_rows-due.new.rows c.follow_rows-due.ensures.rows in
+    c.settle_on.ensures.net
+    ∙ ap (λ x. if nat_lt x c.args.bound then after else i.net) found
+    ∙ ap (λ (t : TrackerValue). if nat_lt (index after) c.args.bound then after else t.net) c.self.view_is
+
+pub returns-clause-index : goal.returns-clause-index
+returns-clause-index g c =
+    c.index-index.ensures.value ∙ index_is c.args.after.now c.follow_rows-due.new.rows c.follow_rows-due.ensures.rows
