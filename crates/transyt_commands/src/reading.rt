@@ -1,5 +1,5 @@
 //! The command of a line.
-ghost use Rattle.std.specs.Prelude.{◌≡◌, ◌≤◌, ◌↔◌, drop, IsTrue, IfErr, IfSome, None, Some, Ok};
+ghost use Rattle.std.specs.Prelude.{◌≡◌, ◌≤◌, ◌↔◌, IsTrue, IfErr, IfSome, None, Some, Ok};
 ghost use Rattle.transyt_io.specs.Lines.{is_skipped};
 ghost use Rattle.transyt_syntax.specs.Syntax.{named, with_numbers, counts_of, syntax_code};
 ghost use Rattle.transyt_commands.specs.Commands.{commands, edits, command_in};
@@ -34,39 +34,19 @@ fn command_named(keyword: &[u8], numbers: &Numbers) -> Option<((usize, usize), C
     ensures command { result ≡ with_numbers numbers.now (named commands keyword.now) }
     ensures most { IfSome result (λ found. found.0.1 ≤ 17) }
 {
+    let link = numbers.at(0);
     match keyword {
         _ if is_word(keyword, b"TRIAL") => Some(((0, 0), Command::Trial)),
         _ if is_word(keyword, b"BACK") => Some(((0, 0), Command::Back)),
         _ if is_word(keyword, b"KEEP") => Some(((0, 0), Command::Keep)),
         _ if is_word(keyword, b"CLIMB") => Some(((0, 0), Command::Climb)),
         _ if is_word(keyword, b"CERT") => Some(((0, 0), Command::Cert)),
-        _ => report_named(keyword, numbers),
-    }
-}
-
-/// The same of the keywords from INDEX on.
-fn report_named(keyword: &[u8], numbers: &Numbers) -> Option<((usize, usize), Command)>
-    ensures command { result ≡ with_numbers numbers.now (named (drop 5 commands) keyword.now) }
-    ensures most { IfSome result (λ found. found.0.1 ≤ 17) }
-{
-    let link = numbers.at(0);
-    match keyword {
         _ if is_word(keyword, b"INDEX") => Some(((0, 0), Command::Index)),
         _ if is_word(keyword, b"LINKS") => Some(((0, 0), Command::Links)),
         _ if is_word(keyword, b"TIMING") => Some(((0, 0), Command::Timing)),
         _ if is_word(keyword, b"PROFILE") => Some(((1, 1), Command::Profile { link })),
         _ if is_word(keyword, b"PLOT") => Some(((1, 1), Command::Plot { link })),
         _ if is_word(keyword, b"QUEUE") => Some(((1, 1), Command::Queue { link })),
-        _ => later_named(keyword, numbers),
-    }
-}
-
-/// The same of the keywords from WORK on.
-fn later_named(keyword: &[u8], numbers: &Numbers) -> Option<((usize, usize), Command)>
-    ensures command { result ≡ with_numbers numbers.now (named (drop 11 commands) keyword.now) }
-    ensures most { IfSome result (λ found. found.0.1 ≤ 17) }
-{
-    match keyword {
         _ if is_word(keyword, b"WORK") => Some(((0, 0), Command::Work)),
         _ if is_word(keyword, b"DECK") => Some(((0, 0), Command::Deck)),
         _ if is_word(keyword, b"STOP") => Some(((0, 0), Command::Stop)),
