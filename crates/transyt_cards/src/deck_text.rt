@@ -20,7 +20,6 @@ use transyt_text::print_form;
 /// All numbers are those of the network as it stands. The text is this project's own. What `line` held is lost,
 /// and what it holds afterwards is unspecified. The lines of the text, taken by a `CardReader`, are accepted to the
 /// last, which is END, and give an equal network.
-#[tactic(auto, using(transyt_deck::proofs::ReadBack::deck_read_back))]
 pub fn print_deck<K: Sink>(net: &Net, line: &mut LineBuffer, sink: &mut K) -> Result<(), Failed>
     ensures prints { Prints (K.written sink.old) (K.written sink.new) (K.faults sink.old)
         (K.faults sink.new) result (deck_text net.now) }

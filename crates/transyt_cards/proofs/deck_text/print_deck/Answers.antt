@@ -1,5 +1,6 @@
 use Rattle.std.proofs.Common.{refl}
 use Rattle.transyt_text.proofs.PrintLaws.{prints_both, prints_front, prints_same}
+use Rattle.transyt_deck.proofs.ReadBack.{deck_read_back}
 use Rattle.transyt_cards.proofs.CardLines.{parts_are}
 use Rattle.transyt_cards.proofs.deck_text.print_deck.Goals as goal
 
@@ -74,3 +75,25 @@ returns-clause-prints g c =
     c.print_form.ensures))))))
     (parts_are c.args.net.now c.frame.ensures.value c.nodes.ensures.value c.links-links.ensures.value
     c.plan.ensures.value)
+
+-- the text reads back, wherever it broke off: the network is valid
+pub returns-in_err-print_frame-clause-reads_back : goal.returns-in_err-print_frame-clause-reads_back
+returns-in_err-print_frame-clause-reads_back g c = deck_read_back c.args.net.now c.links-links.ensures.valid
+
+pub returns-in_err-print_nodes-clause-reads_back : goal.returns-in_err-print_nodes-clause-reads_back
+returns-in_err-print_nodes-clause-reads_back g c = deck_read_back c.args.net.now c.links-links.ensures.valid
+
+pub returns-in_err-print_links-clause-reads_back : goal.returns-in_err-print_links-clause-reads_back
+returns-in_err-print_links-clause-reads_back g c = deck_read_back c.args.net.now c.links-links.ensures.valid
+
+pub returns-in_err-print_feeds-clause-reads_back : goal.returns-in_err-print_feeds-clause-reads_back
+returns-in_err-print_feeds-clause-reads_back g c = deck_read_back c.args.net.now c.links-links.ensures.valid
+
+pub returns-in_err-print_rules-clause-reads_back : goal.returns-in_err-print_rules-clause-reads_back
+returns-in_err-print_rules-clause-reads_back g c = deck_read_back c.args.net.now c.links-links.ensures.valid
+
+pub returns-in_err-print_plan-clause-reads_back : goal.returns-in_err-print_plan-clause-reads_back
+returns-in_err-print_plan-clause-reads_back g c = deck_read_back c.args.net.now c.links-links.ensures.valid
+
+pub returns-clause-reads_back : goal.returns-clause-reads_back
+returns-clause-reads_back g c = deck_read_back c.args.net.now c.links-links.ensures.valid

@@ -1,7 +1,11 @@
-use Rattle.transyt_text.proofs.PrintLaws.{prints_both}
+use Rattle.transyt_text.proofs.PrintLaws.{prints_both, prints_front}
 use Rattle.transyt_deck.specs.declared.card.Card.TheVariants as card
 use Rattle.transyt_cards.proofs.CardLines.{one_printed}
 use Rattle.transyt_cards.proofs.deck_text.print_frame.Goals as goal
+
+-- the text broke off in the FORM card
+pub returns-in_err-print_form : goal.returns-in_err-print_form
+returns-in_err-print_form g c = prints_front _ _ _ c.from_residual.ensures.0 c.in_err-print_form.ensures
 
 -- one card after the other
 pub returns : goal.returns
