@@ -1,6 +1,0 @@
-use Rattle.transyt_text.proofs.PrintLaws.{prints_same}
-use Rattle.transyt_cards.proofs.deck_text.print_number.Goals as goal
-
--- the numbers are the node's and its offset
-pub returns : goal.returns
-returns g c = prints_same _ _ _ _ _ c.print_form.ensures (cc)
