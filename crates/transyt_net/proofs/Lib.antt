@@ -13,6 +13,7 @@ pub mod PlaceLaws
 pub mod ShapeLaws
 pub mod SoundLinks
 pub mod SoundNodes
+pub mod TotalLaws
 pub mod UndoLaws
 pub mod WriteLaws
 pub mod Worked

@@ -17,7 +17,7 @@ use std::alloc::{AllocError, AllocFailed, Global};
 use std::marker::Model;
 use transyt_parts::{
     ClimbPlan, Feed, Frame, GiveWay, Link, NewLink, Node, PlanFault, Stage, add_feed, add_stage,
-    first_fault, is_frame_in_range, set_rule,
+    all_flow, first_fault, is_frame_in_range, set_rule,
 };
 
 /// Why a draft refuses, in the order in which the faults are asked for.
@@ -69,25 +69,29 @@ pub struct Draft {
     frame: Frame,
     nodes: Vec<Node>,
     links: Vec<Link>,
+    /// The total flow of each link, in card order, in vehicles per hour.
+    totals: Vec<u32>,
     plan: Option<ClimbPlan>,
     node_places: IndexSet<u32>,
     link_places: IndexSet<u32>,
 }
 
 impl Model for Draft {
-    ghost use Rattle.std.specs.Prelude.{◌≡◌};
+    ghost use Rattle.std.specs.Prelude.{◌≡◌, map};
     ghost use Rattle.transyt_net.specs.Parts.{Network, network_of};
 
     ghost Value = { Network };
 
     ghost use Rattle.transyt_net.specs.Valid.{IsSound, node_numbers, link_numbers};
+    ghost use Rattle.transyt_parts.specs.Flow.{total_flow};
 
     ghost view = { λ n. network_of n.frame n.nodes.items n.links.items n.plan };
 
     ghost invariant = { λ n.
         IsSound (network_of n.frame n.nodes.items n.links.items n.plan)
         × (n.node_places.keys ≡ node_numbers n.nodes.items)
-        × (n.link_places.keys ≡ link_numbers n.links.items) };
+        × (n.link_places.keys ≡ link_numbers n.links.items)
+        × (n.totals.items ≡ map total_flow n.links.items) };
 }
 
 impl Draft {
@@ -106,6 +110,7 @@ impl Draft {
             frame,
             nodes: Vec::new(alloc),
             links: Vec::new(alloc),
+            totals: Vec::new(alloc),
             plan: None,
             node_places: IndexSet::new(alloc),
             link_places: IndexSet::new(alloc),
@@ -184,6 +189,7 @@ impl Draft {
         let stages = Vec::from_slice(self.alloc, stages)?;
         self.links.reserve(1)?;
         self.link_places.reserve(1)?;
+        self.totals.push(link.entry)?;
         let added = Link {
             number: link.number,
             node: link.node,
@@ -229,6 +235,7 @@ impl Draft {
         };
         let owner = &mut self.links[place];
         add_feed(owner, feed)?;
+        self.totals[place] = all_flow(owner);
         Ok(())
     }
 
@@ -292,10 +299,11 @@ impl Draft {
             frame,
             nodes,
             links,
+            totals,
             plan,
             node_places,
             link_places,
         } = self;
-        Net::of_parts(frame, nodes, links, plan, node_places, link_places)
+        Net::of_parts(frame, nodes, links, totals, plan, node_places, link_places)
     }
 }

@@ -2,11 +2,12 @@
 //!
 //! The parts are those of `transyt_parts`, which this crate hands on. A contract sees a network as
 //! the record `Network` of `specs/Parts`: its frame, its nodes and links in card order, and its
-//! climb plan. The sets of numbers, which give each its place, are seen by no public clause. Cite
-//! first: `IsValid` of `specs/Valid` for what always holds of a `Net`, `numbered` and `on_numbered`
-//! there for the part of a number, `perstep` of `specs/Flow`, `node_fault` and its like of
-//! `specs/Faults` for a `Draft`, `Refuses` of `specs/Refuses` for what its calls answer, `with_edit` and `inverse` of `specs/Edits`, `edit_fault` of
-//! `specs/EditFaults`, and `SameShape` of `specs/Shape`.
+//! climb plan. The sets of numbers, which give each its place, and the totals, which keep the total
+//! flow of each link, are seen by no public clause. Cite first: `IsValid` of `specs/Valid` for what
+//! always holds of a `Net`, `numbered` and `on_numbered` there for the part of a number, `perstep`
+//! of `specs/Flow`, `node_fault` and its like of `specs/Faults` for a `Draft`, `Refuses` of
+//! `specs/Refuses` for what its calls answer, `with_edit` and `inverse` of `specs/Edits`,
+//! `edit_fault` of `specs/EditFaults`, and `SameShape` of `specs/Shape`.
 //!
 //! Networks of such parts are those of Robertson's TRANSYT (LR 253); drafts, edits and all limits
 //! are this project's own.

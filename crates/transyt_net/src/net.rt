@@ -1,6 +1,6 @@
 //! The network.
 
-ghost use Rattle.std.specs.Prelude.{◌≡◌, ℕ, ◌+◌, ◌*◌, ◌/◌, ◌<◌, ◌≤◌, ◌^◌, length, IfSome, IfNone, IfOk, ◌↔◌, IsTrue, false};
+ghost use Rattle.std.specs.Prelude.{◌≡◌, ℕ, ◌+◌, ◌*◌, ◌/◌, ◌<◌, ◌≤◌, ◌^◌, length, map, IfSome, IfNone, IfOk, ◌↔◌, IsTrue, false};
 ghost use Rattle.std.specs.Option.{option_map};
 ghost use Rattle.transyt_net.specs.Valid.{node_numbers, link_numbers, place_of, is_among, IsLink, IsValid};
 ghost use Rattle.transyt_net.specs.Shape.{SameShape};
@@ -18,8 +18,8 @@ use indexmap::IndexSet;
 use std::alloc::{AllocError, Global};
 use std::marker::Model;
 use transyt_parts::{
-    ClimbPlan, Frame, Link, Node, all_flow, copy_links, copy_nodes, copy_plan, same_frame,
-    same_links, same_nodes, same_plan, take_links, take_nodes,
+    ClimbPlan, Frame, Link, Node, copy_links, copy_nodes, copy_plan, same_frame, same_links,
+    same_nodes, same_plan, take_links, take_nodes,
 };
 
 /// A network that is valid at all times.
@@ -31,25 +31,29 @@ pub struct Net {
     frame: Frame,
     nodes: Vec<Node>,
     links: Vec<Link>,
+    /// The total flow of each link, in card order, in vehicles per hour.
+    totals: Vec<u32>,
     plan: Option<ClimbPlan>,
     node_places: IndexSet<u32>,
     link_places: IndexSet<u32>,
 }
 
 impl Model for Net {
-    ghost use Rattle.std.specs.Prelude.{◌≡◌};
+    ghost use Rattle.std.specs.Prelude.{◌≡◌, map};
     ghost use Rattle.transyt_net.specs.Parts.{Network, network_of};
 
     ghost Value = { Network };
 
     ghost use Rattle.transyt_net.specs.Valid.{IsValid, node_numbers, link_numbers};
+    ghost use Rattle.transyt_parts.specs.Flow.{total_flow};
 
     ghost view = { λ n. network_of n.frame n.nodes.items n.links.items n.plan };
 
     ghost invariant = { λ n.
         IsValid (network_of n.frame n.nodes.items n.links.items n.plan)
         × (n.node_places.keys ≡ node_numbers n.nodes.items)
-        × (n.link_places.keys ≡ link_numbers n.links.items) };
+        × (n.link_places.keys ≡ link_numbers n.links.items)
+        × (n.totals.items ≡ map total_flow n.links.items) };
 }
 
 impl Net {
@@ -58,6 +62,7 @@ impl Net {
         frame: Frame,
         nodes: Vec<Node>,
         links: Vec<Link>,
+        totals: Vec<u32>,
         plan: Option<ClimbPlan>,
         node_places: IndexSet<u32>,
         link_places: IndexSet<u32>,
@@ -65,12 +70,14 @@ impl Net {
         requires valid { IsValid (network_of frame nodes.items links.items plan) }
         requires node_places { node_places.keys ≡ node_numbers nodes.items }
         requires link_places { link_places.keys ≡ link_numbers links.items }
+        requires totals { totals.items ≡ map total_flow links.items }
         ensures { result ≡ network_of frame nodes.items links.items plan }
     {
         Net {
             frame,
             nodes,
             links,
+            totals,
             plan,
             node_places,
             link_places,
@@ -177,7 +184,7 @@ impl Net {
         ensures value { result ≡ total_flow (link_of self.now link) }
         ensures small { result ≤ 89991 }
     {
-        all_flow(&self.links[link])
+        self.totals[link]
     }
 
     /// Whether the two differ at most in numbers that an edit sets.
@@ -197,6 +204,7 @@ impl Net {
     {
         take_nodes(&mut self.nodes, &from.nodes);
         take_links(&mut self.links, &from.links);
+        self.totals.copy_from_slice(&from.totals);
     }
 
     /// An equal network, with memory of its own.
@@ -205,6 +213,7 @@ impl Net {
     {
         let nodes = copy_nodes(alloc, &self.nodes)?;
         let links = copy_links(alloc, &self.links)?;
+        let totals = Vec::from_slice(alloc, &self.totals)?;
         let plan = copy_plan(alloc, &self.plan)?;
         let node_places = copy_numbers(&self.node_places)?;
         let link_places = copy_numbers(&self.link_places)?;
@@ -212,6 +221,7 @@ impl Net {
             frame: self.frame,
             nodes,
             links,
+            totals,
             plan,
             node_places,
             link_places,

@@ -8,6 +8,7 @@ ghost use Rattle.transyt_net.specs.Shape.{SameShape};
 
 use super::Net;
 use crate::edit::{Edit, EditFault, edit_link, edit_node};
+use transyt_parts::all_flow;
 
 impl Net {
     /// Makes an edit, and gives its inverse, which is allowed then and gives the network before.
@@ -74,6 +75,8 @@ impl Net {
             unreachable!();
         };
         let link = &mut self.links[place];
-        edit_link(link, e)
+        let back = edit_link(link, e);
+        self.totals[place] = all_flow(link);
+        back
     }
 }

@@ -1,8 +1,9 @@
--- The draft with the new feed is sound, and has no new number.
-use Rattle.std.proofs.Common.{rules, ◌≡◌, ℕ, ◌<◌, List, length, Some, None, refl, sym, ap, ◌∙◌, subst, set, arith}
+-- The draft with the new feed is sound, has no new number, and has the new total.
+use Rattle.std.proofs.Common.{rules, ◌≡◌, ℕ, ◌<◌, List, length, Some, None, refl, sym, ap, ◌∙◌, subst, set, map, arith}
 use Rattle.std.proofs.lemmas.List.{set-get_or}
 use Rattle.transyt_parts.specs.declared.link.Feed.{Feed}
 use Rattle.transyt_parts.specs.Parts.{LinkValue}
+use Rattle.transyt_parts.specs.Flow.{total_flow}
 use Rattle.transyt_net.specs.Parts.{Network, network_of}
 use Rattle.transyt_net.specs.Valid.{IsSound, link_numbers, on_numbered, place_of}
 use Rattle.transyt_parts.specs.Valid.{link_number}
@@ -10,10 +11,11 @@ use Rattle.transyt_net.specs.Faults.{feed_fault, with_feed}
 use Rattle.transyt_parts.specs.Made.{new_feed, add_feed}
 use Rattle.transyt_net.proofs.PlaceLaws.{written_here, place_is, keys_kept}
 use Rattle.transyt_net.proofs.SoundLinks.{sound_feed}
+use Rattle.transyt_net.proofs.TotalLaws.{total_set, link_set}
 use Rattle.transyt_net.proofs.draft.Draft.feed.Goals as goal
 
 -- the links as they are then
-written : (c : goal.In_ok-add_feed) → set c.self.inside.links.items c.in-Some-get_index_of.place c.add_feed.new.link
+written : (c : goal.After-self-3-1) → set c.self.inside.links.items c.in-Some-get_index_of.place c.add_feed.new.link
     ≡ on_numbered link_number (add_feed (new_feed c.args.feeder c.args.flow c.args.cruise)) c.self.inside.links.items
     c.args.link
 written c =
@@ -24,6 +26,23 @@ written c =
     let asked : Feed = new_feed c.args.feeder c.args.flow c.args.cruise in
     written_here link_number (add_feed asked) items c.args.link p old c.add_feed.new.link
     (place_is link_number items c.args.link p at) c.index_mut-owner.ensures.value c.in_ok-add_feed.ensures.ok
+
+-- the flows of the link are as small as those of a sound draft
+pub all_flow-requires : goal.all_flow-requires
+all_flow-requires c =
+    let net : Network = network_of c.self.inside.frame c.self.inside.nodes.items
+    c.self.inside.links.items c.self.inside.plan in
+    let asked : Feed = new_feed c.args.feeder c.args.flow c.args.cruise in
+    let none : feed_fault net c.args.link asked ≡ None = search rules in
+    let p : ℕ = c.in-Some-get_index_of.place in
+    let at : place_of (link_numbers net.links) c.args.link ≡ Some p = search rules in
+    let place = place_is link_number net.links c.args.link p at in
+    let sound = subst (λ (ls : List LinkValue). IsSound (record net { links = ls })) (sym
+    (written_here link_number (add_feed asked) net.links c.args.link p c.index_mut-owner.result.now c.add_feed.new.link
+    place c.index_mut-owner.ensures.value c.in_ok-add_feed.ensures.ok))
+    (sound_feed net c.args.link asked c.self.invariant.0 none) in
+    let is = link_set net p c.add_feed.new.link sound place.inside in
+    record { entry = is.entry; flows = λ k d inside. (is.feeds k d inside).flow; few = is.feed_count }
 
 -- the new feed keeps the draft sound
 pub invariant_of-self-2 : goal.invariant_of-self-2
@@ -39,6 +58,8 @@ invariant_of-self-2 c =
       c.self.invariant.2
           ∙ sym (keys_kept link_number (add_feed asked) (λ l. refl) net.links c.args.link)
           ∙ ap link_numbers (sym (written c)),
+      total_set c.self.inside.totals.items net.links c.in-Some-get_index_of.place c.all_flow.result c.add_feed.new.link
+          c.self.invariant.3 c.all_flow.ensures.value,
     )
 
 -- the network with the feed
@@ -76,6 +97,7 @@ invariant_of-self c =
       subst (λ (ls : List LinkValue). IsSound (record net { links = ls })) (sym (kept c)) c.self.invariant.0,
       c.self.invariant.1,
       c.self.invariant.2 ∙ ap link_numbers (sym (kept c)),
+      c.self.invariant.3 ∙ ap (map total_flow) (sym (kept c)),
     )
 
 -- and the network is as it was

@@ -1,7 +1,9 @@
--- The draft with the new give-way rule is sound, and has no new number.
-use Rattle.std.proofs.Common.{rules, ◌≡◌, ℕ, ◌<◌, List, length, Some, None, refl, sym, ap, ◌∙◌, subst, set, arith}
+-- The draft with the new give-way rule is sound, and has no new number and no other total.
+use Rattle.std.proofs.Common.{rules, ◌≡◌, ℕ, ◌<◌, List, length, Some, None, refl, sym, ap, ◌∙◌, subst, set, get_or, arith}
+use Rattle.std.proofs.Math.Seq.{map-set_same}
 use Rattle.transyt_parts.specs.declared.link.GiveWay.{GiveWay}
 use Rattle.transyt_parts.specs.Parts.{LinkValue}
+use Rattle.transyt_parts.specs.Flow.{total_flow}
 use Rattle.transyt_net.specs.Parts.{Network, network_of}
 use Rattle.transyt_net.specs.Valid.{IsSound, link_numbers, on_numbered, place_of}
 use Rattle.transyt_parts.specs.Valid.{link_number}
@@ -30,6 +32,9 @@ invariant_of-self c =
     c.self.inside.links.items c.self.inside.plan in
     let asked : GiveWay = new_rule c.args.other c.args.percent in
     let none : rule_fault net c.args.link asked ≡ None = search rules in
+    let old : LinkValue = c.index_mut-owner.result.now in
+    let same : total_flow c.set_rule.new.link ≡ total_flow (get_or net.links c.in-Some-get_index_of.place old) =
+    ap total_flow c.set_rule.ensures ∙ ap total_flow c.index_mut-owner.ensures.value in
     let sound : IsSound (with_rule net c.args.link asked) =
     sound_rule net c.args.link asked c.self.invariant.0 none in (
       subst (λ (ls : List LinkValue). IsSound (record net { links = ls })) (sym (written c)) sound,
@@ -37,6 +42,8 @@ invariant_of-self c =
       c.self.invariant.2
           ∙ sym (keys_kept link_number (set_rule asked) (λ l. refl) net.links c.args.link)
           ∙ ap link_numbers (sym (written c)),
+      c.self.invariant.3
+          ∙ sym (map-set_same total_flow net.links c.in-Some-get_index_of.place c.set_rule.new.link old same),
     )
 
 -- the network with the rule

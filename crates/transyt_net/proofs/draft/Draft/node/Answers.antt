@@ -25,4 +25,5 @@ invariant_of-self-2 c =
           ∙ sym (map-append node_number net.nodes (new_node c.args.number c.args.offset ∷ []))
           ∙ ap node_numbers (sym items),
       c.self.invariant.2,
+      c.self.invariant.3,
     )

@@ -42,6 +42,7 @@ invariant_of-self-2 c =
           ∙ sym (keys_kept_at node_number (add_stage stage) (λ x. refl) net.nodes last)
           ∙ ap node_numbers (sym (written c)),
       c.self.invariant.2,
+      c.self.invariant.3,
     )
 
 -- the network with the stage

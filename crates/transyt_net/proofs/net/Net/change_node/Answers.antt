@@ -67,6 +67,7 @@ invariant_of-self c =
       subst IsValid (sym made) (valid_edit net e c.self.invariant.0 allowed),
       c.self.invariant.1 ∙ is.keys,
       c.self.invariant.2,
+      c.self.invariant.3,
     )
 
 -- the network is the edited one

@@ -1,6 +1,7 @@
 -- The net holds the nodes and links of the other one, which is valid, and keeps its numbers.
-use Rattle.std.proofs.Common.{rules, ◌≡◌, List, ◌++◌, take, drop, length, sym, ap, ◌∙◌, subst}
+use Rattle.std.proofs.Common.{rules, ◌≡◌, List, ◌++◌, take, drop, length, sym, ap, ◌∙◌, subst, map}
 use Rattle.transyt_parts.specs.Parts.{NodeValue, LinkValue}
+use Rattle.transyt_parts.specs.Flow.{total_flow}
 use Rattle.transyt_net.specs.Parts.{Network, network_of}
 use Rattle.transyt_net.specs.Valid.{node_numbers, link_numbers, IsValid}
 use Rattle.transyt_net.specs.Shape.{SameShape, shape}
@@ -46,6 +47,10 @@ invariant_of-self c =
       subst IsValid (sym (whole c)) c.from.invariant.0,
       c.self.invariant.1 ∙ same_node_numbers a b same ∙ ap (λ (n : Network). node_numbers n.nodes) (sym (whole c)),
       c.self.invariant.2 ∙ same_link_numbers a b same ∙ ap (λ (n : Network). link_numbers n.links) (sym (whole c)),
+      c.copy_from_slice.ensures.items
+      ∙ c.deref-3.ensures.value
+      ∙ c.from.invariant.3
+      ∙ ap (λ (n : Network). map total_flow n.links) (sym (whole c)),
     )
 
 -- the other network, as contracts see it

@@ -1,0 +1,39 @@
+-- Total flows of links, kept beside them.
+use Rattle.std.proofs.Common.{◌≡◌, ℕ, ◌<◌, ◌≤◌, List, length, map, get_or, set, sym, ap, ◌∙◌, subst, arith, All}
+use Rattle.std.proofs.lemmas.List.{map-set, get_or-map, get_or-set_same, length-set}
+use Rattle.std.proofs.lemmas.List.Elements.{All-get_or}
+use Rattle.std.proofs.lemmas.List.Sums.{sum_by-le}
+use Rattle.transyt_parts.specs.declared.link.Feed.{Feed}
+use Rattle.transyt_parts.specs.Parts.{NodeValue, LinkValue}
+use Rattle.transyt_parts.specs.Flow.{total_flow}
+use Rattle.transyt_net.specs.Parts.{Network}
+use Rattle.transyt_net.specs.Valid.{link_numbers, IsSound, IsLink}
+
+-- the total flow of a link, by the limits of its flows
+pub total_small : (steps : ℕ) (nodes : List NodeValue) (numbers : List ℕ) (l : LinkValue)
+    → IsLink steps nodes numbers l → total_flow l ≤ 89991
+total_small steps nodes numbers l is =
+    let each : All (λ (f : Feed). f.flow ≤ 9999) l.feeds = λ k d inside. (is.feeds k d inside).flow in
+    omega (arith, sum_by-le (λ (f : Feed). f.flow) 9999 l.feeds each, is.entry, is.feed_count)
+
+-- the total that stands at a place
+pub total_at : (totals : List ℕ) (links : List LinkValue) (p t : ℕ) (d : LinkValue) → totals ≡ map total_flow links
+    → p < length links → t ≡ get_or totals p t → t ≡ total_flow (get_or links p d)
+total_at totals links p t d kept inside read =
+    read ∙ ap (λ ts. get_or ts p t) kept ∙ get_or-map total_flow links p d t inside
+
+-- the totals after a link and its total were written
+pub total_set : (totals : List ℕ) (links : List LinkValue) (p t : ℕ) (new : LinkValue) → totals ≡ map total_flow links
+    → t ≡ total_flow new → set totals p t ≡ map total_flow (set links p new)
+total_set totals links p t new kept total =
+    (λ j. set (kept j) p (total j)) ∙ sym (map-set total_flow links p new)
+
+-- a link that was written keeps to the limits where the network is sound then
+pub link_set : (net : Network) (p : ℕ) (new : LinkValue) → IsSound (record net { links = set net.links p new })
+    → p < length net.links
+    → IsLink net.frame.step_count net.nodes (link_numbers (set net.links p new)) new
+link_set net p new sound inside =
+    let links : List LinkValue = set net.links p new in
+    let there : p < length links = omega (arith, length-set net.links p new) in
+    subst (IsLink net.frame.step_count net.nodes (link_numbers links)) (get_or-set_same net.links p new new inside)
+    (All-get_or (IsLink net.frame.step_count net.nodes (link_numbers links)) links p new there sound.links)
