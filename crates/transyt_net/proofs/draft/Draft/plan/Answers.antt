@@ -20,4 +20,5 @@ invariant_of-self c =
       subst (λ (xs : List ℕ). IsSound (with_plan net (new_plan c.args.budget xs))) (sym c.in_ok-sizes.ensures.items) sound,
       c.self.invariant.1,
       c.self.invariant.2,
+      c.self.invariant.3,
     )

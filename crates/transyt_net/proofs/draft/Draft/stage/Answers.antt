@@ -79,6 +79,7 @@ invariant_of-self c =
       subst (λ (ns : List NodeValue). IsSound (record net { nodes = ns })) (sym (kept c)) c.self.invariant.0,
       c.self.invariant.1 ∙ ap node_numbers (sym (kept c)),
       c.self.invariant.2,
+      c.self.invariant.3,
     )
 
 -- and the network is as it was

@@ -10,7 +10,7 @@ use Rattle.transyt_net.proofs.CopyLaws.{written_back}
 use Rattle.transyt_net.proofs.net.Net.take_numbers.Goals as goal
 
 -- the network is that of the other
-whole : (c : goal.After-self-2-1)
+whole : (c : goal.After-copy_from_slice)
     → network_of c.self.inside.frame
     (take c.self.inside.nodes.len
     (c.take_nodes.new.nodes ++ drop (length c.take_nodes.new.nodes) c.self.inside.nodes.items))
@@ -48,9 +48,9 @@ invariant_of-self c =
       c.self.invariant.1 ∙ same_node_numbers a b same ∙ ap (λ (n : Network). node_numbers n.nodes) (sym (whole c)),
       c.self.invariant.2 ∙ same_link_numbers a b same ∙ ap (λ (n : Network). link_numbers n.links) (sym (whole c)),
       c.copy_from_slice.ensures.items
-      ∙ c.deref-3.ensures.value
-      ∙ c.from.invariant.3
-      ∙ ap (λ (n : Network). map total_flow n.links) (sym (whole c)),
+          ∙ c.deref-3.ensures.value
+          ∙ c.from.invariant.3
+          ∙ ap (λ (n : Network). map total_flow n.links) (sym (whole c)),
     )
 
 -- the other network, as contracts see it
