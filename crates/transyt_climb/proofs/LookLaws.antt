@@ -2,10 +2,18 @@
 use Rattle.std.proofs.Common.{◌≡◌, ℕ, Bool, true, false, refl, if◌then◌else◌}
 use Rattle.transyt_net.specs.Parts.{Network}
 use Rattle.transyt_moves.specs.Moves.{move, move_count}
-use Rattle.transyt_sweep.specs.Climb.{lowers, moved, tried_at}
+use Rattle.transyt_net.specs.EditFaults.{edit_fault}
+use Rattle.transyt_sweep.specs.Sweeps.{index}
+use Rattle.transyt_sweep.specs.Climb.{lowers, moved, is_below, index_with, tried_at}
 use Rattle.transyt_session.specs.Session.{SessionValue, lowered, lower_index}
 use Rattle.transyt_climb.specs.Turns.{looked_at, found_at}
 use Rattle.transyt_climb.proofs.CountLaws.{count_moved}
+
+-- what it means that the move at a place lowers the index
+pub lowers_is : (net : Network) (place : ℕ)
+    → lowers net place ≡ is_below (index net) (index_with net (move net place) (edit_fault net (move net place)))
+unfolding lowers tried_at
+lowers_is net place = refl
 
 -- a look at the move at a place is a look at a place
 pub looked_is : (s : SessionValue) (place : ℕ) → lowered (move s.net place) s ≡ looked_at place s
