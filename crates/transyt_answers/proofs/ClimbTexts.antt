@@ -12,7 +12,7 @@ use Rattle.transyt_climb.specs.declared.turn.Turn.{Turn}
 use Rattle.transyt_climb.specs.Turns.{Counters, machine, start_at, step_then, is_end, is_local}
 use Rattle.transyt_climb.specs.Way.{IsUnderWay, IsOver, IsRound, climb_left, climbed}
 use Rattle.transyt_climb.proofs.WayLaws.{way_start, way_round, way_over, HasLooked, round_looks}
-use Rattle.transyt_desks.specs.Desks.{desk_zero, AreAligned}
+use Rattle.transyt_desks.specs.Desks.{desk_zero, AreAlike}
 use Rattle.transyt_text.specs.Prints.{Prints, Printed}
 use Rattle.transyt_text.proofs.PrintLaws.{prints_both, prints_front, prints_same, adds_same}
 use Rattle.transyt_text.proofs.LoopLaws.{printed_nothing}
@@ -45,13 +45,13 @@ all budget first = climb (desk_zero first).net 0 budget
 
 -- a climb at its start
 pub climb_starts : (budget : ℕ) (first : List SessionValue) (counters : Counters)
-    → counters ≡ start_at budget (move_count (desk_zero first).net) → (desk_zero first).before ≡ None → AreAligned first
+    → counters ≡ start_at budget (move_count (desk_zero first).net) → (desk_zero first).before ≡ None → AreAlike first
     → ClimbSoFar budget first first counters []
-climb_starts budget first counters start closed aligned =
+climb_starts budget first counters start closed alike =
     let P : Counters → Type 0 = λ c. ClimbSoFar budget first first c [] in
     subst P (sym start) (record {
       way = way_start budget (desk_zero first) closed;
-      aligned = aligned;
+      alike = alike;
       len = refl;
       budget_is = refl;
       room = omega arith;
@@ -93,14 +93,14 @@ module _ {budget : ℕ} {first desks : List SessionValue} {counters : Counters} 
       round_looks (machine counters (desk_zero desks)) (machine noted (desk_zero after)) count last round going
 
   -- a round that doesn't end the climb
-  pub climb_goes : is_end last ≡ false → AreAligned after → length after ≡ length desks
+  pub climb_goes : is_end last ≡ false → AreAlike after → length after ≡ length desks
       → (desk_zero after).work ≤ (desk_zero desks).work + 8000 * count
       → ClimbSoFar budget first after noted (done ++ step_then last [])
-  climb_goes going aligned len few =
+  climb_goes going alike len few =
       let looked = climb_looks going in
       record {
         way = goes going;
-        aligned = aligned;
+        alike = alike;
         len = len ∙ so.len;
         budget_is = looked.budget ∙ so.budget_is;
         room = let far : noted.looked ≡ counters.looked + count = looked.looked in omega (arith, so.room, few, far);

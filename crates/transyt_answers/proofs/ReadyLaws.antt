@@ -9,7 +9,7 @@ use Rattle.transyt_net.specs.Shape.{shape, SameShape}
 use Rattle.transyt_net.specs.EditFaults.{edit_fault}
 use Rattle.transyt_net.proofs.KeptLaws.{shape_kept}
 use Rattle.transyt_session.specs.Session.{SessionValue, opened, edited_net, net_with, net_before}
-use Rattle.transyt_desks.specs.Desks.{session_at, desk_zero, no_session, opened_desks, AreAligned}
+use Rattle.transyt_desks.specs.Desks.{session_at, desk_zero, no_session, opened_desks}
 use Rattle.transyt_commands.specs.declared.command.Command.{Command}
 use Rattle.transyt_commands.specs.declared.command.Command.TheVariants as c
 use Rattle.transyt_commands.specs.Commands.{command_in}
@@ -113,17 +113,6 @@ pub ready_same : (desks : List SessionValue) (s : SessionValue) → AreReady des
 ready_same desks s ready net closed =
     let P : Option Network → Type 0 = λ o. IfSome o (λ n. SameShape s.net n) in
     ready_set desks s ready (record { net = ap shape (sym net); before = subst P (sym closed) tt })
-
--- aligned desks without a trial
-pub ready_aligned : (desks : List SessionValue) → 0 < length desks → AreAligned desks → (desk_zero desks).before ≡ None
-    → AreReady desks
-ready_aligned desks some aligned closed =
-    let P : Option Network → Type 0 = λ o. IfSome o (λ n. SameShape (desk_zero desks).net n) in
-    record {
-      some = some;
-      alike = record { shape = λ k inside. ap shape (aligned.same k inside) };
-      before = subst P (sym closed) tt;
-    }
 
 -- desks that were opened
 pub ready_opened : (s : SessionValue) (workers : ℕ) → s.before ≡ None → AreReady (opened_desks s workers)

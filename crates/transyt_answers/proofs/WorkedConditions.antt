@@ -19,7 +19,7 @@ use Rattle.transyt_track.specs.WorkedWork.{junctions}
 use Rattle.transyt_session.specs.Session.{SessionValue}
 use Rattle.transyt_session.specs.WorkedSessions.{begun, in_trial}
 use Rattle.transyt_climb.specs.Turns.{start_at}
-use Rattle.transyt_desks.specs.Desks.{session_at, desk_zero, AreAligned}
+use Rattle.transyt_desks.specs.Desks.{session_at, desk_zero}
 use Rattle.transyt_report.specs.declared.showing.Report.TheVariants as report
 use Rattle.transyt_answers.specs.declared.answer.Answer.{Answer}
 use Rattle.transyt_answers.specs.declared.answer.Answer.TheVariants as a
@@ -111,14 +111,6 @@ none_is_ready =
     All-from_recursion (λ (desks : List SessionValue). AreReady desks → ⊥) unready_desks
     (none_ready, (other_unready, (trial_unready, tt)))
 
--- one desk stands for its own network
-one_aligned : AreAligned one_desk
-one_aligned = record { same = same_at }
-  where
-    same_at : (k : ℕ) → k < 1 → (session_at one_desk k).net ≡ (desk_zero one_desk).net
-    same_at zero below = refl
-    same_at (suc k) below = absurd (omega (arith, below))
-
 -- counters of a climb of its network
 counters_are : at_start ≡ start_at 5 (move_count junctions)
 unfolding move_count
@@ -126,7 +118,7 @@ counters_are = refl
 
 -- a climb at its start
 pub so_far : ClimbSoFar 5 one_desk one_desk at_start []
-so_far = climb_starts 5 one_desk at_start counters_are refl one_aligned
+so_far = climb_starts 5 one_desk at_start counters_are refl one_ready.alike
 
 pub counted : ClimbCounted 5 one_desk one_desk at_start 0
 counted = counts_nothing so_far

@@ -9,7 +9,7 @@ use Rattle.transyt_climb.specs.declared.turn.Turn.{Turn}
 use Rattle.transyt_climb.specs.declared.turn.Turn.TheVariants.{Took, Passed, Local, Budget}
 use Rattle.transyt_climb.specs.Turns.{Counters, machine}
 use Rattle.transyt_climb.specs.Way.{IsUnderWay}
-use Rattle.transyt_desks.specs.Desks.{desk_zero, AreAligned, AreAlike}
+use Rattle.transyt_desks.specs.Desks.{desk_zero, AreAlike}
 use Rattle.transyt_text.specs.Prints.{Printed}
 use Rattle.transyt_report.specs.MoveTexts.{is_move}
 use Rattle.transyt_report.specs.Texts.{IsOfPlace}
@@ -39,7 +39,7 @@ most_work work looked = work + 8000 * looked
 pub record ClimbSoFar (budget : ℕ) (first desks : List SessionValue) (counters : Counters) (done : List Step) : Type 0 where
   pub way : IsUnderWay (climb (desk_zero first).net 0 budget) (desk_zero first).work done
       (machine counters (desk_zero desks))
-  pub aligned : AreAligned desks
+  pub alike : AreAlike desks
   pub len : length desks ≡ length first
   pub budget_is : counters.budget ≡ budget
   pub room : (desk_zero desks).work ≤ most_work (desk_zero first).work counters.looked

@@ -6,7 +6,7 @@ ghost use Rattle.transyt_sweep.specs.Climb.{climb};
 ghost use Rattle.transyt_sweep.specs.Sweeps.{index};
 ghost use Rattle.transyt_climb.specs.Turns.{start_at};
 ghost use Rattle.transyt_climb.specs.Way.{climbed};
-ghost use Rattle.transyt_desks.specs.Desks.{desk_zero, AreAligned};
+ghost use Rattle.transyt_desks.specs.Desks.{desk_zero, AreAlike};
 ghost use Rattle.transyt_text.specs.Prints.{Prints};
 ghost use Rattle.transyt_text.specs.Forms.{form_line};
 ghost use Rattle.transyt_track.specs.Work.{work_of};
@@ -44,7 +44,7 @@ fn count_steps<R: Threads + Sync, G: Gate, L: Ledger>(
 ) -> Climbed
     requires start { climber.old ≡ start_at climber.old.budget (move_count (desk_zero desks.old).net) }
     requires budget { climber.old.budget ≤ 1000000 }
-    requires aligned { AreAligned desks.old }
+    requires alike { AreAlike desks.old }
     requires closed { (desk_zero desks.old).before ≡ None }
     requires few { length desks.old ≤ 8 }
     requires room { (desk_zero desks.old).work ≤ 2 ^ 60 }
@@ -90,7 +90,6 @@ fn tell_climb<R: Threads + Sync, G: Gate, K: Sink, L: Ledger>(
     let net = desks.session().net();
     let (nodes, links) = (net.nodes().len(), net.links().len());
     let from = desks.session().index();
-    desks.align(steps);
     let mut climber = start_climber(desks.session().net());
     let climbed = count_steps(rt, gate, desks, &mut climber, steps);
     let numbers = numbers_of(

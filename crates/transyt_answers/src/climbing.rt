@@ -4,7 +4,7 @@ ghost use Rattle.transyt_moves.specs.Moves.{move_count};
 ghost use Rattle.transyt_sweep.specs.Climb.{climb};
 ghost use Rattle.transyt_climb.specs.Turns.{start_at, step_then};
 ghost use Rattle.transyt_climb.specs.Way.{climbed};
-ghost use Rattle.transyt_desks.specs.Desks.{desk_zero, AreAligned};
+ghost use Rattle.transyt_desks.specs.Desks.{desk_zero, AreAlike};
 ghost use Rattle.transyt_text.specs.Prints.{Prints};
 ghost use Rattle.transyt_report.specs.MoveTexts.{end_text};
 ghost use Rattle.transyt_answers.specs.Commands.{steps_text, climb_text, climb_of, budget_of};
@@ -83,14 +83,14 @@ fn climb_by_rounds<R: Threads + Sync, G: Gate, K: Sink, L: Ledger>(
 ) -> Result<(), Failed>
     requires start { climber.old ≡ start_at climber.old.budget (move_count (desk_zero desks.old).net) }
     requires budget { climber.old.budget ≤ 1000000 }
-    requires aligned { AreAligned desks.old }
+    requires alike { AreAlike desks.old }
     requires closed { (desk_zero desks.old).before ≡ None }
     requires few { length desks.old ≤ 8 }
     requires room { (desk_zero desks.old).work ≤ 2 ^ 60 }
     ensures prints { Prints (K.written sink.old) (K.written sink.new) (K.faults sink.old) (K.faults sink.new) result
         (climb_text (climb (desk_zero desks.old).net 0 climber.old.budget)) }
     ensures state { OnOk result (desk_zero desks.new ≡ climbed climber.old.budget (desk_zero desks.old)) }
-    ensures aligned { AreAligned desks.new }
+    ensures alike { AreAlike desks.new }
     ensures closed { (desk_zero desks.new).before ≡ None }
     ensures len { length desks.new ≡ length desks.old }
     ensures few { (desk_zero desks.new).work ≤ (desk_zero desks.old).work + 8000 * climber.old.budget + 72000 }
@@ -134,7 +134,6 @@ pub(crate) fn climb_on<R: Threads + Sync, G: Gate, K: Sink, L: Ledger>(
     ensures steps { length desks.old ≡ 1
         → steps.new + (desk_zero desks.old).work ≡ steps.old + (desk_zero desks.new).work }
 {
-    desks.align(steps);
     let mut climber = start_climber(desks.session().net());
     climb_by_rounds(rt, gate, desks, &mut climber, line, sink, steps)
 }

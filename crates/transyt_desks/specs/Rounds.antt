@@ -1,5 +1,6 @@
 -- A round: the turns that several desks make together.
 use Rattle.std.specs.Prelude.{◌≡◌, ℕ, ◌+◌, ◌-◌, min, Bool, true, false, List, Option, Some, None, if◌then◌else◌}
+use Rattle.std.specs.Prelude.{◌==◌, ◌&&◌, nat_le, nat_lt}
 use Rattle.transyt_moves.specs.Moves.{move_count}
 use Rattle.transyt_session.specs.Session.{SessionValue}
 use Rattle.transyt_sweep.specs.Climb.{least}
@@ -34,9 +35,18 @@ room_of workers c = min workers (min (c.budget - c.looked) (c.count - c.since))
 abbrev pub turns_of : ℕ → Machine → ℕ
 turns_of workers m = if is_end (answer_of m) then 1 else turns_up_to (room_of workers m.counters) m
 
--- how many of so many desks try in a short round: two more than the places that have passed since the last step
+-- whether the last look took a step
+abbrev pub just_stepped : Counters → Bool
+just_stepped c = (c.since == 0) && nat_lt 0 c.looked
+
+-- how many of so many desks try in a short round. One or two all try, always: who asks for two workers wants both at
+-- work. Of more, one tries right after a step, then two, and all once eight places have passed since.
 abbrev pub tries_of : ℕ → Counters → ℕ
-tries_of desks c = min desks (c.since + 2)
+tries_of desks c =
+    if nat_le desks 2 then desks
+    else if just_stepped c then 1
+    else if nat_lt c.since 8 then 2
+    else desks
 
 -- what a round of so many workers makes of a climber and the desks that it is made on
 pub record RoundsTo (workers : ℕ) (before : Counters) (olds : List SessionValue) (after : Counters) (news : List SessionValue)

@@ -5,7 +5,7 @@ ghost use Rattle.transyt_moves.specs.Moves.{move_count};
 ghost use Rattle.transyt_sweep.specs.Climb.{climb};
 ghost use Rattle.transyt_climb.specs.Turns.{start_at};
 ghost use Rattle.transyt_climb.specs.Way.{climbed};
-ghost use Rattle.transyt_desks.specs.Desks.{desk_zero, AreAligned};
+ghost use Rattle.transyt_desks.specs.Desks.{desk_zero, AreAlike};
 
 use crate::desks::Desks;
 use crate::gate::Gate;
@@ -24,13 +24,13 @@ pub fn climb_by_rounds<R: Threads + Sync, G: Gate, L: Ledger>(
     steps: &mut Steps<L>,
 ) -> bool
     requires start { climber.old ≡ start_at climber.old.budget (move_count (desk_zero desks.old).net) }
-    requires aligned { AreAligned desks.old }
+    requires alike { AreAlike desks.old }
     requires closed { (desk_zero desks.old).before ≡ None }
     requires room { (desk_zero desks.old).work ≤ 2 ^ 60 }
     ensures local { result ≡ (climb (desk_zero desks.old).net 0 climber.old.budget).local }
     ensures state { desk_zero desks.new ≡ climbed climber.old.budget (desk_zero desks.old) }
     ensures looks { climber.new.looked ≡ length (climb (desk_zero desks.old).net 0 climber.old.budget).looks }
-    ensures aligned { AreAligned desks.new }
+    ensures alike { AreAlike desks.new }
     ensures workers { length desks.new ≡ length desks.old }
     ensures steps { length desks.old ≡ 1
         → steps.new + (desk_zero desks.old).work ≡ steps.old + (desk_zero desks.new).work }

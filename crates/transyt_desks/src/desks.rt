@@ -2,12 +2,13 @@
 
 ghost use Rattle.std.specs.Prelude.{◌≡◌, ℕ, ◌+◌, ◌*◌, ◌^◌, ◌<◌, ◌≤◌, ◌↔◌, [], ◌∷◌, ◌++◌, length, None, IfOk, OnOk, IsTrue};
 ghost use Rattle.std.specs.Borrow.{sem};
+ghost use Rattle.transyt_net.specs.Shape.{SameShape};
 ghost use Rattle.transyt_moves.specs.Moves.{move_count};
 ghost use Rattle.transyt_climb.specs.Turns.{machine};
 ghost use Rattle.transyt_climb.specs.Way.{IsRound};
 ghost use Rattle.transyt_desks.specs.Desks.{desk_zero, new_desk, opened_desks, sessions_of, AreAligned, AreAlike, AreDesks};
 ghost use Rattle.transyt_desks.specs.Lends.{LendsZero};
-ghost use Rattle.transyt_desks.specs.Rounds.{room_of, tries_of, turns_of, RoundsTo};
+ghost use Rattle.transyt_desks.specs.Rounds.{just_stepped, room_of, tries_of, turns_of, RoundsTo};
 
 use crate::desk::{Desk, answers_of, follow_zero, try_front};
 use crate::equal::same_net;
@@ -136,10 +137,11 @@ impl Desks {
         )
     }
 
-    /// A round in which fewer desks try just after a step: two more than the moves that have passed since it.
+    /// A round in which fewer desks try just after a step: the first `tries_of` of them. The others stay as they are, and
+    /// stand for the network of desk 0 again once their turn to try comes.
     ///
-    /// After a step the next is mostly near, and what is tried behind it is lost; the longer no move lowers the index,
-    /// the more are tried at once. All else is as in `round`.
+    /// Right after a step the same move mostly lowers the index again, so one desk goes on alone, with nothing to copy;
+    /// the longer no move lowers it, the more are tried at once. All else is as in `round`.
     pub fn short_round<R: Threads + Sync, G: Gate, L: Ledger>(
         &mut self,
         rt: &R,
@@ -147,7 +149,7 @@ impl Desks {
         gate: &G,
         steps: &mut Steps<L>,
     ) -> Round
-        requires aligned { AreAligned self.old }
+        requires alike { AreAlike self.old }
         requires count { climber.old.count ≡ move_count (desk_zero self.old).net }
         requires closed { (desk_zero self.old).before ≡ None }
         requires room { (desk_zero self.old).work ≤ 2 ^ 61 }
@@ -155,7 +157,7 @@ impl Desks {
             result.turns result.last }
         ensures turns { result.turns
             ≡ turns_of (tries_of (length self.old) climber.old) (machine climber.old (desk_zero self.old)) }
-        ensures aligned { AreAligned self.new }
+        ensures alike { AreAlike self.new }
         ensures workers { length self.new ≡ length self.old }
         ensures kept { climber.new.count ≡ move_count (desk_zero self.new).net }
         ensures closed { (desk_zero self.new).before ≡ None }
@@ -164,7 +166,7 @@ impl Desks {
             → steps.new + (desk_zero self.old).work ≡ steps.old + (desk_zero self.new).work }
     {
         let workers = tries(self.desks.len(), climber);
-        round_on(
+        front_round(
             rt,
             workers,
             self.desks.as_mut_slice(),
@@ -202,11 +204,27 @@ fn all_same(desks: &[Desk]) -> bool
     true
 }
 
+/// Whether the last look took a step.
+fn just_stepped(climber: &Climber) -> bool
+    ensures { result ≡ just_stepped climber.now }
+{
+    climber.since() == 0 && climber.looked() > 0
+}
+
 /// How many of so many desks try in a short round.
 fn tries(desks: usize, climber: &Climber) -> usize
     ensures { result ≡ tries_of desks climber.now }
 {
-    desks.min(climber.since() as usize + 2)
+    if desks <= 2 {
+        return desks;
+    }
+    if just_stepped(climber) {
+        return 1;
+    }
+    if climber.since() < 8 {
+        return 2;
+    }
+    desks
 }
 
 /// How many places are tried at once.
@@ -217,6 +235,41 @@ fn room(workers: usize, climber: &Climber) -> usize
     let looks = climber.budget() - climber.looked();
     let places = climber.count() - climber.since();
     workers.min(looks.min(places) as usize)
+}
+
+/// A round of so many of the first desks, which stand for the network of desk 0 first. The others stay as they are.
+fn front_round<R: Threads + Sync, G: Gate, L: Ledger>(
+    rt: &R,
+    workers: usize,
+    desks: &mut [Desk],
+    spare: &mut Net,
+    climber: &mut Climber,
+    gate: &G,
+    steps: &mut Steps<L>,
+) -> Round
+    requires some { 0 < workers }
+    requires inside { workers ≤ length desks.old }
+    requires desks { AreDesks spare.old (sessions_of desks.old) }
+    requires alike { AreAlike (sessions_of desks.old) }
+    requires count { climber.old.count ≡ move_count (desk_zero (sessions_of desks.old)).net }
+    requires closed { (desk_zero (sessions_of desks.old)).before ≡ None }
+    requires room { (desk_zero (sessions_of desks.old)).work ≤ 2 ^ 61 }
+    ensures round { IsRound (machine climber.old (desk_zero (sessions_of desks.old)))
+        (machine climber.new (desk_zero (sessions_of desks.new))) result.turns result.last }
+    ensures turns { result.turns ≡ turns_of workers (machine climber.old (desk_zero (sessions_of desks.old))) }
+    ensures alike { AreAlike (sessions_of desks.new) }
+    ensures kept { climber.new.count ≡ move_count (desk_zero (sessions_of desks.new)).net }
+    ensures closed { (desk_zero (sessions_of desks.new)).before ≡ None }
+    ensures few { (desk_zero (sessions_of desks.new)).work
+        ≤ (desk_zero (sessions_of desks.old)).work + 8000 * result.turns }
+    ensures desks { AreDesks spare.new (sessions_of desks.new) }
+    ensures len { length desks.new ≡ length desks.old }
+    ensures steps { workers ≡ 1 → steps.new + (desk_zero (sessions_of desks.old)).work
+        ≡ steps.old + (desk_zero (sessions_of desks.new)).work }
+{
+    let front = &mut desks[..workers];
+    follow_zero(front);
+    round_on(rt, workers, front, spare, climber, gate, steps)
 }
 
 /// A round of so many workers on desks that all stand for one network.
@@ -238,6 +291,7 @@ fn round_on<R: Threads + Sync, G: Gate, L: Ledger>(
     requires room { (desk_zero (sessions_of desks.old)).work ≤ 2 ^ 61 }
     ensures round { RoundsTo workers climber.old (sessions_of desks.old) climber.new (sessions_of desks.new) result }
     ensures desks { AreDesks spare.new (sessions_of desks.new) }
+    ensures spare { SameShape spare.new spare.old }
     ensures len { length desks.new ≡ length desks.old }
     ensures steps { length desks.old ≡ 1 → steps.new + (desk_zero (sessions_of desks.old)).work
         ≡ steps.old + (desk_zero (sessions_of desks.new)).work }
@@ -308,6 +362,7 @@ fn together<R: Threads + Sync, G: Gate, L: Ledger>(
     requires looked { climber.old.looked < climber.old.budget }
     ensures round { RoundsTo workers climber.old (sessions_of desks.old) climber.new (sessions_of desks.new) result }
     ensures desks { AreDesks spare.new (sessions_of desks.new) }
+    ensures spare { SameShape spare.new spare.old }
     ensures len { length desks.new ≡ length desks.old }
 {
     let room = room(workers, climber);

@@ -7,17 +7,19 @@ ghost use Rattle.transyt_session.specs.WorkedSessions.{in_trial};
 ghost use Rattle.transyt_climb.specs.WorkedTurns.{idle, idle_session, junctions_session, on_way};
 ghost use Rattle.transyt_desks.specs.Desks.{AreAligned, AreAlike, AreDesks, OthersClosed, desk_zero, opened_desks, with_zero};
 ghost use Rattle.transyt_desks.specs.Desks.{AddsLittle, AreTried, HasTried, IsLittle, IsTried, new_desk, sessions_of, tried_at};
-ghost use Rattle.transyt_desks.specs.Rounds.{RoundsTo, is_took, room_of, tries_of, turns_of, up_to};
+ghost use Rattle.transyt_desks.specs.Rounds.{RoundsTo, is_took, just_stepped, room_of, tries_of, turns_of, up_to};
 ghost use Rattle.transyt_desks.specs.WorkedDesks.{eight_desks, has_tried, idle_desks, no_desks, not_tried, seven_left};
 ghost use Rattle.transyt_desks.specs.WorkedDesks.{trial_first, trial_second, tried_before, tried_idle, tried_round, two_desks};
 ghost use Rattle.transyt_desks.specs.WorkedDesks.{two_passed, two_turns, unlike, unmade, untried_idle};
-ghost use Rattle.transyt_desks.specs.WorkedRounds.{nothing, three_desks, worked_rooms, worked_rounds, worked_tooks, worked_tries_of};
+ghost use Rattle.transyt_desks.specs.WorkedRounds.{nothing, three_desks, worked_rooms, worked_rounds, worked_stepped};
+ghost use Rattle.transyt_desks.specs.WorkedRounds.{worked_tooks, worked_tries_of};
 
 /// The worked rounds and desks come out as they are written beside the definitions.
 #[tactic(auto, using(crate::proofs::WorkedLaws::rounds, crate::proofs::WorkedLaws::are_aligned, crate::proofs::WorkedLaws::are_alike, crate::proofs::WorkedLaws::step_round))]
 pub fn worked_rounds()
     ensures rooms { map (λ row. room_of row.0 row.1) worked_rooms ≡ map (λ row. row.2) worked_rooms }
     ensures tries { map (λ row. tries_of row.0 row.1) worked_tries_of ≡ map (λ row. row.2) worked_tries_of }
+    ensures stepped { map (λ row. just_stepped row.0) worked_stepped ≡ map (λ row. row.1) worked_stepped }
     ensures rounds { map (λ row. turns_of row.0 row.1) worked_rounds ≡ map (λ row. row.2) worked_rounds }
     ensures step { turns_of 8 seven_left ≡ 2 }
     ensures tooks { map (λ row. is_took row.0) worked_tooks ≡ map (λ row. row.1) worked_tooks }

@@ -4,7 +4,7 @@
 //! a session of its own, with memory taken when the desks were opened. The first move in the order of the list that
 //! lowers the index is made at every desk, and what was tried after it is forgotten. So a round is so many turns of one
 //! worker, and a climb by rounds is the climb, whatever the number of workers. It goes by short rounds, in which few
-//! desks try just after a step. All of this is this project's own.
+//! desks try just after a step, and the others are left behind until more try. All of this is this project's own.
 //!
 //! A contract sees desks as the list of their sessions, desk 0 first. `IsRound` of transyt_climb is what a round does to
 //! the climber and desk 0, and `turns_of` of `specs/Rounds` its number of turns. That several desks are at work at once

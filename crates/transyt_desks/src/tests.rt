@@ -87,6 +87,7 @@ fn outcome_and_net(
 
 /// Climbs by rounds, and gives what it comes to and the network then; none where there is no climb plan, the desks don't
 /// stand for one network, a trial is open, or there is much work.
+#[tactic(auto, using(crate::proofs::FrontLaws::aligned_alike))]
 fn climb<R: Threads + Sync, L: Ledger>(
     rt: &R,
     alloc: Global,

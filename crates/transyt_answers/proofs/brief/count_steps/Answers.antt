@@ -9,7 +9,7 @@ use Rattle.transyt_answers.proofs.brief.count_steps.Goals as goal
 pub loop-round-init : goal.loop-round-init
 loop-round-init g c = record {
   counted = counts_nothing (climb_starts c.args.climber.now.budget c.args.desks.now c.args.climber.now c.requires.start
-      c.requires.closed c.requires.aligned);
+      c.requires.closed c.requires.alike);
   steps = λ one. refl;
 }
 
@@ -25,7 +25,7 @@ loop-round-preserved g c =
     let few = c.steps_of-took.ensures.few in
     record {
       counted = step_counted so c.short_round-round.new.self count last round.round _ going (omega (arith, took)) (omega (arith, few))
-          (climb_goes so.climb c.short_round-round.new.self count last round.round going round.aligned round.workers round.few);
+          (climb_goes so.climb c.short_round-round.new.self count last round.round going round.alike round.workers round.few);
       steps = λ one.
           let before = c.loop-round.invariant.steps one in
           let now = round.steps (so.climb.len ∙ one) in

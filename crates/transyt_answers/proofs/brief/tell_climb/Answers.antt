@@ -17,7 +17,6 @@ use Rattle.transyt_answers.proofs.brief.tell_climb.Goals as goal
 pub returns-clause-prints : goal.returns-clause-prints
 returns-clause-prints g c =
     let net = (desk_zero c.args.desks.now).net in
-    let zero : (desk_zero c.align.new.self).net ≡ net = ap (λ (s : SessionValue). s.net) c.align.ensures.zero in
     let first : c.net-net.result.now ≡ net = c.net-net.ensures ∙ ap (λ (s : SessionValue). s.net) c.session.ensures in
     let nodes_count : length c.nodes.result.now ≡ length net.nodes =
     ap length (c.nodes.ensures.value ∙ ap (λ (n : Network). n.nodes) first) in
@@ -25,11 +24,10 @@ returns-clause-prints g c =
     ap length (c.links.ensures.value ∙ ap (λ (n : Network). n.links) first) in
     let told = c.count_steps-climbed.ensures in
     let start = c.start_climber-climber.ensures.start in
-    let at : c.net.result.now ≡ net = c.net.ensures ∙ ap (λ (s : SessionValue). s.net) c.session-3.ensures ∙ zero in
+    let at : c.net.result.now ≡ net = c.net.ensures ∙ ap (λ (s : SessionValue). s.net) c.session-3.ensures in
     let budget : c.start_climber-climber.result.budget ≡ budget_of net.plan =
     ap (λ (k : Counters). k.budget) start ∙ ap (λ (n : Network). budget_of n.plan) at in
-    let whole : climb (desk_zero c.align.new.self).net 0 c.start_climber-climber.result.budget ≡ climb_of net =
-    λ i. climb (zero i) 0 (budget i) in
+    let whole : climb net 0 c.start_climber-climber.result.budget ≡ climb_of net = ap (climb net 0) budget in
     let last = c.count_steps-climbed.new.desks in
     let to : index c.session-4.result.now.net ≡ index (climb_of net).net =
     ap (λ (s : SessionValue). index s.net) (c.session-4.ensures ∙ told.state) ∙ ap (λ (k : Climb). index k.net) whole in

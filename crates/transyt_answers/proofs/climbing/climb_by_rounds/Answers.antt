@@ -1,10 +1,11 @@
 -- One round more of a climb on its way, whose line is written, or its last.
-use Rattle.std.proofs.Common.{◌≡◌, ◌+◌, Result, Ok, Err, OnOk, false, length, refl, sym, ◌∙◌, ap, arith}
-use Rattle.std.proofs.Math.Nat.{min-le_left}
-use Rattle.transyt_climb.specs.Turns.{is_end, machine}
+use Rattle.std.proofs.Common.{◌≡◌, ◌+◌, ◌≤◌, Result, Ok, Err, OnOk, false, List, length, refl, sym, ◌∙◌, ap, arith}
+use Rattle.transyt_climb.specs.Turns.{Counters, is_end, machine}
 use Rattle.transyt_sweep.specs.Sweeps.{index}
 use Rattle.transyt_session.specs.Session.{SessionValue}
 use Rattle.transyt_desks.specs.Desks.{desk_zero}
+use Rattle.transyt_desks.specs.Rounds.{tries_of}
+use Rattle.transyt_desks.proofs.ShortLaws.{tries_few}
 use Rattle.transyt_text.proofs.PrintLaws.{prints_same}
 use Rattle.transyt_report.specs.MoveTexts.{end_text}
 use Rattle.transyt_answers.proofs.ClimbTexts.{climb_starts, writes_nothing, climb_goes, climb_state, climb_work, climb_few, fewer_left}
@@ -16,7 +17,7 @@ use Rattle.transyt_answers.proofs.climbing.climb_by_rounds.Goals as goal
 pub loop-desks-init : goal.loop-desks-init
 loop-desks-init g c = record {
   written = writes_nothing (climb_starts c.args.climber.now.budget c.args.desks.now c.args.climber.now c.requires.start
-      c.requires.closed c.requires.aligned) _ _;
+      c.requires.closed c.requires.alike) _ _;
   steps = λ one. refl;
 }
 
@@ -30,7 +31,7 @@ loop-desks-preserved g c =
     let going : is_end last ≡ false = sym c.is_end.ensures ∙ c.if-is_end.false in
     record {
       written = step_written so c.short_round-round.new.self count last round.round (tt {0}) _ _
-          (climb_goes so.climb c.short_round-round.new.self count last round.round going round.aligned round.workers round.few) c.in_ok-say_step.ensures;
+          (climb_goes so.climb c.short_round-round.new.self count last round.round going round.alike round.workers round.few) c.in_ok-say_step.ensures;
       steps = λ one.
           let before = c.loop-desks.invariant.steps one in
           let now = round.steps (so.climb.len ∙ one) in
@@ -77,12 +78,18 @@ pub say_step-requires : goal.say_step-requires
 say_step-requires g c =
     steps_round _ _ c.short_round-round.result.turns c.short_round-round.result.last c.short_round-round.ensures.round
 
+-- at most eight desks try
+few_try : (c : Counters) (desks first : List SessionValue) → length desks ≡ length first → length first ≤ 8
+    → tries_of (length desks) c ≤ 8
+few_try c desks first len few = let most = tries_few (length desks) c in omega (arith, most, len, few)
+
 -- its work is little
 pub returns-then-is_end-clause-few : goal.returns-then-is_end-clause-few
 returns-then-is_end-clause-few g c =
     climb_few c.loop-desks.invariant.written.climb c.short_round-round.new.self c.short_round-round.result.turns
     c.short_round-round.result.last c.short_round-round.ensures.round c.short_round-round.ensures.few
-    (few_turns_of (machine c.loop-desks.climber (desk_zero c.loop-desks.desks)) c.short_round-round.ensures.turns refl (omega (arith, min-le_left (length c.loop-desks.desks) (c.loop-desks.climber.since + 2), c.loop-desks.invariant.written.climb.len, c.requires.few)))
+    (few_turns_of (machine c.loop-desks.climber (desk_zero c.loop-desks.desks)) c.short_round-round.ensures.turns refl
+    (few_try c.loop-desks.climber c.loop-desks.desks c.args.desks.now c.loop-desks.invariant.written.climb.len c.requires.few))
 
 -- and at most that of the whole climb
 pub returns-then-is_end-clause-work : goal.returns-then-is_end-clause-work
@@ -95,7 +102,8 @@ pub returns-in_err-say_step-clause-few : goal.returns-in_err-say_step-clause-few
 returns-in_err-say_step-clause-few g c =
     climb_few c.loop-desks.invariant.written.climb c.short_round-round.new.self c.short_round-round.result.turns
     c.short_round-round.result.last c.short_round-round.ensures.round c.short_round-round.ensures.few
-    (few_turns_of (machine c.loop-desks.climber (desk_zero c.loop-desks.desks)) c.short_round-round.ensures.turns refl (omega (arith, min-le_left (length c.loop-desks.desks) (c.loop-desks.climber.since + 2), c.loop-desks.invariant.written.climb.len, c.requires.few)))
+    (few_turns_of (machine c.loop-desks.climber (desk_zero c.loop-desks.desks)) c.short_round-round.ensures.turns refl
+    (few_try c.loop-desks.climber c.loop-desks.desks c.args.desks.now c.loop-desks.invariant.written.climb.len c.requires.few))
 
 -- and at most that of the whole climb
 pub returns-in_err-say_step-clause-work : goal.returns-in_err-say_step-clause-work

@@ -20,7 +20,7 @@ loop-round-init g c =
             (sym at) (way_start c.args.climber.now.budget s c.requires.closed),
       );
       budget = refl;
-      aligned = c.requires.aligned;
+      alike = c.requires.alike;
       workers = refl;
       room = omega arith;
       steps = λ one. refl;
@@ -42,7 +42,7 @@ loop-round-preserved g c =
             c.short_round-round.result.last c.loop-round.invariant.way.1 c.short_round-round.ensures.round going,
       );
       budget = looks.budget ∙ c.loop-round.invariant.budget;
-      aligned = c.short_round-round.ensures.aligned;
+      alike = c.short_round-round.ensures.alike;
       workers = c.short_round-round.ensures.workers ∙ c.loop-round.invariant.workers;
       room = omega (arith, looks.looked, c.short_round-round.ensures.few, c.loop-round.invariant.room);
       steps = λ one.

@@ -10,6 +10,7 @@ use Rattle.transyt_desks.specs.declared.desk.Desk.{Desk}
 use Rattle.transyt_desks.specs.Desks.{session_at, desk_zero, sessions_of, tried_at, AllStandFor, AreAligned, OthersClosed, AreTried, IsTried}
 use Rattle.transyt_desks.specs.Rounds.{turns_up_to}
 use Rattle.transyt_desks.proofs.DeskLaws.{sessions_count, aligned_count, first_zero, rest_stand, before_zero, before_aligned, before_closed}
+use Rattle.transyt_desks.proofs.FrontLaws.{shape_round}
 use Rattle.transyt_desks.proofs.RoundLaws.{front_tried, all_closed, rounds_together, aligned_desks}
 use Rattle.transyt_desks.proofs.desks.together.Goals as goal
 
@@ -144,3 +145,20 @@ returns-clause-desks g c =
     (omega (arith, all, c.requires.desks.few)) (before_aligned zero others one c.settle_zero.ensures.others)
     (before_closed zero others (desk_zero (sessions_of zero)).net one c.settle_zero.ensures.others)
     (c.settle_zero.ensures.shape ∙ sym (ap (λ (s : SessionValue). shape s.net) (before_zero zero others (omega arith))))
+
+-- the spare network has the shape of desk 0's, before and after
+pub returns-clause-spare : goal.returns-clause-spare
+returns-clause-spare g c =
+    let s0 : List SessionValue = sessions_of c.args.desks.now in
+    let front : List Desk = c.split_at_mut-zero.result.0.now in
+    let zero_is : desk_zero (sessions_of front) ≡ desk_zero s0 =
+    ap (λ (ds : List Desk). desk_zero (sessions_of ds)) c.split_at_mut-zero.ensures.front
+    ∙ first_zero c.try_front.new.desks ∙ ap desk_zero c.try_front.ensures.sessions in
+    let several : 1 < length s0 = omega (arith, c.requires.several, sessions_count c.args.desks.now) in
+    c.settle_zero.ensures.shape
+    ∙ shape_round (machine c.args.climber.now (desk_zero (sessions_of front)))
+    (machine c.settle_zero.new.climber (desk_zero (sessions_of c.settle_zero.new.zero)))
+    c.settle_zero.result.turns c.settle_zero.result.last c.settle_zero.ensures.round
+    ∙ ap (λ (s : SessionValue). shape s.net) zero_is
+    ∙ sym (ap shape (c.requires.aligned.same 1 several))
+    ∙ sym (c.requires.desks.shape 1 (omega arith) several)
