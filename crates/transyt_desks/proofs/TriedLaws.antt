@@ -9,12 +9,13 @@ use Rattle.transyt_net.specs.EditFaults.{edit_fault}
 use Rattle.transyt_net.specs.Edits.{with_edit}
 use Rattle.transyt_moves.specs.Moves.{move}
 use Rattle.transyt_sweep.specs.Sweeps.{index}
-use Rattle.transyt_sweep.specs.Climb.{lowers, moved, is_below, index_with, tried_at}
+use Rattle.transyt_sweep.specs.Climb.{lowers, moved, is_below, index_with}
 use Rattle.transyt_track.specs.Work.{edit_work, work_with}
 use Rattle.transyt_session.specs.declared.answers.Tried.TheVariants.{Barred, Index}
 use Rattle.transyt_session.specs.Session.{SessionValue, try_of, tried_with}
 use Rattle.transyt_climb.specs.declared.turn.Turn.TheVariants.{Took, Passed, Local, Budget}
 use Rattle.transyt_climb.specs.Turns.{Counters, Machine, machine, look_answer, answer_of, after_answer, turned, noted}
+use Rattle.transyt_climb.proofs.LookLaws.{lowers_is}
 use Rattle.transyt_desks.specs.Rounds.{is_took}
 
 -- what a try of an allowed move says
@@ -34,12 +35,6 @@ pub moved_is : (net : Network) (place : ℕ) → with_edit net (move net place) 
 unfolding moved
 moved_is net place = refl
 
--- what it means that the move at a place lowers the index
-lowers_by : (net : Network) (place : ℕ)
-    → lowers net place ≡ is_below (index net) (index_with net (move net place) (edit_fault net (move net place)))
-unfolding lowers tried_at
-lowers_by net place = refl
-
 pub tried_barred : (net : Network) (place : ℕ) → try_of net (move net place) ≡ Barred → IsBarred net place
 tried_barred net place is = by (edit_fault net (move net place)) refl is
   where
@@ -47,7 +42,7 @@ tried_barred net place is = by (edit_fault net (move net place)) refl is
         → tried_with net (move net place) fault ≡ Barred → IsBarred net place
     by None same is = let never : ⊥ = cc in absurd never
     by (Some fault) same is = record {
-      higher = lowers_by net place ∙ ap (λ x. is_below (index net) (index_with net (move net place) x)) same;
+      higher = lowers_is net place ∙ ap (λ x. is_below (index net) (index_with net (move net place) x)) same;
       work = ap (work_with net (move net place)) same;
     }
 
@@ -61,7 +56,7 @@ tried_index net place found work is = by (edit_fault net (move net place)) refl 
         let found_is : found ≡ index (with_edit net (move net place)) = cc in
         let work_is : work ≡ work_with net (move net place) None = cc in
         record {
-          lowers_is = lowers_by net place
+          lowers_is = lowers_is net place
               ∙ ap (λ x. is_below (index net) (index_with net (move net place) x)) same
               ∙ ap (λ x. nat_lt x (index net)) (sym found_is);
           found_is = found_is ∙ ap index (moved_is net place);
