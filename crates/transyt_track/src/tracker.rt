@@ -321,6 +321,7 @@ impl Tracker {
         requires closed { self.old.mark ≡ None }
         ensures net { self.new.net ≡ from.now.net }
         ensures mark { self.new.mark ≡ None }
+        ensures shape { SameShape self.old.net self.new.net }
     {
         copy_saved(
             &self.net,
