@@ -1,4 +1,5 @@
 pub mod Parts
 pub mod Mixing
 pub mod Turns
+pub mod Arrived
 pub mod KnownValues

@@ -1,11 +1,11 @@
 -- The mean of two numbers by a reciprocal.
-use Rattle.std.proofs.Common.{◌≡◌, ℕ, ◌+◌, ◌-◌, ◌*◌, ◌/◌, ◌^◌, ◌<◌, ◌≤◌, length, ap, ◌∙◌, arith}
+use Rattle.std.proofs.Common.{◌≡◌, ℕ, ◌+◌, ◌-◌, ◌*◌, ◌/◌, ◌^◌, ◌<◌, ◌≤◌, ap, ◌∙◌, arith}
 use Rattle.std.proofs.lemmas.Nat.{mul-le}
 use Rattle.std.proofs.Math.Nat.{mul-le-mul_left, mul-le-mul_right, mul-lt-mul_of_pos_right}
 use Rattle.transyt_num.proofs.ReciprocalLaws.{by_reciprocal}
 use Rattle.transyt_platoon.specs.Platoon.{mixed}
-use Rattle.transyt_platoon.specs.Travels.{IsPlatoon, IsReady}
-use Rattle.transyt_platoon.specs.declared.platoon.Platoon.{Platoon}
+use Rattle.transyt_platoon.specs.Travels.{IsTravel}
+use Rattle.transyt_platoon.specs.declared.travel.Travel.{Travel}
 
 -- what is divided times what divides is below a power where numbers below `most` are mixed
 parts_fit : (w x z most p : ℕ) → most * (100 + w) * (100 + w) ≤ p → x < most → z < most
@@ -35,29 +35,10 @@ parts_sum w by x z most small weight close x_fits z_fits =
     let apart : most * (by * (100 + w)) ≡ most * (100 * by) + most * (w * by) = omega arith in
     omega (arith, first, second, both, apart, close, weight)
 
--- so the products of a platoon that is ready fit
-pub ready_sum : (n : ℕ) (p : Platoon) (x z : ℕ) → IsReady n p → x < p.travel.now.limit → z < p.travel.now.limit
-    → x * p.travel.now.starting_factor + z * p.travel.now.before_factor < 2 ^ 63
-ready_sum n p x z is x_fits z_fits =
-    let m = p.travel.now in
-    let weight : m.percent * m.time ≤ 100 * 960 = mul-le m.percent m.time 100 960 is.travel.percent is.travel.time in
-    rw (is.travel.starting_factor, is.travel.before_factor)
-    (parts_sum m.weight m.reciprocal x z m.limit is.travel.small (omega (arith, weight, is.travel.weight))
-    is.travel.close x_fits z_fits)
-
--- a platoon whose values are all below a number that is within the travel's limit is ready
-pub all_ready : (n : ℕ) (p : Platoon) → IsPlatoon n p → p.above ≤ p.travel.now.limit → IsReady n p
-all_ready n p is within = record {
-  values_len = is.values_len;
-  ready_len = is.ready_len;
-  fit = λ k d h. omega (arith, is.above k d h, within);
-  ready = λ k below.
-      is.ready k below
-      (omega (arith, is.above k 0 (omega (arith, below, is.values_len)), is.travel.small, within));
-  total = is.total;
-  travel = is.travel;
-}
-
--- a platoon of as many steps as another is one of its own
-pub platoon_itself : (n : ℕ) (p : Platoon) → IsPlatoon n p → IsPlatoon (length p.values.now) p
-platoon_itself n p is = rw is.values_len is
+-- so the products of a travel fit
+pub travel_sum : (n : ℕ) (m : Travel) (x z : ℕ) → IsTravel n m → x < m.limit → z < m.limit
+    → x * m.starting_factor + z * m.before_factor < 2 ^ 63
+travel_sum n m x z is x_fits z_fits =
+    let weight : m.percent * m.time ≤ 100 * 960 = mul-le m.percent m.time 100 960 is.percent is.time in
+    rw (is.starting_factor, is.before_factor)
+    (parts_sum m.weight m.reciprocal x z m.limit is.small (omega (arith, weight, is.weight)) is.close x_fits z_fits)

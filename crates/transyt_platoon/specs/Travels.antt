@@ -1,5 +1,7 @@
 -- How a platoon travels, and a platoon on its way, each with what is worked out of it once.
-use Rattle.std.specs.Prelude.{◌≡◌, ℕ, ◌+◌, ◌*◌, ◌%◌, ◌^◌, ◌<◌, ◌≤◌, length, slice_index, sum, All}
+use Rattle.std.specs.Prelude.{List, ◌≡◌, ℕ, ◌+◌, ◌*◌, ◌%◌, ◌<◌, ◌≤◌, length, slice_index, sum, All}
+use Rattle.transyt_profile.specs.Profile.{shared}
+use Rattle.transyt_platoon.specs.Platoon.{dispersed}
 use Rattle.transyt_platoon.specs.declared.travel.Travel.{Travel}
 use Rattle.transyt_platoon.specs.declared.platoon.Platoon.{Platoon}
 
@@ -17,24 +19,19 @@ pub record IsTravel (steps : ℕ) (m : Travel) : Type 0 where
   pub before_factor : m.before_factor ≡ m.weight * m.reciprocal
   pub place : m.place ≡ m.time % steps
 
--- All values are small, and below the number above them; their sum is ready, and the products of those that are below
--- 2^22 with the factor of what sets out.
-pub record IsPlatoon (steps : ℕ) (p : Platoon) : Type 0 where
-  pub values_len : length p.values.now ≡ steps
-  pub ready_len : length p.ready.now ≡ steps
-  pub small : All (λ v. v < 2 ^ 44) p.values.now
-  pub ready : (k : ℕ) → k < steps → slice_index p.values.now k < 2 ^ 22
-      → slice_index p.ready.now k ≡ slice_index p.values.now k * p.travel.now.starting_factor
-  pub total : p.total ≡ sum p.values.now
-  pub above : All (λ v. v < p.above) p.values.now
-  pub travel : IsTravel steps p.travel.now
+-- the profile of a platoon that sets out: the part of what leaves a link that goes on
+abbrev pub sent : Platoon → List ℕ
+sent p = shared p.part.now.part p.part.now.whole p.leaving.now
 
--- All values are below the travel's limit, and all products are ready.
-pub record IsReady (steps : ℕ) (p : Platoon) : Type 0 where
-  pub values_len : length p.values.now ≡ steps
-  pub ready_len : length p.ready.now ≡ steps
-  pub fit : All (λ v. v < p.travel.now.limit) p.values.now
+-- and at the end of its travel
+abbrev pub arriving : Platoon → List ℕ
+arriving p = dispersed (sent p) p.travel.now.time p.travel.now.percent
+
+-- A platoon whose values are all below its travel's limit, and whose products are ready in this lane of four.
+pub record IsReady (steps lane : ℕ) (lanes : List ℕ) (p : Platoon) : Type 0 where
+  pub values_len : length (sent p) ≡ steps
+  pub fit : All (λ v. v < p.travel.now.limit) (sent p)
   pub ready : (k : ℕ) → k < steps
-      → slice_index p.ready.now k ≡ slice_index p.values.now k * p.travel.now.starting_factor
-  pub total : p.total ≡ sum p.values.now
+      → slice_index lanes (4 * k + lane) ≡ slice_index (sent p) k * p.travel.now.starting_factor
+  pub total : p.total ≡ sum (sent p)
   pub travel : IsTravel steps p.travel.now

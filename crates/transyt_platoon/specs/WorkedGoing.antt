@@ -13,24 +13,9 @@ abbrev pub wrong_passed : List Going
 wrong_passed =
     record passed { value = 485563 } ∷ record passed { value = 538111 } ∷ record passed { place = 1 } ∷ []
 
--- after two steps of the second turn, which went by as 533004 and 480954
-abbrev pub written : Going
-written = record { value = 480954; place = 1 }
-
--- both in their places; what stood at the next is still there
-abbrev pub written_out : List ℕ
-written_out = 480954 ∷ 7 ∷ 533004 ∷ []
-
--- None of these has written two steps: a value one more, that of a step before, a place, and what is written first and
--- last.
-abbrev pub wrong_written : List (Going × List ℕ)
-wrong_written =
-    (record written { value = 480955 }, written_out)
-    ∷ (record written { value = 533004 }, written_out)
-    ∷ (record written { place = 2 }, written_out)
-    ∷ (written, 480954 ∷ 7 ∷ 533005 ∷ [])
-    ∷ (written, 480953 ∷ 7 ∷ 533004 ∷ [])
-    ∷ []
+-- and after two steps of the second, which went by as 533004 and 480954
+abbrev pub passed_again : Going
+passed_again = record { value = 480954; place = 2 }
 
 -- `ready_platoon` with a travel of another limit
 abbrev pub limited : ℕ → Platoon

@@ -1,6 +1,7 @@
 -- Travels and platoons with what is worked out of each once, and such as are none for one number alone.
-use Rattle.std.specs.Prelude.{List, [], ◌∷◌}
+use Rattle.std.specs.Prelude.{ℕ, List, [], ◌∷◌, true}
 use Rattle.std.specs.Borrow.{Bor}
+use Rattle.transyt_profile.specs.declared.sharing.Part.{Part}
 use Rattle.transyt_platoon.specs.declared.travel.Travel.{Travel}
 use Rattle.transyt_platoon.specs.declared.platoon.Platoon.{Platoon}
 
@@ -109,60 +110,49 @@ lent x = record { ref_ptr = (0, 0); now = x }
 abbrev pub short_travel : Travel
 short_travel = record exact { place = 2 }
 
--- A platoon of three steps. Its first two values are too great for a product to be ready; the first is the greatest
--- that there is, and the third the greatest with a product.
-abbrev pub platoon : Platoon
-platoon = record {
-  values = lent (17592186044415 ∷ 4194304 ∷ 4194303 ∷ []);
-  ready = lent (7 ∷ 11 ∷ 450359855362867200 ∷ []);
-  total = 17592194433022;
-  above = 17592186044416;
-  travel = lent short_travel;
+-- 311 of 742 vehicles an hour
+abbrev pub part : Part
+part = record {
+  part = 311;
+  whole = 742;
+  reciprocal = 24860841069689423;
+  factor = 7731721572673410553;
+  quick = true;
 }
 
--- None of these is a platoon of three steps: a value too many, a product too many, a first value that is too great, a
--- product, a total, a number above that is the greatest value, and a travel.
-abbrev pub wrong_platoons : List Platoon
-wrong_platoons =
-    record platoon {
-      values = lent (17592186044415 ∷ 4194304 ∷ 4194303 ∷ 61 ∷ []);
-      total = 17592194433083;
-    }
-    ∷ record platoon { ready = lent (7 ∷ 11 ∷ 450359855362867200 ∷ 0 ∷ []) }
-    ∷ record platoon {
-      values = lent (17592186044416 ∷ 4194304 ∷ 4194303 ∷ []);
-      total = 17592194433023;
-      above = 17592186044417;
-    }
-    ∷ record platoon { ready = lent (7 ∷ 11 ∷ 450359855362867201 ∷ []) }
-    ∷ record platoon { total = 17592194433023 }
-    ∷ record platoon { above = 17592186044415 }
-    ∷ record platoon { travel = lent exact }
-    ∷ []
-
--- a platoon of three steps whose products are all ready; its first value is the greatest below the travel's limit
+-- a platoon of three steps, whose values are 1048575 ∷ 17 ∷ 400009: the first is the greatest below the travel's limit
 abbrev pub ready_platoon : Platoon
 ready_platoon = record {
-  values = lent (1048575 ∷ 17 ∷ 400009 ∷ []);
-  ready = lent (112589883310080000 ∷ 1825361100800 ∷ 42950639327641600 ∷ []);
+  leaving = lent (2501745 ∷ 41 ∷ 954363 ∷ []);
+  part = lent part;
   total = 1448601;
-  above = 1048576;
   travel = lent short_travel;
 }
 
--- None of these is ready round three steps: a value too many, a product too many, a first value at the limit, a
--- product, a total, and a travel.
+-- its products stand in the third lane
+abbrev pub ready_lanes : List ℕ
+ready_lanes =
+    5 ∷ 7 ∷ 112589883310080000 ∷ 11 ∷ 13 ∷ 19 ∷ 1825361100800 ∷ 23 ∷ 29 ∷ 31 ∷ 42950639327641600 ∷ 37 ∷ []
+
+-- with the last product one more
+abbrev pub wrong_lanes : List ℕ
+wrong_lanes =
+    5 ∷ 7 ∷ 112589883310080000 ∷ 11 ∷ 13 ∷ 19 ∷ 1825361100800 ∷ 23 ∷ 29 ∷ 31 ∷ 42950639327641601 ∷ 37 ∷ []
+
+-- with the first product that of a value at the limit
+abbrev pub limit_lanes : List ℕ
+limit_lanes =
+    5 ∷ 7 ∷ 112589990684262400 ∷ 11 ∷ 13 ∷ 19 ∷ 1825361100800 ∷ 23 ∷ 29 ∷ 31 ∷ 42950639327641600 ∷ 37 ∷ []
+
+-- and with it
+abbrev pub limit_platoon : Platoon
+limit_platoon = record ready_platoon { leaving = lent (2501748 ∷ 41 ∷ 954363 ∷ []); total = 1448602 }
+
+-- None of these is ready round three steps: a value too many, another part, a total, and a travel.
 abbrev pub wrong_ready : List Platoon
 wrong_ready =
-    record ready_platoon { values = lent (1048575 ∷ 17 ∷ 400009 ∷ 61 ∷ []); total = 1448662 }
-    ∷ record ready_platoon { ready = lent (112589883310080000 ∷ 1825361100800 ∷ 42950639327641600 ∷ 0 ∷ []) }
-    ∷ record ready_platoon {
-      values = lent (1048576 ∷ 17 ∷ 400009 ∷ []);
-      ready = lent (112589990684262400 ∷ 1825361100800 ∷ 42950639327641600 ∷ []);
-      total = 1448602;
-      above = 1048577;
-    }
-    ∷ record ready_platoon { ready = lent (112589883310080000 ∷ 1825361100800 ∷ 42950639327641601 ∷ []) }
+    record ready_platoon { leaving = lent (2501745 ∷ 41 ∷ 954363 ∷ 146 ∷ []); total = 1448662 }
+    ∷ record ready_platoon { part = lent (record part { part = 310 }) }
     ∷ record ready_platoon { total = 1448602 }
     ∷ record ready_platoon { travel = lent exact }
     ∷ []

@@ -1,13 +1,12 @@
 //! A platoon as it goes by, step by step.
 
-ghost use Rattle.std.specs.Prelude.{◌≡◌, ◌+◌, ◌<◌, length};
-ghost use Rattle.transyt_platoon.specs.Going.{HasPassed, HasWritten};
+ghost use Rattle.std.specs.Prelude.{◌≡◌, ℕ, ◌+◌, ◌*◌, ◌^◌, ◌<◌, length, slice_index, All};
+ghost use Rattle.transyt_platoon.specs.Going.{HasPassed, gone_by};
 ghost use Rattle.transyt_platoon.specs.Travels.{IsReady};
 
-use crate::dispersion::after;
 use crate::platoon::{Platoon, mean_of, mix_ready};
 
-/// What went by of a platoon last, and the step that what goes by next will stand at.
+/// What went by of a platoon last, and the step of the cycle to which its first step is led.
 #[derive(Clone, Copy)]
 pub(crate) struct Going {
     value: u64,
@@ -16,37 +15,67 @@ pub(crate) struct Going {
 
 impl Going {
     /// Before the first step, as if the mean had gone by.
-    pub(crate) fn begin(platoon: &Platoon<'_>) -> Going
-        requires steps { 0 < length platoon.now.values.now }
-        requires ready { IsReady (length platoon.now.values.now) platoon.now }
-        ensures { HasPassed platoon.now 0 result }
+    pub(crate) fn begin(
+        platoon: &Platoon<'_>,
+        step_count: usize,
+        lane: usize,
+        lanes: &[u64],
+    ) -> Going
+        requires steps { 0 < step_count }
+        requires ready { IsReady step_count lane lanes.now platoon.now }
+        ensures { HasPassed step_count platoon.now 0 result }
     {
         Going {
-            value: mean_of(platoon),
+            value: mean_of(platoon, step_count, lane, lanes),
             place: platoon.travel.place,
         }
     }
 
     /// A step of the first turn goes by.
-    pub(crate) fn pass(&mut self, platoon: &Platoon<'_>, step: usize)
-        requires ready { IsReady (length platoon.now.values.now) platoon.now }
-        requires step { step < length platoon.now.values.now }
-        requires passed { HasPassed platoon.now step self.old }
-        ensures { HasPassed platoon.now (step + 1) self.new }
+    pub(crate) fn pass(
+        &mut self,
+        platoon: &Platoon<'_>,
+        step_count: usize,
+        lane: usize,
+        lanes: &[u64],
+        step: usize,
+    )
+        requires ready { IsReady step_count lane lanes.now platoon.now }
+        requires lane { lane < 4 }
+        requires lanes_len { length lanes.now ≡ 4 * step_count }
+        requires step { step < step_count }
+        requires passed { HasPassed step_count platoon.now step self.old }
+        ensures { HasPassed step_count platoon.now (step + 1) self.new }
     {
-        self.value = mix_ready(platoon, step, self.value);
+        self.value = mix_ready(platoon, step_count, lane, lanes, step, self.value);
     }
 
-    /// A step of the second turn goes by, and is written in its place.
-    pub(crate) fn write(&mut self, platoon: &Platoon<'_>, step: usize, out: &mut [u64])
-        requires ready { IsReady (length platoon.now.values.now) platoon.now }
-        requires step { step < length platoon.now.values.now }
-        requires out_len { length out.old ≡ length platoon.now.values.now }
-        requires written { HasWritten platoon.now step self.old out.old }
-        ensures { HasWritten platoon.now (step + 1) self.new out.new }
+    /// A step of the second turn goes by, and is added where it arrives: as many steps on as the first one is led,
+    /// without going round.
+    pub(crate) fn arrive(
+        &mut self,
+        platoon: &Platoon<'_>,
+        step_count: usize,
+        lane: usize,
+        lanes: &[u64],
+        step: usize,
+        turns: &mut [u64],
+    )
+        requires ready { IsReady step_count lane lanes.now platoon.now }
+        requires lane { lane < 4 }
+        requires lanes_len { length lanes.now ≡ 4 * step_count }
+        requires step { step < step_count }
+        requires turns_len { length turns.old ≡ 2 * step_count }
+        requires fit { All (λ v. v < 2 ^ 62) turns.old }
+        requires passed { HasPassed step_count platoon.now (step_count + step) self.old }
+        ensures passed { HasPassed step_count platoon.now (step_count + (step + 1)) self.new }
+        ensures here { slice_index turns.new (self.old.place + step) ≡ slice_index turns.old (self.old.place + step)
+            + gone_by platoon.now (step_count + 1 + step) }
+        ensures others { (j : ℕ) → (j ≡ self.old.place + step → ⊥)
+            → slice_index turns.new j ≡ slice_index turns.old j }
+        ensures grows { (limit : ℕ) → All (λ v. v < limit) turns.old → All (λ v. v < limit + 2 ^ 22) turns.new }
     {
-        self.value = mix_ready(platoon, step, self.value);
-        out[self.place] = self.value;
-        self.place = after(platoon.values.len(), self.place);
+        self.value = mix_ready(platoon, step_count, lane, lanes, step, self.value);
+        turns[self.place + step] += self.value;
     }
 }

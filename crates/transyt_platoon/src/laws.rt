@@ -1,16 +1,18 @@
 //! Laws about the definitions.
 
 ghost use Rattle.std.specs.Prelude.{◌≡◌, All, map};
-ghost use Rattle.transyt_platoon.specs.Going.{HasPassed, HasWritten};
+ghost use Rattle.transyt_platoon.specs.Going.{HasPassed};
 ghost use Rattle.transyt_platoon.specs.Platoon.{dispersed, mixed, travel_steps};
-ghost use Rattle.transyt_platoon.specs.Travels.{IsPlatoon, IsReady, IsTravel};
-ghost use Rattle.transyt_platoon.specs.WorkedGoing.{limited, passed, written, written_out, wrong_passed, wrong_written};
+ghost use Rattle.transyt_platoon.specs.Travels.{IsReady, IsTravel};
+ghost use Rattle.transyt_platoon.specs.WorkedGoing.{limited, passed, passed_again, wrong_passed};
 ghost use Rattle.transyt_platoon.specs.WorkedPlatoons.{uneven, worked_mixes, worked_platoons, worked_travels};
 ghost use Rattle.transyt_platoon.specs.WorkedReady.{
-  platoon,
+  limit_lanes,
+  limit_platoon,
+  ready_lanes,
   ready_platoon,
   ready_travels,
-  wrong_platoons,
+  wrong_lanes,
   wrong_ready,
   wrong_travels,
 };
@@ -29,20 +31,20 @@ pub fn worked_platoons()
 pub fn worked_ready()
     ensures travels { All (IsTravel 18) ready_travels }
     ensures wrong_travels { All (λ m. IsTravel 18 m → ⊥) wrong_travels }
-    ensures platoon { IsPlatoon 3 platoon }
-    ensures wrong_platoons { All (λ p. IsPlatoon 3 p → ⊥) wrong_platoons }
-    ensures ready { IsReady 3 ready_platoon }
-    ensures wrong_ready { All (λ p. IsReady 3 p → ⊥) wrong_ready }
+    ensures ready { IsReady 3 2 ready_lanes ready_platoon }
+    ensures wrong_ready { All (λ p. IsReady 3 2 ready_lanes p → ⊥) wrong_ready }
+    ensures not_lane { IsReady 3 1 ready_lanes ready_platoon → ⊥ }
+    ensures not_product { IsReady 3 2 wrong_lanes ready_platoon → ⊥ }
+    ensures not_limit { IsReady 3 2 limit_lanes limit_platoon → ⊥ }
 {}
 
 /// A worked platoon that is part of the way through each turn keeps to what is said of it, and such as has one wrong
 /// number doesn't.
 #[tactic(auto, unfolding(crate::specs::Platoon::smoothed))]
 pub fn worked_going()
-    ensures passed { HasPassed ready_platoon 2 passed }
-    ensures wrong_passed { All (λ g. HasPassed ready_platoon 2 g → ⊥) wrong_passed }
-    ensures limit_passed { HasPassed (limited 485562) 2 passed → ⊥ }
-    ensures written { HasWritten ready_platoon 2 written written_out }
-    ensures wrong_written { All (λ w. HasWritten ready_platoon 2 w.0 w.1 → ⊥) wrong_written }
-    ensures limit_written { HasWritten (limited 480954) 2 written written_out → ⊥ }
+    ensures passed { HasPassed 3 ready_platoon 2 passed }
+    ensures wrong_passed { All (λ g. HasPassed 3 ready_platoon 2 g → ⊥) wrong_passed }
+    ensures limit_passed { HasPassed 3 (limited 485562) 2 passed → ⊥ }
+    ensures passed_again { HasPassed 3 ready_platoon 5 passed_again }
+    ensures not_again { HasPassed 3 ready_platoon 4 passed_again → ⊥ }
 {}

@@ -1,15 +1,73 @@
 -- The sum of profiles, step by step.
-use Rattle.std.proofs.Common.{◌≡◌, ℕ, ◌+◌, ◌<◌, List, length, get_or, ◌∙◌, sym, arith}
+use Rattle.std.proofs.Common.{◌≡◌, ℕ, ◌+◌, ◌-◌, ◌*◌, ◌<◌, ◌≤◌, List, length, get_or, ap, ◌∙◌, sym, arith}
+use Rattle.std.specs.List.{All}
+use Rattle.std.proofs.lemmas.List.{get_or_default}
 use Rattle.std.proofs.lemmas.List.FromFn.{fill_by_all, get_or-map-range_with_len, length-map-range_with_len}
-use Rattle.transyt_profile.specs.Profile.{added, added_at}
+use Rattle.std.proofs.Math.Logic.{⊎_elim}
+use Rattle.std.proofs.lemmas.Bool.{cases_lt}
+use Rattle.transyt_profile.specs.Profile.{added, added_at, folded, folded_at}
 
 -- a sum has as many steps as its first profile
-length-added : (xs ys : List ℕ) → length (added xs ys) ≡ length xs
+pub length-added : (xs ys : List ℕ) → length (added xs ys) ≡ length xs
 length-added xs ys = length-map-range_with_len (added_at xs ys) 0 (length xs)
 
 -- and at each the sum of two values
-get_or-added : (xs ys : List ℕ) (i : ℕ) → i < length xs → get_or (added xs ys) i 0 ≡ get_or xs i 0 + get_or ys i 0
+pub get_or-added : (xs ys : List ℕ) (i : ℕ) → i < length xs → get_or (added xs ys) i 0 ≡ get_or xs i 0 + get_or ys i 0
 get_or-added xs ys i inside = get_or-map-range_with_len (added_at xs ys) 0 (length xs) i i 0 inside (omega arith)
+
+-- two turns folded have as many steps as the cycle
+pub length-folded : (n : ℕ) (turns : List ℕ) → length (folded n turns) ≡ n
+length-folded n turns = length-map-range_with_len (folded_at n turns) 0 n
+
+-- and at each the sum of both values
+pub get_or-folded : (n : ℕ) (turns : List ℕ) (i : ℕ) → i < n
+    → get_or (folded n turns) i 0 ≡ get_or turns i 0 + get_or turns (n + i) 0
+get_or-folded n turns i inside = get_or-map-range_with_len (folded_at n turns) 0 n i i 0 inside (omega arith)
+
+-- two turns to which a profile is added, step by step
+pub is_folded_added : (n : ℕ) (turns new x : List ℕ)
+    → ((k : ℕ) → k < n → get_or (folded n new) k 0 ≡ get_or (folded n turns) k 0 + get_or x k 0)
+    → folded n new ≡ added (folded n turns) x
+is_folded_added n turns new x sums =
+    let long : length (folded n turns) ≡ n = length-folded n turns in
+    fill_by_all (added_at (folded n turns) x) (folded n new) (length (folded n turns)) 0 (length-folded n new ∙ sym long)
+    (λ k h. sums k (omega (arith, h, long)))
+
+-- a limit on what stood goes up by the limit on what is added
+pub added_grows : (xs ys : List ℕ) (limit more : ℕ) → length ys ≡ length xs → All (λ v. v < limit) xs
+    → All (λ v. v < more) ys → All (λ v. v < limit + more) (added xs ys)
+added_grows xs ys limit more same within small k d h =
+    let below : k < length xs = omega (arith, h, length-added xs ys) in
+    omega (
+      arith,
+      get_or_default (added xs ys) k d 0 h,
+      get_or-added xs ys k below,
+      within k 0 below,
+      small k 0 (omega (arith, below, same)),
+    )
+
+-- each value of two turns is within that of their fold
+pub folded_first : (n : ℕ) (turns : List ℕ) (limit k : ℕ) → All (λ v. v < limit) (folded n turns) → k < n
+    → get_or turns k 0 + get_or turns (n + k) 0 < limit
+folded_first n turns limit k within below =
+    omega (arith, get_or-folded n turns k below, within k 0 (omega (arith, below, length-folded n turns)))
+
+-- so is that of any place
+pub folded_each : (n : ℕ) (turns : List ℕ) (limit : ℕ) → All (λ v. v < limit) (folded n turns) → length turns ≡ 2 * n
+    → All (λ v. v < limit) turns
+folded_each n turns limit within same k d h =
+    ⊎_elim
+    (λ (before : k < n).
+    omega (arith, get_or_default turns k d 0 h, folded_first n turns limit k within before))
+    (λ (after : n ≤ k).
+    let at : n + (k - n) ≡ k = omega (arith, after) in
+    omega (
+      arith,
+      get_or_default turns k d 0 h,
+      folded_first n turns limit (k - n) within (omega (arith, h, same, after)),
+      ap (λ m. get_or turns m 0) at,
+    ))
+    (cases_lt k n)
 
 -- the profile whose steps are sums of four values is the sum of four profiles
 pub is_added_three : (out x y z new : List ℕ) → length new ≡ length out

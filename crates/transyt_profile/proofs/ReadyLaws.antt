@@ -1,38 +1,55 @@
--- What is made ready beside a profile, one step more.
-use Rattle.std.proofs.Common.{◌≡◌, ◌≢◌, ℕ, ◌+◌, ◌*◌, ◌^◌, ◌<◌, List, length, get_or, set, refl, arith}
-use Rattle.std.proofs.Common.{get_or-set_same, get_or-set_other, below_more}
+-- What is made ready in a lane, one step more, and what all of it comes to.
+use Rattle.std.proofs.Common.{◌≡◌, ◌≢◌, ℕ, ◌+◌, ◌*◌, ◌^◌, ◌<◌, ◌≤◌, List, length, get_or, set, map, sum, sum_by, take}
+use Rattle.std.proofs.Common.{All, ap, sym, ◌∙◌, arith, get_or-set_same, get_or-set_other, below_more}
+use Rattle.std.proofs.lemmas.List.{get_or_default, take_all, get_or-map, length-map}
+use Rattle.std.proofs.lemmas.List.Sums.{sum-map}
+use Rattle.transyt_profile.specs.Profile.{share_of, shared}
 
--- what holds of each of the first n steps, one step more
-pub value_more : (P : ℕ → ℕ → Type 0) (out : List ℕ) (n v : ℕ) → n < length out
-    → ((k : ℕ) → k < n → P k (get_or out k 0)) → P n v → (k : ℕ) → k < n + 1 → P k (get_or (set out n v) k 0)
-value_more P out n v inside before here =
+-- the share of step k
+abbrev pub share_at : ℕ → ℕ → List ℕ → ℕ → ℕ
+share_at part whole xs k = share_of part whole (get_or xs k 0)
+
+-- in this lane the first n steps whose shares are below 2^22 are ready: each share times f
+abbrev pub InLane : List ℕ → (ℕ → ℕ) → ℕ → ℕ → ℕ → Type 0
+InLane lanes share f lane n = (k : ℕ) → k < n → share k < 2 ^ 22 → get_or lanes (4 * k + lane) 0 ≡ share k * f
+
+-- the other lanes are as they were
+abbrev pub OthersStay : List ℕ → List ℕ → ℕ → Type 0
+OthersStay old new lane =
+    (k : ℕ) → (m : ℕ) → m < 4 → (m ≡ lane → ⊥) → get_or new (4 * k + m) 0 ≡ get_or old (4 * k + m) 0
+
+-- one step more is ready
+pub lane_more : (lanes : List ℕ) (share : ℕ → ℕ) (f lane n r : ℕ) → 4 * n + lane < length lanes
+    → InLane lanes share f lane n → (share n < 2 ^ 22 → r ≡ share n * f)
+    → InLane (set lanes (4 * n + lane) r) share f lane (n + 1)
+lane_more lanes share f lane n r inside before here =
     below_more _ _
     (λ k low.
-    let apart : k ≢ n = λ same. omega arith in
+    let apart : 4 * k + lane ≢ 4 * n + lane = λ same. omega (arith, same, low) in
     rw get_or-set_other (before k low))
     (rw get_or-set_same here)
 
--- the first n steps that are below 2^22 are ready: each times f
-abbrev pub Ready : List ℕ → List ℕ → ℕ → ℕ → Type 0
-Ready out ready f n = (k : ℕ) → k < n → get_or out k 0 < 2 ^ 22 → get_or ready k 0 ≡ get_or out k 0 * f
+-- and the others stay
+pub others_more : (old lanes : List ℕ) (lane n r : ℕ) → lane < 4 → OthersStay old lanes lane
+    → OthersStay old (set lanes (4 * n + lane) r) lane
+others_more old lanes lane n r own before k m small other =
+    let apart : 4 * k + m ≢ 4 * n + lane = λ same. other (omega (arith, same, own, small)) in
+    rw get_or-set_other (before k m small other)
 
--- one step more
-pub ready_more : (out ready : List ℕ) (f n v r : ℕ) → n < length out → n < length ready → Ready out ready f n
-    → (v < 2 ^ 22 → r ≡ v * f) → Ready (set out n v) (set ready n r) f (n + 1)
-ready_more out ready f n v r inside within before here =
-    below_more _ _
-    (λ k low.
-    let apart : k ≢ n = λ same. omega arith in
-    rw (get_or-set_other, get_or-set_other) (before k low))
-    (rw (get_or-set_same, get_or-set_same) here)
+-- what holds of each share holds of each value of the part that goes on
+pub all_shared : (part whole b : ℕ) (xs : List ℕ) → ((k : ℕ) → k < length xs → share_at part whole xs k < b)
+    → All (λ v. v < b) (shared part whole xs)
+all_shared part whole b xs each k d h =
+    let below : k < length xs = omega (arith, h, length-map xs (share_of part whole)) in
+    omega (
+      arith,
+      get_or_default (shared part whole xs) k d 0 h,
+      get_or-map (share_of part whole) xs k 0 0 below,
+      each k below,
+    )
 
--- where all are ready, one step more
-pub all_more : (out ready : List ℕ) (f n v : ℕ) → n < length out → n < length ready
-    → ((k : ℕ) → k < n → get_or ready k 0 ≡ get_or out k 0 * f)
-    → (k : ℕ) → k < n + 1 → get_or (set ready n (v * f)) k 0 ≡ get_or (set out n v) k 0 * f
-all_more out ready f n v inside within before =
-    below_more _ _
-    (λ k low.
-    let apart : k ≢ n = λ same. omega arith in
-    rw (get_or-set_other, get_or-set_other) (before k low))
-    (rw (get_or-set_same, get_or-set_same) refl)
+-- the sum over all steps
+pub sum_shared : (part whole n : ℕ) (xs : List ℕ) → length xs ≤ n
+    → sum_by (share_of part whole) (take n xs) ≡ sum (shared part whole xs)
+sum_shared part whole n xs all =
+    ap (sum_by (share_of part whole)) (take_all n xs all) ∙ sym (sum-map (share_of part whole) xs)

@@ -13,6 +13,10 @@ other_link = 2 ∷ 97 ∷ 1619 ∷ 0 ∷ 5 ∷ []
 abbrev pub both_links : List ℕ
 both_links = 1733002 ∷ 97 ∷ 1626 ∷ 600001 ∷ 436 ∷ []
 
+-- five steps of the one link, and then of the other
+abbrev pub two_turns : List ℕ
+two_turns = 1733000 ∷ 0 ∷ 7 ∷ 600001 ∷ 431 ∷ 2 ∷ 97 ∷ 1619 ∷ 0 ∷ 5 ∷ []
+
 -- parts, wholes and values, with the share of each: a usual one, all, of no flow, none, and more than the whole
 abbrev pub worked_shares : List ((ℕ × ℕ × ℕ) × ℕ)
 worked_shares =

@@ -1,7 +1,7 @@
-//! The sum of two profiles, and of more.
+//! The sum of two profiles, and two turns round the cycle folded to one.
 
 ghost use Rattle.std.specs.Prelude.{◌≡◌, ℕ, ◌+◌, ◌-◌, ◌*◌, ◌^◌, ◌<◌, length, All};
-ghost use Rattle.transyt_profile.specs.Profile.{added};
+ghost use Rattle.transyt_profile.specs.Profile.{added, folded};
 
 /// Adds the profile `x` to the profile `out`, step by step.
 ///
@@ -20,43 +20,34 @@ pub fn add_into(x: &[u64], out: &mut [u64])
     }
 }
 
-/// Adds the profiles `x`, `y` and `z` to the profile `out`, step by step: what `add_into` does of each in turn.
+/// Adds the profile `x` to the first of two turns round the cycle, step by step.
 ///
-/// All four hold one value for each step of the cycle, in millionths of a vehicle per step. `out` is read and written
-/// once where three calls of `add_into` go over it three times.
-pub fn add_three_into(x: &[u64], y: &[u64], z: &[u64], out: &mut [u64])
-    requires x_len { length x.now ≡ length out.old }
-    requires y_len { length y.now ≡ length out.old }
-    requires z_len { length z.now ≡ length out.old }
-    requires x_fit { All (λ v. v < 2 ^ 44) x.now }
-    requires y_fit { All (λ v. v < 2 ^ 44) y.now }
-    requires z_fit { All (λ v. v < 2 ^ 44) z.now }
-    requires out_fit { All (λ v. v < 2 ^ 48 - 3 * 2 ^ 44) out.old }
-    ensures value { out.new ≡ added (added (added out.old x.now) y.now) z.now }
-    ensures small { All (λ v. v < 2 ^ 48) out.new }
-    ensures grows { (limit : ℕ) → All (λ v. v < limit) out.old → All (λ v. v < limit + 3 * 2 ^ 44) out.new }
+/// `x` holds one value for each step of the cycle and `turns` twice as many, in millionths of a vehicle per step. The
+/// limits are those of `add_into`, of both turns folded to one.
+pub fn add_to_first(x: &[u64], turns: &mut [u64])
+    requires lengths { length turns.old ≡ 2 * length x.now }
+    requires fit { All (λ v. v < 2 ^ 44) x.now }
+    requires turns_fit { All (λ v. v < 2 ^ 48 - 2 ^ 44) (folded (length x.now) turns.old) }
+    ensures value { folded (length x.now) turns.new ≡ added (folded (length x.now) turns.old) x.now }
+    ensures grows { (limit : ℕ) → All (λ v. v < limit) (folded (length x.now) turns.old)
+        → All (λ v. v < limit + 2 ^ 44) (folded (length x.now) turns.new) }
 {
-    for i in 0..out.len() {
-        out[i] += x[i] + y[i] + z[i];
+    for i in 0..x.len() {
+        turns[i] += x[i];
     }
 }
 
-/// Adds the profiles `x`, `y`, `z` and `u` to the profile `out`, as `add_three_into` does of three.
-pub fn add_four_into(x: &[u64], y: &[u64], z: &[u64], u: &[u64], out: &mut [u64])
-    requires x_len { length x.now ≡ length out.old }
-    requires y_len { length y.now ≡ length out.old }
-    requires z_len { length z.now ≡ length out.old }
-    requires u_len { length u.now ≡ length out.old }
-    requires x_fit { All (λ v. v < 2 ^ 44) x.now }
-    requires y_fit { All (λ v. v < 2 ^ 44) y.now }
-    requires z_fit { All (λ v. v < 2 ^ 44) z.now }
-    requires u_fit { All (λ v. v < 2 ^ 44) u.now }
-    requires out_fit { All (λ v. v < 2 ^ 48 - 4 * 2 ^ 44) out.old }
-    ensures value { out.new ≡ added (added (added (added out.old x.now) y.now) z.now) u.now }
-    ensures small { All (λ v. v < 2 ^ 48) out.new }
-    ensures grows { (limit : ℕ) → All (λ v. v < limit) out.old → All (λ v. v < limit + 4 * 2 ^ 44) out.new }
+/// Folds two turns round the cycle to one: writes the sum of both values of each step.
+///
+/// `out` has one value for each step of the cycle and `turns` twice as many, in millionths of a vehicle per step. What
+/// stood in `out` is overwritten.
+pub fn fold_into(turns: &[u64], out: &mut [u64])
+    requires lengths { length turns.now ≡ 2 * length out.old }
+    requires fit { All (λ v. v < 2 ^ 48) (folded (length out.old) turns.now) }
+    ensures { out.new ≡ folded (length out.old) turns.now }
 {
-    for i in 0..out.len() {
-        out[i] += x[i] + y[i] + z[i] + u[i];
+    let step_count = out.len();
+    for i in 0..step_count {
+        out[i] = turns[i] + turns[step_count + i];
     }
 }

@@ -1,7 +1,7 @@
 //! Profiles: one value for each step of the cycle, in millionths of a vehicle per step.
 //!
 //! A profile is a slice of `u64` and a contract sees it as a list of numbers. Each call is one definition of
-//! `specs/Profile`: `uniform`, `added` and `shared` give a profile, and std's `sum` its total over the cycle.
+//! `specs/Profile`: `uniform`, `added`, `folded` and `shared` give a profile, and std's `sum` its total over the cycle.
 //! Cite `added` first. Each call that fills a profile also says how large its values can be, as the next call asks.
 //! That a link has a profile which repeats each cycle is from LR 253; the unit and each rounding are this project's
 //! own.
@@ -18,10 +18,10 @@ mod sharing;
 mod tests;
 mod totals;
 
-pub use adding::{add_four_into, add_into, add_three_into};
+pub use adding::{add_into, add_to_first, fold_into};
 pub use comparing::same;
-pub use filling::fill_uniform;
+pub use filling::{fill_uniform, start_turns};
 pub use laws::{worked_parts, worked_profiles};
-pub use readying::{Extent, share_ready};
+pub use readying::share_ready;
 pub use sharing::{Part, part_of, share_into, share_part};
 pub use totals::total;

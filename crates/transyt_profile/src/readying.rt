@@ -1,121 +1,116 @@
 //! The part of a profile that goes on to one link, made ready for its travel.
 
-ghost use Rattle.std.specs.Prelude.{◌≡◌, ℕ, ◌*◌, ◌^◌, ◌<◌, ◌≤◌, length, slice_index, sum, All, IfSome};
+ghost use Rattle.std.specs.Prelude.{◌≡◌, ℕ, ◌+◌, ◌*◌, ◌^◌, ◌<◌, ◌≤◌, length, slice_index, sum, All, IfSome};
 ghost use Rattle.transyt_profile.specs.Parts.{IsPart, IsQuick};
 ghost use Rattle.transyt_profile.specs.Profile.{share_of, shared};
 
 use crate::sharing::{Part, product, share_step};
 
-/// How much a profile is: found while it is written, so that nobody goes over it again.
-#[derive(Clone, Copy, Debug, PartialEq, Eq)]
-pub struct Extent {
-    /// The sum of its values over the cycle.
-    pub total: u64,
-    /// A number above each of its values.
-    pub above: u64,
-}
-
-/// Does what `share_part` does, and writes each share times `factor` to `ready`, where the share is below 2^22.
+/// Writes the part of a profile that goes on, each share times `factor`, beside three others, and returns the sum of
+/// its shares, where all of them are below `limit`; none where one may not be.
 ///
-/// All three slices have one value for each step of the cycle. What stood in `out` and `ready` is overwritten. It takes
-/// least time where each share is below `limit`.
+/// `x` has one value for each step of the cycle and `lanes` four: each product is written at place `lane` of the four
+/// of its step. What stood there is overwritten, and the other lanes stay. It takes least time where all bits of the
+/// shares together are below `limit`.
 pub fn share_ready(
     x: &[u64],
     part: &Part,
     factor: u64,
     limit: u64,
-    out: &mut [u64],
-    ready: &mut [u64],
-) -> Extent
+    lane: usize,
+    lanes: &mut [u64],
+) -> Option<u64>
     requires most { length x.now ≤ 120 }
-    requires out_len { length out.old ≡ length x.now }
-    requires ready_len { length ready.old ≡ length x.now }
+    requires lane { lane < 4 }
+    requires lanes_len { length lanes.old ≡ 4 * length x.now }
     requires fit { All (λ v. v < 2 ^ 30) x.now }
     requires is { IsPart part.now }
     requires factor { factor ≤ 2 ^ 41 }
     requires limit { limit ≤ 2 ^ 22 }
-    ensures value { out.new ≡ shared part.now.part part.now.whole x.now }
-    ensures small { All (λ v. v < 2 ^ 44) out.new }
-    ensures ready { (k : ℕ) → k < length x.now → slice_index out.new k < 2 ^ 22
-        → slice_index ready.new k ≡ slice_index out.new k * factor }
-    ensures total { result.total ≡ sum out.new }
-    ensures above { All (λ v. v < result.above) out.new }
+    ensures below { IfSome result (λ _. All (λ v. v < limit) (shared part.now.part part.now.whole x.now)) }
+    ensures ready { IfSome result (λ _. (k : ℕ) → k < length x.now → slice_index lanes.new (4 * k + lane)
+        ≡ share_of part.now.part part.now.whole (slice_index x.now k) * factor) }
+    ensures total { IfSome result (λ total. total ≡ sum (shared part.now.part part.now.whole x.now)) }
+    ensures others { (k : ℕ) → (m : ℕ) → m < 4 → (m ≡ lane → ⊥)
+        → slice_index lanes.new (4 * k + m) ≡ slice_index lanes.old (4 * k + m) }
 {
     if part.quick {
-        if let Some(total) = share_below(x, part, factor, limit, out, ready) {
-            return Extent {
-                total,
-                above: limit,
-            };
+        let total = share_below(x, part, factor, limit, lane, lanes);
+        if total.is_some() {
+            return total;
         }
     }
-    share_any(x, part, factor, out, ready)
+    share_any(x, part, factor, limit, lane, lanes)
 }
 
-/// Shares and makes ready with one product and no division a step, and returns the sum of the shares, where each is
-/// below `limit`. The first that isn't ends it.
+/// What `share_ready` does with one product and no division a step, where all bits of the shares together are below
+/// `limit`: then each share is. Nothing is tested at a step, so that no step waits for the one before.
 fn share_below(
     x: &[u64],
     part: &Part,
     factor: u64,
     limit: u64,
-    out: &mut [u64],
-    ready: &mut [u64],
+    lane: usize,
+    lanes: &mut [u64],
 ) -> Option<u64>
     requires most { length x.now ≤ 120 }
-    requires out_len { length out.old ≡ length x.now }
-    requires ready_len { length ready.old ≡ length x.now }
+    requires lane { lane < 4 }
+    requires lanes_len { length lanes.old ≡ 4 * length x.now }
     requires fit { All (λ v. v < 2 ^ 30) x.now }
     requires quick { IsQuick part.now }
     requires factor { factor ≤ 2 ^ 41 }
     requires limit { limit ≤ 2 ^ 22 }
-    ensures value { IfSome result (λ _. out.new ≡ shared part.now.part part.now.whole x.now) }
-    ensures below { IfSome result (λ _. All (λ v. v < limit) out.new) }
-    ensures ready { IfSome result (λ _. (k : ℕ) → k < length x.now
-        → slice_index ready.new k ≡ slice_index out.new k * factor) }
-    ensures total { IfSome result (λ total. total ≡ sum out.new) }
+    ensures below { IfSome result (λ _. All (λ v. v < limit) (shared part.now.part part.now.whole x.now)) }
+    ensures ready { IfSome result (λ _. (k : ℕ) → k < length x.now → slice_index lanes.new (4 * k + lane)
+        ≡ share_of part.now.part part.now.whole (slice_index x.now k) * factor) }
+    ensures total { IfSome result (λ total. total ≡ sum (shared part.now.part part.now.whole x.now)) }
+    ensures others { (k : ℕ) → (m : ℕ) → m < 4 → (m ≡ lane → ⊥)
+        → slice_index lanes.new (4 * k + m) ≡ slice_index lanes.old (4 * k + m) }
 {
+    let part = *part;
     let mut total: u64 = 0;
-    for i in 0..out.len() {
-        let share = product(x[i], part);
-        if share >= limit {
-            return None;
-        }
-        out[i] = share;
-        ready[i] = share * factor;
+    let mut bits: u64 = 0;
+    for i in 0..x.len() {
+        let share = product(x[i], &part);
+        lanes[4 * i + lane] = times(share, factor);
         total += share;
+        bits |= share;
     }
-    Some(total)
+    if bits < limit { Some(total) } else { None }
 }
 
-/// Shares and makes ready, however large the shares are.
-fn share_any(x: &[u64], part: &Part, factor: u64, out: &mut [u64], ready: &mut [u64]) -> Extent
+/// What `share_ready` does, however the part is and however large the shares are.
+fn share_any(
+    x: &[u64],
+    part: &Part,
+    factor: u64,
+    limit: u64,
+    lane: usize,
+    lanes: &mut [u64],
+) -> Option<u64>
     requires most { length x.now ≤ 120 }
-    requires out_len { length out.old ≡ length x.now }
-    requires ready_len { length ready.old ≡ length x.now }
+    requires lane { lane < 4 }
+    requires lanes_len { length lanes.old ≡ 4 * length x.now }
     requires fit { All (λ v. v < 2 ^ 30) x.now }
     requires is { IsPart part.now }
     requires factor { factor ≤ 2 ^ 41 }
-    ensures value { out.new ≡ shared part.now.part part.now.whole x.now }
-    ensures small { All (λ v. v < 2 ^ 44) out.new }
-    ensures ready { (k : ℕ) → k < length x.now → slice_index out.new k < 2 ^ 22
-        → slice_index ready.new k ≡ slice_index out.new k * factor }
-    ensures total { result.total ≡ sum out.new }
-    ensures above { All (λ v. v < result.above) out.new }
+    requires limit { limit ≤ 2 ^ 22 }
+    ensures below { IfSome result (λ _. All (λ v. v < limit) (shared part.now.part part.now.whole x.now)) }
+    ensures ready { IfSome result (λ _. (k : ℕ) → k < length x.now → slice_index lanes.new (4 * k + lane)
+        ≡ share_of part.now.part part.now.whole (slice_index x.now k) * factor) }
+    ensures total { IfSome result (λ total. total ≡ sum (shared part.now.part part.now.whole x.now)) }
+    ensures others { (k : ℕ) → (m : ℕ) → m < 4 → (m ≡ lane → ⊥)
+        → slice_index lanes.new (4 * k + m) ≡ slice_index lanes.old (4 * k + m) }
 {
     let mut total: u64 = 0;
     let mut greatest: u64 = 0;
-    for i in 0..out.len() {
-        let value = share_step(x[i], part);
-        out[i] = value;
-        ready[i] = times(value, factor);
-        total += value;
-        greatest = greatest.max(value);
+    for i in 0..x.len() {
+        let share = share_step(x[i], part);
+        lanes[4 * i + lane] = times(share, factor);
+        total += share;
+        greatest = greatest.max(share);
     }
-    Extent {
-        total,
-        above: greatest + 1,
-    }
+    if greatest < limit { Some(total) } else { None }
 }
 
 /// A product, where the value is below 2^22.

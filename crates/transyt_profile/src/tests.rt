@@ -56,30 +56,39 @@ fn each_call_of_a_profile(rt: HostRuntime) {
 }
 
 #[test]
-fn three_and_four_profiles_are_added_at_once(rt: HostRuntime) {
-    let (x, y, z) = ([600000, 0, 7], [1, 2, 3], [40, 500, 6000]);
-    let u = [11, 1300, 17];
-    let mut out = [190, 2300, 29];
-    let mut more = out;
-    add_three_into(&x, &y, &z, &mut out);
-    assert_eq!(rt; out, [600231, 2802, 6039]);
-    add_four_into(&x, &y, &z, &u, &mut more);
-    assert_eq!(rt; more, [600242, 4102, 6056]);
+fn two_turns_are_folded_to_one(rt: HostRuntime) {
+    let mut turns = [190, 2300, 29, 11, 1300, 17];
+    let mut out = [5; 3];
+    fold_into(&turns, &mut out);
+    assert_eq!(rt; out, [201, 3600, 46]);
+    add_to_first(&[600000, 0, 7], &mut turns);
+    assert_eq!(rt; turns, [600190, 2300, 36, 11, 1300, 17]);
+    start_turns(3, 41, &mut turns);
+    assert_eq!(rt; turns, [41, 41, 41, 0, 0, 0]);
 }
 
 #[test]
-fn a_share_is_made_ready_below_a_limit_and_past_it(rt: HostRuntime) {
+fn a_share_is_made_ready_in_its_lane(rt: HostRuntime) {
     let x = [1733000, 0, 7, 600001, 431];
     assert!(rt; x.iter().all(|value| *value < 1073741824));
     let part = part_of(311, 742);
-    let mut out = [0; 5];
-    let mut ready = [0; 5];
-    for limit in [1000000, 726366, 726365, 0] {
+    // the greatest share is 726365, and all bits together are 776191
+    for (limit, total) in [
+        (1000000, Some(978029)),
+        (776192, Some(978029)),
+        (776191, Some(978029)),
+        (726366, Some(978029)),
+        (726365, None),
+    ] {
         assert!(rt; limit <= 4194304);
-        let extent = share_ready(&x, &part, 37, limit, &mut out, &mut ready);
-        assert_eq!(rt; out, [726365, 0, 2, 251482, 180]);
-        assert_eq!(rt; ready, [26875505, 0, 74, 9304834, 6660]);
-        assert_eq!(rt; extent.total, 978029);
-        assert!(rt; extent.above > 726365);
+        let mut lanes = [9; 20];
+        let sum = share_ready(&x, &part, 37, limit, 2, &mut lanes);
+        assert_eq!(rt; sum, total);
+        assert_eq!(rt;
+            lanes,
+            [
+                9, 9, 26875505, 9, 9, 9, 0, 9, 9, 9, 74, 9, 9, 9, 9304834, 9, 9, 9, 6660, 9,
+            ]
+        );
     }
 }

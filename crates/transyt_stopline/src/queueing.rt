@@ -65,9 +65,10 @@ fn first_turn(arrivals: &[u64], go: &[u64], queue: &mut [u64], out: &mut [u64]) 
     let mut waiting: u64 = 0;
     for i in 0..arrivals.len() {
         let present = waiting + arrivals[i];
-        waiting = present.saturating_sub(go[i]);
+        let leaving = present.min(go[i]);
+        waiting = present - leaving;
         queue[i] = waiting;
-        out[i] = present - waiting;
+        out[i] = leaving;
     }
     waiting
 }

@@ -2,10 +2,17 @@
 use Rattle.std.proofs.Common.{◌≡◌, ℕ, ◌+◌, ◌*◌, ◌^◌, ◌<◌, ◌≤◌, List, length, take, get_or, refl, ap, sym, ◌∙◌, arith}
 use Rattle.std.proofs.lemmas.Nat.{mul-le}
 use Rattle.std.proofs.lemmas.List.Sums.{fold_more}
-use Rattle.transyt_profile.specs.Profile.{uniform, added}
+use Rattle.transyt_profile.specs.Profile.{uniform, added, shared}
+use Rattle.transyt_profile.specs.declared.sharing.Part.{Part}
 use Rattle.transyt_platoon.specs.Platoon.{travel_steps, dispersed}
+use Rattle.transyt_platoon.specs.Travels.{arriving}
+use Rattle.transyt_platoon.specs.declared.platoon.Platoon.{Platoon}
+use Rattle.transyt_platoon.specs.declared.travel.Travel.{Travel}
+use Rattle.transyt_sweep.specs.declared.sending.Sent.{Sent}
 use Rattle.transyt_parts.specs.declared.link.Feed.{Feed}
-use Rattle.transyt_net.specs.Parts.{Network}
+use Rattle.transyt_parts.specs.Flow.{total_flow}
+use Rattle.transyt_net.specs.Parts.{Network, link_of}
+use Rattle.transyt_net.specs.Valid.{link_place}
 use Rattle.transyt_net.specs.Flow.{perstep}
 use Rattle.transyt_sweep.specs.Cell.{taken, brought, inflow_of}
 
@@ -74,22 +81,28 @@ brought_by net read f part out time percent made is_part is_time is_percent =
     ∙ ap (λ t. dispersed (taken net read f) t percent) is_time
     ∙ ap (dispersed (taken net read f) (travel_steps f.cruise net.frame.step_count net.frame.cycle)) is_percent
 
--- three profiles added, by other names
-pub added_three : (come x y z new a b c : List ℕ) → new ≡ added (added (added come x) y) z
-    → x ≡ a → y ≡ b → z ≡ c → new ≡ added (added (added come a) b) c
-added_three come x y z new a b c sum is_a is_b is_c =
-    sum
-    ∙ ap (λ r. added (added (added come r) y) z) is_a
-    ∙ ap (λ r. added (added (added come a) r) z) is_b
-    ∙ ap (added (added (added come a) b)) is_c
+-- so does a platoon that was sent
+pub sent_brings : (net : Network) (read : ℕ → List ℕ) (f : Feed) (p : Platoon) (s : Sent)
+    → p.leaving.now ≡ s.leaving.now → p.part.now ≡ s.part → p.travel.now ≡ s.travel
+    → shared s.part.part s.part.whole s.leaving.now ≡ taken net read f
+    → s.travel.time ≡ travel_steps f.cruise net.frame.step_count net.frame.cycle
+    → s.travel.percent ≡ net.frame.dispersion → arriving p ≡ brought net read f
+sent_brings net read f p s is_leaving is_part is_travel is_taken is_time is_percent =
+    ap (λ xs. dispersed (shared p.part.now.part p.part.now.whole xs) p.travel.now.time p.travel.now.percent) is_leaving
+    ∙ ap (λ (q : Part). dispersed (shared q.part q.whole s.leaving.now) p.travel.now.time p.travel.now.percent) is_part
+    ∙ ap (λ (t : Travel). dispersed (shared s.part.part s.part.whole s.leaving.now) t.time t.percent) is_travel
+    ∙ brought_by net read f (shared s.part.part s.part.whole s.leaving.now)
+    (dispersed (shared s.part.part s.part.whole s.leaving.now) s.travel.time s.travel.percent) s.travel.time
+    s.travel.percent refl is_taken is_time is_percent
 
--- four profiles added, by other names
-pub added_four : (come x y z u new a b c d : List ℕ) → new ≡ added (added (added (added come x) y) z) u
-    → x ≡ a → y ≡ b → z ≡ c → u ≡ d → new ≡ added (added (added (added come a) b) c) d
-added_four come x y z u new a b c d sum is_a is_b is_c is_d =
-    sum
-    ∙ ap (λ r. added r u) (added_three come x y z (added (added (added come x) y) z) a b c refl is_a is_b is_c)
-    ∙ ap (added (added (added (added come a) b) c)) is_d
+-- the part that goes on, by the numbers of a feed and of its feeder
+pub taken_by : (net : Network) (read : ℕ → List ℕ) (f : Feed) (part whole total : ℕ) (leaving : List ℕ)
+    → part ≡ f.flow → whole ≡ total → total ≡ total_flow (link_of net (link_place net f.feeder))
+    → leaving ≡ read (link_place net f.feeder) → shared part whole leaving ≡ taken net read f
+taken_by net read f part whole total leaving is_part is_whole is_total is_read =
+    ap (λ p. shared p whole leaving) is_part
+    ∙ ap (λ w. shared f.flow w leaving) (is_whole ∙ is_total)
+    ∙ ap (shared f.flow (total_flow (link_of net (link_place net f.feeder)))) is_read
 
 -- the first factor of a travel has 41 bits
 pub factor_fits : (reciprocal weight time percent factor : ℕ) → factor ≡ 100 * reciprocal → weight ≡ percent * time

@@ -60,7 +60,7 @@ pub record IsScratch (arrivals go queue out : List ℕ) (asked : Asked) (room re
   pub go_len : length go ≡ length arrivals
   pub queue_len : length queue ≡ length arrivals
   pub out_len : length out ≡ length arrivals
-  pub room_len : length room ≡ 12 * length arrivals
+  pub room_len : length room ≡ 8 * length arrivals
   pub reaching_len : length reaching ≡ length arrivals
   pub out_small : All (λ v. v < 2 ^ 30) out
   pub told : AreTold arrivals go queue reaching asked

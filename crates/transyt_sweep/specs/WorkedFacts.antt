@@ -271,15 +271,15 @@ ScratchRow = List ℕ × List ℕ × List ℕ × List ℕ × Asked × List ℕ �
 -- steps, where twice as much comes as can go, so that half of it reaches the stop line
 abbrev pub right_scratch : List ScratchRow
 right_scratch =
-    (zeros 18, zeros 18, zeros 18, most, Known greatest, zeros 216, zeros 18, right_factors)
-    ∷ (zeros 18, zeros 18, zeros 18, most, Open limiting, zeros 216, zeros 18, [])
+    (zeros 18, zeros 18, zeros 18, most, Known greatest, zeros 144, zeros 18, right_factors)
+    ∷ (zeros 18, zeros 18, zeros 18, most, Open limiting, zeros 144, zeros 18, [])
     ∷ (
       2000000000 ∷ 0 ∷ [],
       600000000 ∷ 400000000 ∷ [],
       137438953471 ∷ 0 ∷ [],
       3 ∷ 4 ∷ [],
       Open cutting,
-      zeros 24,
+      zeros 16,
       1000000000 ∷ 0 ∷ [],
       [],
     )
@@ -289,22 +289,22 @@ right_scratch =
 -- reaches the stop line.
 abbrev pub wrong_scratch : List ScratchRow
 wrong_scratch =
-    (zeros 18, zeros 17, zeros 18, most, Known greatest, zeros 216, zeros 18, right_factors)
-    ∷ (zeros 18, zeros 19, zeros 18, most, Known greatest, zeros 216, zeros 18, right_factors)
-    ∷ (zeros 18, zeros 18, zeros 17, most, Known greatest, zeros 216, zeros 18, right_factors)
-    ∷ (zeros 18, zeros 18, zeros 19, most, Known greatest, zeros 216, zeros 18, right_factors)
-    ∷ (zeros 18, zeros 18, zeros 18, zeros 17, Known greatest, zeros 216, zeros 18, right_factors)
-    ∷ (zeros 18, zeros 18, zeros 18, zeros 19, Known greatest, zeros 216, zeros 18, right_factors)
-    ∷ (zeros 18, zeros 18, zeros 18, most, Known greatest, zeros 215, zeros 18, right_factors)
-    ∷ (zeros 18, zeros 18, zeros 18, most, Known greatest, zeros 217, zeros 18, right_factors)
-    ∷ (zeros 18, zeros 18, zeros 18, most, Known greatest, zeros 216, zeros 17, right_factors)
-    ∷ (zeros 18, zeros 18, zeros 18, most, Known greatest, zeros 216, zeros 19, right_factors)
+    (zeros 18, zeros 17, zeros 18, most, Known greatest, zeros 144, zeros 18, right_factors)
+    ∷ (zeros 18, zeros 19, zeros 18, most, Known greatest, zeros 144, zeros 18, right_factors)
+    ∷ (zeros 18, zeros 18, zeros 17, most, Known greatest, zeros 144, zeros 18, right_factors)
+    ∷ (zeros 18, zeros 18, zeros 19, most, Known greatest, zeros 144, zeros 18, right_factors)
+    ∷ (zeros 18, zeros 18, zeros 18, zeros 17, Known greatest, zeros 144, zeros 18, right_factors)
+    ∷ (zeros 18, zeros 18, zeros 18, zeros 19, Known greatest, zeros 144, zeros 18, right_factors)
+    ∷ (zeros 18, zeros 18, zeros 18, most, Known greatest, zeros 143, zeros 18, right_factors)
+    ∷ (zeros 18, zeros 18, zeros 18, most, Known greatest, zeros 145, zeros 18, right_factors)
+    ∷ (zeros 18, zeros 18, zeros 18, most, Known greatest, zeros 144, zeros 17, right_factors)
+    ∷ (zeros 18, zeros 18, zeros 18, most, Known greatest, zeros 144, zeros 19, right_factors)
     ∷ []
 
 -- departures that are too great
 abbrev pub wrong_departures : ScratchRow
 wrong_departures =
-    (zeros 18, zeros 18, zeros 18, 1073741824 ∷ zeros 17, Known greatest, zeros 216, zeros 18, right_factors)
+    (zeros 18, zeros 18, zeros 18, 1073741824 ∷ zeros 17, Known greatest, zeros 144, zeros 18, right_factors)
 
 -- figures that are too great
 abbrev pub wrong_known : ScratchRow
@@ -314,7 +314,7 @@ wrong_known = (
   zeros 18,
   most,
   Known (record greatest { random = 9223372036854775808 }),
-  zeros 216,
+  zeros 144,
   zeros 18,
   right_factors,
 )
@@ -327,7 +327,7 @@ wrong_open = (
   zeros 18,
   most,
   Open (record limiting { stop_weight = 1000 }),
-  zeros 216,
+  zeros 144,
   zeros 18,
   right_factors,
 )
@@ -340,7 +340,7 @@ wrong_ready = (
   zeros 18,
   most,
   Known greatest,
-  zeros 216,
+  zeros 144,
   zeros 18,
   record ready_factors { cruise = 158 } ∷ [],
 )

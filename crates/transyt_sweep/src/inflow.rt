@@ -2,7 +2,7 @@
 
 ghost use Rattle.std.specs.Prelude.{◌≡◌, ◌+◌, ◌-◌, ◌*◌, ◌^◌, ◌<◌, ◌≤◌, ℕ, length, All};
 ghost use Rattle.transyt_parts.specs.declared.link.Feed.{Feed};
-ghost use Rattle.transyt_profile.specs.Profile.{added};
+ghost use Rattle.transyt_profile.specs.Profile.{added, folded};
 ghost use Rattle.transyt_sweep.specs.Cell.{brought, inflow};
 ghost use Rattle.transyt_sweep.specs.Factors.{AreFactors};
 ghost use Rattle.transyt_sweep.specs.Rows.{Fits, read_in};
@@ -11,10 +11,11 @@ use crate::factors::Factors;
 use crate::rows::Rows;
 use crate::sending::{send_feed, share_feed};
 use transyt_net::{Feed, Net};
-use transyt_platoon::{Platoon, disperse, disperse_four, disperse_three, travel_steps};
-use transyt_profile::{add_four_into, add_into, add_three_into, fill_uniform};
+use transyt_platoon::{disperse, disperse_four, disperse_three, travel_steps};
+use transyt_profile::{add_to_first, fold_into, start_turns};
 
-/// Adds what one feed brings to what comes, in millionths of a vehicle per step. `room` is room for its work.
+/// Adds what one feed brings to the two turns of what comes, in millionths of a vehicle per step. `room` is room for its
+/// work.
 fn add_feed(
     net: &Net,
     feed: Feed,
@@ -22,30 +23,33 @@ fn add_feed(
     sweep: u32,
     rows: &Rows,
     room: &mut [u64],
-    come: &mut [u64],
+    turns: &mut [u64],
 )
     requires some { 0 < length net.now.links }
     requires sweep { sweep ≤ net.now.frame.sweeps }
     requires flow { feed.flow ≤ 9999 }
     requires cruise { feed.cruise ≤ 300 }
     requires fits { Fits net.now rows.now }
-    requires room_len { length room.old ≡ 12 * net.now.frame.step_count }
-    requires come_len { length come.old ≡ net.now.frame.step_count }
-    requires come_small { All (λ v. v < 2 ^ 48 - 2 ^ 44) come.old }
-    ensures value { come.new ≡ added come.old (brought net.now (read_in rows.now sweep link) feed) }
-    ensures grows { (limit : ℕ) → All (λ v. v < limit) come.old → All (λ v. v < limit + 2 ^ 44) come.new }
+    requires room_len { 2 * net.now.frame.step_count ≤ length room.old }
+    requires turns_len { length turns.old ≡ 2 * net.now.frame.step_count }
+    requires turns_small { All (λ v. v < 2 ^ 48 - 2 ^ 44) (folded net.now.frame.step_count turns.old) }
+    ensures value { folded net.now.frame.step_count turns.new
+        ≡ added (folded net.now.frame.step_count turns.old) (brought net.now (read_in rows.now sweep link) feed) }
+    ensures grows { (limit : ℕ) → All (λ v. v < limit) (folded net.now.frame.step_count turns.old)
+        → All (λ v. v < limit + 2 ^ 44) (folded net.now.frame.step_count turns.new) }
 {
     let frame = net.frame();
-    let (shared, rest) = room.split_at_mut(come.len());
-    let (brought, _) = rest.split_at_mut(come.len());
+    let steps = frame.step_count as usize;
+    let (shared, rest) = room.split_at_mut(steps);
+    let (brought, _) = rest.split_at_mut(steps);
     share_feed(net, feed, link, sweep, rows, shared);
     let time = travel_steps(feed.cruise, frame.step_count, frame.cycle);
     disperse(shared, time, frame.dispersion, brought);
-    add_into(brought, come);
+    add_to_first(brought, turns);
 }
 
-/// Adds what three feeds bring to what comes. `room` is room for their work; side by side they take little more time
-/// than one. Their factors are kept from `place` of `kept` on.
+/// Adds what three feeds bring to the two turns of what comes. `room` is room for their work; side by side they take
+/// little more time than one. Their factors are kept from `place` of `kept` on.
 fn add_three(
     net: &Net,
     one: Feed,
@@ -57,7 +61,7 @@ fn add_three(
     place: usize,
     kept: &mut [Factors],
     room: &mut [u64],
-    come: &mut [u64],
+    turns: &mut [u64],
 )
     requires some { 0 < length net.now.links }
     requires sweep { sweep ≤ net.now.frame.sweeps }
@@ -70,57 +74,37 @@ fn add_three(
     requires fits { Fits net.now rows.now }
     requires place { place ≤ 8000 }
     requires kept { All (AreFactors net.now.frame.step_count) kept.old }
-    requires room_len { length room.old ≡ 12 * net.now.frame.step_count }
-    requires come_len { length come.old ≡ net.now.frame.step_count }
-    requires come_small { All (λ v. v < 2 ^ 48 - 3 * 2 ^ 44) come.old }
-    ensures value { let read = read_in rows.now sweep link in come.new ≡ added (added (added come.old
-        (brought net.now read one)) (brought net.now read two)) (brought net.now read three) }
-    ensures grows { (limit : ℕ) → All (λ v. v < limit) come.old → All (λ v. v < limit + 3 * 2 ^ 44) come.new }
+    requires room_len { length room.old ≡ 6 * net.now.frame.step_count }
+    requires turns_len { length turns.old ≡ 2 * net.now.frame.step_count }
+    requires turns_small { All (λ v. v < 2 ^ 48 - 3 * 2 ^ 44) (folded net.now.frame.step_count turns.old) }
+    ensures value { let read = read_in rows.now sweep link in folded net.now.frame.step_count turns.new
+        ≡ added (added (added (folded net.now.frame.step_count turns.old) (brought net.now read one)) (brought net.now read two)) (brought net.now read three) }
+    ensures grows { (limit : ℕ) → All (λ v. v < limit) (folded net.now.frame.step_count turns.old)
+        → All (λ v. v < limit + 3 * 2 ^ 44) (folded net.now.frame.step_count turns.new) }
     ensures kept { All (AreFactors net.now.frame.step_count) kept.new }
 {
     let steps = net.frame().step_count as usize;
-    let (x, rest) = room.split_at_mut(steps);
-    let (x_ready, rest) = rest.split_at_mut(steps);
-    let (x_out, rest) = rest.split_at_mut(steps);
-    let (y, rest) = rest.split_at_mut(steps);
-    let (y_ready, rest) = rest.split_at_mut(steps);
-    let (y_out, rest) = rest.split_at_mut(steps);
-    let (z, rest) = rest.split_at_mut(steps);
-    let (z_ready, rest) = rest.split_at_mut(steps);
-    let (z_out, _) = rest.split_at_mut(steps);
-    let one = send_feed(net, one, link, sweep, rows, place, kept, x, x_ready);
-    let two = send_feed(net, two, link, sweep, rows, place + 1, kept, y, y_ready);
-    let three = send_feed(net, three, link, sweep, rows, place + 2, kept, z, z_ready);
-    disperse_three(
-        &Platoon {
-            values: x,
-            ready: x_ready,
-            total: one.extent.total,
-            above: one.extent.above,
-            travel: &one.travel,
-        },
-        &Platoon {
-            values: y,
-            ready: y_ready,
-            total: two.extent.total,
-            above: two.extent.above,
-            travel: &two.travel,
-        },
-        &Platoon {
-            values: z,
-            ready: z_ready,
-            total: three.extent.total,
-            above: three.extent.above,
-            travel: &three.travel,
-        },
-        x_out,
-        y_out,
-        z_out,
-    );
-    add_three_into(x_out, y_out, z_out, come);
+    let (lanes, rest) = room.split_at_mut(4 * steps);
+    let one_sent = send_feed(net, one, link, sweep, rows, place, kept, 0, lanes);
+    let two_sent = send_feed(net, two, link, sweep, rows, place + 1, kept, 1, lanes);
+    let three_sent = send_feed(net, three, link, sweep, rows, place + 2, kept, 2, lanes);
+    if let (Some(one_sent), Some(two_sent), Some(three_sent)) = (one_sent, two_sent, three_sent) {
+        disperse_three(
+            steps,
+            lanes,
+            &one_sent.platoon(),
+            &two_sent.platoon(),
+            &three_sent.platoon(),
+            turns,
+        );
+    } else {
+        add_feed(net, one, link, sweep, rows, rest, turns);
+        add_feed(net, two, link, sweep, rows, rest, turns);
+        add_feed(net, three, link, sweep, rows, rest, turns);
+    }
 }
 
-/// Adds what four feeds bring to what comes, as `add_three` does of three.
+/// Adds what four feeds bring to the two turns of what comes, as `add_three` does of three.
 fn add_four(
     net: &Net,
     one: Feed,
@@ -133,7 +117,7 @@ fn add_four(
     place: usize,
     kept: &mut [Factors],
     room: &mut [u64],
-    come: &mut [u64],
+    turns: &mut [u64],
 )
     requires some { 0 < length net.now.links }
     requires sweep { sweep ≤ net.now.frame.sweeps }
@@ -148,67 +132,39 @@ fn add_four(
     requires fits { Fits net.now rows.now }
     requires place { place ≤ 8000 }
     requires kept { All (AreFactors net.now.frame.step_count) kept.old }
-    requires room_len { length room.old ≡ 12 * net.now.frame.step_count }
-    requires come_len { length come.old ≡ net.now.frame.step_count }
-    requires come_small { All (λ v. v < 2 ^ 48 - 4 * 2 ^ 44) come.old }
-    ensures value { let read = read_in rows.now sweep link in come.new ≡ added (added (added (added come.old
-        (brought net.now read one)) (brought net.now read two)) (brought net.now read three))
-        (brought net.now read four) }
-    ensures grows { (limit : ℕ) → All (λ v. v < limit) come.old → All (λ v. v < limit + 4 * 2 ^ 44) come.new }
+    requires room_len { length room.old ≡ 6 * net.now.frame.step_count }
+    requires turns_len { length turns.old ≡ 2 * net.now.frame.step_count }
+    requires turns_small { All (λ v. v < 2 ^ 48 - 4 * 2 ^ 44) (folded net.now.frame.step_count turns.old) }
+    ensures value { let read = read_in rows.now sweep link in folded net.now.frame.step_count turns.new
+        ≡ added (added (added (added (folded net.now.frame.step_count turns.old) (brought net.now read one)) (brought net.now read two)) (brought net.now read three)) (brought net.now read four) }
+    ensures grows { (limit : ℕ) → All (λ v. v < limit) (folded net.now.frame.step_count turns.old)
+        → All (λ v. v < limit + 4 * 2 ^ 44) (folded net.now.frame.step_count turns.new) }
     ensures kept { All (AreFactors net.now.frame.step_count) kept.new }
 {
     let steps = net.frame().step_count as usize;
-    let (x, rest) = room.split_at_mut(steps);
-    let (x_ready, rest) = rest.split_at_mut(steps);
-    let (x_out, rest) = rest.split_at_mut(steps);
-    let (y, rest) = rest.split_at_mut(steps);
-    let (y_ready, rest) = rest.split_at_mut(steps);
-    let (y_out, rest) = rest.split_at_mut(steps);
-    let (z, rest) = rest.split_at_mut(steps);
-    let (z_ready, rest) = rest.split_at_mut(steps);
-    let (z_out, rest) = rest.split_at_mut(steps);
-    let (u, rest) = rest.split_at_mut(steps);
-    let (u_ready, rest) = rest.split_at_mut(steps);
-    let (u_out, _) = rest.split_at_mut(steps);
-    let one = send_feed(net, one, link, sweep, rows, place, kept, x, x_ready);
-    let two = send_feed(net, two, link, sweep, rows, place + 1, kept, y, y_ready);
-    let three = send_feed(net, three, link, sweep, rows, place + 2, kept, z, z_ready);
-    let four = send_feed(net, four, link, sweep, rows, place + 3, kept, u, u_ready);
-    disperse_four(
-        &Platoon {
-            values: x,
-            ready: x_ready,
-            total: one.extent.total,
-            above: one.extent.above,
-            travel: &one.travel,
-        },
-        &Platoon {
-            values: y,
-            ready: y_ready,
-            total: two.extent.total,
-            above: two.extent.above,
-            travel: &two.travel,
-        },
-        &Platoon {
-            values: z,
-            ready: z_ready,
-            total: three.extent.total,
-            above: three.extent.above,
-            travel: &three.travel,
-        },
-        &Platoon {
-            values: u,
-            ready: u_ready,
-            total: four.extent.total,
-            above: four.extent.above,
-            travel: &four.travel,
-        },
-        x_out,
-        y_out,
-        z_out,
-        u_out,
-    );
-    add_four_into(x_out, y_out, z_out, u_out, come);
+    let (lanes, rest) = room.split_at_mut(4 * steps);
+    let one_sent = send_feed(net, one, link, sweep, rows, place, kept, 0, lanes);
+    let two_sent = send_feed(net, two, link, sweep, rows, place + 1, kept, 1, lanes);
+    let three_sent = send_feed(net, three, link, sweep, rows, place + 2, kept, 2, lanes);
+    let four_sent = send_feed(net, four, link, sweep, rows, place + 3, kept, 3, lanes);
+    if let (Some(one_sent), Some(two_sent), Some(three_sent), Some(four_sent)) = (
+        one_sent, two_sent, three_sent, four_sent,
+    ) {
+        disperse_four(
+            steps,
+            lanes,
+            &one_sent.platoon(),
+            &two_sent.platoon(),
+            &three_sent.platoon(),
+            &four_sent.platoon(),
+            turns,
+        );
+    } else {
+        add_feed(net, one, link, sweep, rows, rest, turns);
+        add_feed(net, two, link, sweep, rows, rest, turns);
+        add_feed(net, three, link, sweep, rows, rest, turns);
+        add_feed(net, four, link, sweep, rows, rest, turns);
+    }
 }
 
 /// The place of the factors of a link's first feed.
@@ -235,7 +191,7 @@ pub(crate) fn fill_inflow(
     requires sweep { sweep ≤ net.now.frame.sweeps }
     requires fits { Fits net.now rows.now }
     requires kept { All (AreFactors net.now.frame.step_count) kept.old }
-    requires room_len { length room.old ≡ 12 * net.now.frame.step_count }
+    requires room_len { length room.old ≡ 8 * net.now.frame.step_count }
     requires come_len { length come.old ≡ net.now.frame.step_count }
     ensures value { come.new ≡ inflow net.now (read_in rows.now sweep link) link }
     ensures small { All (λ v. v < 2 ^ 48) come.new }
@@ -243,14 +199,16 @@ pub(crate) fn fill_inflow(
 {
     let own = own_place(net, link);
     let at = net.link(link);
-    fill_uniform(net.per_step(at.entry), come);
+    let steps = come.len();
+    let (turns, room) = room.split_at_mut(2 * steps);
+    start_turns(steps, net.per_step(at.entry), turns);
     let fours = at.feeds.len() / 4;
     'fours: for i in 0..fours {
         let (one, two) = (at.feeds[4 * i], at.feeds[4 * i + 1]);
         let (three, four) = (at.feeds[4 * i + 2], at.feeds[4 * i + 3]);
         let place = own + 4 * i;
         add_four(
-            net, one, two, three, four, link, sweep, rows, place, kept, room, come,
+            net, one, two, three, four, link, sweep, rows, place, kept, room, turns,
         );
     }
     let done = 4 * fours;
@@ -260,10 +218,11 @@ pub(crate) fn fill_inflow(
         let (one, two, three) = (at.feeds[first], at.feeds[first + 1], at.feeds[first + 2]);
         let place = own + first;
         add_three(
-            net, one, two, three, link, sweep, rows, place, kept, room, come,
+            net, one, two, three, link, sweep, rows, place, kept, room, turns,
         );
     }
     'rest: for i in done + 3 * threes..at.feeds.len() {
-        add_feed(net, at.feeds[i], link, sweep, rows, room, come);
+        add_feed(net, at.feeds[i], link, sweep, rows, room, turns);
     }
+    fold_into(turns, come);
 }

@@ -29,7 +29,8 @@ pub struct Scratch {
     pub(crate) out: Vec<u64>,
     // the figures, or what they take beside the rows
     pub(crate) asked: Asked,
-    // the work on four feeds, what they share, its products and what they bring, and what reaches the stop line
+    // the work on feeds: two turns of what comes, four lanes of products, what one feed shares and what it brings; and
+    // what reaches the stop line
     pub(crate) room: Vec<u64>,
     pub(crate) reaching: Vec<u64>,
     // what was worked out last of each feed's numbers, eight places a link
@@ -77,7 +78,7 @@ impl Scratch {
                 stops: 0,
                 index: 0,
             }),
-            room: vec![in alloc; 0; 12 * step_count]?,
+            room: vec![in alloc; 0; 8 * step_count]?,
             reaching: vec![in alloc; 0; step_count]?,
             factors: vec![in alloc; factors_of(net, none, 0, 0); 8 * net.links().len()]?,
         })

@@ -1,21 +1,20 @@
 //! What a feed's feeder sends on to a link.
 
-ghost use Rattle.std.specs.Prelude.{◌≡◌, ◌*◌, ◌^◌, ◌<◌, ◌≤◌, ℕ, length, sum, slice_index, All, IsTrue};
+ghost use Rattle.std.specs.Prelude.{◌≡◌, ◌+◌, ◌*◌, ◌^◌, ◌<◌, ◌≤◌, ℕ, length, slice_index, All, IfSome, IsTrue};
 ghost use Rattle.transyt_parts.specs.declared.link.Feed.{Feed};
 ghost use Rattle.transyt_net.specs.Valid.{link_place};
 ghost use Rattle.transyt_platoon.specs.Platoon.{travel_steps};
-ghost use Rattle.transyt_platoon.specs.Travels.{IsTravel};
-ghost use Rattle.transyt_profile.specs.Parts.{IsPart};
 ghost use Rattle.transyt_profile.specs.Profile.{shared};
 ghost use Rattle.transyt_sweep.specs.Cell.{taken};
 ghost use Rattle.transyt_sweep.specs.Factors.{AreFactors};
 ghost use Rattle.transyt_sweep.specs.Rows.{Fits, read_in};
+ghost use Rattle.transyt_sweep.specs.Sent.{IsSent};
 
 use crate::factors::{Factors, factors_of, renew};
 use crate::rows::Rows;
 use transyt_net::{Feed, Net};
-use transyt_platoon::Travel;
-use transyt_profile::{Extent, share_into, share_ready};
+use transyt_platoon::{Platoon, Travel};
+use transyt_profile::{Part, share_into, share_ready};
 
 /// The place of a link's number; the first where there is no such link.
 pub(crate) fn link_place(net: &Net, number: u32) -> usize
@@ -78,45 +77,66 @@ pub(crate) fn share_feed(
     share_into(leaving, feed.flow, net.total_flow(feeder), shared);
 }
 
-/// A feed's part on its way: how much it is, and how it travels.
-#[derive(Clone, Copy, Debug, PartialEq, Eq)]
-pub(crate) struct Sent {
-    /// How much it is.
-    pub(crate) extent: Extent,
+/// A feed's part on its way: what leaves its feeder and which part of it, how much that is, and how it travels.
+#[derive(Clone, Copy)]
+pub(crate) struct Sent<'a> {
+    /// What leaves the feeder, in millionths of a vehicle per step.
+    pub(crate) leaving: &'a [u64],
+    /// The part of it that goes on.
+    pub(crate) part: Part,
+    /// The sum of that part over the cycle.
+    pub(crate) total: u64,
     /// How it travels.
     pub(crate) travel: Travel,
 }
 
-/// What `share_feed` leaves in `shared`, and in `ready` each of it times the first factor of its travel. The feed's
-/// factors are kept at `place` of `kept`; past the last place nothing is kept.
-pub(crate) fn send_feed(
+impl Sent<'_> {
+    /// It as a platoon.
+    pub(crate) fn platoon(&self) -> Platoon<'_>
+        ensures leaving { result.leaving.now ≡ self.now.leaving.now }
+        ensures part { result.part.now ≡ self.now.part }
+        ensures total { result.total ≡ self.now.total }
+        ensures travel { result.travel.now ≡ self.now.travel }
+    {
+        Platoon {
+            leaving: self.leaving,
+            part: &self.part,
+            total: self.total,
+            travel: &self.travel,
+        }
+    }
+}
+
+/// Makes a feed's part of what leaves its feeder ready in a lane, each value times the first factor of its travel; none
+/// where a value may be too large for that. The other lanes stay. The feed's factors are kept at `place` of `kept`; past
+/// the last place nothing is kept.
+pub(crate) fn send_feed<'a>(
     net: &Net,
     feed: Feed,
     link: usize,
     sweep: u32,
-    rows: &Rows,
+    rows: &'a Rows,
     place: usize,
     kept: &mut [Factors],
-    shared: &mut [u64],
-    ready: &mut [u64],
-) -> Sent
+    lane: usize,
+    lanes: &mut [u64],
+) -> Option<Sent<'a>>
     requires some { 0 < length net.now.links }
     requires sweep { sweep ≤ net.now.frame.sweeps }
     requires flow { feed.flow ≤ 9999 }
     requires cruise { feed.cruise ≤ 300 }
     requires fits { Fits net.now rows.now }
     requires kept { All (AreFactors net.now.frame.step_count) kept.old }
-    requires shared_len { length shared.old ≡ net.now.frame.step_count }
-    requires ready_len { length ready.old ≡ net.now.frame.step_count }
-    ensures value { shared.new ≡ taken net.now (read_in rows.now sweep link) feed }
-    ensures small { All (λ v. v < 2 ^ 44) shared.new }
-    ensures ready { (k : ℕ) → k < net.now.frame.step_count → slice_index shared.new k < 2 ^ 22
-        → slice_index ready.new k ≡ slice_index shared.new k * result.travel.starting_factor }
-    ensures total { result.extent.total ≡ sum shared.new }
-    ensures above { All (λ v. v < result.extent.above) shared.new }
-    ensures time { result.travel.time ≡ travel_steps feed.cruise net.now.frame.step_count net.now.frame.cycle }
-    ensures percent { result.travel.percent ≡ net.now.frame.dispersion }
-    ensures is { IsTravel net.now.frame.step_count result.travel }
+    requires lane { lane < 4 }
+    requires lanes_len { length lanes.old ≡ 4 * net.now.frame.step_count }
+    ensures sent { IfSome result (λ s. IsSent net.now.frame.step_count lane lanes.new s) }
+    ensures taken { IfSome result (λ s. shared s.part.part s.part.whole s.leaving.now
+        ≡ taken net.now (read_in rows.now sweep link) feed) }
+    ensures time { IfSome result (λ s. s.travel.time
+        ≡ travel_steps feed.cruise net.now.frame.step_count net.now.frame.cycle) }
+    ensures percent { IfSome result (λ s. s.travel.percent ≡ net.now.frame.dispersion) }
+    ensures others { (k : ℕ) → (m : ℕ) → m < 4 → (m ≡ lane → ⊥)
+        → slice_index lanes.new (4 * k + m) ≡ slice_index lanes.old (4 * k + m) }
     ensures kept { All (AreFactors net.now.frame.step_count) kept.new }
 {
     net.frame();
@@ -125,39 +145,48 @@ pub(crate) fn send_feed(
     let leaving = rows.read(sweep, link, feeder);
     if place >= kept.len() {
         let factors = factors_of(net, feed, feeder, whole);
-        return send_by(&factors, leaving, shared, ready);
+        return send_by(&factors, leaving, lane, lanes);
     }
     renew(net, feed, feeder, whole, &mut kept[place]);
-    send_by(&kept[place], leaving, shared, ready)
+    send_by(&kept[place], leaving, lane, lanes)
 }
 
-/// Leaves in `going` the part of what leaves a feeder that its factors say, and in `ready` what `send_feed` leaves.
-fn send_by(factors: &Factors, leaving: &[u64], going: &mut [u64], ready: &mut [u64]) -> Sent
+/// What `send_feed` does, by these factors.
+fn send_by<'a>(
+    factors: &Factors,
+    leaving: &'a [u64],
+    lane: usize,
+    lanes: &mut [u64],
+) -> Option<Sent<'a>>
     requires most { length leaving.now ≤ 120 }
-    requires going_len { length going.old ≡ length leaving.now }
-    requires ready_len { length ready.old ≡ length leaving.now }
     requires fit { All (λ v. v < 2 ^ 30) leaving.now }
-    requires part { IsPart factors.now.part }
-    requires factor { factors.now.travel.starting_factor ≤ 2 ^ 41 }
-    requires limit { factors.now.travel.limit ≤ 2 ^ 22 }
-    ensures value { going.new ≡ shared factors.now.part.part factors.now.part.whole leaving.now }
-    ensures small { All (λ v. v < 2 ^ 44) going.new }
-    ensures ready { (k : ℕ) → k < length leaving.now → slice_index going.new k < 2 ^ 22
-        → slice_index ready.new k ≡ slice_index going.new k * result.travel.starting_factor }
-    ensures total { result.extent.total ≡ sum going.new }
-    ensures above { All (λ v. v < result.extent.above) going.new }
-    ensures travel { result.travel ≡ factors.now.travel }
+    requires are { AreFactors (length leaving.now) factors.now }
+    requires lane { lane < 4 }
+    requires lanes_len { length lanes.old ≡ 4 * length leaving.now }
+    ensures sent { IfSome result (λ s. IsSent (length leaving.now) lane lanes.new s) }
+    ensures shared { IfSome result (λ s. shared s.part.part s.part.whole s.leaving.now
+        ≡ shared factors.now.part.part factors.now.part.whole leaving.now) }
+    ensures travel { IfSome result (λ s. s.travel ≡ factors.now.travel) }
+    ensures others { (k : ℕ) → (m : ℕ) → m < 4 → (m ≡ lane → ⊥)
+        → slice_index lanes.new (4 * k + m) ≡ slice_index lanes.old (4 * k + m) }
 {
-    let extent = share_ready(
+    let total = share_ready(
         leaving,
         &factors.part,
         factors.travel.starting_factor,
         factors.travel.limit,
-        going,
-        ready,
+        lane,
+        lanes,
     );
-    Sent {
-        extent,
-        travel: factors.travel,
+    match total {
+        None => None,
+        Some(total) => {
+            Some(Sent {
+                leaving,
+                part: factors.part,
+                total,
+                travel: factors.travel,
+            })
+        }
     }
 }

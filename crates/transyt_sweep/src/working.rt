@@ -76,7 +76,7 @@ fn work_out(
     requires sweep { sweep ≤ net.now.frame.sweeps }
     requires fits { Fits net.now rows.now }
     requires kept { All (AreFactors net.now.frame.step_count) kept.old }
-    requires room_len { length room.old ≡ 12 * net.now.frame.step_count }
+    requires room_len { length room.old ≡ 8 * net.now.frame.step_count }
     requires reaching_len { length reaching.old ≡ net.now.frame.step_count }
     requires come_len { length come.old ≡ net.now.frame.step_count }
     requires going_len { length going.old ≡ net.now.frame.step_count }

@@ -1,16 +1,16 @@
--- A profile is shared and made ready step by step.
-use Rattle.std.proofs.Common.{◌≡◌, ℕ, ◌*◌, ◌^◌, ◌<◌, ◌≤◌, get_or, take, sum_by}
+-- A profile is shared and made ready in its lane step by step.
+use Rattle.std.proofs.Common.{◌≡◌, ℕ, ◌*◌, ◌^◌, ◌<◌, ◌≤◌, take, sum_by}
 use Rattle.transyt_profile.specs.Profile.{share_of}
+use Rattle.transyt_profile.proofs.ReadyLaws.{share_at, InLane, OthersStay}
 use Rattle.transyt_profile.proofs.readying.share_any.Given as goal
 
--- the steps passed have their shares and their products; they have this sum, and none is above the greatest so far
+-- the steps passed are ready; they have this sum, and none is above the greatest so far
 abbrev pub invariant-loop-i : goal.invariant-loop-i
 invariant-loop-i l = record {
-  shared : (k : ℕ) → k < l.i → get_or l.out k 0 ≡ share_of l.part.part l.part.whole (get_or l.x k 0);
-  small : (k : ℕ) → k < l.i → get_or l.out k 0 < 2 ^ 44;
-  ready : (k : ℕ) → k < l.i → get_or l.out k 0 < 2 ^ 22 → get_or l.ready k 0 ≡ get_or l.out k 0 * l.factor;
-  most : (k : ℕ) → k < l.i → get_or l.out k 0 ≤ l.greatest;
+  most : (k : ℕ) → k < l.i → share_at l.part.part l.part.whole l.x k ≤ l.greatest;
   greatest : l.greatest < 2 ^ 44;
+  ready : InLane l.lanes (share_at l.part.part l.part.whole l.x) l.factor l.lane l.i;
+  others : OthersStay l.initial.lanes l.lanes l.lane;
   so_far : l.total ≡ sum_by (share_of l.part.part l.part.whole) (take l.i l.x);
   total : l.total ≤ l.i * 2 ^ 44;
 }

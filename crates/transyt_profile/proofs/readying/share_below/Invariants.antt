@@ -1,14 +1,15 @@
--- A profile with small shares is shared and made ready step by step.
-use Rattle.std.proofs.Common.{◌≡◌, ℕ, ◌*◌, ◌^◌, ◌<◌, ◌≤◌, get_or, take, sum_by}
+-- A profile is shared and made ready in its lane step by step.
+use Rattle.std.proofs.Common.{◌≡◌, ℕ, ◌*◌, ◌^◌, ◌<◌, ◌≤◌, take, sum_by}
 use Rattle.transyt_profile.specs.Profile.{share_of}
+use Rattle.transyt_profile.proofs.ReadyLaws.{share_at, InLane, OthersStay}
 use Rattle.transyt_profile.proofs.readying.share_below.Given as goal
 
--- the steps passed have their shares, each below the limit, and their products; they have this sum
+-- the steps passed are ready; they have this sum, and none is above all bits together
 abbrev pub invariant-loop-i : goal.invariant-loop-i
 invariant-loop-i l = record {
-  shared : (k : ℕ) → k < l.i → get_or l.out k 0 ≡ share_of l.part.part l.part.whole (get_or l.x k 0);
-  below : (k : ℕ) → k < l.i → get_or l.out k 0 < l.limit;
-  ready : (k : ℕ) → k < l.i → get_or l.ready k 0 ≡ get_or l.out k 0 * l.factor;
+  most : (k : ℕ) → k < l.i → share_at l.part.part l.part.whole l.x k ≤ l.bits;
+  ready : InLane l.lanes (share_at l.part.part l.part.whole l.x) l.factor l.lane l.i;
+  others : OthersStay l.initial.lanes l.lanes l.lane;
   so_far : l.total ≡ sum_by (share_of l.part.part l.part.whole) (take l.i l.x);
-  total : l.total ≤ l.i * 2 ^ 22;
+  total : l.total ≤ l.i * 2 ^ 44;
 }

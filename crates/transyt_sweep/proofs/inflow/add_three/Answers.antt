@@ -1,23 +1,67 @@
--- What three feeds bring is added at once.
-use Rattle.std.proofs.Common.{ℕ, List}
+-- What three feeds bring is added, side by side or one after the other.
+use Rattle.std.proofs.Common.{◌≡◌, ℕ, ◌+◌, ◌-◌, ◌*◌, ◌^◌, ◌<◌, List, All, IfSome, ap, sym, subst, ◌∙◌, arith}
+use Rattle.transyt_profile.specs.Profile.{added, folded, shared}
+use Rattle.transyt_platoon.specs.Platoon.{travel_steps}
+use Rattle.transyt_platoon.specs.Travels.{arriving}
+use Rattle.transyt_parts.specs.declared.frame.Frame.{Frame}
 use Rattle.transyt_net.specs.Parts.{Network}
-use Rattle.transyt_sweep.specs.Cell.{brought}
+use Rattle.transyt_sweep.specs.Cell.{brought, taken}
 use Rattle.transyt_sweep.specs.Rows.{read_in}
-use Rattle.transyt_sweep.proofs.InflowLaws.{brought_by, added_three}
+use Rattle.transyt_sweep.specs.declared.sending.Sent.{Sent}
+use Rattle.transyt_sweep.proofs.InflowLaws.{sent_brings}
 use Rattle.transyt_sweep.proofs.inflow.add_three.Goals as goal
 
--- each is the part that goes on, after its travel
-pub returns-clause-value : goal.returns-clause-value
-returns-clause-value c =
+pub add_feed-requires-in_default-clause-turns_small : goal.add_feed-requires-in_default-clause-turns_small
+add_feed-requires-in_default-clause-turns_small c = λ j d h. omega (arith, c.add_feed.ensures.grows (2 ^ 48 - 3 * 2 ^ 44) (c.requires.turns_small) j d h)
+
+pub add_feed-requires-in_default-2-clause-turns_small : goal.add_feed-requires-in_default-2-clause-turns_small
+add_feed-requires-in_default-2-clause-turns_small c = λ j d h. omega (arith, c.add_feed-in_default.ensures.grows (2 ^ 48 - 3 * 2 ^ 44 + 2 ^ 44) (c.add_feed.ensures.grows (2 ^ 48 - 3 * 2 ^ 44) (c.requires.turns_small)) j d h)
+
+-- one after the other, each raises the limit by its own
+pub returns-in_default-clause-grows : goal.returns-in_default-clause-grows
+returns-in_default-clause-grows c = λ limit within j d h.
+    omega (arith, c.add_feed-in_default-2.ensures.grows (limit + 2 ^ 44 + 2 ^ 44) (c.add_feed-in_default.ensures.grows (limit + 2 ^ 44) (c.add_feed.ensures.grows (limit) (within))) j d h)
+
+-- side by side, each brings the part that goes on, after its travel
+pub returns-in-Some-Some-Some-clause-value : goal.returns-in-Some-Some-Some-clause-value
+returns-in-Some-Some-Some-clause-value c =
     let read : ℕ → List ℕ = read_in c.args.rows.now c.args.sweep c.args.link in
     let net : Network = c.args.net.now in
-    let spread = c.disperse_three.new in
-    added_three c.args.come.now spread.x_out spread.y_out spread.z_out c.add_three_into.new.out
-    (brought net read c.args.one) (brought net read c.args.two) (brought net read c.args.three)
-    c.add_three_into.ensures.value
-    (brought_by net read c.args.one c.send_feed-one.new.shared spread.x_out _ _ c.disperse_three.ensures.x_value
-    c.send_feed-one.ensures.value c.send_feed-one.ensures.time c.send_feed-one.ensures.percent)
-    (brought_by net read c.args.two c.send_feed-two.new.shared spread.y_out _ _ c.disperse_three.ensures.y_value
-    c.send_feed-two.ensures.value c.send_feed-two.ensures.time c.send_feed-two.ensures.percent)
-    (brought_by net read c.args.three c.send_feed-three.new.shared spread.z_out _ _ c.disperse_three.ensures.z_value
-    c.send_feed-three.ensures.value c.send_feed-three.ensures.time c.send_feed-three.ensures.percent)
+    let n : ℕ = net.frame.step_count in
+    let turns : List ℕ = c.disperse_three.new.turns in
+    let sum : folded n turns ≡ added (added (added (folded n c.args.turns.now) (arriving c.platoon.result)) (arriving c.platoon-in-Some-Some-Some.result)) (arriving c.platoon-in-Some-Some-Some-2.result) =
+    subst (λ k. folded k turns ≡ added (added (added (folded k c.args.turns.now) (arriving c.platoon.result)) (arriving c.platoon-in-Some-Some-Some.result)) (arriving c.platoon-in-Some-Some-Some-2.result))
+    (ap (λ (f : Frame). f.step_count) c.frame-steps.ensures.value) c.disperse_three.ensures.value in
+    let one_brings : arriving c.platoon.result ≡ brought net read c.args.one =
+    sent_brings net read c.args.one c.platoon.result c.in-Some-Some-Some.one_sent c.platoon.ensures.leaving c.platoon.ensures.part
+    c.platoon.ensures.travel
+    (subst (λ r. IfSome r (λ (s : Sent). shared s.part.part s.part.whole s.leaving.now ≡ taken net read c.args.one)) c.in-Some-Some-Some.is-0 c.send_feed-one_sent.ensures.taken)
+    (subst (λ r. IfSome r (λ (s : Sent). s.travel.time ≡ travel_steps c.args.one.cruise net.frame.step_count net.frame.cycle)) c.in-Some-Some-Some.is-0 c.send_feed-one_sent.ensures.time)
+    (subst (λ r. IfSome r (λ (s : Sent). s.travel.percent ≡ net.frame.dispersion)) c.in-Some-Some-Some.is-0 c.send_feed-one_sent.ensures.percent) in
+    let two_brings : arriving c.platoon-in-Some-Some-Some.result ≡ brought net read c.args.two =
+    sent_brings net read c.args.two c.platoon-in-Some-Some-Some.result c.in-Some-Some-Some.two_sent c.platoon-in-Some-Some-Some.ensures.leaving c.platoon-in-Some-Some-Some.ensures.part
+    c.platoon-in-Some-Some-Some.ensures.travel
+    (subst (λ r. IfSome r (λ (s : Sent). shared s.part.part s.part.whole s.leaving.now ≡ taken net read c.args.two)) c.in-Some-Some-Some.is-1 c.send_feed-two_sent.ensures.taken)
+    (subst (λ r. IfSome r (λ (s : Sent). s.travel.time ≡ travel_steps c.args.two.cruise net.frame.step_count net.frame.cycle)) c.in-Some-Some-Some.is-1 c.send_feed-two_sent.ensures.time)
+    (subst (λ r. IfSome r (λ (s : Sent). s.travel.percent ≡ net.frame.dispersion)) c.in-Some-Some-Some.is-1 c.send_feed-two_sent.ensures.percent) in
+    let three_brings : arriving c.platoon-in-Some-Some-Some-2.result ≡ brought net read c.args.three =
+    sent_brings net read c.args.three c.platoon-in-Some-Some-Some-2.result c.in-Some-Some-Some.three_sent c.platoon-in-Some-Some-Some-2.ensures.leaving c.platoon-in-Some-Some-Some-2.ensures.part
+    c.platoon-in-Some-Some-Some-2.ensures.travel
+    (subst (λ r. IfSome r (λ (s : Sent). shared s.part.part s.part.whole s.leaving.now ≡ taken net read c.args.three)) c.in-Some-Some-Some.is-2 c.send_feed-three_sent.ensures.taken)
+    (subst (λ r. IfSome r (λ (s : Sent). s.travel.time ≡ travel_steps c.args.three.cruise net.frame.step_count net.frame.cycle)) c.in-Some-Some-Some.is-2 c.send_feed-three_sent.ensures.time)
+    (subst (λ r. IfSome r (λ (s : Sent). s.travel.percent ≡ net.frame.dispersion)) c.in-Some-Some-Some.is-2 c.send_feed-three_sent.ensures.percent) in
+    sum
+    ∙ ap (λ x. added (added (added (folded n c.args.turns.now) x) (arriving c.platoon-in-Some-Some-Some.result)) (arriving c.platoon-in-Some-Some-Some-2.result)) one_brings
+    ∙ ap (λ x. added (added (added (folded n c.args.turns.now) (brought net read c.args.one)) x) (arriving c.platoon-in-Some-Some-Some-2.result)) two_brings
+    ∙ ap (λ x. added (added (added (folded n c.args.turns.now) (brought net read c.args.one)) (brought net read c.args.two)) x) three_brings
+
+-- and together they raise it by less
+pub returns-in-Some-Some-Some-clause-grows : goal.returns-in-Some-Some-Some-clause-grows
+returns-in-Some-Some-Some-clause-grows c = λ limit within.
+    let turns : List ℕ = c.disperse_three.new.turns in
+    let same = ap (λ (f : Frame). f.step_count) c.frame-steps.ensures.value in
+    let all : All (λ v. v < limit + 3 * 2 ^ 22) (folded c.args.net.now.frame.step_count turns) =
+    subst (λ k. All (λ v. v < limit + 3 * 2 ^ 22) (folded k turns)) same
+    (c.disperse_three.ensures.grows limit
+    (subst (λ k. All (λ v. v < limit) (folded k c.args.turns.now)) (sym same) within)) in
+    λ j d h. omega (arith, all j d h)

@@ -2,6 +2,7 @@
 use Rattle.std.proofs.Common.{◌≡◌, ℕ, ◌+◌, ◌*◌, ◌/◌, ◌^◌, List, length, take, get_or, arith, rules, refl, ap, ◌∙◌}
 use Rattle.transyt_parts.specs.declared.link.Feed.{Feed}
 use Rattle.transyt_parts.specs.Parts.{LinkValue}
+use Rattle.transyt_profile.specs.Profile.{folded}
 use Rattle.transyt_net.specs.Parts.{link_of}
 use Rattle.transyt_sweep.specs.Cell.{brought, inflow_of}
 use Rattle.transyt_sweep.specs.Rows.{read_in}
@@ -31,9 +32,9 @@ fours-preserved c =
     c.index-in-fours-3.ensures ∙ ap (λ (fs : List Feed). get_or fs (p + 3) four) feeds in
     record {
       room = search rules;
-      come = search rules;
+      turns = search rules;
       kept = c.add_four.ensures.kept;
-      value = inflow_four c.args.net.now read link.entry link.feeds link.feeds p one two three four c.fours.come
+      value = inflow_four c.args.net.now read link.entry link.feeds link.feeds p one two three four (folded c.args.net.now.frame.step_count c.fours.turns)
           (brought c.args.net.now read one) (brought c.args.net.now read two) (brought c.args.net.now read three) (brought c.args.net.now read four) _ refl
           (omega (arith, c.fours-test.true, c.len-fours.ensures, ap length feeds)) c.fours.invariant.value
           (ap (brought c.args.net.now read) first) (ap (brought c.args.net.now read) second) (ap (brought c.args.net.now read) third) (ap (brought c.args.net.now read) fourth) c.add_four.ensures.value
@@ -64,9 +65,9 @@ threes-preserved c =
     c.index-in-threes-3.ensures ∙ ap (λ (fs : List Feed). get_or fs (p + 2) three) feeds in
     record {
       room = search rules;
-      come = search rules;
+      turns = search rules;
       kept = c.add_three.ensures.kept;
-      value = inflow_three c.args.net.now read link.entry link.feeds link.feeds p one two three c.threes.come
+      value = inflow_three c.args.net.now read link.entry link.feeds link.feeds p one two three (folded c.args.net.now.frame.step_count c.threes.turns)
           (brought c.args.net.now read one) (brought c.args.net.now read two) (brought c.args.net.now read three) _ refl
           (omega (arith, c.threes-test.true, c.len.ensures, c.len-fours.ensures, ap length feeds)) c.threes.invariant.value
           (ap (brought c.args.net.now read) first) (ap (brought c.args.net.now read) second) (ap (brought c.args.net.now read) third) c.add_three.ensures.value
@@ -89,9 +90,9 @@ rest-preserved c =
     c.index-in-rest.ensures ∙ ap (λ (fs : List Feed). get_or fs c.rest.i one) feeds in
     record {
       room = search rules;
-      come = search rules;
+      turns = search rules;
       kept = c.rest.invariant.kept;
-      value = inflow_more c.args.net.now read link.entry link.feeds link.feeds c.rest.i one c.rest.come
+      value = inflow_more c.args.net.now read link.entry link.feeds link.feeds c.rest.i one (folded c.args.net.now.frame.step_count c.rest.turns)
           (brought c.args.net.now read one) _ refl
           (omega (arith, c.rest-test.true, c.len-i-end.ensures, ap length feeds)) c.rest.invariant.value
           (ap (brought c.args.net.now read) first) c.add_feed.ensures.value;

@@ -1,0 +1,35 @@
+-- Two turns to whose first a profile is added, folded.
+use Rattle.std.proofs.Common.{◌≡◌, ℕ, ◌+◌, ◌-◌, ◌^◌, ◌<◌, length, get_or, sym, arith}
+use Rattle.transyt_profile.specs.Profile.{folded}
+use Rattle.transyt_profile.proofs.AddedLaws.{length-folded, get_or-folded, is_folded_added, added_grows, folded_first}
+use Rattle.transyt_profile.proofs.adding.add_to_first.Goals as goal
+
+-- both values of a step come to less than 2^48
+pub overflow_add-turns : goal.overflow_add-turns
+overflow_add-turns c =
+    let r = c.requires in
+    let fold =
+    folded_first (length c.args.x.now) c.args.turns.now (2 ^ 48 - 2 ^ 44) c.loop-i.i r.turns_fit (omega arith) in
+    omega (arith, fold, r.fit c.loop-i.i 0 (omega arith), c.loop-i.invariant.rest c.loop-i.i (omega arith))
+
+-- each step of the fold is a sum of two values
+pub returns-clause-value : goal.returns-clause-value
+returns-clause-value c =
+    let n : ℕ = length c.args.x.now in
+    is_folded_added n c.args.turns.now c.loop-i.turns c.args.x.now
+    (λ k below.
+    omega (
+      arith,
+      get_or-folded n c.loop-i.turns k below,
+      get_or-folded n c.args.turns.now k below,
+      c.loop-i.invariant.summed k (omega arith),
+      c.loop-i.invariant.rest (n + k) (omega arith),
+    ))
+
+-- so a limit on what stood goes up by the limit on what is added
+pub returns-clause-grows : goal.returns-clause-grows
+returns-clause-grows c = λ limit within.
+    let n : ℕ = length c.args.x.now in
+    rw (returns-clause-value c)
+    (added_grows (folded n c.args.turns.now) c.args.x.now limit (2 ^ 44)
+    (sym (length-folded n c.args.turns.now)) within c.requires.fit)
