@@ -6,11 +6,10 @@ ghost use Rattle.transyt_platoon.specs.Travels.{IsReady};
 
 use crate::platoon::{Platoon, mean_of, mix_ready};
 
-/// What went by of a platoon last, and the step of the cycle to which its first step is led.
+/// What went by of a platoon last.
 #[derive(Clone, Copy)]
 pub(crate) struct Going {
     value: u64,
-    place: usize,
 }
 
 impl Going {
@@ -23,11 +22,10 @@ impl Going {
     ) -> Going
         requires steps { 0 < step_count }
         requires ready { IsReady step_count lane lanes.now platoon.now }
-        ensures { HasPassed step_count platoon.now 0 result }
+        ensures { HasPassed platoon.now 0 result }
     {
         Going {
             value: mean_of(platoon, step_count, lane, lanes),
-            place: platoon.travel.place,
         }
     }
 
@@ -44,14 +42,14 @@ impl Going {
         requires lane { lane < 4 }
         requires lanes_len { length lanes.now ≡ 4 * step_count }
         requires step { step < step_count }
-        requires passed { HasPassed step_count platoon.now step self.old }
-        ensures { HasPassed step_count platoon.now (step + 1) self.new }
+        requires passed { HasPassed platoon.now step self.old }
+        ensures { HasPassed platoon.now (step + 1) self.new }
     {
         self.value = mix_ready(platoon, step_count, lane, lanes, step, self.value);
     }
 
     /// A step of the second turn goes by, and is added where it arrives: as many steps on as the first one is led,
-    /// without going round.
+    /// without going round the cycle.
     pub(crate) fn arrive(
         &mut self,
         platoon: &Platoon<'_>,
@@ -67,15 +65,15 @@ impl Going {
         requires step { step < step_count }
         requires turns_len { length turns.old ≡ 2 * step_count }
         requires fit { All (λ v. v < 2 ^ 62) turns.old }
-        requires passed { HasPassed step_count platoon.now (step_count + step) self.old }
-        ensures passed { HasPassed step_count platoon.now (step_count + (step + 1)) self.new }
-        ensures here { slice_index turns.new (self.old.place + step) ≡ slice_index turns.old (self.old.place + step)
+        requires passed { HasPassed platoon.now (step_count + step) self.old }
+        ensures passed { HasPassed platoon.now (step_count + (step + 1)) self.new }
+        ensures here { slice_index turns.new (platoon.now.travel.place + step) ≡ slice_index turns.old (platoon.now.travel.place + step)
             + gone_by platoon.now (step_count + 1 + step) }
-        ensures others { (j : ℕ) → (j ≡ self.old.place + step → ⊥)
+        ensures others { (j : ℕ) → (j ≡ platoon.now.travel.place + step → ⊥)
             → slice_index turns.new j ≡ slice_index turns.old j }
         ensures grows { (limit : ℕ) → All (λ v. v < limit) turns.old → All (λ v. v < limit + 2 ^ 22) turns.new }
     {
         self.value = mix_ready(platoon, step_count, lane, lanes, step, self.value);
-        turns[self.place + step] += self.value;
+        turns[platoon.travel.place + step] += self.value;
     }
 }

@@ -42,9 +42,9 @@ pub fn worked_ready()
 /// number doesn't.
 #[tactic(auto, unfolding(crate::specs::Platoon::smoothed))]
 pub fn worked_going()
-    ensures passed { HasPassed 3 ready_platoon 2 passed }
-    ensures wrong_passed { All (λ g. HasPassed 3 ready_platoon 2 g → ⊥) wrong_passed }
-    ensures limit_passed { HasPassed 3 (limited 485562) 2 passed → ⊥ }
-    ensures passed_again { HasPassed 3 ready_platoon 5 passed_again }
-    ensures not_again { HasPassed 3 ready_platoon 4 passed_again → ⊥ }
+    ensures passed { HasPassed ready_platoon 2 passed }
+    ensures wrong_passed { All (λ g. HasPassed ready_platoon 2 g → ⊥) wrong_passed }
+    ensures limit_passed { HasPassed (limited 485562) 2 passed → ⊥ }
+    ensures passed_again { HasPassed ready_platoon 5 passed_again }
+    ensures not_again { HasPassed ready_platoon 4 passed_again → ⊥ }
 {}

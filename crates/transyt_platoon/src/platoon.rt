@@ -16,11 +16,11 @@ pub struct Platoon<'a> {
     /// What leaves the link, one value for each step of the cycle.
     pub leaving: &'a [u64],
     /// The part of it that goes on.
-    pub part: &'a Part,
+    pub part: Part,
     /// The sum of that part over the cycle.
     pub total: u64,
     /// How it travels.
-    pub travel: &'a Travel,
+    pub travel: Travel,
 }
 
 /// The mean of a platoon's profile, rounded down.
@@ -28,7 +28,7 @@ pub(crate) fn mean_of(platoon: &Platoon<'_>, step_count: usize, lane: usize, lan
     requires steps { 0 < step_count }
     requires is { IsReady step_count lane lanes.now platoon.now }
     ensures value { result ≡ sum (sent platoon.now) / length (sent platoon.now) }
-    ensures small { result < platoon.now.travel.now.limit }
+    ensures small { result < platoon.now.travel.limit }
 {
     platoon.total / step_count as u64
 }
@@ -46,9 +46,9 @@ pub(crate) fn mix_ready(
     requires lane { lane < 4 }
     requires lanes_len { length lanes.now ≡ 4 * step_count }
     requires step { step < step_count }
-    requires before { before < platoon.now.travel.now.limit }
-    ensures value { result ≡ mixed platoon.now.travel.now.weight (slice_index (sent platoon.now) step) before }
-    ensures small { result < platoon.now.travel.now.limit }
+    requires before { before < platoon.now.travel.limit }
+    ensures value { result ≡ mixed platoon.now.travel.weight (slice_index (sent platoon.now) step) before }
+    ensures small { result < platoon.now.travel.limit }
 {
     (lanes[4 * step + lane] + before * platoon.travel.before_factor) >> 40
 }

@@ -3,12 +3,7 @@ use Rattle.std.proofs.Common.{◌≡◌, ℕ, ◌+◌, ◌*◌, ◌^◌, ◌<◌
 use Rattle.std.proofs.lemmas.Nat.{mul-le}
 use Rattle.std.proofs.lemmas.List.Sums.{fold_more}
 use Rattle.transyt_profile.specs.Profile.{uniform, added, shared}
-use Rattle.transyt_profile.specs.declared.sharing.Part.{Part}
 use Rattle.transyt_platoon.specs.Platoon.{travel_steps, dispersed}
-use Rattle.transyt_platoon.specs.Travels.{arriving}
-use Rattle.transyt_platoon.specs.declared.platoon.Platoon.{Platoon}
-use Rattle.transyt_platoon.specs.declared.travel.Travel.{Travel}
-use Rattle.transyt_sweep.specs.declared.sending.Sent.{Sent}
 use Rattle.transyt_parts.specs.declared.link.Feed.{Feed}
 use Rattle.transyt_parts.specs.Flow.{total_flow}
 use Rattle.transyt_net.specs.Parts.{Network, link_of}
@@ -80,20 +75,6 @@ brought_by net read f part out time percent made is_part is_time is_percent =
     ∙ ap (λ x. dispersed x time percent) is_part
     ∙ ap (λ t. dispersed (taken net read f) t percent) is_time
     ∙ ap (dispersed (taken net read f) (travel_steps f.cruise net.frame.step_count net.frame.cycle)) is_percent
-
--- so does a platoon that was sent
-pub sent_brings : (net : Network) (read : ℕ → List ℕ) (f : Feed) (p : Platoon) (s : Sent)
-    → p.leaving.now ≡ s.leaving.now → p.part.now ≡ s.part → p.travel.now ≡ s.travel
-    → shared s.part.part s.part.whole s.leaving.now ≡ taken net read f
-    → s.travel.time ≡ travel_steps f.cruise net.frame.step_count net.frame.cycle
-    → s.travel.percent ≡ net.frame.dispersion → arriving p ≡ brought net read f
-sent_brings net read f p s is_leaving is_part is_travel is_taken is_time is_percent =
-    ap (λ xs. dispersed (shared p.part.now.part p.part.now.whole xs) p.travel.now.time p.travel.now.percent) is_leaving
-    ∙ ap (λ (q : Part). dispersed (shared q.part q.whole s.leaving.now) p.travel.now.time p.travel.now.percent) is_part
-    ∙ ap (λ (t : Travel). dispersed (shared s.part.part s.part.whole s.leaving.now) t.time t.percent) is_travel
-    ∙ brought_by net read f (shared s.part.part s.part.whole s.leaving.now)
-    (dispersed (shared s.part.part s.part.whole s.leaving.now) s.travel.time s.travel.percent) s.travel.time
-    s.travel.percent refl is_taken is_time is_percent
 
 -- the part that goes on, by the numbers of a feed and of its feeder
 pub taken_by : (net : Network) (read : ℕ → List ℕ) (f : Feed) (part whole total : ℕ) (leaving : List ℕ)

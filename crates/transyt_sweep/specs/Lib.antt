@@ -4,7 +4,6 @@ pub mod Rows
 pub mod Table
 pub mod Front
 pub mod Factors
-pub mod Sent
 pub mod Scratch
 pub mod Climb
 pub mod WorkedLinks

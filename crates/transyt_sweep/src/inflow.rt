@@ -89,14 +89,7 @@ fn add_three(
     let two_sent = send_feed(net, two, link, sweep, rows, place + 1, kept, 1, lanes);
     let three_sent = send_feed(net, three, link, sweep, rows, place + 2, kept, 2, lanes);
     if let (Some(one_sent), Some(two_sent), Some(three_sent)) = (one_sent, two_sent, three_sent) {
-        disperse_three(
-            steps,
-            lanes,
-            &one_sent.platoon(),
-            &two_sent.platoon(),
-            &three_sent.platoon(),
-            turns,
-        );
+        disperse_three(steps, lanes, &one_sent, &two_sent, &three_sent, turns);
     } else {
         add_feed(net, one, link, sweep, rows, rest, turns);
         add_feed(net, two, link, sweep, rows, rest, turns);
@@ -153,10 +146,10 @@ fn add_four(
         disperse_four(
             steps,
             lanes,
-            &one_sent.platoon(),
-            &two_sent.platoon(),
-            &three_sent.platoon(),
-            &four_sent.platoon(),
+            &one_sent,
+            &two_sent,
+            &three_sent,
+            &four_sent,
             turns,
         );
     } else {

@@ -4,17 +4,17 @@ ghost use Rattle.std.specs.Prelude.{◌≡◌, ◌+◌, ◌*◌, ◌^◌, ◌<�
 ghost use Rattle.transyt_parts.specs.declared.link.Feed.{Feed};
 ghost use Rattle.transyt_net.specs.Valid.{link_place};
 ghost use Rattle.transyt_platoon.specs.Platoon.{travel_steps};
+ghost use Rattle.transyt_platoon.specs.Travels.{IsReady, sent};
 ghost use Rattle.transyt_profile.specs.Profile.{shared};
 ghost use Rattle.transyt_sweep.specs.Cell.{taken};
 ghost use Rattle.transyt_sweep.specs.Factors.{AreFactors};
 ghost use Rattle.transyt_sweep.specs.Rows.{Fits, read_in};
-ghost use Rattle.transyt_sweep.specs.Sent.{IsSent};
 
 use crate::factors::{Factors, factors_of, renew};
 use crate::rows::Rows;
 use transyt_net::{Feed, Net};
-use transyt_platoon::{Platoon, Travel};
-use transyt_profile::{Part, share_into, share_ready};
+use transyt_platoon::Platoon;
+use transyt_profile::{share_into, share_ready};
 
 /// The place of a link's number; the first where there is no such link.
 pub(crate) fn link_place(net: &Net, number: u32) -> usize
@@ -77,36 +77,6 @@ pub(crate) fn share_feed(
     share_into(leaving, feed.flow, net.total_flow(feeder), shared);
 }
 
-/// A feed's part on its way: what leaves its feeder and which part of it, how much that is, and how it travels.
-#[derive(Clone, Copy)]
-pub(crate) struct Sent<'a> {
-    /// What leaves the feeder, in millionths of a vehicle per step.
-    pub(crate) leaving: &'a [u64],
-    /// The part of it that goes on.
-    pub(crate) part: Part,
-    /// The sum of that part over the cycle.
-    pub(crate) total: u64,
-    /// How it travels.
-    pub(crate) travel: Travel,
-}
-
-impl Sent<'_> {
-    /// It as a platoon.
-    pub(crate) fn platoon(&self) -> Platoon<'_>
-        ensures leaving { result.leaving.now ≡ self.now.leaving.now }
-        ensures part { result.part.now ≡ self.now.part }
-        ensures total { result.total ≡ self.now.total }
-        ensures travel { result.travel.now ≡ self.now.travel }
-    {
-        Platoon {
-            leaving: self.leaving,
-            part: &self.part,
-            total: self.total,
-            travel: &self.travel,
-        }
-    }
-}
-
 /// Makes a feed's part of what leaves its feeder ready in a lane, each value times the first factor of its travel; none
 /// where a value may be too large for that. The other lanes stay. The feed's factors are kept at `place` of `kept`; past
 /// the last place nothing is kept.
@@ -120,7 +90,7 @@ pub(crate) fn send_feed<'a>(
     kept: &mut [Factors],
     lane: usize,
     lanes: &mut [u64],
-) -> Option<Sent<'a>>
+) -> Option<Platoon<'a>>
     requires some { 0 < length net.now.links }
     requires sweep { sweep ≤ net.now.frame.sweeps }
     requires flow { feed.flow ≤ 9999 }
@@ -129,12 +99,11 @@ pub(crate) fn send_feed<'a>(
     requires kept { All (AreFactors net.now.frame.step_count) kept.old }
     requires lane { lane < 4 }
     requires lanes_len { length lanes.old ≡ 4 * net.now.frame.step_count }
-    ensures sent { IfSome result (λ s. IsSent net.now.frame.step_count lane lanes.new s) }
-    ensures taken { IfSome result (λ s. shared s.part.part s.part.whole s.leaving.now
-        ≡ taken net.now (read_in rows.now sweep link) feed) }
-    ensures time { IfSome result (λ s. s.travel.time
+    ensures ready { IfSome result (λ p. IsReady net.now.frame.step_count lane lanes.new p) }
+    ensures taken { IfSome result (λ p. sent p ≡ taken net.now (read_in rows.now sweep link) feed) }
+    ensures time { IfSome result (λ p. p.travel.time
         ≡ travel_steps feed.cruise net.now.frame.step_count net.now.frame.cycle) }
-    ensures percent { IfSome result (λ s. s.travel.percent ≡ net.now.frame.dispersion) }
+    ensures percent { IfSome result (λ p. p.travel.percent ≡ net.now.frame.dispersion) }
     ensures others { (k : ℕ) → (m : ℕ) → m < 4 → (m ≡ lane → ⊥)
         → slice_index lanes.new (4 * k + m) ≡ slice_index lanes.old (4 * k + m) }
     ensures kept { All (AreFactors net.now.frame.step_count) kept.new }
@@ -157,16 +126,16 @@ fn send_by<'a>(
     leaving: &'a [u64],
     lane: usize,
     lanes: &mut [u64],
-) -> Option<Sent<'a>>
+) -> Option<Platoon<'a>>
     requires most { length leaving.now ≤ 120 }
     requires fit { All (λ v. v < 2 ^ 30) leaving.now }
     requires are { AreFactors (length leaving.now) factors.now }
     requires lane { lane < 4 }
     requires lanes_len { length lanes.old ≡ 4 * length leaving.now }
-    ensures sent { IfSome result (λ s. IsSent (length leaving.now) lane lanes.new s) }
-    ensures shared { IfSome result (λ s. shared s.part.part s.part.whole s.leaving.now
+    ensures ready { IfSome result (λ p. IsReady (length leaving.now) lane lanes.new p) }
+    ensures shared { IfSome result (λ p. sent p
         ≡ shared factors.now.part.part factors.now.part.whole leaving.now) }
-    ensures travel { IfSome result (λ s. s.travel ≡ factors.now.travel) }
+    ensures travel { IfSome result (λ p. p.travel ≡ factors.now.travel) }
     ensures others { (k : ℕ) → (m : ℕ) → m < 4 → (m ≡ lane → ⊥)
         → slice_index lanes.new (4 * k + m) ≡ slice_index lanes.old (4 * k + m) }
 {
@@ -181,7 +150,7 @@ fn send_by<'a>(
     match total {
         None => None,
         Some(total) => {
-            Some(Sent {
+            Some(Platoon {
                 leaving,
                 part: factors.part,
                 total,

@@ -7,19 +7,19 @@ use Rattle.transyt_platoon.proofs.four.disperse_four.Given as goal
 -- the first turn
 abbrev pub invariant-first : goal.invariant-first
 invariant-first l = record {
-  one : HasPassed l.step_count l.x l.i l.one;
-  two : HasPassed l.step_count l.y l.i l.two;
-  three : HasPassed l.step_count l.z l.i l.three;
-  four : HasPassed l.step_count l.u l.i l.four;
+  one : HasPassed l.x l.i l.one;
+  two : HasPassed l.y l.i l.two;
+  three : HasPassed l.z l.i l.three;
+  four : HasPassed l.u l.i l.four;
 }
 
 -- the second turn: each place has what stood there and what of each platoon has arrived there
 abbrev pub invariant-second : goal.invariant-second
 invariant-second l = record {
-  one : HasPassed l.step_count l.x (l.step_count + l.i) l.one;
-  two : HasPassed l.step_count l.y (l.step_count + l.i) l.two;
-  three : HasPassed l.step_count l.z (l.step_count + l.i) l.three;
-  four : HasPassed l.step_count l.u (l.step_count + l.i) l.four;
+  one : HasPassed l.x (l.step_count + l.i) l.one;
+  two : HasPassed l.y (l.step_count + l.i) l.two;
+  three : HasPassed l.z (l.step_count + l.i) l.three;
+  four : HasPassed l.u (l.step_count + l.i) l.four;
   fit : All (λ v. v < 2 ^ 48 + 4 * 2 ^ 22 * l.i) l.turns;
   sums : (j : ℕ) → j < 2 * l.step_count → get_or l.turns j 0
       ≡ get_or l.initial.turns j 0 + arrived l.step_count l.x l.i j + arrived l.step_count l.y l.i j + arrived l.step_count l.z l.i j + arrived l.step_count l.u l.i j;

@@ -17,4 +17,4 @@ returns-clause-small c =
     let p = c.args.platoon.now in
     let is = c.requires.is in
     rw (returns-clause-value c)
-    (mean_below (sent p) p.travel.now.limit (omega (arith, c.requires.steps, is.values_len)) is.fit)
+    (mean_below (sent p) p.travel.limit (omega (arith, c.requires.steps, is.values_len)) is.fit)

@@ -1,14 +1,14 @@
 -- What three feeds bring is added, side by side or one after the other.
-use Rattle.std.proofs.Common.{◌≡◌, ℕ, ◌+◌, ◌-◌, ◌*◌, ◌^◌, ◌<◌, List, All, IfSome, ap, sym, subst, ◌∙◌, arith}
-use Rattle.transyt_profile.specs.Profile.{added, folded, shared}
+use Rattle.std.proofs.Common.{◌≡◌, ℕ, ◌+◌, ◌-◌, ◌*◌, ◌^◌, ◌<◌, List, All, IfSome, refl, ap, sym, subst, ◌∙◌, arith}
+use Rattle.transyt_profile.specs.Profile.{added, folded}
 use Rattle.transyt_platoon.specs.Platoon.{travel_steps}
-use Rattle.transyt_platoon.specs.Travels.{arriving}
+use Rattle.transyt_platoon.specs.Travels.{arriving, sent}
+use Rattle.transyt_platoon.specs.declared.platoon.Platoon.{Platoon}
 use Rattle.transyt_parts.specs.declared.frame.Frame.{Frame}
 use Rattle.transyt_net.specs.Parts.{Network}
 use Rattle.transyt_sweep.specs.Cell.{brought, taken}
 use Rattle.transyt_sweep.specs.Rows.{read_in}
-use Rattle.transyt_sweep.specs.declared.sending.Sent.{Sent}
-use Rattle.transyt_sweep.proofs.InflowLaws.{sent_brings}
+use Rattle.transyt_sweep.proofs.InflowLaws.{brought_by}
 use Rattle.transyt_sweep.proofs.inflow.add_three.Goals as goal
 
 pub add_feed-requires-in_default-clause-turns_small : goal.add_feed-requires-in_default-clause-turns_small
@@ -29,30 +29,27 @@ returns-in-Some-Some-Some-clause-value c =
     let net : Network = c.args.net.now in
     let n : ℕ = net.frame.step_count in
     let turns : List ℕ = c.disperse_three.new.turns in
-    let sum : folded n turns ≡ added (added (added (folded n c.args.turns.now) (arriving c.platoon.result)) (arriving c.platoon-in-Some-Some-Some.result)) (arriving c.platoon-in-Some-Some-Some-2.result) =
-    subst (λ k. folded k turns ≡ added (added (added (folded k c.args.turns.now) (arriving c.platoon.result)) (arriving c.platoon-in-Some-Some-Some.result)) (arriving c.platoon-in-Some-Some-Some-2.result))
+    let sum : folded n turns ≡ added (added (added (folded n c.args.turns.now) (arriving c.in-Some-Some-Some.one_sent)) (arriving c.in-Some-Some-Some.two_sent)) (arriving c.in-Some-Some-Some.three_sent) =
+    subst (λ k. folded k turns ≡ added (added (added (folded k c.args.turns.now) (arriving c.in-Some-Some-Some.one_sent)) (arriving c.in-Some-Some-Some.two_sent)) (arriving c.in-Some-Some-Some.three_sent))
     (ap (λ (f : Frame). f.step_count) c.frame-steps.ensures.value) c.disperse_three.ensures.value in
-    let one_brings : arriving c.platoon.result ≡ brought net read c.args.one =
-    sent_brings net read c.args.one c.platoon.result c.in-Some-Some-Some.one_sent c.platoon.ensures.leaving c.platoon.ensures.part
-    c.platoon.ensures.travel
-    (subst (λ r. IfSome r (λ (s : Sent). shared s.part.part s.part.whole s.leaving.now ≡ taken net read c.args.one)) c.in-Some-Some-Some.is-0 c.send_feed-one_sent.ensures.taken)
-    (subst (λ r. IfSome r (λ (s : Sent). s.travel.time ≡ travel_steps c.args.one.cruise net.frame.step_count net.frame.cycle)) c.in-Some-Some-Some.is-0 c.send_feed-one_sent.ensures.time)
-    (subst (λ r. IfSome r (λ (s : Sent). s.travel.percent ≡ net.frame.dispersion)) c.in-Some-Some-Some.is-0 c.send_feed-one_sent.ensures.percent) in
-    let two_brings : arriving c.platoon-in-Some-Some-Some.result ≡ brought net read c.args.two =
-    sent_brings net read c.args.two c.platoon-in-Some-Some-Some.result c.in-Some-Some-Some.two_sent c.platoon-in-Some-Some-Some.ensures.leaving c.platoon-in-Some-Some-Some.ensures.part
-    c.platoon-in-Some-Some-Some.ensures.travel
-    (subst (λ r. IfSome r (λ (s : Sent). shared s.part.part s.part.whole s.leaving.now ≡ taken net read c.args.two)) c.in-Some-Some-Some.is-1 c.send_feed-two_sent.ensures.taken)
-    (subst (λ r. IfSome r (λ (s : Sent). s.travel.time ≡ travel_steps c.args.two.cruise net.frame.step_count net.frame.cycle)) c.in-Some-Some-Some.is-1 c.send_feed-two_sent.ensures.time)
-    (subst (λ r. IfSome r (λ (s : Sent). s.travel.percent ≡ net.frame.dispersion)) c.in-Some-Some-Some.is-1 c.send_feed-two_sent.ensures.percent) in
-    let three_brings : arriving c.platoon-in-Some-Some-Some-2.result ≡ brought net read c.args.three =
-    sent_brings net read c.args.three c.platoon-in-Some-Some-Some-2.result c.in-Some-Some-Some.three_sent c.platoon-in-Some-Some-Some-2.ensures.leaving c.platoon-in-Some-Some-Some-2.ensures.part
-    c.platoon-in-Some-Some-Some-2.ensures.travel
-    (subst (λ r. IfSome r (λ (s : Sent). shared s.part.part s.part.whole s.leaving.now ≡ taken net read c.args.three)) c.in-Some-Some-Some.is-2 c.send_feed-three_sent.ensures.taken)
-    (subst (λ r. IfSome r (λ (s : Sent). s.travel.time ≡ travel_steps c.args.three.cruise net.frame.step_count net.frame.cycle)) c.in-Some-Some-Some.is-2 c.send_feed-three_sent.ensures.time)
-    (subst (λ r. IfSome r (λ (s : Sent). s.travel.percent ≡ net.frame.dispersion)) c.in-Some-Some-Some.is-2 c.send_feed-three_sent.ensures.percent) in
+    let one_brings : arriving c.in-Some-Some-Some.one_sent ≡ brought net read c.args.one =
+    brought_by net read c.args.one (sent c.in-Some-Some-Some.one_sent) (arriving c.in-Some-Some-Some.one_sent) c.in-Some-Some-Some.one_sent.travel.time c.in-Some-Some-Some.one_sent.travel.percent refl
+    (subst (λ r. IfSome r (λ (p : Platoon). sent p ≡ taken net read c.args.one)) c.in-Some-Some-Some.is-0 c.send_feed-one_sent.ensures.taken)
+    (subst (λ r. IfSome r (λ (p : Platoon). p.travel.time ≡ travel_steps c.args.one.cruise net.frame.step_count net.frame.cycle)) c.in-Some-Some-Some.is-0 c.send_feed-one_sent.ensures.time)
+    (subst (λ r. IfSome r (λ (p : Platoon). p.travel.percent ≡ net.frame.dispersion)) c.in-Some-Some-Some.is-0 c.send_feed-one_sent.ensures.percent) in
+    let two_brings : arriving c.in-Some-Some-Some.two_sent ≡ brought net read c.args.two =
+    brought_by net read c.args.two (sent c.in-Some-Some-Some.two_sent) (arriving c.in-Some-Some-Some.two_sent) c.in-Some-Some-Some.two_sent.travel.time c.in-Some-Some-Some.two_sent.travel.percent refl
+    (subst (λ r. IfSome r (λ (p : Platoon). sent p ≡ taken net read c.args.two)) c.in-Some-Some-Some.is-1 c.send_feed-two_sent.ensures.taken)
+    (subst (λ r. IfSome r (λ (p : Platoon). p.travel.time ≡ travel_steps c.args.two.cruise net.frame.step_count net.frame.cycle)) c.in-Some-Some-Some.is-1 c.send_feed-two_sent.ensures.time)
+    (subst (λ r. IfSome r (λ (p : Platoon). p.travel.percent ≡ net.frame.dispersion)) c.in-Some-Some-Some.is-1 c.send_feed-two_sent.ensures.percent) in
+    let three_brings : arriving c.in-Some-Some-Some.three_sent ≡ brought net read c.args.three =
+    brought_by net read c.args.three (sent c.in-Some-Some-Some.three_sent) (arriving c.in-Some-Some-Some.three_sent) c.in-Some-Some-Some.three_sent.travel.time c.in-Some-Some-Some.three_sent.travel.percent refl
+    (subst (λ r. IfSome r (λ (p : Platoon). sent p ≡ taken net read c.args.three)) c.in-Some-Some-Some.is-2 c.send_feed-three_sent.ensures.taken)
+    (subst (λ r. IfSome r (λ (p : Platoon). p.travel.time ≡ travel_steps c.args.three.cruise net.frame.step_count net.frame.cycle)) c.in-Some-Some-Some.is-2 c.send_feed-three_sent.ensures.time)
+    (subst (λ r. IfSome r (λ (p : Platoon). p.travel.percent ≡ net.frame.dispersion)) c.in-Some-Some-Some.is-2 c.send_feed-three_sent.ensures.percent) in
     sum
-    ∙ ap (λ x. added (added (added (folded n c.args.turns.now) x) (arriving c.platoon-in-Some-Some-Some.result)) (arriving c.platoon-in-Some-Some-Some-2.result)) one_brings
-    ∙ ap (λ x. added (added (added (folded n c.args.turns.now) (brought net read c.args.one)) x) (arriving c.platoon-in-Some-Some-Some-2.result)) two_brings
+    ∙ ap (λ x. added (added (added (folded n c.args.turns.now) x) (arriving c.in-Some-Some-Some.two_sent)) (arriving c.in-Some-Some-Some.three_sent)) one_brings
+    ∙ ap (λ x. added (added (added (folded n c.args.turns.now) (brought net read c.args.one)) x) (arriving c.in-Some-Some-Some.three_sent)) two_brings
     ∙ ap (λ x. added (added (added (folded n c.args.turns.now) (brought net read c.args.one)) (brought net read c.args.two)) x) three_brings
 
 -- and together they raise it by less

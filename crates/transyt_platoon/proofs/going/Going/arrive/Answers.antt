@@ -17,7 +17,6 @@ returns-clause-passed c =
       value = second_gone n p i c.args.self.now.value _ is.values_len is.travel c.requires.step c.requires.passed.value
           c.mix_ready-self.ensures.value ∙ ap (gone_by p) next;
       small = c.mix_ready-self.ensures.small;
-      place = c.requires.passed.place;
     }
 
 -- and it is added
@@ -26,10 +25,10 @@ returns-clause-here c =
     let p = c.args.platoon.now in
     let is = c.requires.ready in
     let n : ℕ = c.args.step_count in
-    let place : ℕ = c.args.self.now.place + c.args.step in
+    let place : ℕ = c.args.platoon.now.travel.place + c.args.step in
     let some : 0 < n = omega (arith, c.requires.step) in
     let inside : place < length c.args.turns.now =
-    omega (arith, c.requires.passed.place, mod-lt p.travel.now.time some, c.requires.step, c.requires.turns_len) in
+    omega (arith, is.travel.place, mod-lt p.travel.time some, c.requires.step, c.requires.turns_len) in
     let gone =
     second_gone n p c.args.step c.args.self.now.value _ is.values_len is.travel c.requires.step c.requires.passed.value
     c.mix_ready-self.ensures.value in

@@ -2,10 +2,8 @@
 use Rattle.transyt_platoon.proofs.Turns.{mean_gone}
 use Rattle.transyt_platoon.proofs.going.Going.begin.Goals as goal
 
--- the first step leads as far as the travel
 pub returns : goal.returns
 returns c = record {
   value = mean_gone c.args.platoon.now _ c.mean_of.ensures.value;
   small = c.mean_of.ensures.small;
-  place = c.requires.ready.travel.place;
 }

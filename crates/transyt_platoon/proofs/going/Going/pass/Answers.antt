@@ -2,7 +2,6 @@
 use Rattle.transyt_platoon.proofs.Turns.{first_gone}
 use Rattle.transyt_platoon.proofs.going.Going.pass.Goals as goal
 
--- the place stays where it was
 pub returns : goal.returns
 returns c =
     let is = c.requires.ready in
@@ -10,5 +9,4 @@ returns c =
       value = first_gone c.args.step_count c.args.platoon.now c.args.step c.args.self.now.value _ is.values_len is.travel
           c.requires.step c.requires.passed.value c.mix_ready-self.ensures.value;
       small = c.mix_ready-self.ensures.small;
-      place = c.requires.passed.place;
     }
