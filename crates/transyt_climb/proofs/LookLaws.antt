@@ -5,8 +5,8 @@ use Rattle.transyt_moves.specs.Moves.{move, move_count}
 use Rattle.transyt_net.specs.EditFaults.{edit_fault}
 use Rattle.transyt_sweep.specs.Sweeps.{index}
 use Rattle.transyt_sweep.specs.Climb.{lowers, moved, is_below, index_with, tried_at}
-use Rattle.transyt_session.specs.Session.{SessionValue, lowered, lower_index}
-use Rattle.transyt_climb.specs.Turns.{looked_at, found_at}
+use Rattle.transyt_session.specs.Session.{SessionValue, edit_lowers}
+use Rattle.transyt_climb.specs.Turns.{looked_at}
 use Rattle.transyt_climb.proofs.CountLaws.{count_moved}
 
 -- what it means that the move at a place lowers the index
@@ -15,19 +15,10 @@ pub lowers_is : (net : Network) (place : ℕ)
 unfolding lowers tried_at
 lowers_is net place = refl
 
--- a look at the move at a place is a look at a place
-pub looked_is : (s : SessionValue) (place : ℕ) → lowered (move s.net place) s ≡ looked_at place s
-unfolding lowers tried_at moved
-looked_is s place = refl
-
--- and it finds the same
-pub found_is : (net : Network) (place : ℕ) → lower_index net (move net place) ≡ found_at net place
-unfolding lowers tried_at moved
-found_is net place = refl
-
 -- a look keeps the number of moves
 pub count_looked : (place : ℕ) (s : SessionValue) → move_count (looked_at place s).net ≡ move_count s.net
-count_looked place s = by (lowers s.net place)
+unfolding moved
+count_looked place s = by (edit_lowers s.net (move s.net place))
   where
     by : (b : Bool) → move_count (if b then moved s.net place else s.net) ≡ move_count s.net
     by true = count_moved s.net place

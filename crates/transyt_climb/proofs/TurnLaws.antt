@@ -6,7 +6,7 @@ use Rattle.std.proofs.lemmas.Bool.Decides.{nat_tests}
 use Rattle.transyt_net.specs.Parts.{Network}
 use Rattle.transyt_sweep.specs.Sweeps.{index}
 use Rattle.transyt_moves.specs.Moves.{move, move_count}
-use Rattle.transyt_sweep.specs.Climb.{Climb, Look, Step, moved, lowers, climb, step_at}
+use Rattle.transyt_sweep.specs.Climb.{Climb, Look, Step, moved, lowers, tried_at, climb, step_at}
 use Rattle.transyt_sweep.proofs.ClimbLaws.{climb_is}
 use Rattle.transyt_session.specs.Session.{SessionValue}
 use Rattle.transyt_track.specs.Work.{work_of}
@@ -46,6 +46,7 @@ goes Budget m = over false m.session.net
 after_took : (m : Machine) → IsReady m → lowers m.session.net m.counters.place ≡ true
     → climb (moved m.session.net m.counters.place) m.counters.place (m.counters.budget - (m.counters.looked + 1))
     ≡ rest (after_look true m)
+unfolding lowers tried_at moved
 after_took m ready lower =
     let count : move_count (moved m.session.net m.counters.place) ≡ m.counters.count =
     count_moved m.session.net m.counters.place ∙ sym ready.count in
@@ -61,6 +62,7 @@ after_passed : (m : Machine) → IsReady m → lowers m.session.net m.counters.p
     → onward m.session.net ((m.counters.place + 1) % move_count m.session.net) (m.counters.count - (m.counters.since + 1))
     (m.counters.budget - (m.counters.looked + 1))
     ≡ rest (after_look false m)
+unfolding lowers tried_at moved
 after_passed m ready higher =
     ap (λ n. onward m.session.net ((m.counters.place + 1) % n) (m.counters.count - (m.counters.since + 1))
     (m.counters.budget - (m.counters.looked + 1))) (sym ready.count)

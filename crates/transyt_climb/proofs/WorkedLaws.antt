@@ -82,7 +82,7 @@ session_of net work = record { net = net; before = None; work = work }
 
 -- the session after it
 pub session_first : looked_at 0 three_session ≡ stepped_session
-unfolding move moved
+unfolding lowers tried_at move moved
 session_first =
     ap (λ (b : Bool). session_of (if b then after_move else three_junctions) (5 + due three_junctions after_move)) lowers_first
     ∙ ap (λ work. session_of after_move (5 + work)) work_of_first
@@ -102,7 +102,7 @@ stepped = ap (λ a. after_answer a (machine before_step three_session)) took ∙
 
 -- the index that a look there finds
 pub found : found_at three_junctions 0 ≡ Some 554272112
-unfolding move moved
+unfolding lowers tried_at move moved
 found =
     ap (λ (b : Bool). if b then Some (index after_move) else None) lowers_first
     ∙ ap Some index_after

@@ -6,7 +6,7 @@ use Rattle.transyt_net.specs.Parts.{Network}
 use Rattle.transyt_moves.specs.Moves.{move, move_count}
 use Rattle.transyt_sweep.specs.Sweeps.{index}
 use Rattle.transyt_sweep.specs.Climb.{lowers, moved, Step}
-use Rattle.transyt_session.specs.Session.{SessionValue, credited}
+use Rattle.transyt_session.specs.Session.{SessionValue, credited, lowered, lower_index}
 use Rattle.transyt_track.specs.Work.{edit_work}
 use Rattle.transyt_climb.specs.declared.turn.Turn.{Turn}
 use Rattle.transyt_climb.specs.declared.turn.Turn.TheVariants.{Took, Passed, Local, Budget}
@@ -58,17 +58,13 @@ noted took c = record {
   count = c.count;
 }
 
--- the session after a look at a place: a lowering move is made, and the work of an allowed one is added
+-- the session after a look at a place: after a look at the move there
 abbrev pub looked_at : ℕ → SessionValue → SessionValue
-looked_at place s = record {
-  net = if lowers s.net place then moved s.net place else s.net;
-  before = None;
-  work = s.work + edit_work s.net (move s.net place);
-}
+looked_at place s = lowered (move s.net place) s
 
 -- the index that a look at a place finds, where the move there lowers it
 abbrev pub found_at : Network → ℕ → Option ℕ
-found_at net place = if lowers net place then Some (index (moved net place)) else None
+found_at net place = lower_index net (move net place)
 
 -- what a look at a place answers
 abbrev pub look_answer : Network → ℕ → Turn

@@ -6,7 +6,7 @@ use Rattle.std.proofs.lemmas.List.{take-map, drop-map, map-append, get_or-take, 
 use Rattle.std.proofs.lemmas.List.{get_or_append_left, get_or-append_right}
 use Rattle.transyt_net.specs.Parts.{Network}
 use Rattle.transyt_net.specs.Shape.{SameShape, shape as shape_word}
-use Rattle.transyt_sweep.specs.Climb.{lowers, moved}
+use Rattle.transyt_sweep.specs.Climb.{lowers, moved, tried_at}
 use Rattle.transyt_session.specs.Session.{SessionValue}
 use Rattle.transyt_climb.specs.declared.turn.Turn.{Turn}
 use Rattle.transyt_climb.specs.declared.turn.Turn.TheVariants.{Took, Passed, Local, Budget}
@@ -23,6 +23,7 @@ shape_looked net place true = shape_moved net place
 shape_looked net place false = refl
 
 shape_answered : (a : Turn) (m : Machine) → SameShape (after_answer a m).session.net m.session.net
+unfolding lowers tried_at moved
 shape_answered (Took place edit index) m =
     shape_looked m.session.net m.counters.place (lowers m.session.net m.counters.place)
 shape_answered Passed m = shape_looked m.session.net m.counters.place (lowers m.session.net m.counters.place)

@@ -9,7 +9,7 @@ use Rattle.transyt_net.specs.EditFaults.{edit_fault}
 use Rattle.transyt_net.specs.Edits.{with_edit}
 use Rattle.transyt_moves.specs.Moves.{move}
 use Rattle.transyt_sweep.specs.Sweeps.{index}
-use Rattle.transyt_sweep.specs.Climb.{lowers, moved, is_below, index_with}
+use Rattle.transyt_sweep.specs.Climb.{lowers, moved, is_below, index_with, tried_at}
 use Rattle.transyt_track.specs.Work.{edit_work, work_with}
 use Rattle.transyt_session.specs.declared.answers.Tried.TheVariants.{Barred, Index}
 use Rattle.transyt_session.specs.Session.{SessionValue, try_of, tried_with}
@@ -100,6 +100,7 @@ pub turned_passed : (m : Machine) → answer_of m ≡ Passed → lowers m.sessio
       before = None;
       work = m.session.work + edit_work m.session.net (move m.session.net m.counters.place);
     })
+unfolding lowers tried_at moved
 turned_passed m is higher =
     ap (λ a. after_answer a m) is
     ∙ ap (λ b. machine (noted false m.counters) (record {
@@ -116,6 +117,7 @@ pub turned_took : (m : Machine) (place found : ℕ) (e : Edit) → answer_of m �
       before = None;
       work = m.session.work + edit_work m.session.net (move m.session.net m.counters.place);
     })
+unfolding lowers tried_at moved
 turned_took m place found e is lower =
     ap (λ a. after_answer a m) is
     ∙ ap (λ b. machine (noted true m.counters) (record {
