@@ -129,20 +129,28 @@ ready_platoon = record {
   travel = short_travel;
 }
 
--- its products stand in the third lane
+-- the values that set out
+abbrev pub ready_values : List ℕ
+ready_values = 1048575 ∷ 17 ∷ 400009 ∷ []
+
+-- and those that arrive
+abbrev pub ready_arrivals : List ℕ
+ready_arrivals = 480954 ∷ 473049 ∷ 533004 ∷ []
+
+-- its products stand in the third lane; past its three steps all lanes have other values
 abbrev pub ready_lanes : List ℕ
 ready_lanes =
-    5 ∷ 7 ∷ 112589883310080000 ∷ 11 ∷ 13 ∷ 19 ∷ 1825361100800 ∷ 23 ∷ 29 ∷ 31 ∷ 42950639327641600 ∷ 37 ∷ []
+    5 ∷ 7 ∷ 112589883310080000 ∷ 11 ∷ 13 ∷ 19 ∷ 1825361100800 ∷ 23 ∷ 29 ∷ 31 ∷ 42950639327641600 ∷ 37 ∷ 41 ∷ 43 ∷ 47 ∷ []
 
 -- with the last product one more
 abbrev pub wrong_lanes : List ℕ
 wrong_lanes =
-    5 ∷ 7 ∷ 112589883310080000 ∷ 11 ∷ 13 ∷ 19 ∷ 1825361100800 ∷ 23 ∷ 29 ∷ 31 ∷ 42950639327641601 ∷ 37 ∷ []
+    5 ∷ 7 ∷ 112589883310080000 ∷ 11 ∷ 13 ∷ 19 ∷ 1825361100800 ∷ 23 ∷ 29 ∷ 31 ∷ 42950639327641601 ∷ 37 ∷ 41 ∷ 43 ∷ 47 ∷ []
 
 -- with the first product that of a value at the limit
 abbrev pub limit_lanes : List ℕ
 limit_lanes =
-    5 ∷ 7 ∷ 112589990684262400 ∷ 11 ∷ 13 ∷ 19 ∷ 1825361100800 ∷ 23 ∷ 29 ∷ 31 ∷ 42950639327641600 ∷ 37 ∷ []
+    5 ∷ 7 ∷ 112589990684262400 ∷ 11 ∷ 13 ∷ 19 ∷ 1825361100800 ∷ 23 ∷ 29 ∷ 31 ∷ 42950639327641600 ∷ 37 ∷ 41 ∷ 43 ∷ 47 ∷ []
 
 -- and with it
 abbrev pub limit_platoon : Platoon

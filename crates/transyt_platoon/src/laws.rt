@@ -3,15 +3,17 @@
 ghost use Rattle.std.specs.Prelude.{◌≡◌, All, map};
 ghost use Rattle.transyt_platoon.specs.Going.{HasPassed};
 ghost use Rattle.transyt_platoon.specs.Platoon.{dispersed, mixed, travel_steps};
-ghost use Rattle.transyt_platoon.specs.Travels.{IsReady, IsTravel};
+ghost use Rattle.transyt_platoon.specs.Travels.{IsReady, IsTravel, arriving, sent};
 ghost use Rattle.transyt_platoon.specs.WorkedGoing.{limited, passed, passed_again, wrong_passed};
 ghost use Rattle.transyt_platoon.specs.WorkedPlatoons.{uneven, worked_mixes, worked_platoons, worked_travels};
 ghost use Rattle.transyt_platoon.specs.WorkedReady.{
   limit_lanes,
   limit_platoon,
+  ready_arrivals,
   ready_lanes,
   ready_platoon,
   ready_travels,
+  ready_values,
   wrong_lanes,
   wrong_ready,
   wrong_travels,
@@ -38,10 +40,12 @@ pub fn worked_ready()
     ensures not_limit { IsReady 3 2 limit_lanes limit_platoon → ⊥ }
 {}
 
-/// A worked platoon that is part of the way through each turn keeps to what is said of it, and such as has one wrong
-/// number doesn't.
+/// A worked platoon sets out and arrives as it is written, and part of the way through each turn it keeps to what is said
+/// of it; such as has one wrong number doesn't.
 #[tactic(auto, unfolding(crate::specs::Platoon::smoothed))]
 pub fn worked_going()
+    ensures sent { sent ready_platoon ≡ ready_values }
+    ensures arriving { arriving ready_platoon ≡ ready_arrivals }
     ensures passed { HasPassed ready_platoon 2 passed }
     ensures wrong_passed { All (λ g. HasPassed ready_platoon 2 g → ⊥) wrong_passed }
     ensures limit_passed { HasPassed (limited 485562) 2 passed → ⊥ }

@@ -26,7 +26,7 @@ const SAVED: usize = ROWS + (SWEEPS + 1) * LINKS * size_of::<bool>();
 // the places of each link's node, feeders and rule
 const PLACES: usize = LINKS * (size_of::<Places>() + FEEDS * size_of::<usize>());
 // two flags for each link, the room for one link's work, and what was worked out last of each feed's numbers
-const ROOM: usize = 2 * LINKS * size_of::<bool>() + 17 * PROFILE + LINKS * FACTOR_BYTES;
+const ROOM: usize = 2 * LINKS * size_of::<bool>() + 13 * PROFILE + LINKS * FACTOR_BYTES;
 
 /// The most bytes that a tracker takes beside its two networks, at the limits of a network: 1,000 links of eight feeds,
 /// 120 steps and eight sweeps. It is below 25 million.
