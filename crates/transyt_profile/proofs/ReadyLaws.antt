@@ -1,6 +1,9 @@
 -- What is made ready in a lane, one step more, and what all of it comes to.
-use Rattle.std.proofs.Common.{◌≡◌, ◌≢◌, ℕ, ◌+◌, ◌*◌, ◌^◌, ◌<◌, ◌≤◌, List, length, get_or, set, map, sum, sum_by, take}
-use Rattle.std.proofs.Common.{All, ap, sym, ◌∙◌, arith, get_or-set_same, get_or-set_other, below_more}
+use Rattle.std.proofs.Common.{◌≡◌, ◌≢◌, ℕ, ◌+◌, ◌*◌, ◌^◌, ◌<◌, ◌≤◌, List, length, get_or, set, sum, sum_by, take}
+use Rattle.std.proofs.Common.{All, ap, max, sym, ◌∙◌, arith, get_or-set_same, get_or-set_other, below_more}
+use Rattle.std.specs.List.{Any}
+use Rattle.std.proofs.Math.Logic.{⊎_elim}
+use Rattle.std.proofs.lemmas.Bool.{cases_lt}
 use Rattle.std.proofs.lemmas.List.{get_or_default, take_all, get_or-map, length-map}
 use Rattle.std.proofs.lemmas.List.Sums.{sum-map}
 use Rattle.transyt_profile.specs.Profile.{share_of, shared}
@@ -53,3 +56,35 @@ pub sum_shared : (part whole n : ℕ) (xs : List ℕ) → length xs ≤ n
     → sum_by (share_of part whole) (take n xs) ≡ sum (shared part whole xs)
 sum_shared part whole n xs all =
     ap (sum_by (share_of part whole)) (take_all n xs all) ∙ sym (sum-map (share_of part whole) xs)
+
+-- some of the first n shares comes to b, where b is more than 0
+abbrev pub Reached : (ℕ → ℕ) → ℕ → ℕ → Type 0
+Reached share n b = 0 < b → (k : ℕ) × (k < n) × (b ≤ share k)
+
+-- so with one share more does the greater of b and that one
+pub reached_more : (share : ℕ → ℕ) (n b r most : ℕ) → most ≡ max b r → r ≡ share n → Reached share n b
+    → Reached share (n + 1) most
+reached_more share n b r most greater here before some =
+    ⊎_elim
+    (λ (less : r < b).
+    let found = before (omega (arith, less)) in
+    (found.0, omega (arith, found.1), omega (arith, less, greater, found.2)))
+    (λ (least : b ≤ r). (n, omega arith, omega (arith, least, greater, here)))
+    (cases_lt r b)
+
+-- a value of the part that goes on comes to what is at most the greatest of all shares
+pub any_shared : (part whole n most limit : ℕ) (xs : List ℕ) → 0 < length xs → n ≤ length xs
+    → Reached (share_at part whole xs) n most → limit ≤ most → Any (λ v. limit ≤ v) (shared part whole xs)
+any_shared part whole n most limit xs some all reached within =
+    let at : (k : ℕ) → k < length xs → limit ≤ share_at part whole xs k → Any (λ v. limit ≤ v) (shared part whole xs) =
+    λ k below comes. (
+      k,
+      share_at part whole xs k,
+      omega (arith, below, length-map xs (share_of part whole)),
+      get_or-map (share_of part whole) xs k 0 (share_at part whole xs k) below,
+      comes,
+    ) in
+    ⊎_elim
+    (λ (more : 0 < most). let found = reached more in at found.0 (omega (arith, found.1, all)) (omega (arith, found.2, within)))
+    (λ (none : most ≤ 0). at 0 some (omega (arith, none, within)))
+    (cases_lt 0 most)

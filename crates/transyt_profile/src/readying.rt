@@ -1,13 +1,14 @@
 //! The part of a profile that goes on to one link, made ready for its travel.
 
-ghost use Rattle.std.specs.Prelude.{◌≡◌, ℕ, ◌+◌, ◌*◌, ◌^◌, ◌<◌, ◌≤◌, length, slice_index, sum, All, IfSome};
+ghost use Rattle.std.specs.Prelude.{◌≡◌, ℕ, ◌+◌, ◌*◌, ◌^◌, ◌<◌, ◌≤◌, bit_or, fold, length, slice_index, sum, All, Any};
+ghost use Rattle.std.specs.Prelude.{IfNone, IfSome};
 ghost use Rattle.transyt_profile.specs.Parts.{IsPart, IsQuick};
 ghost use Rattle.transyt_profile.specs.Profile.{share_of, shared};
 
 use crate::sharing::{Part, product, share_step};
 
 /// Writes the part of a profile that goes on, each share times `factor`, beside three others, and returns the sum of
-/// its shares, where all of them are below `limit`; none where one may not be.
+/// its shares, where all of them are below `limit`; none where one is not.
 ///
 /// `x` has one value for each step of the cycle and `lanes` four: each product is written at place `lane` of the four
 /// of its step. What stood there is overwritten, and the other lanes stay. It takes least time where all bits of the
@@ -31,6 +32,8 @@ pub fn share_ready(
     ensures ready { IfSome result (λ _. (k : ℕ) → k < length x.now → slice_index lanes.new (4 * k + lane)
         ≡ share_of part.now.part part.now.whole (slice_index x.now k) * factor) }
     ensures total { IfSome result (λ total. total ≡ sum (shared part.now.part part.now.whole x.now)) }
+    ensures none { IfNone result (0 < length x.now
+        → Any (λ v. limit ≤ v) (shared part.now.part part.now.whole x.now)) }
     ensures others { (k : ℕ) → (m : ℕ) → m < 4 → (m ≡ lane → ⊥)
         → slice_index lanes.new (4 * k + m) ≡ slice_index lanes.old (4 * k + m) }
 {
@@ -44,7 +47,8 @@ pub fn share_ready(
 }
 
 /// What `share_ready` does with one product and no division a step, where all bits of the shares together are below
-/// `limit`: then each share is. Nothing is tested at a step, so that no step waits for the one before.
+/// `limit`: then each share is. None where they are not. Nothing is tested at a step, so that no step waits for the one
+/// before.
 fn share_below(
     x: &[u64],
     part: &Part,
@@ -64,6 +68,8 @@ fn share_below(
     ensures ready { IfSome result (λ _. (k : ℕ) → k < length x.now → slice_index lanes.new (4 * k + lane)
         ≡ share_of part.now.part part.now.whole (slice_index x.now k) * factor) }
     ensures total { IfSome result (λ total. total ≡ sum (shared part.now.part part.now.whole x.now)) }
+    ensures none { IfNone result
+        (limit ≤ fold (λ bits v. bit_or bits (share_of part.now.part part.now.whole v)) 0 x.now) }
     ensures others { (k : ℕ) → (m : ℕ) → m < 4 → (m ≡ lane → ⊥)
         → slice_index lanes.new (4 * k + m) ≡ slice_index lanes.old (4 * k + m) }
 {
@@ -99,6 +105,8 @@ fn share_any(
     ensures ready { IfSome result (λ _. (k : ℕ) → k < length x.now → slice_index lanes.new (4 * k + lane)
         ≡ share_of part.now.part part.now.whole (slice_index x.now k) * factor) }
     ensures total { IfSome result (λ total. total ≡ sum (shared part.now.part part.now.whole x.now)) }
+    ensures none { IfNone result (0 < length x.now
+        → Any (λ v. limit ≤ v) (shared part.now.part part.now.whole x.now)) }
     ensures others { (k : ℕ) → (m : ℕ) → m < 4 → (m ≡ lane → ⊥)
         → slice_index lanes.new (4 * k + m) ≡ slice_index lanes.old (4 * k + m) }
 {

@@ -1,5 +1,5 @@
 -- Two turns to whose first a profile is added, folded.
-use Rattle.std.proofs.Common.{◌≡◌, ℕ, ◌+◌, ◌-◌, ◌^◌, ◌<◌, length, get_or, sym, arith}
+use Rattle.std.proofs.Common.{ℕ, ◌+◌, ◌-◌, ◌^◌, length, sym, arith}
 use Rattle.transyt_profile.specs.Profile.{folded}
 use Rattle.transyt_profile.proofs.AddedLaws.{length-folded, get_or-folded, is_folded_added, added_grows, folded_first}
 use Rattle.transyt_profile.proofs.adding.add_to_first.Goals as goal

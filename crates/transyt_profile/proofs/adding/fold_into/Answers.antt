@@ -1,5 +1,5 @@
 -- Two turns are folded.
-use Rattle.std.proofs.Common.{◌≡◌, ◌+◌, ◌^◌, ◌<◌, length, ap, ◌∙◌, arith}
+use Rattle.std.proofs.Common.{◌≡◌, ◌^◌, length, ap, ◌∙◌, arith}
 use Rattle.std.proofs.lemmas.List.FromFn.{fill_by_all}
 use Rattle.transyt_profile.specs.Profile.{folded_at}
 use Rattle.transyt_profile.proofs.AddedLaws.{folded_first}

@@ -1,5 +1,5 @@
 -- Two turns are started.
-use Rattle.std.proofs.Common.{◌≡◌, ℕ, ◌+◌, ◌<◌, List, length, get_or, replicate, sym, ◌∙◌, arith}
+use Rattle.std.proofs.Common.{ℕ, ◌<◌, List, replicate, sym, ◌∙◌, arith}
 use Rattle.std.proofs.lemmas.List.{ext_get_or, length-replicate, get_or-replicate}
 use Rattle.transyt_profile.specs.Profile.{folded}
 use Rattle.transyt_profile.proofs.AddedLaws.{length-folded, get_or-folded}

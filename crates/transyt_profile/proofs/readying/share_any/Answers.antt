@@ -1,14 +1,16 @@
 -- One step more, and what all of them come to.
-use Rattle.std.proofs.Common.{rules, ◌≡◌, ℕ, ◌+◌, ◌*◌, ◌^◌, ◌<◌, ◌≤◌, ◌∙◌, ap, sum_by, arith}
+use Rattle.std.proofs.Common.{rules, ◌*◌, ◌∙◌, ap, arith}
 use Rattle.std.proofs.lemmas.List.Sums.{sum_by_more}
 use Rattle.transyt_profile.specs.Profile.{share_of}
-use Rattle.transyt_profile.proofs.ReadyLaws.{share_at, lane_more, others_more, all_shared, sum_shared}
+use Rattle.transyt_profile.proofs.ReadyLaws.{share_at, lane_more, others_more, reached_more, all_shared, any_shared, sum_shared}
 use Rattle.transyt_profile.proofs.readying.share_any.Goals as goal
 
 -- one step more
 pub loop-i-preserved : goal.loop-i-preserved
 loop-i-preserved c = record {
   most = search rules;
+  reached = reached_more (share_at c.args.part.now.part c.args.part.now.whole c.args.x.now) c.loop-i.i c.loop-i.greatest
+      c.share_step-share.result c.max-greatest.result (omega arith) c.share_step-share.ensures.value c.loop-i.invariant.reached;
   greatest = search rules;
   ready = lane_more c.loop-i.lanes (share_at c.args.part.now.part c.args.part.now.whole c.args.x.now) c.args.factor c.args.lane c.loop-i.i
       c.times.result (omega (arith, c.requires.lanes_len, c.requires.lane)) c.loop-i.invariant.ready
@@ -35,3 +37,9 @@ returns-then-greatest-limit-clause-ready c = λ k below.
 -- the sum over all steps
 pub returns-then-greatest-limit-clause-total : goal.returns-then-greatest-limit-clause-total
 returns-then-greatest-limit-clause-total c = c.loop-i.invariant.so_far ∙ sum_shared c.args.part.now.part c.args.part.now.whole c.loop-i.i c.args.x.now (omega arith)
+
+-- where the greatest is not below the limit, a share is not
+pub returns-else-greatest-limit-clause-none : goal.returns-else-greatest-limit-clause-none
+returns-else-greatest-limit-clause-none c = λ some.
+    any_shared c.args.part.now.part c.args.part.now.whole c.loop-i.i c.loop-i.greatest c.args.limit c.args.x.now some
+    (omega arith) c.loop-i.invariant.reached (omega arith)

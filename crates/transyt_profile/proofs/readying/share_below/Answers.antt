@@ -1,6 +1,7 @@
 -- One step more, and what all of them come to.
-use Rattle.std.proofs.Common.{bit_or, below_more, ◌≡◌, ℕ, ◌+◌, ◌*◌, ◌^◌, ◌<◌, ◌≤◌, ◌∙◌, ap, sum_by, arith}
-use Rattle.std.proofs.lemmas.List.Sums.{sum_by_more}
+use Rattle.std.proofs.Common.{bit_or, fold, below_more, sym, ◌≡◌, ◌*◌, ◌∙◌, ap, take, arith}
+use Rattle.std.proofs.lemmas.List.Sums.{fold_more, sum_by_more}
+use Rattle.std.proofs.lemmas.List.{take_all}
 use Rattle.std.proofs.lemmas.Nat.{le_or_l, le_or_r}
 use Rattle.transyt_profile.specs.Profile.{share_of}
 use Rattle.transyt_profile.proofs.ReadyLaws.{share_at, lane_more, others_more, all_shared, sum_shared}
@@ -12,6 +13,12 @@ loop-i-preserved c = record {
   most = below_more _ _
       (λ k below. omega (arith, c.loop-i.invariant.most k below, le_or_l c.loop-i.bits c.product-share.result))
       (omega (arith, c.product-share.ensures.value, le_or_r c.loop-i.bits c.product-share.result));
+  bits =
+      ap (λ b. bit_or b c.product-share.result) c.loop-i.invariant.bits
+      ∙ ap (bit_or (fold (λ bits v. bit_or bits (share_of c.args.part.now.part c.args.part.now.whole v)) 0 (take c.loop-i.i c.args.x.now)))
+      c.product-share.ensures.value
+      ∙ sym (fold_more (λ bits v. bit_or bits (share_of c.args.part.now.part c.args.part.now.whole v)) 0 c.args.x.now
+      c.loop-i.i 0 (omega arith));
   ready = lane_more c.loop-i.lanes (share_at c.args.part.now.part c.args.part.now.whole c.args.x.now) c.args.factor c.args.lane c.loop-i.i
       c.times.result (omega (arith, c.requires.lanes_len, c.requires.lane)) c.loop-i.invariant.ready
       (λ small. c.times.ensures (omega (arith, small, c.product-share.ensures.value)) ∙ ap (λ v. v * c.args.factor) c.product-share.ensures.value);
@@ -37,3 +44,11 @@ returns-then-bits-limit-clause-ready c = λ k below.
 -- the sum over all steps
 pub returns-then-bits-limit-clause-total : goal.returns-then-bits-limit-clause-total
 returns-then-bits-limit-clause-total c = c.loop-i.invariant.so_far ∙ sum_shared c.args.part.now.part c.args.part.now.whole c.loop-i.i c.args.x.now (omega arith)
+
+-- all bits together are those of all shares
+pub returns-else-bits-limit-clause-none : goal.returns-else-bits-limit-clause-none
+returns-else-bits-limit-clause-none c =
+    let all : c.loop-i.bits ≡ fold (λ bits v. bit_or bits (share_of c.args.part.now.part c.args.part.now.whole v)) 0 c.args.x.now =
+    c.loop-i.invariant.bits
+    ∙ ap (fold (λ bits v. bit_or bits (share_of c.args.part.now.part c.args.part.now.whole v)) 0)
+    (take_all c.loop-i.i c.args.x.now (omega arith)) in omega (arith, all)
