@@ -118,16 +118,16 @@ brings n p m = gone_by p (n + 1 + m)
 
 -- what of a platoon has arrived at place j of two turns after i steps of its second turn
 abbrev pub arrived : ℕ → Platoon → ℕ → ℕ → ℕ
-arrived n p i j = arrived_by (brings n p) (p.travel.time % n) i j
+arrived n p i j = arrived_by (brings n p) (p.travel.now.time % n) i j
 
 -- with the whole turn past, it is what arrives
 pub arriving_at : (p : Platoon) (n i k : ℕ) → length (sent p) ≡ n → i ≡ n → k < n
     → get_or (arriving p) k 0 ≡ arrived n p i k + arrived n p i (n + k)
 arriving_at p n i k same end inside =
-    let t : ℕ = p.travel.time in
+    let t : ℕ = p.travel.now.time in
     let xs : List ℕ = sent p in
     let below : k < length xs = omega (arith, same, inside) in
-    get_or-map-range_with_len (dispersed_at xs t p.travel.percent) 0 (length xs) k k 0 below (omega arith)
+    get_or-map-range_with_len (dispersed_at xs t p.travel.now.percent) 0 (length xs) k k 0 below (omega arith)
     ∙ sym (arrived_whole (brings (length xs) p) (length xs) t k below)
     ∙ ap (λ m. arrived m p m k + arrived m p m (m + k)) same
     ∙ ap (λ m. arrived n p m k + arrived n p m (n + k)) (sym end)
@@ -135,12 +135,12 @@ arriving_at p n i k same end inside =
 -- as many steps arrive as set out
 length-arriving : (p : Platoon) → length (arriving p) ≡ length (sent p)
 length-arriving p =
-    length-map-range_with_len (dispersed_at (sent p) p.travel.time p.travel.percent) 0 (length (sent p))
+    length-map-range_with_len (dispersed_at (sent p) p.travel.now.time p.travel.now.percent) 0 (length (sent p))
 
 -- and none is past the bound of those that set out
 arriving_small : (p : Platoon) (b : ℕ) → 0 < length (sent p) → All (λ v. v < b) (sent p) → All (λ v. v < b) (arriving p)
 arriving_small p b some fit k d h =
-    let t : ℕ = p.travel.time in
+    let t : ℕ = p.travel.now.time in
     let xs : List ℕ = sent p in
     let below : k < length xs = omega (arith, h, length-arriving p) in
     let first : get_or xs 0 0 < b = fit 0 0 some in
@@ -148,8 +148,8 @@ arriving_small p b some fit k d h =
     omega (
       arith,
       get_or_default (arriving p) k d 0 h,
-      get_or-map-range_with_len (dispersed_at xs t p.travel.percent) 0 (length xs) k k 0 below (omega arith),
-      smoothed-le xs (p.travel.percent * t) (length xs + 1 + minus_mod (length xs) k t) (b - 1) some most,
+      get_or-map-range_with_len (dispersed_at xs t p.travel.now.percent) 0 (length xs) k k 0 below (omega arith),
+      smoothed-le xs (p.travel.now.percent * t) (length xs + 1 + minus_mod (length xs) k t) (b - 1) some most,
       first,
     )
 

@@ -9,25 +9,25 @@ use Rattle.transyt_platoon.proofs.Mixing.{smoothed_none, first_more, second_more
 
 -- the mean is what goes by before the first step
 pub mean_gone : (p : Platoon) (r : ℕ) → r ≡ sum (sent p) / length (sent p) → r ≡ gone_by p 0
-mean_gone p r mean = mean ∙ sym (smoothed_none (sent p) (p.travel.percent * p.travel.time))
+mean_gone p r mean = mean ∙ sym (smoothed_none (sent p) (p.travel.now.percent * p.travel.now.time))
 
 -- what step i mixes with the travel's weight
-weighed : (n : ℕ) (p : Platoon) (x z r : ℕ) → IsTravel n p.travel → r ≡ mixed p.travel.weight x z
-    → r ≡ mixed (p.travel.percent * p.travel.time) x z
+weighed : (n : ℕ) (p : Platoon) (x z r : ℕ) → IsTravel n p.travel.now → r ≡ mixed p.travel.now.weight x z
+    → r ≡ mixed (p.travel.now.percent * p.travel.now.time) x z
 weighed n p x z r is mix = mix ∙ ap (λ w. mixed w x z) is.weight
 
 -- one step of the first turn
-pub first_gone : (n : ℕ) (p : Platoon) (i z r : ℕ) → length (sent p) ≡ n → IsTravel n p.travel → i < n
-    → z ≡ gone_by p i → r ≡ mixed p.travel.weight (get_or (sent p) i 0) z → r ≡ gone_by p (i + 1)
+pub first_gone : (n : ℕ) (p : Platoon) (i z r : ℕ) → length (sent p) ≡ n → IsTravel n p.travel.now → i < n
+    → z ≡ gone_by p i → r ≡ mixed p.travel.now.weight (get_or (sent p) i 0) z → r ≡ gone_by p (i + 1)
 first_gone n p i z r same is below before mix =
-    first_more (sent p) (p.travel.percent * p.travel.time) i z r (omega (arith, below, same)) before
+    first_more (sent p) (p.travel.now.percent * p.travel.now.time) i z r (omega (arith, below, same)) before
     (weighed n p (get_or (sent p) i 0) z r is mix)
 
 -- one step of the second turn
-pub second_gone : (n : ℕ) (p : Platoon) (i z r : ℕ) → length (sent p) ≡ n → IsTravel n p.travel → i < n
-    → z ≡ gone_by p (n + i) → r ≡ mixed p.travel.weight (get_or (sent p) i 0) z → r ≡ gone_by p (n + 1 + i)
+pub second_gone : (n : ℕ) (p : Platoon) (i z r : ℕ) → length (sent p) ≡ n → IsTravel n p.travel.now → i < n
+    → z ≡ gone_by p (n + i) → r ≡ mixed p.travel.now.weight (get_or (sent p) i 0) z → r ≡ gone_by p (n + 1 + i)
 second_gone n p i z r same is below before mix =
-    second_more (sent p) (p.travel.percent * p.travel.time) i z r (omega (arith, below, same))
+    second_more (sent p) (p.travel.now.percent * p.travel.now.time) i z r (omega (arith, below, same))
     (before ∙ ap (λ k. gone_by p (k + i)) (sym same))
     (weighed n p (get_or (sent p) i 0) z r is mix)
     ∙ ap (λ k. gone_by p (k + 1 + i)) same

@@ -7,9 +7,9 @@ use Rattle.transyt_platoon.specs.declared.going.Going.{Going}
 
 -- the smoothed profile of a platoon after j steps of both turns
 abbrev pub gone_by : Platoon → ℕ → ℕ
-gone_by p j = smoothed (sent p) (p.travel.percent * p.travel.time) j
+gone_by p j = smoothed (sent p) (p.travel.now.percent * p.travel.now.time) j
 
 -- After j steps of both turns: what went by last.
 pub record HasPassed (p : Platoon) (j : ℕ) (g : Going) : Type 0 where
   pub value : g.value ≡ gone_by p j
-  pub small : g.value < p.travel.limit
+  pub small : g.value < p.travel.now.limit

@@ -21,17 +21,17 @@ pub record IsTravel (steps : ℕ) (m : Travel) : Type 0 where
 
 -- the profile of a platoon that sets out: the part of what leaves a link that goes on
 abbrev pub sent : Platoon → List ℕ
-sent p = shared p.part.part p.part.whole p.leaving.now
+sent p = shared p.part.now.part p.part.now.whole p.leaving.now
 
 -- and at the end of its travel
 abbrev pub arriving : Platoon → List ℕ
-arriving p = dispersed (sent p) p.travel.time p.travel.percent
+arriving p = dispersed (sent p) p.travel.now.time p.travel.now.percent
 
 -- A platoon whose values are all below its travel's limit, and whose products are ready in this lane of four.
 pub record IsReady (steps lane : ℕ) (lanes : List ℕ) (p : Platoon) : Type 0 where
   pub values_len : length (sent p) ≡ steps
-  pub fit : All (λ v. v < p.travel.limit) (sent p)
+  pub fit : All (λ v. v < p.travel.now.limit) (sent p)
   pub ready : (k : ℕ) → k < steps
-      → slice_index lanes (4 * k + lane) ≡ slice_index (sent p) k * p.travel.starting_factor
+      → slice_index lanes (4 * k + lane) ≡ slice_index (sent p) k * p.travel.now.starting_factor
   pub total : p.total ≡ sum (sent p)
-  pub travel : IsTravel steps p.travel
+  pub travel : IsTravel steps p.travel.now

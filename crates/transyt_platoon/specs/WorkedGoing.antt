@@ -2,7 +2,7 @@
 use Rattle.std.specs.Prelude.{ℕ, List, [], ◌∷◌}
 use Rattle.transyt_platoon.specs.declared.going.Going.{Going}
 use Rattle.transyt_platoon.specs.declared.platoon.Platoon.{Platoon}
-use Rattle.transyt_platoon.specs.WorkedReady.{ready_platoon, short_travel}
+use Rattle.transyt_platoon.specs.WorkedReady.{lent, ready_platoon, short_travel}
 
 -- after two steps of the first turn of `ready_platoon`, whose means are 482867, 538111 and 485562
 abbrev pub passed : Going
@@ -19,4 +19,4 @@ passed_again = record { value = 480954 }
 
 -- `ready_platoon` with a travel of another limit
 abbrev pub limited : ℕ → Platoon
-limited limit = record ready_platoon { travel = record short_travel { limit = limit } }
+limited limit = record ready_platoon { travel = lent (record short_travel { limit = limit }) }

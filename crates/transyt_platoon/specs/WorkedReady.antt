@@ -124,9 +124,9 @@ part = record {
 abbrev pub ready_platoon : Platoon
 ready_platoon = record {
   leaving = lent (2501745 ∷ 41 ∷ 954363 ∷ []);
-  part = part;
+  part = lent part;
   total = 1448601;
-  travel = short_travel;
+  travel = lent short_travel;
 }
 
 -- the values that set out
@@ -160,7 +160,7 @@ limit_platoon = record ready_platoon { leaving = lent (2501748 ∷ 41 ∷ 954363
 abbrev pub wrong_ready : List Platoon
 wrong_ready =
     record ready_platoon { leaving = lent (2501745 ∷ 41 ∷ 954363 ∷ 146 ∷ []); total = 1448662 }
-    ∷ record ready_platoon { part = record part { part = 310 } }
+    ∷ record ready_platoon { part = lent (record part { part = 310 }) }
     ∷ record ready_platoon { total = 1448602 }
-    ∷ record ready_platoon { travel = exact }
+    ∷ record ready_platoon { travel = lent exact }
     ∷ []

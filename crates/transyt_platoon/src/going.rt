@@ -67,9 +67,9 @@ impl Going {
         requires fit { All (λ v. v < 2 ^ 62) turns.old }
         requires passed { HasPassed platoon.now (step_count + step) self.old }
         ensures passed { HasPassed platoon.now (step_count + (step + 1)) self.new }
-        ensures here { slice_index turns.new (platoon.now.travel.place + step) ≡ slice_index turns.old (platoon.now.travel.place + step)
-            + gone_by platoon.now (step_count + 1 + step) }
-        ensures others { (j : ℕ) → (j ≡ platoon.now.travel.place + step → ⊥)
+        ensures here { slice_index turns.new (platoon.now.travel.now.place + step)
+            ≡ slice_index turns.old (platoon.now.travel.now.place + step) + gone_by platoon.now (step_count + 1 + step) }
+        ensures others { (j : ℕ) → (j ≡ platoon.now.travel.now.place + step → ⊥)
             → slice_index turns.new j ≡ slice_index turns.old j }
         ensures grows { (limit : ℕ) → All (λ v. v < limit) turns.old → All (λ v. v < limit + 2 ^ 22) turns.new }
     {

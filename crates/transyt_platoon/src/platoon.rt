@@ -10,17 +10,17 @@ use transyt_profile::Part;
 /// A platoon on its way: what leaves a link and which part of it goes on, how much that is, and how it travels.
 ///
 /// Its products are ready in one of four lanes that lie side by side, as `share_ready` of `transyt_profile` leaves
-/// them. `IsReady` says how all hang together.
+/// them. `IsReady` says how all hang together. All but the sum is borrowed, so that a platoon is five words.
 #[derive(Clone, Copy)]
 pub struct Platoon<'a> {
     /// What leaves the link, one value for each step of the cycle.
     pub leaving: &'a [u64],
     /// The part of it that goes on.
-    pub part: Part,
+    pub part: &'a Part,
     /// The sum of that part over the cycle.
     pub total: u64,
     /// How it travels.
-    pub travel: Travel,
+    pub travel: &'a Travel,
 }
 
 /// The mean of a platoon's profile, rounded down.
@@ -28,7 +28,7 @@ pub(crate) fn mean_of(platoon: &Platoon<'_>, step_count: usize, lane: usize, lan
     requires steps { 0 < step_count }
     requires is { IsReady step_count lane lanes.now platoon.now }
     ensures value { result ≡ sum (sent platoon.now) / length (sent platoon.now) }
-    ensures small { result < platoon.now.travel.limit }
+    ensures small { result < platoon.now.travel.now.limit }
 {
     platoon.total / step_count as u64
 }
@@ -46,9 +46,9 @@ pub(crate) fn mix_ready(
     requires lane { lane < 4 }
     requires lanes_len { length lanes.now ≡ 4 * step_count }
     requires step { step < step_count }
-    requires before { before < platoon.now.travel.limit }
-    ensures value { result ≡ mixed platoon.now.travel.weight (slice_index (sent platoon.now) step) before }
-    ensures small { result < platoon.now.travel.limit }
+    requires before { before < platoon.now.travel.now.limit }
+    ensures value { result ≡ mixed platoon.now.travel.now.weight (slice_index (sent platoon.now) step) before }
+    ensures small { result < platoon.now.travel.now.limit }
 {
     (lanes[4 * step + lane] + before * platoon.travel.before_factor) >> 40
 }

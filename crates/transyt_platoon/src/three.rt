@@ -12,8 +12,8 @@ use crate::platoon::Platoon;
 ///
 /// A step of a platoon has one product, so three side by side take little more time than one, and each step is added
 /// where it arrives, past the end of the first turn or not: `fold_into` of `transyt_profile` makes one turn of both. The
-/// products of each are ready in a lane of its own, in the order of the platoons. The last lane is not read. `turns` has two values for each
-/// step.
+/// products of each are ready in a lane of its own, in the order of the platoons. The last lane is not read. `turns` has
+/// two values for each step.
 pub fn disperse_three(
     step_count: usize,
     lanes: &[u64],

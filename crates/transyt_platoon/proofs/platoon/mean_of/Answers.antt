@@ -1,5 +1,5 @@
 -- A mean is within the bound of what it is made of.
-use Rattle.std.proofs.Common.{◌/◌, length, sum, ap, sym, ◌∙◌, arith}
+use Rattle.std.proofs.Common.{◌/◌, sum, ap, sym, ◌∙◌, arith}
 use Rattle.transyt_platoon.specs.Travels.{sent}
 use Rattle.transyt_platoon.proofs.Mixing.{mean_below}
 use Rattle.transyt_platoon.proofs.platoon.mean_of.Goals as goal
@@ -17,4 +17,4 @@ returns-clause-small c =
     let p = c.args.platoon.now in
     let is = c.requires.is in
     rw (returns-clause-value c)
-    (mean_below (sent p) p.travel.limit (omega (arith, c.requires.steps, is.values_len)) is.fit)
+    (mean_below (sent p) p.travel.now.limit (omega (arith, c.requires.steps, is.values_len)) is.fit)

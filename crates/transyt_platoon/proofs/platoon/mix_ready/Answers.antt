@@ -1,5 +1,5 @@
 -- The product is the mean, and it fits.
-use Rattle.std.proofs.Common.{◌≡◌, ◌+◌, ◌*◌, ◌-◌, ◌<◌, get_or, arith}
+use Rattle.std.proofs.Common.{◌-◌, ◌<◌, get_or, arith}
 use Rattle.transyt_platoon.specs.Travels.{sent}
 use Rattle.transyt_platoon.proofs.Parts.{mixed_by, travel_sum}
 use Rattle.transyt_platoon.proofs.Mixing.{mixed-le}
@@ -10,20 +10,20 @@ pub overflow_mul-result-2 : goal.overflow_mul-result-2
 overflow_mul-result-2 c =
     let p = c.args.platoon.now in
     let r = c.requires in
-    let x_fits : get_or (sent p) c.args.step 0 < p.travel.limit =
+    let x_fits : get_or (sent p) c.args.step 0 < p.travel.now.limit =
     r.is.fit c.args.step 0 (omega (arith, r.step, r.is.values_len)) in
-    omega (arith, travel_sum c.args.step_count p.travel (get_or (sent p) c.args.step 0) c.args.before r.is.travel x_fits r.before)
+    omega (arith, travel_sum c.args.step_count p.travel.now (get_or (sent p) c.args.step 0) c.args.before r.is.travel x_fits r.before)
 
 pub overflow_add-result-2 : goal.overflow_add-result-2
 overflow_add-result-2 c =
     let p = c.args.platoon.now in
     let r = c.requires in
-    let x_fits : get_or (sent p) c.args.step 0 < p.travel.limit =
+    let x_fits : get_or (sent p) c.args.step 0 < p.travel.now.limit =
     r.is.fit c.args.step 0 (omega (arith, r.step, r.is.values_len)) in
     omega (
       arith,
       r.is.ready c.args.step r.step,
-      travel_sum c.args.step_count p.travel (get_or (sent p) c.args.step 0) c.args.before r.is.travel x_fits r.before,
+      travel_sum c.args.step_count p.travel.now (get_or (sent p) c.args.step 0) c.args.before r.is.travel x_fits r.before,
     )
 
 -- by the law of the reciprocal
@@ -32,7 +32,7 @@ returns-clause-value c =
     let p = c.args.platoon.now in
     let r = c.requires in
     let is = r.is.travel in
-    let travel = p.travel in
+    let travel = p.travel.now in
     let x_fits : get_or (sent p) c.args.step 0 < travel.limit =
     r.is.fit c.args.step 0 (omega (arith, r.step, r.is.values_len)) in
     rw (r.is.ready c.args.step r.step, is.starting_factor, is.before_factor)
@@ -44,7 +44,7 @@ pub returns-clause-small : goal.returns-clause-small
 returns-clause-small c =
     let p = c.args.platoon.now in
     let r = c.requires in
-    let travel = p.travel in
+    let travel = p.travel.now in
     let x_fits : get_or (sent p) c.args.step 0 < travel.limit =
     r.is.fit c.args.step 0 (omega (arith, r.step, r.is.values_len)) in
     omega (

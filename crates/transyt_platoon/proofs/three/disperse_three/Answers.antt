@@ -22,9 +22,9 @@ second-init c = record {
   fit = λ k d h. omega (arith, folded_each c.args.step_count c.args.turns.now (2 ^ 48) c.requires.fit c.requires.turns_len k d h);
   sums = λ j inside. omega (
     arith,
-    none_yet (brings c.args.step_count c.args.x.now) (c.args.x.now.travel.time % c.args.step_count) j,
-    none_yet (brings c.args.step_count c.args.y.now) (c.args.y.now.travel.time % c.args.step_count) j,
-    none_yet (brings c.args.step_count c.args.z.now) (c.args.z.now.travel.time % c.args.step_count) j,
+    none_yet (brings c.args.step_count c.args.x.now) (c.args.x.now.travel.now.time % c.args.step_count) j,
+    none_yet (brings c.args.step_count c.args.y.now) (c.args.y.now.travel.now.time % c.args.step_count) j,
+    none_yet (brings c.args.step_count c.args.z.now) (c.args.z.now.travel.now.time % c.args.step_count) j,
   );
 }
 
@@ -36,21 +36,21 @@ second-preserved c =
     let before = c.second.invariant in
     let after_x : (j : ℕ) → j < 2 * n → get_or c.arrive.new.turns j 0
     ≡ get_or c.args.turns.now j 0 + arrived n c.args.y.now i j + arrived n c.args.z.now i j + arrived n c.args.x.now (i + 1) j =
-    arrived_more (brings n c.args.x.now) (c.args.x.now.travel.time % n) i (2 * n) c.args.x.now.travel.place
+    arrived_more (brings n c.args.x.now) (c.args.x.now.travel.now.time % n) i (2 * n) c.args.x.now.travel.now.place
     c.second.turns c.arrive.new.turns
     (λ j. get_or c.args.turns.now j 0 + arrived n c.args.y.now i j + arrived n c.args.z.now i j)
     c.requires.x_ready.travel.place c.arrive.ensures.here c.arrive.ensures.others
     (λ j inside. omega (arith, before.sums j inside)) in
     let after_y : (j : ℕ) → j < 2 * n → get_or c.arrive-in-second.new.turns j 0
     ≡ get_or c.args.turns.now j 0 + arrived n c.args.x.now (i + 1) j + arrived n c.args.z.now i j + arrived n c.args.y.now (i + 1) j =
-    arrived_more (brings n c.args.y.now) (c.args.y.now.travel.time % n) i (2 * n) c.args.y.now.travel.place
+    arrived_more (brings n c.args.y.now) (c.args.y.now.travel.now.time % n) i (2 * n) c.args.y.now.travel.now.place
     c.arrive.new.turns c.arrive-in-second.new.turns
     (λ j. get_or c.args.turns.now j 0 + arrived n c.args.x.now (i + 1) j + arrived n c.args.z.now i j)
     c.requires.y_ready.travel.place c.arrive-in-second.ensures.here c.arrive-in-second.ensures.others
     (λ j inside. omega (arith, after_x j inside)) in
     let after_z : (j : ℕ) → j < 2 * n → get_or c.arrive-in-second-2.new.turns j 0
     ≡ get_or c.args.turns.now j 0 + arrived n c.args.x.now (i + 1) j + arrived n c.args.y.now (i + 1) j + arrived n c.args.z.now (i + 1) j =
-    arrived_more (brings n c.args.z.now) (c.args.z.now.travel.time % n) i (2 * n) c.args.z.now.travel.place
+    arrived_more (brings n c.args.z.now) (c.args.z.now.travel.now.time % n) i (2 * n) c.args.z.now.travel.now.place
     c.arrive-in-second.new.turns c.arrive-in-second-2.new.turns
     (λ j. get_or c.args.turns.now j 0 + arrived n c.args.x.now (i + 1) j + arrived n c.args.y.now (i + 1) j)
     c.requires.z_ready.travel.place c.arrive-in-second-2.ensures.here c.arrive-in-second-2.ensures.others

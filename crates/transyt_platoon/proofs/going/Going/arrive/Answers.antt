@@ -1,5 +1,5 @@
 -- One step more of the second turn, where it arrives.
-use Rattle.std.proofs.Common.{◌≡◌, ℕ, ◌+◌, ◌*◌, ◌%◌, ◌<◌, length, get_or, get_or-set_same, ap, ◌∙◌, arith}
+use Rattle.std.proofs.Common.{◌≡◌, ℕ, ◌+◌, ◌<◌, length, get_or, get_or-set_same, ap, ◌∙◌, arith}
 use Rattle.std.proofs.Math.Nat.{mod-lt}
 use Rattle.transyt_platoon.specs.Going.{gone_by}
 use Rattle.transyt_platoon.proofs.Turns.{second_gone}
@@ -25,10 +25,10 @@ returns-clause-here c =
     let p = c.args.platoon.now in
     let is = c.requires.ready in
     let n : ℕ = c.args.step_count in
-    let place : ℕ = c.args.platoon.now.travel.place + c.args.step in
+    let place : ℕ = c.args.platoon.now.travel.now.place + c.args.step in
     let some : 0 < n = omega (arith, c.requires.step) in
     let inside : place < length c.args.turns.now =
-    omega (arith, is.travel.place, mod-lt p.travel.time some, c.requires.step, c.requires.turns_len) in
+    omega (arith, is.travel.place, mod-lt p.travel.now.time some, c.requires.step, c.requires.turns_len) in
     let gone =
     second_gone n p c.args.step c.args.self.now.value _ is.values_len is.travel c.requires.step c.requires.passed.value
     c.mix_ready-self.ensures.value in
