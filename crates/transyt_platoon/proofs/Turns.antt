@@ -36,4 +36,4 @@ second_gone n p i z r same is below before mix =
 pub has_turned : (n i : ℕ) (p : Platoon) (g : Going) → i ≡ n → HasPassed p i g → HasPassed p (n + 0) g
 has_turned n i p g end passed =
     let same : i ≡ n + 0 = omega (arith, end) in
-    record { value = passed.value ∙ ap (gone_by p) same; small = passed.small }
+    record { value = passed.value ∙ ap (gone_by p) same; small = passed.small; factor = passed.factor; place = passed.place }

@@ -9,7 +9,9 @@ use Rattle.transyt_platoon.specs.declared.going.Going.{Going}
 abbrev pub gone_by : Platoon → ℕ → ℕ
 gone_by p j = smoothed (sent p) (p.travel.now.percent * p.travel.now.time) j
 
--- After j steps of both turns: what went by last.
+-- After j steps of both turns: what went by last, and what each step takes of the travel.
 pub record HasPassed (p : Platoon) (j : ℕ) (g : Going) : Type 0 where
   pub value : g.value ≡ gone_by p j
   pub small : g.value < p.travel.now.limit
+  pub factor : g.factor ≡ p.travel.now.before_factor
+  pub place : g.place ≡ p.travel.now.place

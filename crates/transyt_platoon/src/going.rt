@@ -6,10 +6,15 @@ ghost use Rattle.transyt_platoon.specs.Travels.{IsReady};
 
 use crate::platoon::{Platoon, mean_of, mix_ready};
 
-/// What went by of a platoon last.
+/// What went by of a platoon last, with what each step takes of its travel: both are at hand here, while what a platoon
+/// borrows would be read again at each step.
 #[derive(Clone, Copy)]
 pub(crate) struct Going {
     value: u64,
+    /// The factor of what went by a step before.
+    factor: u64,
+    /// The step that the first step leads to.
+    place: usize,
 }
 
 impl Going {
@@ -26,6 +31,8 @@ impl Going {
     {
         Going {
             value: mean_of(platoon, step_count, lane, lanes),
+            factor: platoon.travel.before_factor,
+            place: platoon.travel.place,
         }
     }
 
@@ -45,7 +52,15 @@ impl Going {
         requires passed { HasPassed platoon.now step self.old }
         ensures { HasPassed platoon.now (step + 1) self.new }
     {
-        self.value = mix_ready(platoon, step_count, lane, lanes, step, self.value);
+        self.value = mix_ready(
+            platoon,
+            step_count,
+            lane,
+            lanes,
+            step,
+            self.factor,
+            self.value,
+        );
     }
 
     /// A step of the second turn goes by, and is added where it arrives: as many steps on as the first one is led,
@@ -73,7 +88,15 @@ impl Going {
             → slice_index turns.new j ≡ slice_index turns.old j }
         ensures grows { (limit : ℕ) → All (λ v. v < limit) turns.old → All (λ v. v < limit + 2 ^ 22) turns.new }
     {
-        self.value = mix_ready(platoon, step_count, lane, lanes, step, self.value);
-        turns[platoon.travel.place + step] += self.value;
+        self.value = mix_ready(
+            platoon,
+            step_count,
+            lane,
+            lanes,
+            step,
+            self.factor,
+            self.value,
+        );
+        turns[self.place + step] += self.value;
     }
 }

@@ -33,22 +33,24 @@ pub(crate) fn mean_of(platoon: &Platoon<'_>, step_count: usize, lane: usize, lan
     platoon.total / step_count as u64
 }
 
-/// What goes by in one step, where `before` went by a step before.
+/// What goes by in one step, where `before` went by a step before. `factor` is the factor of that.
 pub(crate) fn mix_ready(
     platoon: &Platoon<'_>,
     step_count: usize,
     lane: usize,
     lanes: &[u64],
     step: usize,
+    factor: u64,
     before: u64,
 ) -> u64
     requires is { IsReady step_count lane lanes.now platoon.now }
     requires lane { lane < 4 }
     requires lanes_len { length lanes.now ≡ 4 * step_count }
     requires step { step < step_count }
+    requires factor { factor ≡ platoon.now.travel.now.before_factor }
     requires before { before < platoon.now.travel.now.limit }
     ensures value { result ≡ mixed platoon.now.travel.now.weight (slice_index (sent platoon.now) step) before }
     ensures small { result < platoon.now.travel.now.limit }
 {
-    (lanes[4 * step + lane] + before * platoon.travel.before_factor) >> 40
+    (lanes[4 * step + lane] + before * factor) >> 40
 }

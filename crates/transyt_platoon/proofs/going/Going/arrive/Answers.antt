@@ -17,6 +17,8 @@ returns-clause-passed c =
       value = second_gone n p i c.args.self.now.value _ is.values_len is.travel c.requires.step c.requires.passed.value
           c.mix_ready-self.ensures.value ∙ ap (gone_by p) next;
       small = c.mix_ready-self.ensures.small;
+      factor = c.requires.passed.factor;
+      place = c.requires.passed.place;
     }
 
 -- and it is added
@@ -32,5 +34,6 @@ returns-clause-here c =
     let gone =
     second_gone n p c.args.step c.args.self.now.value _ is.values_len is.travel c.requires.step c.requires.passed.value
     c.mix_ready-self.ensures.value in
-    get_or-set_same c.args.turns.now place (get_or c.args.turns.now place 0 + c.mix_ready-self.result) 0 inside
+    rw c.requires.passed.place
+    (get_or-set_same c.args.turns.now place (get_or c.args.turns.now place 0 + c.mix_ready-self.result) 0 inside)
     ∙ ap (λ v. get_or c.args.turns.now place 0 + v) gone

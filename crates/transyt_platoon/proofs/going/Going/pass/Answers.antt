@@ -9,4 +9,6 @@ returns c =
       value = first_gone c.args.step_count c.args.platoon.now c.args.step c.args.self.now.value _ is.values_len is.travel
           c.requires.step c.requires.passed.value c.mix_ready-self.ensures.value;
       small = c.mix_ready-self.ensures.small;
+      factor = c.requires.passed.factor;
+      place = c.requires.passed.place;
     }
