@@ -6,11 +6,12 @@ use Rattle.transyt_parts.specs.declared.link.Feed.{Feed}
 use Rattle.transyt_sweep.specs.declared.factors.Factors.{Factors}
 use Rattle.transyt_sweep.specs.Factors.{AreFactors, Serve}
 
--- factors that name a feed's numbers serve it
-pub serves : (frame : Frame) (feed : Feed) (whole : ℕ) (f : Factors) → AreFactors frame.step_count f
-    → f.part.part ≡ feed.flow → f.part.whole ≡ whole → f.cruise ≡ feed.cruise → f.cycle ≡ frame.cycle
-    → f.travel.percent ≡ frame.dispersion → Serve frame feed whole f
-serves frame feed whole f are flow is_whole cruise cycle percent = record {
+-- factors that name a feed's numbers and its feeder's place serve it
+pub serves : (frame : Frame) (feed : Feed) (place whole : ℕ) (f : Factors) → AreFactors frame.step_count f
+    → f.feeder ≡ place → f.part.part ≡ feed.flow → f.part.whole ≡ whole → f.cruise ≡ feed.cruise
+    → f.cycle ≡ frame.cycle → f.travel.percent ≡ frame.dispersion → Serve frame feed place whole f
+serves frame feed place whole f are feeder flow is_whole cruise cycle percent = record {
+  feeder = feeder;
   flow = flow;
   whole = is_whole;
   time = are.time ∙ ap (λ c. travel_steps c frame.step_count f.cycle) cruise

@@ -2,12 +2,10 @@
 use Rattle.std.proofs.Common.{◌≡◌, ℕ, ◌+◌, ◌*◌, ◌^◌, ◌<◌, ◌≤◌, List, length, take, get_or, refl, ap, sym, ◌∙◌, arith}
 use Rattle.std.proofs.lemmas.Nat.{mul-le}
 use Rattle.std.proofs.lemmas.List.Sums.{fold_more}
-use Rattle.transyt_profile.specs.Profile.{uniform, added, shared}
+use Rattle.transyt_profile.specs.Profile.{uniform, added}
 use Rattle.transyt_platoon.specs.Platoon.{travel_steps, dispersed}
 use Rattle.transyt_parts.specs.declared.link.Feed.{Feed}
-use Rattle.transyt_parts.specs.Flow.{total_flow}
-use Rattle.transyt_net.specs.Parts.{Network, link_of}
-use Rattle.transyt_net.specs.Valid.{link_place}
+use Rattle.transyt_net.specs.Parts.{Network}
 use Rattle.transyt_net.specs.Flow.{perstep}
 use Rattle.transyt_sweep.specs.Cell.{taken, brought, inflow_of}
 
@@ -75,15 +73,6 @@ brought_by net read f part out time percent made is_part is_time is_percent =
     ∙ ap (λ x. dispersed x time percent) is_part
     ∙ ap (λ t. dispersed (taken net read f) t percent) is_time
     ∙ ap (dispersed (taken net read f) (travel_steps f.cruise net.frame.step_count net.frame.cycle)) is_percent
-
--- the part that goes on, by the numbers of a feed and of its feeder
-pub taken_by : (net : Network) (read : ℕ → List ℕ) (f : Feed) (part whole total : ℕ) (leaving : List ℕ)
-    → part ≡ f.flow → whole ≡ total → total ≡ total_flow (link_of net (link_place net f.feeder))
-    → leaving ≡ read (link_place net f.feeder) → shared part whole leaving ≡ taken net read f
-taken_by net read f part whole total leaving is_part is_whole is_total is_read =
-    ap (λ p. shared p whole leaving) is_part
-    ∙ ap (λ w. shared f.flow w leaving) (is_whole ∙ is_total)
-    ∙ ap (shared f.flow (total_flow (link_of net (link_place net f.feeder)))) is_read
 
 -- the first factor of a travel has 41 bits
 pub factor_fits : (reciprocal weight time percent factor : ℕ) → factor ≡ 100 * reciprocal → weight ≡ percent * time

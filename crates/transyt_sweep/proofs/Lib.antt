@@ -5,6 +5,8 @@ pub mod TableLaws
 pub mod FactorLaws
 pub mod FeederLaws
 pub mod InflowLaws
+pub mod SendingLaws
+pub mod SlotLaws
 pub mod IndexLaws
 pub mod KeptLaws
 pub mod ReadLaws

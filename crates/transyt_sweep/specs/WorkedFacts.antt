@@ -224,22 +224,24 @@ served_frame =
 abbrev pub served_feed : Feed
 served_feed = new_feed 5 9999 160
 
--- a frame, a feed, what leaves its feeder, and factors
+-- a frame, a feed, its feeder's place, what leaves that, and factors
 abbrev pub ServeRow : Type 0
-ServeRow = Frame × Feed × ℕ × Factors
+ServeRow = Frame × Feed × ℕ × ℕ × Factors
 
--- The factors don't serve there: a flow less and one more, a whole less and one more, a cruise that takes fewer steps
--- and one that takes more, and a dispersion less and one more.
+-- The factors don't serve there: a place less and one more, a flow less and one more, a whole less and one more, a
+-- cruise that takes fewer steps and one that takes more, and a dispersion less and one more.
 abbrev pub unserved : List ServeRow
 unserved =
-    (served_frame, new_feed 5 9998 160, 997, ready_factors)
-    ∷ (served_frame, new_feed 5 10000 160, 997, ready_factors)
-    ∷ (served_frame, served_feed, 996, ready_factors)
-    ∷ (served_frame, served_feed, 998, ready_factors)
-    ∷ (served_frame, new_feed 5 9999 158, 997, ready_factors)
-    ∷ (served_frame, new_feed 5 9999 162, 997, ready_factors)
-    ∷ (record served_frame { dispersion = 11 }, served_feed, 997, ready_factors)
-    ∷ (record served_frame { dispersion = 13 }, served_feed, 997, ready_factors)
+    (served_frame, served_feed, 3, 997, ready_factors)
+    ∷ (served_frame, served_feed, 5, 997, ready_factors)
+    ∷ (served_frame, new_feed 5 9998 160, 4, 997, ready_factors)
+    ∷ (served_frame, new_feed 5 10000 160, 4, 997, ready_factors)
+    ∷ (served_frame, served_feed, 4, 996, ready_factors)
+    ∷ (served_frame, served_feed, 4, 998, ready_factors)
+    ∷ (served_frame, new_feed 5 9999 158, 4, 997, ready_factors)
+    ∷ (served_frame, new_feed 5 9999 162, 4, 997, ready_factors)
+    ∷ (record served_frame { dispersion = 11 }, served_feed, 4, 997, ready_factors)
+    ∷ (record served_frame { dispersion = 13 }, served_feed, 4, 997, ready_factors)
     ∷ []
 
 -- a table of three rows of two values; the values may be fewer or more

@@ -47,7 +47,7 @@ pub(crate) fn factors_of(net: &Net, feed: Feed, feeder: usize, whole: u32) -> Fa
     requires flow { feed.flow ≤ 9999 }
     requires cruise { feed.cruise ≤ 300 }
     ensures are { AreFactors net.now.frame.step_count result }
-    ensures serve { Serve net.now.frame feed whole result }
+    ensures serve { Serve net.now.frame feed feeder whole result }
 {
     Factors {
         feeder,
@@ -62,7 +62,7 @@ pub(crate) fn factors_of(net: &Net, feed: Feed, feeder: usize, whole: u32) -> Fa
 #[tactic(auto, using(crate::proofs::FactorLaws::serves))]
 fn serve(factors: &Factors, frame: Frame, feed: Feed, feeder: usize, whole: u32) -> bool
     requires { AreFactors frame.step_count factors.now }
-    ensures { IsTrue result → Serve frame feed whole factors.now }
+    ensures { IsTrue result → Serve frame feed feeder whole factors.now }
 {
     factors.feeder == feeder
         && factors.part.part == feed.flow
@@ -79,7 +79,7 @@ pub(crate) fn renew(net: &Net, feed: Feed, feeder: usize, whole: u32, slot: &mut
     requires cruise { feed.cruise ≤ 300 }
     requires are { AreFactors net.now.frame.step_count slot.old }
     ensures are { AreFactors net.now.frame.step_count slot.new }
-    ensures serve { Serve net.now.frame feed whole slot.new }
+    ensures serve { Serve net.now.frame feed feeder whole slot.new }
 {
     if !serve(slot, net.frame(), feed, feeder, whole) {
         *slot = factors_of(net, feed, feeder, whole);

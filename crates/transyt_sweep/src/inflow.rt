@@ -9,7 +9,7 @@ ghost use Rattle.transyt_sweep.specs.Rows.{Fits, read_in};
 
 use crate::factors::Factors;
 use crate::rows::Rows;
-use crate::sending::{send_feed, share_feed};
+use crate::sending::{renew_feed, send_feed, share_feed};
 use transyt_net::{Feed, Net};
 use transyt_platoon::{disperse, disperse_four, disperse_three, travel_steps};
 use transyt_profile::{add_to_first, fold_into, start_turns};
@@ -49,7 +49,7 @@ fn add_feed(
 }
 
 /// Adds what three feeds bring to the two turns of what comes. `room` is room for their work; side by side they take
-/// little more time than one. Their factors are kept from `place` of `kept` on.
+/// little more time than one. Their factors are kept in `slots`.
 fn add_three(
     net: &Net,
     one: Feed,
@@ -58,8 +58,7 @@ fn add_three(
     link: usize,
     sweep: u32,
     rows: &Rows,
-    place: usize,
-    kept: &mut [Factors],
+    slots: &mut [Factors],
     room: &mut [u64],
     turns: &mut [u64],
 )
@@ -72,8 +71,8 @@ fn add_three(
     requires two_cruise { two.cruise ≤ 300 }
     requires three_cruise { three.cruise ≤ 300 }
     requires fits { Fits net.now rows.now }
-    requires place { place ≤ 8000 }
-    requires kept { All (AreFactors net.now.frame.step_count) kept.old }
+    requires slots_len { length slots.old ≡ 3 }
+    requires slots { All (AreFactors net.now.frame.step_count) slots.old }
     requires room_len { length room.old ≡ 6 * net.now.frame.step_count }
     requires turns_len { length turns.old ≡ 2 * net.now.frame.step_count }
     requires turns_small { All (λ v. v < 2 ^ 48 - 3 * 2 ^ 44) (folded net.now.frame.step_count turns.old) }
@@ -81,13 +80,16 @@ fn add_three(
         ≡ added (added (added (folded net.now.frame.step_count turns.old) (brought net.now read one)) (brought net.now read two)) (brought net.now read three) }
     ensures grows { (limit : ℕ) → All (λ v. v < limit) (folded net.now.frame.step_count turns.old)
         → All (λ v. v < limit + 3 * 2 ^ 44) (folded net.now.frame.step_count turns.new) }
-    ensures kept { All (AreFactors net.now.frame.step_count) kept.new }
+    ensures slots { All (AreFactors net.now.frame.step_count) slots.new }
 {
     let steps = net.frame().step_count as usize;
     let (lanes, rest) = room.split_at_mut(4 * steps);
-    let one_sent = send_feed(net, one, link, sweep, rows, place, kept, 0, lanes);
-    let two_sent = send_feed(net, two, link, sweep, rows, place + 1, kept, 1, lanes);
-    let three_sent = send_feed(net, three, link, sweep, rows, place + 2, kept, 2, lanes);
+    renew_feed(net, one, &mut slots[0]);
+    renew_feed(net, two, &mut slots[1]);
+    renew_feed(net, three, &mut slots[2]);
+    let one_sent = send_feed(link, sweep, rows, &slots[0], 0, lanes);
+    let two_sent = send_feed(link, sweep, rows, &slots[1], 1, lanes);
+    let three_sent = send_feed(link, sweep, rows, &slots[2], 2, lanes);
     if let (Some(one_sent), Some(two_sent), Some(three_sent)) = (one_sent, two_sent, three_sent) {
         disperse_three(steps, lanes, &one_sent, &two_sent, &three_sent, turns);
     } else {
@@ -107,8 +109,7 @@ fn add_four(
     link: usize,
     sweep: u32,
     rows: &Rows,
-    place: usize,
-    kept: &mut [Factors],
+    slots: &mut [Factors],
     room: &mut [u64],
     turns: &mut [u64],
 )
@@ -123,8 +124,8 @@ fn add_four(
     requires three_cruise { three.cruise ≤ 300 }
     requires four_cruise { four.cruise ≤ 300 }
     requires fits { Fits net.now rows.now }
-    requires place { place ≤ 8000 }
-    requires kept { All (AreFactors net.now.frame.step_count) kept.old }
+    requires slots_len { length slots.old ≡ 4 }
+    requires slots { All (AreFactors net.now.frame.step_count) slots.old }
     requires room_len { length room.old ≡ 6 * net.now.frame.step_count }
     requires turns_len { length turns.old ≡ 2 * net.now.frame.step_count }
     requires turns_small { All (λ v. v < 2 ^ 48 - 4 * 2 ^ 44) (folded net.now.frame.step_count turns.old) }
@@ -132,14 +133,18 @@ fn add_four(
         ≡ added (added (added (added (folded net.now.frame.step_count turns.old) (brought net.now read one)) (brought net.now read two)) (brought net.now read three)) (brought net.now read four) }
     ensures grows { (limit : ℕ) → All (λ v. v < limit) (folded net.now.frame.step_count turns.old)
         → All (λ v. v < limit + 4 * 2 ^ 44) (folded net.now.frame.step_count turns.new) }
-    ensures kept { All (AreFactors net.now.frame.step_count) kept.new }
+    ensures slots { All (AreFactors net.now.frame.step_count) slots.new }
 {
     let steps = net.frame().step_count as usize;
     let (lanes, rest) = room.split_at_mut(4 * steps);
-    let one_sent = send_feed(net, one, link, sweep, rows, place, kept, 0, lanes);
-    let two_sent = send_feed(net, two, link, sweep, rows, place + 1, kept, 1, lanes);
-    let three_sent = send_feed(net, three, link, sweep, rows, place + 2, kept, 2, lanes);
-    let four_sent = send_feed(net, four, link, sweep, rows, place + 3, kept, 3, lanes);
+    renew_feed(net, one, &mut slots[0]);
+    renew_feed(net, two, &mut slots[1]);
+    renew_feed(net, three, &mut slots[2]);
+    renew_feed(net, four, &mut slots[3]);
+    let one_sent = send_feed(link, sweep, rows, &slots[0], 0, lanes);
+    let two_sent = send_feed(link, sweep, rows, &slots[1], 1, lanes);
+    let three_sent = send_feed(link, sweep, rows, &slots[2], 2, lanes);
+    let four_sent = send_feed(link, sweep, rows, &slots[3], 3, lanes);
     if let (Some(one_sent), Some(two_sent), Some(three_sent), Some(four_sent)) = (
         one_sent, two_sent, three_sent, four_sent,
     ) {
@@ -169,8 +174,25 @@ fn own_place(net: &Net, link: usize) -> usize
     8 * link
 }
 
+/// How many of a link's feeds may be worked out side by side: all, where there are places for their factors from `own`
+/// on, else none.
+fn grouped(feed_count: usize, own: usize, places: usize) -> usize
+    requires own { own ≤ 7992 }
+    requires feed_count { feed_count ≤ 8 }
+    ensures most { result ≤ feed_count }
+    ensures within { 0 < result → own + result ≤ places }
+    ensures all { own + feed_count ≤ places → result ≡ feed_count }
+{
+    if own + feed_count <= places {
+        feed_count
+    } else {
+        0
+    }
+}
+
 /// Fills `come` with what comes to the link at a place, in millionths of a vehicle per step. `room` is room for the
-/// work on four feeds, and each feed's factors are kept in `kept`, eight places a link.
+/// work on four feeds. The factors of the feeds that are worked out side by side are kept in `kept`, eight places a
+/// link; where it has too few places for the link's, each feed is worked out by itself.
 pub(crate) fn fill_inflow(
     net: &Net,
     link: usize,
@@ -195,24 +217,25 @@ pub(crate) fn fill_inflow(
     let steps = come.len();
     let (turns, room) = room.split_at_mut(2 * steps);
     start_turns(steps, net.per_step(at.entry), turns);
-    let fours = at.feeds.len() / 4;
+    let side_by_side = grouped(at.feeds.len(), own, kept.len());
+    let fours = side_by_side / 4;
     'fours: for i in 0..fours {
         let (one, two) = (at.feeds[4 * i], at.feeds[4 * i + 1]);
         let (three, four) = (at.feeds[4 * i + 2], at.feeds[4 * i + 3]);
         let place = own + 4 * i;
+        let slots = &mut kept[place..place + 4];
         add_four(
-            net, one, two, three, four, link, sweep, rows, place, kept, room, turns,
+            net, one, two, three, four, link, sweep, rows, slots, room, turns,
         );
     }
     let done = 4 * fours;
-    let threes = (at.feeds.len() - done) / 3;
+    let threes = (side_by_side - done) / 3;
     'threes: for i in 0..threes {
         let first = done + 3 * i;
         let (one, two, three) = (at.feeds[first], at.feeds[first + 1], at.feeds[first + 2]);
         let place = own + first;
-        add_three(
-            net, one, two, three, link, sweep, rows, place, kept, room, turns,
-        );
+        let slots = &mut kept[place..place + 3];
+        add_three(net, one, two, three, link, sweep, rows, slots, room, turns);
     }
     'rest: for i in done + 3 * threes..at.feeds.len() {
         add_feed(net, at.feeds[i], link, sweep, rows, room, turns);

@@ -160,8 +160,8 @@ pub fn worked_telling()
 pub fn worked_factors()
     ensures factors { All (AreFactors 18) right_factors }
     ensures wrong_factors { All (λ f. AreFactors 18 f → ⊥) wrong_factors }
-    ensures serve { Serve served_frame served_feed 997 ready_factors }
-    ensures unserved { All (λ row. Serve row.0 row.1 row.2 row.3 → ⊥) unserved }
+    ensures serve { Serve served_frame served_feed 4 997 ready_factors }
+    ensures unserved { All (λ row. Serve row.0 row.1 row.2 row.3 row.4 → ⊥) unserved }
     ensures table { IsTable 3 2 table_of_three }
     ensures wrong_tables { All (λ t. IsTable 3 2 t → ⊥) wrong_tables }
 {}

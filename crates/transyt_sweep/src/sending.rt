@@ -1,16 +1,15 @@
 //! What a feed's feeder sends on to a link.
 
-ghost use Rattle.std.specs.Prelude.{◌≡◌, ◌+◌, ◌*◌, ◌^◌, ◌<◌, ◌≤◌, ℕ, length, slice_index, All, IfSome, IsTrue};
+ghost use Rattle.std.specs.Prelude.{◌≡◌, ◌+◌, ◌*◌, ◌^◌, ◌<◌, ◌≤◌, ℕ, length, slice_index, All, Any};
+ghost use Rattle.std.specs.Prelude.{IfNone, IfSome, IsTrue};
 ghost use Rattle.transyt_parts.specs.declared.link.Feed.{Feed};
 ghost use Rattle.transyt_net.specs.Valid.{link_place};
-ghost use Rattle.transyt_platoon.specs.Platoon.{travel_steps};
 ghost use Rattle.transyt_platoon.specs.Travels.{IsReady, sent};
-ghost use Rattle.transyt_profile.specs.Profile.{shared};
 ghost use Rattle.transyt_sweep.specs.Cell.{taken};
-ghost use Rattle.transyt_sweep.specs.Factors.{AreFactors};
+ghost use Rattle.transyt_sweep.specs.Factors.{AreFactors, ServeIn, taken_by};
 ghost use Rattle.transyt_sweep.specs.Rows.{Fits, read_in};
 
-use crate::factors::{Factors, factors_of, renew};
+use crate::factors::{Factors, renew};
 use crate::rows::Rows;
 use transyt_net::{Feed, Net};
 use transyt_platoon::Platoon;
@@ -28,15 +27,15 @@ pub(crate) fn link_place(net: &Net, number: u32) -> usize
     }
 }
 
-/// The place of a feeder: the one that is kept at a place, where that is its, else looked up.
+/// The place of a feeder: `place`, where the feeder stands there, else looked up.
 #[tactic(auto, using(crate::proofs::FeederLaws::place_of_number))]
-fn feeder_place(net: &Net, feeder: u32, place: usize, kept: &[Factors]) -> usize
+fn feeder_place(net: &Net, feeder: u32, place: usize) -> usize
     requires { 0 < length net.now.links }
     ensures value { result ≡ link_place net.now feeder }
     ensures below { result < length net.now.links }
 {
-    if place < kept.len() && is_at(net, kept[place].feeder, feeder) {
-        kept[place].feeder
+    if is_at(net, place, feeder) {
+        place
     } else {
         link_place(net, feeder)
     }
@@ -77,84 +76,57 @@ pub(crate) fn share_feed(
     share_into(leaving, feed.flow, net.total_flow(feeder), shared);
 }
 
-/// Makes a feed's part of what leaves its feeder ready in a lane, each value times the first factor of its travel; none
-/// where a value may be too large for that. The other lanes stay. The feed's factors are kept at `place` of `kept`; past
-/// the last place nothing is kept.
+/// Works the factors that are kept in `slot` out anew, where they are not a feed's. Where its feeder was found last is
+/// looked at first.
+pub(crate) fn renew_feed(net: &Net, feed: Feed, slot: &mut Factors)
+    requires some { 0 < length net.now.links }
+    requires flow { feed.flow ≤ 9999 }
+    requires cruise { feed.cruise ≤ 300 }
+    requires are { AreFactors net.now.frame.step_count slot.old }
+    ensures are { AreFactors net.now.frame.step_count slot.new }
+    ensures serve { ServeIn net.now feed slot.new }
+    ensures below { slot.new.feeder < length net.now.links }
+{
+    let feeder = feeder_place(net, feed.feeder, slot.feeder);
+    renew(net, feed, feeder, net.total_flow(feeder), slot);
+}
+
+/// Makes a feed's part of what leaves its feeder ready in a lane, each value times the first factor of its travel, by the
+/// feed's factors; none where a value is at the limit of its travel or past it. The other lanes stay.
 pub(crate) fn send_feed<'a>(
-    net: &Net,
-    feed: Feed,
     link: usize,
     sweep: u32,
     rows: &'a Rows,
-    place: usize,
-    kept: &mut [Factors],
+    factors: &'a Factors,
     lane: usize,
     lanes: &mut [u64],
 ) -> Option<Platoon<'a>>
-    requires some { 0 < length net.now.links }
-    requires sweep { sweep ≤ net.now.frame.sweeps }
-    requires flow { feed.flow ≤ 9999 }
-    requires cruise { feed.cruise ≤ 300 }
-    requires fits { Fits net.now rows.now }
-    requires kept { All (AreFactors net.now.frame.step_count) kept.old }
+    requires most { rows.now.step_count ≤ 120 }
+    requires sweep { sweep ≤ rows.now.sweeps }
+    requires feeder { factors.now.feeder < length rows.now.figures }
+    requires are { AreFactors rows.now.step_count factors.now }
     requires lane { lane < 4 }
-    requires lanes_len { length lanes.old ≡ 4 * net.now.frame.step_count }
-    ensures ready { IfSome result (λ p. IsReady net.now.frame.step_count lane lanes.new p) }
-    ensures taken { IfSome result (λ p. sent p ≡ taken net.now (read_in rows.now sweep link) feed) }
-    ensures time { IfSome result (λ p. p.travel.time
-        ≡ travel_steps feed.cruise net.now.frame.step_count net.now.frame.cycle) }
-    ensures percent { IfSome result (λ p. p.travel.percent ≡ net.now.frame.dispersion) }
-    ensures others { (k : ℕ) → (m : ℕ) → m < 4 → (m ≡ lane → ⊥)
-        → slice_index lanes.new (4 * k + m) ≡ slice_index lanes.old (4 * k + m) }
-    ensures kept { All (AreFactors net.now.frame.step_count) kept.new }
-{
-    net.frame();
-    let feeder = feeder_place(net, feed.feeder, place, kept);
-    let whole = net.total_flow(feeder);
-    let leaving = rows.read(sweep, link, feeder);
-    if place >= kept.len() {
-        let factors = factors_of(net, feed, feeder, whole);
-        return send_by(&factors, leaving, lane, lanes);
-    }
-    renew(net, feed, feeder, whole, &mut kept[place]);
-    send_by(&kept[place], leaving, lane, lanes)
-}
-
-/// What `send_feed` does, by these factors.
-fn send_by<'a>(
-    factors: &Factors,
-    leaving: &'a [u64],
-    lane: usize,
-    lanes: &mut [u64],
-) -> Option<Platoon<'a>>
-    requires most { length leaving.now ≤ 120 }
-    requires fit { All (λ v. v < 2 ^ 30) leaving.now }
-    requires are { AreFactors (length leaving.now) factors.now }
-    requires lane { lane < 4 }
-    requires lanes_len { length lanes.old ≡ 4 * length leaving.now }
-    ensures ready { IfSome result (λ p. IsReady (length leaving.now) lane lanes.new p) }
-    ensures shared { IfSome result (λ p. sent p
-        ≡ shared factors.now.part.part factors.now.part.whole leaving.now) }
-    ensures travel { IfSome result (λ p. p.travel ≡ factors.now.travel) }
+    requires lanes_len { length lanes.old ≡ 4 * rows.now.step_count }
+    ensures ready { IfSome result (λ p. IsReady rows.now.step_count lane lanes.new p) }
+    ensures taken { IfSome result (λ p. sent p ≡ taken_by (read_in rows.now sweep link) factors.now) }
+    ensures travel { IfSome result (λ p. p.travel.now ≡ factors.now.travel) }
+    ensures none { IfNone result (0 < rows.now.step_count
+        → Any (λ v. factors.now.travel.limit ≤ v) (taken_by (read_in rows.now sweep link) factors.now)) }
     ensures others { (k : ℕ) → (m : ℕ) → m < 4 → (m ≡ lane → ⊥)
         → slice_index lanes.new (4 * k + m) ≡ slice_index lanes.old (4 * k + m) }
 {
-    let total = share_ready(
-        leaving,
-        &factors.part,
-        factors.travel.starting_factor,
-        factors.travel.limit,
-        lane,
-        lanes,
-    );
-    match total {
+    let leaving = rows.read(sweep, link, factors.feeder);
+    let part = &factors.part;
+    let travel = &factors.travel;
+    let factor = travel.starting_factor;
+    match share_ready(leaving, part, factor, travel.limit, lane, lanes) {
         None => None,
         Some(total) => {
             Some(Platoon {
                 leaving,
-                part: factors.part,
+                part,
                 total,
-                travel: factors.travel,
+                travel,
             })
         }
     }

@@ -1,14 +1,16 @@
 -- What four feeds bring is added, side by side or one after the other.
-use Rattle.std.proofs.Common.{◌≡◌, ℕ, ◌+◌, ◌-◌, ◌*◌, ◌^◌, ◌<◌, List, All, IfSome, refl, ap, sym, subst, ◌∙◌, arith}
+use Rattle.std.proofs.Common.{◌≡◌, ℕ, ◌+◌, ◌-◌, ◌*◌, ◌^◌, ◌<◌, List, All, get_or, ap, sym, subst, ◌∙◌, arith}
+use Rattle.std.proofs.lemmas.List.Elements.{All-set}
 use Rattle.transyt_profile.specs.Profile.{added, folded}
-use Rattle.transyt_platoon.specs.Platoon.{travel_steps}
-use Rattle.transyt_platoon.specs.Travels.{arriving, sent}
-use Rattle.transyt_platoon.specs.declared.platoon.Platoon.{Platoon}
+use Rattle.transyt_platoon.specs.Travels.{arriving}
 use Rattle.transyt_parts.specs.declared.frame.Frame.{Frame}
 use Rattle.transyt_net.specs.Parts.{Network}
-use Rattle.transyt_sweep.specs.Cell.{brought, taken}
+use Rattle.transyt_sweep.specs.Cell.{brought}
+use Rattle.transyt_sweep.specs.Factors.{AreFactors}
+use Rattle.transyt_sweep.specs.declared.factors.Factors.{Factors}
 use Rattle.transyt_sweep.specs.Rows.{read_in}
-use Rattle.transyt_sweep.proofs.InflowLaws.{brought_by}
+use Rattle.transyt_sweep.proofs.SlotLaws.{are_as, no_factors, with_four, is_four}
+use Rattle.transyt_sweep.proofs.SendingLaws.{ready_kept, sent_ready, sent_brings}
 use Rattle.transyt_sweep.proofs.inflow.add_four.Goals as goal
 
 pub add_feed-requires-in_default-clause-turns_small : goal.add_feed-requires-in_default-clause-turns_small
@@ -25,6 +27,78 @@ pub returns-in_default-clause-grows : goal.returns-in_default-clause-grows
 returns-in_default-clause-grows c = λ limit within j d h.
     omega (arith, c.add_feed-in_default-3.ensures.grows (limit + 2 ^ 44 + 2 ^ 44 + 2 ^ 44) (c.add_feed-in_default-2.ensures.grows (limit + 2 ^ 44 + 2 ^ 44) (c.add_feed-in_default.ensures.grows (limit + 2 ^ 44) (c.add_feed.ensures.grows (limit) (within)))) j d h)
 
+-- each feed's factors are in its slot
+pub send_feed-two_sent-requires-clause-are : goal.send_feed-two_sent-requires-clause-are
+send_feed-two_sent-requires-clause-are c =
+    let slots : List Factors =
+    with_four c.args.slots.now c.renew_feed.new.slot c.renew_feed-2.new.slot c.renew_feed-3.new.slot c.renew_feed-4.new.slot in
+    are_as c.args.rows.now.step_count c.args.net.now.frame.step_count (get_or slots 1 no_factors) c.renew_feed-2.new.slot
+    c.requires.fits.step_count
+    (ap (λ fs. get_or fs 1 no_factors) (is_four c.args.slots.now c.renew_feed.new.slot c.renew_feed-2.new.slot c.renew_feed-3.new.slot c.renew_feed-4.new.slot c.requires.slots_len))
+    c.renew_feed-2.ensures.are
+
+pub send_feed-three_sent-requires-clause-are : goal.send_feed-three_sent-requires-clause-are
+send_feed-three_sent-requires-clause-are c =
+    let slots : List Factors =
+    with_four c.args.slots.now c.renew_feed.new.slot c.renew_feed-2.new.slot c.renew_feed-3.new.slot c.renew_feed-4.new.slot in
+    are_as c.args.rows.now.step_count c.args.net.now.frame.step_count (get_or slots 2 no_factors) c.renew_feed-3.new.slot
+    c.requires.fits.step_count
+    (ap (λ fs. get_or fs 2 no_factors) (is_four c.args.slots.now c.renew_feed.new.slot c.renew_feed-2.new.slot c.renew_feed-3.new.slot c.renew_feed-4.new.slot c.requires.slots_len))
+    c.renew_feed-3.ensures.are
+
+pub send_feed-four_sent-requires-clause-are : goal.send_feed-four_sent-requires-clause-are
+send_feed-four_sent-requires-clause-are c =
+    let slots : List Factors =
+    with_four c.args.slots.now c.renew_feed.new.slot c.renew_feed-2.new.slot c.renew_feed-3.new.slot c.renew_feed-4.new.slot in
+    are_as c.args.rows.now.step_count c.args.net.now.frame.step_count (get_or slots 3 no_factors) c.renew_feed-4.new.slot
+    c.requires.fits.step_count
+    (ap (λ fs. get_or fs 3 no_factors) (is_four c.args.slots.now c.renew_feed.new.slot c.renew_feed-2.new.slot c.renew_feed-3.new.slot c.renew_feed-4.new.slot c.requires.slots_len))
+    c.renew_feed-4.ensures.are
+
+-- and each is ready until all are
+pub disperse_four-requires-clause-x_ready : goal.disperse_four-requires-clause-x_ready
+disperse_four-requires-clause-x_ready c =
+    let sent = c.in-Some-Some-Some-Some in
+    let same : c.args.rows.now.step_count ≡ c.frame-steps.result.step_count =
+    c.requires.fits.step_count ∙ sym (ap (λ (f : Frame). f.step_count) c.frame-steps.ensures.value) in
+    ready_kept c.frame-steps.result.step_count 0 3 c.send_feed-three_sent.new.lanes c.send_feed-four_sent.new.lanes
+    sent.one_sent (omega arith) (λ taken. omega (arith, taken)) c.send_feed-four_sent.ensures.others
+    (ready_kept c.frame-steps.result.step_count 0 2 c.send_feed-two_sent.new.lanes c.send_feed-three_sent.new.lanes
+    sent.one_sent (omega arith) (λ taken. omega (arith, taken)) c.send_feed-three_sent.ensures.others
+    (ready_kept c.frame-steps.result.step_count 0 1 c.send_feed-one_sent.new.lanes c.send_feed-two_sent.new.lanes
+    sent.one_sent (omega arith) (λ taken. omega (arith, taken)) c.send_feed-two_sent.ensures.others
+    (sent_ready c.args.rows.now.step_count c.frame-steps.result.step_count 0 c.send_feed-one_sent.new.lanes
+    c.send_feed-one_sent.result sent.one_sent sent.is-0 same c.send_feed-one_sent.ensures.ready)))
+
+pub disperse_four-requires-clause-y_ready : goal.disperse_four-requires-clause-y_ready
+disperse_four-requires-clause-y_ready c =
+    let sent = c.in-Some-Some-Some-Some in
+    let same : c.args.rows.now.step_count ≡ c.frame-steps.result.step_count =
+    c.requires.fits.step_count ∙ sym (ap (λ (f : Frame). f.step_count) c.frame-steps.ensures.value) in
+    ready_kept c.frame-steps.result.step_count 1 3 c.send_feed-three_sent.new.lanes c.send_feed-four_sent.new.lanes
+    sent.two_sent (omega arith) (λ taken. omega (arith, taken)) c.send_feed-four_sent.ensures.others
+    (ready_kept c.frame-steps.result.step_count 1 2 c.send_feed-two_sent.new.lanes c.send_feed-three_sent.new.lanes
+    sent.two_sent (omega arith) (λ taken. omega (arith, taken)) c.send_feed-three_sent.ensures.others
+    (sent_ready c.args.rows.now.step_count c.frame-steps.result.step_count 1 c.send_feed-two_sent.new.lanes
+    c.send_feed-two_sent.result sent.two_sent sent.is-1 same c.send_feed-two_sent.ensures.ready))
+
+pub disperse_four-requires-clause-z_ready : goal.disperse_four-requires-clause-z_ready
+disperse_four-requires-clause-z_ready c =
+    let sent = c.in-Some-Some-Some-Some in
+    let same : c.args.rows.now.step_count ≡ c.frame-steps.result.step_count =
+    c.requires.fits.step_count ∙ sym (ap (λ (f : Frame). f.step_count) c.frame-steps.ensures.value) in
+    ready_kept c.frame-steps.result.step_count 2 3 c.send_feed-three_sent.new.lanes c.send_feed-four_sent.new.lanes
+    sent.three_sent (omega arith) (λ taken. omega (arith, taken)) c.send_feed-four_sent.ensures.others
+    (sent_ready c.args.rows.now.step_count c.frame-steps.result.step_count 2 c.send_feed-three_sent.new.lanes
+    c.send_feed-three_sent.result sent.three_sent sent.is-2 same c.send_feed-three_sent.ensures.ready)
+
+-- what stands leaves room for them
+pub disperse_four-requires-clause-fit : goal.disperse_four-requires-clause-fit
+disperse_four-requires-clause-fit c =
+    subst (λ k. All (λ v. v < 2 ^ 48) (folded k c.args.turns.now))
+    (sym (ap (λ (f : Frame). f.step_count) c.frame-steps.ensures.value))
+    (λ j d h. omega (arith, c.requires.turns_small j d h))
+
 -- side by side, each brings the part that goes on, after its travel
 pub returns-in-Some-Some-Some-Some-clause-value : goal.returns-in-Some-Some-Some-Some-clause-value
 returns-in-Some-Some-Some-Some-clause-value c =
@@ -32,34 +106,51 @@ returns-in-Some-Some-Some-Some-clause-value c =
     let net : Network = c.args.net.now in
     let n : ℕ = net.frame.step_count in
     let turns : List ℕ = c.disperse_four.new.turns in
-    let sum : folded n turns ≡ added (added (added (added (folded n c.args.turns.now) (arriving c.in-Some-Some-Some-Some.one_sent)) (arriving c.in-Some-Some-Some-Some.two_sent)) (arriving c.in-Some-Some-Some-Some.three_sent)) (arriving c.in-Some-Some-Some-Some.four_sent) =
-    subst (λ k. folded k turns ≡ added (added (added (added (folded k c.args.turns.now) (arriving c.in-Some-Some-Some-Some.one_sent)) (arriving c.in-Some-Some-Some-Some.two_sent)) (arriving c.in-Some-Some-Some-Some.three_sent)) (arriving c.in-Some-Some-Some-Some.four_sent))
+    let sent = c.in-Some-Some-Some-Some in
+    let slots : List Factors =
+    with_four c.args.slots.now c.renew_feed.new.slot c.renew_feed-2.new.slot c.renew_feed-3.new.slot c.renew_feed-4.new.slot in
+    let all = is_four c.args.slots.now c.renew_feed.new.slot c.renew_feed-2.new.slot c.renew_feed-3.new.slot c.renew_feed-4.new.slot c.requires.slots_len in
+    let sum : folded n turns ≡ added (added (added (added (folded n c.args.turns.now) (arriving sent.one_sent)) (arriving sent.two_sent)) (arriving sent.three_sent)) (arriving sent.four_sent) =
+    subst (λ k. folded k turns ≡ added (added (added (added (folded k c.args.turns.now) (arriving sent.one_sent)) (arriving sent.two_sent)) (arriving sent.three_sent)) (arriving sent.four_sent))
     (ap (λ (f : Frame). f.step_count) c.frame-steps.ensures.value) c.disperse_four.ensures.value in
-    let one_brings : arriving c.in-Some-Some-Some-Some.one_sent ≡ brought net read c.args.one =
-    brought_by net read c.args.one (sent c.in-Some-Some-Some-Some.one_sent) (arriving c.in-Some-Some-Some-Some.one_sent) c.in-Some-Some-Some-Some.one_sent.travel.time c.in-Some-Some-Some-Some.one_sent.travel.percent refl
-    (subst (λ r. IfSome r (λ (p : Platoon). sent p ≡ taken net read c.args.one)) c.in-Some-Some-Some-Some.is-0 c.send_feed-one_sent.ensures.taken)
-    (subst (λ r. IfSome r (λ (p : Platoon). p.travel.time ≡ travel_steps c.args.one.cruise net.frame.step_count net.frame.cycle)) c.in-Some-Some-Some-Some.is-0 c.send_feed-one_sent.ensures.time)
-    (subst (λ r. IfSome r (λ (p : Platoon). p.travel.percent ≡ net.frame.dispersion)) c.in-Some-Some-Some-Some.is-0 c.send_feed-one_sent.ensures.percent) in
-    let two_brings : arriving c.in-Some-Some-Some-Some.two_sent ≡ brought net read c.args.two =
-    brought_by net read c.args.two (sent c.in-Some-Some-Some-Some.two_sent) (arriving c.in-Some-Some-Some-Some.two_sent) c.in-Some-Some-Some-Some.two_sent.travel.time c.in-Some-Some-Some-Some.two_sent.travel.percent refl
-    (subst (λ r. IfSome r (λ (p : Platoon). sent p ≡ taken net read c.args.two)) c.in-Some-Some-Some-Some.is-1 c.send_feed-two_sent.ensures.taken)
-    (subst (λ r. IfSome r (λ (p : Platoon). p.travel.time ≡ travel_steps c.args.two.cruise net.frame.step_count net.frame.cycle)) c.in-Some-Some-Some-Some.is-1 c.send_feed-two_sent.ensures.time)
-    (subst (λ r. IfSome r (λ (p : Platoon). p.travel.percent ≡ net.frame.dispersion)) c.in-Some-Some-Some-Some.is-1 c.send_feed-two_sent.ensures.percent) in
-    let three_brings : arriving c.in-Some-Some-Some-Some.three_sent ≡ brought net read c.args.three =
-    brought_by net read c.args.three (sent c.in-Some-Some-Some-Some.three_sent) (arriving c.in-Some-Some-Some-Some.three_sent) c.in-Some-Some-Some-Some.three_sent.travel.time c.in-Some-Some-Some-Some.three_sent.travel.percent refl
-    (subst (λ r. IfSome r (λ (p : Platoon). sent p ≡ taken net read c.args.three)) c.in-Some-Some-Some-Some.is-2 c.send_feed-three_sent.ensures.taken)
-    (subst (λ r. IfSome r (λ (p : Platoon). p.travel.time ≡ travel_steps c.args.three.cruise net.frame.step_count net.frame.cycle)) c.in-Some-Some-Some-Some.is-2 c.send_feed-three_sent.ensures.time)
-    (subst (λ r. IfSome r (λ (p : Platoon). p.travel.percent ≡ net.frame.dispersion)) c.in-Some-Some-Some-Some.is-2 c.send_feed-three_sent.ensures.percent) in
-    let four_brings : arriving c.in-Some-Some-Some-Some.four_sent ≡ brought net read c.args.four =
-    brought_by net read c.args.four (sent c.in-Some-Some-Some-Some.four_sent) (arriving c.in-Some-Some-Some-Some.four_sent) c.in-Some-Some-Some-Some.four_sent.travel.time c.in-Some-Some-Some-Some.four_sent.travel.percent refl
-    (subst (λ r. IfSome r (λ (p : Platoon). sent p ≡ taken net read c.args.four)) c.in-Some-Some-Some-Some.is-3 c.send_feed-four_sent.ensures.taken)
-    (subst (λ r. IfSome r (λ (p : Platoon). p.travel.time ≡ travel_steps c.args.four.cruise net.frame.step_count net.frame.cycle)) c.in-Some-Some-Some-Some.is-3 c.send_feed-four_sent.ensures.time)
-    (subst (λ r. IfSome r (λ (p : Platoon). p.travel.percent ≡ net.frame.dispersion)) c.in-Some-Some-Some-Some.is-3 c.send_feed-four_sent.ensures.percent) in
+    let one_brings : arriving sent.one_sent ≡ brought net read c.args.one =
+    sent_brings net read c.args.one (get_or slots 0 no_factors) c.renew_feed.new.slot c.send_feed-one_sent.result
+    sent.one_sent sent.is-0 (ap (λ fs. get_or fs 0 no_factors) all) c.renew_feed.ensures.serve
+    c.send_feed-one_sent.ensures.taken c.send_feed-one_sent.ensures.travel in
+    let two_brings : arriving sent.two_sent ≡ brought net read c.args.two =
+    sent_brings net read c.args.two (get_or slots 1 no_factors) c.renew_feed-2.new.slot c.send_feed-two_sent.result
+    sent.two_sent sent.is-1 (ap (λ fs. get_or fs 1 no_factors) all) c.renew_feed-2.ensures.serve
+    c.send_feed-two_sent.ensures.taken c.send_feed-two_sent.ensures.travel in
+    let three_brings : arriving sent.three_sent ≡ brought net read c.args.three =
+    sent_brings net read c.args.three (get_or slots 2 no_factors) c.renew_feed-3.new.slot c.send_feed-three_sent.result
+    sent.three_sent sent.is-2 (ap (λ fs. get_or fs 2 no_factors) all) c.renew_feed-3.ensures.serve
+    c.send_feed-three_sent.ensures.taken c.send_feed-three_sent.ensures.travel in
+    let four_brings : arriving sent.four_sent ≡ brought net read c.args.four =
+    sent_brings net read c.args.four (get_or slots 3 no_factors) c.renew_feed-4.new.slot c.send_feed-four_sent.result
+    sent.four_sent sent.is-3 (ap (λ fs. get_or fs 3 no_factors) all) c.renew_feed-4.ensures.serve
+    c.send_feed-four_sent.ensures.taken c.send_feed-four_sent.ensures.travel in
     sum
-    ∙ ap (λ x. added (added (added (added (folded n c.args.turns.now) x) (arriving c.in-Some-Some-Some-Some.two_sent)) (arriving c.in-Some-Some-Some-Some.three_sent)) (arriving c.in-Some-Some-Some-Some.four_sent)) one_brings
-    ∙ ap (λ x. added (added (added (added (folded n c.args.turns.now) (brought net read c.args.one)) x) (arriving c.in-Some-Some-Some-Some.three_sent)) (arriving c.in-Some-Some-Some-Some.four_sent)) two_brings
-    ∙ ap (λ x. added (added (added (added (folded n c.args.turns.now) (brought net read c.args.one)) (brought net read c.args.two)) x) (arriving c.in-Some-Some-Some-Some.four_sent)) three_brings
+    ∙ ap (λ x. added (added (added (added (folded n c.args.turns.now) x) (arriving sent.two_sent)) (arriving sent.three_sent)) (arriving sent.four_sent)) one_brings
+    ∙ ap (λ x. added (added (added (added (folded n c.args.turns.now) (brought net read c.args.one)) x) (arriving sent.three_sent)) (arriving sent.four_sent)) two_brings
+    ∙ ap (λ x. added (added (added (added (folded n c.args.turns.now) (brought net read c.args.one)) (brought net read c.args.two)) x) (arriving sent.four_sent)) three_brings
     ∙ ap (λ x. added (added (added (added (folded n c.args.turns.now) (brought net read c.args.one)) (brought net read c.args.two)) (brought net read c.args.three)) x) four_brings
+
+-- what is worked out anew is right too
+pub returns-in-Some-Some-Some-Some-clause-slots : goal.returns-in-Some-Some-Some-Some-clause-slots
+returns-in-Some-Some-Some-Some-clause-slots c =
+    All-set (AreFactors c.args.net.now.frame.step_count) _ 3 _ c.renew_feed-4.ensures.are
+    (All-set (AreFactors c.args.net.now.frame.step_count) _ 2 _ c.renew_feed-3.ensures.are
+    (All-set (AreFactors c.args.net.now.frame.step_count) _ 1 _ c.renew_feed-2.ensures.are
+    (All-set (AreFactors c.args.net.now.frame.step_count) _ 0 _ c.renew_feed.ensures.are
+    c.requires.slots)))
+
+pub returns-in_default-clause-slots : goal.returns-in_default-clause-slots
+returns-in_default-clause-slots c =
+    All-set (AreFactors c.args.net.now.frame.step_count) _ 3 _ c.renew_feed-4.ensures.are
+    (All-set (AreFactors c.args.net.now.frame.step_count) _ 2 _ c.renew_feed-3.ensures.are
+    (All-set (AreFactors c.args.net.now.frame.step_count) _ 1 _ c.renew_feed-2.ensures.are
+    (All-set (AreFactors c.args.net.now.frame.step_count) _ 0 _ c.renew_feed.ensures.are
+    c.requires.slots)))
 
 -- and together they raise it by less
 pub returns-in-Some-Some-Some-Some-clause-grows : goal.returns-in-Some-Some-Some-Some-clause-grows

@@ -1,14 +1,16 @@
 -- What three feeds bring is added, side by side or one after the other.
-use Rattle.std.proofs.Common.{◌≡◌, ℕ, ◌+◌, ◌-◌, ◌*◌, ◌^◌, ◌<◌, List, All, IfSome, refl, ap, sym, subst, ◌∙◌, arith}
+use Rattle.std.proofs.Common.{◌≡◌, ℕ, ◌+◌, ◌-◌, ◌*◌, ◌^◌, ◌<◌, List, All, get_or, ap, sym, subst, ◌∙◌, arith}
+use Rattle.std.proofs.lemmas.List.Elements.{All-set}
 use Rattle.transyt_profile.specs.Profile.{added, folded}
-use Rattle.transyt_platoon.specs.Platoon.{travel_steps}
-use Rattle.transyt_platoon.specs.Travels.{arriving, sent}
-use Rattle.transyt_platoon.specs.declared.platoon.Platoon.{Platoon}
+use Rattle.transyt_platoon.specs.Travels.{arriving}
 use Rattle.transyt_parts.specs.declared.frame.Frame.{Frame}
 use Rattle.transyt_net.specs.Parts.{Network}
-use Rattle.transyt_sweep.specs.Cell.{brought, taken}
+use Rattle.transyt_sweep.specs.Cell.{brought}
+use Rattle.transyt_sweep.specs.Factors.{AreFactors}
+use Rattle.transyt_sweep.specs.declared.factors.Factors.{Factors}
 use Rattle.transyt_sweep.specs.Rows.{read_in}
-use Rattle.transyt_sweep.proofs.InflowLaws.{brought_by}
+use Rattle.transyt_sweep.proofs.SlotLaws.{no_factors, with_three, is_three}
+use Rattle.transyt_sweep.proofs.SendingLaws.{sent_brings}
 use Rattle.transyt_sweep.proofs.inflow.add_three.Goals as goal
 
 pub add_feed-requires-in_default-clause-turns_small : goal.add_feed-requires-in_default-clause-turns_small
@@ -29,28 +31,44 @@ returns-in-Some-Some-Some-clause-value c =
     let net : Network = c.args.net.now in
     let n : ℕ = net.frame.step_count in
     let turns : List ℕ = c.disperse_three.new.turns in
-    let sum : folded n turns ≡ added (added (added (folded n c.args.turns.now) (arriving c.in-Some-Some-Some.one_sent)) (arriving c.in-Some-Some-Some.two_sent)) (arriving c.in-Some-Some-Some.three_sent) =
-    subst (λ k. folded k turns ≡ added (added (added (folded k c.args.turns.now) (arriving c.in-Some-Some-Some.one_sent)) (arriving c.in-Some-Some-Some.two_sent)) (arriving c.in-Some-Some-Some.three_sent))
+    let sent = c.in-Some-Some-Some in
+    let slots : List Factors =
+    with_three c.args.slots.now c.renew_feed.new.slot c.renew_feed-2.new.slot c.renew_feed-3.new.slot in
+    let all = is_three c.args.slots.now c.renew_feed.new.slot c.renew_feed-2.new.slot c.renew_feed-3.new.slot c.requires.slots_len in
+    let sum : folded n turns ≡ added (added (added (folded n c.args.turns.now) (arriving sent.one_sent)) (arriving sent.two_sent)) (arriving sent.three_sent) =
+    subst (λ k. folded k turns ≡ added (added (added (folded k c.args.turns.now) (arriving sent.one_sent)) (arriving sent.two_sent)) (arriving sent.three_sent))
     (ap (λ (f : Frame). f.step_count) c.frame-steps.ensures.value) c.disperse_three.ensures.value in
-    let one_brings : arriving c.in-Some-Some-Some.one_sent ≡ brought net read c.args.one =
-    brought_by net read c.args.one (sent c.in-Some-Some-Some.one_sent) (arriving c.in-Some-Some-Some.one_sent) c.in-Some-Some-Some.one_sent.travel.time c.in-Some-Some-Some.one_sent.travel.percent refl
-    (subst (λ r. IfSome r (λ (p : Platoon). sent p ≡ taken net read c.args.one)) c.in-Some-Some-Some.is-0 c.send_feed-one_sent.ensures.taken)
-    (subst (λ r. IfSome r (λ (p : Platoon). p.travel.time ≡ travel_steps c.args.one.cruise net.frame.step_count net.frame.cycle)) c.in-Some-Some-Some.is-0 c.send_feed-one_sent.ensures.time)
-    (subst (λ r. IfSome r (λ (p : Platoon). p.travel.percent ≡ net.frame.dispersion)) c.in-Some-Some-Some.is-0 c.send_feed-one_sent.ensures.percent) in
-    let two_brings : arriving c.in-Some-Some-Some.two_sent ≡ brought net read c.args.two =
-    brought_by net read c.args.two (sent c.in-Some-Some-Some.two_sent) (arriving c.in-Some-Some-Some.two_sent) c.in-Some-Some-Some.two_sent.travel.time c.in-Some-Some-Some.two_sent.travel.percent refl
-    (subst (λ r. IfSome r (λ (p : Platoon). sent p ≡ taken net read c.args.two)) c.in-Some-Some-Some.is-1 c.send_feed-two_sent.ensures.taken)
-    (subst (λ r. IfSome r (λ (p : Platoon). p.travel.time ≡ travel_steps c.args.two.cruise net.frame.step_count net.frame.cycle)) c.in-Some-Some-Some.is-1 c.send_feed-two_sent.ensures.time)
-    (subst (λ r. IfSome r (λ (p : Platoon). p.travel.percent ≡ net.frame.dispersion)) c.in-Some-Some-Some.is-1 c.send_feed-two_sent.ensures.percent) in
-    let three_brings : arriving c.in-Some-Some-Some.three_sent ≡ brought net read c.args.three =
-    brought_by net read c.args.three (sent c.in-Some-Some-Some.three_sent) (arriving c.in-Some-Some-Some.three_sent) c.in-Some-Some-Some.three_sent.travel.time c.in-Some-Some-Some.three_sent.travel.percent refl
-    (subst (λ r. IfSome r (λ (p : Platoon). sent p ≡ taken net read c.args.three)) c.in-Some-Some-Some.is-2 c.send_feed-three_sent.ensures.taken)
-    (subst (λ r. IfSome r (λ (p : Platoon). p.travel.time ≡ travel_steps c.args.three.cruise net.frame.step_count net.frame.cycle)) c.in-Some-Some-Some.is-2 c.send_feed-three_sent.ensures.time)
-    (subst (λ r. IfSome r (λ (p : Platoon). p.travel.percent ≡ net.frame.dispersion)) c.in-Some-Some-Some.is-2 c.send_feed-three_sent.ensures.percent) in
+    let one_brings : arriving sent.one_sent ≡ brought net read c.args.one =
+    sent_brings net read c.args.one (get_or slots 0 no_factors) c.renew_feed.new.slot c.send_feed-one_sent.result
+    sent.one_sent sent.is-0 (ap (λ fs. get_or fs 0 no_factors) all) c.renew_feed.ensures.serve
+    c.send_feed-one_sent.ensures.taken c.send_feed-one_sent.ensures.travel in
+    let two_brings : arriving sent.two_sent ≡ brought net read c.args.two =
+    sent_brings net read c.args.two (get_or slots 1 no_factors) c.renew_feed-2.new.slot c.send_feed-two_sent.result
+    sent.two_sent sent.is-1 (ap (λ fs. get_or fs 1 no_factors) all) c.renew_feed-2.ensures.serve
+    c.send_feed-two_sent.ensures.taken c.send_feed-two_sent.ensures.travel in
+    let three_brings : arriving sent.three_sent ≡ brought net read c.args.three =
+    sent_brings net read c.args.three (get_or slots 2 no_factors) c.renew_feed-3.new.slot c.send_feed-three_sent.result
+    sent.three_sent sent.is-2 (ap (λ fs. get_or fs 2 no_factors) all) c.renew_feed-3.ensures.serve
+    c.send_feed-three_sent.ensures.taken c.send_feed-three_sent.ensures.travel in
     sum
-    ∙ ap (λ x. added (added (added (folded n c.args.turns.now) x) (arriving c.in-Some-Some-Some.two_sent)) (arriving c.in-Some-Some-Some.three_sent)) one_brings
-    ∙ ap (λ x. added (added (added (folded n c.args.turns.now) (brought net read c.args.one)) x) (arriving c.in-Some-Some-Some.three_sent)) two_brings
+    ∙ ap (λ x. added (added (added (folded n c.args.turns.now) x) (arriving sent.two_sent)) (arriving sent.three_sent)) one_brings
+    ∙ ap (λ x. added (added (added (folded n c.args.turns.now) (brought net read c.args.one)) x) (arriving sent.three_sent)) two_brings
     ∙ ap (λ x. added (added (added (folded n c.args.turns.now) (brought net read c.args.one)) (brought net read c.args.two)) x) three_brings
+
+-- what is worked out anew is right too
+pub returns-in-Some-Some-Some-clause-slots : goal.returns-in-Some-Some-Some-clause-slots
+returns-in-Some-Some-Some-clause-slots c =
+    All-set (AreFactors c.args.net.now.frame.step_count) _ 2 _ c.renew_feed-3.ensures.are
+    (All-set (AreFactors c.args.net.now.frame.step_count) _ 1 _ c.renew_feed-2.ensures.are
+    (All-set (AreFactors c.args.net.now.frame.step_count) _ 0 _ c.renew_feed.ensures.are
+    c.requires.slots))
+
+pub returns-in_default-clause-slots : goal.returns-in_default-clause-slots
+returns-in_default-clause-slots c =
+    All-set (AreFactors c.args.net.now.frame.step_count) _ 2 _ c.renew_feed-3.ensures.are
+    (All-set (AreFactors c.args.net.now.frame.step_count) _ 1 _ c.renew_feed-2.ensures.are
+    (All-set (AreFactors c.args.net.now.frame.step_count) _ 0 _ c.renew_feed.ensures.are
+    c.requires.slots))
 
 -- and together they raise it by less
 pub returns-in-Some-Some-Some-clause-grows : goal.returns-in-Some-Some-Some-clause-grows

@@ -1,5 +1,5 @@
 -- Four feeds more, or three, or one.
-use Rattle.std.proofs.Common.{◌≡◌, ℕ, ◌+◌, ◌*◌, ◌/◌, ◌^◌, List, length, take, get_or, arith, rules, refl, ap, ◌∙◌}
+use Rattle.std.proofs.Common.{◌≡◌, ℕ, ◌+◌, ◌-◌, ◌*◌, ◌/◌, ◌^◌, List, length, take, get_or, arith, rules, refl, ap, ◌∙◌}
 use Rattle.transyt_parts.specs.declared.link.Feed.{Feed}
 use Rattle.transyt_parts.specs.Parts.{LinkValue}
 use Rattle.transyt_profile.specs.Profile.{folded}
@@ -7,6 +7,7 @@ use Rattle.transyt_net.specs.Parts.{link_of}
 use Rattle.transyt_sweep.specs.Cell.{brought, inflow_of}
 use Rattle.transyt_sweep.specs.Rows.{read_in}
 use Rattle.transyt_sweep.proofs.InflowLaws.{inflow_more, inflow_three, inflow_four}
+use Rattle.transyt_sweep.proofs.SlotLaws.{are_put}
 use Rattle.transyt_sweep.proofs.inflow.fill_inflow.Goals as goal
 
 -- four feeds more
@@ -33,10 +34,13 @@ fours-preserved c =
     record {
       room = search rules;
       turns = search rules;
-      kept = c.add_four.ensures.kept;
+      kept =
+          let place : ℕ = c.own_place-own.result + p in
+          are_put c.args.net.now.frame.step_count place (place + 4 - place) c.fours.kept c.add_four.new.slots
+          c.fours.invariant.kept c.add_four.ensures.slots;
       value = inflow_four c.args.net.now read link.entry link.feeds link.feeds p one two three four (folded c.args.net.now.frame.step_count c.fours.turns)
           (brought c.args.net.now read one) (brought c.args.net.now read two) (brought c.args.net.now read three) (brought c.args.net.now read four) _ refl
-          (omega (arith, c.fours-test.true, c.len-fours.ensures, ap length feeds)) c.fours.invariant.value
+          (omega (arith, c.fours-test.true, c.grouped-side_by_side.ensures.most, c.len.ensures, ap length feeds)) c.fours.invariant.value
           (ap (brought c.args.net.now read) first) (ap (brought c.args.net.now read) second) (ap (brought c.args.net.now read) third) (ap (brought c.args.net.now read) fourth) c.add_four.ensures.value
           ∙ ap (λ n. inflow_of c.args.net.now read link.entry (take n link.feeds)) next;
       small = λ k d h. omega (
@@ -52,8 +56,8 @@ threes-preserved c =
     let link : LinkValue = link_of c.args.net.now c.args.link in
     let feeds : c.at.inside.feeds.items ≡ link.feeds =
     ap (λ (l : LinkValue). l.feeds) (c.at.view_is ∙ c.link-at.ensures.value) in
-    let p : ℕ = 4 * (c.len-fours.result / 4) + 3 * c.threes.i in
-    let next : p + 3 ≡ 4 * (c.len-fours.result / 4) + 3 * (c.threes.i + 1) = omega arith in
+    let p : ℕ = 4 * (c.grouped-side_by_side.result / 4) + 3 * c.threes.i in
+    let next : p + 3 ≡ 4 * (c.grouped-side_by_side.result / 4) + 3 * (c.threes.i + 1) = omega arith in
     let one = c.index-in-threes.result.now in
     let two = c.index-in-threes-2.result.now in
     let three = c.index-in-threes-3.result.now in
@@ -66,10 +70,13 @@ threes-preserved c =
     record {
       room = search rules;
       turns = search rules;
-      kept = c.add_three.ensures.kept;
+      kept =
+          let place : ℕ = c.own_place-own.result + p in
+          are_put c.args.net.now.frame.step_count place (place + 3 - place) c.threes.kept c.add_three.new.slots
+          c.threes.invariant.kept c.add_three.ensures.slots;
       value = inflow_three c.args.net.now read link.entry link.feeds link.feeds p one two three (folded c.args.net.now.frame.step_count c.threes.turns)
           (brought c.args.net.now read one) (brought c.args.net.now read two) (brought c.args.net.now read three) _ refl
-          (omega (arith, c.threes-test.true, c.len.ensures, c.len-fours.ensures, ap length feeds)) c.threes.invariant.value
+          (omega (arith, c.threes-test.true, c.grouped-side_by_side.ensures.most, c.len.ensures, ap length feeds)) c.threes.invariant.value
           (ap (brought c.args.net.now read) first) (ap (brought c.args.net.now read) second) (ap (brought c.args.net.now read) third) c.add_three.ensures.value
           ∙ ap (λ n. inflow_of c.args.net.now read link.entry (take n link.feeds)) next;
       small = λ k d h. omega (
