@@ -1,8 +1,9 @@
 //! What reaches the stop line of what comes to it.
 
-ghost use Rattle.std.specs.Prelude.{◌≡◌, ℕ, ◌^◌, ◌*◌, ◌<◌, ◌≤◌, ◌↔◌, IsTrue, MatchBool, length, sum, slice_index, All};
+ghost use Rattle.std.specs.Prelude.{◌≡◌, ℕ, ◌^◌, ◌*◌, ◌<◌, ◌≤◌, length, sum, slice_index, All};
 ghost use Rattle.transyt_stopline.specs.Cut.{arrivals_of, scaled};
 
+use crate::totals::Totals;
 use transyt_num::{divided_near, mul_div};
 use transyt_profile::total;
 
@@ -23,34 +24,37 @@ pub fn cut_arrivals(x: &[u64], go: &[u64], out: &mut [u64])
     ensures no_more { (i : ℕ) → slice_index out.new i ≤ slice_index x.now i }
     ensures small { All (λ v. v < 2 ^ 48) out.new }
 {
-    if !cut(x, go, out) {
+    if !cut(x, go, out).more_comes() {
         out.copy_from_slice(x);
     }
 }
 
-/// Writes what reaches the stop line only where more comes than the green lets pass, and says whether it does. Else all
-/// that comes arrives, and nobody need copy it: `out` then holds nothing of use.
+/// Writes what reaches the stop line only where more comes than the green lets pass, and answers both sums, which say
+/// whether it does. Else all that comes arrives, and nobody need copy it: `out` then holds nothing of use.
 ///
 /// The slices and the rule are those of `cut_arrivals`.
 #[tactic(auto, using(crate::proofs::CutLaws::arrivals_total, crate::proofs::CutLaws::arrivals_small))]
-pub fn cut(x: &[u64], go: &[u64], out: &mut [u64]) -> bool
+pub fn cut(x: &[u64], go: &[u64], out: &mut [u64]) -> Totals
     requires most { length x.now ≤ 120 }
     requires go_len { length go.now ≡ length x.now }
     requires out_len { length out.old ≡ length x.now }
     requires fit { All (λ v. v < 2 ^ 48) x.now }
     requires go_fit { All (λ v. v < 2 ^ 30) go.now }
-    ensures more { IsTrue result ↔ sum go.now < sum x.now }
-    ensures cut { MatchBool result (out.new ≡ arrivals_of x.now go.now) (x.now ≡ arrivals_of x.now go.now) }
+    ensures come { result.come ≡ sum x.now }
+    ensures served { result.served ≡ sum go.now }
+    ensures cut { result.served < result.come → out.new ≡ arrivals_of x.now go.now }
+    ensures uncut { result.come ≤ result.served → x.now ≡ arrivals_of x.now go.now }
     ensures total { sum (arrivals_of x.now go.now) ≤ sum go.now }
     ensures small { All (λ v. v < 2 ^ 48) (arrivals_of x.now go.now) }
 {
-    let come = total(x);
-    let served = total(go);
-    let more = served < come;
-    if more {
-        scale(x, served, come, out);
+    let totals = Totals {
+        come: total(x),
+        served: total(go),
+    };
+    if totals.more_comes() {
+        scale(x, totals.served, totals.come, out);
     }
-    more
+    totals
 }
 
 /// Scales each step down to `served` of `come`, the sum of all steps.

@@ -13,11 +13,13 @@ mod cutting;
 mod laws;
 mod queueing;
 mod stops;
+mod totals;
 
 pub use cutting::{cut, cut_arrivals};
 pub use laws::{one_queue, worked_cycles};
 pub use queueing::queue;
 pub use stops::stopped;
+pub use totals::Totals;
 
 #[cfg(test)]
 mod tests;

@@ -94,8 +94,11 @@ fn cycles_worked_out_by_hand(rt: HostRuntime) {
         cut_arrivals(&cycle.come, &cycle.go, &mut arrivals);
         assert_eq!(rt; arrivals, cycle.arrivals);
         let mut room = [1u64; 10];
+        let totals = cut(&cycle.come, &cycle.go, &mut room);
+        assert_eq!(rt; totals.come, cycle.come.iter().sum());
+        assert_eq!(rt; totals.served, cycle.go.iter().sum());
         // the room is written only where something is cut
-        if cut(&cycle.come, &cycle.go, &mut room) {
+        if totals.more_comes() {
             assert_eq!(rt; room, cycle.arrivals);
         } else {
             assert_eq!(rt; cycle.come, cycle.arrivals);
