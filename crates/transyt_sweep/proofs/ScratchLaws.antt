@@ -1,5 +1,7 @@
 -- What is seen in room for one link's work.
-use Rattle.std.proofs.Common.{◌≡◌, ℕ, List, sum}
+use Rattle.std.proofs.Common.{◌≡◌, ◌^◌, ◌<◌, ◌≤◌, ℕ, List, length, sum, All, arith}
+use Rattle.std.proofs.lemmas.Bool.Decides.{nat_tests}
+use Rattle.std.proofs.lemmas.List.Sums.{sum_by-le}
 use Rattle.transyt_stopline.specs.Cut.{arrivals_of}
 use Rattle.transyt_stopline.specs.Queue.{queues, outs}
 use Rattle.transyt_stopline.specs.Stops.{stopped_of}
@@ -18,6 +20,16 @@ seen arrivals go queue out weights = record {
   out = out;
   figures = figures (terms_in arrivals go queue weights);
 }
+
+-- the sum over a cycle is small where each step's value is
+pub sum_small : (limit : ℕ) (xs : List ℕ) → limit ≤ 2 ^ 48 → length xs ≤ 120 → All (λ v. v < limit) xs → sum xs < 2 ^ 55
+sum_small limit xs within few small =
+    let each : All (λ v. v ≤ 2 ^ 48) xs = λ k d h. let one = small k d h in omega (arith, one) in
+    omega (arith, sum_by-le (λ v. v) (2 ^ 48) xs each)
+
+-- where no more comes than the green lets pass, all of it reaches the stop line
+pub all_arrives : (come room : List ℕ) → sum come ≤ sum room → arrivals_of come room ≡ come
+all_arrives come room less = grind (arith, nat_tests)
 
 -- where the rows are those of a link and the weights are its own, the link is seen
 pub seen_is : (net : Network) (l : ℕ) (come room arrivals go queue out : List ℕ) (w : Weights)

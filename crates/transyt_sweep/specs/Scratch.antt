@@ -1,5 +1,6 @@
 -- What room for one link's work keeps to. No public clause cites it.
-use Rattle.std.specs.Prelude.{◌≡◌, ℕ, ◌*◌, ◌^◌, ◌<◌, ◌≤◌, true, false, List, length, sum, All}
+use Rattle.std.specs.Prelude.{◌≡◌, ℕ, ◌*◌, ◌^◌, ◌<◌, ◌≤◌, List, length, sum, All}
+use Rattle.transyt_stopline.specs.declared.totals.Totals.{Totals}
 use Rattle.transyt_stopline.specs.Cut.{arrivals_of}
 use Rattle.transyt_stopline.specs.Stops.{stopped_of}
 use Rattle.transyt_delay.specs.declared.terms.Terms.{Terms}
@@ -12,22 +13,28 @@ use Rattle.transyt_sweep.specs.declared.asked.Asked.TheVariants.{Known, Open}
 use Rattle.transyt_sweep.specs.Factors.{AreFactors}
 use Rattle.transyt_sweep.specs.Rows.{AreSmall}
 
--- what figures are made of: what comes and what can go, what stops of what reaches the stop line, and the weights
-abbrev pub terms_in : List ℕ → List ℕ → List ℕ → Weights → Terms
-terms_in come room queue weights = record {
-  arrivals = sum come;
-  room = sum room;
+-- what figures are made of: what comes and what can go in a cycle, what stops of what reaches the stop line, and the
+-- weights
+abbrev pub terms_with : Totals → List ℕ → List ℕ → Weights → Terms
+terms_with totals reaching queue weights = record {
+  arrivals = totals.come;
+  room = totals.served;
   queued = sum queue;
-  stopped = stopped_of (arrivals_of come room) queue;
+  stopped = stopped_of reaching queue;
   frame = weights.frame;
   delay_weight = weights.delay_weight;
   stop_weight = weights.stop_weight;
 }
 
+-- the same of what comes and what can go in each step
+abbrev pub terms_in : List ℕ → List ℕ → List ℕ → Weights → Terms
+terms_in come room queue weights =
+    terms_with (record { come = sum come; served = sum room }) (arrivals_of come room) queue weights
+
 -- the figures: those that are known, else what the rows give
 abbrev pub figures_in : List ℕ → List ℕ → List ℕ → Asked → Figures
 figures_in come room queue (Known f) = f
-figures_in come room queue (Open weights) = figures (terms_in come room queue weights)
+figures_in come room queue (Open weights totals) = figures (terms_in come room queue weights)
 
 -- weights and a frame's numbers with which figures can be worked out
 pub record AreWeights (w : Weights) : Type 0 where
@@ -38,21 +45,23 @@ pub record AreWeights (w : Weights) : Type 0 where
   pub delay_weight : w.delay_weight ≤ 999
   pub stop_weight : w.stop_weight ≤ 999
 
--- figures can be worked out of these rows: they are within bounds, and what is cut is there where anything is
-pub record CanTell (come room queue reaching : List ℕ) (weights : Weights) : Type 0 where
+-- figures can be worked out of these rows: they are within bounds, their sums are right, and what is cut is there where
+-- anything is
+pub record CanTell (come room queue reaching : List ℕ) (weights : Weights) (totals : Totals) : Type 0 where
   pub steps : length come ≤ 120
   pub come_small : All (λ v. v < 2 ^ 48) come
   pub room_small : All (λ v. v < 2 ^ 30) room
   pub queue_small : All (λ v. v < 2 ^ 37) queue
   pub reached_small : All (λ v. v < 2 ^ 48) (arrivals_of come room)
-  pub uncut : weights.is_cut ≡ false → come ≡ arrivals_of come room
-  pub cut : weights.is_cut ≡ true → reaching ≡ arrivals_of come room
+  pub come_total : totals.come ≡ sum come
+  pub room_total : totals.served ≡ sum room
+  pub cut : totals.served < totals.come → reaching ≡ arrivals_of come room
   pub limits : AreWeights weights
 
 -- figures that are known are small, and others can be worked out
 abbrev pub AreTold : List ℕ → List ℕ → List ℕ → List ℕ → Asked → Type 0
 AreTold come room queue reaching (Known f) = AreSmall f
-AreTold come room queue reaching (Open weights) = CanTell come room queue reaching weights
+AreTold come room queue reaching (Open weights totals) = CanTell come room queue reaching weights totals
 
 -- all of it has a value for each step, what leaves is small, figures can be told, and factors are right
 pub record IsScratch (arrivals go queue out : List ℕ) (asked : Asked) (room reaching : List ℕ)

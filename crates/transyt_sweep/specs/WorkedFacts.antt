@@ -1,7 +1,8 @@
 -- Worked facts of rows: such as keep to what is said of them, at the limits, and such as are wrong in one thing alone.
-use Rattle.std.specs.Prelude.{ℕ, true, false, List, [], ◌∷◌, replicate}
+use Rattle.std.specs.Prelude.{ℕ, false, List, [], ◌∷◌, replicate}
 use Rattle.transyt_delay.specs.declared.terms.Terms.{Terms}
 use Rattle.transyt_delay.specs.declared.figures.Figures.{Figures}
+use Rattle.transyt_stopline.specs.declared.totals.Totals.{Totals}
 use Rattle.transyt_platoon.specs.declared.travel.Travel.{Travel}
 use Rattle.transyt_parts.specs.declared.frame.Frame.{Frame}
 use Rattle.transyt_parts.specs.declared.link.Feed.{Feed}
@@ -89,7 +90,6 @@ limiting = record {
   frame = record { cycle = 30; step_count = 1; period = 120; stop_penalty = 9999 };
   delay_weight = 999;
   stop_weight = 999;
-  is_cut = false;
 }
 
 -- one past each limit
@@ -103,42 +103,60 @@ past_limiting =
     ∷ record limiting { stop_weight = 1000 }
     ∷ []
 
--- the same weights where less reaches the stop line than comes
-abbrev pub cutting : Weights
-cutting = record limiting { is_cut = true }
+-- what comes in a cycle and what the green lets pass
+abbrev pub sums : ℕ → ℕ → Totals
+sums come served = record { come = come; served = served }
 
--- what comes, what can go, what waits, what was kept of what reaches the stop line, and weights
+-- what comes, what can go, what waits, what was kept of what reaches the stop line, weights, and both sums
 abbrev pub TellRow : Type 0
-TellRow = List ℕ × List ℕ × List ℕ × List ℕ × Weights
+TellRow = List ℕ × List ℕ × List ℕ × List ℕ × Weights × Totals
 
 -- Figures can be worked out of these: all that comes can go, and what was kept is of no account; or all is the
 -- greatest, and what can go reaches the stop line.
 abbrev pub telling : List TellRow
 telling =
-    (2 ∷ 3 ∷ [], 1 ∷ 4 ∷ [], 6 ∷ 7 ∷ [], 8 ∷ [], limiting)
-    ∷ (281474976710655 ∷ [], 1073741823 ∷ [], 137438953471 ∷ [], 1073741823 ∷ [], cutting)
+    (2 ∷ 3 ∷ [], 1 ∷ 4 ∷ [], 6 ∷ 7 ∷ [], 8 ∷ [], limiting, sums 5 5)
+    ∷ (2 ∷ 3 ∷ [], 2 ∷ 4 ∷ [], 6 ∷ 7 ∷ [], 8 ∷ [], limiting, sums 5 6)
+    ∷ (
+      281474976710655 ∷ [],
+      1073741823 ∷ [],
+      137438953471 ∷ [],
+      1073741823 ∷ [],
+      limiting,
+      sums 281474976710655 1073741823,
+    )
     ∷ []
 
 -- None can be worked out of these: a step too many; one more than the greatest that comes, that can go and that waits;
--- less reaches the stop line than comes, and the weights don't say so, or other than what was kept; and a weight.
+-- of each sum one less and one more, and both exchanged; other than what was kept reaches the stop line; and a weight.
 abbrev pub untelling : List TellRow
 untelling =
-    (replicate 121 0, [], [], [], limiting)
-    ∷ (281474976710656 ∷ [], 1073741823 ∷ [], 137438953471 ∷ [], 1073741823 ∷ [], cutting)
-    ∷ (2 ∷ [], 1073741824 ∷ [], 7 ∷ [], 2 ∷ [], limiting)
-    ∷ (2 ∷ [], 3 ∷ [], 137438953472 ∷ [], 2 ∷ [], limiting)
-    ∷ (5 ∷ [], 3 ∷ [], 7 ∷ [], 3 ∷ [], limiting)
-    ∷ (5 ∷ [], 3 ∷ [], 7 ∷ [], 4 ∷ [], cutting)
-    ∷ (5 ∷ [], 3 ∷ [], 7 ∷ [], 3 ∷ [], record cutting { stop_weight = 1000 })
+    (replicate 121 0, [], [], [], limiting, sums 0 0)
+    ∷ (
+      281474976710656 ∷ [],
+      1073741823 ∷ [],
+      137438953471 ∷ [],
+      1073741823 ∷ [],
+      limiting,
+      sums 281474976710656 1073741823,
+    )
+    ∷ (2 ∷ [], 1073741824 ∷ [], 7 ∷ [], 2 ∷ [], limiting, sums 2 1073741824)
+    ∷ (2 ∷ [], 3 ∷ [], 137438953472 ∷ [], 2 ∷ [], limiting, sums 2 3)
+    ∷ (5 ∷ [], 3 ∷ [], 7 ∷ [], 3 ∷ [], limiting, sums 4 3)
+    ∷ (5 ∷ [], 3 ∷ [], 7 ∷ [], 3 ∷ [], limiting, sums 6 3)
+    ∷ (5 ∷ [], 3 ∷ [], 7 ∷ [], 3 ∷ [], limiting, sums 5 2)
+    ∷ (5 ∷ [], 3 ∷ [], 7 ∷ [], 3 ∷ [], limiting, sums 5 4)
+    ∷ (5 ∷ [], 3 ∷ [], 7 ∷ [], 3 ∷ [], limiting, sums 3 5)
+    ∷ (5 ∷ [], 3 ∷ [], 7 ∷ [], 4 ∷ [], limiting, sums 5 3)
+    ∷ (5 ∷ [], 3 ∷ [], 7 ∷ [], 3 ∷ [], record limiting { stop_weight = 1000 }, sums 5 3)
     ∷ []
 
--- weights of a link, of whose arrivals less reaches the stop line
+-- weights of a link
 abbrev pub its_weights : Weights
 its_weights = record {
   frame = record { cycle = 90; step_count = 3; period = 45; stop_penalty = 37 };
   delay_weight = 5;
   stop_weight = 7;
-  is_cut = true;
 }
 
 -- in three steps: what comes, what can go, and what waits
@@ -274,13 +292,13 @@ ScratchRow = List ℕ × List ℕ × List ℕ × List ℕ × Asked × List ℕ �
 abbrev pub right_scratch : List ScratchRow
 right_scratch =
     (zeros 18, zeros 18, zeros 18, most, Known greatest, zeros 144, zeros 18, right_factors)
-    ∷ (zeros 18, zeros 18, zeros 18, most, Open limiting, zeros 144, zeros 18, [])
+    ∷ (zeros 18, zeros 18, zeros 18, most, Open limiting (sums 0 0), zeros 144, zeros 18, [])
     ∷ (
       2000000000 ∷ 0 ∷ [],
       600000000 ∷ 400000000 ∷ [],
       137438953471 ∷ 0 ∷ [],
       3 ∷ 4 ∷ [],
-      Open cutting,
+      Open limiting (sums 2000000000 1000000000),
       zeros 16,
       1000000000 ∷ 0 ∷ [],
       [],
@@ -328,7 +346,7 @@ wrong_open = (
   zeros 18,
   zeros 18,
   most,
-  Open (record limiting { stop_weight = 1000 }),
+  Open (record limiting { stop_weight = 1000 }) (sums 0 0),
   zeros 144,
   zeros 18,
   right_factors,

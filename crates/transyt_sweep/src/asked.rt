@@ -7,8 +7,9 @@ ghost use Rattle.transyt_sweep.specs.Scratch.{AreWeights};
 
 use transyt_delay::{Figures, TermsFrame};
 use transyt_net::Net;
+use transyt_stopline::Totals;
 
-/// What the figures of a link take beside its rows.
+/// What the figures of a link take beside its rows and their sums.
 #[derive(Clone, Copy)]
 pub(crate) struct Weights {
     /// The numbers of the network's frame.
@@ -17,8 +18,6 @@ pub(crate) struct Weights {
     pub(crate) delay_weight: u32,
     /// The link's weight of stops, a whole number.
     pub(crate) stop_weight: u32,
-    /// Whether less reaches the stop line than comes.
-    pub(crate) is_cut: bool,
 }
 
 /// The figures of a link, known or still open.
@@ -26,17 +25,16 @@ pub(crate) struct Weights {
 pub(crate) enum Asked {
     /// These.
     Known(Figures),
-    /// Those that the rows give with these weights.
-    Open(Weights),
+    /// Those that the rows give with these weights; what comes in a cycle and what can go in it are summed already.
+    Open(Weights, Totals),
 }
 
 /// The weights of the link at a place.
-pub(crate) fn weights_of(net: &Net, link: usize, is_cut: bool) -> Weights
+pub(crate) fn weights_of(net: &Net, link: usize) -> Weights
     requires link { link < length net.now.links }
     ensures frame { result.frame ≡ terms_frame net.now.frame }
     ensures delay_weight { result.delay_weight ≡ (link_of net.now link).delay_weight }
     ensures stop_weight { result.stop_weight ≡ (link_of net.now link).stop_weight }
-    ensures is_cut { result.is_cut ≡ is_cut }
     ensures are { AreWeights result }
 {
     let frame = net.frame();
@@ -50,6 +48,5 @@ pub(crate) fn weights_of(net: &Net, link: usize, is_cut: bool) -> Weights
         },
         delay_weight: at.delay_weight,
         stop_weight: at.stop_weight,
-        is_cut,
     }
 }

@@ -27,7 +27,7 @@ ghost use Rattle.transyt_sweep.specs.WorkedRows.{rows, second_link, another, pla
 ghost use Rattle.transyt_sweep.specs.WorkedRows.{orders, rows_at_first, with_another, another_left, uneven};
 ghost use Rattle.transyt_sweep.specs.WorkedFacts.{fitting, unfitting, fitting_too, greatest, too_great};
 ghost use Rattle.transyt_sweep.specs.WorkedFacts.{right_rows, wrong_rows, wrong_links, wrong_outs, wrong_figures};
-ghost use Rattle.transyt_sweep.specs.WorkedFacts.{limiting, past_limiting, telling, untelling};
+ghost use Rattle.transyt_sweep.specs.WorkedFacts.{limiting, past_limiting, sums, telling, untelling};
 ghost use Rattle.transyt_sweep.specs.WorkedFacts.{right_factors, wrong_factors, ready_factors};
 ghost use Rattle.transyt_sweep.specs.WorkedFacts.{served_frame, served_feed, unserved, table_of_three, wrong_tables};
 ghost use Rattle.transyt_sweep.specs.Scratch.{AreWeights, CanTell, IsScratch, terms_in, figures_in};
@@ -147,12 +147,12 @@ pub fn worked_facts()
 pub fn worked_telling()
     ensures terms { terms_in its_come its_room its_queue its_weights ≡ its_terms }
     ensures known { figures_in its_come its_room its_queue (Known greatest) ≡ greatest }
-    ensures open { figures_in its_come its_room its_queue (Open its_weights) ≡ figures its_terms }
+    ensures open { figures_in its_come its_room its_queue (Open its_weights (sums 100 40)) ≡ figures its_terms }
     ensures weights { AreWeights limiting }
     ensures past_weights { All (λ w. AreWeights w → ⊥) past_limiting }
-    ensures telling { All (λ row. CanTell row.0 row.1 row.2 row.3 row.4) telling }
-    ensures untelling { All (λ row. CanTell row.0 row.1 row.2 row.3 row.4 → ⊥) untelling }
-    ensures most_steps { CanTell (replicate 120 0) [] [] [] limiting }
+    ensures telling { All (λ row. CanTell row.0 row.1 row.2 row.3 row.4 row.5) telling }
+    ensures untelling { All (λ row. CanTell row.0 row.1 row.2 row.3 row.4 row.5 → ⊥) untelling }
+    ensures most_steps { CanTell (replicate 120 0) [] [] [] limiting (sums 0 0) }
 {}
 
 /// Worked factors are right and serve a feed, and a worked table has its size; where one thing alone is wrong,

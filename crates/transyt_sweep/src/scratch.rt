@@ -1,9 +1,9 @@
 //! Room for the work on one link.
 
-ghost use Rattle.std.specs.Prelude.{◌≡◌, length, IfOk};
+ghost use Rattle.std.specs.Prelude.{◌≡◌, ◌^◌, ◌<◌, ◌≤◌, length, All, IfOk};
 ghost use Rattle.transyt_delay.specs.Figures.{figures};
 ghost use Rattle.transyt_sweep.specs.Rows.{AreSmall};
-ghost use Rattle.transyt_sweep.specs.Scratch.{CanTell, terms_in};
+ghost use Rattle.transyt_sweep.specs.Scratch.{AreWeights, terms_with};
 
 use crate::asked::{Asked, Weights};
 use crate::factors::{Factors, factors_of};
@@ -13,7 +13,7 @@ use std::mem::size_of;
 use transyt_delay::{Figures, Terms, figures_of};
 use transyt_net::{Feed, Net};
 use transyt_profile::total;
-use transyt_stopline::stopped;
+use transyt_stopline::{Totals, stopped};
 
 /// The bytes of a scratch for each link of its network: eight feeds, and what was worked out last of each one's numbers.
 pub const FACTOR_BYTES: usize = 8 * size_of::<Factors>();
@@ -113,51 +113,43 @@ impl Scratch {
     }
 
     /// The figures of the link, in millionths as those of `transyt_delay`. Where they are open they are worked out.
+    #[tactic(auto, using(crate::proofs::ScratchLaws::sum_small, crate::proofs::ScratchLaws::all_arrives))]
     pub fn figures(&self) -> Figures
         ensures value { result ≡ self.now.figures }
         ensures small { AreSmall result }
     {
         match self.asked {
             Asked::Known(figures) => figures,
-            Asked::Open(weights) => {
-                work_out(
-                    &self.arrivals,
-                    &self.go,
-                    &self.queue,
-                    &self.reaching,
-                    weights,
-                )
+            Asked::Open(weights, totals) => {
+                let reaching = if totals.more_comes() {
+                    &self.reaching
+                } else {
+                    &self.arrivals
+                };
+                work_out(totals, reaching, &self.queue, weights)
             }
         }
     }
 }
 
-/// The figures of these rows: `come` comes and `room` can go, `queue` stands at the stop line, and `reaching` reaches it
-/// where it is cut.
-fn work_out(
-    come: &[u64],
-    room: &[u64],
-    queue: &[u64],
-    reaching: &[u64],
-    weights: Weights,
-) -> Figures
-    requires room_len { length room.now ≡ length come.now }
-    requires queue_len { length queue.now ≡ length come.now }
-    requires reaching_len { length reaching.now ≡ length come.now }
-    requires can { CanTell come.now room.now queue.now reaching.now weights }
-    ensures value { result ≡ figures (terms_in come.now room.now queue.now weights) }
+/// The figures of a link from what comes and what can go in a cycle, from what reaches the stop line in each step and
+/// from the queue that stands there.
+fn work_out(totals: Totals, reaching: &[u64], queue: &[u64], weights: Weights) -> Figures
+    requires come { totals.come < 2 ^ 55 }
+    requires served { totals.served < 2 ^ 55 }
+    requires most { length reaching.now ≤ 120 }
+    requires queue_len { length queue.now ≡ length reaching.now }
+    requires reaching_small { All (λ v. v < 2 ^ 48) reaching.now }
+    requires queue_small { All (λ v. v < 2 ^ 37) queue.now }
+    requires weights { AreWeights weights }
+    ensures value { result ≡ figures (terms_with totals reaching.now queue.now weights) }
     ensures small { AreSmall result }
 {
-    let stopped = if weights.is_cut {
-        stopped(reaching, queue)
-    } else {
-        stopped(come, queue)
-    };
     let terms = Terms {
-        arrivals: total(come),
-        room: total(room),
+        arrivals: totals.come,
+        room: totals.served,
         queued: total(queue),
-        stopped,
+        stopped: stopped(reaching, queue),
         frame: weights.frame,
         delay_weight: weights.delay_weight,
         stop_weight: weights.stop_weight,

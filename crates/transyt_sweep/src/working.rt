@@ -1,6 +1,6 @@
 //! One link at one sweep: the cell of which an evaluation is made.
 
-ghost use Rattle.std.specs.Prelude.{◌≡◌, ◌+◌, ◌-◌, ◌*◌, ◌^◌, ◌<◌, ◌≤◌, ℕ, length, All, true, false};
+ghost use Rattle.std.specs.Prelude.{◌≡◌, ◌+◌, ◌-◌, ◌*◌, ◌^◌, ◌<◌, ◌≤◌, ℕ, length, sum, All};
 ghost use Rattle.transyt_stopline.specs.Cut.{arrivals_of};
 ghost use Rattle.transyt_sweep.specs.Cell.{go, worked};
 ghost use Rattle.transyt_sweep.specs.Factors.{AreFactors};
@@ -16,7 +16,7 @@ use std::sync::ledger::Ledger;
 use transyt_net::Net;
 use transyt_stage::{fill_go, give_way};
 use transyt_steps::Steps;
-use transyt_stopline::{cut, queue};
+use transyt_stopline::{Totals, cut, queue};
 
 /// Works out one link at one sweep, from the rows that it reads. It takes no memory.
 ///
@@ -39,7 +39,7 @@ pub fn cell<L: Ledger>(
     ensures value { scratch.new ≡ worked net.now (read_in rows.now sweep link) link }
     ensures steps { steps.new ≡ steps.old + 1 }
 {
-    let is_cut = work_out(
+    let totals = work_out(
         net,
         link,
         sweep,
@@ -52,13 +52,13 @@ pub fn cell<L: Ledger>(
         &mut scratch.queue,
         &mut scratch.out,
     );
-    scratch.asked = Asked::Open(weights_of(net, link, is_cut));
+    scratch.asked = Asked::Open(weights_of(net, link), totals);
     steps.tick();
 }
 
-/// Works out the link at a place at a sweep: what comes, what can go, the queue and what leaves. Returns whether less
-/// reaches the stop line than comes: `reaching` then is what does. `room` is room for its work, and `kept` are the
-/// factors of feeds that were worked out before.
+/// Works out the link at a place at a sweep: what comes, what can go, the queue and what leaves. Returns what comes in a
+/// cycle and what can go in it: where more comes, `reaching` is what reaches the stop line. `room` is room for its work,
+/// and `kept` are the factors of feeds that were worked out before.
 fn work_out(
     net: &Net,
     link: usize,
@@ -71,7 +71,7 @@ fn work_out(
     going: &mut [u64],
     standing: &mut [u64],
     leaving: &mut [u64],
-) -> bool
+) -> Totals
     requires link { link < length net.now.links }
     requires sweep { sweep ≤ net.now.frame.sweeps }
     requires fits { Fits net.now rows.now }
@@ -86,8 +86,9 @@ fn work_out(
     ensures going { going.new ≡ (worked net.now (read_in rows.now sweep link) link).go }
     ensures standing { standing.new ≡ (worked net.now (read_in rows.now sweep link) link).queue }
     ensures leaving { leaving.new ≡ (worked net.now (read_in rows.now sweep link) link).out }
-    ensures cut { result ≡ true → reaching.new ≡ arrivals_of come.new going.new }
-    ensures uncut { result ≡ false → come.new ≡ arrivals_of come.new going.new }
+    ensures total { result.come ≡ sum come.new }
+    ensures served { result.served ≡ sum going.new }
+    ensures cut { result.served < result.come → reaching.new ≡ arrivals_of come.new going.new }
     ensures steps { length come.new ≤ 120 }
     ensures come_small { All (λ v. v < 2 ^ 48) come.new }
     ensures going_small { All (λ v. v < 2 ^ 30) going.new }
@@ -99,13 +100,13 @@ fn work_out(
     net.frame();
     fill_inflow(net, link, sweep, rows, kept, room, come);
     fill_going(net, link, sweep, rows, going);
-    let is_cut = cut(come, going, reaching);
-    if is_cut {
+    let totals = cut(come, going, reaching);
+    if totals.more_comes() {
         queue(reaching, going, standing, leaving);
     } else {
         queue(come, going, standing, leaving);
     }
-    is_cut
+    totals
 }
 
 /// Fills `out` with what can go of the link at a place: its green, and what its rule leaves of it.

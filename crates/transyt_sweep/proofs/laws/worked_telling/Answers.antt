@@ -1,6 +1,6 @@
 -- All values of the most steps are 0.
 use Rattle.std.specs.Prelude.{◌<◌, ◌^◌}
-use Rattle.std.proofs.Common.{arith, refl, sym, true≢false}
+use Rattle.std.proofs.Common.{arith, refl}
 use Rattle.std.proofs.lemmas.List.Elements.{All-replicate, All-nil}
 use Rattle.transyt_sweep.proofs.laws.worked_telling.Goals as goal
 
@@ -11,8 +11,9 @@ returns-clause-most_steps c = record {
   room_small = All-nil (λ v. v < 2 ^ 30);
   queue_small = All-nil (λ v. v < 2 ^ 37);
   reached_small = All-replicate (λ v. v < 2 ^ 48) 120 0 (omega arith);
-  uncut = λ whole. refl;
-  cut = λ is_cut. absurd (true≢false (sym is_cut));
+  come_total = refl;
+  room_total = refl;
+  cut = λ more. absurd (omega (arith, more));
   limits = record {
     cycle = omega arith;
     step_count = omega arith;

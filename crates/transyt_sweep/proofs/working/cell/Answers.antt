@@ -12,9 +12,9 @@ pub invariant_of-scratch : goal.invariant_of-scratch
 invariant_of-scratch g c =
     let i = c.scratch.inside in
     let was = c.scratch.invariant in
-    let new = c.work_out-is_cut.new in
-    let same = c.work_out-is_cut.auto in
-    let are = c.work_out-is_cut.ensures in
+    let new = c.work_out-totals.new in
+    let same = c.work_out-totals.auto in
+    let are = c.work_out-totals.ensures in
     let weights = c.weights_of.ensures in
     let factors = written_back i.factors.items new.kept i.factors.len (omega (arith, same.kept, c.deref_mut.ensures.len)) in
     let lanes = written_back i.room.items new.room i.room.len (omega (arith, same.room, c.deref_mut-2.ensures.len)) in
@@ -85,8 +85,9 @@ invariant_of-scratch g c =
         room_small = are.going_small;
         queue_small = are.standing_small;
         reached_small = are.reached_small;
-        uncut = λ e. are.uncut (sym weights.is_cut ∙ e);
-        cut = λ e. reaching ∙ are.cut (sym weights.is_cut ∙ e);
+        come_total = are.total;
+        room_total = are.served;
+        cut = λ more. reaching ∙ are.cut more;
         limits = weights.are;
       });
       right = are_in c.args.net.now.frame.step_count _ _ _
@@ -105,9 +106,9 @@ invariant_of-scratch g c =
 pub returns-clause-value : goal.returns-clause-value
 returns-clause-value g c =
     let i = c.scratch.inside in
-    let new = c.work_out-is_cut.new in
-    let same = c.work_out-is_cut.auto in
-    let are = c.work_out-is_cut.ensures in
+    let new = c.work_out-totals.new in
+    let same = c.work_out-totals.auto in
+    let are = c.work_out-totals.ensures in
     let net = c.args.net.now in
     let read : ℕ → List ℕ = read_in c.args.rows.now c.args.sweep c.args.link in
     let come = written_back i.arrivals.items new.come i.arrivals.len
