@@ -1,29 +1,32 @@
 -- THE LAW OF THE FRONT: each turn keeps it.
-use Rattle.std.proofs.Common.{◌≡◌, ◌≢◌, ℕ, ◌+◌, ◌<◌, ◌≤◌, Bool, true, false, cond, not, ◌||◌, List, [], ◌∷◌, length}
-use Rattle.std.proofs.Common.{set, All, Option, Some, None, IfSome, refl, ap, sym, subst, ◌∙◌, arith}
+use Rattle.std.proofs.Common.{◌≡◌, ◌≢◌, ℕ, ◌+◌, ◌<◌, ◌≤◌, Bool, true, false, cond, not, ◌||◌, ◌&&◌, List, [], length}
+use Rattle.std.proofs.Common.{set, nat_eq, refl, ap, sym, subst, ◌∙◌, arith}
 use Rattle.std.proofs.Common.{◌==◌, ◌⊎◌, inl, inr, if◌then◌else◌}
+use Rattle.std.specs.Prelude.{slice_index_or}
 use Rattle.std.specs.Str.{bytes_eq}
 use Rattle.std.specs.List.{list_any}
 use Rattle.std.proofs.lemmas.Bool.{cases_eq}
 use Rattle.std.proofs.lemmas.Bool.Decides.{nat_tests}
 use Rattle.std.proofs.lemmas.Slice.Eq.{bytes_eq-Decides}
-use Rattle.std.proofs.lemmas.List.{length-set, get_or-set_other}
-use Rattle.std.proofs.lemmas.List.Elements.{All-head, All-tail}
+use Rattle.std.proofs.lemmas.List.{get_or-set_other}
 use Rattle.std.proofs.lemmas.Grind.{get_or-set_at}
 use Rattle.transyt_net.specs.Parts.{Network}
 use Rattle.transyt_net.specs.Shape.{SameShape}
 use Rattle.transyt_parts.specs.declared.frame.Frame.{Frame}
 use Rattle.transyt_sweep.specs.Cell.{CellValue, HasSteps}
-use Rattle.transyt_sweep.specs.Sweeps.{out_of, read_at, read_of, worked_at, evaluated}
+use Rattle.transyt_sweep.specs.Sweeps.{out_of, read_of, worked_at, evaluated}
 use Rattle.transyt_sweep.specs.Rows.{RowsValue, out_at, shown_at, with_weights, reweighed, placed}
 use Rattle.transyt_sweep.specs.Rows.{AreRows}
 use Rattle.transyt_sweep.specs.Front.{AreMixed, AreEvaluation}
 use Rattle.transyt_sweep.proofs.SweepLaws.{out_of_pair, evaluated_is}
 use Rattle.transyt_sweep.proofs.StepLaws.{worked_steps}
 use Rattle.transyt_sweep.proofs.FrontLaws.{mixed_turn, before_end}
-use Rattle.transyt_track.specs.Own.{PlacesValue, places_at, own, same_own}
+use Rattle.transyt_track.specs.Own.{places_at}
 use Rattle.transyt_track.specs.Due.{differs, read_differs, is_due, is_some_and}
-use Rattle.transyt_track.specs.Front.{AreShownMixed, flag, AreAt, left_at}
+use Rattle.transyt_track.specs.Readers.{AreReaders, reads}
+use Rattle.transyt_track.specs.Front.{AreShownMixed, AreFlags, flag, AreAt, awaits, left_at, own_differs}
+use Rattle.transyt_track.proofs.AwaitLaws.{awaits_here, awaits_on, awaits_own, awaits_turn, or_false}
+use Rattle.transyt_track.proofs.PlaceLaws.{feeders_inside, rule_inside}
 use Rattle.transyt_track.proofs.PlacedLaws.{figures_here, figures_elsewhere}
 use Rattle.transyt_track.proofs.MixedLaws.{mixed_here, mixed_left, mixed_placed, mixed_figures, shown_moved}
 use Rattle.transyt_track.proofs.MixedLaws.{shown_now, shown_placed, shown_turn}
@@ -31,22 +34,23 @@ use Rattle.transyt_track.proofs.DueLaws.{differs_is}
 use Rattle.transyt_track.proofs.LeftLaws.{left_out, left_worked}
 use Rattle.transyt_track.proofs.ShapeLaws.{shape_count, shape_frame}
 
--- the link at the front is read at its sweep by the next one, any other as before
-read_here : (s l : ℕ) → read_at s (l + 1) l ≡ s
-read_here s l = grind (arith, nat_tests)
-
-read_other : (s l m : ℕ) → m ≢ l → read_at s (l + 1) m ≡ read_at s l m
-read_other s l m other = grind (arith, nat_tests)
-
-read_turn : (s links m : ℕ) → m < links → read_at s links m ≡ read_at (s + 1) 0 m
-read_turn s links m inside = grind (arith, nat_tests)
-
 -- the two tests of the last sweep
 pub same_test : (s sweeps : ℕ) → sweeps ≡ s → (s == sweeps) ≡ true
 same_test s sweeps same = grind (arith, nat_tests)
 
 other_test : (s sweeps : ℕ) → (sweeps ≡ s → ⊥) → (s == sweeps) ≡ false
 other_test s sweeps other = let apart : sweeps ≢ s = other in grind (arith, nat_tests)
+
+same_number_eq : (x y : ℕ) → x ≡ y → nat_eq x y ≡ true
+same_number_eq x y same = grind (arith, nat_tests)
+
+other_number_eq : (x y : ℕ) → x ≢ y → nat_eq x y ≡ false
+other_number_eq x y other = grind (arith, nat_tests)
+
+-- the first of three that none is
+own_down : (o f r : Bool) → (o || f || r) ≡ false → o ≡ false
+own_down true f r none = absurd (cc)
+own_down false f r none = refl
 
 -- one flag more is set
 pub flag_more : (flags : List Bool) (l : ℕ) (d : Bool) (test : ℕ → Bool) → l < length flags
@@ -59,59 +63,60 @@ flag_more flags l d test inside before is m within = by (cases_eq m l)
         let apart : m ≢ l = other in
         get_or-set_other flags l m d false other ∙ before m (omega arith)
 
--- flags tell of several what the test does
-pub any_flagged : (flags : List Bool) (test : ℕ → Bool) (count : ℕ)
-    → ((m : ℕ) → m < count → flag flags m ≡ test m) → (js : List ℕ) → All (λ j. j < count) js
-    → list_any (flag flags) js ≡ list_any test js
-any_flagged flags test count same [] all = refl
-any_flagged flags test count same (j ∷ js) all =
-    ap (λ b. b || list_any (flag flags) js) (same j (All-head (λ k. k < count) j js all))
-    ∙ ap (λ b. test j || b) (any_flagged flags test count same js (All-tail (λ k. k < count) j js all))
+module _ (a b : Network) (s l : ℕ) (rows : RowsValue) (awaited : List Bool) (at : AreAt a b s l rows awaited) where
+  -- the flag at the front tells whether its link is due
+  pub flag_tells : l < length b.links → flag awaited l ≡ is_due a b s l
+  flag_tells inside = at.flags.flagged l inside ∙ awaits_here a b s l
 
-one_flagged : (flags : List Bool) (test : ℕ → Bool) (count : ℕ)
-    → ((m : ℕ) → m < count → flag flags m ≡ test m) → (o : Option ℕ) → IfSome o (λ j. j < count)
-    → is_some_and (flag flags) o ≡ is_some_and test o
-one_flagged flags test count same None inside = refl
-one_flagged flags test count same (Some j) inside = same j inside
+  -- after a link's turn the flags are those of the next
+  module _ (links : length a.links ≡ length b.links) (inside : l < length b.links) (own_changed : List Bool)
+      (owned : AreFlags (own_differs a b) (length b.links) own_changed) (readers : List (List ℕ))
+      (all : AreReaders a readers) (d : Bool) (moved : d ≡ differs a b s l) (rs : List ℕ)
+      (are : rs ≡ slice_index_or readers l []) (passed : List Bool) (count : length passed ≡ length awaited)
+      (told : (m : ℕ) → flag passed m
+      ≡ ((if nat_eq m l then flag own_changed l else flag awaited m) || (d && list_any (nat_eq m) rs))) where
+    read_is : (m : ℕ) → m < length b.links → (d && list_any (nat_eq m) rs) ≡ (differs a b s l && reads (places_at a m) l)
+    read_is m there =
+        ap (λ t. t && list_any (nat_eq m) rs) moved
+        ∙ ap (λ t. differs a b s l && t)
+        (ap (list_any (nat_eq m)) are ∙ all.read l m (omega (arith, links)) (omega (arith, links)))
 
-module _ (a b : Network) (s l : ℕ) (rows : RowsValue) (changed : List Bool) (at : AreAt a b s l rows changed) where
-  -- what the flags say is whether the link at the front is due
-  pub flags_tell : (moved : Bool) (places : PlacesValue) → places ≡ places_at a l
-      → moved ≡ not (same_own (own a l) (own b l))
-      → All (λ j. j < length b.links) places.feeders → IfSome places.rule (λ j. j < length b.links)
-      → (moved || list_any (flag changed) places.feeders || is_some_and (flag changed) places.rule) ≡ is_due a b s l
-  flags_tell moved places is own_differs feeders rule =
-      ap (λ x. x || list_any (flag changed) places.feeders || is_some_and (flag changed) places.rule) own_differs
-      ∙ ap (λ x. not (same_own (own a l) (own b l)) || x || is_some_and (flag changed) places.rule)
-      (any_flagged changed (read_differs a b s l) (length b.links) at.flagged places.feeders feeders)
-      ∙ ap (λ x. not (same_own (own a l) (own b l)) || list_any (read_differs a b s l) places.feeders || x)
-      (one_flagged changed (read_differs a b s l) (length b.links) at.flagged places.rule rule)
-      ∙ ap (λ (p : PlacesValue). not (same_own (own a l) (own b l)) || list_any (read_differs a b s l) p.feeders ||
-      is_some_and (read_differs a b s l) p.rule) is
-
-  flags_put : (d : Bool) → d ≡ differs a b s l → (m : ℕ) → m < length b.links
-      → flag (set changed l d) m ≡ read_differs a b s (l + 1) m
-  flags_put d is m inside = by (cases_eq m l)
-    where
-      by : (m ≡ l) ⊎ (m ≡ l → ⊥) → flag (set changed l d) m ≡ read_differs a b s (l + 1) m
-      by (inl here) =
-          get_or-set_at changed l m d false here (omega (arith, at.count))
-          ∙ is
-          ∙ sym (ap (λ t. differs a b t l) (read_here s l))
-          ∙ sym (ap (read_differs a b s (l + 1)) here)
-      by (inr other) =
-          get_or-set_other changed l m d false other
-          ∙ at.flagged m inside
-          ∙ sym (ap (λ t. differs a b t m) (read_other s l m other))
+    pub flags_passed : AreFlags (awaits a b s (l + 1)) (length b.links) passed
+    flags_passed = record { count = count ∙ at.flags.count; flagged = λ m there. by m there (cases_eq m l) }
+      where
+        by : (m : ℕ) → m < length b.links → (m ≡ l) ⊎ (m ≡ l → ⊥) → flag passed m ≡ awaits a b s (l + 1) m
+        by m there (inl here) =
+            told m
+            ∙ ap (λ t. (if t then flag own_changed l else flag awaited m) || (d && list_any (nat_eq m) rs))
+            (same_number_eq m l here)
+            ∙ ap (λ t. t || (d && list_any (nat_eq m) rs)) (owned.flagged l inside)
+            ∙ ap (λ t. own_differs a b l || t) (read_is m there)
+            ∙ ap (λ k. own_differs a b l || (differs a b s l && reads (places_at a k) l)) here
+            ∙ sym (awaits_own a b s l)
+            ∙ ap (awaits a b s (l + 1)) (sym here)
+        by m there (inr other) =
+            let apart : m ≢ l = other in
+            told m
+            ∙ ap (λ t. (if t then flag own_changed l else flag awaited m) || (d && list_any (nat_eq m) rs))
+            (other_number_eq m l apart)
+            ∙ ap (λ t. t || (d && list_any (nat_eq m) rs)) (at.flags.flagged m there)
+            ∙ ap (λ t. awaits a b s l m || t) (read_is m there)
+            ∙ sym (awaits_on a b s l m apart)
 
   -- at the end of a sweep the next begins
-  pub turned_sweep : length b.links ≡ l → AreAt a b (s + 1) 0 rows changed
-  turned_sweep all = record {
+  pub turned_sweep : SameShape a b → length b.links ≡ l → AreAt a b (s + 1) 0 rows awaited
+  turned_sweep same all = record {
     outs = mixed_turn b (out_of b) (out_of a) s l rows all at.outs;
     shown = shown_turn b (evaluated b) (evaluated a) s l rows at.shown all;
-    count = at.count;
-    flagged = λ m inside. at.flagged m inside ∙ ap (λ t. differs a b t m)
-        (read_turn s l m (omega (arith, inside, all)));
+    flags = record {
+      count = at.flags.count;
+      flagged = λ m inside.
+          let links = shape_count a b same in
+          let some : 0 < length a.links = omega (arith, inside) in
+          at.flags.flagged m inside
+          ∙ awaits_turn a b m l (feeders_inside a m l (places_at a m) some (links ∙ all) refl)
+          (rule_inside a m l (places_at a m) some (links ∙ all) refl) s (omega (arith, inside, all));
+    };
   }
 
   module _ (same : SameShape a b) (first : 1 ≤ s) (swept : s ≤ b.frame.sweeps) (inside : l < length b.links) where
@@ -120,10 +125,10 @@ module _ (a b : Network) (s l : ℕ) (rows : RowsValue) (changed : List Bool) (a
     row_before = mixed_here b (out_of b) (out_of a) s l rows at.outs swept inside
 
     -- a link that is due is worked out
-    pub turned_worked : AreRows rows → (c : CellValue) → c ≡ worked_at b s l → (d : Bool)
-        → d ≡ not (bytes_eq (out_at rows s l) c.out)
-        → AreAt a b s (l + 1) (placed rows s l c) (set changed l d)
-    turned_worked kept c made d told =
+    pub turned_worked : AreRows rows → (c : CellValue) → c ≡ worked_at b s l → (passed : List Bool)
+        → AreFlags (awaits a b s (l + 1)) (length b.links) passed
+        → AreAt a b s (l + 1) (placed rows s l c) passed
+    turned_worked kept c made passed flags =
         let long : HasSteps b.frame.step_count c = subst (HasSteps b.frame.step_count) (sym made)
         (worked_steps b (read_of b s l) l) in
         let out : c.out ≡ out_of b s l = ap (λ (v : CellValue). v.out) made ∙ sym (out_of_pair b s l first) in
@@ -132,11 +137,16 @@ module _ (a b : Network) (s l : ℕ) (rows : RowsValue) (changed : List Bool) (a
           shown = shown_placed b (evaluated b) (evaluated a) s l rows at.shown at.outs.fits kept c swept inside
               (subst (λ n. HasSteps n c) (sym at.outs.fits.step_count) long)
               (λ last. made ∙ ap (λ t. worked_at b t l) (sym last) ∙ sym (evaluated_is b l));
-          count = length-set changed l d ∙ at.count;
-          flagged = flags_put d
-              (told ∙ ap (λ x. not (bytes_eq x c.out)) row_before ∙ ap (λ x. not (bytes_eq (out_of a s l) x)) out
-              ∙ sym (differs_is a b s l));
+          flags = flags;
         }
+
+    -- whether what leaves it differs is told by its rows
+    pub differs_told : (c : CellValue) → c ≡ worked_at b s l → (d : Bool) → d ≡ not (bytes_eq (out_at rows s l) c.out)
+        → d ≡ differs a b s l
+    differs_told c made d told =
+        let out : c.out ≡ out_of b s l = ap (λ (v : CellValue). v.out) made ∙ sym (out_of_pair b s l first) in
+        told ∙ ap (λ x. not (bytes_eq x c.out)) row_before ∙ ap (λ x. not (bytes_eq (out_of a s l) x)) out
+        ∙ sym (differs_is a b s l)
 
     module _ (none : is_due a b s l ≡ false) where
       inside_before : l < length a.links
@@ -153,6 +163,11 @@ module _ (a b : Network) (s l : ℕ) (rows : RowsValue) (changed : List Bool) (a
           equal : (xs : List ℕ) → not (bytes_eq xs xs) ≡ false
           equal xs = ap not ((bytes_eq-Decides xs xs).1 refl)
 
+      own_same : own_differs a b l ≡ false
+      own_same =
+          own_down (own_differs a b l) (list_any (read_differs a b s l) (places_at a l).feeders)
+          (is_some_and (read_differs a b s l) (places_at a l).rule) none
+
       weighed_here : b.frame.sweeps ≡ s → shown_at (with_weights rows b l) l ≡ evaluated b l
       weighed_here last =
           let now : shown_at rows l ≡ evaluated a l = shown_now b (evaluated b) (evaluated a) s l rows at.shown last
@@ -166,14 +181,30 @@ module _ (a b : Network) (s l : ℕ) (rows : RowsValue) (changed : List Bool) (a
           ∙ sym (evaluated_is b l)
 
       -- a link that isn't due is left
-      pub turned_left : AreAt a b s (l + 1) (left_at b s l rows) (set changed l false)
+      pub turned_left : AreAt a b s (l + 1) (left_at b s l rows) awaited
       turned_left = record {
         outs = outs (s == b.frame.sweeps);
         shown = shown (cases_eq b.frame.sweeps s);
-        count = length-set changed l false ∙ at.count;
-        flagged = flags_put false not_differs;
+        flags = record { count = at.flags.count; flagged = λ m there. stays m there (cases_eq m l) };
       }
         where
+          -- its flag is down, and so are its own data's
+          stays : (m : ℕ) → m < length b.links → (m ≡ l) ⊎ (m ≡ l → ⊥) → flag awaited m ≡ awaits a b s (l + 1) m
+          stays m there (inl here) =
+              ap (flag awaited) here
+              ∙ flag_tells inside
+              ∙ none
+              ∙ sym (awaits_own a b s l
+              ∙ ap (λ t. t || (differs a b s l && reads (places_at a l) l)) own_same
+              ∙ ap (λ t. t && reads (places_at a l) l) (sym not_differs))
+              ∙ ap (awaits a b s (l + 1)) (sym here)
+          stays m there (inr other) =
+              let apart : m ≢ l = other in
+              at.flags.flagged m there
+              ∙ sym (awaits_on a b s l m apart
+              ∙ ap (λ t. awaits a b s l m || (t && reads (places_at a m) l)) (sym not_differs)
+              ∙ or_false (awaits a b s l m))
+
           outs : (w : Bool) → AreMixed b (out_of b) (out_of a) s (l + 1) (if w then with_weights rows b l else rows)
           outs true =
               mixed_figures b (out_of b) (out_of a) s (l + 1) rows
@@ -199,9 +230,9 @@ module _ (a b : Network) (s l : ℕ) (rows : RowsValue) (changed : List Bool) (a
               (λ k there apart. refl))
 
 -- after the last sweep the rows are the evaluation
-pub ended : (a b : Network) (rows : RowsValue) (changed : List Bool) → AreAt a b (b.frame.sweeps + 1) 0 rows changed
+pub ended : (a b : Network) (rows : RowsValue) (awaited : List Bool) → AreAt a b (b.frame.sweeps + 1) 0 rows awaited
     → AreEvaluation b rows
-ended a b rows changed at = record {
+ended a b rows awaited at = record {
   fits = at.outs.fits;
   outs = λ s l swept inside. at.outs.outs s l swept inside
       ∙ ap (λ w. cond w (out_of b s l) (out_of a s l)) (before_end s l b.frame.sweeps swept);

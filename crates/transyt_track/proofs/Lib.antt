@@ -2,6 +2,7 @@ pub mod WorkedLaws
 pub mod WorkedBack
 pub mod WorkedGoing
 pub mod WorkedTracking
+pub mod WorkedReaders
 pub mod DataLaws
 pub mod OwnLaws
 pub mod ShapeLaws
@@ -11,8 +12,11 @@ pub mod MixedLaws
 pub mod DueLaws
 pub mod DueBounds
 pub mod LeftLaws
+pub mod AwaitLaws
+pub mod ReaderLaws
 pub mod FrontLaws
 pub mod StartLaws
+pub mod EditedLaws
 pub mod SavedLaws
 pub mod CarryLaws
 pub mod BackLaws

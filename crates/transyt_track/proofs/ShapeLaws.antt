@@ -11,6 +11,7 @@ use Rattle.transyt_net.specs.Shape.{SameShape}
 use Rattle.transyt_net.specs.Valid.{place_of}
 use Rattle.transyt_net.specs.Valid.{found_or_first, link_place}
 use Rattle.transyt_track.specs.Own.{feeder_place, rule_place, node_place, places_at, ArePlaces, PlacesValue}
+use Rattle.transyt_track.specs.Readers.{AreReaders, reads}
 use Rattle.transyt_track.proofs.OwnLaws.{numbers_same, bare_at}
 
 node_numbers_same : (xs ys : List NodeValue) → map bare_node xs ≡ map bare_node ys
@@ -48,6 +49,9 @@ module _ (a b : Network) (same : SameShape a b) where
   pub shape_count : length a.links ≡ length b.links
   shape_count = same_length bare_link a.links b.links (ap (λ (n : Network). n.links) same)
 
+  pub shape_nodes : length a.nodes ≡ length b.nodes
+  shape_nodes = same_length bare_node a.nodes b.nodes (ap (λ (n : Network). n.nodes) same)
+
   pub shape_link_place : (number : ℕ) → link_place a number ≡ link_place b number
   shape_link_place number =
       ap (λ ns. found_or_first (place_of ns number)) (numbers_same a.links b.links (ap (λ (n : Network). n.links) same))
@@ -76,4 +80,14 @@ module _ (a b : Network) (same : SameShape a b) where
   shape_table places all = record {
     count = all.count ∙ shape_count;
     at = λ l inside. all.at l (omega (arith, shape_count)) ∙ shape_places l (omega (arith, shape_count));
+  }
+
+  -- the readers of their links
+  pub shape_readers : (readers : List (List ℕ)) → AreReaders a readers → AreReaders b readers
+  shape_readers readers all = record {
+    count = all.count ∙ shape_count;
+    inside = λ other l here among. omega (arith, all.inside other l (omega (arith, shape_count)) among, shape_count);
+    read = λ other l here there.
+        all.read other l (omega (arith, shape_count)) (omega (arith, shape_count))
+        ∙ ap (λ p. reads p other) (shape_places l (omega (arith, shape_count)));
   }

@@ -14,23 +14,25 @@ use Rattle.transyt_profile.specs.Profile.{uniform}
 use Rattle.transyt_parts.specs.declared.frame.Frame.{Frame}
 use Rattle.transyt_parts.specs.Flow.{total_flow}
 use Rattle.transyt_parts.specs.Valid.{IsFrame}
-use Rattle.transyt_net.specs.Parts.{Network, link_of}
+use Rattle.transyt_net.specs.Parts.{Network, link_of, no_link}
 use Rattle.transyt_net.specs.Shape.{SameShape}
 use Rattle.transyt_net.specs.Flow.{perstep}
-use Rattle.transyt_sweep.specs.Sweeps.{out_of, start, read_at, evaluated}
+use Rattle.transyt_sweep.specs.Sweeps.{out_of, start, evaluated}
 use Rattle.transyt_sweep.specs.Rows.{RowsValue, shown_at, with_out, AreRows}
-use Rattle.transyt_sweep.specs.Front.{AreEvaluation}
+use Rattle.transyt_sweep.specs.Front.{AreEvaluation, is_before}
 use Rattle.transyt_sweep.proofs.SweepLaws.{out_of_start}
 use Rattle.transyt_sweep.proofs.PairLaws.{out_elsewhere}
 use Rattle.transyt_sweep.proofs.FrontLaws.{mixed_put, mixed_turn, not_before_first}
 use Rattle.transyt_track.specs.Due.{differs}
-use Rattle.transyt_track.specs.Front.{flag, total_differs, AreAt, AreStarting}
+use Rattle.transyt_track.specs.Front.{flag, own_differs, total_differs, AreAt, AreFlags, AreStarting, awaits}
 use Rattle.transyt_track.proofs.MixedLaws.{mixed_left, shown_moved, shown_turn}
+use Rattle.transyt_track.proofs.AwaitLaws.{awaits_none}
+use Rattle.transyt_track.proofs.RuleLaws.{same_number}
 use Rattle.transyt_track.proofs.DueLaws.{same_out, differs_is}
 use Rattle.transyt_track.proofs.ShapeLaws.{shape_count, shape_frame}
 
-read_first : (m : ℕ) → read_at 1 0 m ≡ 0
-read_first m = grind (arith, nat_tests)
+before_first : (t k : ℕ) → t ≡ 0 → is_before t k 1 0 ≡ true
+before_first t k first = grind (arith, nat_tests)
 
 -- two uniform profiles differ where their values do
 uniform_told : (n x y : ℕ) → 1 ≤ n → bytes_eq (uniform n x) (uniform n y) ≡ nat_eq x y
@@ -176,11 +178,64 @@ module _ (a b : Network) (same : SameShape a b) where
     }
 
   -- after the last link the first sweep begins
-  pub started_end : (l : ℕ) (rows : RowsValue) (changed : List Bool) → length b.links ≡ l
-      → AreStarting a b l rows changed → AreAt a b 1 0 rows changed
-  started_end l rows changed all starting = record {
+  pub started_end : (l : ℕ) (rows : RowsValue) (changed awaited : List Bool) → length b.links ≡ l
+      → AreStarting a b l rows changed → AreFlags (awaits a b 1 0) (length b.links) awaited → AreAt a b 1 0 rows awaited
+  started_end l rows changed awaited all starting flags = record {
     outs = mixed_turn b (out_of b) (out_of a) 0 l rows all starting.outs;
     shown = shown_turn b (evaluated b) (evaluated a) 0 l rows starting.shown all;
-    count = starting.count;
-    flagged = λ m inside. starting.flagged m (omega (arith, all)) ∙ sym (ap (λ t. differs a b t m) (read_first m));
+    flags = flags;
   }
+
+  -- where the links are equal, nothing differs before the first sweep, and no total flow does
+  pub links_start : a.links ≡ b.links → (l : ℕ) → differs a b 0 l ≡ false
+  links_start links l =
+      differs_is a b 0 l
+      ∙ ap (λ xs. not (bytes_eq xs (out_of b 0 l))) (out_of_start a l)
+      ∙ ap (λ xs. not (bytes_eq (start a l) xs)) (out_of_start b l)
+      ∙ ap (λ (f : Frame). not (bytes_eq (uniform f.step_count (perstep f (total_flow (link_of a l)))) (start b l)))
+      (shape_frame a b same)
+      ∙ ap (λ ls. not (bytes_eq (uniform b.frame.step_count (perstep b.frame (total_flow (get_or ls l no_link)))) (start b l)))
+      links
+      ∙ ap not ((bytes_eq-Decides (start b l) (start b l)).1 refl)
+
+  pub links_totals : a.links ≡ b.links → (l : ℕ) → total_differs a b l ≡ false
+  links_totals links l =
+      ap (λ ls. not (nat_eq (total_flow (get_or ls l no_link)) (total_flow (link_of b l)))) links
+      ∙ ap not (same_number (total_flow (link_of b l)))
+
+  -- so the first sweep begins with the rows as they are
+  pub set_out_at : a.links ≡ b.links → (rows : RowsValue) (awaited : List Bool) → AreEvaluation a rows
+      → AreFlags (own_differs a b) (length b.links) awaited → 1 ≤ b.frame.sweeps → AreAt a b 1 0 rows awaited
+  set_out_at links rows awaited evaluation owned some =
+      let none = started_none rows awaited evaluation owned.count in
+      record {
+        outs = record {
+          fits = none.outs.fits;
+          outs = λ t k within there. none.outs.outs t k within there ∙ first t k (cases_eq t 0);
+        };
+        shown = record {
+          shown = λ k there.
+              none.shown.shown k there
+              ∙ ap (λ w. cond w (evaluated b k) (evaluated a k))
+              (not_before_first b.frame.sweeps k 0 (omega arith)
+              ∙ sym (not_before_first b.frame.sweeps k 1 some));
+        };
+        flags = record {
+          count = owned.count;
+          flagged = λ m inside. owned.flagged m inside ∙ awaits_none a b (links_start links) m;
+        };
+      }
+    where
+      first : (t k : ℕ) → (t ≡ 0) ⊎ (t ≡ 0 → ⊥)
+          → cond (is_before t k 0 0) (out_of b t k) (out_of a t k)
+          ≡ cond (is_before t k 1 0) (out_of b t k) (out_of a t k)
+      first t k (inl here) =
+          ap (λ w. cond w (out_of b t k) (out_of a t k)) (not_before_first t k 0 (omega arith))
+          ∙ ap (λ u. out_of a u k) here
+          ∙ same_out a b 0 k (links_start links k)
+          ∙ sym (ap (λ u. out_of b u k) here)
+          ∙ sym (ap (λ w. cond w (out_of b t k) (out_of a t k)) (before_first t k here))
+      first t k (inr later) =
+          let apart : t ≢ 0 = later in
+          ap (λ w. cond w (out_of b t k) (out_of a t k))
+          (not_before_first t k 0 (omega arith) ∙ sym (not_before_first t k 1 (omega (arith, apart))))

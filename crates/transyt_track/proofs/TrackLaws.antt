@@ -2,7 +2,7 @@
 use Rattle.std.proofs.Common.{◌≡◌, ℕ, ◌+◌, ◌*◌, ◌<◌, ◌≤◌, Bool, true, false, List, length, replicate, get_or, Some, None}
 use Rattle.std.proofs.Common.{IsSome, IsTrue, refl, ap, sym, subst, ◌∙◌, arith}
 use Rattle.std.proofs.Common.{◌⊎◌, inl, inr, if◌then◌else◌}
-use Rattle.std.proofs.lemmas.Bool.{cases_lt}
+use Rattle.std.proofs.lemmas.Bool.{cases_lt, true≢false}
 use Rattle.std.proofs.lemmas.List.{get_or-replicate, length-replicate}
 use Rattle.std.proofs.Math.ListN.{get_or-eq_default}
 use Rattle.transyt_parts.specs.declared.frame.Frame.{Frame}
@@ -14,10 +14,11 @@ use Rattle.transyt_sweep.specs.Cell.{CellValue}
 use Rattle.transyt_sweep.specs.Rows.{RowsValue, Fits, SameSize, out_at, shown_at}
 use Rattle.transyt_sweep.specs.Front.{AreEvaluation}
 use Rattle.transyt_track.specs.Own.{PlacesValue, ArePlaces, LinksStay, all_places}
+use Rattle.transyt_track.specs.Readers.{AreReaders}
 use Rattle.transyt_track.specs.Front.{unweighed}
 use Rattle.transyt_track.specs.Saved.{SavedValue, is_saved, begun, settled, Carries, SaveAlike}
 use Rattle.transyt_track.specs.Tracker.{mark_of, IsTracking}
-use Rattle.transyt_track.proofs.ShapeLaws.{shape_frame, shape_count, shape_table}
+use Rattle.transyt_track.proofs.ShapeLaws.{shape_frame, shape_count, shape_table, shape_readers}
 use Rattle.transyt_track.proofs.PlaceLaws.{all_places_are}
 use Rattle.transyt_track.proofs.CarryLaws.{back_carried}
 
@@ -73,13 +74,13 @@ none_saved saved t k = no_flag (length saved.flags) (t * saved.link_count + k)
 
 -- a new tracker
 pub opened_tracks : (net marked : Network) (rows : RowsValue) (saved : SavedValue) (places : List PlacesValue)
-    (own_changed changed : List Bool) (scratch : CellValue) → marked ≡ net → AreEvaluation net rows → saved.live ≡ false
+    (readers : List (List ℕ)) (own_changed awaited : List Bool) (scratch : CellValue) → marked ≡ net → AreEvaluation net rows → saved.live ≡ false
     → Fits net saved.rows → saved.link_count ≡ length net.links → places ≡ all_places net
-    → length own_changed ≡ length net.links → length changed ≡ length net.links
-    → length scratch.arrivals ≡ net.frame.step_count → IsTracking net marked rows saved places own_changed changed
+    → AreReaders net readers → length own_changed ≡ length net.links → length awaited ≡ length net.links
+    → length scratch.arrivals ≡ net.frame.step_count → IsTracking net marked rows saved places readers own_changed awaited
     scratch
-opened_tracks net marked rows saved places own_changed changed scratch copied evaluation none fits links all own_len
-    changed_len steps = record {
+opened_tracks net marked rows saved places readers own_changed awaited scratch copied evaluation none fits links all reading own_len
+    awaited_len steps = record {
       shape = sym (ap shape copied);
       evaluation = evaluation;
       fits = record {
@@ -90,24 +91,28 @@ opened_tracks net marked rows saved places own_changed changed scratch copied ev
         };
         links = links ∙ sym evaluation.fits.link_count;
       };
-      back = record { outs = λ live t k within there. absurd (cc); shown = λ live k there. absurd (cc) };
+      back = record {
+        outs = λ live t k within there. absurd (true≢false (sym live ∙ none));
+        shown = λ live k there. absurd (true≢false (sym live ∙ none));
+      };
       table = subst (ArePlaces net) (sym all) (all_places_are net);
+      reading = reading;
       own_count = own_len;
-      changed_count = changed_len;
+      awaited_count = awaited_len;
       steps = steps;
     }
 
 module _ (net marked : Network) (rows : RowsValue) (saved : SavedValue) (places : List PlacesValue)
-    (own_changed changed : List Bool) (scratch : CellValue)
-    (tracking : IsTracking net marked rows saved places own_changed changed scratch) where
+    (readers : List (List ℕ)) (own_changed awaited : List Bool) (scratch : CellValue)
+    (tracking : IsTracking net marked rows saved places readers own_changed awaited scratch) where
   -- the rows have gone over to another network
   pub followed_tracks : (after : Network) → SameShape net after → (rows1 : RowsValue) (saved1 : SavedValue)
-      (own_changed1 changed1 : List Bool) (scratch1 : CellValue) → AreEvaluation after rows1
+      (own_changed1 awaited1 : List Bool) (scratch1 : CellValue) → AreEvaluation after rows1
       → Carries rows saved rows1 saved1
-      → length own_changed1 ≡ length after.links → length changed1 ≡ length after.links
+      → length own_changed1 ≡ length after.links → length awaited1 ≡ length after.links
       → length scratch1.arrivals ≡ after.frame.step_count
-      → IsTracking after marked rows1 saved1 places own_changed1 changed1 scratch1
-  followed_tracks after same rows1 saved1 own_changed1 changed1 scratch1 evaluation carries own_len changed_len
+      → IsTracking after marked rows1 saved1 places readers own_changed1 awaited1 scratch1
+  followed_tracks after same rows1 saved1 own_changed1 awaited1 scratch1 evaluation carries own_len awaited_len
       steps = record {
         shape = sym same ∙ tracking.shape;
         evaluation = evaluation;
@@ -116,13 +121,14 @@ module _ (net marked : Network) (rows : RowsValue) (saved : SavedValue) (places 
             (fits_shape net marked tracking.shape rows tracking.evaluation.fits)
             tracking.back carries;
         table = shape_table net after same places tracking.table;
+        reading = shape_readers net after same readers tracking.reading;
         own_count = own_len;
-        changed_count = changed_len;
+        awaited_count = awaited_len;
         steps = steps;
       }
 
   -- a mark is set
-  pub begun_tracks : IsTracking net net rows (begun saved) places own_changed changed scratch
+  pub begun_tracks : IsTracking net net rows (begun saved) places readers own_changed awaited scratch
   begun_tracks = record {
     shape = refl;
     evaluation = tracking.evaluation;
@@ -136,15 +142,16 @@ module _ (net marked : Network) (rows : RowsValue) (saved : SavedValue) (places 
           ∙ ap unweighed (tracking.evaluation.shown k there);
     };
     table = tracking.table;
+    reading = tracking.reading;
     own_count = tracking.own_count;
-    changed_count = tracking.changed_count;
+    awaited_count = tracking.awaited_count;
     steps = tracking.steps;
   }
 
   -- the rows are those of another network, and no mark is open
   pub closed_tracks : (after other : Network) → SameShape net after → SameShape after other → (rows1 : RowsValue)
       → AreEvaluation after rows1 → (saved1 : SavedValue) → saved1.live ≡ false → SameSize saved1.rows saved.rows
-      → saved1.link_count ≡ saved.link_count → IsTracking after other rows1 saved1 places own_changed changed scratch
+      → saved1.link_count ≡ saved.link_count → IsTracking after other rows1 saved1 places readers own_changed awaited scratch
   closed_tracks after other same same_other rows1 evaluation saved1 closed size links =
       let frame = shape_frame net after same in
       let count = shape_count net after same in
@@ -163,16 +170,20 @@ module _ (net marked : Network) (rows : RowsValue) (saved : SavedValue) (places 
           links = links ∙ tracking.fits.links ∙ tracking.evaluation.fits.link_count ∙ count
               ∙ sym evaluation.fits.link_count;
         };
-        back = record { outs = λ live t k within there. absurd (cc); shown = λ live k there. absurd (cc) };
+        back = record {
+          outs = λ live t k within there. absurd (true≢false (sym live ∙ closed));
+          shown = λ live k there. absurd (true≢false (sym live ∙ closed));
+        };
         table = shape_table net after same places tracking.table;
+        reading = shape_readers net after same readers tracking.reading;
         own_count = tracking.own_count ∙ count;
-        changed_count = tracking.changed_count ∙ count;
+        awaited_count = tracking.awaited_count ∙ count;
         steps = tracking.steps ∙ ap (λ (f : Frame). f.step_count) frame;
       }
 
   -- the rows have gone back to the marked network
   pub restored_tracks : (rows1 : RowsValue) → AreEvaluation marked rows1 → (saved1 : SavedValue)
-      → SaveAlike saved1 saved → IsTracking marked net rows1 (settled saved1) places own_changed changed scratch
+      → SaveAlike saved1 saved → IsTracking marked net rows1 (settled saved1) places readers own_changed awaited scratch
   restored_tracks rows1 evaluation saved1 alike =
       closed_tracks marked net tracking.shape (sym tracking.shape) rows1 evaluation (settled saved1) refl alike.size
       alike.link_count

@@ -8,8 +8,8 @@ use Rattle.transyt_sweep.specs.Cell.{CellValue}
 use Rattle.transyt_sweep.specs.Rows.{Fits, out_at, shown_at}
 use Rattle.transyt_sweep.specs.Sweeps.{seen, out_of, evaluated}
 use Rattle.transyt_sweep.specs.Front.{is_before}
-use Rattle.transyt_track.specs.Due.{differs, read_differs}
-use Rattle.transyt_track.specs.Front.{AreAt, AreStarting, AreWeighed, flag, unweighed}
+use Rattle.transyt_track.specs.Due.{differs}
+use Rattle.transyt_track.specs.Front.{AreAt, AreStarting, AreWeighed, awaits, flag, unweighed}
 use Rattle.transyt_track.specs.WorkedFacts.{two_green, cell_360, cell_720, rows_720, rows_front, flags_front}
 use Rattle.transyt_track.specs.WorkedFacts.{flags_first, flags_second, flags_few, flags_many, other_first}
 use Rattle.transyt_track.specs.WorkedFacts.{rows_weighed, other_random, more_sweeps}
@@ -39,8 +39,8 @@ front_shows (suc (suc k)) below = absurd (omega (arith, below))
 front_fits : Fits (two_green 1080) rows_front
 front_fits = record { step_count = refl; sweeps = refl; link_count = refl }
 
--- what the second link would read of the second differs
-front_flags : (k : ℕ) → k < 2 → flag flags_front k ≡ read_differs (two_green 720) (two_green 1080) 1 1 k
+-- the second link's own data differ
+front_flags : (k : ℕ) → k < 2 → flag flags_front k ≡ awaits (two_green 720) (two_green 1080) 1 1 k
 unfolding sum_back greatest smoothed seen out_of differs
 front_flags zero below = refl
 front_flags (suc zero) below = refl
@@ -50,8 +50,7 @@ pub front : AreAt (two_green 720) (two_green 1080) 1 1 rows_front flags_front
 front = record {
   outs = record { fits = front_fits; outs = front_outs };
   shown = record { shown = front_shows };
-  count = refl;
-  flagged = front_flags;
+  flags = record { count = refl; flagged = front_flags };
 }
 
 -- other leaves the second link before the first sweep
@@ -72,14 +71,14 @@ front_shown are = no_other (are.shown.shown 0 (lit< tt) ∙ is_360 1080)
 
 pub front_first : AreAt (two_green 720) (two_green 1080) 1 1 rows_front flags_first → ⊥
 unfolding sum_back greatest smoothed seen out_of differs
-front_first are = absurd (true≢false (are.flagged 0 (lit< tt)))
+front_first are = absurd (true≢false (are.flags.flagged 0 (lit< tt)))
 
 pub front_second : AreAt (two_green 720) (two_green 1080) 1 1 rows_front flags_second → ⊥
 unfolding sum_back greatest smoothed seen out_of differs
-front_second are = absurd (true≢false (sym (are.flagged 1 (lit< tt))))
+front_second are = absurd (true≢false (sym (are.flags.flagged 1 (lit< tt))))
 
 pub front_many : AreAt (two_green 720) (two_green 1080) 1 1 rows_front flags_many → ⊥
-front_many are = let count : 3 ≡ 2 = are.count in absurd (omega (arith, count))
+front_many are = let count : 3 ≡ 2 = are.flags.count in absurd (omega (arith, count))
 
 -- what leaves before the second link before the first sweep is that of 1080, and from it on that of 720
 start_outs : (t k : ℕ) → t ≤ 1 → k < 2

@@ -1,5 +1,6 @@
 -- The rows while they go over from the evaluation of one network to that of another of its shape.
-use Rattle.std.specs.Prelude.{◌≡◌, ◌↔◌, ℕ, ◌<◌, ◌≤◌, ◌==◌, Bool, false, not, nat_eq, List, length, slice_index_or}
+use Rattle.std.specs.Prelude.{◌≡◌, ◌↔◌, ℕ, ◌<◌, ◌≤◌, ◌==◌, Bool, false, not, ◌&&◌, ◌||◌, nat_eq, nat_lt, List, length}
+use Rattle.std.specs.Prelude.{slice_index_or}
 use Rattle.std.specs.Prelude.{if◌then◌else◌}
 use Rattle.transyt_parts.specs.Flow.{total_flow}
 use Rattle.transyt_net.specs.Parts.{Network, link_of}
@@ -7,8 +8,9 @@ use Rattle.transyt_sweep.specs.Cell.{CellValue}
 use Rattle.transyt_sweep.specs.Sweeps.{out_of, evaluated}
 use Rattle.transyt_sweep.specs.Rows.{RowsValue, out_at, shown_at, with_weights, Fits}
 use Rattle.transyt_sweep.specs.Front.{AreMixed, is_before}
-use Rattle.transyt_track.specs.Own.{own, same_own}
-use Rattle.transyt_track.specs.Due.{differs, read_differs}
+use Rattle.transyt_track.specs.Own.{own, same_own, places_at}
+use Rattle.std.specs.List.{list_any}
+use Rattle.transyt_track.specs.Due.{differs, read_differs, is_some_and}
 
 -- the last sweep is `early` before a link at a sweep, and `late` from it on
 pub record AreShownMixed (net : Network) (early late : ℕ → CellValue) (sweep link : ℕ) (rows : RowsValue) : Type 0
@@ -43,14 +45,36 @@ abbrev pub total_differs : Network → Network → ℕ → Bool
 total_differs before after link =
     not (nat_eq (total_flow (link_of before link)) (total_flow (link_of after link)))
 
+-- whether the flag of a place is up that doesn't stand before a link
+abbrev pub flag_from : List Bool → ℕ → ℕ → Bool
+flag_from flags link place = not (nat_lt place link) && flag flags place
+
+-- whether a link had its turn after a reader had its own, or with it, where the next turn is that of the link at the
+-- front
+abbrev pub had_turn : ℕ → ℕ → ℕ → Bool
+had_turn front reader other =
+    if nat_lt other front then not (nat_lt reader front && nat_lt other reader)
+    else not (nat_lt reader front) && not (nat_lt other reader)
+
+-- whether what a reader reads next of another is worked out, and differs
+abbrev pub has_moved : Network → Network → ℕ → ℕ → ℕ → ℕ → Bool
+has_moved before after sweep front reader other =
+    had_turn front reader other && read_differs before after sweep front other
+
+-- whether a link is due at its next turn for what is known at the front: its own data differ, or what it reads next of a
+-- feeder or of the link to which it gives way is worked out, and differs
+abbrev pub awaits : Network → Network → ℕ → ℕ → ℕ → Bool
+awaits before after sweep front reader =
+    own_differs before after reader
+    || list_any (has_moved before after sweep front reader) (places_at before reader).feeders
+    || is_some_and (has_moved before after sweep front reader) (places_at before reader).rule
+
 -- THE LAW OF THE FRONT: before a link at a sweep the rows are those of the network after, from it on those of the
--- network before; the flag of each link is up where what the link at the front would read of it differs
-pub record AreAt (before after : Network) (sweep link : ℕ) (rows : RowsValue) (changed : List Bool) : Type 0 where
+-- network before; the flag of each link is up where it is due at its next turn for what is known
+pub record AreAt (before after : Network) (sweep link : ℕ) (rows : RowsValue) (awaited : List Bool) : Type 0 where
   pub outs : AreMixed after (out_of after) (out_of before) sweep link rows
   pub shown : AreShownMixed after (evaluated after) (evaluated before) sweep link rows
-  pub count : length changed ≡ length after.links
-  pub flagged : (other : ℕ) → other < length after.links
-      → flag changed other ≡ read_differs before after sweep link other
+  pub flags : AreFlags (awaits before after sweep link) (length after.links) awaited
 
 -- before the first sweep, where the flags of the links before the front alone are known
 pub record AreStarting (before after : Network) (link : ℕ) (rows : RowsValue) (changed : List Bool) : Type 0 where

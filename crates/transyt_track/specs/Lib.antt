@@ -1,5 +1,6 @@
 pub mod Own
 pub mod Due
+pub mod Readers
 pub mod Work
 pub mod WorkedFacts
 pub mod WorkedWork
@@ -7,3 +8,4 @@ pub mod Front
 pub mod Saved
 pub mod Tracker
 pub mod WorkedSame
+pub mod WorkedReaders

@@ -103,6 +103,12 @@ pub record HaveData (before after : Network) (link : ℕ) : Type 0 where
   pub numbers : SameNumbers (link_of before link) (link_of after link)
   pub times : SameTimes (the_node before (link_of before link).node) (the_node after (link_of after link).node)
 
+-- two networks differ at most in the times of the node at this place
+pub record DifferAt (place : ℕ) (before after : Network) : Type 0 where
+  pub inside : place < length after.nodes
+  pub links : before.links ≡ after.links
+  pub nodes : (other : ℕ) → (other ≡ place → ⊥) → HaveNode before after other
+
 -- where it is told that links stay, all links are equal in two networks
 pub record LinksStay (stay : Bool) (before after : Network) : Type 0 where
   pub links : IsTrue stay → before.links ≡ after.links

@@ -1,11 +1,12 @@
 -- What a tracker is seen as, and what its parts satisfy.
-use Rattle.std.specs.Prelude.{◌≡◌, Bool, true, false, List, length, Option, Some, None}
+use Rattle.std.specs.Prelude.{◌≡◌, ℕ, Bool, true, false, List, length, Option, Some, None}
 use Rattle.transyt_net.specs.Parts.{Network}
 use Rattle.transyt_net.specs.Shape.{SameShape}
 use Rattle.transyt_sweep.specs.Cell.{CellValue}
 use Rattle.transyt_sweep.specs.Rows.{RowsValue}
 use Rattle.transyt_sweep.specs.Front.{AreEvaluation}
 use Rattle.transyt_track.specs.Own.{PlacesValue, ArePlaces}
+use Rattle.transyt_track.specs.Readers.{AreReaders}
 use Rattle.transyt_track.specs.Saved.{SavedValue, FitsRows, LeadBack}
 
 -- a tracker: the network that it stands for, and the one that its open mark stands for, or none
@@ -28,12 +29,13 @@ tracker_of net live marked = record { net = net; mark = mark_of live marked }
 
 -- the rows are the evaluation of the network, and those saved lead back to the marked one. No public clause cites it.
 pub record IsTracking (net marked : Network) (rows : RowsValue) (saved : SavedValue) (places : List PlacesValue)
-    (own_changed changed : List Bool) (scratch : CellValue) : Type 0 where
+    (readers : List (List ℕ)) (own_changed awaited : List Bool) (scratch : CellValue) : Type 0 where
   pub shape : SameShape net marked
   pub evaluation : AreEvaluation net rows
   pub fits : FitsRows rows saved
   pub back : LeadBack marked rows saved
   pub table : ArePlaces net places
+  pub reading : AreReaders net readers
   pub own_count : length own_changed ≡ length net.links
-  pub changed_count : length changed ≡ length net.links
+  pub awaited_count : length awaited ≡ length net.links
   pub steps : length scratch.arrivals ≡ net.frame.step_count

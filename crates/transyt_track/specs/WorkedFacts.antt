@@ -505,6 +505,13 @@ green_places = no_places ∷ no_places ∷ []
 abbrev pub wrong_places : List PlacesValue
 wrong_places = no_places ∷ record { node = 0; feeders = 0 ∷ []; rule = None } ∷ []
 
+-- nothing reads either, and one that the second link reads
+abbrev pub green_readers : List (List ℕ)
+green_readers = [] ∷ [] ∷ []
+
+abbrev pub wrong_readers : List (List ℕ)
+wrong_readers = (1 ∷ []) ∷ [] ∷ []
+
 -- a network of another shape
 abbrev pub one_green : Network
 one_green = record (two_green 720) { links = green_link 1 360 [] ∷ [] }

@@ -10,9 +10,11 @@ ghost use Rattle.transyt_sweep.specs.Sweeps.{out_of};
 ghost use Rattle.transyt_track.specs.Due.{differs, due, is_due};
 ghost use Rattle.transyt_track.specs.Front.{AreDownWhere};
 ghost use Rattle.transyt_track.specs.Front.{AreAt, AreBetween, AreFlags, AreShownMixed, AreStarting, AreWeighed};
-ghost use Rattle.transyt_track.specs.Front.{flag, left_at, own_differs, total_differs, unweighed};
-ghost use Rattle.transyt_track.specs.Own.{HaveData, HaveNode, LinksStay, SameNumbers, SameTimes};
+ghost use Rattle.transyt_track.specs.Front.{awaits, flag, flag_from, had_turn, left_at, own_differs, total_differs};
+ghost use Rattle.transyt_track.specs.Front.{unweighed};
+ghost use Rattle.transyt_track.specs.Own.{DifferAt, HaveData, HaveNode, LinksStay, SameNumbers, SameTimes};
 ghost use Rattle.transyt_track.specs.Own.{ArePlaces, HaveWeights, Own, all_places, own, same_own};
+ghost use Rattle.transyt_track.specs.Readers.{AreReaders, reads};
 ghost use Rattle.transyt_track.specs.Saved.{AreAhead, AreSaved, AreUnsaved, Carries, FitsRows, LeadBack, SaveAlike};
 ghost use Rattle.transyt_track.specs.Saved.{begun, is_saved, kept_at, old_out, old_shown, restored_at, returned_at};
 ghost use Rattle.transyt_track.specs.Saved.{saved_at, settled};
@@ -21,9 +23,9 @@ ghost use Rattle.transyt_track.specs.Work.{cert_work, edit_work, work_of};
 ghost use Rattle.transyt_track.specs.WorkedFacts.{ahead, another, another_unweighed, begun_two, carried, cell_360};
 ghost use Rattle.transyt_track.specs.WorkedFacts.{closed_two, differing, first_between, first_placed, flags_few};
 ghost use Rattle.transyt_track.specs.WorkedFacts.{flags_first, flags_front, flags_many, flags_second, green_later};
-ghost use Rattle.transyt_track.specs.WorkedFacts.{green_less, green_places, green_saved, green_unfit, kept_pairs};
-ghost use Rattle.transyt_track.specs.WorkedFacts.{long_scratch, marked_green, more_sweeps, one_green, other_arrivals};
-ghost use Rattle.transyt_track.specs.WorkedFacts.{other_come, other_first, other_flags, other_go, other_out};
+ghost use Rattle.transyt_track.specs.WorkedFacts.{green_less, green_places, green_readers, green_saved, green_unfit};
+ghost use Rattle.transyt_track.specs.WorkedFacts.{kept_pairs, long_scratch, marked_green, more_sweeps, one_green};
+ghost use Rattle.transyt_track.specs.WorkedFacts.{other_arrivals, other_come, other_first, other_flags, other_go, other_out};
 ghost use Rattle.transyt_track.specs.WorkedFacts.{other_places, other_random, other_saved, other_weights, out_behind};
 ghost use Rattle.transyt_track.specs.WorkedFacts.{out_between, outs_before, own_three, places_three, rows_1080};
 ghost use Rattle.transyt_track.specs.WorkedFacts.{rows_720, rows_before, rows_between, rows_front, rows_left};
@@ -31,9 +33,11 @@ ghost use Rattle.transyt_track.specs.WorkedFacts.{rows_now, rows_restored, rows_
 ghost use Rattle.transyt_track.specs.WorkedFacts.{saved_parts, saved_returned, saved_two, second_between};
 ghost use Rattle.transyt_track.specs.WorkedFacts.{shown_before, shown_behind, two_green, two_links, uncarried_closed};
 ghost use Rattle.transyt_track.specs.WorkedFacts.{unfit_rows, unlike_two, unmarked_green, unsaved_parts};
-ghost use Rattle.transyt_track.specs.WorkedFacts.{weights_of_second, wrong_places};
+ghost use Rattle.transyt_track.specs.WorkedFacts.{weights_of_second, wrong_places, wrong_readers};
 ghost use Rattle.transyt_track.specs.WorkedSame.{numbered_link, other_after, other_numbers, other_times, same_after};
 ghost use Rattle.transyt_track.specs.WorkedSame.{second_down, second_not_down, timed};
+ghost use Rattle.transyt_track.specs.WorkedReaders.{awaiting_loop, awaiting_offset, first_altered, flags_from};
+ghost use Rattle.transyt_track.specs.WorkedReaders.{had_turns, not_altered, other_readers, read_places, readers_three};
 ghost use Rattle.transyt_track.specs.WorkedWork.{due_of_three, fed_by_two, junctions, loop_of_three};
 ghost use Rattle.transyt_track.specs.WorkedWork.{worked_edits, worked_looks};
 
@@ -223,24 +227,50 @@ pub fn worked_weighed()
 {}
 
 /// A tracker of the two links has these parts, and none with one thing wrong.
-#[tactic(auto, using(crate::proofs::WorkedTracking::tracks, crate::proofs::WorkedTracking::other_shape, crate::proofs::WorkedTracking::other_rows, crate::proofs::WorkedTracking::no_fit, crate::proofs::WorkedTracking::no_lead, crate::proofs::WorkedTracking::other_places, crate::proofs::WorkedTracking::few_own, crate::proofs::WorkedTracking::many_changed, crate::proofs::WorkedTracking::no_room))]
+#[tactic(auto, using(crate::proofs::WorkedTracking::tracks, crate::proofs::WorkedTracking::other_shape, crate::proofs::WorkedTracking::other_rows, crate::proofs::WorkedTracking::no_fit, crate::proofs::WorkedTracking::no_lead, crate::proofs::WorkedTracking::other_places, crate::proofs::WorkedTracking::other_readers, crate::proofs::WorkedTracking::few_own, crate::proofs::WorkedTracking::many_awaited, crate::proofs::WorkedTracking::no_room))]
 pub fn worked_tracking()
-    ensures tracking { IsTracking (two_green 1080) (two_green 720) rows_1080 green_saved green_places flags_front
-        flags_first cell_360 }
-    ensures not_shape { IsTracking (two_green 1080) one_green rows_1080 green_saved green_places flags_front flags_first
-        cell_360 → ⊥ }
-    ensures not_evaluation { IsTracking (two_green 1080) (two_green 720) rows_front green_saved green_places flags_front
-        flags_first cell_360 → ⊥ }
-    ensures not_fits { IsTracking (two_green 1080) (two_green 720) rows_1080 green_unfit green_places flags_front
-        flags_first cell_360 → ⊥ }
-    ensures not_back { IsTracking (two_green 1080) (two_green 720) rows_1080 green_later green_places flags_front
-        flags_first cell_360 → ⊥ }
-    ensures not_table { IsTracking (two_green 1080) (two_green 720) rows_1080 green_saved wrong_places flags_front
-        flags_first cell_360 → ⊥ }
-    ensures not_own_count { IsTracking (two_green 1080) (two_green 720) rows_1080 green_saved green_places flags_few
-        flags_first cell_360 → ⊥ }
-    ensures not_changed_count { IsTracking (two_green 1080) (two_green 720) rows_1080 green_saved green_places
-        flags_front flags_many cell_360 → ⊥ }
-    ensures not_steps { IsTracking (two_green 1080) (two_green 720) rows_1080 green_saved green_places flags_front
-        flags_first long_scratch → ⊥ }
+    ensures tracking { IsTracking (two_green 1080) (two_green 720) rows_1080 green_saved green_places green_readers
+        flags_front flags_first cell_360 }
+    ensures not_shape { IsTracking (two_green 1080) one_green rows_1080 green_saved green_places green_readers
+        flags_front flags_first cell_360 → ⊥ }
+    ensures not_evaluation { IsTracking (two_green 1080) (two_green 720) rows_front green_saved green_places
+        green_readers flags_front flags_first cell_360 → ⊥ }
+    ensures not_fits { IsTracking (two_green 1080) (two_green 720) rows_1080 green_unfit green_places green_readers
+        flags_front flags_first cell_360 → ⊥ }
+    ensures not_back { IsTracking (two_green 1080) (two_green 720) rows_1080 green_later green_places green_readers
+        flags_front flags_first cell_360 → ⊥ }
+    ensures not_table { IsTracking (two_green 1080) (two_green 720) rows_1080 green_saved wrong_places green_readers
+        flags_front flags_first cell_360 → ⊥ }
+    ensures not_readers { IsTracking (two_green 1080) (two_green 720) rows_1080 green_saved green_places wrong_readers
+        flags_front flags_first cell_360 → ⊥ }
+    ensures not_own_count { IsTracking (two_green 1080) (two_green 720) rows_1080 green_saved green_places
+        green_readers flags_few flags_first cell_360 → ⊥ }
+    ensures not_awaited_count { IsTracking (two_green 1080) (two_green 720) rows_1080 green_saved green_places
+        green_readers flags_front flags_many cell_360 → ⊥ }
+    ensures not_steps { IsTracking (two_green 1080) (two_green 720) rows_1080 green_saved green_places green_readers
+        flags_front flags_first long_scratch → ⊥ }
+{}
+
+/// The links that read each of the two junctions' links are these, and no others; and only the times of a node that is
+/// named differ after an edit of it.
+#[tactic(auto, using(crate::proofs::WorkedReaders::are_readers, crate::proofs::WorkedReaders::differ_at))]
+pub fn worked_readers()
+    ensures reads { map (λ row. reads row.0 row.1) read_places ≡ map (λ row. row.2) read_places }
+    ensures readers { AreReaders junctions readers_three }
+    ensures other_readers { All (λ readers. AreReaders junctions readers → ⊥) other_readers }
+    ensures differ { All (λ e. DifferAt 0 junctions (with_edit junctions e)) first_altered }
+    ensures not_differ { All (λ row. DifferAt row.0 junctions (with_edit junctions row.1) → ⊥) not_altered }
+{}
+
+/// The flags of turns to come are up where it is written beside them: for a link's own data, for a feeder and for the link
+/// to which it gives way, from the turn on at which these differ.
+#[tactic(auto, using(crate::proofs::WorkedReaders::offset, crate::proofs::WorkedReaders::around))]
+pub fn worked_awaiting()
+    ensures turns { map (λ row. had_turn row.0 row.1 row.2) had_turns ≡ map (λ row. row.3) had_turns }
+    ensures flags { map (λ row. flag_from (true ∷ false ∷ true ∷ []) row.0 row.1) flags_from
+        ≡ map (λ row. row.2) flags_from }
+    ensures offset { map (λ row. awaits junctions (with_edit junctions (Offset 21 9)) row.0 row.1 row.2) awaiting_offset
+        ≡ map (λ row. row.3) awaiting_offset }
+    ensures around { map (λ row. awaits (loop_of_three 360) (loop_of_three 3420) row.0 row.1 row.2) awaiting_loop
+        ≡ map (λ row. row.3) awaiting_loop }
 {}

@@ -1,12 +1,12 @@
 //! The own data of a link, and where its node and the links that it reads stand.
 
-ghost use Rattle.std.specs.Prelude.{◌≡◌, ◌↔◌, ◌<◌, length, map, IfOk, IsTrue};
+ghost use Rattle.std.specs.Prelude.{◌≡◌, ◌↔◌, ◌<◌, length, map, IfOk, IfSome, IsTrue};
 ghost use Rattle.transyt_net.specs.Parts.{Network, link_of};
 ghost use Rattle.transyt_net.specs.Edits.{with_edit};
 ghost use Rattle.transyt_net.specs.Valid.{IsValid, link_place};
 ghost use Rattle.transyt_track.specs.Own.{change_of, flow_of, cruise_of, feeder_place, rule_place, node_place};
 ghost use Rattle.transyt_track.specs.Own.{all_places, places_at, SameTimes, SameNumbers, HaveNode, HaveData};
-ghost use Rattle.transyt_track.specs.Own.{HaveWeights, LinksStay};
+ghost use Rattle.transyt_track.specs.Own.{DifferAt, HaveWeights, LinksStay};
 ghost use Rattle.transyt_track.specs.Front.{AreDownWhere, total_differs};
 
 use std::alloc::{AllocError, Global};
@@ -84,12 +84,14 @@ pub(crate) fn leaves_links(e: &Edit) -> bool
     matches!(e, Edit::Offset { .. } | Edit::Change { .. })
 }
 
-/// Whether links have equal numbers. Nothing is compared where it is told that they are equal.
-fn keeps_numbers(links_stay: bool, old: &Link, new: &Link) -> bool
-    requires { IsTrue links_stay → old.now ≡ new.now }
-    ensures { IsTrue result ↔ SameNumbers old.now new.now }
+/// The place of the node whose times alone an edit alters, if it is an edit of one.
+pub(crate) fn edited_node(net: &Net, e: &Edit) -> Option<usize>
+    ensures { IfSome result (λ place. DifferAt place net.now (with_edit net.now e.now)) }
 {
-    links_stay || same_numbers(old, new)
+    match e {
+        Edit::Offset { node, .. } | Edit::Change { node, .. } => net.node_place(*node),
+        _ => None,
+    }
 }
 
 /// Whether a link has equal own data in two networks of one shape, the total flows of its feeders apart. The flags of
@@ -99,7 +101,6 @@ pub(crate) fn same_data(
     before: &Net,
     after: &Net,
     link: usize,
-    links_stay: bool,
     places: &Places,
     node_changed: &[bool],
 ) -> bool
@@ -107,13 +108,12 @@ pub(crate) fn same_data(
     requires link_after { link < length after.now.links }
     requires places { places.now ≡ places_at before.now link }
     requires places_after { places.now ≡ places_at after.now link }
-    requires stay { LinksStay links_stay before.now after.now }
     requires nodes { AreDownWhere (HaveNode before.now after.now) (length after.now.nodes) node_changed.now }
     ensures { IsTrue result ↔ HaveData before.now after.now link }
 {
     let old = link_at(before, link);
     let new = link_at(after, link);
-    !node_changed[places.node] && keeps_numbers(links_stay, old, new)
+    !node_changed[places.node] && same_numbers(old, new)
 }
 
 /// Whether the total flow of a link differs. Nothing is summed up where `same` tells that its data are equal.

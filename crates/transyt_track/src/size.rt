@@ -1,6 +1,7 @@
 //! How many bytes a tracker takes.
 
 use crate::own::Places;
+use crate::readers::Readers;
 use crate::saved::Saved;
 use std::mem::size_of;
 use transyt_delay::Figures;
@@ -25,6 +26,8 @@ const ROWS: usize = (SWEEPS + 1) * LINKS * ROW + LINKS * (3 * ROW + size_of::<Fi
 const SAVED: usize = ROWS + (SWEEPS + 1) * LINKS * size_of::<bool>();
 // the places of each link's node, feeders and rule
 const PLACES: usize = LINKS * (size_of::<Places>() + FEEDS * size_of::<usize>());
+// the readers of each link: what links read, nine at most each, in room that doubles as it fills and is four at least
+const READERS: usize = LINKS * (size_of::<Readers>() + (2 * (FEEDS + 1) + 4) * size_of::<usize>());
 // two flags for each link, the room for one link's work, and what was worked out last of each feed's numbers
 const ROOM: usize = 2 * LINKS * size_of::<bool>() + 13 * PROFILE + LINKS * FACTOR_BYTES;
 
@@ -36,6 +39,7 @@ pub const MOST_BYTES: usize = size_of::<Rows>()
     + ROWS
     + SAVED
     + PLACES
+    + READERS
     + ROOM;
 
 const _: () = prove!(MOST_BYTES <= 25_000_000);

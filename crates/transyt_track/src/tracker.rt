@@ -9,12 +9,15 @@ ghost use Rattle.transyt_net.specs.Shape.{SameShape};
 ghost use Rattle.transyt_sweep.specs.Front.{AreEvaluation};
 ghost use Rattle.transyt_sweep.specs.Sweeps.{out_of, evaluated, index};
 ghost use Rattle.transyt_track.specs.Due.{due};
+ghost use Rattle.transyt_track.specs.Own.{all_places};
+ghost use Rattle.transyt_track.specs.Readers.{AreReaders};
 ghost use Rattle.transyt_track.specs.Saved.{FitsRows, LeadBack, SaveAlike};
 ghost use Rattle.transyt_track.specs.Tracker.{tracker_of, unmarked, IsTracking};
 
 use crate::found::Found;
 use crate::front::follow_rows;
-use crate::own::{Places, all_places, leaves_links};
+use crate::own::{Places, all_places, edited_node, leaves_links};
+use crate::readers::{Readers, all_readers};
 use crate::saved::{Saved, copy_rows, copy_saved, go_back, weigh_all};
 use std::alloc::{AllocError, Global};
 use std::marker::Model;
@@ -35,12 +38,13 @@ pub struct Tracker {
     // the marked network, while a mark is open
     marked: Net,
     places: Vec<Places>,
+    readers: Vec<Readers>,
     rows: Rows,
     saved: Saved,
     // a flag for each link, set by `follow`: its own data differ
     own_changed: Vec<bool>,
-    // and: what the link at the front would read of it differs
-    changed: Vec<bool>,
+    // and: it is due at its next turn for what is known
+    awaited: Vec<bool>,
     scratch: Scratch,
 }
 
@@ -53,7 +57,8 @@ impl Model for Tracker {
 
     // the rows are the evaluation of the network, and the saved rows lead back to the marked one
     ghost invariant = { λ t.
-        IsTracking t.net t.marked t.rows t.saved t.places.items t.own_changed.items t.changed.items t.scratch };
+        IsTracking t.net t.marked t.rows t.saved t.places.items t.readers.items
+        t.own_changed.items t.awaited.items t.scratch };
 }
 
 impl Tracker {
@@ -87,12 +92,24 @@ impl Tracker {
         ensures { IfOk result (λ tracker. tracker ≡ unmarked net.now) }
     {
         let saved = Saved::open(alloc, net)?;
-        let places = all_places(alloc, net)?;
+        let read = Tracker::read(alloc, net)?;
         let flags = Tracker::flags(alloc, net)?;
         let scratch = Scratch::open(alloc, net)?;
         let own = net.copy(alloc)?;
         let marked = net.copy(alloc)?;
-        Ok(Tracker::of_parts(own, marked, places, rows, saved, flags.0, flags.1, scratch))
+        Ok(Tracker::of_parts(
+            own, marked, read.0, read.1, rows, saved, flags.0, flags.1, scratch,
+        ))
+    }
+
+    /// Where what each link reads stands, and the links that read each.
+    fn read(alloc: Global, net: &Net) -> Result<(Vec<Places>, Vec<Readers>), AllocError>
+        ensures places { IfOk result (λ read. read.0.items ≡ all_places net.now) }
+        ensures readers { IfOk result (λ read. AreReaders net.now read.1.items) }
+    {
+        let places = all_places(alloc, net)?;
+        let readers = all_readers(alloc, net, &places)?;
+        Ok((places, readers))
     }
 
     /// Two flags for each link.
@@ -111,23 +128,26 @@ impl Tracker {
         net: Net,
         marked: Net,
         places: Vec<Places>,
+        readers: Vec<Readers>,
         rows: Rows,
         saved: Saved,
         own_changed: Vec<bool>,
-        changed: Vec<bool>,
+        awaited: Vec<bool>,
         scratch: Scratch,
     ) -> Tracker
-        requires { IsTracking net marked rows saved places.items own_changed.items changed.items scratch }
+        requires { IsTracking net marked rows saved places.items readers.items own_changed.items awaited.items
+            scratch }
         ensures { result ≡ tracker_of net saved.live marked }
     {
         Tracker {
             net,
             marked,
             places,
+            readers,
             rows,
             saved,
             own_changed,
-            changed,
+            awaited,
             scratch,
         }
     }
@@ -210,12 +230,13 @@ impl Tracker {
         let due = follow_rows(
             &self.net,
             after,
-            false,
+            None,
             &self.places,
+            &self.readers,
             &mut self.rows,
             &mut self.saved,
             &mut self.own_changed,
-            &mut self.changed,
+            &mut self.awaited,
             &mut self.scratch,
             steps,
         );
@@ -241,12 +262,13 @@ impl Tracker {
         let due = follow_rows(
             &self.net,
             after,
-            leaves_links(&e),
+            edited_node(&self.net, &e),
             &self.places,
+            &self.readers,
             &mut self.rows,
             &mut self.saved,
             &mut self.own_changed,
-            &mut self.changed,
+            &mut self.awaited,
             &mut self.scratch,
             steps,
         );
@@ -281,12 +303,13 @@ impl Tracker {
         let due = follow_rows(
             &self.net,
             after,
-            leaves_links(&e),
+            edited_node(&self.net, &e),
             &self.places,
+            &self.readers,
             &mut self.rows,
             &mut self.saved,
             &mut self.own_changed,
-            &mut self.changed,
+            &mut self.awaited,
             &mut self.scratch,
             steps,
         );

@@ -11,8 +11,8 @@ use Rattle.transyt_track.proofs.front.follow_rows.Goals as goal
 
 pub loop-sweep-init : goal.loop-sweep-init
 loop-sweep-init g c = record {
-  at = c.start_links.ensures.at;
-  carries = c.start_links.ensures.carries;
+  at = c.set_out.ensures.at;
+  carries = c.set_out.ensures.carries;
   step_count = c.requires.step_count;
   count = sym (due_through_none c.args.before.now c.args.after.now);
   few = omega arith;
@@ -48,8 +48,8 @@ returns-clause-rows g c =
     let b = c.args.after.now in
     let all : c.loop-sweep.sweep ≡ b.frame.sweeps + 1 = omega
     (arith, ap (λ (f : Frame). f.sweeps) c.frame-sweep-end.ensures.value) in
-    ended c.args.before.now b c.loop-sweep.rows c.loop-sweep.changed.items
-    (subst (λ s. AreAt c.args.before.now b s 0 c.loop-sweep.rows c.loop-sweep.changed.items) all
+    ended c.args.before.now b c.loop-sweep.rows c.loop-sweep.awaited.items
+    (subst (λ s. AreAt c.args.before.now b s 0 c.loop-sweep.rows c.loop-sweep.awaited.items) all
     c.loop-sweep.invariant.at)
 
 pub returns-clause-count : goal.returns-clause-count

@@ -8,7 +8,7 @@ use Rattle.transyt_track.proofs.front.follow_rows.Given as goal
 -- the front stands at the first link of the sweep
 abbrev pub invariant-loop-sweep : goal.invariant-loop-sweep
 invariant-loop-sweep g l = record {
-  at : AreAt l.before l.after l.sweep 0 l.rows l.changed.items;
+  at : AreAt l.before l.after l.sweep 0 l.rows l.awaited.items;
   carries : Carries l.fn.rows l.fn.saved l.rows l.saved;
   step_count : length l.scratch.arrivals ≡ l.after.frame.step_count;
   count : l.count ≡ due_through l.before l.after (l.sweep - 1);

@@ -8,7 +8,7 @@ use Rattle.transyt_track.proofs.front.sweep_links.Given as goal
 -- those so far had their turn, in a step for each that was due
 abbrev pub invariant-loop-link : goal.invariant-loop-link
 invariant-loop-link g l = record {
-  at : AreAt l.before l.after l.sweep l.link l.rows l.changed.items;
+  at : AreAt l.before l.after l.sweep l.link l.rows l.awaited.items;
   carries : Carries l.fn.rows l.fn.saved l.rows l.saved;
   step_count : length l.scratch.arrivals ≡ l.after.frame.step_count;
   count : l.count ≡ due_in l.before l.after l.sweep l.link;

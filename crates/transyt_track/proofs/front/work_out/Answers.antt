@@ -1,23 +1,57 @@
 -- What is worked out is what the definition says.
-use Rattle.std.proofs.Common.{◌≡◌, not, sym, subst, ap, ◌∙◌}
+use Rattle.std.proofs.Common.{◌≡◌, ◌<◌, [], length, not, sym, subst, ap, ◌∙◌, arith}
+use Rattle.std.specs.Prelude.{slice_index_or}
 use Rattle.std.specs.Str.{bytes_eq}
+use Rattle.std.proofs.lemmas.List.{get_or_default}
 use Rattle.transyt_sweep.specs.Cell.{HasSteps}
 use Rattle.transyt_sweep.specs.Sweeps.{out_of, worked_at}
 use Rattle.transyt_sweep.specs.Rows.{read_in, out_at}
 use Rattle.transyt_sweep.proofs.StepLaws.{worked_steps}
 use Rattle.transyt_sweep.proofs.FrontLaws.{cell_is}
-use Rattle.transyt_track.proofs.FrontLaws.{turned_worked}
+use Rattle.transyt_track.specs.Due.{differs}
+use Rattle.transyt_track.proofs.FrontLaws.{differs_told, flags_passed, turned_worked}
 use Rattle.transyt_track.proofs.CompareLaws.{as_long}
+use Rattle.transyt_track.proofs.ReaderLaws.{readers_inside}
+use Rattle.transyt_track.proofs.ShapeLaws.{shape_count}
 use Rattle.transyt_track.proofs.front.work_out.Goals as goal
 
-pub differ-requires : goal.differ-requires
-differ-requires g c =
+pub differ-differs-requires : goal.differ-differs-requires
+differ-differs-requires g c =
     let read = read_in c.args.rows.now c.args.sweep c.args.link in
     let worked : HasSteps c.args.after.now.frame.step_count c.cell.new.scratch =
     subst (HasSteps c.args.after.now.frame.step_count) (sym c.cell.ensures.value)
     (worked_steps c.args.after.now read c.args.link) in
     as_long c.out.result.now c.out-2.result.now c.args.rows.now.step_count c.out.ensures.steps
     c.cell.new.scratch.out c.out-2.ensures (worked.out ∙ sym c.requires.at.outs.fits.step_count)
+
+pub bounds-readers-link : goal.bounds-readers-link
+bounds-readers-link g c =
+    omega (
+      arith,
+      c.requires.link,
+      c.requires.readers.count,
+      shape_count c.args.before.now c.args.after.now c.requires.shape,
+    )
+
+pub offset_bounds-readers-link : goal.offset_bounds-readers-link
+offset_bounds-readers-link g c = omega (arith, c.requires.link, c.frame.ensures.valid.sound.link_count)
+
+pub pass_on-requires-clause-link : goal.pass_on-requires-clause-link
+pass_on-requires-clause-link g c = omega (arith, c.requires.link, c.requires.at.flags.count)
+
+pub pass_on-requires-clause-own_count : goal.pass_on-requires-clause-own_count
+pass_on-requires-clause-own_count g c = c.requires.own_changed.count ∙ sym c.requires.at.flags.count
+
+pub pass_on-requires-clause-inside : goal.pass_on-requires-clause-inside
+pass_on-requires-clause-inside g c =
+    let a = c.args.before.now in
+    let l = c.args.link in
+    let links = shape_count a c.args.after.now c.requires.shape in
+    let inside : l < length a.links = omega (arith, links, c.requires.link) in
+    readers_inside a c.args.readers.now l (length c.args.awaited.now.items) c.requires.readers inside
+    (links ∙ sym c.requires.at.flags.count) c.index-readers-link.result
+    (c.index-readers-link.is
+    ∙ get_or_default c.args.readers.now l c.index-readers-link.result [] (omega (arith, c.requires.readers.count, inside)))
 
 pub place-requires-clause-steps : goal.place-requires-clause-steps
 place-requires-clause-steps g c =
@@ -32,14 +66,27 @@ returns-clause-step_count g c = c.place.ensures.steps ∙ c.requires.at.outs.fit
 pub returns-clause-at : goal.returns-clause-at
 returns-clause-at g c =
     let r = c.requires in
-    let made : c.cell.new.scratch ≡ worked_at c.args.after.now c.args.sweep c.args.link =
-    c.cell.ensures.value
-    ∙ cell_is c.args.after.now (out_of c.args.before.now) c.args.sweep c.args.link c.args.rows.now r.at.outs r.first
-    r.last r.link in
-    let told : c.differ.result ≡ not (bytes_eq (out_at c.args.rows.now c.args.sweep c.args.link) c.cell.new.scratch.out) =
-    c.differ.ensures
+    let a = c.args.before.now in
+    let b = c.args.after.now in
+    let s = c.args.sweep in
+    let l = c.args.link in
+    let rows = c.args.rows.now in
+    let awaited = c.args.awaited.now.items in
+    let readers = c.args.readers.now in
+    let rs = c.index-readers-link.result in
+    let links = shape_count a b r.shape in
+    let made : c.cell.new.scratch ≡ worked_at b s l =
+    c.cell.ensures.value ∙ cell_is b (out_of a) s l rows r.at.outs r.first r.last r.link in
+    let told : c.differ-differs.result ≡ not (bytes_eq (out_at rows s l) c.cell.new.scratch.out) =
+    c.differ-differs.ensures
     ∙ ap (λ x. not (bytes_eq x c.out-2.result.now)) c.out.ensures.value
-    ∙ ap (λ x. not (bytes_eq (out_at c.args.rows.now c.args.sweep c.args.link) x)) c.out-2.ensures in
-    rw c.place.ensures.value (turned_worked c.args.before.now c.args.after.now c.args.sweep c.args.link c.args.rows.now
-    c.args.changed.now.items r.at r.shape r.first r.last r.link c.place.ensures.rows c.cell.new.scratch made
-    c.differ.result told)
+    ∙ ap (λ x. not (bytes_eq (out_at rows s l) x)) c.out-2.ensures in
+    let moved : c.differ-differs.result ≡ differs a b s l =
+    differs_told a b s l rows awaited r.at r.shape r.first r.last r.link c.cell.new.scratch made c.differ-differs.result
+    told in
+    let are : rs ≡ slice_index_or readers l [] =
+    c.index-readers-link.is ∙ get_or_default readers l rs [] (omega (arith, r.readers.count, links, r.link)) in
+    rw c.place.ensures.value (turned_worked a b s l rows awaited r.at r.shape r.first r.last r.link c.place.ensures.rows
+    c.cell.new.scratch made c.pass_on.new.awaited.items
+    (flags_passed a b s l rows awaited r.at links r.link c.args.own_changed.now r.own_changed readers r.readers
+    c.differ-differs.result moved rs are c.pass_on.new.awaited.items c.pass_on.ensures.count c.pass_on.ensures.flags))

@@ -1,19 +1,11 @@
 -- The flag is down exactly where the times of the link's node are equal.
 use Rattle.std.proofs.Common.{◌≡◌, ◌↔◌, false, sym, ap, not, ◌∙◌}
-use Rattle.std.specs.Prelude.{slice_index_or}
 use Rattle.std.proofs.lemmas.Bool.{true≢false}
-use Rattle.transyt_net.specs.Parts.{no_link}
 use Rattle.transyt_track.specs.Own.{PlacesValue, HaveNode}
 use Rattle.transyt_track.specs.Front.{flag}
 use Rattle.transyt_track.proofs.ChangeLaws.{data_told}
 use Rattle.transyt_track.proofs.PlaceLaws.{node_inside, times_here}
 use Rattle.transyt_track.proofs.own.same_data.Goals as goal
-
-pub keeps_numbers-requires : goal.keeps_numbers-requires
-keeps_numbers-requires c = λ stays.
-    c.link_at-old.ensures.value
-    ∙ ap (λ ls. slice_index_or ls c.args.link no_link) (c.requires.stay.links stays)
-    ∙ sym c.link_at-new.ensures.value
 
 pub returns-then-not-node_changed-places : goal.returns-then-not-node_changed-places
 returns-then-not-node_changed-places c =
@@ -28,8 +20,8 @@ returns-then-not-node_changed-places c =
     let low : flag flags p.node ≡ false =
     ap (λ (q : PlacesValue). flag flags q.node) (sym c.places.view_is)
     ∙ c.if-not-node_changed-places.true in
-    data_told a b l c.keeps_numbers.result c.link_at-old.result.now c.link_at-new.result.now c.link_at-old.ensures.value
-    c.link_at-new.ensures.value c.keeps_numbers.ensures
+    data_told a b l c.same_numbers.result c.link_at-old.result.now c.link_at-new.result.now c.link_at-old.ensures.value
+    c.link_at-new.ensures.value c.same_numbers.ensures
     ((times_here a b l p c.link_at-old.ensures.valid c.link_at-new.ensures.valid r.link r.link_after r.places
     r.places_after).0 (down.0 low))
 

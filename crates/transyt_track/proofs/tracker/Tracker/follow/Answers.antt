@@ -12,7 +12,7 @@ invariant_of-self g c =
     let say = c.follow_rows-due.ensures in
     let same : SameShape i.net c.args.after.now = ap (λ (t : TrackerValue). shape t.net) c.self.view_is ∙ c.requires in
     rw c.take_numbers.ensures
-    (followed_tracks i.net i.marked i.rows i.saved i.places.items i.own_changed.items i.changed.items i.scratch
-    c.self.invariant c.args.after.now same new.rows new.saved new.own_changed.items new.changed.items new.scratch
+    (followed_tracks i.net i.marked i.rows i.saved i.places.items i.readers.items i.own_changed.items i.awaited.items i.scratch
+    c.self.invariant c.args.after.now same new.rows new.saved new.own_changed.items new.awaited.items new.scratch
     say.rows say.carries
-    say.own_changed say.changed say.step_count)
+    say.own_changed say.awaited say.step_count)

@@ -1,18 +1,20 @@
 -- The rows are those of the network with the edit made, or those from before it.
-use Rattle.std.proofs.Common.{◌≡◌, refl, ap, sym, subst, if◌then◌else◌, nat_lt, ◌∙◌}
+use Rattle.std.proofs.Common.{◌≡◌, IfSome, refl, ap, sym, subst, if◌then◌else◌, nat_lt, ◌∙◌}
 use Rattle.transyt_net.specs.Shape.{shape, SameShape}
 use Rattle.transyt_net.specs.Edits.{with_edit}
+use Rattle.transyt_track.specs.Own.{DifferAt}
 use Rattle.transyt_sweep.specs.Sweeps.{index}
 use Rattle.transyt_sweep.proofs.IndexLaws.{index_is}
 use Rattle.transyt_track.specs.Saved.{Carries, begun, settled}
 use Rattle.transyt_track.specs.Tracker.{TrackerValue, IsTracking}
-use Rattle.transyt_track.proofs.TrackLaws.{begun_tracks, followed_tracks, closed_tracks, stay_made}
+use Rattle.transyt_track.proofs.TrackLaws.{begun_tracks, followed_tracks, closed_tracks}
 use Rattle.transyt_track.proofs.tracker.Tracker.follow_below.Goals as goal
 
-pub follow_rows-due-requires-clause-stay : goal.follow_rows-due-requires-clause-stay
-follow_rows-due-requires-clause-stay g c =
-    stay_made c.leaves_links.result c.self.inside.net c.args.after.now c.args.e c.leaves_links.ensures
-    (c.requires.after ∙ sym (ap (λ (t : TrackerValue). with_edit t.net c.args.e) c.self.view_is))
+pub follow_rows-due-requires-clause-node : goal.follow_rows-due-requires-clause-node
+follow_rows-due-requires-clause-node g c =
+    subst (λ n. IfSome c.edited_node.result (λ place. DifferAt place c.self.inside.net n))
+    (sym (c.requires.after ∙ sym (ap (λ (t : TrackerValue). with_edit t.net c.args.e) c.self.view_is)))
+    c.edited_node.ensures
 
 pub settle_on-requires-clause-live : goal.settle_on-requires-clause-live
 settle_on-requires-clause-live g c =
@@ -25,11 +27,11 @@ settle_on-requires-clause-back g c =
     let say = c.follow_rows-due.ensures in
     let same : SameShape i.net c.args.after.now =
     ap (λ (t : TrackerValue). shape t.net) c.self.view_is ∙ c.requires.shape in
-    (followed_tracks i.net i.net i.rows (begun i.saved) i.places.items i.own_changed.items i.changed.items i.scratch
-    (begun_tracks i.net i.marked i.rows i.saved i.places.items i.own_changed.items i.changed.items i.scratch
-    c.self.invariant) c.args.after.now same new.rows new.saved new.own_changed.items new.changed.items new.scratch
+    (followed_tracks i.net i.net i.rows (begun i.saved) i.places.items i.readers.items i.own_changed.items i.awaited.items i.scratch
+    (begun_tracks i.net i.marked i.rows i.saved i.places.items i.readers.items i.own_changed.items i.awaited.items i.scratch
+    c.self.invariant) c.args.after.now same new.rows new.saved new.own_changed.items new.awaited.items new.scratch
     say.rows (subst (λ s. Carries i.rows s new.rows new.saved) c.begin.ensures say.carries)
-    say.own_changed say.changed say.step_count).back
+    say.own_changed say.awaited say.step_count).back
 
 pub invariant_of-self : goal.invariant_of-self
 invariant_of-self g c =
@@ -39,15 +41,15 @@ invariant_of-self g c =
     let end = c.settle_on.ensures in
     let same : SameShape i.net c.args.after.now =
     ap (λ (t : TrackerValue). shape t.net) c.self.view_is ∙ c.requires.shape in
-    let followed : IsTracking c.args.after.now i.net new.rows new.saved i.places.items new.own_changed.items
-    new.changed.items new.scratch =
-    followed_tracks i.net i.net i.rows (begun i.saved) i.places.items i.own_changed.items i.changed.items i.scratch
-    (begun_tracks i.net i.marked i.rows i.saved i.places.items i.own_changed.items i.changed.items i.scratch
-    c.self.invariant) c.args.after.now same new.rows new.saved new.own_changed.items new.changed.items new.scratch
+    let followed : IsTracking c.args.after.now i.net new.rows new.saved i.places.items i.readers.items new.own_changed.items
+    new.awaited.items new.scratch =
+    followed_tracks i.net i.net i.rows (begun i.saved) i.places.items i.readers.items i.own_changed.items i.awaited.items i.scratch
+    (begun_tracks i.net i.marked i.rows i.saved i.places.items i.readers.items i.own_changed.items i.awaited.items i.scratch
+    c.self.invariant) c.args.after.now same new.rows new.saved new.own_changed.items new.awaited.items new.scratch
     say.rows (subst (λ s. Carries i.rows s new.rows new.saved) c.begin.ensures say.carries)
-    say.own_changed say.changed say.step_count in
+    say.own_changed say.awaited say.step_count in
     rw c.settle.ensures
-    (closed_tracks c.args.after.now i.net new.rows new.saved i.places.items new.own_changed.items new.changed.items
+    (closed_tracks c.args.after.now i.net new.rows new.saved i.places.items i.readers.items new.own_changed.items new.awaited.items
     new.scratch followed c.settle_on.new.net i.marked end.shape (sym end.shape ∙ sym same ∙ c.self.invariant.shape)
     c.settle_on.new.rows end.rows (settled c.settle_on.new.saved) refl end.saved.size end.saved.link_count)
 

@@ -1,15 +1,17 @@
 -- The rows are those of the network with the edit made.
-use Rattle.std.proofs.Common.{◌≡◌, ap, sym, ◌∙◌}
+use Rattle.std.proofs.Common.{◌≡◌, IfSome, ap, sym, subst, ◌∙◌}
 use Rattle.transyt_net.specs.Shape.{shape, SameShape}
 use Rattle.transyt_net.specs.Edits.{with_edit}
+use Rattle.transyt_track.specs.Own.{DifferAt}
 use Rattle.transyt_track.specs.Tracker.{TrackerValue}
-use Rattle.transyt_track.proofs.TrackLaws.{followed_tracks, stay_made}
+use Rattle.transyt_track.proofs.TrackLaws.{followed_tracks}
 use Rattle.transyt_track.proofs.tracker.Tracker.follow_edit.Goals as goal
 
-pub follow_rows-due-requires-clause-stay : goal.follow_rows-due-requires-clause-stay
-follow_rows-due-requires-clause-stay g c =
-    stay_made c.leaves_links.result c.self.inside.net c.args.after.now c.args.e c.leaves_links.ensures
-    (c.requires.after ∙ sym (ap (λ (t : TrackerValue). with_edit t.net c.args.e) c.self.view_is))
+pub follow_rows-due-requires-clause-node : goal.follow_rows-due-requires-clause-node
+follow_rows-due-requires-clause-node g c =
+    subst (λ n. IfSome c.edited_node.result (λ place. DifferAt place c.self.inside.net n))
+    (sym (c.requires.after ∙ sym (ap (λ (t : TrackerValue). with_edit t.net c.args.e) c.self.view_is)))
+    c.edited_node.ensures
 
 pub invariant_of-self : goal.invariant_of-self
 invariant_of-self g c =
@@ -21,6 +23,6 @@ invariant_of-self g c =
     let made : c.make.new.net ≡ c.args.after.now =
     c.make.ensures ∙ ap (λ (t : TrackerValue). with_edit t.net c.args.e) c.self.view_is ∙ sym c.requires.after in
     rw made
-    (followed_tracks i.net i.marked i.rows i.saved i.places.items i.own_changed.items i.changed.items i.scratch
-    c.self.invariant c.args.after.now same new.rows new.saved new.own_changed.items new.changed.items new.scratch
-    say.rows say.carries say.own_changed say.changed say.step_count)
+    (followed_tracks i.net i.marked i.rows i.saved i.places.items i.readers.items i.own_changed.items i.awaited.items i.scratch
+    c.self.invariant c.args.after.now same new.rows new.saved new.own_changed.items new.awaited.items new.scratch
+    say.rows say.carries say.own_changed say.awaited say.step_count)

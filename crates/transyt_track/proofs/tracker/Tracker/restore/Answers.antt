@@ -13,6 +13,6 @@ pub invariant_of-self : goal.invariant_of-self
 invariant_of-self c =
     let i = c.self.inside in
     rw (c.swap.ensures.x_after, c.swap.ensures.y_after, c.settle.ensures)
-    (restored_tracks i.net i.marked i.rows i.saved i.places.items i.own_changed.items
-    i.changed.items i.scratch c.self.invariant c.go_back.new.rows c.go_back.ensures.rows c.go_back.new.saved
+    (restored_tracks i.net i.marked i.rows i.saved i.places.items i.readers.items i.own_changed.items
+    i.awaited.items i.scratch c.self.invariant c.go_back.new.rows c.go_back.ensures.rows c.go_back.new.saved
     c.go_back.ensures.saved)

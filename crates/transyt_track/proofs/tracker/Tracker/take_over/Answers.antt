@@ -22,6 +22,6 @@ invariant_of-self c =
     let closed : i.saved.live ≡ false =
     not_live_of i.saved.live i.marked (ap (λ (t : TrackerValue). t.mark) c.self.view_is ∙ c.requires.closed) in
     rw c.take_numbers.ensures
-    (closed_tracks i.net i.marked i.rows i.saved i.places.items i.own_changed.items i.changed.items i.scratch
+    (closed_tracks i.net i.marked i.rows i.saved i.places.items i.readers.items i.own_changed.items i.awaited.items i.scratch
     c.self.invariant c.from.inside.net i.marked same (sym same ∙ c.self.invariant.shape) c.copy_rows.new.rows
     c.copy_rows.ensures i.saved closed (record { step_count = refl; sweeps = refl; link_count = refl }) refl)

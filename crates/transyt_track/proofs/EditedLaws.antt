@@ -1,0 +1,112 @@
+-- An edit of a node alters the times of that node alone.
+use Rattle.std.proofs.Common.{◌≡◌, ◌≢◌, ◌↔◌, ◌⊎◌, inl, inr, ℕ, ◌<◌, Bool, true, false, not, ◌&&◌, IsTrue, Option}
+use Rattle.std.proofs.Common.{Some, None, IfSome, length, map, set, get_or, refl, ap, sym, subst, ◌∙◌, arith, nat_eq}
+use Rattle.std.proofs.lemmas.Bool.{cases_eq}
+use Rattle.std.proofs.lemmas.Bool.Decides.{nat_tests}
+use Rattle.std.proofs.lemmas.List.{length-set, get_or-set_other}
+use Rattle.transyt_parts.specs.Parts.{NodeValue, LinkValue}
+use Rattle.transyt_parts.specs.Valid.{node_number}
+use Rattle.transyt_net.specs.declared.edit.Edit.{Edit}
+use Rattle.transyt_net.specs.declared.edit.Edit.TheVariants.{Offset, Change}
+use Rattle.transyt_net.specs.Parts.{Network, node_of, link_of, no_node, no_link}
+use Rattle.transyt_net.specs.Edits.{with_edit, set_offset, set_change}
+use Rattle.transyt_net.specs.Shape.{SameShape}
+use Rattle.transyt_net.specs.Valid.{IsValid, on_numbered, place_of, node_numbers}
+use Rattle.transyt_net.proofs.PlaceLaws.{place_is, on_numbered_here}
+use Rattle.transyt_track.specs.Own.{SameTimes, SameNumbers, HaveNode, HaveData, DifferAt, places_at}
+use Rattle.transyt_track.specs.Own.{change_of}
+use Rattle.transyt_track.specs.Front.{own_differs, total_differs}
+use Rattle.transyt_track.proofs.AwaitLaws.{any_each, any_none, and_false, or_false}
+use Rattle.transyt_track.proofs.DueLaws.{not_false}
+use Rattle.transyt_track.proofs.ChangeLaws.{own_flag}
+use Rattle.transyt_track.proofs.PlaceLaws.{times_here}
+use Rattle.transyt_track.proofs.ShapeLaws.{shape_places}
+use Rattle.transyt_track.proofs.StartLaws.{links_totals}
+
+-- equal nodes have equal times, and equal links equal numbers
+same_times : (x y : NodeValue) → x ≡ y → SameTimes x y
+same_times x y same = record {
+  offset = ap (λ (n : NodeValue). n.offset) same;
+  changes = ap (λ (n : NodeValue). map change_of n.stages) same;
+}
+
+same_numbers : (x y : LinkValue) → x ≡ y → SameNumbers x y
+same_numbers x y same = subst (SameNumbers x) same record { entry = refl; saturation = refl; flows = refl; cruises = refl }
+
+-- where something is done to the node of a number, the networks differ in its place alone
+node_differs : (net : Network) (f : NodeValue → NodeValue) (node p : ℕ)
+    → place_of (node_numbers net.nodes) node ≡ Some p
+    → DifferAt p net (record net { nodes = on_numbered node_number f net.nodes node })
+node_differs net f node p at =
+    let place = place_is node_number net.nodes node p at in
+    let put : on_numbered node_number f net.nodes node ≡ set net.nodes p (f (get_or net.nodes p no_node)) =
+    on_numbered_here node_number f net.nodes node p no_node place in
+    record {
+      inside = omega (
+        arith,
+        place.inside,
+        ap length put,
+        length-set net.nodes p (f (get_or net.nodes p no_node)),
+      );
+      links = refl;
+      nodes = λ other apart.
+          same_times (node_of net other) (get_or (on_numbered node_number f net.nodes node) other no_node)
+          (sym (ap (λ ns. get_or ns other no_node) put
+          ∙ get_or-set_other net.nodes p other (f (get_or net.nodes p no_node)) no_node apart));
+    }
+
+pub node_edited : (net : Network) (e : Edit) (node : ℕ) (o : Option ℕ) → o ≡ place_of (node_numbers net.nodes) node
+    → ((x : ℕ) × (e ≡ Offset node x)) ⊎ ((x : ℕ) × (y : ℕ) × (e ≡ Change node x y))
+    → IfSome o (λ p. DifferAt p net (with_edit net e))
+node_edited net e node None at is = tt
+node_edited net e node (Some p) at (inl is) =
+    subst (λ x. DifferAt p net (with_edit net x)) (sym is.1) (node_differs net (set_offset is.0) node p (sym at))
+node_edited net e node (Some p) at (inr is) =
+    subst (λ x. DifferAt p net (with_edit net x)) (sym is.2)
+    (node_differs net (set_change is.0 is.1) node p (sym at))
+
+eq_self : (x y : ℕ) → x ≡ y → nat_eq x y ≡ true
+eq_self x y same = grind (arith, nat_tests)
+
+eq_other : (x y : ℕ) → x ≢ y → nat_eq x y ≡ false
+eq_other x y apart = grind (arith, nat_tests)
+
+and_true : (x : Bool) → (x && true) ≡ x
+and_true true = refl
+and_true false = refl
+
+-- so the own data of the links of that node alone may differ, and do where its times do
+module _ (a b : Network) (same : SameShape a b) (valid_a : IsValid a) (valid_b : IsValid b) (place : ℕ)
+    (differ : DifferAt place a b) (told : Bool) (is : IsTrue told ↔ HaveNode a b place) (l : ℕ)
+    (inside_a : l < length a.links) (inside_b : l < length b.links) where
+  numbers : SameNumbers (link_of a l) (link_of b l)
+  numbers = same_numbers (link_of a l) (link_of b l) (ap (λ ls. get_or ls l no_link) differ.links)
+
+  data_is : (HaveNode a b (places_at a l).node → HaveData a b l) × (HaveData a b l → HaveNode a b (places_at a l).node)
+  data_is =
+      let times = times_here a b l (places_at a l) valid_a valid_b inside_a inside_b refl
+      (shape_places a b same l inside_a) in
+      (λ have. record { numbers = numbers; times = times.0 have }, λ have. times.1 have.times)
+
+  flag_down : (n : ℕ) → n ≡ (places_at a l).node → ((not told && nat_eq n place) ≡ false ↔ HaveData a b l)
+  flag_down n at = by (cases_eq n place)
+    where
+      by : (n ≡ place) ⊎ (n ≡ place → ⊥) → ((not told && nat_eq n place) ≡ false ↔ HaveData a b l)
+      by (inl here) =
+          let flag : (not told && nat_eq n place) ≡ not told =
+          ap (λ t. not told && t) (eq_self n place here) ∙ and_true (not told) in
+          let there : place ≡ (places_at a l).node = sym here ∙ at in (
+            λ down. data_is.0 (subst (HaveNode a b) there (is.0 (not_false told (sym flag ∙ down)))),
+            λ have. flag ∙ ap not (is.1 (subst (HaveNode a b) (sym there) (data_is.1 have))),
+          )
+      by (inr other) = (
+        λ down. data_is.0 (subst (HaveNode a b) at (differ.nodes n other)),
+        λ have. ap (λ t. not told && t) (eq_other n place other) ∙ and_false (not told),
+      )
+
+  pub node_flag : (n : ℕ) → n ≡ (places_at a l).node → (not told && nat_eq n place) ≡ own_differs a b l
+  node_flag n at =
+      sym (or_false (not told && nat_eq n place))
+      ∙ own_flag a b l (shape_places a b same l inside_a) (not told && nat_eq n place) false (flag_down n at)
+      (sym (any_each (total_differs a b) (λ j. false) (links_totals a b same differ.links) (places_at a l).feeders
+      ∙ any_none (places_at a l).feeders))

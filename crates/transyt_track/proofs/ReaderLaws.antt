@@ -1,0 +1,92 @@
+-- The readers of each link.
+use Rattle.std.proofs.Common.{◌≡◌, ℕ, ◌<◌, ◌≤◌, Bool, true, false, ◌||◌, ◌&&◌, List, [], ◌∷◌, ◌++◌, length, All, zero, suc}
+use Rattle.std.proofs.Common.{Some, None, Result, Ok, Err, OnOk, take}
+use Rattle.std.proofs.Common.{refl, ap, sym, subst, ◌∙◌, arith, nat_eq}
+use Rattle.std.specs.Prelude.{slice_index_or}
+use Rattle.std.specs.List.{list_any}
+use Rattle.std.proofs.lemmas.Bool.Decides.{nat_tests}
+use Rattle.std.proofs.lemmas.List.Elements.{All-nil, All-cons}
+use Rattle.std.proofs.lemmas.List.{take_all}
+use Rattle.transyt_net.specs.Parts.{Network}
+use Rattle.transyt_track.specs.Own.{PlacesValue}
+use Rattle.transyt_track.specs.Due.{is_some_and}
+use Rattle.transyt_track.specs.Readers.{AreReaders, is_reader, reads}
+use Rattle.transyt_track.proofs.AwaitLaws.{or_false, or_true}
+
+same_number_eq : (x y : ℕ) → x ≡ y → nat_eq x y ≡ true
+same_number_eq x y same = grind (arith, nat_tests)
+
+-- what holds of each number that is among these holds of all of them
+all_among : (fact : ℕ → Type 0) (xs : List ℕ) → ((x : ℕ) → list_any (nat_eq x) xs ≡ true → fact x) → All fact xs
+all_among fact [] each = All-nil fact
+all_among fact (x ∷ xs) each =
+    All-cons fact x xs (each x (first x refl)) (all_among fact xs (λ y among. each y (later y among)))
+  where
+    first : (y : ℕ) → y ≡ x → list_any (nat_eq y) (x ∷ xs) ≡ true
+    first y is = ap (λ b. b || list_any (nat_eq y) xs) (same_number_eq y x is)
+
+    later : (y : ℕ) → list_any (nat_eq y) xs ≡ true → list_any (nat_eq y) (x ∷ xs) ≡ true
+    later y among = ap (λ b. nat_eq y x || b) among ∙ or_true (nat_eq y x)
+
+-- no list tells of none
+pub none_at_first : (o k : ℕ) → is_reader [] o k ≡ false
+none_at_first o k = refl
+
+-- one list more, which is empty
+pub none_more : (xs : List (List ℕ)) → ((o k : ℕ) → is_reader xs o k ≡ false) → (o k : ℕ)
+    → is_reader (xs ++ [] ∷ []) o k ≡ false
+none_more [] none zero k = refl
+none_more [] none (suc o) k = refl
+none_more (x ∷ xs) none zero k = none zero k
+none_more (x ∷ xs) none (suc o) k = none_more xs (λ p. none (suc p)) o k
+
+-- one place more that is read
+pub or_added : (f e x y : Bool) → ((f || (e && x)) || (y && e)) ≡ (f || (e && (x || y)))
+or_added true e x y = refl
+or_added false true true y = refl
+or_added false true false true = refl
+or_added false true false false = refl
+or_added false false x true = refl
+or_added false false x false = refl
+
+pub or_none : (f e : Bool) → (f || (e && false)) ≡ f
+or_none true e = refl
+or_none false true = refl
+or_none false false = refl
+
+-- what holds where it went well does so of what follows
+pub on_ok : {A : Type 0} {E : Type 0} (r : Result A E) (P Q : Type 0) → (P → Q) → OnOk r P → OnOk r Q
+on_ok (Ok x) P Q f p = f p
+on_ok (Err e) P Q f p = tt
+
+-- after all feeders a link is a reader of what it reads, but for the link of its rule
+module _ (places : PlacesValue) (items : List ℕ) (are : items ≡ places.feeders) (i : ℕ)
+    (all : length items ≤ i) (now before e : Bool) (o : ℕ)
+    (so_far : now ≡ (before || (e && list_any (nat_eq o) (take i items)))) where
+  fed : now ≡ (before || (e && list_any (nat_eq o) places.feeders))
+  fed =
+      so_far
+      ∙ ap (λ xs. before || (e && list_any (nat_eq o) xs)) (take_all i items all ∙ are)
+
+  pub added_none : places.rule ≡ None → now ≡ (before || (e && reads places o))
+  added_none rule =
+      fed
+      ∙ ap (λ t. before || (e && t)) (sym (or_false (list_any (nat_eq o) places.feeders))
+      ∙ ap (λ r. list_any (nat_eq o) places.feeders || is_some_and (nat_eq o) r) (sym rule))
+
+  -- and with it of all
+  pub added_rule : (other : ℕ) → places.rule ≡ Some other
+      → (now || (nat_eq o other && e)) ≡ (before || (e && reads places o))
+  added_rule other rule =
+      ap (λ t. t || (nat_eq o other && e)) fed
+      ∙ or_added before e (list_any (nat_eq o) places.feeders) (nat_eq o other)
+      ∙ ap (λ r. before || (e && (list_any (nat_eq o) places.feeders || is_some_and (nat_eq o) r))) (sym rule)
+
+-- the readers of a link are links
+pub readers_inside : (net : Network) (readers : List (List ℕ)) (other count : ℕ) → AreReaders net readers
+    → other < length net.links → length net.links ≡ count → (rs : List ℕ) → rs ≡ slice_index_or readers other []
+    → All (λ r. r < count) rs
+readers_inside net readers other count all here same rs is =
+    subst (λ n. All (λ r. r < n) rs) same
+    (all_among (λ r. r < length net.links) rs
+    (λ r among. all.inside other r here (sym (ap (list_any (nat_eq r)) is) ∙ among)))

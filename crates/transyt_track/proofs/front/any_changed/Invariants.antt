@@ -1,8 +1,0 @@
--- The places, one after another.
-use Rattle.std.proofs.Common.{◌≡◌, take}
-use Rattle.std.specs.List.{list_any}
-use Rattle.transyt_track.specs.Front.{flag}
-use Rattle.transyt_track.proofs.front.any_changed.Given as goal
-
-abbrev pub invariant-loop-place : goal.invariant-loop-place
-invariant-loop-place l = l.any ≡ list_any (flag l.changed) (take l.place-index l.places)

@@ -1,0 +1,48 @@
+-- One link more.
+use Rattle.std.proofs.Common.{◌≡◌, ◌↔◌, ◌<◌, ◌&&◌, IsTrue, not, nat_eq, length, get_or, ap, ◌∙◌, arith}
+use Rattle.std.proofs.lemmas.List.{length-set, get_or_default}
+use Rattle.transyt_net.specs.Parts.{node_of, no_node}
+use Rattle.transyt_track.specs.Own.{PlacesValue, HaveNode, places_at}
+use Rattle.transyt_track.specs.Front.{own_differs}
+use Rattle.transyt_track.proofs.ChangeLaws.{times_told}
+use Rattle.transyt_track.proofs.EditedLaws.{node_flag}
+use Rattle.transyt_track.proofs.FrontLaws.{flag_more}
+use Rattle.transyt_track.proofs.PlaceLaws.{place_read}
+use Rattle.transyt_track.proofs.ShapeLaws.{shape_count, shape_nodes}
+use Rattle.transyt_track.proofs.starting.flag_node.Goals as goal
+
+pub loop-link-preserved : goal.loop-link-preserved
+loop-link-preserved c =
+    let a = c.args.before.now in
+    let b = c.args.after.now in
+    let l = c.loop-link.link in
+    let p = c.args.node in
+    let r = c.requires in
+    let flags = c.loop-link.own_changed.items in
+    let told = c.same_times-changed.result in
+    let below : l < length b.links = omega (arith, c.loop-link-test.true, ap length c.links-link-end.ensures.value) in
+    let inside : l < length a.links = omega (arith, below, shape_count a b r.shape) in
+    let old = c.index-nodes-node.result in
+    let new = c.index-nodes-node-2.result in
+    let old_is : old ≡ node_of a p =
+    c.index-nodes-node.is
+    ∙ get_or_default c.nodes.result.now p old no_node
+    (omega (arith, r.node.inside, shape_nodes a b r.shape, ap length c.nodes.ensures.value))
+    ∙ ap (λ ns. get_or ns p no_node) c.nodes.ensures.value in
+    let new_is : new ≡ node_of b p =
+    c.index-nodes-node-2.is
+    ∙ get_or_default c.nodes-2.result.now p new no_node
+    (omega (arith, r.node.inside, ap length c.nodes-2.ensures.value))
+    ∙ ap (λ ns. get_or ns p no_node) c.nodes-2.ensures.value in
+    let is : IsTrue told ↔ HaveNode a b p =
+    times_told told old new (node_of a p) (node_of b p) old_is new_is c.same_times-changed.ensures in
+    let at : c.at.inside.node ≡ (places_at a l).node =
+    ap (λ (q : PlacesValue). q.node) (c.at.view_is
+    ∙ place_read a c.args.places.now l c.index-places-link.result r.places inside c.index-places-link.is) in
+    record {
+      count = length-set flags l (not told && nat_eq c.at.inside.node p) ∙ c.loop-link.invariant.count;
+      flagged = flag_more flags l (not told && nat_eq c.at.inside.node p) (own_differs a b)
+          (omega (arith, below, c.loop-link.invariant.count)) c.loop-link.invariant.flagged
+          (node_flag a b r.shape c.nodes.ensures.valid c.nodes-2.ensures.valid p r.node told is l inside below
+          c.at.inside.node at);
+    }

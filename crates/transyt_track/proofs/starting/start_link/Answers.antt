@@ -1,0 +1,24 @@
+-- A link whose start differs is started anew, any other is left.
+use Rattle.std.proofs.Common.{sym, ◌∙◌}
+use Rattle.transyt_track.proofs.StartLaws.{started_put, started_left}
+use Rattle.transyt_track.proofs.starting.start_link.Goals as goal
+
+pub returns-then-moves-clause-starting : goal.returns-then-moves-clause-starting
+returns-then-moves-clause-starting c =
+    let r = c.requires in
+    let a = c.args.before.now in
+    let b = c.args.after.now in
+    let flags = c.args.changed.now.items in
+    let made = started_put a b r.shape c.args.link c.args.rows.now flags r.starting r.link r.some c.start.ensures.rows
+    (sym r.moves ∙ c.if-moves.true) in
+    rw (c.start.ensures.value, c.if-moves.true) made
+
+pub returns-else-moves-clause-starting : goal.returns-else-moves-clause-starting
+returns-else-moves-clause-starting c =
+    let r = c.requires in
+    let a = c.args.before.now in
+    let b = c.args.after.now in
+    let flags = c.args.changed.now.items in
+    let made = started_left a b r.shape c.args.link c.args.rows.now flags r.starting r.link r.some
+    (sym r.moves ∙ c.if-moves.false) in
+    rw c.if-moves.false made
