@@ -1,11 +1,15 @@
 -- Rows of which a part is written keep to what rows keep to.
 use Rattle.std.proofs.Common.{◌≡◌, ℕ, ◌+◌, ◌-◌, ◌*◌, ◌^◌, ◌<◌, ◌≤◌, List, length, get_or, set, All}
-use Rattle.std.proofs.Common.{ap, sym, subst, ◌∙◌, arith}
-use Rattle.std.proofs.lemmas.List.{length-set}
+use Rattle.std.proofs.Common.{ap, sym, subst, ◌∙◌, arith, replicate, sum_by}
+use Rattle.std.proofs.lemmas.List.{length-set, length-replicate}
+use Rattle.std.proofs.lemmas.List.Elements.{All-replicate}
+use Rattle.std.proofs.lemmas.List.Folds.{sum_by-replicate}
 use Rattle.transyt_delay.specs.declared.figures.Figures.{Figures}
 use Rattle.transyt_sweep.specs.Rows.{RowsValue, row, rows_of, put_row, pair_place, out_at, SameSize, AreRows, AreSmall}
-use Rattle.transyt_sweep.specs.Table.{TableValue, with_row, IsTable, AreKept}
+use Rattle.transyt_sweep.specs.Rows.{no_figures}
+use Rattle.transyt_sweep.specs.Table.{TableValue, with_row, empty_table, IsTable, AreKept, AreKeptApart}
 use Rattle.transyt_sweep.proofs.PairLaws.{kept_with_out, out_steps, out_small}
+use Rattle.transyt_sweep.proofs.RowLaws.{all-row}
 use Rattle.transyt_sweep.proofs.IndexLaws.{weighed_sum, kept_with_figures}
 
 -- a table with a row written is one of the same size
@@ -29,13 +33,17 @@ taken_out a b n place s l steps size at =
     ap (λ k. row k b.outs place) (steps ∙ size.step_count)
     ∙ ap (row b.step_count b.outs) (at ∙ ap (λ k. s * k + l) size.link_count)
 
-module _ (step_count sweeps : ℕ) (outs arrivals go queue : TableValue) (figures : List Figures) (index : ℕ)
-    (kept : AreKept step_count sweeps outs arrivals go queue figures index) where
+-- values below 2^30 are below 2^32
+pub narrow_enough : (xs : List ℕ) → All (λ v. v < 2 ^ 30) xs → All (λ v. v < 2 ^ 32) xs
+narrow_enough xs small = λ k d h. let one = small k d h in omega (arith, one)
+
+module _ (step_count sweeps : ℕ) (outs arrivals go queue : TableValue) (figures : List Figures)
+    (kept : AreKeptApart step_count sweeps outs arrivals go queue figures) where
   -- what leaves link l at sweep s is written
-  pub kept_out : (s l : ℕ) (x : List ℕ) (new : TableValue) → s ≤ sweeps → l < length figures → length x ≡ step_count
+  pub apart_out : (s l : ℕ) (x : List ℕ) (new : TableValue) → s ≤ sweeps → l < length figures → length x ≡ step_count
       → All (λ v. v < 2 ^ 30) x → new ≡ with_row outs (s * length figures + l) x
-      → AreKept step_count sweeps new arrivals go queue figures index
-  kept_out s l x new swept inside len small made =
+      → AreKeptApart step_count sweeps new arrivals go queue figures
+  apart_out s l x new swept inside len small made =
       let items = written_items ((sweeps + 1) * length figures) step_count (s * length figures + l) x outs new made
       kept.outs_size in
       record {
@@ -43,7 +51,6 @@ module _ (step_count sweeps : ℕ) (outs arrivals go queue : TableValue) (figure
             (λ o. AreRows (rows_of step_count sweeps o arrivals.items go.items queue.items figures)) (sym items)
             (kept_with_out (rows_of step_count sweeps outs.items arrivals.items go.items queue.items figures) kept.rows s
             l x swept inside len small);
-        index_sum = kept.index_sum;
         outs_size = written_size ((sweeps + 1) * length figures) step_count (s * length figures + l) x outs new made
             kept.outs_size;
         arrivals_size = kept.arrivals_size;
@@ -51,31 +58,83 @@ module _ (step_count sweeps : ℕ) (outs arrivals go queue : TableValue) (figure
         queue_size = kept.queue_size;
       }
 
-  module _ (value : RowsValue)
-      (same : rows_of step_count sweeps outs.items arrivals.items go.items queue.items figures ≡ value) (s l : ℕ)
-      (swept : s ≤ value.sweeps) (inside : l < length value.figures) where
-    -- the same, as the rows are seen
-    pub kept_at : (x : List ℕ) (place : ℕ) (new : TableValue) → length x ≡ value.step_count → All (λ v. v < 2 ^ 30) x
-        → place ≡ pair_place value s l → new ≡ with_row outs place x
-        → AreKept step_count sweeps new arrivals go queue figures index
-    kept_at x place new len small at made =
-        let step_count_same : step_count ≡ value.step_count = ap (λ (v : RowsValue). v.step_count) same in
-        let there : place ≡ s * length figures + l = at ∙ ap (λ (v : RowsValue). pair_place v s l) (sym same) in
-        kept_out s l x new (omega (arith, swept, ap (λ (v : RowsValue). v.sweeps) same))
-        (omega (arith, inside, ap (λ (v : RowsValue). length v.figures) same)) (len ∙ sym step_count_same) small
-        (made ∙ ap (λ p. with_row outs p x) there)
+  -- a row of the departures is small
+  pub row_small : (place : ℕ) (x : List ℕ) → x ≡ row outs.step_count outs.items place → All (λ v. v < 2 ^ 30) x
+  row_small place x is =
+      subst (All (λ v. v < 2 ^ 30)) (sym is)
+      (all-row (λ v. v < 2 ^ 30) outs.step_count outs.items place kept.rows.small)
 
+  module _ (value : RowsValue)
+      (same : rows_of step_count sweeps outs.items arrivals.items go.items queue.items figures ≡ value) where
     -- they are rows
     pub seen_rows : AreRows value
     seen_rows = subst AreRows same kept.rows
 
-    -- what leaves there has as many values as there are steps
-    pub seen_steps : length (out_at value s l) ≡ value.step_count
-    seen_steps = out_steps value seen_rows s l swept inside
+    -- a row of the departures has as many values as there are steps
+    pub row_count : outs.step_count ≡ value.step_count
+    row_count = kept.outs_size.step_count ∙ ap (λ (v : RowsValue). v.step_count) same
 
-    -- and they are small
-    pub seen_small : All (λ v. v < 2 ^ 30) (out_at value s l)
-    seen_small = out_small value seen_rows s l
+    module _ (s l : ℕ) (swept : s ≤ value.sweeps) (inside : l < length value.figures) where
+      -- what leaves link l at sweep s is written, as the rows are seen
+      pub apart_at : (x : List ℕ) (place : ℕ) (new : TableValue) → length x ≡ value.step_count
+          → All (λ v. v < 2 ^ 30) x → place ≡ pair_place value s l → new ≡ with_row outs place x
+          → AreKeptApart step_count sweeps new arrivals go queue figures
+      apart_at x place new len small at made =
+          let there : place ≡ s * length figures + l = at ∙ ap (λ (v : RowsValue). pair_place v s l) (sym same) in
+          apart_out s l x new (omega (arith, swept, ap (λ (v : RowsValue). v.sweeps) same))
+          (omega (arith, inside, ap (λ (v : RowsValue). length v.figures) same))
+          (len ∙ ap (λ (v : RowsValue). v.step_count) (sym same)) small (made ∙ ap (λ p. with_row outs p x) there)
+
+      -- what leaves there has as many values as there are steps
+      pub seen_steps : length (out_at value s l) ≡ value.step_count
+      seen_steps = out_steps value seen_rows s l swept inside
+
+      -- and they are small
+      pub seen_small : All (λ v. v < 2 ^ 30) (out_at value s l)
+      seen_small = out_small value seen_rows s l
+
+module _ (step_count sweeps : ℕ) (outs arrivals go queue : TableValue) (figures : List Figures) (index : ℕ)
+    (kept : AreKept step_count sweeps outs arrivals go queue figures index) where
+  -- the index apart
+  pub apart_of : AreKeptApart step_count sweeps outs arrivals go queue figures
+  apart_of = record {
+    rows = kept.rows;
+    outs_size = kept.outs_size;
+    arrivals_size = kept.arrivals_size;
+    go_size = kept.go_size;
+    queue_size = kept.queue_size;
+  }
+
+  -- other departures are kept with the same index
+  with_index : (new : TableValue) → AreKeptApart step_count sweeps new arrivals go queue figures
+      → AreKept step_count sweeps new arrivals go queue figures index
+  with_index new apart = record {
+    rows = apart.rows;
+    index_sum = kept.index_sum;
+    outs_size = apart.outs_size;
+    arrivals_size = apart.arrivals_size;
+    go_size = apart.go_size;
+    queue_size = apart.queue_size;
+  }
+
+  -- what leaves link l at sweep s is written
+  pub kept_out : (s l : ℕ) (x : List ℕ) (new : TableValue) → s ≤ sweeps → l < length figures → length x ≡ step_count
+      → All (λ v. v < 2 ^ 30) x → new ≡ with_row outs (s * length figures + l) x
+      → AreKept step_count sweeps new arrivals go queue figures index
+  kept_out s l x new swept inside len small made =
+      with_index new
+      (apart_out step_count sweeps outs arrivals go queue figures apart_of s l x new swept inside len small made)
+
+  -- the same, as the rows are seen
+  pub kept_at : (value : RowsValue)
+      → rows_of step_count sweeps outs.items arrivals.items go.items queue.items figures ≡ value → (s l : ℕ)
+      → s ≤ value.sweeps → l < length value.figures → (x : List ℕ) (place : ℕ) (new : TableValue)
+      → length x ≡ value.step_count → All (λ v. v < 2 ^ 30) x → place ≡ pair_place value s l
+      → new ≡ with_row outs place x → AreKept step_count sweeps new arrivals go queue figures index
+  kept_at value same s l swept inside x place new len small at made =
+      with_index new
+      (apart_at step_count sweeps outs arrivals go queue figures apart_of value same s l swept inside x place new len
+      small at made)
 
   -- the figures of link l are written, and the index goes by the difference
   pub kept_figures : (l : ℕ) (f was : Figures) → l < length figures → AreSmall f → was ≡ get_or figures l was
@@ -91,3 +150,52 @@ module _ (step_count sweeps : ℕ) (outs arrivals go queue : TableValue) (figure
         go_size = subst (λ n. IsTable n step_count go) (sym same) kept.go_size;
         queue_size = subst (λ n. IsTable n step_count queue) (sym same) kept.queue_size;
       }
+
+-- a table of 0 has its size, and so many values
+empty_size : (count n : ℕ) (table : TableValue) → table ≡ empty_table count n → IsTable count n table
+empty_size count n table is = record {
+  step_count = ap (λ (t : TableValue). t.step_count) is;
+  count = ap (λ (t : TableValue). t.count) is;
+}
+
+empty_values : (count n : ℕ) (table : TableValue) → table ≡ empty_table count n → table.items ≡ replicate (count * n) 0
+empty_values count n table is = ap (λ (t : TableValue). t.items) is
+
+empty_long : (count n : ℕ) (table : TableValue) → table ≡ empty_table count n → length table.items ≡ count * n
+empty_long count n table is =
+    let zero_value : ℕ = 0 in
+    ap length (empty_values count n table is) ∙ length-replicate (count * n) zero_value
+
+-- tables of 0 are kept with figures that are none, and their index is 0
+pub kept_empty : (n sweeps : ℕ) (outs arrivals go queue : TableValue) (figures : List Figures) (links : ℕ) → n ≤ 120
+    → sweeps ≤ 8 → links ≤ 1000 → outs ≡ empty_table ((sweeps + 1) * links) n → arrivals ≡ empty_table links n
+    → go ≡ empty_table links n → queue ≡ empty_table links n → figures ≡ replicate links no_figures
+    → AreKept n sweeps outs arrivals go queue figures 0
+kept_empty n sweeps outs arrivals go queue figures links steps swept few none come green standing unweighed =
+    let zero_value : ℕ = 0 in
+    let count : length figures ≡ links = ap length unweighed ∙ length-replicate links no_figures in
+    record {
+      rows = record {
+        steps = steps;
+        sweeps = swept;
+        links = omega (arith, few, count);
+        outs = empty_long ((sweeps + 1) * links) n outs none ∙ ap (λ k. (sweeps + 1) * k * n) (sym count);
+        arrivals = empty_long links n arrivals come ∙ ap (λ k. k * n) (sym count);
+        go = empty_long links n go green ∙ ap (λ k. k * n) (sym count);
+        queue = empty_long links n queue standing ∙ ap (λ k. k * n) (sym count);
+        small = subst (All (λ v. v < 2 ^ 30)) (sym (empty_values ((sweeps + 1) * links) n outs none))
+            (All-replicate (λ v. v < 2 ^ 30) ((sweeps + 1) * links * n) zero_value (omega arith));
+        figures = subst (All AreSmall) (sym unweighed)
+            (All-replicate AreSmall links no_figures
+            (record { uniform = omega arith; random = omega arith; index = omega arith }));
+      };
+      index_sum = sym
+          (ap (sum_by (λ (f : Figures). f.index)) unweighed
+          ∙ sum_by-replicate (λ (f : Figures). f.index) links no_figures
+          ∙ omega arith);
+      outs_size = subst (λ k. IsTable ((sweeps + 1) * k) n outs) (sym count)
+          (empty_size ((sweeps + 1) * links) n outs none);
+      arrivals_size = subst (λ k. IsTable k n arrivals) (sym count) (empty_size links n arrivals come);
+      go_size = subst (λ k. IsTable k n go) (sym count) (empty_size links n go green);
+      queue_size = subst (λ k. IsTable k n queue) (sym count) (empty_size links n queue standing);
+    }

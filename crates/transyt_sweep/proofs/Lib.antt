@@ -13,6 +13,7 @@ pub mod ReadLaws
 pub mod FrontLaws
 pub mod StepLaws
 pub mod ShownLaws
+pub mod ComeLaws
 pub mod FilledLaws
 pub mod SmallLaws
 pub mod ClimbLaws

@@ -3,7 +3,8 @@ use Rattle.std.proofs.Common.{◌≡◌, ◌≢◌, ℕ, ◌+◌, ◌*◌, ◌^�
 use Rattle.std.proofs.lemmas.Bool.{cases_lt}
 use Rattle.std.proofs.Math.Nat.{mul-le-mul_right}
 use Rattle.transyt_sweep.specs.Rows.{RowsValue, pair_place, out_at, with_out, AreRows}
-use Rattle.transyt_sweep.proofs.RowLaws.{row_here, row_elsewhere, length-put_row, all-put_row, length-row, all-row}
+use Rattle.transyt_sweep.proofs.RowLaws.{row_here, row_elsewhere, row_again, row_twice, length-put_row, all-put_row}
+use Rattle.transyt_sweep.proofs.RowLaws.{length-row, all-row}
 
 -- the first rows are those of sweep 0
 pub first_place : (links l : ℕ) → 0 * links + l ≡ l
@@ -61,6 +62,17 @@ module _ (rows : RowsValue) (kept : AreRows rows) (s l : ℕ) (x : List ℕ) (sw
     small = all-put_row (λ v. v < 2 ^ 30) rows.step_count rows.outs (pair_place rows s l) x kept.small small;
     figures = kept.figures;
   }
+
+  -- of two writes the second holds
+  pub out_twice : (y : List ℕ) → with_out (with_out rows s l x) s l y ≡ with_out rows s l y
+  out_twice y =
+      ap (λ o. record rows { outs = o })
+      (row_twice rows.step_count rows.outs (pair_place rows s l) x y len (omega (arith, room)))
+
+-- what leaves there, written again, changes nothing
+pub out_again : (rows : RowsValue) (s l : ℕ) → with_out rows s l (out_at rows s l) ≡ rows
+out_again rows s l =
+    ap (λ o. record rows { outs = o }) (row_again rows.step_count rows.outs (pair_place rows s l))
 
 -- what leaves link l at sweep s has as many values as there are steps
 pub out_steps : (rows : RowsValue) → AreRows rows → (s l : ℕ) → s ≤ rows.sweeps → l < length rows.figures

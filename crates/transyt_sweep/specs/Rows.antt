@@ -82,9 +82,17 @@ placed rows s l c =
     if s == rows.sweeps then with_shown (with_out rows s l c.out) l c.arrivals c.go c.queue c.figures
     else with_out rows s l c.out
 
--- a cell that changed places with link l at sweep s: what leaves is that of the rows, and at the last sweep all of it
-abbrev pub left_by : RowsValue → ℕ → ℕ → CellValue → CellValue
-left_by rows s l c = if s == rows.sweeps then pair_in rows s l else record c { out = out_at rows s l }
+-- the rows with this as what comes to link l at the last sweep, its queue and its figures
+abbrev pub with_come : RowsValue → ℕ → List ℕ → List ℕ → Figures → RowsValue
+with_come rows l arrivals queue f = record rows {
+  arrivals = put_row rows.step_count rows.arrivals l arrivals;
+  queue = put_row rows.step_count rows.queue l queue;
+  figures = slice_set rows.figures l f;
+}
+
+-- the rows with this as what can go of link l at the last sweep
+abbrev pub with_go : RowsValue → ℕ → List ℕ → RowsValue
+with_go rows l go = record rows { go = put_row rows.step_count rows.go l go }
 
 -- the figures with the index that these weights give
 abbrev pub reweighed : Network → ℕ → Figures → Figures

@@ -44,3 +44,12 @@ pub record AreKept (step_count sweeps : ℕ) (outs arrivals go queue : TableValu
   pub arrivals_size : IsTable (length figures) step_count arrivals
   pub go_size : IsTable (length figures) step_count go
   pub queue_size : IsTable (length figures) step_count queue
+
+-- what the parts of rows that were written over keep to: tables of their sizes
+pub record AreKeptApart (step_count sweeps : ℕ) (outs arrivals go queue : TableValue) (figures : List Figures)
+    : Type 0 where
+  pub rows : AreRows (rows_of step_count sweeps outs.items arrivals.items go.items queue.items figures)
+  pub outs_size : IsTable ((sweeps + 1) * length figures) step_count outs
+  pub arrivals_size : IsTable (length figures) step_count arrivals
+  pub go_size : IsTable (length figures) step_count go
+  pub queue_size : IsTable (length figures) step_count queue

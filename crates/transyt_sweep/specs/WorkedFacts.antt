@@ -1,12 +1,14 @@
 -- Worked facts of rows: such as keep to what is said of them, at the limits, and such as are wrong in one thing alone.
-use Rattle.std.specs.Prelude.{ℕ, false, List, [], ◌∷◌, replicate}
+use Rattle.std.specs.Prelude.{ℕ, ◌*◌, false, List, [], ◌∷◌, replicate, slice_set}
 use Rattle.transyt_delay.specs.declared.terms.Terms.{Terms}
 use Rattle.transyt_delay.specs.declared.figures.Figures.{Figures}
 use Rattle.transyt_stopline.specs.declared.totals.Totals.{Totals}
 use Rattle.transyt_platoon.specs.declared.travel.Travel.{Travel}
 use Rattle.transyt_parts.specs.declared.frame.Frame.{Frame}
 use Rattle.transyt_parts.specs.declared.link.Feed.{Feed}
-use Rattle.transyt_parts.specs.Made.{new_feed}
+use Rattle.transyt_parts.specs.Made.{new_link, new_feed}
+use Rattle.transyt_net.specs.Parts.{Network}
+use Rattle.transyt_stage.specs.ThreeJunctions.{three_junctions, its_links}
 use Rattle.transyt_sweep.specs.declared.factors.Factors.{Factors}
 use Rattle.transyt_sweep.specs.declared.asked.Asked.{Asked}
 use Rattle.transyt_sweep.specs.declared.asked.Asked.TheVariants.{Known, Open}
@@ -262,6 +264,31 @@ unserved =
     ∷ (record served_frame { dispersion = 13 }, served_feed, 4, 997, ready_factors)
     ∷ []
 
+-- the three junctions with that frame; 997 vehicles per hour leave the link at place 4, whose number is 8
+abbrev pub served_net : Network
+served_net = record three_junctions {
+  frame = served_frame;
+  links = slice_set its_links 4
+      (record (new_link 8 300 376 1999 6 5 1 1 (1 ∷ 3 ∷ [])) {
+        feeds = new_feed 9 402 47 ∷ new_feed 3 219 300 ∷ [];
+      });
+}
+
+-- a feed of it
+abbrev pub its_feed : Feed
+its_feed = new_feed 8 9999 160
+
+-- The factors don't serve there: of another feeder, and where another flow leaves the feeder.
+abbrev pub unserved_there : List (Network × Feed)
+unserved_there =
+    (served_net, new_feed 5 9999 160)
+    ∷ (record three_junctions { frame = served_frame }, its_feed)
+    ∷ []
+
+-- what leaves the link at a place
+abbrev pub leaving_place : ℕ → List ℕ
+leaving_place place = place ∷ 10 * place ∷ 997 ∷ []
+
 -- a table of three rows of two values; the values may be fewer or more
 abbrev pub table_of_three : TableValue
 table_of_three = record { step_count = 2; count = 3; items = 5 ∷ [] }
@@ -386,11 +413,11 @@ kept = (
   480,
 )
 
--- None of these is kept: a value less in the departures, an index less and one more, a row less and one more of the
--- departures, a row less of the arrivals and of the queue, and a row more of what is green; a value less in the
--- arrivals and in the queue, and one more in what is green.
-abbrev pub wrong_kept : List KeptRow
-wrong_kept = (
+-- None of these is kept, nor kept apart: a value less in the departures, a row less and one more of the departures, a
+-- row less of the arrivals and of the queue, and a row more of what is green; a value less in the arrivals and in the
+-- queue, and one more in what is green.
+abbrev pub wrong_apart : List KeptRow
+wrong_apart = (
   3,
   2,
   tabled 6 (zeros 17),
@@ -400,26 +427,6 @@ wrong_kept = (
   new_figures 1 2 3 400 ∷ new_figures 5 6 7 80 ∷ [],
   480,
 )
-    ∷ (
-      3,
-      2,
-      tabled 6 (zeros 18),
-      tabled 2 (zeros 6),
-      tabled 2 (zeros 6),
-      tabled 2 (zeros 6),
-      new_figures 1 2 3 400 ∷ new_figures 5 6 7 80 ∷ [],
-      479,
-    )
-    ∷ (
-      3,
-      2,
-      tabled 6 (zeros 18),
-      tabled 2 (zeros 6),
-      tabled 2 (zeros 6),
-      tabled 2 (zeros 6),
-      new_figures 1 2 3 400 ∷ new_figures 5 6 7 80 ∷ [],
-      481,
-    )
     ∷ (
       3,
       2,
@@ -501,6 +508,30 @@ wrong_kept = (
       480,
     )
     ∷ []
+
+-- nor kept: those, and an index less and one more
+abbrev pub wrong_kept : List KeptRow
+wrong_kept = (
+  3,
+  2,
+  tabled 6 (zeros 18),
+  tabled 2 (zeros 6),
+  tabled 2 (zeros 6),
+  tabled 2 (zeros 6),
+  new_figures 1 2 3 400 ∷ new_figures 5 6 7 80 ∷ [],
+  479,
+)
+    ∷ (
+      3,
+      2,
+      tabled 6 (zeros 18),
+      tabled 2 (zeros 6),
+      tabled 2 (zeros 6),
+      tabled 2 (zeros 6),
+      new_figures 1 2 3 400 ∷ new_figures 5 6 7 80 ∷ [],
+      481,
+    )
+    ∷ wrong_apart
 
 -- a table of three rows of two values, the same with another second row, and one in which all is 0
 abbrev pub table_of_six : TableValue

@@ -51,9 +51,17 @@ with_another =
     (47 ∷ 48 ∷ 49 ∷ 44 ∷ 45 ∷ 46 ∷ []) (57 ∷ 58 ∷ 59 ∷ 54 ∷ 55 ∷ 56 ∷ [])
     (new_figures 1 2 3 4 ∷ new_figures 71 72 73 74 ∷ [])
 
--- the other work once it has changed places with the second link before the last sweep: only what leaves is the link's
-abbrev pub another_left : CellValue
-another_left = record another { out = 4 ∷ 5 ∷ 6 ∷ [] }
+-- the rows with what comes, the queue and the figures of it as those of the second link
+abbrev pub come_of_another : RowsValue
+come_of_another =
+    rows_of 3 1 (1 ∷ 2 ∷ 3 ∷ 4 ∷ 5 ∷ 6 ∷ 11 ∷ 12 ∷ 13 ∷ 14 ∷ 15 ∷ 16 ∷ []) (31 ∷ 32 ∷ 33 ∷ 37 ∷ 38 ∷ 39 ∷ [])
+    (41 ∷ 42 ∷ 43 ∷ 44 ∷ 45 ∷ 46 ∷ []) (51 ∷ 52 ∷ 53 ∷ 57 ∷ 58 ∷ 59 ∷ [])
+    (new_figures 61 62 63 64 ∷ new_figures 1 2 3 4 ∷ [])
+
+-- the rows with what can go of it as that of the second link
+abbrev pub go_of_another : RowsValue
+go_of_another =
+    record rows { go = 41 ∷ 42 ∷ 43 ∷ 47 ∷ 48 ∷ 49 ∷ [] }
 
 -- work that has a value less or one more than three in one part
 abbrev pub uneven : List CellValue

@@ -9,8 +9,8 @@ ghost use Rattle.transyt_moves.specs.Moves.{move_count};
 ghost use Rattle.transyt_delay.specs.Figures.{figures};
 ghost use Rattle.transyt_stage.specs.ThreeJunctions.{three_junctions};
 ghost use Rattle.transyt_sweep.specs.Sweeps.{out_of, start, worked_at, evaluated, index};
-ghost use Rattle.transyt_sweep.specs.Rows.{pair_in, read_in, placed, with_rest, left_by, with_weights};
-ghost use Rattle.transyt_sweep.specs.Rows.{index_in};
+ghost use Rattle.transyt_sweep.specs.Rows.{pair_in, read_in, placed, with_rest, with_come, with_go};
+ghost use Rattle.transyt_sweep.specs.Rows.{with_weights, index_in};
 ghost use Rattle.transyt_sweep.specs.Cell.{HasSteps};
 ghost use Rattle.transyt_sweep.specs.Rows.{Fits, SameSize, AreSmall, AreRows, rows_of, no_figures};
 ghost use Rattle.transyt_sweep.specs.Front.{is_before, empty_out, empty_rows};
@@ -24,19 +24,21 @@ ghost use Rattle.transyt_sweep.specs.WorkedLinks.{figures_of_three};
 ghost use Rattle.transyt_sweep.specs.WorkedSweeps.{ring, outs_of_ring, fed_by_itself, arrivals_of_itself};
 ghost use Rattle.transyt_sweep.specs.WorkedSweeps.{gives_way_to_later, no_links};
 ghost use Rattle.transyt_sweep.specs.WorkedRows.{rows, second_link, another, placed_before, placed_last, weighed};
-ghost use Rattle.transyt_sweep.specs.WorkedRows.{orders, rows_at_first, with_another, another_left, uneven};
+ghost use Rattle.transyt_sweep.specs.WorkedRows.{orders, rows_at_first, with_another, come_of_another};
+ghost use Rattle.transyt_sweep.specs.WorkedRows.{go_of_another, uneven};
 ghost use Rattle.transyt_sweep.specs.WorkedFacts.{fitting, unfitting, fitting_too, greatest, too_great};
 ghost use Rattle.transyt_sweep.specs.WorkedFacts.{right_rows, wrong_rows, wrong_links, wrong_outs, wrong_figures};
 ghost use Rattle.transyt_sweep.specs.WorkedFacts.{limiting, past_limiting, sums, telling, untelling};
 ghost use Rattle.transyt_sweep.specs.WorkedFacts.{right_factors, wrong_factors, ready_factors};
-ghost use Rattle.transyt_sweep.specs.WorkedFacts.{served_frame, served_feed, unserved, table_of_three, wrong_tables};
+ghost use Rattle.transyt_sweep.specs.WorkedFacts.{served_frame, served_feed, unserved, served_net, its_feed};
+ghost use Rattle.transyt_sweep.specs.WorkedFacts.{unserved_there, leaving_place, table_of_three, wrong_tables};
 ghost use Rattle.transyt_sweep.specs.Scratch.{AreWeights, CanTell, IsScratch, terms_in, figures_in};
 ghost use Rattle.transyt_sweep.specs.declared.asked.Asked.TheVariants.{Known, Open};
 ghost use Rattle.transyt_sweep.specs.WorkedFacts.{its_weights, its_come, its_room, its_queue, its_terms};
-ghost use Rattle.transyt_sweep.specs.Factors.{AreFactors, Serve};
-ghost use Rattle.transyt_sweep.specs.Table.{IsTable, AreKept, with_row, empty_table};
+ghost use Rattle.transyt_sweep.specs.Factors.{AreFactors, Serve, ServeIn, taken_by};
+ghost use Rattle.transyt_sweep.specs.Table.{IsTable, AreKept, AreKeptApart, with_row, empty_table};
 ghost use Rattle.transyt_sweep.specs.WorkedFacts.{right_scratch, wrong_scratch, wrong_departures, wrong_known};
-ghost use Rattle.transyt_sweep.specs.WorkedFacts.{wrong_open, wrong_ready, kept, wrong_kept};
+ghost use Rattle.transyt_sweep.specs.WorkedFacts.{wrong_open, wrong_ready, kept, wrong_kept, wrong_apart};
 ghost use Rattle.transyt_sweep.specs.WorkedFacts.{table_of_six, table_with_row, table_of_zeros};
 ghost use Rattle.transyt_sweep.specs.WorkedClimbs.{idle, planless, tried_in_idle, limits, leasts, stayed, stepped_back};
 
@@ -99,8 +101,8 @@ pub fn worked_rows()
     ensures before { placed rows 0 1 another ≡ placed_before }
     ensures last { placed rows 1 0 another ≡ placed_last }
     ensures rest { with_rest rows 0 another ≡ with_another }
-    ensures left_before { left_by rows 0 1 another ≡ another_left }
-    ensures left_last { left_by rows 1 1 another ≡ second_link }
+    ensures come { with_come rows 1 another.arrivals another.queue another.figures ≡ come_of_another }
+    ensures go { with_go rows 1 another.go ≡ go_of_another }
     ensures first { empty_rows ring ≡ rows_at_first }
     ensures nothing { empty_out ring 2 1 ≡ replicate 10 0 }
     ensures weights { with_weights rows three_junctions 1 ≡ record rows { figures = weighed } }
@@ -155,13 +157,16 @@ pub fn worked_telling()
     ensures most_steps { CanTell (replicate 120 0) [] [] [] limiting (sums 0 0) }
 {}
 
-/// Worked factors are right and serve a feed, and a worked table has its size; where one thing alone is wrong,
-/// that doesn't hold.
+/// Worked factors are right and serve a feed of a worked network, and a worked table has its size; where one thing alone
+/// is wrong, that doesn't hold. What they take of a feeder's departures is the feed's part.
 pub fn worked_factors()
     ensures factors { All (AreFactors 18) right_factors }
     ensures wrong_factors { All (λ f. AreFactors 18 f → ⊥) wrong_factors }
     ensures serve { Serve served_frame served_feed 4 997 ready_factors }
     ensures unserved { All (λ row. Serve row.0 row.1 row.2 row.3 row.4 → ⊥) unserved }
+    ensures serve_in { ServeIn served_net its_feed ready_factors }
+    ensures unserved_there { All (λ row. ServeIn row.0 row.1 ready_factors → ⊥) unserved_there }
+    ensures taken { taken_by leaving_place ready_factors ≡ 40 ∷ 401 ∷ 9999 ∷ [] }
     ensures table { IsTable 3 2 table_of_three }
     ensures wrong_tables { All (λ t. IsTable 3 2 t → ⊥) wrong_tables }
 {}
@@ -180,13 +185,15 @@ pub fn worked_scratch()
         wrong_ready.4 wrong_ready.5 wrong_ready.6 wrong_ready.7 → ⊥ }
 {}
 
-/// Worked tables have their rows, and are kept with the sum of their links' indexes; with a size or an index that is
-/// wrong they aren't.
+/// Worked tables have their rows, and are kept with the sum of their links' indexes or apart from it; with a size or an
+/// index that is wrong they aren't.
 pub fn worked_kept()
     ensures row { with_row table_of_six 1 (2 ∷ 3 ∷ []) ≡ table_with_row }
     ensures zeros { empty_table 3 2 ≡ table_of_zeros }
     ensures kept { AreKept kept.0 kept.1 kept.2 kept.3 kept.4 kept.5 kept.6 kept.7 }
     ensures wrong { All (λ row. AreKept row.0 row.1 row.2 row.3 row.4 row.5 row.6 row.7 → ⊥) wrong_kept }
+    ensures apart { AreKeptApart kept.0 kept.1 kept.2 kept.3 kept.4 kept.5 kept.6 }
+    ensures wrong_apart { All (λ row. AreKeptApart row.0 row.1 row.2 row.3 row.4 row.5 row.6 → ⊥) wrong_apart }
 {}
 
 /// Worked rows are mixed, opened and started as far as a link; those that are wrong in one thing alone aren't.

@@ -4,8 +4,9 @@
 //! as the `CellValue` of `specs/Cell`: all of one link at one sweep. Profiles are in millionths of a vehicle per step.
 //! Cite first: `out_of` of `specs/Sweeps` for what leaves a link at a sweep, `evaluated` and `index` there for the
 //! evaluation, `worked` of `specs/Cell` for one link's work from the departures that it reads, `out_at` of `specs/Rows`
-//! for a row, and `AreEvaluation` of `specs/Front`. `climb` of `specs/Climb` is what a climb over the moves of
-//! `transyt_moves` comes to, and `tried_at` what a try of one move finds; no code of them stands here.
+//! for a row, and `AreEvaluation` of `specs/Front`. `SavedRows`, rows that were written over, are seen as `Rows` are.
+//! `climb` of `specs/Climb` is what a climb over the moves of `transyt_moves` comes to, and `tried_at` what a try of one
+//! move finds; no code of them stands here.
 //!
 //! The histograms of LR 253 are worked out link by link; the sweeps, their uniform start and which sweep a link reads
 //! are this project's own.
@@ -13,9 +14,12 @@
 
 mod asked;
 mod factors;
+mod flat;
 mod inflow;
 mod laws;
+mod narrow;
 mod rows;
+mod saved_rows;
 mod scratch;
 mod sending;
 mod table;
@@ -28,6 +32,7 @@ pub use laws::{
     worked_links, worked_rows, worked_scratch, worked_sweeps, worked_telling,
 };
 pub use rows::Rows;
+pub use saved_rows::SavedRows;
 pub use scratch::{FACTOR_BYTES, Scratch};
 pub use whole::full;
 pub use working::cell;

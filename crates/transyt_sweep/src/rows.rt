@@ -4,12 +4,13 @@ ghost use Rattle.std.specs.Prelude.{◌≡◌, ◌+◌, ◌*◌, ◌<◌, ◌≤
 ghost use Rattle.transyt_delay.specs.declared.figures.Figures.{Figures};
 ghost use Rattle.transyt_sweep.specs.Rows.{RowsValue, row, out_at, read_in, pair_place, pair_in, index_in, no_figures};
 ghost use Rattle.transyt_sweep.specs.Rows.{with_out, with_weights, with_figures, with_shown, placed};
-ghost use Rattle.transyt_sweep.specs.Rows.{shown_at, with_rest, left_by};
+ghost use Rattle.transyt_sweep.specs.Rows.{shown_at, with_rest, with_come, with_go};
 ghost use Rattle.transyt_sweep.specs.Rows.{Fits, SameSize, AreRows, AreSmall};
 ghost use Rattle.transyt_sweep.specs.Front.{AreOpened, empty_rows};
 ghost use Rattle.transyt_sweep.specs.Sweeps.{read_at, start};
 
 use crate::asked::Asked;
+use crate::flat::FlatTable;
 use crate::scratch::Scratch;
 use crate::table::Table;
 use std::alloc::{AllocError, Global};
@@ -26,10 +27,10 @@ use transyt_net::Net;
 pub struct Rows {
     step_count: usize,
     sweeps: u32,
-    outs: Table,
-    arrivals: Table,
-    go: Table,
-    queue: Table,
+    pub(crate) outs: FlatTable,
+    pub(crate) arrivals: Table,
+    pub(crate) go: Table,
+    pub(crate) queue: Table,
     figures: Vec<Figures>,
     index: u128,
 }
@@ -95,7 +96,7 @@ impl Rows {
     }
 
     /// Which of the rows of departures is that of a link at a sweep.
-    fn pair_place(&self, sweep: u32, link: usize) -> usize
+    pub(crate) fn pair_place(&self, sweep: u32, link: usize) -> usize
         requires sweep { sweep ≤ self.now.sweeps }
         requires link { link < length self.now.figures }
         ensures value { result ≡ pair_place self.now sweep link }
@@ -173,7 +174,7 @@ impl Rows {
         Ok(Rows {
             step_count,
             sweeps: frame.sweeps,
-            outs: Table::empty(alloc, (frame.sweeps as usize + 1) * link_count, step_count)?,
+            outs: FlatTable::empty(alloc, (frame.sweeps as usize + 1) * link_count, step_count)?,
             arrivals: Table::empty(alloc, link_count, step_count)?,
             go: Table::empty(alloc, link_count, step_count)?,
             queue: Table::empty(alloc, link_count, step_count)?,
@@ -201,7 +202,7 @@ impl Rows {
         ensures value { self.new ≡ placed self.old sweep link scratch.now }
         ensures kept { AreRows self.old }
     {
-        self.put_out(sweep, link, &scratch.out);
+        self.take_out(sweep, link, scratch);
         if sweep == self.sweeps {
             self.show(
                 link,
@@ -213,37 +214,50 @@ impl Rows {
         }
     }
 
-    /// Keeps a link at a sweep as `place` does, and leaves what stood there in `scratch`. Nothing is copied.
-    pub fn put(&mut self, sweep: u32, link: usize, scratch: &mut Scratch)
+    /// What leaves a link at a sweep becomes what leaves it in `scratch`.
+    pub fn take_out(&mut self, sweep: u32, link: usize, scratch: &Scratch)
         requires last { sweep ≤ self.old.sweeps }
         requires link { link < length self.old.figures }
+        requires steps { length scratch.now.arrivals ≡ self.old.step_count }
+        ensures value { self.new ≡ with_out self.old sweep link scratch.now.out }
+        ensures kept { AreRows self.old }
+    {
+        self.put_out(sweep, link, &scratch.out);
+    }
+
+    /// What comes to a link at the last sweep, its queue and its figures change places with those in `scratch`. No row is
+    /// copied.
+    pub fn exchange_come(&mut self, link: usize, scratch: &mut Scratch)
+        requires link { link < length self.old.figures }
         requires steps { length scratch.old.arrivals ≡ self.old.step_count }
-        ensures value { self.new ≡ placed self.old sweep link scratch.old }
-        ensures left { scratch.new ≡ left_by self.old sweep link scratch.old }
+        ensures value { self.new
+            ≡ with_come self.old link scratch.old.arrivals scratch.old.queue scratch.old.figures }
+        ensures left { scratch.new ≡ record scratch.old {
+          arrivals = row self.old.step_count self.old.arrivals link;
+          queue = row self.old.step_count self.old.queue link;
+          figures = slice_index_or self.old.figures link no_figures;
+        } }
         ensures left_steps { length scratch.new.arrivals ≡ self.old.step_count }
         ensures kept { AreRows self.old }
     {
-        self.exchange_out(sweep, link, &mut scratch.out);
-        if sweep == self.sweeps {
-            self.exchange_shown(link, scratch);
-        }
+        let figures = scratch.figures();
+        scratch.asked = Asked::Known(self.figures(link));
+        self.arrivals.exchange(link, &mut scratch.arrivals);
+        self.queue.exchange(link, &mut scratch.queue);
+        self.put_figures(link, figures);
     }
 
-    /// These rows and others exchange a link at a sweep: what leaves it, and at the last sweep all of it. Nothing is
-    /// copied.
-    pub fn exchange(&mut self, sweep: u32, link: usize, other: &mut Rows)
-        requires last { sweep ≤ self.old.sweeps }
+    /// What can go of a link at the last sweep changes places with that in `scratch`. Nothing is copied.
+    pub fn exchange_go(&mut self, link: usize, scratch: &mut Scratch)
         requires link { link < length self.old.figures }
-        requires size { SameSize self.old other.old }
-        ensures here { self.new ≡ placed self.old sweep link (pair_in other.old sweep link) }
-        ensures there { other.new ≡ placed other.old sweep link (pair_in self.old sweep link) }
+        requires steps { length scratch.old.arrivals ≡ self.old.step_count }
+        ensures value { self.new ≡ with_go self.old link scratch.old.go }
+        ensures left { scratch.new ≡ record scratch.old { go = row self.old.step_count self.old.go link } }
+        ensures left_steps { length scratch.new.arrivals ≡ self.old.step_count }
         ensures kept { AreRows self.old }
-        ensures kept_there { AreRows other.old }
     {
-        self.exchange_outs(sweep, link, other);
-        if sweep == self.sweeps {
-            self.exchange_rest(link, other);
-        }
+        scratch.asked = Asked::Known(scratch.figures());
+        self.go.exchange(link, &mut scratch.go);
     }
 
     /// A link at a sweep becomes that of other rows: what leaves it, and at the last sweep all of it.
@@ -253,16 +267,40 @@ impl Rows {
         requires size { SameSize self.old from.now }
         ensures { self.new ≡ placed self.old sweep link (pair_in from.now sweep link) }
     {
-        self.put_out(sweep, link, from.out(sweep, link));
+        self.take_departures(sweep, link, from);
         if sweep == self.sweeps {
-            self.show(
-                link,
-                from.arrivals(link),
-                from.go(link),
-                from.queue(link),
-                from.figures(link),
-            );
+            self.take_shown(link, from);
         }
+    }
+
+    /// What leaves a link at a sweep becomes that of other rows.
+    pub fn take_departures(&mut self, sweep: u32, link: usize, from: &Rows)
+        requires last { sweep ≤ self.old.sweeps }
+        requires link { link < length self.old.figures }
+        requires size { SameSize self.old from.now }
+        ensures value { self.new ≡ with_out self.old sweep link (out_at from.now sweep link) }
+        ensures kept { AreRows self.old }
+        ensures kept_there { AreRows from.now }
+    {
+        let place = from.pair_place(sweep, link);
+        self.put_out(sweep, link, from.outs.row(place));
+    }
+
+    /// The rest of a link at the last sweep becomes that of other rows.
+    pub fn take_shown(&mut self, link: usize, from: &Rows)
+        requires link { link < length self.old.figures }
+        requires size { SameSize self.old from.now }
+        ensures value { self.new ≡ with_rest self.old link (shown_at from.now link) }
+        ensures kept { AreRows self.old }
+        ensures kept_there { AreRows from.now }
+    {
+        self.show(
+            link,
+            from.arrivals(link),
+            from.go(link),
+            from.queue(link),
+            from.figures[link],
+        );
     }
 
     /// The index of a link becomes that of the network's stop penalty and the link's weights. It is no step.
@@ -304,7 +342,8 @@ impl Rows {
         requires go { length go.now ≡ self.old.step_count }
         requires queue { length queue.now ≡ self.old.step_count }
         requires figures { AreSmall figures }
-        ensures { self.new ≡ with_shown self.old link arrivals.now go.now queue.now figures }
+        ensures value { self.new ≡ with_shown self.old link arrivals.now go.now queue.now figures }
+        ensures kept { AreRows self.old }
     {
         self.arrivals.put(link, arrivals);
         self.go.put(link, go);
@@ -313,7 +352,7 @@ impl Rows {
     }
 
     /// Keeps the figures of a link; the index of the network stays the sum.
-    fn put_figures(&mut self, link: usize, figures: Figures)
+    pub(crate) fn put_figures(&mut self, link: usize, figures: Figures)
         requires link { link < length self.old.figures }
         requires figures { AreSmall figures }
         ensures { self.new ≡ with_figures self.old link figures }
@@ -321,65 +360,5 @@ impl Rows {
         let index = self.index - self.figures[link].index + figures.index;
         self.figures[link] = figures;
         self.index = index;
-    }
-
-    /// What leaves a link at a sweep and this row change places.
-    fn exchange_out(&mut self, sweep: u32, link: usize, row: &mut Vec<u64>)
-        requires last { sweep ≤ self.old.sweeps }
-        requires link { link < length self.old.figures }
-        requires steps { length row.old.items ≡ self.old.step_count }
-        requires small { All (λ v. v < 2 ^ 30) row.old.items }
-        ensures value { self.new ≡ with_out self.old sweep link row.old.items }
-        ensures left { row.new.items ≡ out_at self.old sweep link }
-        ensures left_steps { length row.new.items ≡ self.old.step_count }
-        ensures left_small { All (λ v. v < 2 ^ 30) row.new.items }
-        ensures kept { AreRows self.old }
-    {
-        let place = self.pair_place(sweep, link);
-        self.outs.exchange(place, row);
-    }
-
-    /// The rest of a link at the last sweep and that in `scratch` change places.
-    fn exchange_shown(&mut self, link: usize, scratch: &mut Scratch)
-        requires link { link < length self.old.figures }
-        requires steps { length scratch.old.arrivals ≡ self.old.step_count }
-        ensures value { self.new ≡ with_rest self.old link scratch.old }
-        ensures left { scratch.new ≡ record (shown_at self.old link) { out = scratch.old.out } }
-    {
-        let figures = scratch.figures();
-        scratch.asked = Asked::Known(self.figures(link));
-        self.arrivals.exchange(link, &mut scratch.arrivals);
-        self.go.exchange(link, &mut scratch.go);
-        self.queue.exchange(link, &mut scratch.queue);
-        self.put_figures(link, figures);
-    }
-
-    /// What leaves a link at a sweep in these rows and in others changes places.
-    fn exchange_outs(&mut self, sweep: u32, link: usize, other: &mut Rows)
-        requires last { sweep ≤ self.old.sweeps }
-        requires link { link < length self.old.figures }
-        requires size { SameSize self.old other.old }
-        ensures here { self.new ≡ with_out self.old sweep link (out_at other.old sweep link) }
-        ensures there { other.new ≡ with_out other.old sweep link (out_at self.old sweep link) }
-        ensures kept { AreRows self.old }
-        ensures kept_there { AreRows other.old }
-    {
-        let place = self.pair_place(sweep, link);
-        self.outs.exchange_with(place, &mut other.outs);
-    }
-
-    /// The rest of a link at the last sweep in these rows and in others changes places.
-    fn exchange_rest(&mut self, link: usize, other: &mut Rows)
-        requires link { link < length self.old.figures }
-        requires size { SameSize self.old other.old }
-        ensures here { self.new ≡ with_rest self.old link (shown_at other.old link) }
-        ensures there { other.new ≡ with_rest other.old link (shown_at self.old link) }
-    {
-        let figures = self.figures(link);
-        self.arrivals.exchange_with(link, &mut other.arrivals);
-        self.go.exchange_with(link, &mut other.go);
-        self.queue.exchange_with(link, &mut other.queue);
-        self.put_figures(link, other.figures(link));
-        other.put_figures(link, figures);
     }
 }

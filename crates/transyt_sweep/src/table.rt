@@ -1,14 +1,12 @@
 //! Rows of equal length, one after another, each in memory of its own: rows change places without a copy.
 
 ghost use Rattle.std.specs.Prelude.{◌≡◌, ◌<◌, length, IfOk};
-ghost use Rattle.transyt_profile.specs.Profile.{uniform};
 ghost use Rattle.transyt_sweep.specs.Rows.{row};
 ghost use Rattle.transyt_sweep.specs.Table.{HaveSteps, IsTable, empty_table, values_in, with_row};
 
 use std::alloc::{AllocError, Global};
 use std::marker::Model;
 use std::mem;
-use transyt_profile::fill_uniform;
 
 /// Rows of `step_count` values each.
 #[derive(Drop)]
@@ -72,14 +70,6 @@ impl Table {
         ensures { self.new ≡ with_row self.old place values.now }
     {
         self.rows[place].copy_from_slice(values);
-    }
-
-    /// Puts a row of one value at each step in its place.
-    pub(crate) fn fill(&mut self, place: usize, value: u64)
-        requires { place < self.old.count }
-        ensures { self.new ≡ with_row self.old place (uniform self.old.step_count value) }
-    {
-        fill_uniform(value, &mut self.rows[place]);
     }
 
     /// A row of values and the one at a place change places. Nothing is copied.

@@ -1,11 +1,12 @@
 //! Whole evaluations: each profile and figure of three networks, and the index of some links alone.
 
 ghost use Rattle.std.specs.Prelude.{◌≡◌, ◌<◌, ◌≤◌, length};
+ghost use Rattle.transyt_sweep.specs.Rows.{Fits, SameSize};
 
 mod shown;
 
 use self::shown::{GIVING_WAY, THREE_JUNCTIONS, TWO_JUNCTIONS};
-use crate::full;
+use crate::{Rows, SavedRows, Scratch, full};
 use std::alloc::{AllocError, Global};
 use std::marker::Brand;
 use std::sync::ledger::{Blank, Ledger};
@@ -173,18 +174,10 @@ struct LinkShown {
     figures: Figures,
 }
 
-/// What the whole evaluation of a network shows, with a counter of its own.
-fn evaluation_in<L: Ledger>(
-    alloc: Global,
-    net: &Net,
-    blank: Blank,
-) -> Result<(Vec<LinkShown>, u128), AllocError>
-    requires name { blank.name ≡ L.name }
-    requires parts { blank.parts ≡ L.parts }
-    requires some { 0 < L.parts }
+/// What rows of a network show of each link.
+fn links_in(alloc: Global, net: &Net, rows: &Rows) -> Result<Vec<LinkShown>, AllocError>
+    requires { Fits net.now rows.now }
 {
-    let mut steps = Steps::<L>::begin(blank);
-    let rows = full(alloc, net, &mut steps)?;
     let sweeps = net.frame().sweeps;
     let mut links = Vec::new(alloc);
     for link in 0..net.links().len() {
@@ -197,7 +190,95 @@ fn evaluation_in<L: Ledger>(
         };
         links.push(shown)?;
     }
-    Ok((links, rows.index()))
+    Ok(links)
+}
+
+/// What the whole evaluation of a network shows, with a counter of its own.
+fn evaluation_in<L: Ledger>(
+    alloc: Global,
+    net: &Net,
+    blank: Blank,
+) -> Result<(Vec<LinkShown>, u128), AllocError>
+    requires name { blank.name ≡ L.name }
+    requires parts { blank.parts ≡ L.parts }
+    requires some { 0 < L.parts }
+{
+    let mut steps = Steps::<L>::begin(blank);
+    let rows = full(alloc, net, &mut steps)?;
+    Ok((links_in(alloc, net, &rows)?, rows.index()))
+}
+
+/// Saves what leaves a link at a sweep, writes it over and gives it back.
+fn give_out_back(sweep: u32, link: usize, saved: &mut SavedRows, scratch: &Scratch, rows: &mut Rows)
+    requires sweep { sweep ≤ rows.old.sweeps }
+    requires link { link < length rows.old.figures }
+    requires size { SameSize saved.old rows.old }
+    requires steps { length scratch.now.arrivals ≡ rows.old.step_count }
+    ensures { rows.new ≡ rows.old }
+{
+    saved.save_out(sweep, link, rows);
+    rows.take_out(sweep, link, scratch);
+    saved.give_out(sweep, link, rows);
+}
+
+/// Writes what comes to a link at the last sweep, its queue and its figures over, saves what stood there and gives that
+/// back.
+fn give_come_back(link: usize, saved: &mut SavedRows, scratch: &mut Scratch, rows: &mut Rows)
+    requires link { link < length rows.old.figures }
+    requires size { SameSize saved.old rows.old }
+    requires steps { length scratch.old.arrivals ≡ rows.old.step_count }
+    ensures { rows.new ≡ rows.old }
+{
+    rows.exchange_come(link, scratch);
+    saved.exchange_come(link, scratch);
+    saved.give_come(link, rows);
+}
+
+/// Writes what can go of a link at the last sweep over, saves what stood there and gives that back.
+fn give_go_back(link: usize, saved: &mut SavedRows, scratch: &mut Scratch, rows: &mut Rows)
+    requires link { link < length rows.old.figures }
+    requires size { SameSize saved.old rows.old }
+    requires steps { length scratch.old.arrivals ≡ rows.old.step_count }
+    ensures { rows.new ≡ rows.old }
+{
+    rows.exchange_go(link, scratch);
+    saved.exchange_go(link, scratch);
+    saved.give_go(link, rows);
+}
+
+/// What is shown after all of the second link was written over and given back, part by part.
+fn links_given_back<L: Ledger>(
+    alloc: Global,
+    net: &Net,
+    blank: Blank,
+) -> Result<Vec<LinkShown>, AllocError>
+    requires some_links { 1 < length net.now.links }
+    requires name { blank.name ≡ L.name }
+    requires parts { blank.parts ≡ L.parts }
+    requires some { 0 < L.parts }
+{
+    let mut steps = Steps::<L>::begin(blank);
+    let mut rows = full(alloc, net, &mut steps)?;
+    give_out_back(
+        net.frame().sweeps,
+        1,
+        &mut SavedRows::open(alloc, net)?,
+        &Scratch::open(alloc, net)?,
+        &mut rows,
+    );
+    give_come_back(
+        1,
+        &mut SavedRows::open(alloc, net)?,
+        &mut Scratch::open(alloc, net)?,
+        &mut rows,
+    );
+    give_go_back(
+        1,
+        &mut SavedRows::open(alloc, net)?,
+        &mut Scratch::open(alloc, net)?,
+        &mut rows,
+    );
+    links_in(alloc, net, &rows)
 }
 
 /// What the whole evaluation of a network shows, where there is one: its links, and its index.
@@ -253,6 +334,26 @@ fn a_fed_link_is_evaluated(rt: HostRuntime) {
     };
     assert_eq!(rt; links.len(), 2);
     assert_eq!(rt; index, 2887260);
+    for (link, want) in links.iter().zip(TWO_JUNCTIONS.iter()) {
+        assert!(rt; has_profiles(link, &want.0[0], &want.0[1], &want.0[2], &want.0[3]));
+        assert_eq!(rt; link.figures, want.1);
+    }
+}
+
+#[test]
+fn what_was_written_over_is_given_back(rt: HostRuntime) {
+    let Ok(Some(net)) = two_junctions(rt.alloc()) else {
+        assert!(rt; false);
+        return;
+    };
+    if net.links().len() < 2 {
+        assert!(rt; false);
+        return;
+    }
+    let Ok(links) = links_given_back::<Brand>(rt.alloc(), &net, Blank::new(1)) else {
+        assert!(rt; false);
+        return;
+    };
     for (link, want) in links.iter().zip(TWO_JUNCTIONS.iter()) {
         assert!(rt; has_profiles(link, &want.0[0], &want.0[1], &want.0[2], &want.0[3]));
         assert_eq!(rt; link.figures, want.1);
