@@ -1,8 +1,8 @@
 -- The rows go back to what was saved, or become those of an evaluation, pair by pair.
-use Rattle.std.proofs.Common.{◌≡◌, ◌≢◌, ℕ, ◌+◌, ◌<◌, ◌≤◌, Bool, true, false, cond, List, length, refl, ap, sym}
+use Rattle.std.proofs.Common.{◌≡◌, ◌≢◌, ℕ, ◌+◌, ◌<◌, ◌≤◌, true, false, cond, List, length, ap, sym}
 use Rattle.std.proofs.Common.{subst, ◌∙◌, arith}
-use Rattle.std.proofs.Common.{◌⊎◌, inl, inr, if◌then◌else◌}
-use Rattle.std.proofs.lemmas.Bool.{cases_eq}
+use Rattle.std.proofs.Common.{◌⊎◌, inl, inr, ◌||◌, slice_index_or}
+use Rattle.std.proofs.lemmas.Bool.{cases_eq, or_parts}
 use Rattle.transyt_delay.specs.declared.figures.Figures.{Figures}
 use Rattle.transyt_net.specs.Parts.{Network}
 use Rattle.transyt_sweep.specs.Cell.{CellValue, HasSteps}
@@ -11,16 +11,13 @@ use Rattle.transyt_sweep.specs.Rows.{RowsValue, out_at, shown_at, pair_in, place
 use Rattle.transyt_sweep.specs.Rows.{AreRows}
 use Rattle.transyt_sweep.specs.Front.{AreEvaluation}
 use Rattle.transyt_sweep.proofs.FrontLaws.{mixed_turn, before_end, not_before_first}
-use Rattle.transyt_track.specs.Front.{AreBetween, AreWeighed, unweighed}
-use Rattle.transyt_track.specs.Saved.{SavedValue, is_saved, old_out, old_shown, restored_at, FitsRows, LeadBack}
-use Rattle.transyt_track.specs.Saved.{AreUnsaved}
-use Rattle.transyt_track.proofs.PlacedLaws.{figures_out, figures_size, figures_here, figures_elsewhere}
-use Rattle.transyt_net.specs.Shape.{SameShape}
+use Rattle.transyt_saved.specs.Saved.{SavedValue, is_come_saved, is_go_saved, is_shown_saved, part_by, unweighed}
+use Rattle.transyt_saved.specs.Saved.{AreRestored, SaveAlike}
+use Rattle.transyt_saved.proofs.WrittenLaws.{figures_out, figures_size, figures_here, figures_elsewhere, pair_steps}
+use Rattle.transyt_track.specs.Front.{AreBetween, AreWeighed}
+use Rattle.transyt_track.specs.Saved.{LeadBack, AreUnsaved}
 use Rattle.transyt_track.proofs.LeftLaws.{weighed_self}
-use Rattle.transyt_track.proofs.ShapeLaws.{shape_count}
-use Rattle.transyt_track.proofs.MixedLaws.{fits_same, mixed_left, mixed_placed, shown_moved, shown_now, shown_placed}
-use Rattle.transyt_track.proofs.MixedLaws.{shown_turn}
-use Rattle.transyt_track.proofs.SavedLaws.{pair_steps}
+use Rattle.transyt_track.proofs.MixedLaws.{fits_same, mixed_placed, shown_placed, shown_turn}
 
 -- before any pair the rows are what they are
 pub between_none : (net : Network) (f : ℕ → ℕ → List ℕ) (shown_f : ℕ → CellValue) (rows : RowsValue) → Fits net rows
@@ -55,15 +52,6 @@ module _ (net : Network) (f : ℕ → ℕ → List ℕ) (shown_f : ℕ → CellV
     shown = shown_placed net shown_f shown_g s l rows between.shown between.outs.fits kept c swept inside long shown;
   }
 
-  -- one pair more is left
-  pub between_left : l < length net.links → f s l ≡ g s l → (net.frame.sweeps ≡ s → shown_g l ≡ shown_f l)
-      → AreBetween net f shown_f g shown_g s (l + 1) rows
-  between_left inside out shown = record {
-    outs = mixed_left net f g s l rows between.outs out;
-    shown = shown_moved net shown_f shown_g s l rows between.shown rows inside
-        (λ last. shown_now net shown_f shown_g s l rows between.shown last inside ∙ shown last) (λ k there apart. refl);
-  }
-
 -- after the last sweep all is that of f
 pub between_out : (net : Network) (f : ℕ → ℕ → List ℕ) (shown_f : ℕ → CellValue) (g : ℕ → ℕ → List ℕ)
     (shown_g : ℕ → CellValue)
@@ -81,84 +69,42 @@ between_shown net f shown_f g shown_g rows between k there =
     between.shown.shown k there
     ∙ ap (λ w. cond w (shown_f k) (shown_g k)) (before_end net.frame.sweeps k net.frame.sweeps (omega arith))
 
--- one pair more is restored
-pub back_put : (net : Network) (saved : SavedValue) (old : RowsValue) (s l : ℕ) (rows : RowsValue) → Fits net old
-    → FitsRows old saved
-    → AreBetween net (old_out saved old) (old_shown saved old) (out_at old) (shown_at old) s l rows
-    → AreRows rows → AreRows saved.rows → s ≤ net.frame.sweeps → l < length net.links
-    → AreBetween net (old_out saved old) (old_shown saved old) (out_at old) (shown_at old) s (l + 1)
-    (restored_at saved s l rows)
-back_put net saved old s l rows fits fits_saved between kept saved_kept swept inside =
-    by (is_saved saved s l) refl
-  where
-    long : HasSteps rows.step_count (pair_in saved.rows s l)
-    long =
-        subst (λ n. HasSteps n (pair_in saved.rows s l))
-        (fits_saved.size.step_count ∙ fits.step_count ∙ sym between.outs.fits.step_count)
-        (pair_steps saved.rows saved_kept s l (omega (arith, fits_saved.size.sweeps, fits.sweeps))
-        (omega (arith, fits_saved.size.link_count, fits.link_count)))
-
-    flag_last : (b : Bool) → is_saved saved s l ≡ b → net.frame.sweeps ≡ s → is_saved saved old.sweeps l ≡ b
-    flag_last b was last = ap (λ t. is_saved saved t l) (fits.sweeps ∙ last) ∙ was
-
-    by : (b : Bool) → is_saved saved s l ≡ b
-        → AreBetween net (old_out saved old) (old_shown saved old) (out_at old) (shown_at old) s (l + 1)
-        (if is_saved saved s l then placed rows s l (pair_in saved.rows s l) else rows)
-    by true was =
-        subst (λ b. AreBetween net (old_out saved old) (old_shown saved old) (out_at old) (shown_at old) s (l + 1)
-        (if b then placed rows s l (pair_in saved.rows s l) else rows)) (sym was)
-        (between_placed net (old_out saved old) (old_shown saved old) (out_at old) (shown_at old) s l rows between kept
-        (pair_in saved.rows s l) swept inside long
-        (sym (ap (λ b. if b then out_at saved.rows s l else out_at old s l) was))
-        (λ last.
-        ap (λ t. pair_in saved.rows t l) (sym last ∙ sym fits.sweeps ∙ sym fits_saved.size.sweeps)
-        ∙ sym (ap (λ b. if b then shown_at saved.rows l else shown_at old l) (flag_last true was last))))
-    by false was =
-        subst (λ b. AreBetween net (old_out saved old) (old_shown saved old) (out_at old) (shown_at old) s (l + 1)
-        (if b then placed rows s l (pair_in saved.rows s l) else rows)) (sym was)
-        (between_left net (old_out saved old) (old_shown saved old) (out_at old) (shown_at old) s l rows between inside
-        (ap (λ b. if b then out_at saved.rows s l else out_at old s l) was)
-        (λ last. sym (ap (λ b. if b then shown_at saved.rows l else shown_at old l) (flag_last false was last))))
-
--- all pairs are, and the weights are left
-pub back_end : (net : Network) (saved : SavedValue) (old rows : RowsValue) → LeadBack net old saved → saved.live ≡ true
-    → AreBetween net (old_out saved old) (old_shown saved old) (out_at old) (shown_at old) (net.frame.sweeps + 1) 0 rows
-    → AreWeighed net 0 rows
-back_end net saved old rows back live between = record {
-  fits = between.outs.fits;
+-- the rows went back, and the weights are left
+pub back_end : (net : Network) (saved : SavedValue) (old rows : RowsValue) → Fits net old → LeadBack net old saved
+    → saved.live ≡ true → AreRestored saved old rows → AreWeighed net 0 rows
+back_end net saved old rows fits back live went = record {
+  fits = fits_same net rows old went.size fits;
   outs = λ t k within there.
-      between_out net (old_out saved old) (old_shown saved old) (out_at old) (shown_at old) rows between t k within
-      there
+      went.outs t k (omega (arith, fits.sweeps)) (omega (arith, fits.link_count))
       ∙ back.outs live t k within there;
   weighed = λ k none there. absurd (omega arith);
   others = λ k there.
-      ap unweighed (between_shown net (old_out saved old) (old_shown saved old) (out_at old) (shown_at old) rows
-      between k there)
+      ap unweighed (went.shown k (omega (arith, fits.link_count)))
       ∙ back.shown live k there;
 }
 
--- where nothing was saved of a link, it is still that of the network that was left
-pub unsaved_end : (net marked : Network) (saved : SavedValue) (old rows : RowsValue) → SameShape net marked
-    → AreEvaluation net old
-    → AreBetween marked (old_out saved old) (old_shown saved old) (out_at old) (shown_at old)
-    (marked.frame.sweeps + 1) 0 rows
-    → AreUnsaved net saved 0 rows
-unsaved_end net marked saved old rows same evaluation between = record {
-  shown = λ k from there none.
-      between_shown marked (old_out saved old) (old_shown saved old) (out_at old) (shown_at old) rows between k
-      (omega (arith, shape_count net marked same))
-      ∙ ap (λ b. if b then shown_at saved.rows k else shown_at old k)
-      (ap (λ t. is_saved saved t k) evaluation.fits.sweeps ∙ none)
-      ∙ evaluation.shown k there;
+-- where nothing was saved of a link, its figures are still those of the network that was left
+pub unsaved_end : (net : Network) (saved new : SavedValue) (old rows : RowsValue) → AreEvaluation net old
+    → AreRestored saved old rows → SaveAlike new saved → AreUnsaved net new 0 rows
+unsaved_end net saved new old rows evaluation went alike = record {
+  figures = λ k from there none.
+      let same : is_shown_saved new k ≡ is_shown_saved saved k =
+      (λ j. slice_index_or (alike.come_flags j) k false || slice_index_or (alike.go_flags j) k false) in
+      let come : is_come_saved saved k ≡ false =
+      (or_parts (is_come_saved saved k) (is_go_saved saved k) (sym same ∙ none)).0 in
+      ap (λ (c : CellValue). c.figures) (went.shown k (omega (arith, evaluation.fits.link_count)))
+      ∙ ap (λ b. part_by b (λ c. c.figures) saved old k) come
+      ∙ ap (λ (c : CellValue). c.figures) (evaluation.shown k there);
 }
 
 -- it stays when an earlier link is weighed
 pub unsaved_more : (net marked : Network) (saved : SavedValue) (l : ℕ) (rows : RowsValue) → AreUnsaved net saved l rows
     → AreUnsaved net saved (l + 1) (with_weights rows marked l)
 unsaved_more net marked saved l rows unsaved = record {
-  shown = λ k from there none.
-      figures_elsewhere rows l (reweighed marked l (shown_at rows l).figures) k (λ e. absurd (omega (arith, e)))
-      ∙ unsaved.shown k (omega arith) there none;
+  figures = λ k from there none.
+      ap (λ (c : CellValue). c.figures)
+      (figures_elsewhere rows l (reweighed marked l (shown_at rows l).figures) k (λ e. absurd (omega (arith, e))))
+      ∙ unsaved.figures k (omega arith) there none;
 }
 
 -- one link more is weighed

@@ -1,117 +1,114 @@
--- What changed since a mark is copied, pair by pair: what isn't saved has the row of the mark.
-use Rattle.std.proofs.Common.{◌≡◌, ℕ, ◌+◌, ◌<◌, ◌≤◌, Bool, true, false, length, refl, ap, sym}
-use Rattle.std.proofs.Common.{subst, ◌∙◌, arith, if◌then◌else◌}
+-- What changed since a mark is copied: what isn't saved has the rows of the mark.
+use Rattle.std.proofs.Common.{◌≡◌, ℕ, ◌<◌, ◌≤◌, Bool, true, false, length, refl, ap, sym}
+use Rattle.std.proofs.Common.{◌∙◌, arith, if◌then◌else◌}
+use Rattle.std.proofs.lemmas.Bool.{or_parts}
 use Rattle.transyt_parts.specs.declared.frame.Frame.{Frame}
 use Rattle.transyt_net.specs.Parts.{Network}
 use Rattle.transyt_net.specs.Shape.{SameShape}
-use Rattle.transyt_sweep.specs.Cell.{CellValue, HasSteps}
+use Rattle.transyt_sweep.specs.Cell.{CellValue}
 use Rattle.transyt_sweep.specs.Sweeps.{out_of, evaluated}
-use Rattle.transyt_sweep.specs.Rows.{RowsValue, out_at, shown_at, pair_in, placed, AreRows}
+use Rattle.transyt_sweep.specs.Rows.{RowsValue, out_at, shown_at, Fits}
 use Rattle.transyt_sweep.specs.Front.{AreEvaluation}
-use Rattle.transyt_track.specs.Front.{AreBetween, AreWeighed, unweighed}
-use Rattle.transyt_track.specs.Saved.{SavedValue, is_saved, changed_at, AreUnsaved, FitsRows, LeadBack}
-use Rattle.transyt_track.proofs.BackLaws.{between_none, between_placed, between_left, between_out, between_shown}
-use Rattle.transyt_track.proofs.SavedLaws.{pair_steps}
+use Rattle.transyt_saved.specs.Saved.{SavedValue, is_out_saved, is_come_saved, is_go_saved, is_shown_saved}
+use Rattle.transyt_saved.specs.Saved.{old_out, part_by, copied_out, copied_shown, unweighed, AreCopied}
+use Rattle.transyt_track.specs.Front.{AreWeighed}
+use Rattle.transyt_track.specs.Saved.{LeadBack, AreUnsaved}
+use Rattle.transyt_track.proofs.MixedLaws.{fits_same}
 use Rattle.transyt_track.proofs.ShapeLaws.{shape_frame, shape_count}
 use Rattle.transyt_track.proofs.TrackLaws.{fits_shape}
 
--- the last sweep of a link when what was saved of it is copied: the network's, else the marked one's
-abbrev pub copied_shown : Network → Network → SavedValue → ℕ → CellValue
-copied_shown net marked saved k = if is_saved saved net.frame.sweeps k then evaluated net k else evaluated marked k
+module _ (net marked : Network) (same : SameShape marked net) (saved : SavedValue) (from old rows : RowsValue)
+    (evaluation : AreEvaluation net from) (live : saved.live ≡ true) (back : LeadBack marked from saved)
+    (was : AreEvaluation marked old) (copy : AreCopied saved from old rows) where
+  same_sweeps : marked.frame.sweeps ≡ net.frame.sweeps
+  same_sweeps = ap (λ (f : Frame). f.sweeps) (shape_frame marked net same)
 
--- the rows while they are copied as far as a link at a sweep
-abbrev pub AreCopied : Network → Network → SavedValue → RowsValue → ℕ → ℕ → RowsValue → Type 0
-AreCopied net marked saved old s l rows =
-    AreBetween net (out_of net) (copied_shown net marked saved) (out_at old) (shown_at old) s l rows
+  same_count : length marked.links ≡ length net.links
+  same_count = shape_count marked net same
 
-module _ (net marked : Network) (same : SameShape net marked) (saved : SavedValue) (from old : RowsValue)
-    (evaluation : AreEvaluation net from) (fits : FitsRows from saved) (live : saved.live ≡ true)
-    (back : LeadBack marked from saved) (was : AreEvaluation marked old) where
-  same_sweeps : net.frame.sweeps ≡ marked.frame.sweeps
-  same_sweeps = ap (λ (f : Frame). f.sweeps) (shape_frame net marked same)
-
-  -- before any pair nothing is copied
-  pub copied_none : AreCopied net marked saved old 0 0 old
-  copied_none =
-      between_none net (out_of net) (copied_shown net marked saved) old (fits_shape marked net (sym same) old was.fits)
-
-  -- what isn't saved leaves as it left the marked network
-  unsaved_out : (s l : ℕ) → s ≤ net.frame.sweeps → l < length net.links → is_saved saved s l ≡ false
-      → out_of net s l ≡ out_at old s l
-  unsaved_out s l swept inside none =
-      sym (evaluation.outs s l swept inside)
-      ∙ sym (ap (λ b. if b then out_at saved.rows s l else out_at from s l) none)
-      ∙ back.outs live s l (omega (arith, same_sweeps)) (omega (arith, shape_count net marked same))
-      ∙ sym (was.outs s l (omega (arith, same_sweeps)) (omega (arith, shape_count net marked same)))
-
-  -- one pair more
-  pub copied_changed : (s l : ℕ) (rows : RowsValue) → AreCopied net marked saved old s l rows → AreRows from
-      → AreRows rows → s ≤ net.frame.sweeps → l < length net.links
-      → AreCopied net marked saved old s (l + 1) (changed_at saved s l from rows)
-  copied_changed s l rows between from_kept kept swept inside = by (is_saved saved s l) refl
+  -- what leaves is that of the network: what isn't saved left the marked network the same
+  copied_outs : (t k : ℕ) → t ≤ net.frame.sweeps → k < length net.links
+      → copied_out saved from old t k ≡ out_of net t k
+  copied_outs t k within there = by (is_out_saved saved t k) refl
     where
-      long : HasSteps rows.step_count (pair_in from s l)
-      long =
-          subst (λ n. HasSteps n (pair_in from s l)) (evaluation.fits.step_count ∙ sym between.outs.fits.step_count)
-          (pair_steps from from_kept s l (omega (arith, evaluation.fits.sweeps))
-          (omega (arith, evaluation.fits.link_count)))
+      by : (b : Bool) → is_out_saved saved t k ≡ b
+          → (if is_out_saved saved t k then out_at from t k else out_at old t k) ≡ out_of net t k
+      by true told =
+          ap (λ b. if b then out_at from t k else out_at old t k) told ∙ evaluation.outs t k within there
+      by false told =
+          ap (λ b. if b then out_at from t k else out_at old t k) told
+          ∙ was.outs t k (omega (arith, same_sweeps)) (omega (arith, same_count))
+          ∙ sym (back.outs live t k (omega (arith, same_sweeps)) (omega (arith, same_count)))
+          ∙ ap (λ b. if b then out_at saved.rows t k else out_at from t k) told
+          ∙ evaluation.outs t k within there
 
-      flag_last : (b : Bool) → is_saved saved s l ≡ b → net.frame.sweeps ≡ s → is_saved saved net.frame.sweeps l ≡ b
-      flag_last b here last = ap (λ t. is_saved saved t l) last ∙ here
+  -- and the last sweep is but for the weights
+  copied_last : (k : ℕ) → k < length net.links
+      → unweighed (record (copied_shown saved from old k) { out = copied_out saved from old old.sweeps k })
+      ≡ unweighed (evaluated net k)
+  copied_last k there = ap (λ x. unweighed (record (copied_shown saved from old k) { out = x })) leaving
+      ∙ by (is_shown_saved saved k) refl
+    where
+      leaving : copied_out saved from old old.sweeps k ≡ out_at from from.sweeps k
+      leaving =
+          copied_outs old.sweeps k (omega (arith, was.fits.sweeps, same_sweeps)) there
+          ∙ sym (evaluation.outs old.sweeps k (omega (arith, was.fits.sweeps, same_sweeps)) there)
+          ∙ ap (λ t. out_at from t k) (was.fits.sweeps ∙ same_sweeps ∙ sym evaluation.fits.sweeps)
 
-      by : (b : Bool) → is_saved saved s l ≡ b
-          → AreCopied net marked saved old s (l + 1) (if is_saved saved s l then placed rows s l (pair_in from s l) else rows)
-      by true here =
-          subst (λ b. AreCopied net marked saved old s (l + 1) (if b then placed rows s l (pair_in from s l) else rows))
-          (sym here)
-          (between_placed net (out_of net) (copied_shown net marked saved) (out_at old) (shown_at old) s l rows between
-          kept (pair_in from s l) swept inside long (evaluation.outs s l swept inside)
-          (λ last.
-          ap (λ t. pair_in from t l) (sym last ∙ sym evaluation.fits.sweeps) ∙ evaluation.shown l inside
-          ∙ sym (ap (λ b. if b then evaluated net l else evaluated marked l) (flag_last true here last))))
-      by false here =
-          subst (λ b. AreCopied net marked saved old s (l + 1) (if b then placed rows s l (pair_in from s l) else rows))
-          (sym here)
-          (between_left net (out_of net) (copied_shown net marked saved) (out_at old) (shown_at old) s l rows between
-          inside (unsaved_out s l swept inside here)
-          (λ last.
-          was.shown l (omega (arith, shape_count net marked same))
-          ∙ sym (ap (λ b. if b then evaluated net l else evaluated marked l) (flag_last false here last))))
+      by : (b : Bool) → is_shown_saved saved k ≡ b
+          → unweighed (record (if is_shown_saved saved k then shown_at from k else shown_at old k) {
+            out = out_at from from.sweeps k;
+          }) ≡ unweighed (evaluated net k)
+      by true told =
+          ap (λ b. unweighed (record (if b then shown_at from k else shown_at old k) {
+            out = out_at from from.sweeps k;
+          })) told
+          ∙ ap unweighed (evaluation.shown k there)
+      by false told =
+          let parts = or_parts (is_come_saved saved k) (is_go_saved saved k) told in
+          ap (λ b. unweighed (record (if b then shown_at from k else shown_at old k) {
+            out = out_at from from.sweeps k;
+          })) told
+          ∙ ap (λ (c : CellValue). unweighed (record c { out = out_at from from.sweeps k }))
+          (was.shown k (omega (arith, same_count)))
+          ∙ ap (λ (c : CellValue). record c { out = out_at from from.sweeps k })
+          (sym (back.shown live k (omega (arith, same_count)))
+          ∙ ap {A = Bool} (λ b. unweighed (record {
+            arrivals = part_by b (λ c. c.arrivals) saved from k;
+            go = part_by (is_go_saved saved k) (λ c. c.go) saved from k;
+            queue = part_by b (λ c. c.queue) saved from k;
+            out = old_out saved from from.sweeps k;
+            figures = part_by b (λ c. c.figures) saved from k;
+          })) parts.0
+          ∙ ap {A = Bool} (λ b. unweighed (record {
+            arrivals = (shown_at from k).arrivals;
+            go = part_by b (λ c. c.go) saved from k;
+            queue = (shown_at from k).queue;
+            out = old_out saved from from.sweeps k;
+            figures = (shown_at from k).figures;
+          })) parts.1)
+          ∙ ap unweighed (evaluation.shown k there)
 
-  module _ (rows : RowsValue) (between : AreCopied net marked saved old (net.frame.sweeps + 1) 0 rows) where
-    last_shown : (k : ℕ) → k < length net.links → shown_at rows k ≡ copied_shown net marked saved k
-    last_shown =
-        between_shown net (out_of net) (copied_shown net marked saved) (out_at old) (shown_at old) rows between
+  old_fits : Fits net old
+  old_fits = fits_shape marked net same old was.fits
 
-    -- what isn't saved of the last sweep is the network's but for the weights
-    copied_unweighed : (k : ℕ) → k < length net.links
-        → unweighed (copied_shown net marked saved k) ≡ unweighed (evaluated net k)
-    copied_unweighed k there = by (is_saved saved net.frame.sweeps k) refl
-      where
-        by : (b : Bool) → is_saved saved net.frame.sweeps k ≡ b
-            → unweighed (copied_shown net marked saved k) ≡ unweighed (evaluated net k)
-        by true here = ap (λ b. unweighed (if b then evaluated net k else evaluated marked k)) here
-        by false here =
-            ap (λ b. unweighed (if b then evaluated net k else evaluated marked k)) here
-            ∙ sym (back.shown live k (omega (arith, shape_count net marked same)))
-            ∙ ap (λ b. unweighed (if b then shown_at saved.rows k else shown_at from k))
-            (ap (λ t. is_saved saved t k) evaluation.fits.sweeps ∙ here)
-            ∙ ap unweighed (evaluation.shown k there)
+  -- all rows are copied, and the weights are left
+  pub copied_weighed : AreWeighed net 0 rows
+  copied_weighed = record {
+    fits = fits_same net rows old copy.size old_fits;
+    outs = λ t k within there.
+        copy.outs t k (omega (arith, old_fits.sweeps)) (omega (arith, old_fits.link_count))
+        ∙ copied_outs t k within there;
+    weighed = λ k none there. absurd (omega arith);
+    others = λ k there.
+        ap unweighed (copy.shown k (omega (arith, old_fits.link_count))) ∙ copied_last k there;
+  }
 
-    -- all pairs are copied, and the weights are left
-    pub copied_weighed : AreWeighed net 0 rows
-    copied_weighed = record {
-      fits = between.outs.fits;
-      outs = between_out net (out_of net) (copied_shown net marked saved) (out_at old) (shown_at old) rows between;
-      weighed = λ k none there. absurd (omega arith);
-      others = λ k there. ap unweighed (last_shown k there) ∙ copied_unweighed k there;
-    }
-
-    -- where nothing is saved of a link, it is still that of the marked network
-    pub copied_unsaved : AreUnsaved marked saved 0 rows
-    copied_unsaved = record {
-      shown = λ k from there none.
-          last_shown k (omega (arith, shape_count net marked same))
-          ∙ ap (λ b. if b then evaluated net k else evaluated marked k)
-          (ap (λ t. is_saved saved t k) same_sweeps ∙ none);
-    }
+  -- where nothing is saved of a link, its figures are still those of the marked network
+  pub copied_unsaved : AreUnsaved marked saved 0 rows
+  copied_unsaved = record {
+    figures = λ k from_here there none.
+        ap (λ (c : CellValue). c.figures) (copy.shown k (omega (arith, was.fits.link_count)))
+        ∙ ap (λ b. (if b then shown_at from k else shown_at old k).figures) none
+        ∙ ap (λ (c : CellValue). c.figures) (was.shown k there);
+  }

@@ -1,5 +1,5 @@
 -- A link has equal work on two networks that give it equal data, of equal departures.
-use Rattle.std.proofs.Common.{◌≡◌, ℕ, List, [], ◌∷◌, All, Option, Some, None, IfSome, refl, ap, ◌∙◌, map}
+use Rattle.std.proofs.Common.{◌≡◌, ℕ, List, [], ◌∷◌, All, Option, Some, None, IfSome, refl, ap, sym, ◌∙◌, map}
 use Rattle.std.specs.Prelude.{fold}
 use Rattle.std.specs.List.{range_with_len}
 use Rattle.std.proofs.lemmas.List.Elements.{All-head, All-tail}
@@ -44,6 +44,29 @@ abbrev green_by : Frame → NodeValue → List ℕ → ℕ → ℕ → ℕ → L
 green_by frame node stages start_lag end_lag saturation =
     map (passed_at (shown_of frame.step_count node stages) start_lag end_lag (perstep frame saturation))
     (range_with_len 0 frame.step_count)
+
+module _ (a b : Network) (l : ℕ) (data_same : SameData a b l) where
+  signal_same : signal a l ≡ signal b l
+  signal_same =
+      ap (λ fr. green_by fr (the_node a (link_of a l).node) (link_of a l).stages (link_of a l).start_lag
+      (link_of a l).end_lag (link_of a l).saturation) data_same.frame
+      ∙ ap (λ n. green_by b.frame n (link_of a l).stages (link_of a l).start_lag (link_of a l).end_lag
+      (link_of a l).saturation) data_same.node
+      ∙ ap (λ ks. green_by b.frame (the_node b (link_of b l).node) ks (link_of a l).start_lag (link_of a l).end_lag
+      (link_of a l).saturation) data_same.stages
+      ∙ ap (λ n. green_by b.frame (the_node b (link_of b l).node) (link_of b l).stages n (link_of a l).end_lag
+      (link_of a l).saturation) data_same.start_lag
+      ∙ ap (λ n. green_by b.frame (the_node b (link_of b l).node) (link_of b l).stages (link_of b l).start_lag n
+      (link_of a l).saturation) data_same.end_lag
+      ∙ ap (λ q. green_by b.frame (the_node b (link_of b l).node) (link_of b l).stages (link_of b l).start_lag
+      (link_of b l).end_lag q) data_same.saturation
+
+  -- with no rule what can go is the same, whatever is read
+  pub green_same : (x y : ℕ → List ℕ) → (link_of b l).gives_way ≡ None → go a x l ≡ go b y l
+  green_same x y none =
+      ap (λ r. under_rule a x r (signal a l)) (data_same.rule ∙ none)
+      ∙ signal_same
+      ∙ sym (ap (λ r. under_rule b y r (signal b l)) none)
 
 module _ (a b : Network) (l : ℕ) (x y : ℕ → List ℕ) (data_same : SameData a b l) (reads : SameReads a l x y) where
   place_same : (number : ℕ) → link_place a number ≡ link_place b number
@@ -92,21 +115,6 @@ module _ (a b : Network) (l : ℕ) (x y : ℕ → List ℕ) (data_same : SameDat
       ∙ ap (λ fs. fold (λ c f. added c (brought b y f))
       (uniform b.frame.step_count (perstep b.frame (link_of b l).entry)) fs) data_same.feeds
 
-  signal_same : signal a l ≡ signal b l
-  signal_same =
-      ap (λ fr. green_by fr (the_node a (link_of a l).node) (link_of a l).stages (link_of a l).start_lag
-      (link_of a l).end_lag (link_of a l).saturation) data_same.frame
-      ∙ ap (λ n. green_by b.frame n (link_of a l).stages (link_of a l).start_lag (link_of a l).end_lag
-      (link_of a l).saturation) data_same.node
-      ∙ ap (λ ks. green_by b.frame (the_node b (link_of b l).node) ks (link_of a l).start_lag (link_of a l).end_lag
-      (link_of a l).saturation) data_same.stages
-      ∙ ap (λ n. green_by b.frame (the_node b (link_of b l).node) (link_of b l).stages n (link_of a l).end_lag
-      (link_of a l).saturation) data_same.start_lag
-      ∙ ap (λ n. green_by b.frame (the_node b (link_of b l).node) (link_of b l).stages (link_of b l).start_lag n
-      (link_of a l).saturation) data_same.end_lag
-      ∙ ap (λ q. green_by b.frame (the_node b (link_of b l).node) (link_of b l).stages (link_of b l).start_lag
-      (link_of b l).end_lag q) data_same.saturation
-
   under_rule_same : (rule : Option GiveWay) (green : List ℕ)
       → IfSome rule (λ r. x (link_place a r.other) ≡ y (link_place a r.other))
       → under_rule a x rule green ≡ under_rule b y rule green
@@ -119,4 +127,4 @@ module _ (a b : Network) (l : ℕ) (x y : ℕ → List ℕ) (data_same : SameDat
   go_same =
       under_rule_same (link_of a l).gives_way (signal a l) reads.rule
       ∙ ap (λ r. under_rule b y r (signal a l)) data_same.rule
-      ∙ ap (under_rule b y (link_of b l).gives_way) signal_same
+      ∙ ap (under_rule b y (link_of b l).gives_way) (signal_same a b l data_same)

@@ -53,10 +53,9 @@ by_weights stop_penalty delay_weight stop_weight f =
 
 -- so rows stay where the weights are equal
 pub weights_stay : (a b : Network) (l : ℕ) (rows : RowsValue) → SameShape a b
-    → HaveWeights a b l → shown_at rows l ≡ evaluated a l → with_weights rows b l ≡ rows
-weights_stay a b l rows same weights shown =
+    → HaveWeights a b l → (shown_at rows l).figures ≡ (evaluated a l).figures → with_weights rows b l ≡ rows
+weights_stay a b l rows same weights figures_are =
     let f : Figures = slice_index_or rows.figures l no_figures in
-    let figures_are : f ≡ (evaluated a l).figures = ap (λ (c : CellValue). c.figures) shown in
     let frame : b.frame ≡ a.frame = sym (shape_frame a b same) in
     let by_before : reweighed b l f ≡ reweighed a l f =
     (λ j. by_weights (frame j).stop_penalty (sym weights.delay j) (sym weights.stop j) f) in

@@ -15,12 +15,11 @@ pub mod LeftLaws
 pub mod AwaitLaws
 pub mod ReaderLaws
 pub mod FrontLaws
+pub mod GoLaws
 pub mod StartLaws
 pub mod EditedLaws
-pub mod SavedLaws
 pub mod CarryLaws
 pub mod BackLaws
-pub mod ReturnLaws
 pub mod CopiedLaws
 pub mod TrackLaws
 pub mod RuleLaws

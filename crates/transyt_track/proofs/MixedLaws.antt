@@ -2,7 +2,6 @@
 use Rattle.std.proofs.Common.{◌≡◌, ℕ, ◌+◌, ◌<◌, ◌≤◌, Bool, true, false, cond, List, length, ap, sym, ◌∙◌, arith}
 use Rattle.std.proofs.Common.{◌==◌, ◌⊎◌, inl, inr, if◌then◌else◌}
 use Rattle.std.proofs.lemmas.Bool.{cases_eq}
-use Rattle.std.proofs.lemmas.Bool.Decides.{nat_tests}
 use Rattle.transyt_delay.specs.declared.figures.Figures.{Figures}
 use Rattle.transyt_net.specs.Parts.{Network}
 use Rattle.transyt_sweep.specs.Cell.{CellValue, HasSteps}
@@ -11,32 +10,9 @@ use Rattle.transyt_sweep.specs.Rows.{Fits, SameSize, AreRows}
 use Rattle.transyt_sweep.specs.Front.{AreMixed, is_before}
 use Rattle.transyt_sweep.proofs.FrontLaws.{before_self, before_other, before_turn, mixed_put, mixed_shown}
 use Rattle.transyt_track.specs.Front.{AreShownMixed}
-use Rattle.transyt_track.proofs.PlacedLaws.{placed_last, placed_stays, figures_out, figures_size}
-
-before_here : (s l : ℕ) → is_before s l s l ≡ false
-before_here s l = grind (arith, nat_tests)
-
--- two answers of which one holds before a front move with it where they are equal there
-step_at : {A : Type 0} (f g : ℕ → ℕ → A) (t k s l : ℕ) → f s l ≡ g s l
-    → (if is_before t k s l then f t k else g t k) ≡ (if is_before t k s (l + 1) then f t k else g t k)
-step_at {A} f g t k s l same = by (cases_eq t s) (cases_eq k l)
-  where
-    other : (t ≡ s → k ≡ l → ⊥)
-        → (if is_before t k s l then f t k else g t k) ≡ (if is_before t k s (l + 1) then f t k else g t k)
-    other apart = ap (λ b. cond b (f t k) (g t k)) (sym (before_other t k s l apart))
-
-    by : (t ≡ s) ⊎ (t ≡ s → ⊥) → (k ≡ l) ⊎ (k ≡ l → ⊥)
-        → (if is_before t k s l then f t k else g t k) ≡ (if is_before t k s (l + 1) then f t k else g t k)
-    by (inl sweep) (inl link) =
-        ap (λ u. if is_before u k s l then f u k else g u k) sweep
-        ∙ ap (λ u. if is_before s u s l then f s u else g s u) link
-        ∙ ap (λ b. cond b (f s l) (g s l)) (before_here s l)
-        ∙ sym same
-        ∙ sym (ap (λ b. cond b (f s l) (g s l)) (before_self s l))
-        ∙ sym (ap (λ u. if is_before s u s (l + 1) then f s u else g s u) link)
-        ∙ sym (ap (λ u. if is_before u k s (l + 1) then f u k else g u k) sweep)
-    by (inl sweep) (inr apart) = other (λ _ e. apart e)
-    by (inr apart) _ = other (λ e _. apart e)
+use Rattle.transyt_saved.proofs.WrittenLaws.{figures_out, figures_size}
+use Rattle.transyt_saved.proofs.BackLaws.{before_here}
+use Rattle.transyt_track.proofs.PlacedLaws.{placed_last, placed_stays}
 
 -- rows of the same size fit the same network
 pub fits_same : (net : Network) (x y : RowsValue) → SameSize x y → Fits net y → Fits net x
@@ -50,13 +26,6 @@ module _ (net : Network) (f g : ℕ → ℕ → List ℕ) (s l : ℕ) (rows : Ro
   -- before the front stands f, from it on g
   pub mixed_here : s ≤ net.frame.sweeps → l < length net.links → out_at rows s l ≡ g s l
   mixed_here swept inside = mixed.outs s l swept inside ∙ ap (λ b. cond b (f s l) (g s l)) (before_here s l)
-
-  -- a pair in which both are equal is left as it is
-  pub mixed_left : f s l ≡ g s l → AreMixed net f g s (l + 1) rows
-  mixed_left same = record {
-    fits = mixed.fits;
-    outs = λ t k within there. mixed.outs t k within there ∙ step_at f g t k s l same;
-  }
 
   -- a pair is written, at the last sweep all of it
   pub mixed_placed : AreRows rows → (c : CellValue) → s ≤ net.frame.sweeps → l < length net.links

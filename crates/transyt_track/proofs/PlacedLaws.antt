@@ -1,16 +1,12 @@
 -- One pair of the rows written: what stands there then, and elsewhere.
-use Rattle.std.proofs.Common.{◌≡◌, ◌≢◌, ℕ, ◌+◌, ◌*◌, ◌<◌, ◌≤◌, Bool, true, false, List, length, refl, ap, sym, ◌∙◌}
+use Rattle.std.proofs.Common.{◌≡◌, ◌≢◌, ℕ, ◌<◌, ◌≤◌, Bool, true, false, length, refl, ap, sym, ◌∙◌}
 use Rattle.std.proofs.Common.{arith}
 use Rattle.std.proofs.Common.{◌==◌, ◌⊎◌, inl, inr, if◌then◌else◌}
 use Rattle.std.proofs.lemmas.Bool.{cases_eq}
 use Rattle.std.proofs.lemmas.Bool.Decides.{nat_tests}
-use Rattle.std.proofs.lemmas.List.{length-set, get_or-set_other}
-use Rattle.std.proofs.lemmas.Grind.{get_or-set_at}
-use Rattle.transyt_delay.specs.declared.figures.Figures.{Figures}
+use Rattle.std.proofs.lemmas.List.{length-set}
 use Rattle.transyt_sweep.specs.Cell.{CellValue, HasSteps}
-use Rattle.transyt_sweep.specs.Rows.{RowsValue, row, out_at, shown_at, with_out, with_figures, with_shown, placed}
-use Rattle.transyt_sweep.specs.Rows.{pair_in, left_by}
-use Rattle.transyt_sweep.specs.Rows.{no_figures}
+use Rattle.transyt_sweep.specs.Rows.{RowsValue, out_at, shown_at, with_out, with_shown, placed}
 use Rattle.transyt_sweep.specs.Rows.{SameSize, AreRows}
 use Rattle.transyt_sweep.proofs.PairLaws.{out_here, out_elsewhere}
 use Rattle.transyt_sweep.proofs.ShownLaws.{put_shown, shown_here, shown_elsewhere}
@@ -33,21 +29,6 @@ all_of_size rows s l c false = record { step_count = refl; sweeps = refl; link_c
 -- the rows have the same size
 pub placed_size : (rows : RowsValue) (s l : ℕ) (c : CellValue) → SameSize (placed rows s l c) rows
 placed_size rows s l c = all_of_size rows s l c (s == rows.sweeps)
-
--- what a cell that changed places with a pair of rows has of it is enough to place the pair in others
-pub placed_left : (to rows : RowsValue) (s l : ℕ) (c : CellValue) → to.sweeps ≡ rows.sweeps
-    → placed to s l (left_by rows s l c) ≡ placed to s l (pair_in rows s l)
-placed_left to rows s l c same =
-    let test : (s == to.sweeps) ≡ (s == rows.sweeps) = ap (λ n. s == n) same in
-    ap (all_of to s l (left_by rows s l c)) test
-    ∙ by (s == rows.sweeps)
-    ∙ sym (ap (all_of to s l (pair_in rows s l)) test)
-  where
-    by : (b : Bool)
-        → all_of to s l (if b then pair_in rows s l else record c { out = out_at rows s l }) b
-        ≡ all_of to s l (pair_in rows s l) b
-    by true = refl
-    by false = refl
 
 module _ (rows : RowsValue) (kept : AreRows rows) (s l : ℕ) (c : CellValue) (swept : s ≤ rows.sweeps)
     (inside : l < length rows.figures) (long : HasSteps rows.step_count c) where
@@ -92,55 +73,3 @@ module _ (rows : RowsValue) (kept : AreRows rows) (s l : ℕ) (c : CellValue) (s
             out = out j;
             figures = (shown_at rows k).figures;
           })
-
--- figures that are written don't move what leaves
-pub figures_out : (rows : RowsValue) (l : ℕ) (f : Figures) (t k : ℕ)
-    → out_at (with_figures rows l f) t k ≡ out_at rows t k
-figures_out rows l f t k = ap (λ n. row rows.step_count rows.outs (t * n + k)) (length-set rows.figures l f)
-
--- with other figures the rows have the same size
-pub figures_size : (rows : RowsValue) (l : ℕ) (f : Figures) → SameSize (with_figures rows l f) rows
-figures_size rows l f = record { step_count = refl; sweeps = refl; link_count = length-set rows.figures l f }
-
--- they are those of their link
-pub figures_here : (rows : RowsValue) (l : ℕ) (f : Figures) → l < length rows.figures
-    → shown_at (with_figures rows l f) l ≡ record (shown_at rows l) { figures = f }
-figures_here rows l f inside =
-    let out = figures_out rows l f rows.sweeps l in
-    let here = get_or-set_at rows.figures l l f no_figures refl inside in
-    (λ j. record {
-      arrivals = (shown_at rows l).arrivals;
-      go = (shown_at rows l).go;
-      queue = (shown_at rows l).queue;
-      out = out j;
-      figures = here j;
-    })
-
--- figures of one link leave the last sweep of each other
-pub figures_elsewhere : (rows : RowsValue) (l : ℕ) (f : Figures) (k : ℕ) → k ≢ l
-    → shown_at (with_figures rows l f) k ≡ shown_at rows k
-figures_elsewhere rows l f k other =
-    let out = figures_out rows l f rows.sweeps k in
-    let there = get_or-set_other rows.figures l k f no_figures other in
-    (λ j. record {
-      arrivals = (shown_at rows k).arrivals;
-      go = (shown_at rows k).go;
-      queue = (shown_at rows k).queue;
-      out = out j;
-      figures = there j;
-    })
-
--- what leaves is written, and what is shown elsewhere stays
-pub shown_with_out : (rows : RowsValue) → AreRows rows → (s l : ℕ) (x : List ℕ) → s ≤ rows.sweeps
-    → l < length rows.figures
-    → length x ≡ rows.step_count → (k : ℕ) → k < length rows.figures → (s ≡ rows.sweeps → k ≡ l → ⊥)
-    → shown_at (with_out rows s l x) k ≡ shown_at rows k
-shown_with_out rows kept s l x swept inside long k there apart =
-    let out = out_elsewhere rows kept s l x swept inside long rows.sweeps k there (λ e f. apart (sym e) f) in
-    (λ j. record {
-      arrivals = (shown_at rows k).arrivals;
-      go = (shown_at rows k).go;
-      queue = (shown_at rows k).queue;
-      out = out j;
-      figures = (shown_at rows k).figures;
-    })

@@ -11,12 +11,12 @@ use Rattle.transyt_net.specs.declared.edit.Edit.{Edit}
 use Rattle.transyt_net.specs.Edits.{with_edit}
 use Rattle.transyt_net.specs.Shape.{shape, SameShape}
 use Rattle.transyt_sweep.specs.Cell.{CellValue}
-use Rattle.transyt_sweep.specs.Rows.{RowsValue, Fits, SameSize, out_at, shown_at}
+use Rattle.transyt_sweep.specs.Rows.{RowsValue, Fits, SameSize, out_at}
 use Rattle.transyt_sweep.specs.Front.{AreEvaluation}
 use Rattle.transyt_track.specs.Own.{PlacesValue, ArePlaces, LinksStay, all_places}
 use Rattle.transyt_track.specs.Readers.{AreReaders}
-use Rattle.transyt_track.specs.Front.{unweighed}
-use Rattle.transyt_track.specs.Saved.{SavedValue, is_saved, begun, settled, Carries, SaveAlike}
+use Rattle.transyt_saved.specs.Saved.{SavedValue, is_out_saved, is_come_saved, is_go_saved, begun, settled, part_by}
+use Rattle.transyt_saved.specs.Saved.{unweighed, Carries, SaveAlike}
 use Rattle.transyt_track.specs.Tracker.{mark_of, IsTracking}
 use Rattle.transyt_track.proofs.ShapeLaws.{shape_frame, shape_count, shape_table, shape_readers}
 use Rattle.transyt_track.proofs.PlaceLaws.{all_places_are}
@@ -69,8 +69,14 @@ no_flag n p = by (cases_lt p n)
     by (inr past) = get_or-eq_default (replicate n false) false (omega (arith, length-replicate n false))
 
 -- nothing is saved when a mark is set
-none_saved : (saved : SavedValue) (t k : ℕ) → is_saved (begun saved) t k ≡ false
-none_saved saved t k = no_flag (length saved.flags) (t * saved.link_count + k)
+no_out : (saved : SavedValue) (t k : ℕ) → is_out_saved (begun saved) t k ≡ false
+no_out saved t k = no_flag (length saved.out_flags) (t * saved.link_count + k)
+
+no_come : (saved : SavedValue) (k : ℕ) → is_come_saved (begun saved) k ≡ false
+no_come saved k = no_flag (length saved.come_flags) k
+
+no_go : (saved : SavedValue) (k : ℕ) → is_go_saved (begun saved) k ≡ false
+no_go saved k = no_flag (length saved.go_flags) k
 
 -- a new tracker
 pub opened_tracks : (net marked : Network) (rows : RowsValue) (saved : SavedValue) (places : List PlacesValue)
@@ -135,10 +141,16 @@ module _ (net marked : Network) (rows : RowsValue) (saved : SavedValue) (places 
     fits = record { size = tracking.fits.size; links = tracking.fits.links };
     back = record {
       outs = λ live t k within there.
-          ap (λ b. if b then out_at saved.rows t k else out_at rows t k) (none_saved saved t k)
+          ap (λ b. if b then out_at saved.rows t k else out_at rows t k) (no_out saved t k)
           ∙ tracking.evaluation.outs t k within there;
       shown = λ live k there.
-          ap (λ b. unweighed (if b then shown_at saved.rows k else shown_at rows k)) (none_saved saved rows.sweeps k)
+          (λ j. unweighed (record {
+            arrivals = part_by (no_come saved k j) (λ c. c.arrivals) (begun saved) rows k;
+            go = part_by (no_go saved k j) (λ c. c.go) (begun saved) rows k;
+            queue = part_by (no_come saved k j) (λ c. c.queue) (begun saved) rows k;
+            out = if no_out saved rows.sweeps k j then out_at saved.rows rows.sweeps k else out_at rows rows.sweeps k;
+            figures = part_by (no_come saved k j) (λ c. c.figures) (begun saved) rows k;
+          }))
           ∙ ap unweighed (tracking.evaluation.shown k there);
     };
     table = tracking.table;

@@ -11,10 +11,11 @@ use Rattle.transyt_sweep.specs.Rows.{shown_at}
 use Rattle.transyt_sweep.specs.Sweeps.{seen, out_of, evaluated}
 use Rattle.transyt_sweep.specs.WorkedLinks.{new_figures}
 use Rattle.transyt_sweep.proofs.WorkedFigures.{figures_by_root}
-use Rattle.transyt_track.specs.Front.{unweighed}
-use Rattle.transyt_track.specs.Saved.{LeadBack, AreUnsaved, is_saved, old_out, old_shown}
+use Rattle.transyt_saved.specs.Saved.{is_shown_saved, unweighed, old_out, old_shown}
+use Rattle.transyt_track.specs.Saved.{LeadBack, AreUnsaved}
 use Rattle.transyt_track.specs.WorkedFacts.{two_green, cell_360, cell_720, cell_1080, rows_720, rows_1080}
-use Rattle.transyt_track.specs.WorkedFacts.{green_saved, green_less, green_later, other_come}
+use Rattle.transyt_track.specs.WorkedFacts.{green_saved, green_less, green_later, green_more, second_come, second_go}
+use Rattle.transyt_track.specs.WorkedFacts.{other_come, other_first, rows_weighed}
 
 -- the terms of a green link to which so much comes in a cycle
 abbrev green_terms : ℕ → Terms
@@ -96,19 +97,70 @@ no_back_out leads =
     let one : 9000000 ≡ 6000000 = ap (λ xs. slice_index xs 0) (leads.outs refl 0 1 (lit≤ tt) (lit< tt)) in
     absurd (omega (arith, one))
 
--- of the second link all is saved
-unsaved_shown : (other : ℕ) → 0 ≤ other → other < 2 → is_saved green_saved 1 other ≡ false
-    → shown_at rows_720 other ≡ evaluated (two_green 1080) other
-unsaved_shown zero from below not_saved = sym (is_360 1080)
-unsaved_shown (suc zero) from below not_saved = absurd (true≢false not_saved)
-unsaved_shown (suc (suc k)) from below not_saved = absurd (omega (arith, below))
+-- what came to it is not what comes to it now
+pub no_back_come : LeadBack (two_green 720) rows_1080 green_less → ⊥
+no_back_come leads =
+    let it : unweighed (old_shown green_less rows_1080 1) ≡ unweighed (evaluated (two_green 720) 1) =
+    leads.shown refl 1 (lit< tt) in
+    let same : unweighed (old_shown green_less rows_1080 1) ≡ unweighed cell_720 = it ∙ ap unweighed is_720 in
+    let one : 9000000 ≡ 6000000 = ap (λ (cell : CellValue). slice_index cell.arrivals 0) same in
+    absurd (omega (arith, one))
 
-pub unsaved : AreUnsaved (two_green 1080) green_saved 0 rows_720
-unsaved = record { shown = unsaved_shown }
+-- what could go of it is not what stands where none is saved
+pub no_back_go : LeadBack (two_green 720) rows_1080 green_more → ⊥
+no_back_go leads =
+    let it : unweighed (old_shown green_more rows_1080 1) ≡ unweighed (evaluated (two_green 720) 1) =
+    leads.shown refl 1 (lit< tt) in
+    let same : unweighed (old_shown green_more rows_1080 1) ≡ unweighed cell_720 = it ∙ ap unweighed is_720 in
+    let one : 7 ≡ 15000000 = ap (λ (cell : CellValue). slice_index cell.go 0) same in
+    absurd (omega (arith, one))
 
--- and the second isn't that of the other network
+-- the first link is as it was in both networks
+figures_first : (shown_at rows_720 0).figures ≡ (evaluated (two_green 1080) 0).figures
+figures_first = sym (figures_360 1080)
+
+-- of the second link what comes is saved
+by_come : (other : ℕ) → 0 ≤ other → other < 2 → is_shown_saved second_come other ≡ false
+    → (shown_at rows_720 other).figures ≡ (evaluated (two_green 1080) other).figures
+by_come zero from below not_saved = figures_first
+by_come (suc zero) from below not_saved = absurd (true≢false not_saved)
+by_come (suc (suc k)) from below not_saved = absurd (omega (arith, below))
+
+pub unsaved_come : AreUnsaved (two_green 1080) second_come 0 rows_720
+unsaved_come = record { figures = by_come }
+
+-- or what can go
+by_go : (other : ℕ) → 0 ≤ other → other < 2 → is_shown_saved second_go other ≡ false
+    → (shown_at rows_720 other).figures ≡ (evaluated (two_green 1080) other).figures
+by_go zero from below not_saved = figures_first
+by_go (suc zero) from below not_saved = absurd (true≢false not_saved)
+by_go (suc (suc k)) from below not_saved = absurd (omega (arith, below))
+
+pub unsaved_go : AreUnsaved (two_green 1080) second_go 0 rows_720
+unsaved_go = record { figures = by_go }
+
+-- only figures are told of
+by_figures : (other : ℕ) → 0 ≤ other → other < 2 → is_shown_saved second_come other ≡ false
+    → (shown_at (other_first rows_720) other).figures ≡ (evaluated (two_green 1080) other).figures
+by_figures zero from below not_saved = figures_first
+by_figures (suc zero) from below not_saved = absurd (true≢false not_saved)
+by_figures (suc (suc k)) from below not_saved = absurd (omega (arith, below))
+
+pub unsaved_figures : AreUnsaved (two_green 1080) second_come 0 (other_first rows_720)
+unsaved_figures = record { figures = by_figures }
+
+-- the second link hasn't the figures of the other network
 pub no_unsaved : AreUnsaved (two_green 1080) green_less 1 rows_720 → ⊥
 no_unsaved are =
-    let same : shown_at rows_720 1 ≡ cell_1080 = are.shown 1 (lit≤ tt) (lit< tt) refl ∙ is_1080 in
-    let one : 6000000 ≡ 9000000 = ap (λ (cell : CellValue). slice_index cell.arrivals 0) same in
+    let same : (shown_at rows_720 1).figures ≡ new_figures 0 748443 0 748443 =
+    are.figures 1 (lit≤ tt) (lit< tt) refl ∙ figures_1080 in
+    let one : 333127 ≡ 748443 = ap (λ (its : Figures). its.random) same in
+    absurd (omega (arith, one))
+
+-- or another index
+pub no_unsaved_index : AreUnsaved (two_green 720) green_less 1 rows_weighed → ⊥
+no_unsaved_index are =
+    let same : (shown_at rows_weighed 1).figures ≡ new_figures 0 333127 0 333127 =
+    are.figures 1 (lit≤ tt) (lit< tt) refl ∙ figures_720 in
+    let one : 15 ≡ 333127 = ap (λ (its : Figures). its.index) same in
     absurd (omega (arith, one))

@@ -9,7 +9,8 @@ use Rattle.transyt_sweep.specs.Rows.{Fits, out_at, shown_at}
 use Rattle.transyt_sweep.specs.Sweeps.{seen, out_of, evaluated}
 use Rattle.transyt_sweep.specs.Front.{is_before}
 use Rattle.transyt_track.specs.Due.{differs}
-use Rattle.transyt_track.specs.Front.{AreAt, AreStarting, AreWeighed, awaits, flag, unweighed}
+use Rattle.transyt_track.specs.Front.{AreAt, AreStarting, AreWeighed, awaits, flag}
+use Rattle.transyt_saved.specs.Saved.{unweighed}
 use Rattle.transyt_track.specs.WorkedFacts.{two_green, cell_360, cell_720, rows_720, rows_front, flags_front}
 use Rattle.transyt_track.specs.WorkedFacts.{flags_first, flags_second, flags_few, flags_many, other_first}
 use Rattle.transyt_track.specs.WorkedFacts.{rows_weighed, other_random, more_sweeps}

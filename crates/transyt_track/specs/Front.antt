@@ -8,6 +8,7 @@ use Rattle.transyt_sweep.specs.Cell.{CellValue}
 use Rattle.transyt_sweep.specs.Sweeps.{out_of, evaluated}
 use Rattle.transyt_sweep.specs.Rows.{RowsValue, out_at, shown_at, with_weights, Fits}
 use Rattle.transyt_sweep.specs.Front.{AreMixed, is_before}
+use Rattle.transyt_saved.specs.Saved.{unweighed}
 use Rattle.transyt_track.specs.Own.{own, same_own, places_at}
 use Rattle.std.specs.List.{list_any}
 use Rattle.transyt_track.specs.Due.{differs, read_differs, is_some_and}
@@ -17,10 +18,6 @@ pub record AreShownMixed (net : Network) (early late : ℕ → CellValue) (sweep
   where
     pub shown : (other : ℕ) → other < length net.links
         → shown_at rows other ≡ (if is_before net.frame.sweeps other sweep link then early other else late other)
-
--- all of a link but its index
-abbrev pub unweighed : CellValue → CellValue
-unweighed cell = record cell { figures = record cell.figures { index = 0 } }
 
 -- whether the flag of a link is up
 abbrev pub flag : List Bool → ℕ → Bool

@@ -7,7 +7,8 @@ use Rattle.transyt_sweep.specs.Rows.{RowsValue}
 use Rattle.transyt_sweep.specs.Front.{AreEvaluation}
 use Rattle.transyt_track.specs.Own.{PlacesValue, ArePlaces}
 use Rattle.transyt_track.specs.Readers.{AreReaders}
-use Rattle.transyt_track.specs.Saved.{SavedValue, FitsRows, LeadBack}
+use Rattle.transyt_saved.specs.Saved.{SavedValue, FitsRows}
+use Rattle.transyt_track.specs.Saved.{LeadBack}
 
 -- a tracker: the network that it stands for, and the one that its open mark stands for, or none
 pub record TrackerValue : Type 0 where

@@ -4,21 +4,23 @@ ghost use Rattle.std.specs.Prelude.{◌≡◌, ◌+◌, ◌<◌, ◌≤◌, ◌|
 ghost use Rattle.std.specs.Prelude.{IfSome};
 ghost use Rattle.std.specs.Str.{bytes_eq};
 ghost use Rattle.std.specs.List.{list_any};
+ghost use Rattle.std.specs.Option.{is_some};
+ghost use Rattle.transyt_net.specs.Parts.{link_of};
 ghost use Rattle.transyt_net.specs.Shape.{SameShape};
 ghost use Rattle.transyt_sweep.specs.Front.{AreEvaluation};
 ghost use Rattle.transyt_track.specs.Own.{ArePlaces, DifferAt, LinksStay};
 ghost use Rattle.transyt_track.specs.Readers.{AreReaders};
 ghost use Rattle.transyt_track.specs.Due.{is_due, due_at, due};
 ghost use Rattle.transyt_track.specs.Front.{flag, AreFlags, own_differs, AreAt};
-ghost use Rattle.transyt_track.specs.Saved.{FitsRows, Carries};
+ghost use Rattle.transyt_saved.specs.Saved.{FitsRows, Carries};
 
 use crate::own::Places;
 use crate::readers::Readers;
 use crate::replacing::{leave, place};
-use crate::saved::Saved;
 use crate::starting::set_out;
 use std::sync::ledger::Ledger;
 use transyt_net::Net;
+use transyt_saved::Saved;
 use transyt_steps::Steps;
 use transyt_sweep::{Rows, Scratch, cell};
 
@@ -59,6 +61,16 @@ fn pass_on(
     }
 }
 
+/// Whether what can go of a link may differ: its own data do, or it gives way to another link.
+fn go_may_differ(net: &Net, own_changed: &[bool], link: usize) -> bool
+    requires link { link < length net.now.links }
+    requires count { length own_changed.now ≡ length net.now.links }
+    ensures { result ≡ (flag own_changed.now link || is_some (link_of net.now link).gives_way) }
+{
+    let at = net.link(link);
+    own_changed[link] || at.gives_way.is_some()
+}
+
 /// The link at the front is due: it is worked out.
 fn work_out<L: Ledger>(
     before: &Net,
@@ -91,7 +103,10 @@ fn work_out<L: Ledger>(
     cell(after, link, sweep, rows, scratch, steps);
     let differs = differ(rows.out(sweep, link), scratch.out());
     pass_on(link, differs, &readers[link], own_changed, awaited);
-    place(sweep, link, rows, saved, scratch);
+    let go_differs = go_may_differ(after, own_changed, link);
+    place(
+        after, sweep, link, differs, go_differs, rows, saved, scratch,
+    );
 }
 
 /// One turn: the link at the front is worked out if its flag is up, and else left. Returns how many links were worked

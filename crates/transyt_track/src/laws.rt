@@ -7,39 +7,33 @@ ghost use Rattle.transyt_net.specs.Parts.{Network, node_of, link_of};
 ghost use Rattle.transyt_sweep.specs.Front.{AreMixed};
 ghost use Rattle.transyt_sweep.specs.Rows.{out_at, shown_at};
 ghost use Rattle.transyt_sweep.specs.Sweeps.{out_of};
+ghost use Rattle.transyt_saved.specs.Saved.{settled};
+ghost use Rattle.transyt_saved.specs.WorkedSaved.{rows_before, rows_now};
 ghost use Rattle.transyt_track.specs.Due.{differs, due, is_due};
-ghost use Rattle.transyt_track.specs.Front.{AreDownWhere};
-ghost use Rattle.transyt_track.specs.Front.{AreAt, AreBetween, AreFlags, AreShownMixed, AreStarting, AreWeighed};
-ghost use Rattle.transyt_track.specs.Front.{awaits, flag, flag_from, had_turn, left_at, own_differs, total_differs};
-ghost use Rattle.transyt_track.specs.Front.{unweighed};
-ghost use Rattle.transyt_track.specs.Own.{DifferAt, HaveData, HaveNode, LinksStay, SameNumbers, SameTimes};
-ghost use Rattle.transyt_track.specs.Own.{ArePlaces, HaveWeights, Own, all_places, own, same_own};
+ghost use Rattle.transyt_track.specs.Front.{AreAt, AreBetween, AreDownWhere, AreFlags, AreShownMixed, AreStarting};
+ghost use Rattle.transyt_track.specs.Front.{AreWeighed, awaits, flag, flag_from, had_turn, left_at, own_differs};
+ghost use Rattle.transyt_track.specs.Front.{total_differs};
+ghost use Rattle.transyt_track.specs.Own.{ArePlaces, DifferAt, HaveData, HaveNode, HaveWeights, LinksStay, Own};
+ghost use Rattle.transyt_track.specs.Own.{SameNumbers, SameTimes, all_places, own, same_own};
 ghost use Rattle.transyt_track.specs.Readers.{AreReaders, reads};
-ghost use Rattle.transyt_track.specs.Saved.{AreAhead, AreSaved, AreUnsaved, Carries, FitsRows, LeadBack, SaveAlike};
-ghost use Rattle.transyt_track.specs.Saved.{begun, is_saved, kept_at, old_out, old_shown, restored_at, returned_at};
-ghost use Rattle.transyt_track.specs.Saved.{saved_at, settled};
+ghost use Rattle.transyt_track.specs.Saved.{AreUnsaved, LeadBack};
 ghost use Rattle.transyt_track.specs.Tracker.{IsTracking, mark_of, tracker_of, unmarked};
 ghost use Rattle.transyt_track.specs.Work.{cert_work, edit_work, work_of};
-ghost use Rattle.transyt_track.specs.WorkedFacts.{ahead, another, another_unweighed, begun_two, carried, cell_360};
-ghost use Rattle.transyt_track.specs.WorkedFacts.{closed_two, differing, first_between, first_placed, flags_few};
-ghost use Rattle.transyt_track.specs.WorkedFacts.{flags_first, flags_front, flags_many, flags_second, green_later};
-ghost use Rattle.transyt_track.specs.WorkedFacts.{green_less, green_places, green_readers, green_saved, green_unfit};
-ghost use Rattle.transyt_track.specs.WorkedFacts.{kept_pairs, long_scratch, marked_green, more_sweeps, one_green};
-ghost use Rattle.transyt_track.specs.WorkedFacts.{other_arrivals, other_come, other_first, other_flags, other_go, other_out};
-ghost use Rattle.transyt_track.specs.WorkedFacts.{other_places, other_random, other_saved, other_weights, out_behind};
-ghost use Rattle.transyt_track.specs.WorkedFacts.{out_between, outs_before, own_three, places_three, rows_1080};
-ghost use Rattle.transyt_track.specs.WorkedFacts.{rows_720, rows_before, rows_between, rows_front, rows_left};
-ghost use Rattle.transyt_track.specs.WorkedFacts.{rows_now, rows_restored, rows_saved, rows_weighed, saved_pairs};
-ghost use Rattle.transyt_track.specs.WorkedFacts.{saved_parts, saved_returned, saved_two, second_between};
-ghost use Rattle.transyt_track.specs.WorkedFacts.{shown_before, shown_behind, two_green, two_links, uncarried_closed};
-ghost use Rattle.transyt_track.specs.WorkedFacts.{unfit_rows, unlike_two, unmarked_green, unsaved_parts};
-ghost use Rattle.transyt_track.specs.WorkedFacts.{weights_of_second, wrong_places, wrong_readers};
+ghost use Rattle.transyt_track.specs.WorkedFacts.{cell_360, differing, first_between, flags_few, flags_first};
+ghost use Rattle.transyt_track.specs.WorkedFacts.{flags_front, flags_many, flags_second, green_later, green_less};
+ghost use Rattle.transyt_track.specs.WorkedFacts.{green_more, green_places, green_readers, green_saved, green_unfit};
+ghost use Rattle.transyt_track.specs.WorkedFacts.{long_scratch, marked_green, more_sweeps, one_green, other_come};
+ghost use Rattle.transyt_track.specs.WorkedFacts.{other_first, other_flags, other_places, other_random, other_weights};
+ghost use Rattle.transyt_track.specs.WorkedFacts.{out_between, own_three, places_three, rows_1080, rows_720, rows_between};
+ghost use Rattle.transyt_track.specs.WorkedFacts.{rows_front, rows_left, rows_weighed, second_between, second_come};
+ghost use Rattle.transyt_track.specs.WorkedFacts.{second_go, two_green, two_links, unmarked_green, weights_of_second};
+ghost use Rattle.transyt_track.specs.WorkedFacts.{wrong_places, wrong_readers};
 ghost use Rattle.transyt_track.specs.WorkedSame.{numbered_link, other_after, other_numbers, other_times, same_after};
 ghost use Rattle.transyt_track.specs.WorkedSame.{second_down, second_not_down, timed};
 ghost use Rattle.transyt_track.specs.WorkedReaders.{awaiting_loop, awaiting_offset, first_altered, flags_from};
 ghost use Rattle.transyt_track.specs.WorkedReaders.{had_turns, not_altered, other_readers, read_places, readers_three};
-ghost use Rattle.transyt_track.specs.WorkedWork.{due_of_three, fed_by_two, junctions, loop_of_three};
-ghost use Rattle.transyt_track.specs.WorkedWork.{worked_edits, worked_looks};
+ghost use Rattle.transyt_track.specs.WorkedWork.{due_of_three, fed_by_two, junctions, loop_of_three, worked_edits};
+ghost use Rattle.transyt_track.specs.WorkedWork.{worked_looks};
 
 /// The tests by which pairs are counted: own data pass exactly where they are equal, and departures differ unless they
 /// are equal.
@@ -62,27 +56,8 @@ pub fn worked_work()
     ensures loop_work { due (loop_of_three 360) (loop_of_three 3420) ≡ 7 }
 {}
 
-/// The worked saved rows become what is written beside the definitions, and give it back: only while a mark is open is a
-/// row saved, and the first that is saved stays.
-pub fn worked_saved()
-    ensures saved { map (λ row. is_saved saved_two row.0 row.1) saved_pairs ≡ map (λ row. row.2) saved_pairs }
-    ensures kept { map (λ row. kept_at saved_two row.0 row.1 another) kept_pairs ≡ map (λ row. row.2) kept_pairs }
-    ensures none_kept { map (λ row. kept_at closed_two row.0 row.1 another) kept_pairs
-        ≡ map (λ row. closed_two) kept_pairs }
-    ensures rows { map (λ row. saved_at saved_two rows_now row.0 row.1) rows_saved ≡ map (λ row. row.2) rows_saved }
-    ensures outs { map (λ row. old_out saved_two rows_now row.0 row.1) outs_before ≡ map (λ row. row.2) outs_before }
-    ensures shown { map (old_shown saved_two rows_now) (0 ∷ 1 ∷ []) ≡ shown_before }
-    ensures restored { map (λ row. restored_at saved_two row.0 row.1 rows_now) rows_restored
-        ≡ map (λ row. row.2) rows_restored }
-    ensures returned { map (λ row. returned_at saved_two row.0 row.1 rows_now) saved_returned
-        ≡ map (λ row. row.2) saved_returned }
-    ensures begun { begun closed_two ≡ begun_two }
-    ensures settled { settled saved_two ≡ closed_two }
-    ensures unweighed { unweighed another ≡ another_unweighed }
-    ensures flags { map (flag (true ∷ false ∷ true ∷ [])) (0 ∷ 1 ∷ 2 ∷ 3 ∷ []) ≡ true ∷ false ∷ true ∷ false ∷ [] }
-{}
-
-/// So do the own data of links, where they stand, what differs of them after edits, and rows that are left at a sweep.
+/// The own data of links, where they stand, what differs of them after edits, and rows that are left at a sweep are what
+/// is written beside the definitions.
 pub fn worked_own()
     ensures own { map (own junctions) (0 ∷ 1 ∷ 2 ∷ []) ≡ own_three }
     ensures places { all_places junctions ≡ places_three }
@@ -94,21 +69,9 @@ pub fn worked_own()
     ensures left_before { left_at junctions 1 1 rows_now ≡ rows_now }
 {}
 
-/// The worked saved rows keep to what is said of them, and those with one thing wrong don't.
-pub fn worked_facts()
-    ensures fit { FitsRows rows_now saved_two }
-    ensures unfit { All (λ row. FitsRows row.0 row.1 → ⊥) unfit_rows }
-    ensures alike { SaveAlike saved_two saved_two }
-    ensures unlike { All (λ saved. SaveAlike saved saved_two → ⊥) unlike_two }
-    ensures parts { All (λ row. AreSaved row.0 row.1 row.2) saved_parts }
-    ensures no_parts { All (λ row. AreSaved row.0 row.1 row.2 → ⊥) unsaved_parts }
-    ensures weights { HaveWeights (weights_of_second 3 4) (weights_of_second 3 4) 1 }
-    ensures other_weights { All (λ row. HaveWeights (weights_of_second 3 4) (weights_of_second row.0 row.1) 1 → ⊥)
-        other_weights }
-{}
-
-/// So do flags.
+/// The worked flags are what is said of them, and those with one thing wrong aren't.
 pub fn worked_flags()
+    ensures flag { map (flag (true ∷ false ∷ true ∷ [])) (0 ∷ 1 ∷ 2 ∷ 3 ∷ []) ≡ true ∷ false ∷ true ∷ false ∷ [] }
     ensures flags { AreFlags (nat_eq 1) 3 (false ∷ true ∷ false ∷ []) }
     ensures other_flags { All (λ flags. AreFlags (nat_eq 1) 3 flags → ⊥) other_flags }
 {}
@@ -119,6 +82,9 @@ pub fn worked_same()
     ensures other_times { All (λ row. SameTimes (node_of junctions 0) (timed row.0 row.1 row.2) → ⊥) other_times }
     ensures numbers { SameNumbers (link_of junctions 1) (numbered_link 97 1619 311 23) }
     ensures other_numbers { All (λ link. SameNumbers (link_of junctions 1) link → ⊥) other_numbers }
+    ensures weights { HaveWeights (weights_of_second 3 4) (weights_of_second 3 4) 1 }
+    ensures other_weights { All (λ row. HaveWeights (weights_of_second 3 4) (weights_of_second row.0 row.1) 1 → ⊥)
+        other_weights }
     ensures node { HaveNode junctions (with_edit junctions (Offset 21 9)) 1 }
     ensures other_node { HaveNode junctions (with_edit junctions (Offset 21 9)) 0 → ⊥ }
     ensures own { All (λ row. HaveData junctions (with_edit junctions row.0) row.1) same_after }
@@ -130,27 +96,8 @@ pub fn worked_same()
     ensures not_down { All (λ flags. AreDownWhere (λ place. place ≡ 1) 3 flags → ⊥) second_not_down }
 {}
 
-/// What the worked rows and saved rows lead back to stays in these, and not in those with one thing changed; with no mark
-/// there is nothing to lead back to.
-pub fn worked_carries()
-    ensures carried { All (λ row. Carries rows_now saved_two row.0 row.1) carried }
-    ensures uncarried_out { Carries rows_now saved_two other_out saved_two → ⊥ }
-    ensures uncarried_saved { Carries rows_now saved_two rows_now other_saved → ⊥ }
-    ensures uncarried_arrivals { Carries rows_now saved_two other_arrivals saved_two → ⊥ }
-    ensures uncarried_go { Carries rows_now saved_two rows_now other_go → ⊥ }
-    ensures closed { Carries rows_now closed_two rows_before (settled begun_two) }
-    ensures uncarried_closed { All (λ row. Carries rows_now closed_two row.0 row.1 → ⊥) uncarried_closed }
-{}
-
-/// Saved rows are the worked ones from a link at a sweep on, rows are of one kind before it and of another from it on,
-/// and those with one thing wrong aren't.
+/// Rows are of one kind before a link at a sweep and of another from it on, and those with one thing wrong aren't.
 pub fn worked_fronts()
-    ensures ahead { All (AreAhead two_links saved_two 1 1) ahead }
-    ensures not_ahead { AreAhead two_links saved_two 1 1 closed_two → ⊥ }
-    ensures not_ahead_out { AreAhead two_links saved_two 1 1 out_behind → ⊥ }
-    ensures not_ahead_shown { AreAhead two_links saved_two 1 1 shown_behind → ⊥ }
-    ensures ahead_at_last { AreAhead two_links saved_two 2 1 first_placed }
-    ensures not_ahead_at_last { AreAhead two_links saved_two 2 0 first_placed → ⊥ }
     ensures mixed { AreShownMixed two_links (shown_at rows_before) (shown_at rows_now) 2 1 rows_between }
     ensures not_mixed { AreShownMixed two_links (shown_at rows_before) (shown_at rows_now) 2 0 rows_between → ⊥ }
     ensures between_outs { AreMixed two_links (out_at rows_before) (out_at rows_now) 2 1 rows_between }
@@ -180,16 +127,22 @@ pub fn worked_marks()
 {}
 
 /// The saved rows of two links that are always green, and the rows where there are none, lead back to the network that
-/// was marked, and don't where a row is missing or wrong; with no mark there is nothing to lead back to.
-#[tactic(auto, using(crate::proofs::WorkedBack::back, crate::proofs::WorkedBack::no_back_shown, crate::proofs::WorkedBack::no_back_out, crate::proofs::WorkedBack::unsaved, crate::proofs::WorkedBack::no_unsaved))]
+/// was marked, and don't where a row is missing or wrong; with no mark there is nothing to lead back to. Links of which
+/// nothing is saved have the figures of a network, and not others.
+#[tactic(auto, using(crate::proofs::WorkedBack::back, crate::proofs::WorkedBack::no_back_shown, crate::proofs::WorkedBack::no_back_out, crate::proofs::WorkedBack::no_back_come, crate::proofs::WorkedBack::no_back_go, crate::proofs::WorkedBack::unsaved_come, crate::proofs::WorkedBack::unsaved_go, crate::proofs::WorkedBack::unsaved_figures, crate::proofs::WorkedBack::no_unsaved, crate::proofs::WorkedBack::no_unsaved_index))]
 pub fn worked_back()
     ensures back { LeadBack (two_green 720) rows_1080 green_saved }
     ensures back_closed { LeadBack (two_green 720) rows_1080 (settled green_less) }
     ensures no_back_shown { LeadBack (two_green 720) other_come green_saved → ⊥ }
     ensures no_back_out { LeadBack (two_green 720) rows_1080 green_later → ⊥ }
-    ensures unsaved { AreUnsaved (two_green 1080) green_saved 0 rows_720 }
+    ensures no_back_come { LeadBack (two_green 720) rows_1080 green_less → ⊥ }
+    ensures no_back_go { LeadBack (two_green 720) rows_1080 green_more → ⊥ }
+    ensures unsaved_come { AreUnsaved (two_green 1080) second_come 0 rows_720 }
+    ensures unsaved_go { AreUnsaved (two_green 1080) second_go 0 rows_720 }
+    ensures unsaved_figures { AreUnsaved (two_green 1080) second_come 0 (other_first rows_720) }
     ensures unsaved_from { AreUnsaved (two_green 1080) green_less 2 rows_720 }
     ensures no_unsaved { AreUnsaved (two_green 1080) green_less 1 rows_720 → ⊥ }
+    ensures no_unsaved_index { AreUnsaved (two_green 720) green_less 1 rows_weighed → ⊥ }
 {}
 
 /// The rows of the two links while they go over from one entry flow to another, and the flags, keep to what is said of

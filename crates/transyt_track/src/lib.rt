@@ -8,7 +8,7 @@
 //! law of the front is `AreAt` of `specs/Front`, that of the saved rows `LeadBack` of `specs/Saved`.
 //!
 //! All memory is taken by `Tracker::open` and `Tracker::twin`: beside its two networks a tracker takes at most
-//! `MOST_BYTES`, 24.9 million bytes. That a plan is evaluated again after each change is from LR 253; which pairs are
+//! `MOST_BYTES`, 20.2 million bytes. That a plan is evaluated again after each change is from LR 253; which pairs are
 //! worked out again, marks and saved rows are this project's own.
 #![tactic(auto)]
 
@@ -18,16 +18,17 @@ mod laws;
 mod own;
 mod readers;
 mod replacing;
-mod saved;
+mod returning;
+mod room;
 mod size;
 mod starting;
 mod tracker;
 
 pub use found::Found;
 pub use laws::{
-    rule_of_due, worked_awaiting, worked_back, worked_carries, worked_facts, worked_flags,
-    worked_fronts, worked_going, worked_marks, worked_own, worked_places, worked_readers,
-    worked_same, worked_saved, worked_starts, worked_tracking, worked_weighed, worked_work,
+    rule_of_due, worked_awaiting, worked_back, worked_flags, worked_fronts, worked_going,
+    worked_marks, worked_own, worked_places, worked_readers, worked_same, worked_starts,
+    worked_tracking, worked_weighed, worked_work,
 };
 pub use size::MOST_BYTES;
 pub use tracker::Tracker;

@@ -1,51 +1,94 @@
 //! The writes of rows. Each saves the row that it writes over, so what the saved rows lead back to stays.
 
-ghost use Rattle.std.specs.Prelude.{◌≡◌, ◌<◌, ◌≤◌, length};
+ghost use Rattle.std.specs.Prelude.{◌≡◌, ◌<◌, ◌≤◌, false, length};
 ghost use Rattle.transyt_net.specs.Shape.{SameShape};
 ghost use Rattle.transyt_sweep.specs.Cell.{HasSteps};
-ghost use Rattle.transyt_sweep.specs.Rows.{Fits, AreRows, shown_at, placed, with_out};
-ghost use Rattle.transyt_sweep.specs.Sweeps.{start, evaluated};
+ghost use Rattle.transyt_sweep.specs.Rows.{Fits, AreRows, out_at, shown_at, placed, with_out, with_rest};
+ghost use Rattle.transyt_sweep.specs.Sweeps.{evaluated};
+ghost use Rattle.transyt_saved.specs.Saved.{FitsRows, Carries};
 ghost use Rattle.transyt_track.specs.Front.{left_at};
 ghost use Rattle.transyt_track.specs.Own.{LinksStay};
-ghost use Rattle.transyt_track.specs.Saved.{FitsRows, Carries};
 
 use crate::own::same_weights;
-use crate::saved::Saved;
 use transyt_net::Net;
+use transyt_saved::Saved;
 use transyt_sweep::{Rows, Scratch};
 
-/// A link at a sweep becomes what was worked out, and what stood there goes to the saved rows. Nothing is copied.
-pub(crate) fn place(
+/// What leaves a link at a sweep becomes what was worked out, where it differs.
+fn place_out(
     sweep: u32,
     link: usize,
+    differs: bool,
+    rows: &mut Rows,
+    saved: &mut Saved,
+    scratch: &Scratch,
+)
+    requires fits { FitsRows rows.old saved.old }
+    requires sweep { sweep ≤ rows.old.sweeps }
+    requires link { link < length rows.old.figures }
+    requires steps { HasSteps rows.old.step_count scratch.now }
+    requires same { differs ≡ false → out_at rows.old sweep link ≡ scratch.now.out }
+    ensures value { rows.new ≡ with_out rows.old sweep link scratch.now.out }
+    ensures carries { Carries rows.old saved.old rows.new saved.new }
+{
+    if differs {
+        saved.take_out(sweep, link, scratch, rows);
+    }
+}
+
+/// The rest of a link at the last sweep becomes what was worked out: what comes, its queue and its figures, and what can
+/// go where it may differ.
+fn place_shown(
+    link: usize,
+    may_differ: bool,
     rows: &mut Rows,
     saved: &mut Saved,
     scratch: &mut Scratch,
 )
     requires fits { FitsRows rows.old saved.old }
-    requires sweep { sweep ≤ rows.old.sweeps }
     requires link { link < length rows.old.figures }
     requires steps { HasSteps rows.old.step_count scratch.old }
+    requires same { may_differ ≡ false → (shown_at rows.old link).go ≡ scratch.old.go }
+    ensures value { rows.new ≡ with_rest rows.old link scratch.old }
+    ensures carries { Carries rows.old saved.old rows.new saved.new }
+    ensures steps { length scratch.new.arrivals ≡ rows.old.step_count }
+{
+    saved.take_come(link, scratch, rows);
+    if may_differ {
+        saved.take_go(link, scratch, rows);
+    }
+}
+
+/// A link at a sweep becomes what was worked out, at the last sweep all of it. `out_differs` tells whether what leaves
+/// differs, `go_differs` whether what can go may.
+pub(crate) fn place(
+    net: &Net,
+    sweep: u32,
+    link: usize,
+    out_differs: bool,
+    go_differs: bool,
+    rows: &mut Rows,
+    saved: &mut Saved,
+    scratch: &mut Scratch,
+)
+    requires fits { Fits net.now rows.old }
+    requires fits_saved { FitsRows rows.old saved.old }
+    requires sweep { sweep ≤ net.now.frame.sweeps }
+    requires link { link < length net.now.links }
+    requires steps { HasSteps rows.old.step_count scratch.old }
+    requires out_same { out_differs ≡ false → out_at rows.old sweep link ≡ scratch.old.out }
+    requires go_same { sweep ≡ net.now.frame.sweeps → go_differs ≡ false
+        → (shown_at rows.old link).go ≡ scratch.old.go }
     ensures value { rows.new ≡ placed rows.old sweep link scratch.old }
     ensures carries { Carries rows.old saved.old rows.new saved.new }
     ensures rows { AreRows rows.old }
     ensures steps { length scratch.new.arrivals ≡ rows.old.step_count }
 {
-    rows.put(sweep, link, scratch);
-    saved.keep(sweep, link, scratch);
-}
-
-/// The departures of a link before the first sweep become those of its total flow.
-pub(crate) fn start(net: &Net, link: usize, rows: &mut Rows, saved: &mut Saved)
-    requires fits { Fits net.now rows.old }
-    requires fits_saved { FitsRows rows.old saved.old }
-    requires link { link < length net.now.links }
-    ensures value { rows.new ≡ with_out rows.old 0 link (start net.now link) }
-    ensures carries { Carries rows.old saved.old rows.new saved.new }
-    ensures rows { AreRows rows.old }
-{
-    saved.save(0, link, rows);
-    rows.start(net, link);
+    rows.index();
+    place_out(sweep, link, out_differs, rows, saved, scratch);
+    if sweep == net.frame().sweeps {
+        place_shown(link, go_differs, rows, saved, scratch);
+    }
 }
 
 /// A link that isn't due is weighed anew at the last sweep; where its weights are equal, its index stays.

@@ -2,9 +2,9 @@
 
 use crate::own::Places;
 use crate::readers::Readers;
-use crate::saved::Saved;
 use std::mem::size_of;
 use transyt_delay::Figures;
+use transyt_saved::Saved;
 use transyt_sweep::{FACTOR_BYTES, Rows, Scratch};
 
 // the limits of a network
@@ -16,14 +16,20 @@ const STEPS: usize = 120;
 
 const SWEEPS: usize = 8;
 
+// pairs of a sweep and a link, from sweep 0 on
+const PAIRS: usize = (SWEEPS + 1) * LINKS;
 // a value for each step
 const PROFILE: usize = STEPS * size_of::<u64>();
 // a profile in memory of its own
 const ROW: usize = PROFILE + size_of::<Vec<u64>>();
-// what leaves each link at each sweep from 0 on, and the arrivals, green, queue and figures of the last
-const ROWS: usize = (SWEEPS + 1) * LINKS * ROW + LINKS * (3 * ROW + size_of::<Figures>());
-// the saved rows, with a flag for each
-const SAVED: usize = ROWS + (SWEEPS + 1) * LINKS * size_of::<bool>();
+// the arrivals, green, queue and figures of each link at the last sweep
+const SHOWN: usize = LINKS * (3 * ROW + size_of::<Figures>());
+// what leaves each link at each sweep, in one piece of memory, and the rest of the last
+const ROWS: usize = PAIRS * PROFILE + SHOWN;
+// the flags of saved rows: one of what leaves for each pair, and of each link one of what comes and one of what can go
+const FLAGS: usize = (PAIRS + 2 * LINKS) * size_of::<bool>();
+// the saved rows, in which what leaves takes half the memory, and their flags
+const SAVED: usize = PAIRS * STEPS * size_of::<u32>() + SHOWN + FLAGS;
 // the places of each link's node, feeders and rule
 const PLACES: usize = LINKS * (size_of::<Places>() + FEEDS * size_of::<usize>());
 // the readers of each link: what links read, nine at most each, in room that doubles as it fills and is four at least
@@ -32,7 +38,7 @@ const READERS: usize = LINKS * (size_of::<Readers>() + (2 * (FEEDS + 1) + 4) * s
 const ROOM: usize = 2 * LINKS * size_of::<bool>() + 13 * PROFILE + LINKS * FACTOR_BYTES;
 
 /// The most bytes that a tracker takes beside its two networks, at the limits of a network: 1,000 links of eight feeds,
-/// 120 steps and eight sweeps. It is below 25 million.
+/// 120 steps and eight sweeps. It is below 20.2 million.
 pub const MOST_BYTES: usize = size_of::<Rows>()
     + size_of::<Saved>()
     + size_of::<Scratch>()
@@ -42,4 +48,4 @@ pub const MOST_BYTES: usize = size_of::<Rows>()
     + READERS
     + ROOM;
 
-const _: () = prove!(MOST_BYTES <= 25_000_000);
+const _: () = prove!(MOST_BYTES <= 20_200_000);

@@ -8,12 +8,11 @@ ghost use Rattle.transyt_track.specs.Own.{ArePlaces, DifferAt, HaveData, HaveNod
 ghost use Rattle.transyt_track.specs.Due.{differs, is_some_and};
 ghost use Rattle.transyt_track.specs.Front.{flag, flag_from, AreFlags, AreDownWhere, own_differs, total_differs, AreAt};
 ghost use Rattle.transyt_track.specs.Front.{awaits, AreStarting};
-ghost use Rattle.transyt_track.specs.Saved.{FitsRows, Carries};
+ghost use Rattle.transyt_saved.specs.Saved.{FitsRows, Carries};
 
 use crate::own::{Places, other_total, same_data, same_times};
-use crate::replacing::start;
-use crate::saved::Saved;
 use transyt_net::Net;
+use transyt_saved::Saved;
 use transyt_sweep::Rows;
 
 /// The most nodes that a network has.
@@ -65,7 +64,7 @@ fn start_link(
 {
     changed[link] = moves;
     if moves {
-        start(after, link, rows, saved);
+        saved.start(after, link, rows);
     }
 }
 

@@ -387,5 +387,5 @@ fn an_edit_goes_round_a_loop(rt: HostRuntime) -> Result<(), Fail> {
 
 #[test]
 fn the_memory_of_a_tracker(rt: HostRuntime) {
-    assert_eq!(rt; MOST_BYTES.div_ceil(100_000), 249);
+    assert_eq!(rt; MOST_BYTES.div_ceil(100_000), 202);
 }

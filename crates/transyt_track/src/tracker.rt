@@ -9,22 +9,23 @@ ghost use Rattle.transyt_net.specs.Shape.{SameShape};
 ghost use Rattle.transyt_sweep.specs.Front.{AreEvaluation};
 ghost use Rattle.transyt_sweep.specs.Sweeps.{out_of, evaluated, index};
 ghost use Rattle.transyt_track.specs.Due.{due};
-ghost use Rattle.transyt_track.specs.Own.{all_places};
-ghost use Rattle.transyt_track.specs.Readers.{AreReaders};
-ghost use Rattle.transyt_track.specs.Saved.{FitsRows, LeadBack, SaveAlike};
+ghost use Rattle.transyt_saved.specs.Saved.{FitsRows, SaveAlike};
+ghost use Rattle.transyt_track.specs.Saved.{LeadBack};
 ghost use Rattle.transyt_track.specs.Tracker.{tracker_of, unmarked, IsTracking};
 
 use crate::found::Found;
 use crate::front::follow_rows;
-use crate::own::{Places, all_places, edited_node, leaves_links};
-use crate::readers::{Readers, all_readers};
-use crate::saved::{Saved, copy_rows, copy_saved, go_back, weigh_all};
+use crate::own::{Places, edited_node, leaves_links};
+use crate::readers::Readers;
+use crate::returning::{copy_changes, copy_rows, go_back};
+use crate::room::Room;
 use std::alloc::{AllocError, Global};
 use std::marker::Model;
 use std::mem;
 use std::sync::ledger::Ledger;
 use transyt_delay::Figures;
 use transyt_net::{Edit, Net};
+use transyt_saved::Saved;
 use transyt_steps::Steps;
 use transyt_sweep::{Rows, Scratch, full};
 
@@ -91,64 +92,37 @@ impl Tracker {
         requires { AreEvaluation net.now rows }
         ensures { IfOk result (λ tracker. tracker ≡ unmarked net.now) }
     {
-        let saved = Saved::open(alloc, net)?;
-        let read = Tracker::read(alloc, net)?;
-        let flags = Tracker::flags(alloc, net)?;
-        let scratch = Scratch::open(alloc, net)?;
-        let own = net.copy(alloc)?;
-        let marked = net.copy(alloc)?;
-        Ok(Tracker::of_parts(
-            own, marked, read.0, read.1, rows, saved, flags.0, flags.1, scratch,
-        ))
+        let room = Room::open(alloc, net)?;
+        let nets = Tracker::copies(alloc, net)?;
+        Ok(Tracker::of_parts(nets.0, nets.1, rows, room))
     }
 
-    /// Where what each link reads stands, and the links that read each.
-    fn read(alloc: Global, net: &Net) -> Result<(Vec<Places>, Vec<Readers>), AllocError>
-        ensures places { IfOk result (λ read. read.0.items ≡ all_places net.now) }
-        ensures readers { IfOk result (λ read. AreReaders net.now read.1.items) }
+    /// Two copies of a network.
+    fn copies(alloc: Global, net: &Net) -> Result<(Net, Net), AllocError>
+        ensures first { IfOk result (λ nets. nets.0 ≡ net.now) }
+        ensures second { IfOk result (λ nets. nets.1 ≡ net.now) }
     {
-        let places = all_places(alloc, net)?;
-        let readers = all_readers(alloc, net, &places)?;
-        Ok((places, readers))
-    }
-
-    /// Two flags for each link.
-    fn flags(alloc: Global, net: &Net) -> Result<(Vec<bool>, Vec<bool>), AllocError>
-        ensures first { IfOk result (λ flags. length flags.0.items ≡ length net.now.links) }
-        ensures second { IfOk result (λ flags. length flags.1.items ≡ length net.now.links) }
-    {
-        let links = net.links().len();
-        let first = vec![in alloc; false; links]?;
-        let second = vec![in alloc; false; links]?;
+        let first = net.copy(alloc)?;
+        let second = net.copy(alloc)?;
         Ok((first, second))
     }
 
     /// The tracker of these parts.
-    fn of_parts(
-        net: Net,
-        marked: Net,
-        places: Vec<Places>,
-        readers: Vec<Readers>,
-        rows: Rows,
-        saved: Saved,
-        own_changed: Vec<bool>,
-        awaited: Vec<bool>,
-        scratch: Scratch,
-    ) -> Tracker
-        requires { IsTracking net marked rows saved places.items readers.items own_changed.items awaited.items
-            scratch }
-        ensures { result ≡ tracker_of net saved.live marked }
+    fn of_parts(net: Net, marked: Net, rows: Rows, room: Room) -> Tracker
+        requires { IsTracking net marked rows room.saved room.places.items room.readers.items room.own_changed.items
+            room.awaited.items room.scratch }
+        ensures { result ≡ tracker_of net room.saved.live marked }
     {
         Tracker {
             net,
             marked,
-            places,
-            readers,
+            places: room.places,
+            readers: room.readers,
             rows,
-            saved,
-            own_changed,
-            awaited,
-            scratch,
+            saved: room.saved,
+            own_changed: room.own_changed,
+            awaited: room.awaited,
+            scratch: room.scratch,
         }
     }
 
@@ -346,14 +320,13 @@ impl Tracker {
         ensures mark { self.new.mark ≡ None }
         ensures shape { SameShape self.old.net self.new.net }
     {
-        copy_saved(
+        copy_changes(
             &self.net,
             &from.net,
             &from.rows,
             &from.saved,
             &mut self.rows,
         );
-        weigh_all(&self.net, &from.net, false, &mut self.rows, &from.saved);
         self.net.take_numbers(&from.net);
     }
 

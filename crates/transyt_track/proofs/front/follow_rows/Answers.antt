@@ -5,7 +5,7 @@ use Rattle.transyt_track.specs.Due.{due_through}
 use Rattle.transyt_track.specs.Front.{AreAt}
 use Rattle.transyt_track.proofs.ShapeLaws.{shape_frame}
 use Rattle.transyt_track.proofs.DueLaws.{due_through_none, due_through_more, due_is}
-use Rattle.transyt_track.proofs.SavedLaws.{carries_more}
+use Rattle.transyt_saved.proofs.CarryLaws.{carries_more}
 use Rattle.transyt_track.proofs.FrontLaws.{ended}
 use Rattle.transyt_track.proofs.front.follow_rows.Goals as goal
 

@@ -2,7 +2,7 @@
 use Rattle.std.proofs.Common.{◌≡◌, ◌≤◌, ◌+◌, ◌-◌, ◌*◌, length}
 use Rattle.transyt_track.specs.Due.{due_through}
 use Rattle.transyt_track.specs.Front.{AreAt}
-use Rattle.transyt_track.specs.Saved.{Carries}
+use Rattle.transyt_saved.specs.Saved.{Carries}
 use Rattle.transyt_track.proofs.front.follow_rows.Given as goal
 
 -- the front stands at the first link of the sweep

@@ -1,7 +1,7 @@
 -- One turn more.
 use Rattle.std.proofs.Common.{◌+◌, length, ap, arith}
 use Rattle.transyt_track.proofs.DueLaws.{due_in_none, due_in_more, due_in_few}
-use Rattle.transyt_track.proofs.SavedLaws.{carries_same, carries_more}
+use Rattle.transyt_saved.proofs.CarryLaws.{carries_same, carries_more}
 use Rattle.transyt_track.proofs.FrontLaws.{turned_sweep}
 use Rattle.transyt_track.proofs.front.sweep_links.Goals as goal
 

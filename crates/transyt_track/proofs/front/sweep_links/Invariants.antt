@@ -2,7 +2,7 @@
 use Rattle.std.proofs.Common.{◌≡◌, ◌+◌, length}
 use Rattle.transyt_track.specs.Due.{due_in}
 use Rattle.transyt_track.specs.Front.{AreAt}
-use Rattle.transyt_track.specs.Saved.{Carries}
+use Rattle.transyt_saved.specs.Saved.{Carries}
 use Rattle.transyt_track.proofs.front.sweep_links.Given as goal
 
 -- those so far had their turn, in a step for each that was due

@@ -2,13 +2,20 @@
 use Rattle.std.proofs.Common.{◌≡◌, ◌<◌, [], length, not, sym, subst, ap, ◌∙◌, arith}
 use Rattle.std.specs.Prelude.{slice_index_or}
 use Rattle.std.specs.Str.{bytes_eq}
+use Rattle.std.specs.Option.{is_some}
+use Rattle.std.specs.Cmp.Lexicographic.{same_text}
+use Rattle.std.proofs.lemmas.Bool.{or_parts}
 use Rattle.std.proofs.lemmas.List.{get_or_default}
-use Rattle.transyt_sweep.specs.Cell.{HasSteps}
+use Rattle.transyt_net.specs.Parts.{link_of}
+use Rattle.transyt_sweep.specs.Cell.{CellValue, HasSteps}
 use Rattle.transyt_sweep.specs.Sweeps.{out_of, worked_at}
 use Rattle.transyt_sweep.specs.Rows.{read_in, out_at}
 use Rattle.transyt_sweep.proofs.StepLaws.{worked_steps}
 use Rattle.transyt_sweep.proofs.FrontLaws.{cell_is}
 use Rattle.transyt_track.specs.Due.{differs}
+use Rattle.transyt_track.specs.Front.{flag}
+use Rattle.transyt_track.proofs.DueLaws.{not_false}
+use Rattle.transyt_track.proofs.GoLaws.{go_stays}
 use Rattle.transyt_track.proofs.FrontLaws.{differs_told, flags_passed, turned_worked}
 use Rattle.transyt_track.proofs.CompareLaws.{as_long}
 use Rattle.transyt_track.proofs.ReaderLaws.{readers_inside}
@@ -53,12 +60,43 @@ pass_on-requires-clause-inside g c =
     (c.index-readers-link.is
     ∙ get_or_default c.args.readers.now l c.index-readers-link.result [] (omega (arith, c.requires.readers.count, inside)))
 
+pub go_may_differ-go_differs-requires-clause-count : goal.go_may_differ-go_differs-requires-clause-count
+go_may_differ-go_differs-requires-clause-count g c = c.requires.own_changed.count
+
 pub place-requires-clause-steps : goal.place-requires-clause-steps
 place-requires-clause-steps g c =
     let read = read_in c.args.rows.now c.args.sweep c.args.link in
     subst (λ n. HasSteps n c.cell.new.scratch) (sym c.requires.at.outs.fits.step_count)
     (subst (HasSteps c.args.after.now.frame.step_count) (sym c.cell.ensures.value)
     (worked_steps c.args.after.now read c.args.link))
+
+pub place-requires-clause-out_same : goal.place-requires-clause-out_same
+place-requires-clause-out_same g c = λ same.
+    let rows = c.args.rows.now in
+    let s = c.args.sweep in
+    let l = c.args.link in
+    let told : c.differ-differs.result ≡ not (bytes_eq (out_at rows s l) c.cell.new.scratch.out) =
+    c.differ-differs.ensures
+    ∙ ap (λ x. not (bytes_eq x c.out-2.result.now)) c.out.ensures.value
+    ∙ ap (λ x. not (bytes_eq (out_at rows s l) x)) c.out-2.ensures in
+    same_text (out_at rows s l) c.cell.new.scratch.out
+    (sym (not_false (bytes_eq (out_at rows s l) c.cell.new.scratch.out) (sym told ∙ same)))
+
+pub place-requires-clause-go_same : goal.place-requires-clause-go_same
+place-requires-clause-go_same g c = λ last same.
+    let r = c.requires in
+    let a = c.args.before.now in
+    let b = c.args.after.now in
+    let s = c.args.sweep in
+    let l = c.args.link in
+    let rows = c.args.rows.now in
+    let parts = or_parts (flag c.args.own_changed.now l) (is_some (link_of b l).gives_way)
+    (sym c.go_may_differ-go_differs.ensures ∙ same) in
+    let made : c.cell.new.scratch ≡ worked_at b s l =
+    c.cell.ensures.value ∙ cell_is b (out_of a) s l rows r.at.outs r.first r.last r.link in
+    go_stays a b s l rows c.args.awaited.now.items r.at r.shape r.link (sym last)
+    (sym (r.own_changed.flagged l r.link) ∙ parts.0) parts.1
+    ∙ sym (ap (λ (v : CellValue). v.go) made)
 
 pub returns-clause-step_count : goal.returns-clause-step_count
 returns-clause-step_count g c = c.place.ensures.steps ∙ c.requires.at.outs.fits.step_count

@@ -1,6 +1,7 @@
 -- With equal weights the index stays.
 use Rattle.std.proofs.Common.{◌≡◌, IsTrue, sym, ap, ◌∙◌, arith, rules, if◌then◌else◌}
 use Rattle.transyt_parts.specs.declared.frame.Frame.{Frame}
+use Rattle.transyt_sweep.specs.Cell.{CellValue}
 use Rattle.transyt_sweep.specs.Rows.{with_weights}
 use Rattle.transyt_track.proofs.FrontLaws.{same_test}
 use Rattle.transyt_track.proofs.LeftLaws.{weights_stay}
@@ -15,4 +16,5 @@ returns-else-not-same_weights-clause-value c =
     let last : c.args.sweep ≡ b.frame.sweeps = omega (arith, c.if-sweep-frame.false, sweeps) in
     let told : IsTrue c.same_weights.result = search rules in
     sym (ap (λ w. if w then with_weights rows b l else rows) (same_test c.args.sweep b.frame.sweeps (sym last))
-    ∙ weights_stay c.args.before.now b l rows c.requires.shape (c.same_weights.ensures.0 told) (c.requires.shown last))
+    ∙ weights_stay c.args.before.now b l rows c.requires.shape (c.same_weights.ensures.0 told)
+    (ap (λ (v : CellValue). v.figures) (c.requires.shown last)))

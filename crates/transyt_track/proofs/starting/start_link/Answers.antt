@@ -9,7 +9,7 @@ returns-then-moves-clause-starting c =
     let a = c.args.before.now in
     let b = c.args.after.now in
     let flags = c.args.changed.now.items in
-    let made = started_put a b r.shape c.args.link c.args.rows.now flags r.starting r.link r.some c.start.ensures.rows
+    let made = started_put a b r.shape c.args.link c.args.rows.now flags r.starting r.link r.some c.start.ensures.kept
     (sym r.moves ∙ c.if-moves.true) in
     rw (c.start.ensures.value, c.if-moves.true) made
 

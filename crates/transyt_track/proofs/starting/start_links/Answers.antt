@@ -6,7 +6,7 @@ use Rattle.transyt_track.specs.Front.{AreStarting}
 use Rattle.transyt_track.proofs.ChangeLaws.{down_more, not_down}
 use Rattle.transyt_track.proofs.PlaceLaws.{place_read}
 use Rattle.transyt_track.proofs.ShapeLaws.{shape_count, shape_places}
-use Rattle.transyt_track.proofs.SavedLaws.{carries_same, carries_more}
+use Rattle.transyt_saved.proofs.CarryLaws.{carries_same, carries_more}
 use Rattle.transyt_track.proofs.StartLaws.{total_start, started_none}
 use Rattle.transyt_track.proofs.starting.start_links.Goals as goal
 

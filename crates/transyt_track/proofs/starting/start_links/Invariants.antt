@@ -2,7 +2,7 @@
 use Rattle.std.proofs.Common.{◌≡◌, ◌↔◌, ◌<◌, ℕ, false, length}
 use Rattle.transyt_track.specs.Own.{HaveData}
 use Rattle.transyt_track.specs.Front.{flag, AreStarting}
-use Rattle.transyt_track.specs.Saved.{Carries}
+use Rattle.transyt_saved.specs.Saved.{Carries}
 use Rattle.transyt_track.proofs.starting.start_links.Given as goal
 
 -- those so far are flagged, and started anew where they are to be

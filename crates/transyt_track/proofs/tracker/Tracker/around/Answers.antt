@@ -4,8 +4,9 @@ use Rattle.transyt_track.proofs.tracker.Tracker.around.Goals as goal
 
 pub of_parts-requires : goal.of_parts-requires
 of_parts-requires c =
-    rw c.in_ok-own.ensures (opened_tracks c.args.net.now c.in_ok-marked.marked c.args.rows c.in_ok-saved.saved
-    c.in_ok-read.read.0.items c.in_ok-read.read.1.items c.in_ok-flags.flags.0.items c.in_ok-flags.flags.1.items
-    c.in_ok-scratch.scratch c.in_ok-marked.ensures c.requires c.in_ok-saved.ensures.live c.in_ok-saved.ensures.fits
-    c.in_ok-saved.ensures.links c.in_ok-read.ensures.places c.in_ok-read.ensures.readers c.in_ok-flags.ensures.first
-    c.in_ok-flags.ensures.second c.in_ok-scratch.ensures)
+    let room = c.in_ok-room.room in
+    let say = c.in_ok-room.ensures in
+    rw c.in_ok-nets.ensures.first (opened_tracks c.args.net.now c.in_ok-nets.nets.1 c.args.rows room.saved
+    room.places.items room.readers.items room.own_changed.items room.awaited.items room.scratch
+    c.in_ok-nets.ensures.second c.requires say.live say.fits say.links say.places say.readers say.own_count say.count
+    say.steps)

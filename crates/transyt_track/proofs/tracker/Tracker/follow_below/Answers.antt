@@ -5,7 +5,7 @@ use Rattle.transyt_net.specs.Edits.{with_edit}
 use Rattle.transyt_track.specs.Own.{DifferAt}
 use Rattle.transyt_sweep.specs.Sweeps.{index}
 use Rattle.transyt_sweep.proofs.IndexLaws.{index_is}
-use Rattle.transyt_track.specs.Saved.{Carries, begun, settled}
+use Rattle.transyt_saved.specs.Saved.{Carries, begun, settled}
 use Rattle.transyt_track.specs.Tracker.{TrackerValue, IsTracking}
 use Rattle.transyt_track.proofs.TrackLaws.{begun_tracks, followed_tracks, closed_tracks}
 use Rattle.transyt_track.proofs.tracker.Tracker.follow_below.Goals as goal

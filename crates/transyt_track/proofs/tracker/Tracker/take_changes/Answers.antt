@@ -1,62 +1,32 @@
 -- The rows are those of the other tracker, which go on from those of this one.
 use Rattle.std.proofs.Common.{◌≡◌, false, refl, ap, sym, subst, ◌∙◌}
-use Rattle.transyt_parts.specs.declared.frame.Frame.{Frame}
 use Rattle.transyt_net.specs.Shape.{shape, SameShape}
 use Rattle.transyt_track.specs.Saved.{LeadBack}
 use Rattle.transyt_track.specs.Tracker.{TrackerValue}
-use Rattle.transyt_track.proofs.ShapeLaws.{shape_frame, shape_count}
 use Rattle.transyt_track.proofs.TrackLaws.{marked_of, not_live_of, closed_tracks}
 use Rattle.transyt_track.proofs.tracker.Tracker.take_changes.Goals as goal
 
 -- a mark is open at the other tracker, and marks the network that this one stands for
-pub copy_saved-requires-clause-live : goal.copy_saved-requires-clause-live
-copy_saved-requires-clause-live c =
+pub copy_changes-requires-clause-live : goal.copy_changes-requires-clause-live
+copy_changes-requires-clause-live c =
     (marked_of c.from.inside.saved.live c.from.inside.marked c.args.self.now.net
     (ap (λ (t : TrackerValue). t.mark) c.from.view_is ∙ c.requires.marked)).0
 
-pub copy_saved-requires-clause-shape : goal.copy_saved-requires-clause-shape
-copy_saved-requires-clause-shape c =
-    let marked : c.from.inside.marked ≡ c.self.inside.net =
-    (marked_of c.from.inside.saved.live c.from.inside.marked c.args.self.now.net
-    (ap (λ (t : TrackerValue). t.mark) c.from.view_is ∙ c.requires.marked)).1
-    ∙ sym (ap (λ (t : TrackerValue). t.net) c.self.view_is) in
-    c.from.invariant.shape ∙ ap shape marked
-
-pub copy_saved-requires-clause-back : goal.copy_saved-requires-clause-back
-copy_saved-requires-clause-back c =
-    let marked : c.from.inside.marked ≡ c.self.inside.net =
-    (marked_of c.from.inside.saved.live c.from.inside.marked c.args.self.now.net
-    (ap (λ (t : TrackerValue). t.mark) c.from.view_is ∙ c.requires.marked)).1
-    ∙ sym (ap (λ (t : TrackerValue). t.net) c.self.view_is) in
-    subst (λ net. LeadBack net c.from.inside.rows c.from.inside.saved) marked c.from.invariant.back
-
-pub weigh_all-requires-clause-shape : goal.weigh_all-requires-clause-shape
-weigh_all-requires-clause-shape c =
+pub copy_changes-requires-clause-shape : goal.copy_changes-requires-clause-shape
+copy_changes-requires-clause-shape c =
     let marked : c.from.inside.marked ≡ c.self.inside.net =
     (marked_of c.from.inside.saved.live c.from.inside.marked c.args.self.now.net
     (ap (λ (t : TrackerValue). t.mark) c.from.view_is ∙ c.requires.marked)).1
     ∙ sym (ap (λ (t : TrackerValue). t.net) c.self.view_is) in
     sym (c.from.invariant.shape ∙ ap shape marked)
 
-pub weigh_all-requires-clause-sweeps : goal.weigh_all-requires-clause-sweeps
-weigh_all-requires-clause-sweeps c =
+pub copy_changes-requires-clause-back : goal.copy_changes-requires-clause-back
+copy_changes-requires-clause-back c =
     let marked : c.from.inside.marked ≡ c.self.inside.net =
     (marked_of c.from.inside.saved.live c.from.inside.marked c.args.self.now.net
     (ap (λ (t : TrackerValue). t.mark) c.from.view_is ∙ c.requires.marked)).1
     ∙ sym (ap (λ (t : TrackerValue). t.net) c.self.view_is) in
-    let same : SameShape c.from.inside.net c.self.inside.net = c.from.invariant.shape ∙ ap shape marked in
-    c.from.invariant.fits.size.sweeps ∙ c.from.invariant.evaluation.fits.sweeps
-    ∙ ap (λ (f : Frame). f.sweeps) (shape_frame c.from.inside.net c.self.inside.net same)
-
-pub weigh_all-requires-clause-links : goal.weigh_all-requires-clause-links
-weigh_all-requires-clause-links c =
-    let marked : c.from.inside.marked ≡ c.self.inside.net =
-    (marked_of c.from.inside.saved.live c.from.inside.marked c.args.self.now.net
-    (ap (λ (t : TrackerValue). t.mark) c.from.view_is ∙ c.requires.marked)).1
-    ∙ sym (ap (λ (t : TrackerValue). t.net) c.self.view_is) in
-    let same : SameShape c.from.inside.net c.self.inside.net = c.from.invariant.shape ∙ ap shape marked in
-    c.from.invariant.fits.links ∙ c.from.invariant.evaluation.fits.link_count
-    ∙ shape_count c.from.inside.net c.self.inside.net same
+    subst (λ net. LeadBack net c.from.inside.rows c.from.inside.saved) marked c.from.invariant.back
 
 pub invariant_of-self : goal.invariant_of-self
 invariant_of-self c =
@@ -70,5 +40,5 @@ invariant_of-self c =
     not_live_of i.saved.live i.marked (ap (λ (t : TrackerValue). t.mark) c.self.view_is ∙ c.requires.closed) in
     rw c.take_numbers.ensures
     (closed_tracks i.net i.marked i.rows i.saved i.places.items i.readers.items i.own_changed.items i.awaited.items i.scratch
-    c.self.invariant c.from.inside.net i.marked same (sym same ∙ c.self.invariant.shape) c.weigh_all.new.rows
-    c.weigh_all.ensures i.saved closed (record { step_count = refl; sweeps = refl; link_count = refl }) refl)
+    c.self.invariant c.from.inside.net i.marked same (sym same ∙ c.self.invariant.shape) c.copy_changes.new.rows
+    c.copy_changes.ensures i.saved closed (record { step_count = refl; sweeps = refl; link_count = refl }) refl)

@@ -1,0 +1,461 @@
+-- Rows that are saved and written over, or weighed: what the saved rows lead back to stays.
+use Rattle.std.proofs.Common.{◌≡◌, ◌≢◌, ℕ, ◌+◌, ◌*◌, ◌<◌, ◌≤◌, Bool, true, false, not, ◌&&◌, List, length, set, get_or}
+use Rattle.std.proofs.Common.{refl, ap, sym, ◌∙◌, arith, ◌⊎◌, inl, inr, if◌then◌else◌}
+use Rattle.std.proofs.lemmas.Bool.{cases_eq}
+use Rattle.std.proofs.lemmas.List.{length-set}
+use Rattle.transyt_net.specs.Parts.{Network}
+use Rattle.transyt_sweep.specs.Cell.{CellValue}
+use Rattle.transyt_sweep.specs.Rows.{RowsValue, out_at, shown_at, with_out, with_go, with_weights, reweighed}
+use Rattle.transyt_sweep.specs.Rows.{AreRows}
+use Rattle.transyt_sweep.proofs.PairLaws.{out_here, out_elsewhere, out_steps, pairs_apart}
+use Rattle.transyt_saved.specs.Saved.{SavedValue, is_out_saved, is_come_saved, is_go_saved, out_kept, come_kept, go_kept}
+use Rattle.transyt_saved.specs.Saved.{old_out, old_shown, part_by, with_come_of, unweighed, FitsRows, Carries}
+use Rattle.transyt_saved.specs.Saved.{AreSaved}
+use Rattle.transyt_saved.proofs.FlagLaws.{pair_cases, flag_room, old_stays, not_twice}
+use Rattle.transyt_sweep.proofs.ComeLaws.{come_out, come_size, come_here, come_elsewhere, go_here, go_elsewhere}
+use Rattle.transyt_saved.proofs.WrittenLaws.{figures_out, figures_size, figures_here, figures_elsewhere}
+
+-- nothing is written
+pub carries_same : (rows : RowsValue) (saved : SavedValue) → FitsRows rows saved → Carries rows saved rows saved
+carries_same rows saved fits = record {
+  size = record { step_count = refl; sweeps = refl; link_count = refl };
+  fits = fits;
+  live = refl;
+  outs = λ live t k within there. refl;
+  shown = λ live k there. refl;
+}
+
+-- one write after another
+pub carries_more : (x : RowsValue) (d : SavedValue) (y : RowsValue) (e : SavedValue) (z : RowsValue) (f : SavedValue)
+    → Carries x d y e → Carries y e z f → Carries x d z f
+carries_more x d y e z f one two = record {
+  size = record {
+    step_count = two.size.step_count ∙ one.size.step_count;
+    sweeps = two.size.sweeps ∙ one.size.sweeps;
+    link_count = two.size.link_count ∙ one.size.link_count;
+  };
+  fits = two.fits;
+  live = two.live ∙ one.live;
+  outs = λ live t k within there.
+      two.outs (one.live ∙ live) t k (omega (arith, one.size.sweeps)) (omega (arith, one.size.link_count))
+      ∙ one.outs live t k within there;
+  shown = λ live k there. two.shown (one.live ∙ live) k (omega (arith, one.size.link_count)) ∙ one.shown live k there;
+}
+
+module _ (rows : RowsValue) (saved : SavedValue) (fits : FitsRows rows saved) (kept : AreRows rows)
+    (saved_kept : AreRows saved.rows)
+    (room : AreSaved saved.link_count saved.out_flags saved.come_flags saved.go_flags saved.rows) where
+  module _ (s l : ℕ) (swept : s ≤ rows.sweeps) (inside : l < length rows.figures) (x : List ℕ)
+      (long : length x ≡ rows.step_count) where
+    abbrev out_flagged : SavedValue
+    out_flagged = record saved {
+      out_flags = set saved.out_flags (s * saved.link_count + l) true;
+      rows = with_out saved.rows s l (out_at rows s l);
+    }
+
+    abbrev out_by : Bool → SavedValue
+    out_by b = if b then out_flagged else saved
+
+    abbrev pair_number : ℕ → ℕ → ℕ
+    pair_number t k = t * saved.link_count + k
+
+    abbrev out_put : ℕ → ℕ → List ℕ
+    out_put t k = out_at (with_out saved.rows s l (out_at rows s l)) t k
+
+    -- what left a pair, where the flag of the one that is written goes up or not
+    abbrev by_flag : Bool → ℕ → ℕ → List ℕ
+    by_flag b t k =
+        if get_or (if b then set saved.out_flags (pair_number s l) true else saved.out_flags) (pair_number t k) false
+        then (if b then out_put t k else out_at saved.rows t k)
+        else out_at (with_out rows s l x) t k
+
+    out_stays : (b : Bool) → is_out_saved saved s l ≡ not b → (t k : ℕ) → t ≤ rows.sweeps → k < length rows.figures
+        → old_out (out_by b) (with_out rows s l x) t k ≡ old_out saved rows t k
+    out_stays b was t k within there = form b ∙ by (pair_cases t k s l)
+      where
+        form : (b : Bool) → old_out (out_by b) (with_out rows s l x) t k ≡ by_flag b t k
+        form true = refl
+        form false = refl
+
+        swept_in : s ≤ saved.rows.sweeps
+        swept_in = omega (arith, fits.size.sweeps)
+
+        inside_in : l < length saved.rows.figures
+        inside_in = omega (arith, fits.size.link_count)
+
+        long_in : length (out_at rows s l) ≡ saved.rows.step_count
+        long_in = out_steps rows kept s l swept inside ∙ sym fits.size.step_count
+
+        flag_inside : pair_number s l < length saved.out_flags
+        flag_inside =
+            omega
+            (arith, room.outs, flag_room saved.rows.sweeps saved.link_count s l swept_in (omega (arith, fits.links)))
+
+        stays : (pair_number t k ≢ pair_number s l → out_at (with_out rows s l x) t k ≡ out_at rows t k)
+            → (pair_number t k ≡ pair_number s l → out_put t k ≡ out_at rows t k)
+            → (pair_number t k ≢ pair_number s l → out_put t k ≡ out_at saved.rows t k)
+            → by_flag b t k ≡ old_out saved rows t k
+        stays elsewhere here others =
+            old_stays saved.out_flags (pair_number s l) (pair_number t k) flag_inside b was (out_at rows t k)
+            (out_at (with_out rows s l x) t k) (out_at saved.rows t k) (out_put t k) elsewhere here others
+
+        by : ((t ≡ s) × (k ≡ l)) ⊎ (t ≡ s → k ≡ l → ⊥) → by_flag b t k ≡ old_out saved rows t k
+        by (inl same) =
+            let one : pair_number t k ≡ pair_number s l =
+            ap (λ u. u * saved.link_count + k) same.0 ∙ ap (λ m. s * saved.link_count + m) same.1 in
+            stays (λ other. absurd (other one))
+            (λ _. ap (λ u. out_at (with_out saved.rows s l (out_at rows s l)) u k) same.0
+            ∙ ap (out_at (with_out saved.rows s l (out_at rows s l)) s) same.1
+            ∙ out_here saved.rows saved_kept s l (out_at rows s l) swept_in inside_in long_in
+            ∙ sym (ap (out_at rows s) same.1)
+            ∙ sym (ap (λ u. out_at rows u k) same.0))
+            (λ other. absurd (other one))
+        by (inr apart) =
+            let other : pair_number t k ≢ pair_number s l =
+            pairs_apart saved.link_count t k s l (omega (arith, fits.links)) (omega (arith, fits.links)) apart in
+            stays (λ _. out_elsewhere rows kept s l x swept inside long t k there apart)
+            (λ one. absurd (other one))
+            (λ _. out_elsewhere saved.rows saved_kept s l (out_at rows s l) swept_in inside_in long_in t k
+            (omega (arith, fits.size.link_count)) apart)
+
+    out_shown_by : (b : Bool) (k : ℕ)
+        → old_out (out_by b) (with_out rows s l x) rows.sweeps k ≡ old_out saved rows rows.sweeps k
+        → old_shown (out_by b) (with_out rows s l x) k ≡ old_shown saved rows k
+    out_shown_by true k out = (λ j. record {
+      arrivals = (old_shown saved rows k).arrivals;
+      go = (old_shown saved rows k).go;
+      queue = (old_shown saved rows k).queue;
+      out = out j;
+      figures = (old_shown saved rows k).figures;
+    })
+    out_shown_by false k out = (λ j. record {
+      arrivals = (old_shown saved rows k).arrivals;
+      go = (old_shown saved rows k).go;
+      queue = (old_shown saved rows k).queue;
+      out = out j;
+      figures = (old_shown saved rows k).figures;
+    })
+
+    out_fits : (b : Bool) → FitsRows (with_out rows s l x) (out_by b)
+    out_fits true = record {
+      size = record {
+        step_count = fits.size.step_count;
+        sweeps = fits.size.sweeps;
+        link_count = fits.size.link_count;
+      };
+      links = fits.links;
+    }
+    out_fits false = record {
+      size = record {
+        step_count = fits.size.step_count;
+        sweeps = fits.size.sweeps;
+        link_count = fits.size.link_count;
+      };
+      links = fits.links;
+    }
+
+    out_live : (b : Bool) → (out_by b).live ≡ saved.live
+    out_live true = refl
+    out_live false = refl
+
+    -- what leaves a link at a sweep is saved, and then written over
+    pub carries_out : Carries rows saved (with_out rows s l x) (out_kept saved rows s l)
+    carries_out = record {
+      size = record { step_count = refl; sweeps = refl; link_count = refl };
+      fits = out_fits (saved.live && not (is_out_saved saved s l));
+      live = out_live (saved.live && not (is_out_saved saved s l));
+      outs = λ live t k within there. stays live t k within there;
+      shown = λ live k there.
+          ap unweighed (out_shown_by (saved.live && not (is_out_saved saved s l)) k
+          (stays live rows.sweeps k (omega arith) there));
+    }
+      where
+        stays : saved.live ≡ true → (t k : ℕ) → t ≤ rows.sweeps → k < length rows.figures
+            → old_out (out_kept saved rows s l) (with_out rows s l x) t k ≡ old_out saved rows t k
+        stays live t k within there =
+            ap (λ v. old_out (out_by (v && not (is_out_saved saved s l))) (with_out rows s l x) t k) live
+            ∙ out_stays (not (is_out_saved saved s l)) (not_twice (is_out_saved saved s l)) t k within there
+
+  module _ (l : ℕ) (inside : l < length rows.figures) (c : CellValue) (a_long : length c.arrivals ≡ rows.step_count)
+      (q_long : length c.queue ≡ rows.step_count) (was_a_long : length (shown_at rows l).arrivals ≡ rows.step_count)
+      (was_q_long : length (shown_at rows l).queue ≡ rows.step_count) where
+    abbrev come_flagged : SavedValue
+    come_flagged = record saved {
+      come_flags = set saved.come_flags l true;
+      rows = with_come_of saved.rows l (shown_at rows l);
+    }
+
+    abbrev come_by : Bool → SavedValue
+    come_by b = if b then come_flagged else saved
+
+    come_inside : l < length saved.rows.figures
+    come_inside = omega (arith, fits.size.link_count)
+
+    saved_here : shown_at come_flagged.rows l ≡ record (shown_at saved.rows l) {
+      arrivals = (shown_at rows l).arrivals;
+      queue = (shown_at rows l).queue;
+      figures = (shown_at rows l).figures;
+    }
+    saved_here =
+        come_here saved.rows l (shown_at rows l).arrivals (shown_at rows l).queue (shown_at rows l).figures saved_kept
+        come_inside (was_a_long ∙ sym fits.size.step_count) (was_q_long ∙ sym fits.size.step_count) saved.rows.sweeps
+
+    saved_elsewhere : (k : ℕ) → k ≢ l → shown_at come_flagged.rows k ≡ shown_at saved.rows k
+    saved_elsewhere k other =
+        come_elsewhere saved.rows l (shown_at rows l).arrivals (shown_at rows l).queue (shown_at rows l).figures
+        saved_kept come_inside (was_a_long ∙ sym fits.size.step_count) (was_q_long ∙ sym fits.size.step_count)
+        saved.rows.sweeps k other
+
+    -- a part that the write doesn't leave
+    part_stays : {A : Type 0} (part : CellValue → A) → (b : Bool) → is_come_saved saved l ≡ not b
+        → part (shown_at come_flagged.rows l) ≡ part (shown_at rows l) → (k : ℕ)
+        → part_by (is_come_saved (come_by b) k) part (come_by b) (with_come_of rows l c) k
+        ≡ part_by (is_come_saved saved k) part saved rows k
+    part_stays {A} part b was here k =
+        form b
+        ∙ old_stays saved.come_flags l k (omega (arith, room.comes, fits.links)) b was (part (shown_at rows k))
+        (part (shown_at (with_come_of rows l c) k)) (part (shown_at saved.rows k)) (part (shown_at come_flagged.rows k))
+        (λ other. ap part (come_elsewhere rows l c.arrivals c.queue c.figures kept inside a_long q_long rows.sweeps
+        k other))
+        (λ same. ap (λ m. part (shown_at come_flagged.rows m)) same ∙ here
+        ∙ sym (ap (λ m. part (shown_at rows m)) same))
+        (λ other. ap part (saved_elsewhere k other))
+      where
+        form : (b : Bool) → part_by (is_come_saved (come_by b) k) part (come_by b) (with_come_of rows l c) k
+            ≡ (if get_or (if b then set saved.come_flags l true else saved.come_flags) k false
+            then (if b then part (shown_at come_flagged.rows k) else part (shown_at saved.rows k))
+            else part (shown_at (with_come_of rows l c) k))
+        form true = refl
+        form false = refl
+
+    come_outs : (b : Bool) (t k : ℕ) → old_out (come_by b) (with_come_of rows l c) t k ≡ old_out saved rows t k
+    come_outs true t k =
+        let here = come_out rows l c.arrivals c.queue c.figures t k in
+        let there = come_out saved.rows l (shown_at rows l).arrivals (shown_at rows l).queue (shown_at rows l).figures t k
+        in
+        (λ j. if is_out_saved saved t k then there j else here j)
+    come_outs false t k =
+        let here = come_out rows l c.arrivals c.queue c.figures t k in
+        (λ j. if is_out_saved saved t k then out_at saved.rows t k else here j)
+
+    come_go : (b : Bool) (k : ℕ) → part_by (is_go_saved (come_by b) k) (λ v. v.go) (come_by b) (with_come_of rows l c) k
+        ≡ part_by (is_go_saved saved k) (λ v. v.go) saved rows k
+    come_go true k = refl
+    come_go false k = refl
+
+    come_shown_by : (b : Bool) → is_come_saved saved l ≡ not b → (k : ℕ)
+        → old_shown (come_by b) (with_come_of rows l c) k ≡ old_shown saved rows k
+    come_shown_by b was k =
+        let come = part_stays (λ v. v.arrivals) b was (ap (λ (v : CellValue). v.arrivals) saved_here) k in
+        let standing = part_stays (λ v. v.queue) b was (ap (λ (v : CellValue). v.queue) saved_here) k in
+        let told = part_stays (λ v. v.figures) b was (ap (λ (v : CellValue). v.figures) saved_here) k in
+        let going = come_go b k in
+        let leaving = come_outs b rows.sweeps k in
+        (λ j. record { arrivals = come j; go = going j; queue = standing j; out = leaving j; figures = told j })
+
+    come_fits : (b : Bool) → FitsRows (with_come_of rows l c) (come_by b)
+    come_fits true =
+        let here = come_size rows l c.arrivals c.queue c.figures in
+        let there = come_size saved.rows l (shown_at rows l).arrivals (shown_at rows l).queue (shown_at rows l).figures in
+        record {
+          size = record {
+            step_count = fits.size.step_count;
+            sweeps = fits.size.sweeps;
+            link_count = there.link_count ∙ fits.size.link_count ∙ sym here.link_count;
+          };
+          links = fits.links ∙ sym here.link_count;
+        }
+    come_fits false =
+        let here = come_size rows l c.arrivals c.queue c.figures in
+        record {
+          size = record {
+            step_count = fits.size.step_count;
+            sweeps = fits.size.sweeps;
+            link_count = fits.size.link_count ∙ sym here.link_count;
+          };
+          links = fits.links ∙ sym here.link_count;
+        }
+
+    come_live : (b : Bool) → (come_by b).live ≡ saved.live
+    come_live true = refl
+    come_live false = refl
+
+    -- what comes to a link at the last sweep, its queue and its figures are saved, and then written over
+    pub carries_come : Carries rows saved (with_come_of rows l c) (come_kept saved l (shown_at rows l))
+    carries_come = record {
+      size = come_size rows l c.arrivals c.queue c.figures;
+      fits = come_fits (saved.live && not (is_come_saved saved l));
+      live = come_live (saved.live && not (is_come_saved saved l));
+      outs = λ live t k within there. come_outs (saved.live && not (is_come_saved saved l)) t k;
+      shown = λ live k there.
+          ap unweighed (ap (λ v. old_shown (come_by (v && not (is_come_saved saved l))) (with_come_of rows l c) k) live
+          ∙ come_shown_by (not (is_come_saved saved l)) (not_twice (is_come_saved saved l)) k);
+    }
+
+  module _ (l : ℕ) (inside : l < length rows.figures) (g : List ℕ) (long : length g ≡ rows.step_count)
+      (was_long : length (shown_at rows l).go ≡ rows.step_count) where
+    abbrev go_flagged : SavedValue
+    go_flagged = record saved {
+      go_flags = set saved.go_flags l true;
+      rows = with_go saved.rows l (shown_at rows l).go;
+    }
+
+    abbrev go_by : Bool → SavedValue
+    go_by b = if b then go_flagged else saved
+
+    go_inside : l < length saved.rows.figures
+    go_inside = omega (arith, fits.size.link_count)
+
+    go_stays : (b : Bool) → is_go_saved saved l ≡ not b → (k : ℕ)
+        → part_by (is_go_saved (go_by b) k) (λ v. v.go) (go_by b) (with_go rows l g) k
+        ≡ part_by (is_go_saved saved k) (λ v. v.go) saved rows k
+    go_stays b was k =
+        form b
+        ∙ old_stays saved.go_flags l k (omega (arith, room.goes, fits.links)) b was (shown_at rows k).go
+        (shown_at (with_go rows l g) k).go (shown_at saved.rows k).go (shown_at go_flagged.rows k).go
+        (λ other. ap (λ (v : CellValue). v.go) (go_elsewhere rows l g kept inside long rows.sweeps k other))
+        (λ same. ap (λ m. (shown_at go_flagged.rows m).go) same
+        ∙ ap (λ (v : CellValue). v.go) (go_here saved.rows l (shown_at rows l).go saved_kept go_inside
+        (was_long ∙ sym fits.size.step_count) saved.rows.sweeps)
+        ∙ sym (ap (λ m. (shown_at rows m).go) same))
+        (λ other. ap (λ (v : CellValue). v.go) (go_elsewhere saved.rows l (shown_at rows l).go saved_kept go_inside
+        (was_long ∙ sym fits.size.step_count) saved.rows.sweeps k other))
+      where
+        form : (b : Bool) → part_by (is_go_saved (go_by b) k) (λ v. v.go) (go_by b) (with_go rows l g) k
+            ≡ (if get_or (if b then set saved.go_flags l true else saved.go_flags) k false
+            then (if b then (shown_at go_flagged.rows k).go else (shown_at saved.rows k).go)
+            else (shown_at (with_go rows l g) k).go)
+        form true = refl
+        form false = refl
+
+    go_outs : (b : Bool) (t k : ℕ) → old_out (go_by b) (with_go rows l g) t k ≡ old_out saved rows t k
+    go_outs true t k = refl
+    go_outs false t k = refl
+
+    go_come : {A : Type 0} (b : Bool) (part : CellValue → A) (k : ℕ)
+        → ((c : CellValue) (x : List ℕ) → part (record c { go = x }) ≡ part c)
+        → part_by (is_come_saved (go_by b) k) part (go_by b) (with_go rows l g) k
+        ≡ part_by (is_come_saved saved k) part saved rows k
+    go_come true part k apart =
+        let here = apart (shown_at rows k) (shown_at (with_go rows l g) k).go in
+        let there = apart (shown_at saved.rows k) (shown_at go_flagged.rows k).go in
+        (λ j. if is_come_saved saved k then there j else here j)
+    go_come false part k apart =
+        let here = apart (shown_at rows k) (shown_at (with_go rows l g) k).go in
+        (λ j. if is_come_saved saved k then part (shown_at saved.rows k) else here j)
+
+    go_shown_by : (b : Bool) → is_go_saved saved l ≡ not b → (k : ℕ)
+        → old_shown (go_by b) (with_go rows l g) k ≡ old_shown saved rows k
+    go_shown_by b was k =
+        let come = go_come b (λ v. v.arrivals) k (λ _ _. refl) in
+        let standing = go_come b (λ v. v.queue) k (λ _ _. refl) in
+        let told = go_come b (λ v. v.figures) k (λ _ _. refl) in
+        let going = go_stays b was k in
+        let leaving = go_outs b rows.sweeps k in
+        (λ j. record { arrivals = come j; go = going j; queue = standing j; out = leaving j; figures = told j })
+
+    go_fits : (b : Bool) → FitsRows (with_go rows l g) (go_by b)
+    go_fits true = record {
+      size = record {
+        step_count = fits.size.step_count;
+        sweeps = fits.size.sweeps;
+        link_count = fits.size.link_count;
+      };
+      links = fits.links;
+    }
+    go_fits false = record {
+      size = record {
+        step_count = fits.size.step_count;
+        sweeps = fits.size.sweeps;
+        link_count = fits.size.link_count;
+      };
+      links = fits.links;
+    }
+
+    go_live : (b : Bool) → (go_by b).live ≡ saved.live
+    go_live true = refl
+    go_live false = refl
+
+    -- what can go of a link is saved, and then written over
+    pub carries_go : Carries rows saved (with_go rows l g) (go_kept saved l (shown_at rows l).go)
+    carries_go = record {
+      size = record { step_count = refl; sweeps = refl; link_count = refl };
+      fits = go_fits (saved.live && not (is_go_saved saved l));
+      live = go_live (saved.live && not (is_go_saved saved l));
+      outs = λ live t k within there. go_outs (saved.live && not (is_go_saved saved l)) t k;
+      shown = λ live k there.
+          ap unweighed (ap (λ v. old_shown (go_by (v && not (is_go_saved saved l))) (with_go rows l g) k) live
+          ∙ go_shown_by (not (is_go_saved saved l)) (not_twice (is_go_saved saved l)) k);
+    }
+
+-- all of a link at the last sweep by whether what comes is saved
+abbrev told_by : SavedValue → Bool → RowsValue → ℕ → CellValue
+told_by saved b rows k = record {
+  arrivals = part_by b (λ v. v.arrivals) saved rows k;
+  go = part_by (is_go_saved saved k) (λ v. v.go) saved rows k;
+  queue = part_by b (λ v. v.queue) saved rows k;
+  out = old_out saved rows rows.sweeps k;
+  figures = part_by b (λ v. v.figures) saved rows k;
+}
+
+-- a link is weighed anew
+pub carries_weighed : (net : Network) (rows : RowsValue) (saved : SavedValue) → FitsRows rows saved → (l : ℕ)
+    → l < length rows.figures → Carries rows saved (with_weights rows net l) saved
+carries_weighed net rows saved fits l inside = record {
+  size = figures_size rows l (reweighed net l (shown_at rows l).figures);
+  fits = record {
+    size = record {
+      step_count = fits.size.step_count;
+      sweeps = fits.size.sweeps;
+      link_count = fits.size.link_count ∙ sym size;
+    };
+    links = fits.links ∙ sym size;
+  };
+  live = refl;
+  outs = λ live t k within there. leaving t k;
+  shown = λ live k there. by k (is_come_saved saved k) (cases_eq k l);
+}
+  where
+    size : length (with_weights rows net l).figures ≡ length rows.figures
+    size = length-set rows.figures l (reweighed net l (shown_at rows l).figures)
+
+    leaving : (t k : ℕ) → old_out saved (with_weights rows net l) t k ≡ old_out saved rows t k
+    leaving t k =
+        ap (λ x. if is_out_saved saved t k then out_at saved.rows t k else x)
+        (figures_out rows l (reweighed net l (shown_at rows l).figures) t k)
+
+    by : (k : ℕ) (b : Bool) → (k ≡ l) ⊎ (k ≡ l → ⊥)
+        → unweighed (told_by saved b (with_weights rows net l) k) ≡ unweighed (told_by saved b rows k)
+    by k true which =
+        let out = leaving rows.sweeps k in
+        (λ j. record {
+          arrivals = (shown_at saved.rows k).arrivals;
+          go = part_by (is_go_saved saved k) (λ v. v.go) saved rows k;
+          queue = (shown_at saved.rows k).queue;
+          out = out j;
+          figures = record (shown_at saved.rows k).figures { index = 0 };
+        })
+    by k false (inl here) =
+        let out = leaving rows.sweeps k in
+        let weighed = ap (λ m. (unweighed (shown_at (with_weights rows net l) m)).figures) here
+        ∙ ap (λ (v : CellValue). (unweighed v).figures)
+        (figures_here rows l (reweighed net l (shown_at rows l).figures) inside)
+        ∙ sym (ap (λ m. (unweighed (shown_at rows m)).figures) here) in
+        (λ j. record {
+          arrivals = (shown_at rows k).arrivals;
+          go = part_by (is_go_saved saved k) (λ v. v.go) saved rows k;
+          queue = (shown_at rows k).queue;
+          out = out j;
+          figures = weighed j;
+        })
+    by k false (inr other) =
+        let out = leaving rows.sweeps k in
+        let weighed = ap (λ (v : CellValue). (unweighed v).figures)
+        (figures_elsewhere rows l (reweighed net l (shown_at rows l).figures) k other) in
+        (λ j. record {
+          arrivals = (shown_at rows k).arrivals;
+          go = part_by (is_go_saved saved k) (λ v. v.go) saved rows k;
+          queue = (shown_at rows k).queue;
+          out = out j;
+          figures = weighed j;
+        })

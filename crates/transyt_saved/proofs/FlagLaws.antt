@@ -1,0 +1,56 @@
+-- One row is saved and written over: by the flags, what was saved and what wasn't say the same before and after.
+use Rattle.std.proofs.Common.{◌≡◌, ◌≢◌, ℕ, ◌+◌, ◌*◌, ◌<◌, ◌≤◌, Bool, true, false, not, List, length, set, get_or}
+use Rattle.std.proofs.Common.{refl, ap, sym, ◌∙◌, arith, ◌⊎◌, inl, inr, if◌then◌else◌}
+use Rattle.std.proofs.lemmas.Bool.{cases_eq}
+use Rattle.std.proofs.lemmas.List.{get_or-set_other}
+use Rattle.std.proofs.lemmas.Grind.{get_or-set_at}
+use Rattle.transyt_sweep.proofs.PairLaws.{pair_room}
+
+-- two pairs are one, or apart
+pub pair_cases : (t k s l : ℕ) → ((t ≡ s) × (k ≡ l)) ⊎ (t ≡ s → k ≡ l → ⊥)
+pair_cases t k s l = by (cases_eq t s) (cases_eq k l)
+  where
+    by : (t ≡ s) ⊎ (t ≡ s → ⊥) → (k ≡ l) ⊎ (k ≡ l → ⊥) → ((t ≡ s) × (k ≡ l)) ⊎ (t ≡ s → k ≡ l → ⊥)
+    by (inl sweep) (inl link) = inl (sweep, link)
+    by (inl sweep) (inr other) = inr (λ _ e. other e)
+    by (inr other) _ = inr (λ e _. other e)
+
+-- the flag of a pair
+pub flag_room : (sweeps links s l : ℕ) → s ≤ sweeps → l < links → s * links + l < (sweeps + 1) * links
+flag_room sweeps links s l swept inside = omega (arith, pair_room sweeps links 1 s l swept inside)
+
+-- a flag goes up where it was down, and what stood there is put among what is saved: what is saved where a flag is up,
+-- and what stands now where none is, stay what they were
+pub old_stays : {A : Type 0} (flags : List Bool) (p i : ℕ) → p < length flags → (b : Bool)
+    → get_or flags p false ≡ not b → (now new was put : A) → (i ≢ p → new ≡ now) → (i ≡ p → put ≡ now)
+    → (i ≢ p → put ≡ was)
+    → (if get_or (if b then set flags p true else flags) i false then (if b then put else was) else new)
+    ≡ (if get_or flags i false then was else now)
+old_stays flags p i inside true down now new was put elsewhere here others = by (cases_eq i p)
+  where
+    by : (i ≡ p) ⊎ (i ≡ p → ⊥)
+        → (if get_or (set flags p true) i false then put else new) ≡ (if get_or flags i false then was else now)
+    by (inl same) =
+        ap (λ f. if f then put else new) (get_or-set_at flags p i true false same inside)
+        ∙ here same
+        ∙ sym (ap (λ f. if f then was else now) (ap (λ m. get_or flags m false) same ∙ down))
+    by (inr apart) =
+        let other : i ≢ p = apart in
+        ap (λ f. if f then put else new) (get_or-set_other flags p i true false other)
+        ∙ ap (λ x. if get_or flags i false then x else new) (others other)
+        ∙ ap (λ x. if get_or flags i false then was else x) (elsewhere other)
+old_stays flags p i inside false up now new was put elsewhere here others = by (cases_eq i p)
+  where
+    by : (i ≡ p) ⊎ (i ≡ p → ⊥)
+        → (if get_or flags i false then was else new) ≡ (if get_or flags i false then was else now)
+    by (inl same) =
+        let flag : get_or flags i false ≡ true = ap (λ m. get_or flags m false) same ∙ up in
+        ap (λ f. if f then was else new) flag ∙ sym (ap (λ f. if f then was else now) flag)
+    by (inr apart) =
+        let other : i ≢ p = apart in
+        ap (λ x. if get_or flags i false then was else x) (elsewhere other)
+
+-- turned round twice
+pub not_twice : (x : Bool) → x ≡ not (not x)
+not_twice true = refl
+not_twice false = refl

@@ -1,0 +1,165 @@
+-- The rows that are saved while a mark is open.
+use Rattle.std.specs.Prelude.{◌≡◌, ℕ, ◌+◌, ◌*◌, ◌<◌, ◌≤◌, Bool, true, false, not, ◌&&◌, ◌||◌, List, length}
+use Rattle.std.specs.Prelude.{if◌then◌else◌, slice_index_or, slice_set, replicate}
+use Rattle.transyt_sweep.specs.Cell.{CellValue}
+use Rattle.transyt_sweep.specs.Rows.{RowsValue, SameSize, out_at, shown_at, with_out, with_come, with_go}
+
+-- Saved rows: whether a mark is open, the rows, and flags, up where a row of them is saved: of what leaves each link at
+-- each sweep, of what comes to each link with its queue and figures, and of what can go of it.
+pub record SavedValue : Type 0 where
+  pub live : Bool
+  pub link_count : ℕ
+  pub out_flags : List Bool
+  pub come_flags : List Bool
+  pub go_flags : List Bool
+  pub rows : RowsValue
+
+-- whether what leaves a link at a sweep is saved
+abbrev pub is_out_saved : SavedValue → ℕ → ℕ → Bool
+is_out_saved saved sweep link = slice_index_or saved.out_flags (sweep * saved.link_count + link) false
+
+-- whether what comes to a link at the last sweep is, with its queue and figures
+abbrev pub is_come_saved : SavedValue → ℕ → Bool
+is_come_saved saved link = slice_index_or saved.come_flags link false
+
+-- whether what can go of it is
+abbrev pub is_go_saved : SavedValue → ℕ → Bool
+is_go_saved saved link = slice_index_or saved.go_flags link false
+
+-- whether anything of a link at the last sweep is saved but what leaves
+abbrev pub is_shown_saved : SavedValue → ℕ → Bool
+is_shown_saved saved link = is_come_saved saved link || is_go_saved saved link
+
+-- the rows with what comes to a link at the last sweep by this, its queue and its figures
+abbrev pub with_come_of : RowsValue → ℕ → CellValue → RowsValue
+with_come_of rows link cell = with_come rows link cell.arrivals cell.queue cell.figures
+
+-- the saved rows with what leaves a link at a sweep by the rows, if a mark is open and none is saved
+abbrev pub out_kept : SavedValue → RowsValue → ℕ → ℕ → SavedValue
+out_kept saved rows sweep link =
+    if saved.live && not (is_out_saved saved sweep link)
+    then record saved {
+      out_flags = slice_set saved.out_flags (sweep * saved.link_count + link) true;
+      rows = with_out saved.rows sweep link (out_at rows sweep link);
+    }
+    else saved
+
+-- the saved rows with what comes to a link by this, its queue and its figures, if a mark is open and none is saved
+abbrev pub come_kept : SavedValue → ℕ → CellValue → SavedValue
+come_kept saved link cell =
+    if saved.live && not (is_come_saved saved link)
+    then record saved {
+      come_flags = slice_set saved.come_flags link true;
+      rows = with_come_of saved.rows link cell;
+    }
+    else saved
+
+-- the saved rows with this as what can go of a link, if a mark is open and none is saved
+abbrev pub go_kept : SavedValue → ℕ → List ℕ → SavedValue
+go_kept saved link go =
+    if saved.live && not (is_go_saved saved link)
+    then record saved {
+      go_flags = slice_set saved.go_flags link true;
+      rows = with_go saved.rows link go;
+    }
+    else saved
+
+-- what leaves a link at a sweep by its saved row, if there is one, else by its row now
+abbrev pub old_out : SavedValue → RowsValue → ℕ → ℕ → List ℕ
+old_out saved rows sweep link =
+    if is_out_saved saved sweep link then out_at saved.rows sweep link else out_at rows sweep link
+
+-- a part of the last sweep of a link by its saved row, if it is saved, else by its row now
+abbrev pub part_by : {A : Type 0} → Bool → (CellValue → A) → SavedValue → RowsValue → ℕ → A
+part_by is_saved part saved rows link = if is_saved then part (shown_at saved.rows link) else part (shown_at rows link)
+
+-- the last sweep of a link in the same way, each row of it by itself
+abbrev pub old_shown : SavedValue → RowsValue → ℕ → CellValue
+old_shown saved rows link = record {
+  arrivals = part_by (is_come_saved saved link) (λ c. c.arrivals) saved rows link;
+  go = part_by (is_go_saved saved link) (λ c. c.go) saved rows link;
+  queue = part_by (is_come_saved saved link) (λ c. c.queue) saved rows link;
+  out = old_out saved rows rows.sweeps link;
+  figures = part_by (is_come_saved saved link) (λ c. c.figures) saved rows link;
+}
+
+-- all of a link but its index
+abbrev pub unweighed : CellValue → CellValue
+unweighed cell = record cell { figures = record cell.figures { index = 0 } }
+
+-- the saved rows have the size of the rows
+pub record FitsRows (rows : RowsValue) (saved : SavedValue) : Type 0 where
+  pub size : SameSize saved.rows rows
+  pub links : saved.link_count ≡ length rows.figures
+
+-- what the saved rows and the rows lead back to stays: they say the same before and after
+pub record Carries (rows : RowsValue) (saved : SavedValue) (new_rows : RowsValue) (new_saved : SavedValue) : Type 0
+  where
+    pub size : SameSize new_rows rows
+    pub fits : FitsRows new_rows new_saved
+    pub live : new_saved.live ≡ saved.live
+    pub outs : saved.live ≡ true → (sweep link : ℕ) → sweep ≤ rows.sweeps → link < length rows.figures
+        → old_out new_saved new_rows sweep link ≡ old_out saved rows sweep link
+    pub shown : saved.live ≡ true → (link : ℕ) → link < length rows.figures
+        → unweighed (old_shown new_saved new_rows link) ≡ unweighed (old_shown saved rows link)
+
+-- what the parts of saved rows satisfy: a flag for each pair of a sweep and a link, and two for each link
+pub record AreSaved (link_count : ℕ) (out_flags come_flags go_flags : List Bool) (rows : RowsValue) : Type 0 where
+  pub links : link_count ≡ length rows.figures
+  pub few : link_count ≤ 1000
+  pub sweeps : rows.sweeps ≤ 8
+  pub outs : length out_flags ≡ (rows.sweeps + 1) * link_count
+  pub comes : length come_flags ≡ link_count
+  pub goes : length go_flags ≡ link_count
+
+-- as many flags, all down
+abbrev pub all_down : List Bool → List Bool
+all_down flags = replicate (length flags) false
+
+-- the saved rows with a mark set: none is saved
+abbrev pub begun : SavedValue → SavedValue
+begun saved = record saved {
+  live = true;
+  out_flags = all_down saved.out_flags;
+  come_flags = all_down saved.come_flags;
+  go_flags = all_down saved.go_flags;
+}
+
+-- the saved rows with the mark gone
+abbrev pub settled : SavedValue → SavedValue
+settled saved = record saved { live = false }
+
+-- two have the rows of the same places, as large
+pub record SaveAlike (a b : SavedValue) : Type 0 where
+  pub live : a.live ≡ b.live
+  pub link_count : a.link_count ≡ b.link_count
+  pub out_flags : a.out_flags ≡ b.out_flags
+  pub come_flags : a.come_flags ≡ b.come_flags
+  pub go_flags : a.go_flags ≡ b.go_flags
+  pub size : SameSize a.rows b.rows
+
+-- the rows went back to what was saved of them
+pub record AreRestored (saved : SavedValue) (old rows : RowsValue) : Type 0 where
+  pub size : SameSize rows old
+  pub outs : (sweep link : ℕ) → sweep ≤ old.sweeps → link < length old.figures
+      → out_at rows sweep link ≡ old_out saved old sweep link
+  pub shown : (link : ℕ) → link < length old.figures → shown_at rows link ≡ old_shown saved old link
+
+-- what leaves a link at a sweep by other rows, if it is saved, else by these
+abbrev pub copied_out : SavedValue → RowsValue → RowsValue → ℕ → ℕ → List ℕ
+copied_out saved from rows sweep link =
+    if is_out_saved saved sweep link then out_at from sweep link else out_at rows sweep link
+
+-- the last sweep of a link by other rows, if anything of it is saved but what leaves, else by these
+abbrev pub copied_shown : SavedValue → RowsValue → RowsValue → ℕ → CellValue
+copied_shown saved from rows link =
+    if is_shown_saved saved link then shown_at from link else shown_at rows link
+
+-- the rows became those of others where anything is saved
+pub record AreCopied (saved : SavedValue) (from old rows : RowsValue) : Type 0 where
+  pub size : SameSize rows old
+  pub outs : (sweep link : ℕ) → sweep ≤ old.sweeps → link < length old.figures
+      → out_at rows sweep link ≡ copied_out saved from old sweep link
+  pub shown : (link : ℕ) → link < length old.figures
+      → shown_at rows link
+      ≡ record (copied_shown saved from old link) { out = copied_out saved from old old.sweeps link }

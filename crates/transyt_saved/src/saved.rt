@@ -1,0 +1,426 @@
+//! Saved rows and their calls.
+
+ghost use Rattle.std.specs.Prelude.{◌≡◌, ◌+◌, ◌*◌, ◌<◌, ◌≤◌, ◌||◌, ℕ, false, length, IfOk, if◌then◌else◌};
+ghost use Rattle.transyt_sweep.specs.Cell.{HasSteps};
+ghost use Rattle.transyt_sweep.specs.Rows.{Fits, SameSize, AreRows, out_at, shown_at};
+ghost use Rattle.transyt_sweep.specs.Rows.{with_out, with_come, with_go, with_rest};
+ghost use Rattle.transyt_sweep.specs.Front.{AreMixed};
+ghost use Rattle.transyt_sweep.specs.Sweeps.{start};
+ghost use Rattle.transyt_saved.specs.Saved.{is_out_saved, is_come_saved, is_go_saved, is_shown_saved};
+ghost use Rattle.transyt_saved.specs.Saved.{out_kept, come_kept, go_kept};
+ghost use Rattle.transyt_saved.specs.Saved.{old_out, old_shown, copied_out, copied_shown, with_come_of};
+ghost use Rattle.transyt_saved.specs.Saved.{begun, settled, FitsRows, Carries, AreSaved, SaveAlike};
+ghost use Rattle.transyt_saved.specs.Saved.{AreRestored, AreCopied};
+
+use crate::flags::{clear, no_flags};
+use std::alloc::{AllocError, Global};
+use std::marker::Model;
+use transyt_net::Net;
+use transyt_sweep::{Rows, SavedRows, Scratch};
+
+/// The rows that were there when a mark was set, as far as they were written over since.
+#[derive(Drop)]
+pub struct Saved {
+    live: bool,
+    link_count: usize,
+    // a flag for each pair of a sweep and a link: what leaves is saved
+    out_flags: Vec<bool>,
+    // a flag for each link: what comes at the last sweep is saved, with the queue and the figures
+    come_flags: Vec<bool>,
+    // and: what can go is saved
+    go_flags: Vec<bool>,
+    rows: SavedRows,
+}
+
+impl Model for Saved {
+    ghost use Rattle.transyt_saved.specs.Saved.{SavedValue, AreSaved};
+
+    ghost Value = { SavedValue };
+
+    ghost view = { λ s. record {
+      live = s.live;
+      link_count = s.link_count;
+      out_flags = s.out_flags.items;
+      come_flags = s.come_flags.items;
+      go_flags = s.go_flags.items;
+      rows = s.rows;
+    } };
+
+    ghost invariant = { λ s. AreSaved s.link_count s.out_flags.items s.come_flags.items s.go_flags.items s.rows };
+}
+
+impl Saved {
+    /// Room to save the rows of a network. No mark is open. On an error nothing is left of it.
+    pub fn open(alloc: Global, net: &Net) -> Result<Saved, AllocError>
+        ensures live { IfOk result (λ saved. saved.live ≡ false) }
+        ensures fits { IfOk result (λ saved. Fits net.now saved.rows) }
+        ensures links { IfOk result (λ saved. saved.link_count ≡ length net.now.links) }
+    {
+        let link_count = net.links().len();
+        let pairs = (net.frame().sweeps as usize + 1) * link_count;
+        let rows = SavedRows::open(alloc, net)?;
+        Ok(Saved {
+            live: false,
+            link_count,
+            out_flags: no_flags(alloc, pairs)?,
+            come_flags: no_flags(alloc, link_count)?,
+            go_flags: no_flags(alloc, link_count)?,
+            rows,
+        })
+    }
+
+    /// Whether a mark is open.
+    pub fn is_live(&self) -> bool
+        ensures { result ≡ self.now.live }
+    {
+        self.live
+    }
+
+    /// Whether anything of a link at the last sweep is saved but what leaves.
+    pub fn is_shown_saved(&self, link: usize) -> bool
+        requires { link < self.now.link_count }
+        ensures { result ≡ is_shown_saved self.now link }
+    {
+        self.come_flags[link] || self.go_flags[link]
+    }
+
+    /// Sets a mark: none of the rows is saved.
+    pub fn begin(&mut self)
+        ensures { self.new ≡ begun self.old }
+    {
+        clear(&mut self.out_flags);
+        clear(&mut self.come_flags);
+        clear(&mut self.go_flags);
+        self.live = true;
+    }
+
+    /// The mark is gone.
+    pub fn settle(&mut self)
+        ensures { self.new ≡ settled self.old }
+    {
+        self.live = false;
+    }
+
+    /// What leaves a link at a sweep becomes what a scratch has. What left it is saved, if a mark is open and none is.
+    pub fn take_out(&mut self, sweep: u32, link: usize, scratch: &Scratch, rows: &mut Rows)
+        requires fits { FitsRows rows.old self.old }
+        requires sweep { sweep ≤ rows.old.sweeps }
+        requires link { link < length rows.old.figures }
+        requires steps { HasSteps rows.old.step_count scratch.now }
+        ensures value { rows.new ≡ with_out rows.old sweep link scratch.now.out }
+        ensures carries { Carries rows.old self.old rows.new self.new }
+        ensures kept { AreRows rows.old }
+    {
+        self.save_out(sweep, link, rows);
+        rows.take_out(sweep, link, scratch);
+    }
+
+    /// What comes to a link at the last sweep, its queue and its figures become what a scratch has, which is left with
+    /// other rows. What they were is saved, if a mark is open and it isn't. Nothing is copied.
+    pub fn take_come(&mut self, link: usize, scratch: &mut Scratch, rows: &mut Rows)
+        requires fits { FitsRows rows.old self.old }
+        requires link { link < length rows.old.figures }
+        requires steps { HasSteps rows.old.step_count scratch.old }
+        ensures value { rows.new
+            ≡ with_come rows.old link scratch.old.arrivals scratch.old.queue scratch.old.figures }
+        ensures carries { Carries rows.old self.old rows.new self.new }
+        ensures go { scratch.new.go ≡ scratch.old.go }
+        ensures steps { length scratch.new.arrivals ≡ rows.old.step_count }
+        ensures kept { AreRows rows.old }
+    {
+        rows.exchange_come(link, scratch);
+        self.keep_come(link, scratch);
+    }
+
+    /// What can go of a link at the last sweep becomes what a scratch has, which is left with another row. What it was
+    /// is saved, if a mark is open and it isn't. Nothing is copied.
+    pub fn take_go(&mut self, link: usize, scratch: &mut Scratch, rows: &mut Rows)
+        requires fits { FitsRows rows.old self.old }
+        requires link { link < length rows.old.figures }
+        requires steps { length scratch.old.arrivals ≡ rows.old.step_count }
+        requires go_steps { length scratch.old.go ≡ rows.old.step_count }
+        ensures value { rows.new ≡ with_go rows.old link scratch.old.go }
+        ensures carries { Carries rows.old self.old rows.new self.new }
+        ensures steps { length scratch.new.arrivals ≡ rows.old.step_count }
+        ensures kept { AreRows rows.old }
+    {
+        rows.exchange_go(link, scratch);
+        self.keep_go(link, scratch);
+    }
+
+    /// What leaves a link before the first sweep becomes that of its total flow. What left it is saved, if a mark is
+    /// open and none is.
+    pub fn start(&mut self, net: &Net, link: usize, rows: &mut Rows)
+        requires fits { Fits net.now rows.old }
+        requires fits_saved { FitsRows rows.old self.old }
+        requires link { link < length net.now.links }
+        ensures value { rows.new ≡ with_out rows.old 0 link (start net.now link) }
+        ensures carries { Carries rows.old self.old rows.new self.new }
+        ensures kept { AreRows rows.old }
+    {
+        self.save_out(0, link, rows);
+        rows.start(net, link);
+    }
+
+    /// All rows become what was saved of them, if anything was. Which are saved stays told.
+    pub fn restore(&mut self, net: &Net, rows: &mut Rows)
+        requires fits { Fits net.now rows.old }
+        requires fits_saved { FitsRows rows.old self.old }
+        ensures rows { AreRestored self.old rows.old rows.new }
+        ensures saved { SaveAlike self.new self.old }
+    {
+        self.give_outs(net, rows);
+        self.give_shown(net, rows);
+    }
+
+    /// Rows become those of others where anything is saved.
+    pub fn copy_changes(&self, net: &Net, from: &Rows, rows: &mut Rows)
+        requires fits { Fits net.now rows.old }
+        requires fits_from { Fits net.now from.now }
+        requires fits_saved { FitsRows from.now self.now }
+        ensures { AreCopied self.now from.now rows.old rows.new }
+    {
+        self.copy_outs(net, from, rows);
+        self.copy_shown(net, from, rows);
+    }
+
+    /// The place of a pair's flag.
+    fn place(&self, sweep: u32, link: usize) -> usize
+        requires sweep { sweep ≤ self.now.rows.sweeps }
+        requires link { link < self.now.link_count }
+        ensures value { result ≡ sweep * self.now.link_count + link }
+        ensures within { result < length self.now.out_flags }
+    {
+        sweep as usize * self.link_count + link
+    }
+
+    /// Whether what leaves a link at a sweep is saved.
+    fn is_out_saved(&self, sweep: u32, link: usize) -> bool
+        requires sweep { sweep ≤ self.now.rows.sweeps }
+        requires link { link < self.now.link_count }
+        ensures { result ≡ is_out_saved self.now sweep link }
+    {
+        self.out_flags[self.place(sweep, link)]
+    }
+
+    /// Whether what comes to a link at the last sweep is saved, with its queue and figures.
+    fn is_come_saved(&self, link: usize) -> bool
+        requires { link < self.now.link_count }
+        ensures { result ≡ is_come_saved self.now link }
+    {
+        self.come_flags[link]
+    }
+
+    /// Whether what can go of a link is saved.
+    fn is_go_saved(&self, link: usize) -> bool
+        requires { link < self.now.link_count }
+        ensures { result ≡ is_go_saved self.now link }
+    {
+        self.go_flags[link]
+    }
+
+    /// Saves what leaves a link at a sweep, if a mark is open and none is saved.
+    fn save_out(&mut self, sweep: u32, link: usize, rows: &Rows)
+        requires fits { FitsRows rows.now self.old }
+        requires sweep { sweep ≤ rows.now.sweeps }
+        requires link { link < length rows.now.figures }
+        ensures value { self.new ≡ out_kept self.old rows.now sweep link }
+        ensures rows { AreRows self.old.rows }
+        ensures room { AreSaved self.old.link_count self.old.out_flags self.old.come_flags self.old.go_flags
+            self.old.rows }
+    {
+        self.rows.sweeps();
+        if self.live && !self.is_out_saved(sweep, link) {
+            let place = self.place(sweep, link);
+            self.out_flags[place] = true;
+            self.rows.save_out(sweep, link, rows);
+        }
+    }
+
+    /// Saves what a scratch has as what comes to a link, its queue and its figures, if a mark is open and none is
+    /// saved.
+    fn keep_come(&mut self, link: usize, scratch: &mut Scratch)
+        requires link { link < self.old.link_count }
+        requires steps { length scratch.old.arrivals ≡ self.old.rows.step_count }
+        ensures value { self.new ≡ come_kept self.old link scratch.old }
+        ensures go { scratch.new.go ≡ scratch.old.go }
+        ensures steps { length scratch.new.arrivals ≡ self.old.rows.step_count }
+        ensures rows { AreRows self.old.rows }
+        ensures room { AreSaved self.old.link_count self.old.out_flags self.old.come_flags self.old.go_flags
+            self.old.rows }
+    {
+        self.rows.sweeps();
+        if self.live && !self.is_come_saved(link) {
+            self.come_flags[link] = true;
+            self.rows.exchange_come(link, scratch);
+        }
+    }
+
+    /// Saves what a scratch has as what can go of a link, if a mark is open and none is saved.
+    fn keep_go(&mut self, link: usize, scratch: &mut Scratch)
+        requires link { link < self.old.link_count }
+        requires steps { length scratch.old.arrivals ≡ self.old.rows.step_count }
+        ensures value { self.new ≡ go_kept self.old link scratch.old.go }
+        ensures steps { length scratch.new.arrivals ≡ self.old.rows.step_count }
+        ensures rows { AreRows self.old.rows }
+        ensures room { AreSaved self.old.link_count self.old.out_flags self.old.come_flags self.old.go_flags
+            self.old.rows }
+    {
+        self.rows.sweeps();
+        if self.live && !self.is_go_saved(link) {
+            self.go_flags[link] = true;
+            self.rows.exchange_go(link, scratch);
+        }
+    }
+
+    /// What leaves each link at each sweep becomes what was saved of it, if anything was.
+    fn give_outs(&self, net: &Net, rows: &mut Rows)
+        requires fits { Fits net.now rows.old }
+        requires fits_saved { FitsRows rows.old self.now }
+        ensures outs { AreMixed net.now (old_out self.now rows.old) (out_at rows.old) (net.now.frame.sweeps + 1) 0
+            rows.new }
+        ensures rest { rows.new ≡ record rows.old { outs = rows.new.outs } }
+    {
+        for sweep in 0..net.frame().sweeps + 1 {
+            for link in 0..net.links().len() {
+                self.give_out(sweep, link, rows);
+            }
+        }
+    }
+
+    /// What leaves a link at a sweep becomes what was saved of it, if anything was.
+    fn give_out(&self, sweep: u32, link: usize, rows: &mut Rows)
+        requires fits { FitsRows rows.old self.now }
+        requires sweep { sweep ≤ rows.old.sweeps }
+        requires link { link < length rows.old.figures }
+        ensures value { rows.new ≡ (if is_out_saved self.now sweep link
+            then with_out rows.old sweep link (out_at self.now.rows sweep link) else rows.old) }
+        ensures kept { AreRows rows.old }
+        ensures kept_saved { AreRows self.now.rows }
+    {
+        rows.index();
+        self.rows.sweeps();
+        if self.is_out_saved(sweep, link) {
+            self.rows.give_out(sweep, link, rows);
+        }
+    }
+
+    /// All of the last sweep but what leaves becomes what was saved of it, if anything was.
+    fn give_shown(&mut self, net: &Net, rows: &mut Rows)
+        requires fits { Fits net.now rows.old }
+        requires fits_saved { FitsRows rows.old self.old }
+        ensures size { SameSize rows.new rows.old }
+        ensures outs { rows.new.outs ≡ rows.old.outs }
+        ensures shown { (link : ℕ) → link < length rows.old.figures → shown_at rows.new link
+            ≡ record (old_shown self.old rows.old link) { out = out_at rows.old rows.old.sweeps link } }
+        ensures saved { SaveAlike self.new self.old }
+    {
+        for link in 0..net.links().len() {
+            self.give_come(link, rows);
+            self.give_go(link, rows);
+        }
+    }
+
+    /// What comes to a link at the last sweep, its queue and its figures become what was saved of them, if anything
+    /// was; the two change places.
+    fn give_come(&mut self, link: usize, rows: &mut Rows)
+        requires fits { FitsRows rows.old self.old }
+        requires link { link < length rows.old.figures }
+        ensures rows { rows.new ≡ (if is_come_saved self.old link
+            then with_come_of rows.old link (shown_at self.old.rows link) else rows.old) }
+        ensures saved { self.new ≡ (if is_come_saved self.old link
+            then record self.old { rows = with_come_of self.old.rows link (shown_at rows.old link) } else self.old) }
+        ensures kept { AreRows rows.old }
+        ensures kept_saved { AreRows self.old.rows }
+    {
+        rows.index();
+        self.rows.sweeps();
+        if self.is_come_saved(link) {
+            self.rows.give_come(link, rows);
+        }
+    }
+
+    /// What can go of a link at the last sweep becomes what was saved of it, if anything was; the two change places.
+    fn give_go(&mut self, link: usize, rows: &mut Rows)
+        requires fits { FitsRows rows.old self.old }
+        requires link { link < length rows.old.figures }
+        ensures rows { rows.new ≡ (if is_go_saved self.old link
+            then with_go rows.old link (shown_at self.old.rows link).go else rows.old) }
+        ensures saved { self.new ≡ (if is_go_saved self.old link
+            then record self.old { rows = with_go self.old.rows link (shown_at rows.old link).go } else self.old) }
+        ensures kept { AreRows rows.old }
+        ensures kept_saved { AreRows self.old.rows }
+    {
+        rows.index();
+        self.rows.sweeps();
+        if self.is_go_saved(link) {
+            self.rows.give_go(link, rows);
+        }
+    }
+
+    /// What leaves each link at each sweep becomes that of other rows, if it is saved.
+    fn copy_outs(&self, net: &Net, from: &Rows, rows: &mut Rows)
+        requires fits { Fits net.now rows.old }
+        requires fits_from { Fits net.now from.now }
+        requires fits_saved { FitsRows from.now self.now }
+        ensures outs { AreMixed net.now (copied_out self.now from.now rows.old) (out_at rows.old)
+            (net.now.frame.sweeps + 1) 0 rows.new }
+        ensures rest { rows.new ≡ record rows.old { outs = rows.new.outs } }
+    {
+        for sweep in 0..net.frame().sweeps + 1 {
+            for link in 0..net.links().len() {
+                self.copy_out(sweep, link, from, rows);
+            }
+        }
+    }
+
+    /// What leaves a link at a sweep becomes that of other rows, if it is saved.
+    fn copy_out(&self, sweep: u32, link: usize, from: &Rows, rows: &mut Rows)
+        requires fits { FitsRows from.now self.now }
+        requires size { SameSize rows.old from.now }
+        requires sweep { sweep ≤ rows.old.sweeps }
+        requires link { link < length rows.old.figures }
+        ensures value { rows.new ≡ (if is_out_saved self.now sweep link
+            then with_out rows.old sweep link (out_at from.now sweep link) else rows.old) }
+        ensures kept { AreRows rows.old }
+        ensures kept_from { AreRows from.now }
+    {
+        rows.index();
+        from.index();
+        if self.is_out_saved(sweep, link) {
+            rows.take_departures(sweep, link, from);
+        }
+    }
+
+    /// All of the last sweep of a link but what leaves becomes that of other rows, if anything of it is saved.
+    fn copy_shown(&self, net: &Net, from: &Rows, rows: &mut Rows)
+        requires fits { Fits net.now rows.old }
+        requires fits_from { Fits net.now from.now }
+        requires fits_saved { FitsRows from.now self.now }
+        ensures size { SameSize rows.new rows.old }
+        ensures outs { rows.new.outs ≡ rows.old.outs }
+        ensures shown { (link : ℕ) → link < length rows.old.figures → shown_at rows.new link
+            ≡ record (copied_shown self.now from.now rows.old link) { out = out_at rows.old rows.old.sweeps link } }
+    {
+        for link in 0..net.links().len() {
+            self.copy_link(link, from, rows);
+        }
+    }
+
+    /// All of the last sweep of a link but what leaves becomes that of other rows, if anything of it is saved.
+    fn copy_link(&self, link: usize, from: &Rows, rows: &mut Rows)
+        requires fits { FitsRows from.now self.now }
+        requires size { SameSize rows.old from.now }
+        requires link { link < length rows.old.figures }
+        ensures value { rows.new ≡ (if is_shown_saved self.now link
+            then with_rest rows.old link (shown_at from.now link) else rows.old) }
+        ensures kept { AreRows rows.old }
+        ensures kept_from { AreRows from.now }
+    {
+        rows.index();
+        from.index();
+        if self.is_shown_saved(link) {
+            rows.take_shown(link, from);
+        }
+    }
+}

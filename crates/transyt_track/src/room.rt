@@ -1,0 +1,73 @@
+//! What a tracker works with beside its networks and its rows.
+
+ghost use Rattle.std.specs.Prelude.{◌≡◌, false, length, IfOk};
+ghost use Rattle.transyt_sweep.specs.Rows.{Fits};
+ghost use Rattle.transyt_track.specs.Own.{all_places};
+ghost use Rattle.transyt_track.specs.Readers.{AreReaders};
+
+use crate::own::{Places, all_places};
+use crate::readers::{Readers, all_readers};
+use std::alloc::{AllocError, Global};
+use transyt_net::Net;
+use transyt_saved::Saved;
+use transyt_sweep::Scratch;
+
+/// What a tracker works with: where what each link reads stands, the links that read each, room for saved rows, two
+/// flags for each link, and room for the work on one.
+#[derive(Drop)]
+pub(crate) struct Room {
+    pub(crate) saved: Saved,
+    pub(crate) places: Vec<Places>,
+    pub(crate) readers: Vec<Readers>,
+    pub(crate) own_changed: Vec<bool>,
+    pub(crate) awaited: Vec<bool>,
+    pub(crate) scratch: Scratch,
+}
+
+/// Where what each link reads stands, and the links that read each.
+fn read(alloc: Global, net: &Net) -> Result<(Vec<Places>, Vec<Readers>), AllocError>
+    ensures places { IfOk result (λ read. read.0.items ≡ all_places net.now) }
+    ensures readers { IfOk result (λ read. AreReaders net.now read.1.items) }
+{
+    let places = all_places(alloc, net)?;
+    let readers = all_readers(alloc, net, &places)?;
+    Ok((places, readers))
+}
+
+/// Two flags for each link.
+fn flags(alloc: Global, net: &Net) -> Result<(Vec<bool>, Vec<bool>), AllocError>
+    ensures first { IfOk result (λ flags. length flags.0.items ≡ length net.now.links) }
+    ensures second { IfOk result (λ flags. length flags.1.items ≡ length net.now.links) }
+{
+    let links = net.links().len();
+    let first = vec![in alloc; false; links]?;
+    let second = vec![in alloc; false; links]?;
+    Ok((first, second))
+}
+
+impl Room {
+    /// Room for a tracker of a network. No mark is open.
+    pub(crate) fn open(alloc: Global, net: &Net) -> Result<Room, AllocError>
+        ensures live { IfOk result (λ room. room.saved.live ≡ false) }
+        ensures fits { IfOk result (λ room. Fits net.now room.saved.rows) }
+        ensures links { IfOk result (λ room. room.saved.link_count ≡ length net.now.links) }
+        ensures places { IfOk result (λ room. room.places.items ≡ all_places net.now) }
+        ensures readers { IfOk result (λ room. AreReaders net.now room.readers.items) }
+        ensures own_count { IfOk result (λ room. length room.own_changed.items ≡ length net.now.links) }
+        ensures count { IfOk result (λ room. length room.awaited.items ≡ length net.now.links) }
+        ensures steps { IfOk result (λ room. length room.scratch.arrivals ≡ net.now.frame.step_count) }
+    {
+        let saved = Saved::open(alloc, net)?;
+        let read = read(alloc, net)?;
+        let flags = flags(alloc, net)?;
+        let scratch = Scratch::open(alloc, net)?;
+        Ok(Room {
+            saved,
+            places: read.0,
+            readers: read.1,
+            own_changed: flags.0,
+            awaited: flags.1,
+            scratch,
+        })
+    }
+}
