@@ -1,3 +1,4 @@
 -- The lemmas of the crate.
 mod Kept
 mod Replicated
+mod Queues
