@@ -20,6 +20,3 @@ pub use quotient::mul_div;
 pub use reading::read_number;
 pub use square_root::isqrt;
 pub use writing::put_number;
-
-#[cfg(test)]
-mod tests;
