@@ -1,2 +1,1 @@
 pub mod CycleLaws
-mod Worked

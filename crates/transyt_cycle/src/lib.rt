@@ -13,6 +13,3 @@ mod laws;
 pub use before::step_before;
 pub use difference::minus_mod;
 pub use laws::worked_differences;
-
-#[cfg(test)]
-mod tests;

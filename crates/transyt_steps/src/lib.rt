@@ -11,6 +11,3 @@
 mod counter;
 
 pub use counter::Steps;
-
-#[cfg(test)]
-mod tests;
