@@ -8,4 +8,3 @@ pub mod Progress
 pub mod Entries
 pub mod Exact
 pub mod WorkedTables
-pub mod WorkedTotals

@@ -17,8 +17,5 @@ mod terms;
 
 pub use figures::{Figures, figures_of};
 pub use index::weigh;
-pub use laws::{worked_limits, worked_links};
+pub use laws::worked_links;
 pub use terms::{Terms, TermsFrame};
-
-#[cfg(test)]
-mod tests;

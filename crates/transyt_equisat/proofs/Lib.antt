@@ -21,5 +21,3 @@ pub mod NeedsLaws
 pub mod WorthLaws
 pub mod AnswerLaws
 pub mod WorkedPeaks
-pub mod WorkedShares
-pub mod WorkedSettings

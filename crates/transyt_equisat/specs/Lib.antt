@@ -7,4 +7,3 @@ pub mod Answer
 pub mod Balance
 pub mod WorkedBalances
 pub mod WorkedPeaks
-pub mod WorkedShares

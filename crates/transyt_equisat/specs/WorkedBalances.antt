@@ -4,7 +4,7 @@ use Rattle.transyt_parts.specs.declared.node.Stage.{Stage}
 use Rattle.transyt_parts.specs.Parts.{LinkValue}
 use Rattle.transyt_parts.specs.Made.{new_stage, new_link, new_feed, add_feed}
 use Rattle.transyt_net.specs.Parts.{Network}
-use Rattle.transyt_net.specs.WorkedNets.{of, signals}
+use Rattle.transyt_net.specs.WorkedNets.{frame, of, signals}
 use Rattle.transyt_equisat.specs.declared.greens.Share.{Share}
 use Rattle.transyt_equisat.specs.Answer.{GreensValue}
 
@@ -26,6 +26,10 @@ worked_town = of (signals 4 8) (worked_links 431 0)
 -- the same without traffic at node 7
 abbrev pub empty_town : Network
 empty_town = of (signals 4 8) (new_link 5 21 431 1733 3 2 1 2 (1 ∷ []) ∷ [])
+
+-- and the same with a link there that has no traffic
+abbrev pub quiet_town : Network
+quiet_town = of (signals 4 8) (new_link 4 7 0 1451 4 1 0 0 (1 ∷ []) ∷ [])
 
 -- a stage of an answer
 abbrev pub share : ℕ → ℕ → ℕ → Share
@@ -51,3 +55,26 @@ two_stages = new_stage 0 1 2 ∷ new_stage 5 1 2 ∷ []
 -- their greens in a cycle of 10 steps
 abbrev pub greens_in_ten : List (List ℕ)
 greens_in_ten = (2 ∷ 6 ∷ []) ∷ (3 ∷ 5 ∷ []) ∷ (4 ∷ 4 ∷ []) ∷ (5 ∷ 3 ∷ []) ∷ (6 ∷ 2 ∷ []) ∷ []
+
+-- a town of these links with one node, whose greens fill a cycle of 10 steps in one way alone: 4 and 3
+abbrev pub equal_town : List LinkValue → Network
+equal_town links = record (of (record {
+  number = 7;
+  offset = 6;
+  stages = new_stage 7 1 4 ∷ new_stage 2 2 3 ∷ [];
+} ∷ []) links) { frame = record frame { step_count = 10 } }
+
+-- two links there that both have a half of what their greens let pass
+abbrev pub four_at_peak : LinkValue
+four_at_peak = new_link 4 7 311 1555 3 2 0 0 (1 ∷ [])
+
+abbrev pub nine_at_peak : LinkValue
+nine_at_peak = new_link 9 7 219 1460 5 8 0 0 (2 ∷ [])
+
+-- the balance where link 4 comes first: 311 · 10 of 1555 · 4
+abbrev pub balance_by_four : GreensValue
+balance_by_four = record { top = 3110; base = 6220; link = 4; stages = share 7 4 5 ∷ share 2 3 4 ∷ [] }
+
+-- and where link 9 does: 219 · 10 of 1460 · 3
+abbrev pub balance_by_nine : GreensValue
+balance_by_nine = record balance_by_four { top = 2190; base = 4380; link = 9 }

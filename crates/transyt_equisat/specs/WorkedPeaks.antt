@@ -1,13 +1,12 @@
--- Worked fractions, greens, plans and answers: such as are right, and such as are wrong in one thing.
+-- Worked fractions, plans and answers: such as are right, and such as are wrong in one thing.
 use Rattle.std.specs.Prelude.{ℕ, Bool, true, false, List, [], ◌∷◌}
 use Rattle.transyt_parts.specs.declared.node.Stage.{Stage}
-use Rattle.transyt_parts.specs.Parts.{NodeValue, LinkValue}
+use Rattle.transyt_parts.specs.Parts.{NodeValue}
 use Rattle.transyt_parts.specs.Made.{new_stage, new_link}
-use Rattle.transyt_net.specs.Parts.{Network}
-use Rattle.transyt_net.specs.WorkedNets.{frame, of, signals}
+use Rattle.transyt_net.specs.Parts.{Network, node_of}
 use Rattle.transyt_equisat.specs.declared.fraction.Fraction.{Fraction}
 use Rattle.transyt_equisat.specs.Answer.{GreensValue}
-use Rattle.transyt_equisat.specs.WorkedBalances.{share}
+use Rattle.transyt_equisat.specs.WorkedBalances.{share, equal_town, four_at_peak}
 
 -- a fraction
 abbrev pub fraction : ℕ → ℕ → Fraction
@@ -30,10 +29,6 @@ stages_of_21 first second third =
 abbrev pub stages_of_7 : ℕ → ℕ → List Stage
 stages_of_7 first second = new_stage first 3 2 ∷ new_stage second 1 5 ∷ []
 
--- None of these greens of node 21 fits in 18 steps: one too many, one below its least, a step less and one more.
-abbrev pub unfit : List (List ℕ)
-unfit = (6 ∷ 4 ∷ 3 ∷ 2 ∷ []) ∷ (8 ∷ 3 ∷ 4 ∷ []) ∷ (7 ∷ 4 ∷ 3 ∷ []) ∷ (7 ∷ 4 ∷ 5 ∷ []) ∷ []
-
 -- None of these is a plan of node 21: another least green, another intergreen, two turns, and a stage too short.
 abbrev pub unplanned : List (List Stage)
 unplanned =
@@ -43,31 +38,17 @@ unplanned =
     ∷ stages_of_21 2 5 16
     ∷ []
 
--- a town in whose node 7 a link without traffic counts
-abbrev pub quiet_town : Network
-quiet_town = of (signals 4 8) (new_link 4 7 0 1451 4 1 0 0 (1 ∷ []) ∷ [])
-
--- a node whose greens fill a cycle of 10 steps in one way alone, and a town in which it is the only one
-abbrev pub tight_stages : List Stage
-tight_stages = new_stage 7 1 4 ∷ new_stage 2 2 3 ∷ []
+-- a town whose greens fill the cycle in one way alone, with a link in each stage, and its node
+abbrev pub tight_town : Network
+tight_town = equal_town (four_at_peak ∷ new_link 9 7 103 1451 5 8 0 0 (2 ∷ []) ∷ [])
 
 abbrev pub tight_node : NodeValue
-tight_node = record { number = 7; offset = 6; stages = tight_stages }
+tight_node = node_of tight_town 0
 
-abbrev pub tight_links : List LinkValue
-tight_links = new_link 4 7 311 1555 3 2 0 0 (1 ∷ []) ∷ new_link 9 7 103 1451 5 8 0 0 (2 ∷ []) ∷ []
-
-abbrev pub tight_town : Network
-tight_town = record (of (tight_node ∷ []) tight_links) { frame = record frame { step_count = 10 } }
-
--- an answer for that node
+-- an answer for that node, of which the right one is 311 · 10 of 1555 · 4, greens of 4 and 3 and needs of 5 and 3
 abbrev pub tight : ℕ → ℕ → ℕ → ℕ → ℕ → ℕ → GreensValue
 tight top base green need other_green other_need =
     record { top = top; base = base; link = 4; stages = share 7 green need ∷ share 2 other_green other_need ∷ [] }
-
--- the right one: 311 · 10 of 1555 · 4
-abbrev pub tight_balance : GreensValue
-tight_balance = tight 3110 6220 4 5 3 3
 
 -- None of these is worth as much: a plan whose second stage is too short, greens that aren't those of the plan, a peak
 -- that isn't, and needs that leave no step over, also where the peak is told in lowest terms.

@@ -1,6 +1,6 @@
 //! Stage lengths of equal saturation: the plan of a node whose greatest degree of saturation is least.
 //!
-//! A contract sees the answer as the record `GreensValue` of `specs/Balance`. Cite first: `degree` of
+//! A contract sees the answer as the record `GreensValue` of `specs/Answer`. Cite first: `degree` of
 //! `specs/Degrees` for the degree of a link at a green, `peak` of `specs/Peaks` for that of a plan,
 //! `IsPlanOf` there for the plans that are meant, and `balance` of `specs/Balance` for the whole
 //! answer. Everything here is this project's own.
@@ -15,9 +15,4 @@ mod sharing;
 
 pub use balancing::balance;
 pub use greens::{Greens, Share};
-pub use laws::{
-    worked_balances, worked_best, worked_peaks, worked_settings, worked_shares, worked_worth,
-};
-
-#[cfg(test)]
-mod tests;
+pub use laws::{worked_balances, worked_peaks, worked_worth};

@@ -65,3 +65,9 @@ all_made seed n =
     let links = map (made_link seed n) (range_with_len 0 (4 * n)) in
     ap (λ m. record (made seed n) { links = links ++ map (bare_link seed n) (range_with_len (4 * n) m) }) none
     ∙ ap (λ (ls : List LinkValue). record (made seed n) { links = ls }) (append-nil links)
+
+-- so no plan of the network that is made has a fault
+pub made_planned : (seed n : ℕ) (d : Network) → d ≡ made seed n → first_fault d.frame.step_count d.nodes ≡ None
+unfolding made
+made_planned seed n d same =
+    ap (λ (d : Network). first_fault d.frame.step_count d.nodes) same ∙ no_fault seed 0 n

@@ -1,9 +1,8 @@
 -- The worked towns, computed from the definitions.
-use Rattle.std.proofs.Common.{◌≡◌, ◌/◌, [], ◌∷◌, ◌++◌, map, refl}
+use Rattle.std.proofs.Common.{◌≡◌, ◌/◌, [], ◌∷◌, map, refl}
 use Rattle.transyt_make.specs.Draws.{after_draws}
-use Rattle.transyt_make.specs.Made.{made, made_node, made_link, with_nodes, with_links, bare_from, with_feeds}
+use Rattle.transyt_make.specs.Made.{made, made_node, made_link}
 use Rattle.transyt_make.specs.WorkedTowns.{worked_draws, town_of_one, nodes_of_ten, links_of_ten}
-use Rattle.transyt_make.specs.WorkedTowns.{begun, first_three, feeds_of_second, last_five}
 
 -- the first six draws
 pub draws_of_one : map (λ k. after_draws 1 k / 65536) (1 ∷ 2 ∷ 3 ∷ 4 ∷ 5 ∷ 6 ∷ []) ≡ worked_draws
@@ -24,23 +23,3 @@ nodes_are = refl
 pub links_are : map (made_link 999999999 10) (1 ∷ 7 ∷ 29 ∷ 32 ∷ 36 ∷ 38 ∷ []) ≡ links_of_ten
 unfolding after_draws
 links_are = refl
-
--- the town of two while it is made: its nodes
-pub nodes_begun : with_nodes 1 2 ≡ begun []
-unfolding after_draws
-nodes_begun = refl
-
--- its first three links
-pub links_begun : with_links 1 2 3 ≡ begun (first_three [])
-unfolding after_draws
-links_begun = refl
-
--- the others
-pub others_are : bare_from 1 2 3 ≡ last_five
-unfolding after_draws
-others_are = refl
-
--- the feeds of its first three links
-pub feeds_begun : with_feeds 1 2 3 ≡ begun (first_three feeds_of_second ++ last_five)
-unfolding after_draws
-feeds_begun = refl

@@ -1,4 +1,4 @@
--- Towns that were worked out by hand: the whole one of one node, parts of one of ten, and one of two while it is made.
+-- Towns that were worked out by hand: the whole one of one node, and parts of one of ten.
 use Rattle.std.specs.Prelude.{ℕ, List, [], ◌∷◌, Some, None}
 use Rattle.transyt_parts.specs.declared.link.Feed.{Feed}
 use Rattle.transyt_parts.specs.Parts.{NodeValue, LinkValue}
@@ -39,31 +39,3 @@ links_of_ten =
     ∷ fed_link 91 9 373 1 []
     ∷ fed_link 101 10 10 1 (new_feed 91 274 15 ∷ new_feed 93 60 15 ∷ new_feed 94 92 15 ∷ [])
     ∷ fed_link 103 10 17 2 (new_feed 23 266 30 ∷ new_feed 21 68 30 ∷ new_feed 22 96 30 ∷ []) ∷ []
-
--- a town that is being made, of two nodes from seed 1 and these links
-abbrev pub begun : List LinkValue → Network
-begun links = record {
-  frame = record { cycle = 100; step_count = 50; sweeps = 3; period = 60; stop_penalty = 100; dispersion = 35 };
-  nodes = record { number = 1; offset = 38; stages = new_stage 0 3 4 ∷ new_stage 19 3 4 ∷ [] }
-      ∷ record { number = 2; offset = 13; stages = new_stage 0 3 4 ∷ new_stage 16 3 4 ∷ [] } ∷ [];
-  links = links;
-  plan = None;
-}
-
--- its first three links: of them the second has a neighbour, and these feeds
-abbrev pub first_three : List Feed → List LinkValue
-first_three feeds =
-    fed_link 11 1 397 1 [] ∷ fed_link 12 1 10 1 feeds ∷ fed_link 13 1 396 2 [] ∷ []
-
-abbrev pub feeds_of_second : List Feed
-feeds_of_second = new_feed 22 246 27 ∷ new_feed 23 100 27 ∷ new_feed 24 96 27 ∷ []
-
--- its last five links, without their feeds
-abbrev pub last_five : List LinkValue
-last_five =
-    fed_link 14 1 483 2 [] ∷ fed_link 21 2 17 1 [] ∷ fed_link 22 2 366 1 [] ∷ fed_link 23 2 436 2 []
-    ∷ fed_link 24 2 404 2 [] ∷ []
-
--- the numbers of its links
-abbrev pub names_of_two : List ℕ
-names_of_two = 11 ∷ 12 ∷ 13 ∷ 14 ∷ 21 ∷ 22 ∷ 23 ∷ 24 ∷ []

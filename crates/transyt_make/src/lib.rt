@@ -15,5 +15,5 @@ mod links;
 mod making;
 mod nodes;
 
-pub use laws::{worked_making, worked_towns};
+pub use laws::worked_towns;
 pub use making::make_net;

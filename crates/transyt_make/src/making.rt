@@ -1,5 +1,5 @@
 //! The making of a network.
-ghost use Rattle.std.specs.Prelude.{◌≡◌, ◌≤◌, IfOk};
+ghost use Rattle.std.specs.Prelude.{◌≡◌, ◌≤◌, IfOk, OnOk};
 ghost use Rattle.transyt_net.specs.Faults.{empty};
 ghost use Rattle.transyt_make.specs.Made.{made, made_frame};
 
@@ -29,10 +29,25 @@ fn begin(alloc: Global) -> Draft
     }
 }
 
+/// Fills an empty draft with the nodes, the links, their feeds and the climb plan.
+fn fill(nodes: u32, draws: &mut Draws, draft: &mut Draft) -> Result<(), AllocError>
+    requires most { nodes ≤ 200 }
+    requires draws { draws.old.taken ≡ 0 }
+    requires draft { draft.old ≡ empty made_frame }
+    ensures { OnOk result (draft.new ≡ made draws.old.seed nodes) }
+{
+    put_nodes(nodes, draws, draft)?;
+    put_links(nodes, draws, draft)?;
+    put_feeds(nodes, draws, draft)?;
+    grant_plan(draft)?;
+    Ok(())
+}
+
 /// The network of a seed: so many junctions in rows of eight, each link but those from outside fed by the neighbour
 /// that it comes from.
 ///
 /// It is for measures and tests; its streets and flows are this project's own.
+#[tactic(auto, using(crate::proofs::PlanLaws::made_planned))]
 pub fn make_net(alloc: Global, seed: u32, nodes: u32) -> Result<Net, AllocError>
     requires seed { seed ≤ 999999999 }
     requires some { 1 ≤ nodes }
@@ -41,9 +56,10 @@ pub fn make_net(alloc: Global, seed: u32, nodes: u32) -> Result<Net, AllocError>
 {
     let mut draws = Draws::new(seed);
     let mut draft = begin(alloc);
-    put_nodes(nodes, &mut draws, &mut draft)?;
-    put_links(nodes, &mut draws, &mut draft)?;
-    put_feeds(nodes, &mut draws, &mut draft)?;
-    grant_plan(&mut draft)?;
+    if let Err(e) = fill(nodes, &mut draws, &mut draft) {
+        // dropped by a call, since a draft that falls out of scope is taken apart here
+        drop(draft);
+        return Err(e);
+    }
     Ok(draft.close())
 }

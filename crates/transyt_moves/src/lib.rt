@@ -11,6 +11,3 @@ mod listed;
 
 pub use laws::worked_moves;
 pub use listed::{move_at, move_count};
-
-#[cfg(test)]
-mod tests;

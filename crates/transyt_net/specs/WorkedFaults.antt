@@ -7,7 +7,7 @@ use Rattle.transyt_parts.specs.Made.{new_stage, new_feed, new_rule, new_plan, ne
 use Rattle.transyt_net.specs.Parts.{Network, node_of, link_of}
 use Rattle.transyt_net.specs.Valid.{place_of, link_place, link_numbers, stages_at, feeds_at, rule_at}
 use Rattle.transyt_net.specs.Flow.{perstep}
-use Rattle.transyt_net.specs.Edits.{the_node, the_link, the_feed}
+use Rattle.transyt_net.specs.Edits.{the_node, the_link}
 use Rattle.transyt_net.specs.declared.edit.Edit.{Edit}
 use Rattle.transyt_net.specs.declared.edit.Edit.TheVariants.{Offset, Change, Entry, Part, Cruise, Saturation, Weight}
 use Rattle.transyt_net.specs.declared.edit.EditFault.{EditFault}
@@ -139,18 +139,6 @@ feeds = feeds_at town.links 4 ∷ feeds_at town.links 5 ∷ feeds_at town.links 
 abbrev pub rules : List (Option GiveWay)
 rules = rule_at town.links 4 ∷ rule_at town.links 5 ∷ rule_at town.links 7 ∷ []
 
--- what stands where there is no node, no link, and no feed of a link
-abbrev pub nothing : NodeValue × LinkValue × Feed
-nothing = (node_of town 2, link_of town 3, the_feed (the_link town 5) 9)
-
 -- the worked network with a link that runs in no stage
 abbrev pub stageless : Network
 stageless = with_links (record (new 6) { stages = [] } ∷ [])
-
--- the node of number 21, which has three stages
-abbrev pub three_stages : NodeValue
-three_stages = the_node town 21
-
--- the link of number 4, which is fed by 9 and by 5
-abbrev pub two_feeds : LinkValue
-two_feeds = the_link town 4

@@ -1,7 +1,6 @@
 //! What the definitions of edits and of a draft's calls come to.
 ghost use Rattle.std.specs.Prelude.{◌≡◌, ◌↔◌, ◌<◌, ◌≤◌, ℕ, length, [], ◌∷◌, map, None, Some, IsTrue};
 ghost use Rattle.transyt_net.specs.declared.edit.Edit.{Edit};
-ghost use Rattle.transyt_net.specs.declared.edit.Edit.TheVariants.{Offset, Change, Entry, Part, Cruise};
 ghost use Rattle.transyt_net.specs.Parts.{Network};
 ghost use Rattle.transyt_net.specs.Valid.{rule_at, IsSound, IsValid};
 ghost use Rattle.transyt_net.specs.Faults.{node_fault, with_node, stage_fault, with_stage, link_fault, with_link, feed_fault, with_feed, rule_fault, with_rule, climb_fault, with_plan, empty};
@@ -14,13 +13,11 @@ ghost use Rattle.transyt_parts.specs.declared.link.Feed.{Feed};
 ghost use Rattle.transyt_parts.specs.declared.link.GiveWay.{GiveWay};
 ghost use Rattle.transyt_net.specs.EditFaults.{edit_fault};
 ghost use Rattle.transyt_net.specs.Edits.{with_edit};
-ghost use Rattle.transyt_net.specs.Named.{NodeTakes, LinkTakes, IsPlace};
-ghost use Rattle.transyt_net.specs.Found.{feeder_of};
 ghost use Rattle.transyt_net.specs.There.{HasLink, IsThere};
 ghost use Rattle.transyt_net.specs.WorkedNets.{town};
 ghost use Rattle.transyt_net.specs.WorkedNets as net;
 ghost use Rattle.transyt_net.specs.WorkedFaults as fault;
-ghost use Rattle.transyt_parts.specs.Made.{new_node, new_feed, new_rule, new_link};
+ghost use Rattle.transyt_parts.specs.Made.{new_feed, new_rule};
 
 /// An edit of a valid network has no fault exactly where what it names is there and the network
 /// with it is valid.
@@ -54,7 +51,7 @@ pub fn drafts_are_judged()
 
 /// The worked values come out as they are written beside the definitions; a network in which a link runs in no stage
 /// isn't sound.
-#[tactic(auto, using(crate::proofs::Worked::networks, crate::proofs::Worked::inverses, crate::proofs::Worked::edits, crate::proofs::Worked::nodes, crate::proofs::Worked::links, crate::proofs::Worked::others, crate::proofs::Worked::numbers, crate::proofs::Worked::places, crate::proofs::Worked::feeds, crate::proofs::Worked::rules, crate::proofs::Worked::nothing, crate::proofs::Worked::stageless))]
+#[tactic(auto, using(crate::proofs::Worked::networks, crate::proofs::Worked::inverses, crate::proofs::Worked::edits, crate::proofs::Worked::nodes, crate::proofs::Worked::links, crate::proofs::Worked::others, crate::proofs::Worked::numbers, crate::proofs::Worked::places, crate::proofs::Worked::feeds, crate::proofs::Worked::rules, crate::proofs::Worked::stageless))]
 pub fn worked_networks()
     ensures networks { map (λ r. r.0) net.networks ≡ map (λ r. r.1) net.networks }
     ensures inverses { map (λ r. r.0) net.inverses ≡ map (λ r. r.1) net.inverses }
@@ -67,32 +64,5 @@ pub fn worked_networks()
     ensures places { fault.places ≡ Some 0 ∷ Some 2 ∷ None ∷ [] }
     ensures feeds { fault.feeds ≡ (new_feed 9 77 61 ∷ new_feed 5 311 23 ∷ []) ∷ [] ∷ [] ∷ [] }
     ensures rules { fault.rules ≡ Some (new_rule 9 35) ∷ None ∷ None ∷ [] }
-    ensures nothing { fault.nothing ≡ (new_node 0 0, new_link 0 0 0 0 0 0 0 0 [], new_feed 0 0 0) }
     ensures stageless { IsSound fault.stageless → ⊥ }
-{}
-
-/// A node of three stages takes a change of its first stage and of its last, and of no stage before or past these. A
-/// link takes a flow or a cruise time from a feeder of its own, and from no other. Any other edit is taken, whatever the
-/// part and the numbers.
-#[tactic(auto, using(crate::proofs::Worked::first_stage, crate::proofs::Worked::last_stage, crate::proofs::Worked::no_stage_before, crate::proofs::Worked::no_stage_past, crate::proofs::Worked::any_offset, crate::proofs::Worked::fed_flow, crate::proofs::Worked::fed_cruise, crate::proofs::Worked::unfed_flow, crate::proofs::Worked::unfed_cruise, crate::proofs::Worked::any_entry))]
-pub fn worked_needs()
-    ensures first { NodeTakes (Change 21 1 17) fault.three_stages }
-    ensures last { NodeTakes (Change 21 3 17) fault.three_stages }
-    ensures before { NodeTakes (Change 21 0 3) fault.three_stages → ⊥ }
-    ensures past { NodeTakes (Change 21 4 3) fault.three_stages → ⊥ }
-    ensures offset { NodeTakes (Offset 8 99) (fault.with_stages 0) }
-    ensures flow { LinkTakes (Part 4 5 99999) fault.two_feeds }
-    ensures cruise { LinkTakes (Cruise 4 9 999) fault.two_feeds }
-    ensures unfed_flow { LinkTakes (Part 4 4 9) fault.two_feeds → ⊥ }
-    ensures unfed_cruise { LinkTakes (Cruise 4 21 9) fault.two_feeds → ⊥ }
-    ensures entry { LinkTakes (Entry 6 99999) (fault.fed 0) }
-{}
-
-/// The place of a number is inside the list; the number stands there, and nowhere before.
-#[tactic(auto, using(crate::proofs::Worked::second_place, crate::proofs::Worked::other_place, crate::proofs::Worked::later_place, crate::proofs::Worked::empty_place))]
-pub fn worked_places()
-    ensures second { IsPlace feeder_of fault.two_feeds.feeds 5 1 }
-    ensures other { IsPlace feeder_of fault.two_feeds.feeds 9 1 → ⊥ }
-    ensures later { IsPlace feeder_of (fault.fed 2).feeds 4 1 → ⊥ }
-    ensures outside { IsPlace {A = ℕ} (λ n. 9) [] 9 0 → ⊥ }
 {}

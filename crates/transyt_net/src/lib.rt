@@ -26,6 +26,3 @@ pub use net::Net;
 pub use transyt_parts::{
     ClimbPlan, Feed, Frame, GiveWay, Link, NewLink, Node, PlanFault, Stage, stage_length,
 };
-
-#[cfg(test)]
-mod tests;

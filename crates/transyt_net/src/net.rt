@@ -211,12 +211,13 @@ impl Net {
     pub fn copy(&self, alloc: Global) -> Result<Net, AllocError>
         ensures { IfOk result (λ net. net ≡ self.now) }
     {
-        let nodes = copy_nodes(alloc, &self.nodes)?;
-        let links = copy_links(alloc, &self.links)?;
-        let totals = Vec::from_slice(alloc, &self.totals)?;
-        let plan = copy_plan(alloc, &self.plan)?;
+        // The deepest parts come last: without memory each part before is taken apart at each `?` after it.
         let node_places = copy_numbers(&self.node_places)?;
         let link_places = copy_numbers(&self.link_places)?;
+        let totals = Vec::from_slice(alloc, &self.totals)?;
+        let plan = copy_plan(alloc, &self.plan)?;
+        let nodes = copy_nodes(alloc, &self.nodes)?;
+        let links = copy_links(alloc, &self.links)?;
         Ok(Net {
             frame: self.frame,
             nodes,

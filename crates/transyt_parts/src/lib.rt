@@ -34,6 +34,3 @@ pub use range::{
 };
 pub use shape::{same_frame, same_links, same_nodes, same_plan, take_links, take_nodes};
 pub use stage_plan::{PlanFault, first_fault, have_greens, in_order, plan_fault, stage_length};
-
-#[cfg(test)]
-mod tests;

@@ -1,4 +1,3 @@
 pub mod StepLaws
 pub mod ShownLaws
 pub mod GreenLaws
-pub mod WorkedGreens

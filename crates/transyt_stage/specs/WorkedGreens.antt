@@ -18,21 +18,17 @@ greens =
 abbrev pub green_steps : List Bool
 green_steps = replicate 8 false ++ replicate 6 true ++ replicate 4 false
 
--- steps at which it is green, the first and the last, and steps at which it isn't, the last before and the first after
-abbrev pub greens_of_first : List ℕ
-greens_of_first = 8 ∷ 13 ∷ []
-
-abbrev pub reds_of_first : List ℕ
-reds_of_first = 7 ∷ 14 ∷ []
-
--- at which of four steps a link is shown, its start lag and its end lag, and at which steps it is green: one with
--- neither lag, one that loses all its green, one that is shown at every step, and one whose lags lead past the cycle
+-- at which steps a link is shown, its start lag and its end lag, and at which steps it is green: one with neither lag,
+-- one that loses all its green, one that is shown at every step, one whose end lag leads past the cycle, and two that
+-- open in the last step and in the last but one, whose start lags lead past the cycle
 abbrev pub lagging : List (List Bool × ℕ × ℕ × List Bool)
 lagging =
     (true ∷ true ∷ false ∷ false ∷ [], 0, 0, true ∷ true ∷ false ∷ false ∷ [])
     ∷ (true ∷ true ∷ false ∷ false ∷ [], 2, 0, replicate 4 false)
     ∷ (replicate 4 true, 3, 1, replicate 4 true)
     ∷ (true ∷ false ∷ false ∷ true ∷ [], 1, 1, true ∷ true ∷ false ∷ false ∷ [])
+    ∷ (true ∷ true ∷ false ∷ false ∷ true ∷ [], 2, 0, false ∷ true ∷ false ∷ false ∷ false ∷ [])
+    ∷ (true ∷ true ∷ false ∷ true ∷ true ∷ [], 3, 0, false ∷ true ∷ false ∷ false ∷ false ∷ [])
     ∷ []
 
 -- a percentage, what leaves the other link, what could go, and what can

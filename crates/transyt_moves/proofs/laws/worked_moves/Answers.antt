@@ -3,7 +3,7 @@ use Rattle.std.proofs.Common.{refl}
 use Rattle.transyt_moves.specs.Moves.{move, move_count}
 use Rattle.transyt_moves.proofs.laws.worked_moves.Goals as goal
 
--- 24 by each of three sizes
+-- 14 by each of three sizes
 pub returns-clause-count : goal.returns-clause-count
 unfolding move_count
 returns-clause-count c = refl
@@ -12,8 +12,3 @@ returns-clause-count c = refl
 pub returns-clause-place : goal.returns-clause-place
 unfolding move
 returns-clause-place c = refl
-
--- after the last
-pub returns-clause-past_the_end : goal.returns-clause-past_the_end
-unfolding move
-returns-clause-past_the_end c = refl

@@ -5,20 +5,8 @@ use Rattle.transyt_delay.specs.declared.terms.Terms.{Terms}
 use Rattle.transyt_delay.specs.declared.figures.Figures.{Figures}
 use Rattle.transyt_delay.specs.Index.{index_of}
 use Rattle.transyt_delay.specs.Figures.{figures, in_period, stops_of, under_root, uniform_of}
-use Rattle.transyt_delay.specs.WorkedLinks.{
-  great_penalty,
-  great_penalty_figures,
-  long_period,
-  long_period_figures,
-  no_penalty,
-  no_penalty_figures,
-  oversaturated,
-  oversaturated_figures,
-  short_period,
-  short_period_figures,
-  usual,
-  usual_figures,
-}
+use Rattle.transyt_delay.specs.WorkedLinks.{great_penalty, great_penalty_figures, oversaturated, oversaturated_figures}
+use Rattle.transyt_delay.specs.WorkedLinks.{short_period, short_period_figures, usual, usual_figures}
 
 -- what comes in the period
 abbrev come : Terms → ℕ
@@ -49,10 +37,6 @@ by_root terms r low high = ap (with_root terms) (sym (root_is (under_root (come 
 pub usual_is : figures usual ≡ usual_figures
 usual_is = by_root usual 78643077 (lit≤ tt) (lit< tt)
 
--- where a stop weighs nothing
-pub no_penalty_is : figures no_penalty ≡ no_penalty_figures
-no_penalty_is = by_root no_penalty 78643077 (lit≤ tt) (lit< tt)
-
 -- where a stop weighs most
 pub great_penalty_is : figures great_penalty ≡ great_penalty_figures
 great_penalty_is = by_root great_penalty 78643077 (lit≤ tt) (lit< tt)
@@ -60,10 +44,6 @@ great_penalty_is = by_root great_penalty 78643077 (lit≤ tt) (lit< tt)
 -- over 15 minutes
 pub short_period_is : figures short_period ≡ short_period_figures
 short_period_is = by_root short_period 27081479 (lit≤ tt) (lit< tt)
-
--- over two hours
-pub long_period_is : figures long_period ≡ long_period_figures
-long_period_is = by_root long_period 23549370 (lit≤ tt) (lit< tt)
 
 -- with more vehicles than can go
 pub oversaturated_is : figures oversaturated ≡ oversaturated_figures
