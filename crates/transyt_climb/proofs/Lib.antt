@@ -4,5 +4,6 @@ pub mod OnwardLaws
 pub mod TurnLaws
 pub mod LocalLaws
 pub mod WayLaws
+pub mod CountedLaws
 pub mod WorkedLaws
 pub mod WorkedWayLaws

@@ -6,3 +6,4 @@ pub mod QueueBounds
 pub mod CutLaws
 pub mod StopsLaws
 pub mod Examples
+pub mod WorkedQueues

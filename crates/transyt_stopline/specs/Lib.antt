@@ -3,3 +3,4 @@ pub mod Queue
 pub mod Cut
 pub mod Stops
 pub mod WorkedCycles
+pub mod WorkedQueues

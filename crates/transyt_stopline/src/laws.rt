@@ -1,6 +1,6 @@
 //! Laws about the definitions.
 
-ghost use Rattle.std.specs.Prelude.{◌≡◌, ℕ, List, [], ◌∷◌, map};
+ghost use Rattle.std.specs.Prelude.{◌≡◌, ℕ, List, [], ◌∷◌, All, map};
 ghost use Rattle.transyt_stopline.specs.Cut.{arrivals_of};
 ghost use Rattle.transyt_stopline.specs.LastSteps.{sum_at_places, sum_back};
 ghost use Rattle.transyt_stopline.specs.Queue.{IsQueue, outs, queues};
@@ -13,6 +13,7 @@ ghost use Rattle.transyt_stopline.specs.WorkedCycles.{
   worked_queues,
   worked_sums,
 };
+ghost use Rattle.transyt_stopline.specs.WorkedQueues.{queues_by_facts};
 
 /// The worked cycles come out as they are written beside the definitions.
 #[tactic(auto, using(crate::proofs::Examples::sums, crate::proofs::Examples::worked))]
@@ -31,4 +32,9 @@ pub fn worked_cycles()
 pub fn one_queue()
     ensures { (arrivals go : List ℕ) (i queue other : ℕ) → IsQueue arrivals go i queue
         → IsQueue arrivals go i other → queue ≡ other }
+{}
+
+/// The two facts of `IsQueue` are true of the worked queues.
+pub fn worked_facts_of_queues()
+    ensures { All (λ row. IsQueue row.0 row.1 0 row.2) queues_by_facts }
 {}

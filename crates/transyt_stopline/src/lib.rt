@@ -16,7 +16,7 @@ mod stops;
 mod totals;
 
 pub use cutting::{cut, cut_arrivals};
-pub use laws::{one_queue, worked_cycles};
+pub use laws::{one_queue, worked_cycles, worked_facts_of_queues};
 pub use queueing::queue;
 pub use stops::stopped;
 pub use totals::Totals;

@@ -1,0 +1,5 @@
+use Rattle.transyt_stopline.proofs.WorkedQueues.{facts}
+use Rattle.transyt_stopline.proofs.laws.worked_facts_of_queues.Goals as goal
+
+pub returns : goal.returns
+returns c = facts

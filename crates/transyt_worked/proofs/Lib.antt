@@ -1,4 +1,0 @@
--- The lemmas of the crate.
-mod Kept
-mod Replicated
-mod Queues
