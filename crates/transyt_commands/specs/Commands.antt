@@ -5,6 +5,7 @@ use Rattle.transyt_syntax.specs.Syntax.{Entry, entry, said, at}
 use Rattle.transyt_net.specs.declared.edit.Edit.TheVariants as e
 use Rattle.transyt_commands.specs.declared.command.Command.{Command}
 use Rattle.transyt_commands.specs.declared.command.Command.TheVariants as c
+use Rattle.transyt_commands.specs.declared.command.Request.TheVariants as r
 
 -- the edits: the keyword of each, how many numbers stand after it, and what it says with them
 abbrev pub edits : List (Entry Command)
@@ -24,17 +25,17 @@ commands =
     entry (codes "TRIAL") 0 (λ ns. c.Trial)
     ∷ entry (codes "BACK") 0 (λ ns. c.Back)
     ∷ entry (codes "KEEP") 0 (λ ns. c.Keep)
-    ∷ entry (codes "CLIMB") 0 (λ ns. c.Climb)
-    ∷ entry (codes "CERT") 0 (λ ns. c.Cert)
-    ∷ entry (codes "INDEX") 0 (λ ns. c.Index)
-    ∷ entry (codes "LINKS") 0 (λ ns. c.Links)
-    ∷ entry (codes "TIMING") 0 (λ ns. c.Timing)
-    ∷ entry (codes "PROFILE") 1 (λ ns. c.Profile (at ns 0))
-    ∷ entry (codes "PLOT") 1 (λ ns. c.Plot (at ns 0))
-    ∷ entry (codes "QUEUE") 1 (λ ns. c.Queue (at ns 0))
-    ∷ entry (codes "WORK") 0 (λ ns. c.Work)
-    ∷ entry (codes "DECK") 0 (λ ns. c.Deck)
-    ∷ entry (codes "STOP") 0 (λ ns. c.Stop)
+    ∷ entry (codes "CLIMB") 0 (λ ns. c.Request r.Climb)
+    ∷ entry (codes "CERT") 0 (λ ns. c.Request r.Cert)
+    ∷ entry (codes "INDEX") 0 (λ ns. c.Request r.Index)
+    ∷ entry (codes "LINKS") 0 (λ ns. c.Request r.Links)
+    ∷ entry (codes "TIMING") 0 (λ ns. c.Request r.Timing)
+    ∷ entry (codes "PROFILE") 1 (λ ns. c.Request (r.Profile (at ns 0)))
+    ∷ entry (codes "PLOT") 1 (λ ns. c.Request (r.Plot (at ns 0)))
+    ∷ entry (codes "QUEUE") 1 (λ ns. c.Request (r.Queue (at ns 0)))
+    ∷ entry (codes "WORK") 0 (λ ns. c.Request r.Work)
+    ∷ entry (codes "DECK") 0 (λ ns. c.Request r.Deck)
+    ∷ entry (codes "STOP") 0 (λ ns. c.Request r.Stop)
     ∷ edits
 
 -- the command of a line, none for a comment or a blank line, or the first of the codes 11, 10, 12 and 13

@@ -5,6 +5,7 @@ use Rattle.transyt_syntax.specs.declared.code.Code.TheVariants as code
 use Rattle.transyt_net.specs.declared.edit.Edit.TheVariants as e
 use Rattle.transyt_commands.specs.declared.command.Command.{Command}
 use Rattle.transyt_commands.specs.declared.command.Command.TheVariants as c
+use Rattle.transyt_commands.specs.declared.command.Request.TheVariants as r
 
 -- each command with numbers that differ; each command with each code, at a line that has the next one too where it can;
 -- and the limits of a line
@@ -20,17 +21,17 @@ worked =
     ∷ (codes "TRIAL", Ok (Some c.Trial))
     ∷ (codes "BACK", Ok (Some c.Back))
     ∷ (codes "KEEP", Ok (Some c.Keep))
-    ∷ (codes "CLIMB", Ok (Some c.Climb))
-    ∷ (codes "CERT", Ok (Some c.Cert))
-    ∷ (codes "INDEX", Ok (Some c.Index))
-    ∷ (codes "LINKS", Ok (Some c.Links))
-    ∷ (codes "TIMING", Ok (Some c.Timing))
-    ∷ (codes "PROFILE 21", Ok (Some (c.Profile 21)))
-    ∷ (codes "PLOT 21", Ok (Some (c.Plot 21)))
-    ∷ (codes "QUEUE 21", Ok (Some (c.Queue 21)))
-    ∷ (codes "WORK", Ok (Some c.Work))
-    ∷ (codes "DECK", Ok (Some c.Deck))
-    ∷ (codes "STOP", Ok (Some c.Stop))
+    ∷ (codes "CLIMB", Ok (Some (c.Request r.Climb)))
+    ∷ (codes "CERT", Ok (Some (c.Request r.Cert)))
+    ∷ (codes "INDEX", Ok (Some (c.Request r.Index)))
+    ∷ (codes "LINKS", Ok (Some (c.Request r.Links)))
+    ∷ (codes "TIMING", Ok (Some (c.Request r.Timing)))
+    ∷ (codes "PROFILE 21", Ok (Some (c.Request (r.Profile 21))))
+    ∷ (codes "PLOT 21", Ok (Some (c.Request (r.Plot 21))))
+    ∷ (codes "QUEUE 21", Ok (Some (c.Request (r.Queue 21))))
+    ∷ (codes "WORK", Ok (Some (c.Request r.Work)))
+    ∷ (codes "DECK", Ok (Some (c.Request r.Deck)))
+    ∷ (codes "STOP", Ok (Some (c.Request r.Stop)))
     ∷ (codes "OFFSET 1 1" ++ replicate 4087 1, Err code.LongLine)
     ∷ (codes "OFFSET 1 1 x" ++ 127 ∷ [], Err code.OddByte)
     ∷ (codes "OFFSET 1 1 x", Err code.WrongCount)

@@ -13,6 +13,13 @@ pub enum Command {
     Back,
     /// Keeps the open trial.
     Keep,
+    /// Any other command: it changes nothing when it is judged.
+    Request(Request),
+}
+
+/// A command that asks for a climb, a certificate, a text or the end, with the card number of the link that it names.
+#[derive(Clone, Copy, Debug, PartialEq, Eq)]
+pub enum Request {
     /// Climbs by the deck's plan.
     Climb,
     /// Writes the index of each listed move.

@@ -13,7 +13,7 @@ mod command;
 mod laws;
 mod reading;
 
-pub use command::Command;
+pub use command::{Command, Request};
 pub use laws::worked_lines;
 pub use reading::read_command;
 

@@ -6,7 +6,7 @@ ghost use Rattle.transyt_commands.specs.Commands.{commands, edits, command_in};
 ghost use Rattle.transyt_commands.specs.declared.command.Command.TheVariants as command;
 ghost use Rattle.transyt_net.specs.declared.edit.Edit.TheVariants as edit;
 
-use crate::command::Command;
+use crate::command::{Command, Request};
 use transyt_io::is_skipped;
 use transyt_net::Edit;
 use transyt_syntax::{Code, Numbers, first_of, further_of, is_word, say};
@@ -39,17 +39,17 @@ fn command_named(keyword: &[u8], numbers: &Numbers) -> Option<((usize, usize), C
         _ if is_word(keyword, b"TRIAL") => Some(((0, 0), Command::Trial)),
         _ if is_word(keyword, b"BACK") => Some(((0, 0), Command::Back)),
         _ if is_word(keyword, b"KEEP") => Some(((0, 0), Command::Keep)),
-        _ if is_word(keyword, b"CLIMB") => Some(((0, 0), Command::Climb)),
-        _ if is_word(keyword, b"CERT") => Some(((0, 0), Command::Cert)),
-        _ if is_word(keyword, b"INDEX") => Some(((0, 0), Command::Index)),
-        _ if is_word(keyword, b"LINKS") => Some(((0, 0), Command::Links)),
-        _ if is_word(keyword, b"TIMING") => Some(((0, 0), Command::Timing)),
-        _ if is_word(keyword, b"PROFILE") => Some(((1, 1), Command::Profile { link })),
-        _ if is_word(keyword, b"PLOT") => Some(((1, 1), Command::Plot { link })),
-        _ if is_word(keyword, b"QUEUE") => Some(((1, 1), Command::Queue { link })),
-        _ if is_word(keyword, b"WORK") => Some(((0, 0), Command::Work)),
-        _ if is_word(keyword, b"DECK") => Some(((0, 0), Command::Deck)),
-        _ if is_word(keyword, b"STOP") => Some(((0, 0), Command::Stop)),
+        _ if is_word(keyword, b"CLIMB") => request(0, Request::Climb),
+        _ if is_word(keyword, b"CERT") => request(0, Request::Cert),
+        _ if is_word(keyword, b"INDEX") => request(0, Request::Index),
+        _ if is_word(keyword, b"LINKS") => request(0, Request::Links),
+        _ if is_word(keyword, b"TIMING") => request(0, Request::Timing),
+        _ if is_word(keyword, b"PROFILE") => request(1, Request::Profile { link }),
+        _ if is_word(keyword, b"PLOT") => request(1, Request::Plot { link }),
+        _ if is_word(keyword, b"QUEUE") => request(1, Request::Queue { link }),
+        _ if is_word(keyword, b"WORK") => request(0, Request::Work),
+        _ if is_word(keyword, b"DECK") => request(0, Request::Deck),
+        _ if is_word(keyword, b"STOP") => request(0, Request::Stop),
         _ => edit_named(keyword, numbers),
     }
 }
@@ -70,6 +70,13 @@ fn edit_named(keyword: &[u8], numbers: &Numbers) -> Option<((usize, usize), Comm
         _ if is_word(keyword, b"WEIGHT") => weight_of(a, b, c),
         _ => None,
     }
+}
+
+/// A request after so many numbers.
+fn request(count: usize, request: Request) -> Option<((usize, usize), Command)>
+    ensures { result ≡ Some ((count, count), command.Request request) }
+{
+    Some(((count, count), Command::Request(request)))
 }
 
 /// An edit after so many numbers.

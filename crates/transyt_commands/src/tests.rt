@@ -1,5 +1,5 @@
 //! What no clause says: that a line of each kind comes out as the format says.
-use super::{Command, read_command};
+use super::{Command, Request, read_command};
 use transyt_net::Edit;
 use transyt_syntax::Code;
 
@@ -19,9 +19,12 @@ fn lines_of_each_kind(rt: HostRuntime) {
         (b"WEIGHT 21 3 17".as_slice(), Ok(Some(weight))),
         (
             b"\tQUEUE  0021 ".as_slice(),
-            Ok(Some(Command::Queue { link: 21 })),
+            Ok(Some(Command::Request(Request::Queue { link: 21 }))),
         ),
-        (b"CERT".as_slice(), Ok(Some(Command::Cert))),
+        (
+            b"CERT".as_slice(),
+            Ok(Some(Command::Request(Request::Cert))),
+        ),
         (b"* \x01".as_slice(), Ok(None)),
         (b"".as_slice(), Ok(None)),
         (b" * a".as_slice(), Err(Code::OddByte)),

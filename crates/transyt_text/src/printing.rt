@@ -1,7 +1,7 @@
 //! Lines into a sink.
 ghost use Rattle.std.specs.Prelude.{◌≡◌, ◌≤◌, ◌+◌, ◌*◌, length};
 ghost use Rattle.transyt_text.specs.Forms.{form_line, values_line};
-ghost use Rattle.transyt_text.specs.Prints.{Prints};
+ghost use Rattle.transyt_text.specs.Prints.{PrintsOn};
 
 use crate::forms::{put_values, set_form, set_line};
 use transyt_io::{Failed, LineBuffer, Sink, write_line};
@@ -15,8 +15,8 @@ pub fn print_form<K: Sink>(
     sink: &mut K,
 ) -> Result<(), Failed>
     requires { length form.now + 39 * length numbers.now ≤ 4000 }
-    ensures { Prints (K.written sink.old) (K.written sink.new) (K.faults sink.old)
-        (K.faults sink.new) result (form_line form.now numbers.now) }
+    ensures { PrintsOn K.written K.faults sink.old sink.new result
+        (form_line form.now numbers.now) }
 {
     set_line(form, numbers, line);
     write_line(line, sink)
@@ -32,8 +32,8 @@ pub fn print_values<K: Sink>(
     sink: &mut K,
 ) -> Result<(), Failed>
     requires { length form.now + 39 * length numbers.now + 21 * length values.now ≤ 4000 }
-    ensures { Prints (K.written sink.old) (K.written sink.new) (K.faults sink.old)
-        (K.faults sink.new) result (values_line form.now numbers.now values.now) }
+    ensures { PrintsOn K.written K.faults sink.old sink.new result
+        (values_line form.now numbers.now values.now) }
 {
     set_form(form, numbers, line);
     put_values(values, line);
