@@ -1,6 +1,6 @@
 -- A run with no fault writes the report of the input, and its status is the report's.
 use Rattle.std.proofs.Common.{◌≡◌, ◌≢◌, inl, inr, ℕ, ◌+◌, ◌≤◌, ◌<◌, ◌-◌, ◌++◌, Bool, true, false, if◌then◌else◌, List}
-use Rattle.std.proofs.Common.{[], Option, None, Some, length, take, refl, sym, ◌∙◌, ap, subst, arith, length-append}
+use Rattle.std.proofs.Common.{Option, None, Some, length, take, refl, sym, ◌∙◌, ap, subst, arith, length-append}
 use Rattle.std.proofs.lemmas.List.{append-nil}
 use Rattle.std.proofs.Math.Seq.{take-append-add}
 use Rattle.transyt_io.specs.Streams.{Takes, Adds, IsAtEnd}

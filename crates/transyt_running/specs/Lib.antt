@@ -4,8 +4,4 @@ pub mod Outcome
 pub mod RunSoFar
 pub mod Runs
 pub mod Turns
-pub mod WorkedLimits
 pub mod WorkedOutcomes
-pub mod WorkedRuns
-pub mod WorkedSteps
-pub mod WorkedTurns

@@ -1,5 +1,5 @@
 -- What a run of the program writes of its input, and what its status says of the bytes taken and of those written.
-use Rattle.std.specs.Prelude.{◌≡◌, ◌⊎◌, ◌≢◌, ℕ, ◌-◌, ◌++◌, ◌≤◌, ◌<◌, List, [], Bool, true, false, Option, None, Some}
+use Rattle.std.specs.Prelude.{◌≡◌, ◌⊎◌, ℕ, ◌-◌, ◌++◌, ◌≤◌, ◌<◌, List, [], Bool, true, false, Option, None, Some}
 use Rattle.std.specs.Prelude.{IfSome, length, take, if◌then◌else◌}
 use Rattle.transyt_io.specs.Streams.{Takes, Adds, IsAtEnd}
 use Rattle.transyt_running.specs.declared.status.Status.{Status}

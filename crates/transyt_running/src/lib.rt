@@ -13,5 +13,5 @@ mod laws;
 mod status;
 
 pub use ending::{Stop, ended, stopped, stopped_reading};
-pub use laws::{worked_limits, worked_outcomes, worked_runs, worked_steps, worked_turns};
+pub use laws::worked_outcomes;
 pub use status::Status;
