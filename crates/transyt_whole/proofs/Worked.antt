@@ -52,10 +52,7 @@ rows_told = (
   (sym both_are, refl),
   (
     (sym both_are, refl),
-    (
-      front (codes "ENTRY 2") (codes "1 640" ++ 10 ∷ codes "* COUNTS 12 3" ++ 10 ∷ []) refl,
-      (front both_texts [] refl, (front [] both_texts refl, (refl, tt))),
-    ),
+    (front (codes "ENTRY 2") (codes "1 640" ++ 10 ∷ codes "* COUNTS 12 3" ++ 10 ∷ []) refl, (refl, tt)),
   ),
 )
 
@@ -63,26 +60,14 @@ rows_told = (
 short : first_text ≡ lines_text two_lines → ⊥
 short is = let told : first_text ≡ both_texts = is ∙ both_are in grind arith
 
--- no other bytes are first bytes of both
+-- other bytes are no first bytes of both
 other : ¬ IsFront (codes "ENTRY 3") (lines_text two_lines)
 other h = let told : codes "ENTRY 3" ++ h.back ≡ both_texts = h.parts ∙ both_are in grind arith
-
-longer : ¬ IsFront (both_texts ++ codes "*") (lines_text two_lines)
-longer h = let told : (both_texts ++ codes "*") ++ h.back ≡ both_texts = h.parts ∙ both_are in grind arith
 
 pub rows_untold : Each (λ row. ¬ ToldRow row.0 row.1 row.2) untold_rows
 rows_untold = (
   λ h. let refused = h.1 in grind arith,
-  (
-    λ h. short h.0,
-    (
-      λ h. let refused = h.1 in grind arith,
-      (
-        λ h. short h.0,
-        (other, (longer, (λ h. grind arith, (λ h. h, (λ h. h, (λ h. h, tt)))))),
-      ),
-    ),
-  ),
+  (λ h. short h.0, (λ h. let refused = h.1 in grind arith, (other, (λ h. grind arith, (λ h. h, tt))))),
 )
 
 -- what was written before stays in front

@@ -1,8 +1,7 @@
 -- Worked answers as they are written under each status: rows that may be, and rows that may not.
 use Rattle.std.specs.Prelude.{ℕ, ◌++◌, List, [], ◌∷◌, codes}
 use Rattle.transyt_running.specs.declared.status.Status.{Status}
-use Rattle.transyt_running.specs.declared.status.Status.TheVariants.{Done, DeckRefused, ReadFault, TooLong, WriteFault}
-use Rattle.transyt_running.specs.declared.status.Status.TheVariants.{NoMemory, BadWords}
+use Rattle.transyt_running.specs.declared.status.Status.TheVariants.{Done, DeckRefused, ReadFault, WriteFault, NoMemory}
 use Rattle.transyt_whole.specs.declared.line.AnswerLine.{AnswerLine}
 use Rattle.transyt_whole.specs.declared.line.AnswerLine.TheVariants as line
 use Rattle.transyt_whole.specs.declared.line.CountsLine.TheVariants as counts
@@ -28,8 +27,6 @@ told_rows =
     (done two_lines, both_texts, Done)
     ∷ (refusal two_lines, both_texts, DeckRefused)
     ∷ (done two_lines, codes "ENTRY 2", WriteFault)
-    ∷ (refusal two_lines, both_texts, WriteFault)
-    ∷ (done two_lines, [], WriteFault)
     ∷ (refusal two_lines, [], NoMemory)
     ∷ []
 
@@ -39,16 +36,12 @@ untold_rows =
     -- the input is refused, or a line is missing
     (refusal two_lines, both_texts, Done)
     ∷ (done two_lines, first_text, Done)
-    -- the input isn't refused, or a line is missing
+    -- the input isn't refused
     ∷ (done two_lines, both_texts, DeckRefused)
-    ∷ (refusal two_lines, first_text, DeckRefused)
-    -- another byte is written, or one too many
+    -- another byte is written
     ∷ (done two_lines, codes "ENTRY 3", WriteFault)
-    ∷ (done two_lines, both_texts ++ codes "*", WriteFault)
     -- a byte is written
     ∷ (done two_lines, codes "E", NoMemory)
-    -- an input that was read has an answer, and the words were good
+    -- an input that was read has an answer
     ∷ (done two_lines, [], ReadFault)
-    ∷ (done two_lines, [], TooLong)
-    ∷ (done two_lines, [], BadWords)
     ∷ []

@@ -1,10 +1,10 @@
 //! Laws about the definitions.
-ghost use Rattle.std.specs.Prelude.{◌≡◌, ◌*◌, ◌++◌, ◌∷◌, [], codes, false, length, map, None, Some, true};
+ghost use Rattle.std.specs.Prelude.{◌≡◌, ◌*◌, ◌++◌, ◌∷◌, [], codes, length, map, None, Some, true};
 ghost use Rattle.transyt_running.specs.WorkedOutcomes.{Each};
 ghost use Rattle.transyt_running.specs.declared.status.Status.{Status};
 ghost use Rattle.transyt_syntax.specs.declared.code.Code.{Code};
 ghost use Rattle.transyt_whole.specs.Answer.{done, of_whole, refusal};
-ghost use Rattle.transyt_whole.specs.Texts.{line_text, lines_text};
+ghost use Rattle.transyt_whole.specs.Texts.{line_text};
 ghost use Rattle.transyt_whole.specs.Whole.{IsSilent, StepsWithin, Told, ToldRow};
 ghost use Rattle.transyt_whole.specs.WorkedTexts.{worked_lines};
 ghost use Rattle.transyt_whole.specs.WorkedTold.{both_texts, told_rows, two_lines, untold_rows};
@@ -15,7 +15,6 @@ ghost use Rattle.transyt_whole.specs.declared.line.AnswerLine.{AnswerLine};
 #[tactic(auto, using(crate::proofs::Worked::texts, crate::proofs::Worked::refused_report, crate::proofs::Worked::all_steps, crate::proofs::Worked::one_step_more))]
 pub fn worked_texts()
     ensures texts { map (λ row. line_text row.0) worked_lines ≡ map (λ row. row.1) worked_lines }
-    ensures so_far { (of_whole (λ input. refusal (AnswerLine.CardRefused 7 Code.Unknown ∷ []))).so_far (9 ∷ []) ≡ [] }
     ensures open { (of_whole (λ input. refusal (AnswerLine.CardRefused 7 Code.Unknown ∷ []))).ends (9 ∷ []) ≡ None }
     ensures report { (of_whole (λ input. refusal (AnswerLine.CardRefused 7 Code.Unknown ∷ []))).report (9 ∷ [])
         ≡ codes "CARD 7 REFUSED 17" ++ 10 ∷ [] }
@@ -27,10 +26,8 @@ pub fn worked_texts()
 
 /// Of an answer of two lines each status says what is written beside the definitions, and not what is written there
 /// that it doesn't. With three statuses nothing was written.
-#[tactic(auto, using(crate::proofs::Worked::both_are, crate::proofs::Worked::rows_told, crate::proofs::Worked::rows_untold, crate::proofs::Worked::told, crate::proofs::Worked::told_over))]
+#[tactic(auto, using(crate::proofs::Worked::rows_told, crate::proofs::Worked::rows_untold, crate::proofs::Worked::told, crate::proofs::Worked::told_over))]
 pub fn worked_told()
-    ensures lines { lines_text two_lines ≡ both_texts }
-    ensures accepted { (of_whole (λ input. done two_lines)).refused (9 ∷ []) ≡ false }
     ensures rows { Each (λ row. ToldRow row.0 row.1 row.2) told_rows }
     ensures no_rows { Each (λ row. ¬ ToldRow row.0 row.1 row.2) untold_rows }
     ensures told { Told (done two_lines) (Some (codes "x")) (Some (codes "x" ++ both_texts)) Status.Done }
