@@ -2,5 +2,3 @@ pub mod Platoon
 pub mod Travels
 pub mod Going
 pub mod WorkedPlatoons
-pub mod WorkedReady
-pub mod WorkedGoing

@@ -16,10 +16,7 @@ mod travel;
 
 pub use dispersion::disperse;
 pub use four::disperse_four;
-pub use laws::{worked_going, worked_platoons, worked_ready};
+pub use laws::worked_platoons;
 pub use platoon::Platoon;
 pub use three::disperse_three;
 pub use travel::{Travel, travel_of, travel_steps};
-
-#[cfg(test)]
-mod tests;

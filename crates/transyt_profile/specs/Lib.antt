@@ -1,4 +1,3 @@
 pub mod Profile
 pub mod Parts
 pub mod WorkedProfiles
-pub mod WorkedParts

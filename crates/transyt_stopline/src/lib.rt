@@ -20,6 +20,3 @@ pub use laws::{one_queue, worked_cycles, worked_facts_of_queues};
 pub use queueing::queue;
 pub use stops::stopped;
 pub use totals::Totals;
-
-#[cfg(test)]
-mod tests;
