@@ -7,5 +7,6 @@ pub mod Pull
 pub mod Reading
 pub mod StdEnds
 pub mod Streams
+pub mod WorkedCalls
 pub mod WorkedEnds
 pub mod WorkedLines

@@ -1,5 +1,5 @@
 -- The ends of std: what contracts see of them.
-use Rattle.std.specs.Prelude.{ℕ, List, Bool, ◌||◌, IsTrue, Option, None, Some, is_none, is_some}
+use Rattle.std.specs.Prelude.{ℕ, List, ◌||◌, IsTrue, Option, None, Some, is_none, is_some}
 
 -- what an end of std is seen as
 pub record StdEnd : Type 0 where

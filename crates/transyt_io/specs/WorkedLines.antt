@@ -1,5 +1,5 @@
 -- Worked inputs and lines, with what comes of each.
-use Rattle.std.specs.Prelude.{ℕ, List, [], ◌∷◌, ◌++◌, codes, replicate, Bool, true, false}
+use Rattle.std.specs.Prelude.{ℕ, List, [], ◌∷◌, ◌++◌, codes, Bool, true, false}
 
 -- an input, its lines, those with a line end, the bytes after the first line end, and whether there is one
 abbrev pub worked_inputs : List (List ℕ × (List (List ℕ) × List (List ℕ) × List ℕ × Bool))

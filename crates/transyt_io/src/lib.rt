@@ -31,7 +31,9 @@ mod words;
 
 pub use cut::next_line;
 pub use intake::Intake;
-pub use laws::{counts_rise, worked_ends, worked_lines};
+pub use laws::{
+    counts_rise, worked_calls, worked_ends, worked_intake, worked_lines, worked_reading,
+};
 pub use line_buffer::{LineBuffer, write_line};
 pub use memory_sink::MemorySink;
 pub use memory_source::MemorySource;

@@ -22,6 +22,3 @@ pub use laws::worked_lines;
 pub use line::say;
 pub use numbers::{Further, Numbers, further_of};
 pub use words::{first_of, is_word, read_numbers, word_count};
-
-#[cfg(test)]
-mod tests;

@@ -1,7 +1,6 @@
 //! Laws about the definitions.
-ghost use Rattle.std.specs.Prelude.{◌≡◌, ◌∷◌, [], ◌++◌, Some, codes};
+ghost use Rattle.std.specs.Prelude.{◌≡◌, ◌∷◌, [], ◌++◌, codes};
 ghost use Rattle.transyt_text.specs.Forms.{filled, form_line, values_line};
-ghost use Rattle.transyt_text.specs.Prints.{Printed};
 
 /// Lines that were worked out by hand: numbers in shortest text in the order of the `#`, a line end, and values after
 /// one blank each. Numbers that are too few leave their `#` out, and those that are too many are not written.
@@ -13,13 +12,4 @@ pub fn worked_lines()
         ≡ codes "QUEUE 300 214786 0 18446744073709551615" ++ 10 ∷ [] }
     ensures few { filled (codes "NODE # OFFSET #") (7 ∷ []) ≡ codes "NODE 7 OFFSET " }
     ensures many { filled (codes "NODE #") (7 ∷ 17 ∷ []) ≡ codes "NODE 7" }
-{}
-
-/// A text was written where the sink tells it after what it told before, and the count of faults stayed or rose; not
-/// where it tells another text, and not where the count fell.
-pub fn worked_prints()
-    ensures quiet { Printed (Some (codes "NODE 7")) (Some (codes "NODE 7 OFFSET")) 3 3 (codes " OFFSET") }
-    ensures loud { Printed (Some (codes "NODE 7")) (Some (codes "NODE 7 OFFSET")) 3 5 (codes " OFFSET") }
-    ensures other { Printed (Some (codes "NODE 7")) (Some (codes "NODE 7 OFFSET")) 3 3 (codes "OFFSET") → ⊥ }
-    ensures fell { Printed (Some (codes "NODE 7")) (Some (codes "NODE 7 OFFSET")) 3 2 (codes " OFFSET") → ⊥ }
 {}

@@ -13,5 +13,5 @@ mod laws;
 mod printing;
 
 pub use forms::{put_form, put_values, set_line};
-pub use laws::{worked_lines, worked_prints};
+pub use laws::worked_lines;
 pub use printing::{print_form, print_values};
