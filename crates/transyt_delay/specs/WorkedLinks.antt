@@ -1,4 +1,5 @@
 -- Worked links, with their figures. No number is neutral.
+use Rattle.std.specs.Prelude.{List, [], ◌∷◌}
 use Rattle.transyt_delay.specs.declared.terms.Terms.{Terms}
 use Rattle.transyt_delay.specs.declared.figures.Figures.{Figures}
 
@@ -14,31 +15,24 @@ usual = record {
   stop_weight = 2;
 }
 
--- its figures
-abbrev pub usual_figures : Figures
-usual_figures = record { uniform = 5388889; random = 333374; stops = 17988; index = 17180100 }
-
--- where a stop weighs most
+-- the same where a stop weighs most
 abbrev pub great_penalty : Terms
 great_penalty = record usual { frame = record usual.frame { stop_penalty = 9999 } }
 
--- its figures
-abbrev pub great_penalty_figures : Figures
-great_penalty_figures = record usual_figures { index = 20764029 }
-
--- over 15 minutes
+-- the same over 15 minutes
 abbrev pub short_period : Terms
 short_period = record usual { frame = record usual.frame { period = 15 } }
 
--- its figures
-abbrev pub short_period_figures : Figures
-short_period_figures = record usual_figures { random = 327904; index = 17163690 }
-
--- with more vehicles than can go
+-- a link with more vehicles than can go
 abbrev pub oversaturated : Terms
 oversaturated =
     record usual { arrivals = 4310007; room = 1733021; stopped = 1733019; delay_weight = 5; stop_weight = 7 }
 
--- its figures
-abbrev pub oversaturated_figures : Figures
-oversaturated_figures = record { uniform = 5388889; random = 39473691; stops = 19255; index = 224362770 }
+-- these links, each with its figures
+abbrev pub worked : List (Terms × Figures)
+worked =
+    (usual, record { uniform = 5388889; random = 333374; stops = 17988; index = 17180100 })
+    ∷ (great_penalty, record { uniform = 5388889; random = 333374; stops = 17988; index = 20764029 })
+    ∷ (short_period, record { uniform = 5388889; random = 327904; stops = 17988; index = 17163690 })
+    ∷ (oversaturated, record { uniform = 5388889; random = 39473691; stops = 19255; index = 224362770 })
+    ∷ []

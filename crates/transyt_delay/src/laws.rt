@@ -1,15 +1,11 @@
 //! Laws about the definitions.
 
-ghost use Rattle.std.specs.Prelude.{◌≡◌};
+ghost use Rattle.std.specs.Prelude.{◌≡◌, map};
 ghost use Rattle.transyt_delay.specs.Figures.{figures};
-ghost use Rattle.transyt_delay.specs.WorkedLinks.{great_penalty, great_penalty_figures, oversaturated, oversaturated_figures};
-ghost use Rattle.transyt_delay.specs.WorkedLinks.{short_period, short_period_figures, usual, usual_figures};
+ghost use Rattle.transyt_delay.specs.WorkedLinks.{worked};
 
 /// The worked links have the figures that are written beside the definitions.
-#[tactic(auto, using(crate::proofs::Worked::usual_is, crate::proofs::Worked::great_penalty_is, crate::proofs::Worked::short_period_is, crate::proofs::Worked::oversaturated_is))]
+#[tactic(auto, using(crate::proofs::Worked::links))]
 pub fn worked_links()
-    ensures usual { figures usual ≡ usual_figures }
-    ensures great_penalty { figures great_penalty ≡ great_penalty_figures }
-    ensures short_period { figures short_period ≡ short_period_figures }
-    ensures oversaturated { figures oversaturated ≡ oversaturated_figures }
+    ensures { map (λ row. figures row.0) worked ≡ map (λ row. row.1) worked }
 {}
