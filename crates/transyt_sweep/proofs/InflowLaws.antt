@@ -1,67 +1,73 @@
 -- What comes to a link, feed by feed.
-use Rattle.std.proofs.Common.{◌≡◌, ℕ, ◌+◌, ◌*◌, ◌^◌, ◌<◌, ◌≤◌, List, length, take, get_or, refl, ap, sym, ◌∙◌, arith}
+use Rattle.std.proofs.Common.{◌≡◌, ℕ, ◌+◌, ◌-◌, ◌*◌, ◌^◌, ◌<◌, ◌≤◌, List, All, length, take, drop, get_or, ap, sym, ◌∙◌, arith}
 use Rattle.std.proofs.lemmas.Nat.{mul-le}
-use Rattle.std.proofs.lemmas.List.Sums.{fold_more}
-use Rattle.transyt_profile.specs.Profile.{uniform, added}
+use Rattle.std.proofs.lemmas.List.Sums.{fold_more, fold-append}
+use Rattle.std.proofs.Math.Seq.{take-add, take-length}
+use Rattle.std.proofs.lemmas.List.{length-drop, take-append-drop}
+use Rattle.transyt_profile.specs.Profile.{added, folded}
 use Rattle.transyt_platoon.specs.Platoon.{travel_steps, dispersed}
 use Rattle.transyt_parts.specs.declared.link.Feed.{Feed}
 use Rattle.transyt_net.specs.Parts.{Network}
-use Rattle.transyt_net.specs.Flow.{perstep}
-use Rattle.transyt_sweep.specs.Cell.{taken, brought, inflow_of}
+use Rattle.transyt_net.specs.Valid.{IsFeed}
+use Rattle.transyt_sweep.specs.Cell.{taken, brought}
+use Rattle.transyt_sweep.specs.Inflow.{HaveRoom, IsSmall, with_feeds}
 
 -- one feed more
-pub inflow_more : (net : Network) (read : ℕ → List ℕ) (entry : ℕ) (feeds fs : List Feed) (i : ℕ) (d : Feed)
-    (come one new : List ℕ) → fs ≡ feeds → i < length fs
-    → come ≡ inflow_of net read entry (take i feeds)
-    → one ≡ brought net read (get_or fs i d)
-    → new ≡ added come one
-    → new ≡ inflow_of net read entry (take (i + 1) feeds)
-inflow_more net read entry feeds fs i d come one new same inside before brings sum =
+pub feeds_more : (net : Network) (read : ℕ → List ℕ) (come : List ℕ) (feeds : List Feed) (i : ℕ) (d : Feed)
+    (now new : List ℕ) → i < length feeds
+    → now ≡ with_feeds net read come (take i feeds)
+    → new ≡ added now (brought net read (get_or feeds i d))
+    → new ≡ with_feeds net read come (take (i + 1) feeds)
+feeds_more net read come feeds i d now new inside before sum =
     sum
-    ∙ ap (λ c. added c one) (before ∙ ap (λ xs. inflow_of net read entry (take i xs)) (sym same))
-    ∙ ap (added (inflow_of net read entry (take i fs))) brings
-    ∙ sym (fold_more (λ c f. added c (brought net read f)) (uniform net.frame.step_count (perstep net.frame entry)) fs
-    i d inside)
-    ∙ ap (λ xs. inflow_of net read entry (take (i + 1) xs)) same
+    ∙ ap (λ c. added c (brought net read (get_or feeds i d))) before
+    ∙ sym (fold_more (λ c f. added c (brought net read f)) come feeds i d inside)
 
--- three feeds more
-pub inflow_three : (net : Network) (read : ℕ → List ℕ) (entry : ℕ) (feeds fs : List Feed) (p : ℕ) (d e f : Feed)
-    (come one two three new : List ℕ) → fs ≡ feeds → p + 2 < length fs
-    → come ≡ inflow_of net read entry (take p feeds)
-    → one ≡ brought net read (get_or fs p d)
-    → two ≡ brought net read (get_or fs (p + 1) e)
-    → three ≡ brought net read (get_or fs (p + 2) f)
-    → new ≡ added (added (added come one) two) three
-    → new ≡ inflow_of net read entry (take (p + 3) feeds)
-inflow_three net read entry feeds fs p d e f come one two three new same inside before first second third sum =
-    let next : p + 1 + 1 + 1 ≡ p + 3 = omega arith in
-    let after_one = inflow_more net read entry feeds fs p d come one (added come one) same (omega arith) before
-    first refl in
-    let after_two = inflow_more net read entry feeds fs (p + 1) e (added come one) two (added (added come one) two)
-    same (omega arith) after_one second refl in
-    let third_place : p + 1 + 1 ≡ p + 2 = omega arith in
-    inflow_more net read entry feeds fs (p + 1 + 1) f (added (added come one) two) three new same (omega arith)
-    after_two (third ∙ ap (λ q. brought net read (get_or fs q f)) (sym third_place)) sum
-    ∙ ap (λ n. inflow_of net read entry (take n feeds)) next
+-- some feeds more
+pub feeds_next : (net : Network) (read : ℕ → List ℕ) (come : List ℕ) (feeds next : List Feed) (p n : ℕ)
+    (now new : List ℕ) → next ≡ take n (drop p feeds)
+    → now ≡ with_feeds net read come (take p feeds)
+    → new ≡ with_feeds net read now next
+    → new ≡ with_feeds net read come (take (p + n) feeds)
+feeds_next net read come feeds next p n now new is_next before sum =
+    sum
+    ∙ ap (λ c. with_feeds net read c next) before
+    ∙ ap (with_feeds net read (with_feeds net read come (take p feeds))) is_next
+    ∙ sym (fold-append (λ c f. added c (brought net read f)) come (take p feeds) (take n (drop p feeds)))
+    ∙ ap (with_feeds net read come) (sym (take-add p n feeds))
 
--- four feeds more
-pub inflow_four : (net : Network) (read : ℕ → List ℕ) (entry : ℕ) (feeds fs : List Feed) (p : ℕ) (d e f g : Feed)
-    (come one two three four new : List ℕ) → fs ≡ feeds → p + 3 < length fs
-    → come ≡ inflow_of net read entry (take p feeds)
-    → one ≡ brought net read (get_or fs p d)
-    → two ≡ brought net read (get_or fs (p + 1) e)
-    → three ≡ brought net read (get_or fs (p + 2) f)
-    → four ≡ brought net read (get_or fs (p + 3) g)
-    → new ≡ added (added (added (added come one) two) three) four
-    → new ≡ inflow_of net read entry (take (p + 4) feeds)
-inflow_four net read entry feeds fs p d e f g come one two three four new same inside before first second third fourth
-    sum =
-    let next : p + 3 + 1 ≡ p + 4 = omega arith in
-    let after_three = inflow_three net read entry feeds fs p d e f come one two three
-    (added (added (added come one) two) three) same (omega arith) before first second third refl in
-    inflow_more net read entry feeds fs (p + 3) g (added (added (added come one) two) three) four new same
-    (omega arith) after_three fourth sum
-    ∙ ap (λ n. inflow_of net read entry (take n feeds)) next
+-- what is left from a place on is all that is left
+pub all_left : (p : ℕ) (feeds : List Feed) → take (length feeds - p) (drop p feeds) ≡ drop p feeds
+all_left p feeds =
+    ap (λ n. take n (drop p feeds)) (sym (length-drop p feeds)) ∙ take-length (drop p feeds)
+
+-- and all that are left
+pub feeds_rest : (net : Network) (read : ℕ → List ℕ) (come : List ℕ) (feeds rest : List Feed) (p : ℕ)
+    (now new : List ℕ) → rest ≡ drop p feeds
+    → now ≡ with_feeds net read come (take p feeds)
+    → new ≡ with_feeds net read now rest
+    → new ≡ with_feeds net read come feeds
+feeds_rest net read come feeds rest p now new is_rest before sum =
+    sum
+    ∙ ap (λ c. with_feeds net read c rest) before
+    ∙ ap (with_feeds net read (with_feeds net read come (take p feeds))) is_rest
+    ∙ sym (fold-append (λ c f. added c (brought net read f)) come (take p feeds) (drop p feeds))
+    ∙ ap (with_feeds net read come) (take-append-drop p feeds)
+
+-- the values of so many feeds leave room for others, eight in all
+pub room_left : (n p : ℕ) (next : List Feed) (turns : List ℕ) → p + length next ≤ 8 → length turns ≡ 2 * n
+    → All (λ v. v < (p + 1) * 2 ^ 44) (folded n turns) → HaveRoom n (length next) turns
+room_left n p next turns few len small = record {
+  len = len;
+  small = λ j d h. omega (arith, few, small j d h);
+}
+
+-- the feeds of a link are within their limits, each
+pub feeds_small : (numbers : List ℕ) (feeds : List Feed) → All (IsFeed numbers) feeds → All IsSmall feeds
+feeds_small numbers feeds are = λ i d below. let one = are i d below in record {
+  flow = one.flow;
+  cruise = one.cruise.1;
+}
 
 -- what a feed brings, made of the part that goes on and of its travel
 pub brought_by : (net : Network) (read : ℕ → List ℕ) (f : Feed) (part out : List ℕ) (time percent : ℕ)

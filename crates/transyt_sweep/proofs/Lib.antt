@@ -19,5 +19,4 @@ pub mod SmallLaws
 pub mod ClimbLaws
 pub mod WorkedFigures
 pub mod WorkedMove
-pub mod WorkedFronts
 pub mod ScratchLaws

@@ -1,6 +1,7 @@
 -- What is sent of a feed by the factors that serve it, and that it stays ready.
-use Rattle.std.proofs.Common.{◌≡◌, ℕ, ◌+◌, ◌*◌, ◌<◌, List, get_or, Option, Some, IfSome, refl, ap, subst, ◌∙◌}
-use Rattle.transyt_profile.specs.Profile.{shared}
+use Rattle.std.proofs.Common.{◌≡◌, ℕ, suc, ◌+◌, ◌*◌, ◌<◌, List, [], ◌∷◌, get_or, Option, Some, IfSome, refl, ap, subst, ◌∙◌, arith}
+use Rattle.transyt_profile.specs.Profile.{shared, added}
+use Rattle.transyt_platoon.specs.Platoon.{dispersed}
 use Rattle.transyt_platoon.specs.Travels.{IsReady, arriving, sent}
 use Rattle.transyt_platoon.specs.declared.platoon.Platoon.{Platoon}
 use Rattle.transyt_platoon.specs.declared.travel.Travel.{Travel}
@@ -10,6 +11,7 @@ use Rattle.transyt_net.specs.Parts.{Network, link_of}
 use Rattle.transyt_net.specs.Valid.{link_place}
 use Rattle.transyt_sweep.specs.Cell.{taken, brought}
 use Rattle.transyt_sweep.specs.Factors.{ServeIn, taken_by}
+use Rattle.transyt_sweep.specs.Inflow.{AreServed, Served, carried, with_carried, with_feeds}
 use Rattle.transyt_sweep.specs.declared.factors.Factors.{Factors}
 use Rattle.transyt_sweep.proofs.InflowLaws.{brought_by}
 
@@ -21,26 +23,37 @@ taken_served net read f factors serve =
     ∙ ap (λ w. shared f.flow w (read factors.feeder)) serve.whole
     ∙ ap (λ l. shared f.flow (total_flow (link_of net (link_place net f.feeder))) (read l)) serve.feeder
 
--- so a platoon that is sent by them brings what the feed does
-pub brought_served : (net : Network) (read : ℕ → List ℕ) (f : Feed) (factors : Factors) (p : Platoon)
-    → ServeIn net f factors → sent p ≡ taken_by read factors → p.travel.now ≡ factors.travel
-    → arriving p ≡ brought net read f
-brought_served net read f factors p serve is_sent is_travel =
-    brought_by net read f (sent p) (arriving p) p.travel.now.time p.travel.now.percent refl
-    (is_sent ∙ taken_served net read f factors serve)
-    (ap (λ (t : Travel). t.time) is_travel ∙ serve.time)
-    (ap (λ (t : Travel). t.percent) is_travel ∙ serve.percent)
+-- so what comes by them is what the feed brings
+pub carried_served : (net : Network) (read : ℕ → List ℕ) (f : Feed) (factors : Factors)
+    → ServeIn net f factors → carried read factors ≡ brought net read f
+carried_served net read f factors serve =
+    brought_by net read f (taken_by read factors) (carried read factors) factors.travel.time factors.travel.percent refl
+    (taken_served net read f factors serve) serve.time serve.percent
 
--- the same of what is sent, where something is
-pub sent_brings : (net : Network) (read : ℕ → List ℕ) (f : Feed) (factors served : Factors) (r : Option Platoon) (p : Platoon)
-    → r ≡ Some p → factors ≡ served → ServeIn net f served
+-- and what comes by slots that serve feeds is what the feeds bring
+pub with_served : (net : Network) (read : ℕ → List ℕ) (come : List ℕ) (feeds : List Feed) (slots : List Factors)
+    → AreServed net feeds slots → with_carried read come slots ≡ with_feeds net read come feeds
+with_served net read come [] [] served = refl
+with_served net read come [] (s ∷ ss) served = absurd (omega (arith, served.same))
+with_served net read come (f ∷ fs) [] served = absurd (omega (arith, served.same))
+with_served net read come (f ∷ fs) (s ∷ ss) served =
+    let rest : AreServed net fs ss = record {
+      same = omega (arith, served.same);
+      each = λ i below. served.each (suc i) (omega (arith, below));
+    } in
+    let first : Served net f s = served.each 0 (omega arith) in
+    ap (λ x. with_carried read (added come x) ss) (carried_served net read f s first.serve)
+    ∙ with_served net read (added come (brought net read f)) fs ss rest
+
+-- a platoon that is sent by factors brings what comes by them
+pub sent_brings : (read : ℕ → List ℕ) (factors : Factors) (r : Option Platoon) (p : Platoon) → r ≡ Some p
     → IfSome r (λ (q : Platoon). sent q ≡ taken_by read factors)
-    → IfSome r (λ (q : Platoon). q.travel.now ≡ factors.travel) → arriving p ≡ brought net read f
-sent_brings net read f factors served r p some same serve is_sent is_travel =
-    brought_served net read f served p serve
-    (subst (λ o. IfSome o (λ (q : Platoon). sent q ≡ taken_by read factors)) some is_sent ∙ ap (taken_by read) same)
-    (subst (λ o. IfSome o (λ (q : Platoon). q.travel.now ≡ factors.travel)) some is_travel
-    ∙ ap (λ (g : Factors). g.travel) same)
+    → IfSome r (λ (q : Platoon). q.travel.now ≡ factors.travel) → arriving p ≡ carried read factors
+sent_brings read factors r p some is_sent is_travel =
+    let same = subst (λ o. IfSome o (λ (q : Platoon). sent q ≡ taken_by read factors)) some is_sent in
+    let travel = subst (λ o. IfSome o (λ (q : Platoon). q.travel.now ≡ factors.travel)) some is_travel in
+    ap (λ x. dispersed x p.travel.now.time p.travel.now.percent) same
+    ∙ ap (λ (t : Travel). dispersed (taken_by read factors) t.time t.percent) travel
 
 -- it is ready round as many steps
 pub sent_ready : (n m lane : ℕ) (lanes : List ℕ) (r : Option Platoon) (p : Platoon) → r ≡ Some p → n ≡ m

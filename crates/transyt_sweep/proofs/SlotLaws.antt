@@ -1,14 +1,16 @@
 -- The slots of a group's factors.
-use Rattle.std.proofs.Common.{◌≡◌, ℕ, List, [], ◌∷◌, ◌++◌, false, length, set, take, drop, refl, sym, subst, arith}
+use Rattle.std.proofs.Common.{◌≡◌, ℕ, ◌+◌, ◌<◌, List, [], ◌∷◌, ◌++◌, length, set, take, drop, get_or, refl, sym, subst, arith}
 use Rattle.std.specs.List.{All}
-use Rattle.std.proofs.lemmas.List.Elements.{All-append, All-take, All-drop}
+use Rattle.std.proofs.lemmas.List.Elements.{All-append, All-take, All-drop, All-from_get_or}
+use Rattle.std.proofs.lemmas.List.{get_or-set_same, get_or-set_other}
+use borrow.Author.Count.{below_more}
 use borrow.Rule.Slice.PartMut.{put_mid}
+use Rattle.transyt_net.specs.Parts.{Network}
+use Rattle.transyt_parts.specs.declared.link.Feed.{Feed}
 use Rattle.transyt_sweep.specs.declared.factors.Factors.{Factors}
 use Rattle.transyt_sweep.specs.Factors.{AreFactors}
-
--- equal factors are right for equal numbers of steps
-pub are_as : (n m : ℕ) (f g : Factors) → n ≡ m → f ≡ g → AreFactors m g → AreFactors n f
-are_as n m f g same equal are = subst (λ k. AreFactors k f) (sym same) (subst (AreFactors m) (sym equal) are)
+use Rattle.transyt_sweep.specs.Inflow.{no_factors, no_feed, AreServed, AreSendable, Served}
+use Rattle.transyt_sweep.specs.Rows.{RowsValue, Fits}
 
 -- slots that are right again leave all right
 pub are_put : (n place count : ℕ) (kept slots : List Factors) → All (AreFactors n) kept → All (AreFactors n) slots
@@ -19,46 +21,43 @@ are_put n place count kept slots are right =
     (All-append (AreFactors n) slots (drop count (drop place kept)) right
     (All-drop (AreFactors n) count (drop place kept) (All-drop (AreFactors n) place kept are)))
 
--- what is read where there are no factors
-abbrev pub no_factors : Factors
-no_factors = record {
-  feeder = 0;
-  cruise = 0;
-  cycle = 0;
-  part = record { part = 0; whole = 0; reciprocal = 0; factor = 0; quick = false };
-  travel = record {
-    time = 0;
-    percent = 0;
-    weight = 0;
-    limit = 0;
-    reciprocal = 0;
-    starting_factor = 0;
-    before_factor = 0;
-    place = 0;
-  };
-}
+-- three slots, one by one
+pub three_of : (slots : List Factors) → length slots ≡ 3
+    → slots ≡ get_or slots 0 no_factors ∷ get_or slots 1 no_factors ∷ get_or slots 2 no_factors ∷ []
+three_of [] three = absurd (omega (arith, three))
+three_of (p ∷ []) three = absurd (omega (arith, three))
+three_of (p ∷ q ∷ []) three = absurd (omega (arith, three))
+three_of (p ∷ q ∷ r ∷ []) three = refl
+three_of (p ∷ q ∷ r ∷ s ∷ rest) three = absurd (omega (arith, three))
 
--- slots of which three have other factors
-abbrev pub with_three : List Factors → Factors → Factors → Factors → List Factors
-with_three slots x y z = set (set (set slots 0 x) 1 y) 2 z
+-- and four
+pub four_of : (slots : List Factors) → length slots ≡ 4
+    → slots
+    ≡ get_or slots 0 no_factors ∷ get_or slots 1 no_factors ∷ get_or slots 2 no_factors ∷ get_or slots 3 no_factors ∷ []
+four_of [] four = absurd (omega (arith, four))
+four_of (p ∷ []) four = absurd (omega (arith, four))
+four_of (p ∷ q ∷ []) four = absurd (omega (arith, four))
+four_of (p ∷ q ∷ r ∷ []) four = absurd (omega (arith, four))
+four_of (p ∷ q ∷ r ∷ s ∷ []) four = refl
+four_of (p ∷ q ∷ r ∷ s ∷ t ∷ rest) four = absurd (omega (arith, four))
 
--- of three slots these are all
-pub is_three : (slots : List Factors) (x y z : Factors) → length slots ≡ 3 → with_three slots x y z ≡ x ∷ y ∷ z ∷ []
-is_three [] x y z three = absurd (omega (arith, three))
-is_three (p ∷ []) x y z three = absurd (omega (arith, three))
-is_three (p ∷ q ∷ []) x y z three = absurd (omega (arith, three))
-is_three (p ∷ q ∷ r ∷ []) x y z three = refl
-is_three (p ∷ q ∷ r ∷ s ∷ rest) x y z three = absurd (omega (arith, three))
+-- factors that serve can be sent over rows of the network's size
+pub sendable : (net : Network) (rows : RowsValue) (feeds : List Feed) (slots : List Factors) → Fits net rows
+    → AreServed net feeds slots → All (AreSendable net.frame.step_count rows) slots
+sendable net rows feeds slots fits served =
+    All-from_get_or (AreSendable net.frame.step_count rows) slots no_factors
+    (λ i below. let one = served.each i (omega (arith, below, served.same)) in record {
+      are = one.are;
+      feeder = omega (arith, one.below, fits.link_count);
+    })
 
--- and with a fourth
-abbrev pub with_four : List Factors → Factors → Factors → Factors → Factors → List Factors
-with_four slots x y z u = set (with_three slots x y z) 3 u
-
-pub is_four : (slots : List Factors) (x y z u : Factors) → length slots ≡ 4
-    → with_four slots x y z u ≡ x ∷ y ∷ z ∷ u ∷ []
-is_four [] x y z u four = absurd (omega (arith, four))
-is_four (p ∷ []) x y z u four = absurd (omega (arith, four))
-is_four (p ∷ q ∷ []) x y z u four = absurd (omega (arith, four))
-is_four (p ∷ q ∷ r ∷ []) x y z u four = absurd (omega (arith, four))
-is_four (p ∷ q ∷ r ∷ s ∷ []) x y z u four = refl
-is_four (p ∷ q ∷ r ∷ s ∷ t ∷ rest) x y z u four = absurd (omega (arith, four))
+-- one slot more serves its feed
+pub served_more : (net : Network) (feeds : List Feed) (slots : List Factors) (i : ℕ) (x : Factors) → i < length slots
+    → Served net (get_or feeds i no_feed) x
+    → ((k : ℕ) → k < i → Served net (get_or feeds k no_feed) (get_or slots k no_factors))
+    → (k : ℕ) → k < i + 1 → Served net (get_or feeds k no_feed) (get_or (set slots i x) k no_factors)
+served_more net feeds slots i x inside serves so_far =
+    below_more (λ k. Served net (get_or feeds k no_feed) (get_or (set slots i x) k no_factors)) i
+    (λ k below. subst (Served net (get_or feeds k no_feed))
+    (sym (get_or-set_other slots i k x no_factors (λ same. omega (arith, same, below)))) (so_far k below))
+    (subst (Served net (get_or feeds i no_feed)) (sym (get_or-set_same slots i x no_factors inside)) serves)

@@ -4,11 +4,10 @@ pub mod Rows
 pub mod Table
 pub mod Front
 pub mod Factors
+pub mod Inflow
 pub mod Scratch
 pub mod Climb
 pub mod WorkedLinks
 pub mod WorkedSweeps
 pub mod WorkedRows
 pub mod WorkedClimbs
-pub mod WorkedFacts
-pub mod WorkedFronts

@@ -1,5 +1,5 @@
 -- Worked rows: two links at one sweep in a cycle of three steps.
-use Rattle.std.specs.Prelude.{ℕ, List, [], ◌∷◌, replicate, Bool, true, false}
+use Rattle.std.specs.Prelude.{List, [], ◌∷◌}
 use Rattle.transyt_delay.specs.declared.figures.Figures.{Figures}
 use Rattle.transyt_sweep.specs.Cell.{CellValue}
 use Rattle.transyt_sweep.specs.Rows.{RowsValue, rows_of}
@@ -63,30 +63,7 @@ abbrev pub go_of_another : RowsValue
 go_of_another =
     record rows { go = 41 ∷ 42 ∷ 43 ∷ 47 ∷ 48 ∷ 49 ∷ [] }
 
--- work that has a value less or one more than three in one part
-abbrev pub uneven : List CellValue
-uneven =
-    record another { arrivals = 37 ∷ 38 ∷ [] }
-    ∷ record another { arrivals = 37 ∷ 38 ∷ 39 ∷ 40 ∷ [] }
-    ∷ record another { go = 47 ∷ 48 ∷ [] }
-    ∷ record another { go = 47 ∷ 48 ∷ 49 ∷ 50 ∷ [] }
-    ∷ record another { queue = 57 ∷ 58 ∷ [] }
-    ∷ record another { queue = 57 ∷ 58 ∷ 59 ∷ 60 ∷ [] }
-    ∷ record another { out = 17 ∷ 18 ∷ [] }
-    ∷ record another { out = 17 ∷ 18 ∷ 19 ∷ 20 ∷ [] }
-    ∷ []
-
 -- the figures with the second link's index by the weights of the second of the three junctions' links, 5 and 7, and
 -- their 37 hundredths for a stop: 5 * (71 + 72) + 7 * 37 * 73 / 100
 abbrev pub weighed : List Figures
 weighed = new_figures 61 62 63 64 ∷ new_figures 71 72 73 904 ∷ []
-
--- sweep and link, another sweep and link, and whether the first comes before the second
-abbrev pub orders : List (ℕ × ℕ × ℕ × ℕ × Bool)
-orders =
-    (1, 5, 2, 0, true) ∷ (2, 0, 1, 5, false) ∷ (2, 1, 2, 2, true) ∷ (2, 2, 2, 2, false) ∷ (2, 3, 2, 2, false) ∷ []
-
--- the rows of the ring, of three links at three sweeps in ten steps, before any link is worked out
-abbrev pub rows_at_first : RowsValue
-rows_at_first =
-    rows_of 10 3 (replicate 120 0) (replicate 30 0) (replicate 30 0) (replicate 30 0) (replicate 3 (new_figures 0 0 0 0))

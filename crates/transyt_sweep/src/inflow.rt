@@ -1,10 +1,21 @@
 //! What comes to a link: what enters, and what its feeds bring.
 
-ghost use Rattle.std.specs.Prelude.{◌≡◌, ◌+◌, ◌-◌, ◌*◌, ◌^◌, ◌<◌, ◌≤◌, ℕ, length, All};
+ghost use Rattle.std.specs.Prelude.{◌≡◌, ◌+◌, ◌-◌, ◌*◌, ◌^◌, ◌<◌, ◌≤◌, ℕ, length, All, IsTrue};
 ghost use Rattle.transyt_parts.specs.declared.link.Feed.{Feed};
 ghost use Rattle.transyt_profile.specs.Profile.{added, folded};
 ghost use Rattle.transyt_sweep.specs.Cell.{brought, inflow};
 ghost use Rattle.transyt_sweep.specs.Factors.{AreFactors};
+ghost use Rattle.transyt_sweep.specs.Inflow.{
+  AreSendable,
+  AreServed,
+  CanRead,
+  CanSend,
+  HaveRoom,
+  IsGroup,
+  IsSmall,
+  with_carried,
+  with_feeds,
+};
 ghost use Rattle.transyt_sweep.specs.Rows.{Fits, read_in};
 
 use crate::factors::Factors;
@@ -25,11 +36,8 @@ fn add_feed(
     room: &mut [u64],
     turns: &mut [u64],
 )
-    requires some { 0 < length net.now.links }
-    requires sweep { sweep ≤ net.now.frame.sweeps }
-    requires flow { feed.flow ≤ 9999 }
-    requires cruise { feed.cruise ≤ 300 }
-    requires fits { Fits net.now rows.now }
+    requires read { CanRead net.now rows.now sweep }
+    requires feed { IsSmall feed }
     requires room_len { 2 * net.now.frame.step_count ≤ length room.old }
     requires turns_len { length turns.old ≡ 2 * net.now.frame.step_count }
     requires turns_small { All (λ v. v < 2 ^ 48 - 2 ^ 44) (folded net.now.frame.step_count turns.old) }
@@ -48,99 +56,97 @@ fn add_feed(
     add_to_first(brought, turns);
 }
 
-/// Adds what three feeds bring to the two turns of what comes. `room` is room for their work; side by side they take
-/// little more time than one. Their factors are kept in `slots`.
-fn add_three(
+/// Adds what feeds bring to the two turns of what comes, one feed after the other. `room` is room for the work on one.
+fn add_each(
     net: &Net,
-    one: Feed,
-    two: Feed,
-    three: Feed,
+    feeds: &[Feed],
     link: usize,
     sweep: u32,
     rows: &Rows,
-    slots: &mut [Factors],
     room: &mut [u64],
     turns: &mut [u64],
 )
-    requires some { 0 < length net.now.links }
-    requires sweep { sweep ≤ net.now.frame.sweeps }
-    requires one_flow { one.flow ≤ 9999 }
-    requires two_flow { two.flow ≤ 9999 }
-    requires three_flow { three.flow ≤ 9999 }
-    requires one_cruise { one.cruise ≤ 300 }
-    requires two_cruise { two.cruise ≤ 300 }
-    requires three_cruise { three.cruise ≤ 300 }
-    requires fits { Fits net.now rows.now }
-    requires slots_len { length slots.old ≡ 3 }
-    requires slots { All (AreFactors net.now.frame.step_count) slots.old }
-    requires room_len { length room.old ≡ 6 * net.now.frame.step_count }
-    requires turns_len { length turns.old ≡ 2 * net.now.frame.step_count }
-    requires turns_small { All (λ v. v < 2 ^ 48 - 3 * 2 ^ 44) (folded net.now.frame.step_count turns.old) }
-    ensures value { let read = read_in rows.now sweep link in folded net.now.frame.step_count turns.new
-        ≡ added (added (added (folded net.now.frame.step_count turns.old) (brought net.now read one)) (brought net.now read two)) (brought net.now read three) }
+    requires read { CanRead net.now rows.now sweep }
+    requires feeds { All IsSmall feeds.now }
+    requires few { length feeds.now ≤ 8 }
+    requires room_len { 2 * net.now.frame.step_count ≤ length room.old }
+    requires turns { HaveRoom net.now.frame.step_count (length feeds.now) turns.old }
+    ensures value { folded net.now.frame.step_count turns.new
+        ≡ with_feeds net.now (read_in rows.now sweep link) (folded net.now.frame.step_count turns.old) feeds.now }
     ensures grows { (limit : ℕ) → All (λ v. v < limit) (folded net.now.frame.step_count turns.old)
-        → All (λ v. v < limit + 3 * 2 ^ 44) (folded net.now.frame.step_count turns.new) }
-    ensures slots { All (AreFactors net.now.frame.step_count) slots.new }
+        → All (λ v. v < limit + length feeds.now * 2 ^ 44) (folded net.now.frame.step_count turns.new) }
 {
-    let steps = net.frame().step_count as usize;
-    let (lanes, rest) = room.split_at_mut(4 * steps);
-    renew_feed(net, one, &mut slots[0]);
-    renew_feed(net, two, &mut slots[1]);
-    renew_feed(net, three, &mut slots[2]);
+    'feeds: for i in 0..feeds.len() {
+        add_feed(net, feeds[i], link, sweep, rows, room, turns);
+    }
+}
+
+/// Works the factors of feeds out anew, each in its slot, where they are not the feed's.
+fn renew_feeds(net: &Net, feeds: &[Feed], slots: &mut [Factors])
+    requires some { 0 < length net.now.links }
+    requires feeds { All IsSmall feeds.now }
+    requires len { length slots.old ≡ length feeds.now }
+    requires are { All (AreFactors net.now.frame.step_count) slots.old }
+    ensures are { All (AreFactors net.now.frame.step_count) slots.new }
+    ensures served { AreServed net.now feeds.now slots.new }
+{
+    'slots: for i in 0..feeds.len() {
+        renew_feed(net, feeds[i], &mut slots[i]);
+    }
+}
+
+/// Adds what comes by three slots' factors to the two turns, side by side in the lanes, and says so; adds nothing where
+/// one of them can't be sent.
+fn send_three(
+    link: usize,
+    sweep: u32,
+    rows: &Rows,
+    slots: &[Factors],
+    steps: usize,
+    lanes: &mut [u64],
+    turns: &mut [u64],
+) -> bool
+    requires can { CanSend steps rows.now sweep lanes.old }
+    requires len { length slots.now ≡ 3 }
+    requires slots { All (AreSendable steps rows.now) slots.now }
+    requires turns { HaveRoom steps (length slots.now) turns.old }
+    ensures value { IsTrue result → folded steps turns.new
+        ≡ with_carried (read_in rows.now sweep link) (folded steps turns.old) slots.now }
+    ensures grows { IsTrue result → (limit : ℕ) → All (λ v. v < limit) (folded steps turns.old)
+        → All (λ v. v < limit + 3 * 2 ^ 22) (folded steps turns.new) }
+    ensures stays { (IsTrue result → ⊥) → turns.new ≡ turns.old }
+{
     let one_sent = send_feed(link, sweep, rows, &slots[0], 0, lanes);
     let two_sent = send_feed(link, sweep, rows, &slots[1], 1, lanes);
     let three_sent = send_feed(link, sweep, rows, &slots[2], 2, lanes);
     if let (Some(one_sent), Some(two_sent), Some(three_sent)) = (one_sent, two_sent, three_sent) {
         disperse_three(steps, lanes, &one_sent, &two_sent, &three_sent, turns);
+        true
     } else {
-        add_feed(net, one, link, sweep, rows, rest, turns);
-        add_feed(net, two, link, sweep, rows, rest, turns);
-        add_feed(net, three, link, sweep, rows, rest, turns);
+        false
     }
 }
 
-/// Adds what four feeds bring to the two turns of what comes, as `add_three` does of three.
-fn add_four(
-    net: &Net,
-    one: Feed,
-    two: Feed,
-    three: Feed,
-    four: Feed,
+/// Adds what comes by four slots' factors to the two turns, as `send_three` does of three.
+fn send_four(
     link: usize,
     sweep: u32,
     rows: &Rows,
-    slots: &mut [Factors],
-    room: &mut [u64],
+    slots: &[Factors],
+    steps: usize,
+    lanes: &mut [u64],
     turns: &mut [u64],
-)
-    requires some { 0 < length net.now.links }
-    requires sweep { sweep ≤ net.now.frame.sweeps }
-    requires one_flow { one.flow ≤ 9999 }
-    requires two_flow { two.flow ≤ 9999 }
-    requires three_flow { three.flow ≤ 9999 }
-    requires four_flow { four.flow ≤ 9999 }
-    requires one_cruise { one.cruise ≤ 300 }
-    requires two_cruise { two.cruise ≤ 300 }
-    requires three_cruise { three.cruise ≤ 300 }
-    requires four_cruise { four.cruise ≤ 300 }
-    requires fits { Fits net.now rows.now }
-    requires slots_len { length slots.old ≡ 4 }
-    requires slots { All (AreFactors net.now.frame.step_count) slots.old }
-    requires room_len { length room.old ≡ 6 * net.now.frame.step_count }
-    requires turns_len { length turns.old ≡ 2 * net.now.frame.step_count }
-    requires turns_small { All (λ v. v < 2 ^ 48 - 4 * 2 ^ 44) (folded net.now.frame.step_count turns.old) }
-    ensures value { let read = read_in rows.now sweep link in folded net.now.frame.step_count turns.new
-        ≡ added (added (added (added (folded net.now.frame.step_count turns.old) (brought net.now read one)) (brought net.now read two)) (brought net.now read three)) (brought net.now read four) }
-    ensures grows { (limit : ℕ) → All (λ v. v < limit) (folded net.now.frame.step_count turns.old)
-        → All (λ v. v < limit + 4 * 2 ^ 44) (folded net.now.frame.step_count turns.new) }
-    ensures slots { All (AreFactors net.now.frame.step_count) slots.new }
+) -> bool
+    requires can { CanSend steps rows.now sweep lanes.old }
+    requires len { length slots.now ≡ 4 }
+    requires slots { All (AreSendable steps rows.now) slots.now }
+    requires turns { HaveRoom steps (length slots.now) turns.old }
+    ensures value { IsTrue result → folded steps turns.new
+        ≡ with_carried (read_in rows.now sweep link) (folded steps turns.old) slots.now }
+    ensures grows { IsTrue result → (limit : ℕ) → All (λ v. v < limit) (folded steps turns.old)
+        → All (λ v. v < limit + 4 * 2 ^ 22) (folded steps turns.new) }
+    ensures stays { (IsTrue result → ⊥) → turns.new ≡ turns.old }
 {
-    let steps = net.frame().step_count as usize;
-    let (lanes, rest) = room.split_at_mut(4 * steps);
-    renew_feed(net, one, &mut slots[0]);
-    renew_feed(net, two, &mut slots[1]);
-    renew_feed(net, three, &mut slots[2]);
-    renew_feed(net, four, &mut slots[3]);
     let one_sent = send_feed(link, sweep, rows, &slots[0], 0, lanes);
     let two_sent = send_feed(link, sweep, rows, &slots[1], 1, lanes);
     let three_sent = send_feed(link, sweep, rows, &slots[2], 2, lanes);
@@ -157,12 +163,72 @@ fn add_four(
             &four_sent,
             turns,
         );
+        true
     } else {
-        add_feed(net, one, link, sweep, rows, rest, turns);
-        add_feed(net, two, link, sweep, rows, rest, turns);
-        add_feed(net, three, link, sweep, rows, rest, turns);
-        add_feed(net, four, link, sweep, rows, rest, turns);
+        false
     }
+}
+
+/// Adds what comes by the factors of three slots or of four to the two turns, as `send_three` and `send_four` do.
+fn send_group(
+    link: usize,
+    sweep: u32,
+    rows: &Rows,
+    slots: &[Factors],
+    steps: usize,
+    lanes: &mut [u64],
+    turns: &mut [u64],
+) -> bool
+    requires can { CanSend steps rows.now sweep lanes.old }
+    requires len { IsGroup (length slots.now) }
+    requires slots { All (AreSendable steps rows.now) slots.now }
+    requires turns { HaveRoom steps (length slots.now) turns.old }
+    ensures value { IsTrue result → folded steps turns.new
+        ≡ with_carried (read_in rows.now sweep link) (folded steps turns.old) slots.now }
+    ensures grows { IsTrue result → (limit : ℕ) → All (λ v. v < limit) (folded steps turns.old)
+        → All (λ v. v < limit + 4 * 2 ^ 22) (folded steps turns.new) }
+    ensures stays { (IsTrue result → ⊥) → turns.new ≡ turns.old }
+{
+    if slots.len() == 4 {
+        send_four(link, sweep, rows, slots, steps, lanes, turns)
+    } else {
+        send_three(link, sweep, rows, slots, steps, lanes, turns)
+    }
+}
+
+/// Adds what three or four feeds bring to the two turns of what comes: side by side, by the factors that are kept in
+/// `slots`, where that can be, which takes little more time than one feed does; else one after the other. `room` is room
+/// for the work.
+fn add_together(
+    net: &Net,
+    feeds: &[Feed],
+    link: usize,
+    sweep: u32,
+    rows: &Rows,
+    slots: &mut [Factors],
+    room: &mut [u64],
+    turns: &mut [u64],
+)
+    requires read { CanRead net.now rows.now sweep }
+    requires feeds { All IsSmall feeds.now }
+    requires few { IsGroup (length feeds.now) }
+    requires slots_len { length slots.old ≡ length feeds.now }
+    requires slots { All (AreFactors net.now.frame.step_count) slots.old }
+    requires room_len { length room.old ≡ 6 * net.now.frame.step_count }
+    requires turns { HaveRoom net.now.frame.step_count (length feeds.now) turns.old }
+    ensures value { folded net.now.frame.step_count turns.new
+        ≡ with_feeds net.now (read_in rows.now sweep link) (folded net.now.frame.step_count turns.old) feeds.now }
+    ensures grows { (limit : ℕ) → All (λ v. v < limit) (folded net.now.frame.step_count turns.old)
+        → All (λ v. v < limit + length feeds.now * 2 ^ 44) (folded net.now.frame.step_count turns.new) }
+    ensures slots { All (AreFactors net.now.frame.step_count) slots.new }
+{
+    let steps = net.frame().step_count as usize;
+    let (lanes, rest) = room.split_at_mut(4 * steps);
+    renew_feeds(net, feeds, slots);
+    if send_group(link, sweep, rows, slots, steps, lanes, turns) {
+        return;
+    }
+    add_each(net, feeds, link, sweep, rows, rest, turns);
 }
 
 /// The place of the factors of a link's first feed.
@@ -185,6 +251,21 @@ fn grouped(feed_count: usize, own: usize, places: usize) -> usize
 {
     if own + feed_count <= places {
         feed_count
+    } else {
+        0
+    }
+}
+
+/// How many of these feeds are worked out together first: four, or three, or none where fewer are left.
+fn group(left: usize) -> usize
+    ensures within { result ≤ left }
+    ensures some { 3 ≤ left → IsGroup result }
+    ensures few { result ≤ 4 }
+{
+    if left >= 4 {
+        4
+    } else if left == 3 {
+        3
     } else {
         0
     }
@@ -214,31 +295,19 @@ pub(crate) fn fill_inflow(
 {
     let own = own_place(net, link);
     let at = net.link(link);
+    let feeds = at.feeds.as_slice();
     let steps = come.len();
     let (turns, room) = room.split_at_mut(2 * steps);
     start_turns(steps, net.per_step(at.entry), turns);
-    let side_by_side = grouped(at.feeds.len(), own, kept.len());
-    let fours = side_by_side / 4;
-    'fours: for i in 0..fours {
-        let (one, two) = (at.feeds[4 * i], at.feeds[4 * i + 1]);
-        let (three, four) = (at.feeds[4 * i + 2], at.feeds[4 * i + 3]);
-        let place = own + 4 * i;
-        let slots = &mut kept[place..place + 4];
-        add_four(
-            net, one, two, three, four, link, sweep, rows, slots, room, turns,
-        );
+    let side_by_side = grouped(feeds.len(), own, kept.len());
+    let mut done = 0;
+    'groups: while done + 3 <= side_by_side {
+        let count = group(side_by_side - done);
+        let slots = &mut kept[own + done..own + done + count];
+        let next = &feeds[done..done + count];
+        add_together(net, next, link, sweep, rows, slots, room, turns);
+        done += count;
     }
-    let done = 4 * fours;
-    let threes = (side_by_side - done) / 3;
-    'threes: for i in 0..threes {
-        let first = done + 3 * i;
-        let (one, two, three) = (at.feeds[first], at.feeds[first + 1], at.feeds[first + 2]);
-        let place = own + first;
-        let slots = &mut kept[place..place + 3];
-        add_three(net, one, two, three, link, sweep, rows, slots, room, turns);
-    }
-    'rest: for i in done + 3 * threes..at.feeds.len() {
-        add_feed(net, at.feeds[i], link, sweep, rows, room, turns);
-    }
+    add_each(net, &feeds[done..], link, sweep, rows, room, turns);
     fold_into(turns, come);
 }

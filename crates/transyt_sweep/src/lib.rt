@@ -28,8 +28,7 @@ mod working;
 
 pub use laws::{
     rule_of_climbs, rule_of_departures, rule_of_evaluation, rule_of_sweeps, worked_climbs,
-    worked_evaluations, worked_factors, worked_facts, worked_figures, worked_fronts, worked_kept,
-    worked_links, worked_rows, worked_scratch, worked_sweeps, worked_telling,
+    worked_figures, worked_links, worked_rows, worked_sweeps,
 };
 pub use rows::Rows;
 pub use saved_rows::SavedRows;

@@ -6,7 +6,8 @@ ghost use Rattle.transyt_parts.specs.declared.link.Feed.{Feed};
 ghost use Rattle.transyt_net.specs.Valid.{link_place};
 ghost use Rattle.transyt_platoon.specs.Travels.{IsReady, sent};
 ghost use Rattle.transyt_sweep.specs.Cell.{taken};
-ghost use Rattle.transyt_sweep.specs.Factors.{AreFactors, ServeIn, taken_by};
+ghost use Rattle.transyt_sweep.specs.Factors.{AreFactors, taken_by};
+ghost use Rattle.transyt_sweep.specs.Inflow.{AreSendable, CanSend, IsSmall, Served};
 ghost use Rattle.transyt_sweep.specs.Rows.{Fits, read_in};
 
 use crate::factors::{Factors, renew};
@@ -80,12 +81,9 @@ pub(crate) fn share_feed(
 /// looked at first.
 pub(crate) fn renew_feed(net: &Net, feed: Feed, slot: &mut Factors)
     requires some { 0 < length net.now.links }
-    requires flow { feed.flow ≤ 9999 }
-    requires cruise { feed.cruise ≤ 300 }
+    requires feed { IsSmall feed }
     requires are { AreFactors net.now.frame.step_count slot.old }
-    ensures are { AreFactors net.now.frame.step_count slot.new }
-    ensures serve { ServeIn net.now feed slot.new }
-    ensures below { slot.new.feeder < length net.now.links }
+    ensures served { Served net.now feed slot.new }
 {
     let feeder = feeder_place(net, feed.feeder, slot.feeder);
     renew(net, feed, feeder, net.total_flow(feeder), slot);
@@ -101,12 +99,9 @@ pub(crate) fn send_feed<'a>(
     lane: usize,
     lanes: &mut [u64],
 ) -> Option<Platoon<'a>>
-    requires most { rows.now.step_count ≤ 120 }
-    requires sweep { sweep ≤ rows.now.sweeps }
-    requires feeder { factors.now.feeder < length rows.now.figures }
-    requires are { AreFactors rows.now.step_count factors.now }
+    requires can { CanSend rows.now.step_count rows.now sweep lanes.old }
+    requires factors { AreSendable rows.now.step_count rows.now factors.now }
     requires lane { lane < 4 }
-    requires lanes_len { length lanes.old ≡ 4 * rows.now.step_count }
     ensures ready { IfSome result (λ p. IsReady rows.now.step_count lane lanes.new p) }
     ensures taken { IfSome result (λ p. sent p ≡ taken_by (read_in rows.now sweep link) factors.now) }
     ensures travel { IfSome result (λ p. p.travel.now ≡ factors.now.travel) }

@@ -24,8 +24,15 @@ pub fn full<L: Ledger>(alloc: Global, net: &Net, steps: &mut Steps<L>) -> Result
     ensures err { OnErr result (steps.new ≡ steps.old) }
 {
     let mut rows = Rows::open(alloc, net)?;
-    let mut scratch = Scratch::open(alloc, net)?;
+    let mut scratch = match Scratch::open(alloc, net) {
+        Ok(scratch) => scratch,
+        Err(fault) => {
+            drop(rows);
+            return Err(fault);
+        }
+    };
     fill(net, &mut rows, &mut scratch, steps);
+    drop(scratch);
     Ok(rows)
 }
 

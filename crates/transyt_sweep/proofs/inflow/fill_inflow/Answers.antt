@@ -1,110 +1,139 @@
--- Four feeds more, or three, or one.
-use Rattle.std.proofs.Common.{◌≡◌, ℕ, ◌+◌, ◌-◌, ◌*◌, ◌/◌, ◌^◌, List, length, take, get_or, arith, rules, refl, ap, ◌∙◌}
-use Rattle.transyt_parts.specs.declared.link.Feed.{Feed}
+-- A group of feeds more, and those that are left.
+use Rattle.std.proofs.Common.{◌≡◌, ℕ, ◌+◌, ◌-◌, ◌*◌, ◌^◌, ◌<◌, ◌≤◌, List, All, length, take, drop, arith, rules, ap, sym, subst, ◌∙◌}
+use Rattle.std.proofs.lemmas.List.{length-take}
+use Rattle.transyt_profile.specs.Profile.{folded, uniform}
 use Rattle.transyt_parts.specs.Parts.{LinkValue}
-use Rattle.transyt_profile.specs.Profile.{folded}
+use Rattle.transyt_parts.specs.declared.link.Feed.{Feed}
 use Rattle.transyt_net.specs.Parts.{link_of}
-use Rattle.transyt_sweep.specs.Cell.{brought, inflow_of}
+use Rattle.transyt_net.specs.Flow.{perstep}
 use Rattle.transyt_sweep.specs.Rows.{read_in}
-use Rattle.transyt_sweep.proofs.InflowLaws.{inflow_more, inflow_three, inflow_four}
+use Rattle.transyt_sweep.proofs.InflowLaws.{all_left, feeds_next, feeds_rest, room_left}
 use Rattle.transyt_sweep.proofs.SlotLaws.{are_put}
 use Rattle.transyt_sweep.proofs.inflow.fill_inflow.Goals as goal
 
--- four feeds more
-pub fours-preserved : goal.fours-preserved
-fours-preserved c =
+-- a group has room
+pub add_together-requires-clause-turns : goal.add_together-requires-clause-turns
+add_together-requires-clause-turns c =
+    let p : ℕ = c.groups.done in
+    let k : ℕ = c.group-count.result in
+    let same = ap (λ (l : LinkValue). length l.feeds) c.link-at.ensures.value in
+    let feeds : c.as_slice-feeds.result.now ≡ (link_of c.args.net.now c.args.link).feeds =
+    c.as_slice-feeds.ensures.value ∙ ap (λ (l : LinkValue). l.feeds) (c.at.view_is ∙ c.link-at.ensures.value) in
+    let next : List Feed = take (p + k - p) (drop p c.as_slice-feeds.result.now) in
+    room_left c.args.net.now.frame.step_count p next c.groups.turns
+    (omega (
+      arith,
+      length-take (p + k - p) (drop p c.as_slice-feeds.result.now),
+      c.group-count.ensures.within,
+      c.grouped-side_by_side.ensures.most,
+      c.link-at.ensures.kept.feed_count,
+      same,
+      ap length feeds,
+    ))
+    c.groups.invariant.turns c.groups.invariant.small
+
+-- a group more
+pub groups-preserved : goal.groups-preserved
+groups-preserved c =
+    let n : ℕ = c.args.net.now.frame.step_count in
     let read : ℕ → List ℕ = read_in c.args.rows.now c.args.sweep c.args.link in
     let link : LinkValue = link_of c.args.net.now c.args.link in
-    let feeds : c.at.inside.feeds.items ≡ link.feeds =
-    ap (λ (l : LinkValue). l.feeds) (c.at.view_is ∙ c.link-at.ensures.value) in
-    let p : ℕ = 4 * c.fours.i in
-    let next : p + 4 ≡ 4 * (c.fours.i + 1) = omega arith in
-    let one = c.index.result.now in
-    let two = c.index-in-fours.result.now in
-    let three = c.index-in-fours-2.result.now in
-    let four = c.index-in-fours-3.result.now in
-    let first : one ≡ get_or link.feeds p one =
-    c.index.ensures ∙ ap (λ (fs : List Feed). get_or fs p one) feeds in
-    let second : two ≡ get_or link.feeds (p + 1) two =
-    c.index-in-fours.ensures ∙ ap (λ (fs : List Feed). get_or fs (p + 1) two) feeds in
-    let third : three ≡ get_or link.feeds (p + 2) three =
-    c.index-in-fours-2.ensures ∙ ap (λ (fs : List Feed). get_or fs (p + 2) three) feeds in
-    let fourth : four ≡ get_or link.feeds (p + 3) four =
-    c.index-in-fours-3.ensures ∙ ap (λ (fs : List Feed). get_or fs (p + 3) four) feeds in
+    let p : ℕ = c.groups.done in
+    let k : ℕ = c.group-count.result in
+    let place : ℕ = c.own_place-own.result + p in
+    let feeds : c.as_slice-feeds.result.now ≡ link.feeds =
+    c.as_slice-feeds.ensures.value ∙ ap (λ (l : LinkValue). l.feeds) (c.at.view_is ∙ c.link-at.ensures.value) in
+    let next : List Feed = take (p + k - p) (drop p c.as_slice-feeds.result.now) in
+    let count : p + k - p ≡ k = omega arith in
+    let is_next : next ≡ take k (drop p link.feeds) =
+    ap (λ m. take m (drop p c.as_slice-feeds.result.now)) count ∙ ap (λ (fs : List Feed). take k (drop p fs)) feeds in
+    let within : length next ≤ k = omega (arith, length-take (p + k - p) (drop p c.as_slice-feeds.result.now)) in
     record {
+      within = omega (arith, c.group-count.ensures.within, c.groups-test.true);
       room = search rules;
       turns = search rules;
-      kept =
-          let place : ℕ = c.own_place-own.result + p in
-          are_put c.args.net.now.frame.step_count place (place + 4 - place) c.fours.kept c.add_four.new.slots
-          c.fours.invariant.kept c.add_four.ensures.slots;
-      value = inflow_four c.args.net.now read link.entry link.feeds link.feeds p one two three four (folded c.args.net.now.frame.step_count c.fours.turns)
-          (brought c.args.net.now read one) (brought c.args.net.now read two) (brought c.args.net.now read three) (brought c.args.net.now read four) _ refl
-          (omega (arith, c.fours-test.true, c.grouped-side_by_side.ensures.most, c.len.ensures, ap length feeds)) c.fours.invariant.value
-          (ap (brought c.args.net.now read) first) (ap (brought c.args.net.now read) second) (ap (brought c.args.net.now read) third) (ap (brought c.args.net.now read) fourth) c.add_four.ensures.value
-          ∙ ap (λ n. inflow_of c.args.net.now read link.entry (take n link.feeds)) next;
-      small = λ k d h. omega (
+      kept = are_put n place (place + k - place) c.groups.kept c.add_together.new.slots
+          c.groups.invariant.kept c.add_together.ensures.slots;
+      value = feeds_next c.args.net.now read (uniform n (perstep c.args.net.now.frame link.entry)) link.feeds next p k
+          (folded n c.groups.turns) (folded n c.add_together.new.turns) is_next c.groups.invariant.value
+          c.add_together.ensures.value;
+      small = λ j d h. omega (
         arith,
-        c.add_four.ensures.grows ((p + 1) * 2 ^ 44) c.fours.invariant.small k d h,
+        within,
+        c.add_together.ensures.grows ((p + 1) * 2 ^ 44) c.groups.invariant.small j d h,
       );
     }
 
--- three feeds more
-pub threes-preserved : goal.threes-preserved
-threes-preserved c =
-    let read : ℕ → List ℕ = read_in c.args.rows.now c.args.sweep c.args.link in
-    let link : LinkValue = link_of c.args.net.now c.args.link in
-    let feeds : c.at.inside.feeds.items ≡ link.feeds =
-    ap (λ (l : LinkValue). l.feeds) (c.at.view_is ∙ c.link-at.ensures.value) in
-    let p : ℕ = 4 * (c.grouped-side_by_side.result / 4) + 3 * c.threes.i in
-    let next : p + 3 ≡ 4 * (c.grouped-side_by_side.result / 4) + 3 * (c.threes.i + 1) = omega arith in
-    let one = c.index-in-threes.result.now in
-    let two = c.index-in-threes-2.result.now in
-    let three = c.index-in-threes-3.result.now in
-    let first : one ≡ get_or link.feeds p one =
-    c.index-in-threes.ensures ∙ ap (λ (fs : List Feed). get_or fs p one) feeds in
-    let second : two ≡ get_or link.feeds (p + 1) two =
-    c.index-in-threes-2.ensures ∙ ap (λ (fs : List Feed). get_or fs (p + 1) two) feeds in
-    let third : three ≡ get_or link.feeds (p + 2) three =
-    c.index-in-threes-3.ensures ∙ ap (λ (fs : List Feed). get_or fs (p + 2) three) feeds in
-    record {
-      room = search rules;
-      turns = search rules;
-      kept =
-          let place : ℕ = c.own_place-own.result + p in
-          are_put c.args.net.now.frame.step_count place (place + 3 - place) c.threes.kept c.add_three.new.slots
-          c.threes.invariant.kept c.add_three.ensures.slots;
-      value = inflow_three c.args.net.now read link.entry link.feeds link.feeds p one two three (folded c.args.net.now.frame.step_count c.threes.turns)
-          (brought c.args.net.now read one) (brought c.args.net.now read two) (brought c.args.net.now read three) _ refl
-          (omega (arith, c.threes-test.true, c.grouped-side_by_side.ensures.most, c.len.ensures, ap length feeds)) c.threes.invariant.value
-          (ap (brought c.args.net.now read) first) (ap (brought c.args.net.now read) second) (ap (brought c.args.net.now read) third) c.add_three.ensures.value
-          ∙ ap (λ n. inflow_of c.args.net.now read link.entry (take n link.feeds)) next;
-      small = λ k d h. omega (
-        arith,
-        c.add_three.ensures.grows ((p + 1) * 2 ^ 44) c.threes.invariant.small k d h,
-      );
-    }
+-- those that are left have room
+pub add_each-requires-clause-turns : goal.add_each-requires-clause-turns
+add_each-requires-clause-turns c =
+    let p : ℕ = c.groups.done in
+    let same = ap (λ (l : LinkValue). length l.feeds) c.link-at.ensures.value in
+    let feeds : c.as_slice-feeds.result.now ≡ (link_of c.args.net.now c.args.link).feeds =
+    c.as_slice-feeds.ensures.value ∙ ap (λ (l : LinkValue). l.feeds) (c.at.view_is ∙ c.link-at.ensures.value) in
+    let rest : List Feed = take (length c.as_slice-feeds.result.now - p) (drop p c.as_slice-feeds.result.now) in
+    room_left c.args.net.now.frame.step_count p rest c.groups.turns
+    (omega (
+      arith,
+      length-take (length c.as_slice-feeds.result.now - p) (drop p c.as_slice-feeds.result.now),
+      c.groups.invariant.within,
+      c.grouped-side_by_side.ensures.most,
+      c.link-at.ensures.kept.feed_count,
+      same,
+      ap length feeds,
+    ))
+    c.groups.invariant.turns c.groups.invariant.small
 
--- one feed more
-pub rest-preserved : goal.rest-preserved
-rest-preserved c =
+-- and all values of the two turns, folded, are small
+pub fold_into-requires-clause-fit : goal.fold_into-requires-clause-fit
+fold_into-requires-clause-fit c =
+    let p : ℕ = c.groups.done in
+    let same = ap (λ (l : LinkValue). length l.feeds) c.link-at.ensures.value in
+    let feeds : c.as_slice-feeds.result.now ≡ (link_of c.args.net.now c.args.link).feeds =
+    c.as_slice-feeds.ensures.value ∙ ap (λ (l : LinkValue). l.feeds) (c.at.view_is ∙ c.link-at.ensures.value) in
+    let few : p + length (take (length c.as_slice-feeds.result.now - p) (drop p c.as_slice-feeds.result.now)) ≤ 8 = omega (
+      arith,
+      length-take (length c.as_slice-feeds.result.now - p) (drop p c.as_slice-feeds.result.now),
+      c.groups.invariant.within,
+      c.grouped-side_by_side.ensures.most,
+      c.link-at.ensures.kept.feed_count,
+      same,
+      ap length feeds,
+    ) in
+    subst (λ m. All (λ v. v < 2 ^ 48) (folded m c.add_each.new.turns)) (sym c.requires.come_len)
+    (λ j d h. omega (arith, few, c.add_each.ensures.grows ((p + 1) * 2 ^ 44) c.groups.invariant.small j d h))
+
+pub returns-clause-small : goal.returns-clause-small
+returns-clause-small c =
+    let p : ℕ = c.groups.done in
+    let same = ap (λ (l : LinkValue). length l.feeds) c.link-at.ensures.value in
+    let feeds : c.as_slice-feeds.result.now ≡ (link_of c.args.net.now c.args.link).feeds =
+    c.as_slice-feeds.ensures.value ∙ ap (λ (l : LinkValue). l.feeds) (c.at.view_is ∙ c.link-at.ensures.value) in
+    let few : p + length (take (length c.as_slice-feeds.result.now - p) (drop p c.as_slice-feeds.result.now)) ≤ 8 = omega (
+      arith,
+      length-take (length c.as_slice-feeds.result.now - p) (drop p c.as_slice-feeds.result.now),
+      c.groups.invariant.within,
+      c.grouped-side_by_side.ensures.most,
+      c.link-at.ensures.kept.feed_count,
+      same,
+      ap length feeds,
+    ) in
+    subst (All (λ v. v < 2 ^ 48)) (sym c.fold_into.ensures)
+    (subst (λ m. All (λ v. v < 2 ^ 48) (folded m c.add_each.new.turns)) (sym c.requires.come_len)
+    (λ j d h. omega (arith, few, c.add_each.ensures.grows ((p + 1) * 2 ^ 44) c.groups.invariant.small j d h)))
+
+-- all that comes
+pub returns-clause-value : goal.returns-clause-value
+returns-clause-value c =
+    let n : ℕ = c.args.net.now.frame.step_count in
     let read : ℕ → List ℕ = read_in c.args.rows.now c.args.sweep c.args.link in
     let link : LinkValue = link_of c.args.net.now c.args.link in
-    let feeds : c.at.inside.feeds.items ≡ link.feeds =
-    ap (λ (l : LinkValue). l.feeds) (c.at.view_is ∙ c.link-at.ensures.value) in
-    let one = c.index-in-rest.result.now in
-    let first : one ≡ get_or link.feeds c.rest.i one =
-    c.index-in-rest.ensures ∙ ap (λ (fs : List Feed). get_or fs c.rest.i one) feeds in
-    record {
-      room = search rules;
-      turns = search rules;
-      kept = c.rest.invariant.kept;
-      value = inflow_more c.args.net.now read link.entry link.feeds link.feeds c.rest.i one (folded c.args.net.now.frame.step_count c.rest.turns)
-          (brought c.args.net.now read one) _ refl
-          (omega (arith, c.rest-test.true, c.len-i-end.ensures, ap length feeds)) c.rest.invariant.value
-          (ap (brought c.args.net.now read) first) c.add_feed.ensures.value;
-      small = λ k d h. omega (
-        arith,
-        c.add_feed.ensures.grows ((c.rest.i + 1) * 2 ^ 44) c.rest.invariant.small k d h,
-      );
-    }
+    let p : ℕ = c.groups.done in
+    let feeds : c.as_slice-feeds.result.now ≡ link.feeds =
+    c.as_slice-feeds.ensures.value ∙ ap (λ (l : LinkValue). l.feeds) (c.at.view_is ∙ c.link-at.ensures.value) in
+    c.fold_into.ensures
+    ∙ ap (λ m. folded m c.add_each.new.turns) c.requires.come_len
+    ∙ feeds_rest c.args.net.now read (uniform n (perstep c.args.net.now.frame link.entry)) link.feeds
+    (take (length c.as_slice-feeds.result.now - p) (drop p c.as_slice-feeds.result.now)) p
+    (folded n c.groups.turns) (folded n c.add_each.new.turns) (all_left p c.as_slice-feeds.result.now ∙ ap (drop p) feeds)
+    c.groups.invariant.value c.add_each.ensures.value

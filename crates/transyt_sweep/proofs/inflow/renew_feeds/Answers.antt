@@ -1,0 +1,16 @@
+-- One slot more has the factors of its feed.
+use Rattle.std.proofs.Common.{arith}
+use Rattle.std.proofs.lemmas.List.Elements.{All-set}
+use Rattle.transyt_sweep.specs.Factors.{AreFactors}
+use Rattle.transyt_sweep.proofs.SlotLaws.{served_more}
+use Rattle.transyt_sweep.proofs.inflow.renew_feeds.Goals as goal
+
+pub slots-preserved : goal.slots-preserved
+slots-preserved c =
+    let served = c.renew_feed.ensures.served in
+    record {
+      are = All-set (AreFactors c.args.net.now.frame.step_count) c.slots.slots c.slots.i c.renew_feed.new.slot served.are
+          c.slots.invariant.are;
+      each = served_more c.args.net.now c.args.feeds.now c.slots.slots c.slots.i c.renew_feed.new.slot
+          (omega (arith, c.slots-test.true, c.slots.auto.slots, c.requires.len)) served c.slots.invariant.each;
+    }

@@ -1,0 +1,37 @@
+-- Side by side, each brings what comes by its factors.
+use Rattle.std.proofs.Common.{◌≡◌, ℕ, List, get_or, ap, sym, ◌∙◌, arith}
+use Rattle.transyt_profile.specs.Profile.{added, folded}
+use Rattle.transyt_platoon.specs.Travels.{arriving}
+use Rattle.transyt_sweep.specs.declared.factors.Factors.{Factors}
+use Rattle.transyt_sweep.specs.Inflow.{carried, no_factors, with_carried}
+use Rattle.transyt_sweep.specs.Rows.{read_in}
+use Rattle.transyt_sweep.proofs.SlotLaws.{three_of}
+use Rattle.transyt_sweep.proofs.SendingLaws.{sent_brings}
+use Rattle.transyt_sweep.proofs.inflow.send_three.Goals as goal
+
+pub returns-in-Some-Some-Some-clause-value : goal.returns-in-Some-Some-Some-clause-value
+returns-in-Some-Some-Some-clause-value c = λ is.
+    let read : ℕ → List ℕ = read_in c.args.rows.now c.args.sweep c.args.link in
+    let sent = c.in-Some-Some-Some in
+    let come : List ℕ = folded c.args.steps c.args.turns.now in
+    let one : Factors = get_or c.args.slots.now 0 no_factors in
+    let one_brings : arriving sent.one_sent ≡ carried read one =
+    sent_brings read one c.send_feed-one_sent.result sent.one_sent sent.is-0 c.send_feed-one_sent.ensures.taken
+    c.send_feed-one_sent.ensures.travel in
+    let two : Factors = get_or c.args.slots.now 1 no_factors in
+    let two_brings : arriving sent.two_sent ≡ carried read two =
+    sent_brings read two c.send_feed-two_sent.result sent.two_sent sent.is-1 c.send_feed-two_sent.ensures.taken
+    c.send_feed-two_sent.ensures.travel in
+    let three : Factors = get_or c.args.slots.now 2 no_factors in
+    let three_brings : arriving sent.three_sent ≡ carried read three =
+    sent_brings read three c.send_feed-three_sent.result sent.three_sent sent.is-2 c.send_feed-three_sent.ensures.taken
+    c.send_feed-three_sent.ensures.travel in
+    c.disperse_three.ensures.value
+    ∙ ap (λ x. added (added (added come x) (arriving sent.two_sent)) (arriving sent.three_sent)) one_brings
+    ∙ ap (λ x. added (added (added come (carried read one)) x) (arriving sent.three_sent)) two_brings
+    ∙ ap (λ x. added (added (added come (carried read one)) (carried read two)) x) three_brings
+    ∙ ap (with_carried read come) (sym (three_of c.args.slots.now c.requires.len))
+
+-- what stands leaves room for them
+pub disperse_three-requires-clause-fit : goal.disperse_three-requires-clause-fit
+disperse_three-requires-clause-fit c = λ j d h. omega (arith, c.requires.turns.small j d h)
