@@ -4,8 +4,8 @@ use Rattle.std.specs.Prelude.{if◌then◌else◌, slice_index_or, slice_set, re
 use Rattle.transyt_sweep.specs.Cell.{CellValue}
 use Rattle.transyt_sweep.specs.Rows.{RowsValue, SameSize, out_at, shown_at, with_out, with_come, with_go}
 
--- Saved rows: whether a mark is open, the rows, and flags, up where a row of them is saved: of what leaves each link at
--- each sweep, of what comes to each link with its queue and figures, and of what can go of it.
+-- Saved rows: whether a mark is open, the rows, and flags, up where a row is saved: departures for each sweep and link,
+-- arrivals with queue and figures for each link, and GO for each link.
 pub record SavedValue : Type 0 where
   pub live : Bool
   pub link_count : ℕ
@@ -14,27 +14,27 @@ pub record SavedValue : Type 0 where
   pub go_flags : List Bool
   pub rows : RowsValue
 
--- whether what leaves a link at a sweep is saved
+-- whether a link's departures at a sweep are saved
 abbrev pub is_out_saved : SavedValue → ℕ → ℕ → Bool
 is_out_saved saved sweep link = slice_index_or saved.out_flags (sweep * saved.link_count + link) false
 
--- whether what comes to a link at the last sweep is, with its queue and figures
+-- whether its arrivals at the last sweep are, with its queue and figures
 abbrev pub is_come_saved : SavedValue → ℕ → Bool
 is_come_saved saved link = slice_index_or saved.come_flags link false
 
--- whether what can go of it is
+-- whether its GO is
 abbrev pub is_go_saved : SavedValue → ℕ → Bool
 is_go_saved saved link = slice_index_or saved.go_flags link false
 
--- whether anything of a link at the last sweep is saved but what leaves
+-- whether a link's arrivals, GO, queue or figures of the last sweep are saved
 abbrev pub is_shown_saved : SavedValue → ℕ → Bool
 is_shown_saved saved link = is_come_saved saved link || is_go_saved saved link
 
--- the rows with what comes to a link at the last sweep by this, its queue and its figures
+-- the rows with a link's arrivals at the last sweep, its queue and its figures by this
 abbrev pub with_come_of : RowsValue → ℕ → CellValue → RowsValue
 with_come_of rows link cell = with_come rows link cell.arrivals cell.queue cell.figures
 
--- the saved rows with what leaves a link at a sweep by the rows, if a mark is open and none is saved
+-- the saved rows with a link's departures at a sweep by the rows, if a mark is open and none are saved
 abbrev pub out_kept : SavedValue → RowsValue → ℕ → ℕ → SavedValue
 out_kept saved rows sweep link =
     if saved.live && not (is_out_saved saved sweep link)
@@ -44,7 +44,7 @@ out_kept saved rows sweep link =
     }
     else saved
 
--- the saved rows with what comes to a link by this, its queue and its figures, if a mark is open and none is saved
+-- the saved rows with a link's arrivals, queue and figures by this, if a mark is open and none are saved
 abbrev pub come_kept : SavedValue → ℕ → CellValue → SavedValue
 come_kept saved link cell =
     if saved.live && not (is_come_saved saved link)
@@ -54,7 +54,7 @@ come_kept saved link cell =
     }
     else saved
 
--- the saved rows with this as what can go of a link, if a mark is open and none is saved
+-- the saved rows with this as a link's GO, if a mark is open and none is saved
 abbrev pub go_kept : SavedValue → ℕ → List ℕ → SavedValue
 go_kept saved link go =
     if saved.live && not (is_go_saved saved link)
@@ -64,7 +64,7 @@ go_kept saved link go =
     }
     else saved
 
--- what leaves a link at a sweep by its saved row, if there is one, else by its row now
+-- a link's departures at a sweep by the saved row, if there is one, else by the row now
 abbrev pub old_out : SavedValue → RowsValue → ℕ → ℕ → List ℕ
 old_out saved rows sweep link =
     if is_out_saved saved sweep link then out_at saved.rows sweep link else out_at rows sweep link
@@ -92,7 +92,7 @@ pub record FitsRows (rows : RowsValue) (saved : SavedValue) : Type 0 where
   pub size : SameSize saved.rows rows
   pub links : saved.link_count ≡ length rows.figures
 
--- what the saved rows and the rows lead back to stays: they say the same before and after
+-- the rows that the saved rows, and where there are none the rows now, lead back to stay
 pub record Carries (rows : RowsValue) (saved : SavedValue) (new_rows : RowsValue) (new_saved : SavedValue) : Type 0
   where
     pub size : SameSize new_rows rows
@@ -103,7 +103,7 @@ pub record Carries (rows : RowsValue) (saved : SavedValue) (new_rows : RowsValue
     pub shown : saved.live ≡ true → (link : ℕ) → link < length rows.figures
         → unweighed (old_shown new_saved new_rows link) ≡ unweighed (old_shown saved rows link)
 
--- what the parts of saved rows satisfy: a flag for each pair of a sweep and a link, and two for each link
+-- the parts of saved rows: a flag for each pair of a sweep and a link, and two for each link
 pub record AreSaved (link_count : ℕ) (out_flags come_flags go_flags : List Bool) (rows : RowsValue) : Type 0 where
   pub links : link_count ≡ length rows.figures
   pub few : link_count ≤ 1000
@@ -138,24 +138,24 @@ pub record SaveAlike (a b : SavedValue) : Type 0 where
   pub go_flags : a.go_flags ≡ b.go_flags
   pub size : SameSize a.rows b.rows
 
--- the rows went back to what was saved of them
+-- the rows went back to those that were saved
 pub record AreRestored (saved : SavedValue) (old rows : RowsValue) : Type 0 where
   pub size : SameSize rows old
   pub outs : (sweep link : ℕ) → sweep ≤ old.sweeps → link < length old.figures
       → out_at rows sweep link ≡ old_out saved old sweep link
   pub shown : (link : ℕ) → link < length old.figures → shown_at rows link ≡ old_shown saved old link
 
--- what leaves a link at a sweep by other rows, if it is saved, else by these
+-- a link's departures at a sweep by other rows, if they are saved, else by these
 abbrev pub copied_out : SavedValue → RowsValue → RowsValue → ℕ → ℕ → List ℕ
 copied_out saved from rows sweep link =
     if is_out_saved saved sweep link then out_at from sweep link else out_at rows sweep link
 
--- the last sweep of a link by other rows, if anything of it is saved but what leaves, else by these
+-- the last sweep of a link by other rows, if its arrivals, GO, queue or figures are saved, else by these
 abbrev pub copied_shown : SavedValue → RowsValue → RowsValue → ℕ → CellValue
 copied_shown saved from rows link =
     if is_shown_saved saved link then shown_at from link else shown_at rows link
 
--- the rows became those of others where anything is saved
+-- the rows became those of others where any is saved
 pub record AreCopied (saved : SavedValue) (from old rows : RowsValue) : Type 0 where
   pub size : SameSize rows old
   pub outs : (sweep link : ℕ) → sweep ≤ old.sweeps → link < length old.figures

@@ -1,4 +1,4 @@
-//! Flags of what is saved.
+//! Flags, up where a row is saved.
 
 ghost use Rattle.std.specs.Prelude.{◌≡◌, false, length, replicate, IfOk};
 ghost use Rattle.transyt_saved.specs.Saved.{all_down};

@@ -23,11 +23,11 @@ use transyt_sweep::{Rows, SavedRows, Scratch};
 pub struct Saved {
     live: bool,
     link_count: usize,
-    // a flag for each pair of a sweep and a link: what leaves is saved
+    // a flag for each pair of a sweep and a link: its departures are saved
     out_flags: Vec<bool>,
-    // a flag for each link: what comes at the last sweep is saved, with the queue and the figures
+    // a flag for each link: its arrivals at the last sweep are saved, with the queue and the figures
     come_flags: Vec<bool>,
-    // and: what can go is saved
+    // and: its GO is saved
     go_flags: Vec<bool>,
     rows: SavedRows,
 }
@@ -58,13 +58,16 @@ impl Saved {
     {
         let link_count = net.links().len();
         let pairs = (net.frame().sweeps as usize + 1) * link_count;
+        let out_flags = no_flags(alloc, pairs)?;
+        let come_flags = no_flags(alloc, link_count)?;
+        let go_flags = no_flags(alloc, link_count)?;
         let rows = SavedRows::open(alloc, net)?;
         Ok(Saved {
             live: false,
             link_count,
-            out_flags: no_flags(alloc, pairs)?,
-            come_flags: no_flags(alloc, link_count)?,
-            go_flags: no_flags(alloc, link_count)?,
+            out_flags,
+            come_flags,
+            go_flags,
             rows,
         })
     }
@@ -76,7 +79,7 @@ impl Saved {
         self.live
     }
 
-    /// Whether anything of a link at the last sweep is saved but what leaves.
+    /// Whether a link's arrivals, GO, queue or figures of the last sweep are saved.
     pub fn is_shown_saved(&self, link: usize) -> bool
         requires { link < self.now.link_count }
         ensures { result ≡ is_shown_saved self.now link }
@@ -101,7 +104,8 @@ impl Saved {
         self.live = false;
     }
 
-    /// What leaves a link at a sweep becomes what a scratch has. What left it is saved, if a mark is open and none is.
+    /// Writes a link's departures at a sweep from a scratch. While a mark is open, the first write saves the row before
+    /// it.
     pub fn take_out(&mut self, sweep: u32, link: usize, scratch: &Scratch, rows: &mut Rows)
         requires fits { FitsRows rows.old self.old }
         requires sweep { sweep ≤ rows.old.sweeps }
@@ -115,8 +119,8 @@ impl Saved {
         rows.take_out(sweep, link, scratch);
     }
 
-    /// What comes to a link at the last sweep, its queue and its figures become what a scratch has, which is left with
-    /// other rows. What they were is saved, if a mark is open and it isn't. Nothing is copied.
+    /// Writes a link's arrivals at the last sweep, its queue and its figures from a scratch, which is left with other
+    /// rows. While a mark is open, the first write saves those that were there. Nothing is copied.
     pub fn take_come(&mut self, link: usize, scratch: &mut Scratch, rows: &mut Rows)
         requires fits { FitsRows rows.old self.old }
         requires link { link < length rows.old.figures }
@@ -132,8 +136,8 @@ impl Saved {
         self.keep_come(link, scratch);
     }
 
-    /// What can go of a link at the last sweep becomes what a scratch has, which is left with another row. What it was
-    /// is saved, if a mark is open and it isn't. Nothing is copied.
+    /// Writes a link's GO at the last sweep from a scratch, which is left with another row. While a mark is open, the
+    /// first write saves the row that was there. Nothing is copied.
     pub fn take_go(&mut self, link: usize, scratch: &mut Scratch, rows: &mut Rows)
         requires fits { FitsRows rows.old self.old }
         requires link { link < length rows.old.figures }
@@ -148,8 +152,8 @@ impl Saved {
         self.keep_go(link, scratch);
     }
 
-    /// What leaves a link before the first sweep becomes that of its total flow. What left it is saved, if a mark is
-    /// open and none is.
+    /// Writes a link's departures before the first sweep by its total flow. While a mark is open, the first write saves
+    /// the row that was there.
     pub fn start(&mut self, net: &Net, link: usize, rows: &mut Rows)
         requires fits { Fits net.now rows.old }
         requires fits_saved { FitsRows rows.old self.old }
@@ -162,7 +166,7 @@ impl Saved {
         rows.start(net, link);
     }
 
-    /// All rows become what was saved of them, if anything was. Which are saved stays told.
+    /// Each saved row is given back. The flags stay.
     pub fn restore(&mut self, net: &Net, rows: &mut Rows)
         requires fits { Fits net.now rows.old }
         requires fits_saved { FitsRows rows.old self.old }
@@ -173,7 +177,7 @@ impl Saved {
         self.give_shown(net, rows);
     }
 
-    /// Rows become those of others where anything is saved.
+    /// Rows become those of others where any is saved.
     pub fn copy_changes(&self, net: &Net, from: &Rows, rows: &mut Rows)
         requires fits { Fits net.now rows.old }
         requires fits_from { Fits net.now from.now }
@@ -194,7 +198,7 @@ impl Saved {
         sweep as usize * self.link_count + link
     }
 
-    /// Whether what leaves a link at a sweep is saved.
+    /// Whether a link's departures at a sweep are saved.
     fn is_out_saved(&self, sweep: u32, link: usize) -> bool
         requires sweep { sweep ≤ self.now.rows.sweeps }
         requires link { link < self.now.link_count }
@@ -203,7 +207,7 @@ impl Saved {
         self.out_flags[self.place(sweep, link)]
     }
 
-    /// Whether what comes to a link at the last sweep is saved, with its queue and figures.
+    /// Whether a link's arrivals at the last sweep are saved, with its queue and figures.
     fn is_come_saved(&self, link: usize) -> bool
         requires { link < self.now.link_count }
         ensures { result ≡ is_come_saved self.now link }
@@ -211,7 +215,7 @@ impl Saved {
         self.come_flags[link]
     }
 
-    /// Whether what can go of a link is saved.
+    /// Whether a link's GO is saved.
     fn is_go_saved(&self, link: usize) -> bool
         requires { link < self.now.link_count }
         ensures { result ≡ is_go_saved self.now link }
@@ -219,7 +223,7 @@ impl Saved {
         self.go_flags[link]
     }
 
-    /// Saves what leaves a link at a sweep, if a mark is open and none is saved.
+    /// Saves a link's departures at a sweep, if a mark is open and none are saved.
     fn save_out(&mut self, sweep: u32, link: usize, rows: &Rows)
         requires fits { FitsRows rows.now self.old }
         requires sweep { sweep ≤ rows.now.sweeps }
@@ -237,8 +241,7 @@ impl Saved {
         }
     }
 
-    /// Saves what a scratch has as what comes to a link, its queue and its figures, if a mark is open and none is
-    /// saved.
+    /// Saves the arrivals, queue and figures of a scratch as the link's, if a mark is open and none are saved.
     fn keep_come(&mut self, link: usize, scratch: &mut Scratch)
         requires link { link < self.old.link_count }
         requires steps { length scratch.old.arrivals ≡ self.old.rows.step_count }
@@ -256,7 +259,7 @@ impl Saved {
         }
     }
 
-    /// Saves what a scratch has as what can go of a link, if a mark is open and none is saved.
+    /// Saves the GO of a scratch as the link's, if a mark is open and none is saved.
     fn keep_go(&mut self, link: usize, scratch: &mut Scratch)
         requires link { link < self.old.link_count }
         requires steps { length scratch.old.arrivals ≡ self.old.rows.step_count }
@@ -273,7 +276,7 @@ impl Saved {
         }
     }
 
-    /// What leaves each link at each sweep becomes what was saved of it, if anything was.
+    /// All saved departures are given back.
     fn give_outs(&self, net: &Net, rows: &mut Rows)
         requires fits { Fits net.now rows.old }
         requires fits_saved { FitsRows rows.old self.now }
@@ -288,7 +291,7 @@ impl Saved {
         }
     }
 
-    /// What leaves a link at a sweep becomes what was saved of it, if anything was.
+    /// A link's departures at a sweep are given back, if they are saved.
     fn give_out(&self, sweep: u32, link: usize, rows: &mut Rows)
         requires fits { FitsRows rows.old self.now }
         requires sweep { sweep ≤ rows.old.sweeps }
@@ -305,7 +308,7 @@ impl Saved {
         }
     }
 
-    /// All of the last sweep but what leaves becomes what was saved of it, if anything was.
+    /// All saved arrivals, queues, figures and GO of the last sweep are given back.
     fn give_shown(&mut self, net: &Net, rows: &mut Rows)
         requires fits { Fits net.now rows.old }
         requires fits_saved { FitsRows rows.old self.old }
@@ -321,8 +324,8 @@ impl Saved {
         }
     }
 
-    /// What comes to a link at the last sweep, its queue and its figures become what was saved of them, if anything
-    /// was; the two change places.
+    /// A link's arrivals at the last sweep, its queue and its figures are given back, if they are saved; the two change
+    /// places.
     fn give_come(&mut self, link: usize, rows: &mut Rows)
         requires fits { FitsRows rows.old self.old }
         requires link { link < length rows.old.figures }
@@ -340,7 +343,7 @@ impl Saved {
         }
     }
 
-    /// What can go of a link at the last sweep becomes what was saved of it, if anything was; the two change places.
+    /// A link's GO is given back, if it is saved; the two rows change places.
     fn give_go(&mut self, link: usize, rows: &mut Rows)
         requires fits { FitsRows rows.old self.old }
         requires link { link < length rows.old.figures }
@@ -358,7 +361,7 @@ impl Saved {
         }
     }
 
-    /// What leaves each link at each sweep becomes that of other rows, if it is saved.
+    /// Departures become those of other rows where they are saved.
     fn copy_outs(&self, net: &Net, from: &Rows, rows: &mut Rows)
         requires fits { Fits net.now rows.old }
         requires fits_from { Fits net.now from.now }
@@ -374,7 +377,7 @@ impl Saved {
         }
     }
 
-    /// What leaves a link at a sweep becomes that of other rows, if it is saved.
+    /// A link's departures at a sweep become those of other rows, if they are saved.
     fn copy_out(&self, sweep: u32, link: usize, from: &Rows, rows: &mut Rows)
         requires fits { FitsRows from.now self.now }
         requires size { SameSize rows.old from.now }
@@ -392,7 +395,7 @@ impl Saved {
         }
     }
 
-    /// All of the last sweep of a link but what leaves becomes that of other rows, if anything of it is saved.
+    /// The rest of the last sweep becomes that of other rows, link by link, where any of the link's is saved.
     fn copy_shown(&self, net: &Net, from: &Rows, rows: &mut Rows)
         requires fits { Fits net.now rows.old }
         requires fits_from { Fits net.now from.now }
@@ -407,7 +410,7 @@ impl Saved {
         }
     }
 
-    /// All of the last sweep of a link but what leaves becomes that of other rows, if anything of it is saved.
+    /// A link's arrivals, GO, queue and figures of the last sweep become those of other rows, if any is saved.
     fn copy_link(&self, link: usize, from: &Rows, rows: &mut Rows)
         requires fits { FitsRows from.now self.now }
         requires size { SameSize rows.old from.now }
