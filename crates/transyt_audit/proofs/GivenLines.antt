@@ -1,4 +1,4 @@
--- What is left to tell after one given line, as it was found.
+-- The verdict left to tell after one given line, as it was found.
 use Rattle.std.proofs.Common.{◌≡◌, ℕ, ◌+◌, ◌≤◌, Bool, true, false, nat_lt}
 use Rattle.std.proofs.Common.{List, [], ◌∷◌, get_or, cond, arith}
 use Rattle.std.proofs.Common.{Option, Some, None, refl, sym, unwrap_or}

@@ -5,4 +5,3 @@ pub mod GivenLines
 pub mod YesLaws
 pub mod OwnText
 pub mod Worked
-pub mod WorkedFindings

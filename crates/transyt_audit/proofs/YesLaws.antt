@@ -1,4 +1,4 @@
--- What Yes says.
+-- The meaning of Yes.
 use Rattle.std.proofs.Common.{◌≡◌, ℕ, zero, suc, ◌+◌, ◌<◌, ◌≤◌, Bool, true, false, nat_le, nat_lt, List}
 use Rattle.std.proofs.Common.{[], ◌∷◌, map, length, get_or}
 use Rattle.std.proofs.Common.{Option, Some, None, refl, sym, ap, ◌∙◌, arith, cond, if◌then◌else◌}

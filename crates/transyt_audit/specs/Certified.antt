@@ -1,4 +1,4 @@
--- What it says of given lines that an audit answers Yes.
+-- The meaning of an audit that answers Yes, for the given lines.
 use Rattle.std.specs.Prelude.{◌≡◌, ℕ, ◌+◌, ◌<◌, ◌≤◌, List, length, map, true, false, is_some, All}
 use Rattle.transyt_io.specs.Lines.{lines, words}
 use Rattle.transyt_net.specs.Parts.{Network}

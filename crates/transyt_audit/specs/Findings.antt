@@ -1,4 +1,4 @@
--- What a given line is found to be, and what lines come to of which none was wrong. No public clause cites this.
+-- The finding on a given line, and the verdict on lines of which none was wrong. No public clause cites this.
 use Rattle.std.specs.Prelude.{ℕ, Bool, true, false, ◌&&◌, nat_le, nat_lt, List, [], Option, Some, None}
 use Rattle.std.specs.Prelude.{slice_index_or, if◌then◌else◌}
 use Rattle.transyt_syntax.specs.declared.code.Code.TheVariants as code

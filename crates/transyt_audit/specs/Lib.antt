@@ -4,4 +4,3 @@ pub mod Verdict
 pub mod Findings
 pub mod Certified
 pub mod WorkedVerdicts
-pub mod WorkedFindings

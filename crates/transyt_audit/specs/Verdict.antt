@@ -1,4 +1,4 @@
--- What an audit comes to, of a table of lines after a deck.
+-- The verdict of an audit, on a table of lines after a deck.
 use Rattle.std.specs.Prelude.{ℕ, ◌+◌, List, length, Option, Some, None}
 use Rattle.transyt_io.specs.Lines.{lines}
 use Rattle.transyt_syntax.specs.declared.code.Code.{Code}

@@ -1,5 +1,5 @@
--- Worked verdicts: a junction with one link, at its best and away from it, and the lines of its certificates.
-use Rattle.std.specs.Prelude.{ℕ, List, [], ◌∷◌, ◌++◌, codes, Some}
+-- Worked verdicts: a junction with one link and one without, and the lines of their certificates.
+use Rattle.std.specs.Prelude.{ℕ, List, [], ◌∷◌, ◌++◌, Bool, true, false, codes, replicate, Some}
 use Rattle.transyt_parts.specs.Made.{new_stage, new_link, new_plan}
 use Rattle.transyt_net.specs.Parts.{Network}
 
@@ -12,24 +12,34 @@ junction offset first second = record {
   plan = Some (new_plan 250 (2 ∷ []));
 }
 
--- the changes that no move improves, and others
-abbrev pub best : Network
-best = junction 5 16 9
+-- one without a link, whose index is 0 whatever is moved, and one that two of its moves improve
+abbrev pub bare : Network
+bare = record (junction 5 16 9) { links = [] }
 
 abbrev pub other : Network
 other = junction 5 2 9
 
--- the lines of their certificates, the first without its first line
-abbrev pub best_lines : List (List ℕ)
-best_lines =
-    codes "MOVE 1 OFFSET 7 3 INDEX 4358279"
-    ∷ codes "MOVE 2 CHANGE 7 1 0 INDEX 6915416"
+-- the lines of the first certificate behind its first line, which is as it is, with a blank more, or with another index
+abbrev pub bare_lines : List (List ℕ)
+bare_lines =
+    codes "MOVE 1 OFFSET 7 3 INDEX 0"
+    ∷ codes "MOVE 2 CHANGE 7 1 0 INDEX 0"
     ∷ codes "MOVE 3 CHANGE 7 1 14 BARRED"
     ∷ codes "MOVE 4 CHANGE 7 2 11 BARRED"
-    ∷ codes "MOVE 5 CHANGE 7 2 7 INDEX 6915416"
-    ∷ codes "CERT 6 INDEX 4358279"
+    ∷ codes "MOVE 5 CHANGE 7 2 7 INDEX 0"
+    ∷ codes "CERT 6 INDEX 0"
     ∷ []
 
+abbrev pub first_line : List ℕ
+first_line = codes "MOVE 0 OFFSET 7 7 INDEX 0"
+
+abbrev pub spaced_line : List ℕ
+spaced_line = codes " MOVE 0  OFFSET 7 7 INDEX 0"
+
+abbrev pub changed_line : List ℕ
+changed_line = codes "MOVE 0 OFFSET 7 7 INDEX 1"
+
+-- the lines of the other's moves
 abbrev pub other_moves : List (List ℕ)
 other_moves =
     codes "MOVE 0 OFFSET 7 7 INDEX 10773335"
@@ -40,19 +50,12 @@ other_moves =
     ∷ codes "MOVE 5 CHANGE 7 2 7 INDEX 22116838"
     ∷ []
 
-abbrev pub other_lines : List (List ℕ)
-other_lines = other_moves ++ codes "CERT 6 INDEX 10773335" ∷ []
-
--- the first line of the first, as it is, with a blank more, and with another index
-abbrev pub first_line : List ℕ
-first_line = codes "MOVE 0 OFFSET 7 7 INDEX 4358279"
-
-abbrev pub spaced_line : List ℕ
-spaced_line = codes " MOVE 0  OFFSET 7 7 INDEX 4358279"
-
-abbrev pub changed_line : List ℕ
-changed_line = codes "MOVE 0 OFFSET 7 7 INDEX 4358278"
-
 -- a comment
 abbrev pub note : List ℕ
 note = codes "* note"
+
+-- lines beside the true line CERT 6, and whether they agree with it: one of the greatest length, and of a byte more
+abbrev pub agreements : List (List ℕ × Bool)
+agreements =
+    (codes "CERT 6" ++ replicate 4090 32, true) ∷ (codes "CERT 6" ++ replicate 4091 32, false)
+    ∷ (codes "CERT", false) ∷ (codes "CERT 6 6", false) ∷ []

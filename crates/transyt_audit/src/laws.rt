@@ -11,10 +11,8 @@ ghost use Rattle.transyt_cert.specs.Certificate.{cert_text};
 ghost use Rattle.transyt_audit.specs.declared.verdict.Verdict.TheVariants.{Yes, No};
 ghost use Rattle.transyt_audit.specs.Verdict.{verdict};
 ghost use Rattle.transyt_audit.specs.Certified.{IsCertified};
-ghost use Rattle.transyt_audit.specs.Findings.{concluded, finding_at, finding_of};
 ghost use Rattle.transyt_audit.specs.Given.{agrees};
-ghost use Rattle.transyt_audit.specs.WorkedFindings.{agreements, best_findings, conclusions, kinds, other_findings};
-ghost use Rattle.transyt_audit.specs.WorkedVerdicts.{best, other, best_lines, other_moves, other_lines, note};
+ghost use Rattle.transyt_audit.specs.WorkedVerdicts.{agreements, bare, other, bare_lines, other_moves, note};
 ghost use Rattle.transyt_audit.specs.WorkedVerdicts.{first_line, spaced_line, changed_line};
 
 /// When the answer is Yes: there is a climb plan, the given lines are the certificate's, word for word, and no listed
@@ -34,32 +32,20 @@ pub fn rule_of_own_text()
         ↔ ((place : ℕ) → place < move_count net → lowers net place ≡ false) }
 {}
 
-/// The verdicts on certificates that were worked out apart; END stands on line 8.
-#[tactic(auto, using(crate::proofs::Worked::yes, crate::proofs::Worked::skipped, crate::proofs::Worked::wrong, crate::proofs::Worked::surplus, crate::proofs::Worked::missing, crate::proofs::Worked::lower, crate::proofs::Worked::wrong_first, crate::proofs::Worked::missing_first, crate::proofs::Worked::no_plan))]
+/// The verdicts on certificates that were worked out apart; END stands on line 8. Lines agree with a true one as it is
+/// written beside the definitions.
+#[tactic(auto, using(crate::proofs::Worked::skipped, crate::proofs::Worked::wrong, crate::proofs::Worked::surplus, crate::proofs::Worked::lower, crate::proofs::Worked::wrong_first, crate::proofs::Worked::missing_first, crate::proofs::Worked::no_plan, crate::proofs::Worked::they_agree))]
 pub fn worked_verdicts()
-    ensures yes { verdict best (lines_text (first_line ∷ best_lines)) 8 ≡ Yes 6 4358279 }
-    ensures skipped { verdict best (lines_text (note ∷ [] ∷ spaced_line ∷ best_lines)) 8 ≡ Yes 6 4358279 }
-    ensures wrong { verdict best (lines_text (note ∷ [] ∷ changed_line ∷ best_lines)) 8
+    ensures skipped { verdict bare (lines_text (note ∷ [] ∷ spaced_line ∷ bare_lines)) 8 ≡ Yes 6 0 }
+    ensures wrong { verdict bare (lines_text (note ∷ [] ∷ changed_line ∷ bare_lines)) 8
         ≡ No 11 Code.OtherLine }
-    ensures surplus { verdict best (lines_text (first_line ∷ best_lines ++ first_line ∷ [])) 8
+    ensures surplus { verdict bare (lines_text (first_line ∷ bare_lines ++ first_line ∷ [])) 8
         ≡ No 16 Code.OtherLine }
-    ensures missing { verdict best (lines_text (first_line ∷ note ∷ [])) 8 ≡ No 11 Code.OtherLine }
-    ensures lower { verdict other (lines_text (note ∷ other_lines)) 8 ≡ No 13 Code.LowerIndex }
-    ensures no_plan { verdict (record best { plan = None }) (lines_text (first_line ∷ best_lines)) 8
-        ≡ No 8 Code.NoPlan }
+    ensures no_plan { verdict (record bare { plan = None }) [] 8 ≡ No 8 Code.NoPlan }
+    ensures lower { verdict other (lines_text (note ∷ other_moves ++ codes "CERT 6 INDEX 10773335" ∷ [])) 8
+        ≡ No 13 Code.LowerIndex }
     ensures wrong_first { verdict other (lines_text (other_moves ++ codes "CERT 6 INDEX 10773336" ∷ [])) 8
         ≡ No 15 Code.OtherLine }
     ensures missing_first { verdict other (lines_text (other_moves ++ note ∷ [])) 8 ≡ No 16 Code.OtherLine }
-{}
-
-/// Worked lines agree with true ones, and lines at places are found, as it is written beside the definitions; a line
-/// may have 4,096 bytes. So it is with what lines come to of which none was wrong.
-#[tactic(auto, using(crate::proofs::WorkedFindings::they_agree, crate::proofs::WorkedFindings::best_found, crate::proofs::WorkedFindings::other_found, crate::proofs::WorkedFindings::they_conclude))]
-pub fn worked_findings()
-    ensures agreements { map (λ row. agrees row.0 row.1) agreements ≡ map (λ row. row.2) agreements }
-    ensures kinds { map (λ row. finding_of row.0 row.1) kinds ≡ map (λ row. row.2) kinds }
-    ensures best { map (λ row. finding_at best row.0 row.1) best_findings ≡ map (λ row. row.2) best_findings }
-    ensures other { map (λ row. finding_at other row.0 row.1) other_findings ≡ map (λ row. row.2) other_findings }
-    ensures conclusions { map (λ row. concluded best row.0 row.1 row.2) conclusions
-        ≡ map (λ row. row.3) conclusions }
+    ensures agreements { map (λ row. agrees row.0 (codes "CERT 6")) agreements ≡ map (λ row. row.1) agreements }
 {}

@@ -13,8 +13,6 @@ mod verdict;
 mod words;
 
 pub use auditing::audit;
-pub use laws::{rule_of_own_text, rule_of_yes, worked_findings, worked_verdicts};
+pub use laws::{rule_of_own_text, rule_of_yes, worked_verdicts};
+pub use transyt_syntax::Code;
 pub use verdict::Verdict;
-
-#[cfg(test)]
-mod tests;

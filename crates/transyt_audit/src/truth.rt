@@ -22,7 +22,7 @@ use transyt_steps::Steps;
 use transyt_sweep::full;
 use transyt_syntax::Code;
 
-/// What a given line is found to be.
+/// The finding on a given line.
 #[derive(Clone, Copy)]
 pub(crate) enum Finding {
     /// It isn't the true line of its place, or no true line stands there.
@@ -127,7 +127,7 @@ impl Truth {
         Ok(finding_of(agrees(line, self.text.bytes()), lowers))
     }
 
-    /// What given lines come to of which none was wrong: how many they were, the number of the line after the table's
+    /// The verdict on given lines of which none was wrong: how many they were, the number of the line after the table's
     /// last, and that of the first line of a move that lowers the index, if there is one.
     pub(crate) fn concluded(&self, given: u32, next: u32, lower: Option<u32>) -> Verdict
         ensures { result ≡ concluded self.now given next lower }
@@ -185,7 +185,7 @@ fn is_below(limit: u128, tried: Option<u128>) -> bool
     }
 }
 
-/// What a line is that agrees with the true one or not, where a move stands that lowers the index or not.
+/// The finding on a line that agrees with the true one or not, where a move stands that lowers the index or not.
 fn finding_of(agrees: bool, lowers: bool) -> Finding
     ensures { result ≡ finding_of agrees lowers }
 {

@@ -1,8 +1,8 @@
-//! What an audit comes to.
+//! The verdict of an audit.
 
 use transyt_syntax::Code;
 
-/// What an audit comes to.
+/// The verdict of an audit.
 #[derive(Clone, Copy, Debug, PartialEq, Eq)]
 pub enum Verdict {
     /// Each line is the true one, all are there, and no listed move that is allowed lowers the index: how many places

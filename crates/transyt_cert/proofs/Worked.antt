@@ -5,24 +5,15 @@ use Rattle.transyt_net.specs.declared.edit.Edit.TheVariants.{Offset, Change}
 use Rattle.transyt_cert.specs.Texts.{joined}
 use Rattle.transyt_cert.specs.Certificate.{new_line, move_words, end_words}
 
--- a move of an offset
 pub line_of_offset : joined (move_words (new_line 14 (Offset 300 15) (Some 520471746)))
     ≡ codes "MOVE 14 OFFSET 300 15 INDEX 520471746"
 unfolding digits
 line_of_offset = refl
 
--- a move of a change
-pub line_of_change : joined (move_words (new_line 43 (Change 300 2 6) (Some 727208066)))
-    ≡ codes "MOVE 43 CHANGE 300 2 6 INDEX 727208066"
-unfolding digits
-line_of_change = refl
-
--- a move that is barred
 pub line_of_barred : joined (move_words (new_line 53 (Change 21 2 1) None)) ≡ codes "MOVE 53 CHANGE 21 2 1 BARRED"
 unfolding digits
 line_of_barred = refl
 
--- the last line
 pub line_of_end : joined (end_words 72 518578809) ≡ codes "CERT 72 INDEX 518578809"
 unfolding digits
 line_of_end = refl

@@ -23,12 +23,10 @@ pub fn certificate_reads_back()
 {}
 
 /// Lines of a certificate that was worked out apart.
-#[tactic(auto, using(crate::proofs::Worked::line_of_offset, crate::proofs::Worked::line_of_change, crate::proofs::Worked::line_of_barred, crate::proofs::Worked::line_of_end))]
+#[tactic(auto, using(crate::proofs::Worked::line_of_offset, crate::proofs::Worked::line_of_barred, crate::proofs::Worked::line_of_end))]
 pub fn worked_lines()
     ensures offset { joined (move_words (new_line 14 (Edit.Offset 300 15) (Some 520471746)))
         ≡ codes "MOVE 14 OFFSET 300 15 INDEX 520471746" }
-    ensures change { joined (move_words (new_line 43 (Edit.Change 300 2 6) (Some 727208066)))
-        ≡ codes "MOVE 43 CHANGE 300 2 6 INDEX 727208066" }
     ensures barred { joined (move_words (new_line 53 (Edit.Change 21 2 1) None))
         ≡ codes "MOVE 53 CHANGE 21 2 1 BARRED" }
     ensures last { joined (end_words 72 518578809) ≡ codes "CERT 72 INDEX 518578809" }

@@ -11,7 +11,7 @@ use transyt_text::put_form;
 /// Puts the line of a place into `line`, without its line end: the place, the move, and the index with it, or BARRED
 /// where there is none.
 ///
-/// What the line held before is lost. An edit that is no move, neither of an offset nor of a change, has no words.
+/// The bytes that the line held before are lost. An edit that is no move, neither of an offset nor of a change, has no words.
 pub fn put_move(place: u32, e: &Edit, tried: Option<u128>, line: &mut LineBuffer)
     ensures text { line.new ≡ joined (move_words (new_line place e.now tried)) }
     ensures room { length line.new ≤ 300 }
@@ -22,7 +22,7 @@ pub fn put_move(place: u32, e: &Edit, tried: Option<u128>, line: &mut LineBuffer
 }
 
 /// Puts the last line of a certificate into `line`, without its line end: the number of places and the network's index.
-/// What the line held before is lost.
+/// The bytes that the line held before are lost.
 #[tactic(auto, unfolding(transyt_text::specs::Forms::filled))]
 pub fn put_end(count: u32, index: u128, line: &mut LineBuffer)
     ensures text { line.new ≡ joined (end_words count index) }

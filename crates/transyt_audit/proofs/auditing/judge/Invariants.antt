@@ -1,4 +1,4 @@
--- What is left to tell from here on is what was to be told from the first line on.
+-- The verdict from here on is the verdict from the first line on.
 use Rattle.std.proofs.Common.{◌≡◌, ◌+◌, ◌-◌, ◌*◌, ◌≤◌, length, None}
 use Rattle.transyt_io.specs.Lines.{lines}
 use Rattle.transyt_moves.specs.Moves.{move_count}
