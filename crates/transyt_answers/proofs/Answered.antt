@@ -35,7 +35,7 @@ quiet_on before line quiet nothing goes more =
     ∙ ap (λ (e : Option Bool). unless_ended e rest) goes
 
 -- what lines have come to with one more
-state_on : (before : List (List ℕ)) (line : List ℕ) → run_state (before ++ line ∷ []) ≡ run_after (run_state before) line
+pub state_on : (before : List (List ℕ)) (line : List ℕ) → run_state (before ++ line ∷ []) ≡ run_after (run_state before) line
 state_on before line = fold-append run_after (InDeck start) before (line ∷ [])
 
 -- an open deck, of which nothing was said

@@ -37,17 +37,7 @@ command_said (c.Edit e) s = edit_said s (judged (c.Edit e) s) (edit_fault s.net 
 command_said c.Trial s = trial_said s (judged c.Trial s) (is_some s.before)
 command_said c.Back s = end_said s (judged c.Back s) (is_some s.before)
 command_said c.Keep s = end_said s (judged c.Keep s) (is_some s.before)
-command_said c.Climb s = refl
-command_said c.Cert s = refl
-command_said c.Index s = refl
-command_said c.Links s = refl
-command_said c.Timing s = refl
-command_said (c.Profile link) s = refl
-command_said (c.Plot link) s = refl
-command_said (c.Queue link) s = refl
-command_said c.Work s = refl
-command_said c.Deck s = refl
-command_said c.Stop s = refl
+command_said (c.Request asked) s = refl
 
 -- what a line says
 said_said : (said : Result (Option Command) Code) (s : SessionValue)

@@ -7,9 +7,10 @@ pub mod OpenedLaws
 pub mod ReadyLaws
 pub mod StepLaws
 pub mod WorkLaws
+pub mod CostLaws
 pub mod CountLaws
 pub mod JudgedTexts
 pub mod Worked
 pub mod WorkedBrief
 pub mod WorkedCommands
-pub mod WorkedConditions
+pub mod WorkedLowering

@@ -18,9 +18,9 @@ use Rattle.transyt_answers.specs.Commands.{judged, said_judged, line_judged}
 use Rattle.transyt_answers.specs.Conditions.{AreReady}
 
 -- what a session keeps to after a session that kept to it: one shape, and that of the network before an open trial
-record KeepsShape (old new : SessionValue) : Type 0 where
-  net : SameShape old.net new.net
-  before : IfSome new.before (λ n. SameShape new.net n)
+pub record KeepsShape (old new : SessionValue) : Type 0 where
+  pub net : SameShape old.net new.net
+  pub before : IfSome new.before (λ n. SameShape new.net n)
 
 -- the same of another network of one shape
 shape_on : (a b : Network) (o : Option Network) → SameShape a b → IfSome o (λ n. SameShape a n)
@@ -56,20 +56,10 @@ keeps_command (c.Edit e) s h =
 keeps_command c.Trial s h = keeps_trial s s.before refl h
 keeps_command c.Back s h = record { net = keeps_back s.net s.before h; before = tt }
 keeps_command c.Keep s h = record { net = refl; before = tt }
-keeps_command c.Climb s h = record { net = refl; before = h }
-keeps_command c.Cert s h = record { net = refl; before = h }
-keeps_command c.Index s h = record { net = refl; before = h }
-keeps_command c.Links s h = record { net = refl; before = h }
-keeps_command c.Timing s h = record { net = refl; before = h }
-keeps_command (c.Profile link) s h = record { net = refl; before = h }
-keeps_command (c.Plot link) s h = record { net = refl; before = h }
-keeps_command (c.Queue link) s h = record { net = refl; before = h }
-keeps_command c.Work s h = record { net = refl; before = h }
-keeps_command c.Deck s h = record { net = refl; before = h }
-keeps_command c.Stop s h = record { net = refl; before = h }
+keeps_command (c.Request asked) s h = record { net = refl; before = h }
 
 -- and so does what a line says
-keeps_said : (said : Result (Option Command) Code) (s : SessionValue) → IfSome s.before (λ n. SameShape s.net n)
+pub keeps_said : (said : Result (Option Command) Code) (s : SessionValue) → IfSome s.before (λ n. SameShape s.net n)
     → KeepsShape s (said_judged said s)
 keeps_said (Err code) s h = record { net = refl; before = h }
 keeps_said (Ok None) s h = record { net = refl; before = h }

@@ -20,17 +20,7 @@ judged_work (c.Edit e) s = omega arith
 judged_work c.Trial s = trial_work s (is_some s.before)
 judged_work c.Back s = omega arith
 judged_work c.Keep s = omega arith
-judged_work c.Climb s = omega arith
-judged_work c.Cert s = omega arith
-judged_work c.Index s = omega arith
-judged_work c.Links s = omega arith
-judged_work c.Timing s = omega arith
-judged_work (c.Profile link) s = omega arith
-judged_work (c.Plot link) s = omega arith
-judged_work (c.Queue link) s = omega arith
-judged_work c.Work s = omega arith
-judged_work c.Deck s = omega arith
-judged_work c.Stop s = omega arith
+judged_work (c.Request asked) s = omega arith
 
 -- what a line says
 said_work : (said : Result (Option Command) Code) (s : SessionValue) → s.work ≤ (said_judged said s).work

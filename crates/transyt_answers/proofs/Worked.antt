@@ -26,7 +26,7 @@ unfolding card_refused form_line filled digits
 card_refused_at = refl
 
 -- the steps of END, of an edit and of a trial
-pub steps_of_commands : costs_by deck_answering (one_link ++ commands) ≡ 6
+pub steps_of_commands : costs_by deck_answering (one_link ++ commands) ≡ 8
 unfolding due due_through due_in differs seen out_of smoothed sum_back greatest
 steps_of_commands = refl
 

@@ -12,18 +12,34 @@ use Rattle.transyt_sweep.specs.Climb.{tried_at}
 use Rattle.transyt_sweep.proofs.WorkedFigures.{index_comes_out}
 use Rattle.transyt_sweep.proofs.WorkedMove.{tried_first}
 use Rattle.transyt_track.specs.Due.{differs, due_in, due_through, due}
+use Rattle.transyt_net.specs.Parts.{Network}
+use Rattle.transyt_session.specs.Session.{SessionValue}
 use Rattle.transyt_session.specs.WorkedSessions.{begun}
 use Rattle.transyt_text.specs.Forms.{filled, form_line}
 use Rattle.transyt_report.specs.MoveTexts.{end_text}
+use Rattle.transyt_answers.specs.declared.answer.Answer.{Answer}
 use Rattle.transyt_answers.specs.declared.answer.Answer.TheVariants as a
 use Rattle.transyt_answers.specs.Brief.{brief_form, climbed_line}
-use Rattle.transyt_answers.specs.Commands.{after_answer, climb_text, steps_text}
+use Rattle.transyt_answers.specs.Commands.{after_answer, answer_text, climb_text, steps_text}
 use Rattle.transyt_answers.specs.WorkedCommands.{climb_line, climb_lines, some_climb}
 
 -- the work of a certificate is added
 pub certified : after_answer a.Cert begun ≡ record begun { work = 71 }
 unfolding sum_back greatest smoothed seen out_of differs due_in due_through due move move_count
 certified = refl
+
+-- the text of an answer is of the network now
+pub of_now : (s : SessionValue) (before : Option Network) (answer : Answer)
+    → answer_text (record s { before = before }) answer ≡ answer_text s answer
+of_now s before a.Nothing = refl
+of_now s before a.Stop = refl
+of_now s before a.Done = refl
+of_now s before (a.Refused code) = refl
+of_now s before (a.Show what) = refl
+of_now s before (a.Plot place) = refl
+of_now s before a.Deck = refl
+of_now s before a.Climb = refl
+of_now s before a.Cert = refl
 
 -- the number that is there, if there is one
 abbrev number_of : Option ℕ → ℕ

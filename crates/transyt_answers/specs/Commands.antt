@@ -13,6 +13,8 @@ use Rattle.transyt_net.specs.EditFaults.{edit_fault}
 use Rattle.transyt_deck.specs.Cards.{deck_text}
 use Rattle.transyt_commands.specs.declared.command.Command.{Command}
 use Rattle.transyt_commands.specs.declared.command.Command.TheVariants as c
+use Rattle.transyt_commands.specs.declared.command.Request.{Request}
+use Rattle.transyt_commands.specs.declared.command.Request.TheVariants as r
 use Rattle.transyt_commands.specs.Commands.{command_in}
 use Rattle.transyt_moves.specs.Moves.{move_count}
 use Rattle.transyt_sweep.specs.Sweeps.{index}
@@ -73,23 +75,27 @@ trial_answer s = if is_some s.before then a.Refused code.OpenTrial else a.Done
 abbrev pub end_answer : SessionValue → Answer
 end_answer s = if is_some s.before then a.Done else a.Refused code.NoTrial
 
+-- what is answered to a request
+abbrev pub requested : SessionValue → Request → Answer
+requested s r.Climb = refusal_or a.Climb (plan_refusal s)
+requested s r.Cert = refusal_or a.Cert (plan_refusal s)
+requested s r.Index = a.Show report.Index
+requested s r.Links = a.Show report.Links
+requested s r.Timing = a.Show report.Timing
+requested s (r.Profile link) = about_link s.net link (λ place. a.Show (report.Profile place))
+requested s (r.Plot link) = about_link s.net link a.Plot
+requested s (r.Queue link) = about_link s.net link (λ place. a.Show (report.Queue place))
+requested s r.Work = a.Show report.Work
+requested s r.Deck = a.Deck
+requested s r.Stop = a.Stop
+
 -- what is answered to a command
 abbrev pub answer_to : SessionValue → Command → Answer
 answer_to s (c.Edit e) = edit_answer (edit_fault s.net e)
 answer_to s c.Trial = trial_answer s
 answer_to s c.Back = end_answer s
 answer_to s c.Keep = end_answer s
-answer_to s c.Climb = refusal_or a.Climb (plan_refusal s)
-answer_to s c.Cert = refusal_or a.Cert (plan_refusal s)
-answer_to s c.Index = a.Show report.Index
-answer_to s c.Links = a.Show report.Links
-answer_to s c.Timing = a.Show report.Timing
-answer_to s (c.Profile link) = about_link s.net link (λ place. a.Show (report.Profile place))
-answer_to s (c.Plot link) = about_link s.net link a.Plot
-answer_to s (c.Queue link) = about_link s.net link (λ place. a.Show (report.Queue place))
-answer_to s c.Work = a.Show report.Work
-answer_to s c.Deck = a.Deck
-answer_to s c.Stop = a.Stop
+answer_to s (c.Request asked) = requested s asked
 
 -- the session when a command was judged: an edit and the commands of a trial are carried out
 abbrev pub judged : Command → SessionValue → SessionValue
@@ -97,7 +103,7 @@ judged (c.Edit e) s = edited e s
 judged c.Trial s = trial_of s
 judged c.Back s = back_of s
 judged c.Keep s = keep_of s
-judged _ s = s
+judged (c.Request asked) s = s
 
 -- how many places the climb plan lets a climb look at; none without a plan
 abbrev pub budget_of : Option PlanValue → ℕ

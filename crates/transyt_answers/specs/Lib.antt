@@ -6,5 +6,5 @@ pub mod Report
 pub mod Reporter
 pub mod Steps
 pub mod WorkedCommands
-pub mod WorkedConditions
+pub mod WorkedLowering
 pub mod WorkedReports

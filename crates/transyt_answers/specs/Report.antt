@@ -87,6 +87,11 @@ abbrev pub line_steps : RunState → List ℕ → ℕ
 line_steps (InDeck deck) line = deck_steps (next deck line)
 line_steps (InSession s) line = line_work s line
 
+-- the steps of lines by what they have come to: S times the links at END, and the work since
+abbrev pub steps_in : RunState → ℕ
+steps_in (InDeck deck) = 0
+steps_in (InSession s) = s.net.frame.sweeps * length s.net.links + s.work
+
 -- the text at the end of the input
 abbrev pub text_at_end : RunState → List ℕ
 text_at_end (InDeck deck) = deck_closing deck

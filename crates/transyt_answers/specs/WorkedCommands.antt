@@ -1,11 +1,12 @@
 -- Worked answers to commands over two junctions and three links, and what a climb is told by.
-use Rattle.std.specs.Prelude.{ℕ, List, [], ◌∷◌, ◌++◌, map, codes, None, false}
+use Rattle.std.specs.Prelude.{ℕ, List, [], ◌∷◌, ◌++◌, map, codes, None, Some, false}
 use Rattle.transyt_syntax.specs.declared.code.Code.TheVariants as code
 use Rattle.transyt_net.specs.declared.edit.Edit.TheVariants.{Offset, Change}
 use Rattle.transyt_net.specs.Edits.{with_edit}
 use Rattle.transyt_stage.specs.ThreeJunctions.{three_junctions}
 use Rattle.transyt_commands.specs.declared.command.Command.{Command}
 use Rattle.transyt_commands.specs.declared.command.Command.TheVariants as c
+use Rattle.transyt_commands.specs.declared.command.Request.TheVariants as r
 use Rattle.transyt_sweep.specs.Climb.{Climb}
 use Rattle.transyt_sweep.specs.WorkedClimbs.{look}
 use Rattle.transyt_session.specs.Session.{SessionValue}
@@ -19,34 +20,31 @@ use Rattle.transyt_answers.specs.WorkedReports.{text_of}
 abbrev pub without_plan : SessionValue
 without_plan = record begun { net = record begun.net { plan = None } }
 
--- a session, a command and its answer, in which a link is named by its place, from 0: with no trial, in a trial, and
--- without a climb plan
+-- the same in a trial
+abbrev pub trial_without_plan : SessionValue
+trial_without_plan = record without_plan { before = Some begun.net }
+
+-- a session, a command and its answer, in which a link is named by its place, from 0: with no trial, in a trial, without
+-- a climb plan, and in a trial without one, which is refused as the trial
 abbrev pub worked_answers : List (SessionValue × Command × Answer)
 worked_answers =
-    (begun, c.Edit (Offset 21 9), a.Done)
-    ∷ (begun, c.Edit (Offset 22 9), a.Refused code.Unknown)
-    ∷ (begun, c.Trial, a.Done)
-    ∷ (begun, c.Back, a.Refused code.NoTrial)
-    ∷ (begun, c.Keep, a.Refused code.NoTrial)
-    ∷ (begun, c.Climb, a.Climb)
-    ∷ (begun, c.Cert, a.Cert)
-    ∷ (begun, c.Index, a.Show report.Index)
-    ∷ (begun, c.Links, a.Show report.Links)
-    ∷ (begun, c.Timing, a.Show report.Timing)
-    ∷ (begun, c.Profile 9, a.Show (report.Profile 1))
-    ∷ (begun, c.Profile 8, a.Refused code.Unknown)
-    ∷ (begun, c.Plot 4, a.Plot 2)
-    ∷ (begun, c.Queue 4, a.Show (report.Queue 2))
-    ∷ (begun, c.Work, a.Show report.Work)
-    ∷ (begun, c.Deck, a.Deck)
-    ∷ (begun, c.Stop, a.Stop)
-    ∷ (in_trial, c.Trial, a.Refused code.OpenTrial)
-    ∷ (in_trial, c.Back, a.Done)
-    ∷ (in_trial, c.Keep, a.Done)
-    ∷ (in_trial, c.Climb, a.Refused code.OpenTrial)
-    ∷ (in_trial, c.Cert, a.Refused code.OpenTrial)
-    ∷ (without_plan, c.Climb, a.Refused code.NoPlan)
-    ∷ (without_plan, c.Cert, a.Refused code.NoPlan)
+    (begun, c.Request r.Climb, a.Climb)
+    ∷ (begun, c.Request r.Cert, a.Cert)
+    ∷ (begun, c.Request r.Index, a.Show report.Index)
+    ∷ (begun, c.Request r.Links, a.Show report.Links)
+    ∷ (begun, c.Request r.Timing, a.Show report.Timing)
+    ∷ (begun, c.Request (r.Profile 9), a.Show (report.Profile 1))
+    ∷ (begun, c.Request (r.Profile 8), a.Refused code.Unknown)
+    ∷ (begun, c.Request (r.Plot 4), a.Plot 2)
+    ∷ (begun, c.Request (r.Queue 4), a.Show (report.Queue 2))
+    ∷ (begun, c.Request r.Work, a.Show report.Work)
+    ∷ (begun, c.Request r.Deck, a.Deck)
+    ∷ (begun, c.Request r.Stop, a.Stop)
+    ∷ (in_trial, c.Request r.Cert, a.Refused code.OpenTrial)
+    ∷ (without_plan, c.Request r.Climb, a.Refused code.NoPlan)
+    ∷ (without_plan, c.Request r.Cert, a.Refused code.NoPlan)
+    ∷ (trial_without_plan, c.Request r.Climb, a.Refused code.OpenTrial)
+    ∷ (trial_without_plan, c.Request r.Cert, a.Refused code.OpenTrial)
     ∷ []
 
 -- two steps, five places looked at and a last network: what a climb is told by

@@ -18,19 +18,28 @@ one_link =
 abbrev pub commands : List (List ℕ)
 commands =
     codes "queue 5" ∷ [] ∷ codes "OFFSET 21 9" ∷ codes "OFFSET 22 9" ∷ codes "CHANGE 21 2 5" ∷ codes "BACK"
-    ∷ codes "TRIAL" ∷ codes "OFFSET 21 3" ∷ codes "CLIMB" ∷ codes "TRIAL" ∷ codes "* a remark" ∷ codes "BACK"
-    ∷ codes "WORK" ∷ codes "KEEP" ∷ codes "PROFILE 6" ∷ codes "PLOT" ∷ codes "QUEUE 5" ∷ codes "TIMING"
-    ∷ codes "STOP" ∷ codes "QUEUE 5" ∷ []
+    ∷ codes "TRIAL" ∷ codes "OFFSET 21 3" ∷ codes "CLIMB" ∷ codes "TRIAL" ∷ codes "* a remark" ∷ codes "TIMING"
+    ∷ codes "BACK" ∷ codes "WORK" ∷ codes "KEEP" ∷ codes "PROFILE 6" ∷ codes "PLOT" ∷ codes "QUEUE 5"
+    ∷ codes "TRIAL" ∷ codes "OFFSET 21 12" ∷ codes "KEEP" ∷ codes "TIMING" ∷ codes "STOP" ∷ codes "QUEUE 5" ∷ []
 
--- what is answered to END and to them
+-- the timing of its junction with an offset, where its stages begin at these steps
+abbrev pub timing : List ℕ → List ℕ → List ℕ → List (List ℕ)
+timing offset first second =
+    (codes "NODE 21 OFFSET " ++ offset)
+    ∷ (codes "STAGE 1 CHANGE 2 AT " ++ first ++ codes " LENGTH 4 INTERGREEN 1 GREEN 3 LEAST 3")
+    ∷ (codes "STAGE 2 CHANGE 6 AT " ++ second ++ codes " LENGTH 11 INTERGREEN 2 GREEN 9 LEAST 4")
+    ∷ codes "END TIMING" ∷ []
+
+-- what is answered to END and to them: in the first trial the timing of its network, after it that of before, and after
+-- the second, which is kept, that of its network
 abbrev pub answers : List (List ℕ)
 answers =
     codes "ACCEPTED 1 1" ∷ codes "REFUSED 10" ∷ codes "DONE" ∷ codes "REFUSED 17" ∷ codes "REFUSED 19"
-    ∷ codes "REFUSED 24" ∷ codes "DONE" ∷ codes "DONE" ∷ codes "REFUSED 25" ∷ codes "REFUSED 25" ∷ codes "DONE"
+    ∷ codes "REFUSED 24" ∷ codes "DONE" ∷ codes "DONE" ∷ codes "REFUSED 25" ∷ codes "REFUSED 25"
+    ∷ timing (codes "3") (codes "5") (codes "9") ++ codes "DONE"
     ∷ codes "WORK 4" ∷ codes "REFUSED 24" ∷ codes "REFUSED 17" ∷ codes "REFUSED 12"
     ∷ codes "QUEUE 5 577666 1155332 1732998 2310664 2888330 3465996 4043662 4621328 5198994 5776660 6354326 6931992 4621325 2310658 0"
-    ∷ codes "NODE 21 OFFSET 9" ∷ codes "STAGE 1 CHANGE 2 AT 11 LENGTH 4 INTERGREEN 1 GREEN 3 LEAST 3"
-    ∷ codes "STAGE 2 CHANGE 6 AT 0 LENGTH 11 INTERGREEN 2 GREEN 9 LEAST 4" ∷ codes "END TIMING" ∷ []
+    ∷ codes "DONE" ∷ codes "DONE" ∷ codes "DONE" ∷ timing (codes "12") (codes "14") (codes "3")
 
 -- a deck of one junction without links
 abbrev pub no_link : List (List ℕ)

@@ -7,7 +7,7 @@ ghost use Rattle.transyt_sweep.specs.Sweeps.{index};
 ghost use Rattle.transyt_climb.specs.Turns.{start_at};
 ghost use Rattle.transyt_climb.specs.Way.{climbed};
 ghost use Rattle.transyt_desks.specs.Desks.{desk_zero, AreAlike};
-ghost use Rattle.transyt_text.specs.Prints.{Prints};
+ghost use Rattle.transyt_text.specs.Prints.{PrintsOn};
 ghost use Rattle.transyt_text.specs.Forms.{form_line};
 ghost use Rattle.transyt_track.specs.Work.{work_of};
 ghost use Rattle.transyt_answers.specs.Brief.{brief_form, brief_text, brief_steps};
@@ -82,7 +82,7 @@ fn tell_climb<R: Threads + Sync, G: Gate, K: Sink, L: Ledger>(
     requires closed { (desk_zero desks.old).before ≡ None }
     requires few { length desks.old ≤ 8 }
     requires room { (desk_zero desks.old).work ≤ 2 ^ 60 }
-    ensures prints { Prints (K.written sink.old) (K.written sink.new) (K.faults sink.old) (K.faults sink.new) result
+    ensures prints { PrintsOn K.written K.faults sink.old sink.new result
         (brief_text (desk_zero desks.old).net) }
     ensures steps { length desks.old ≡ 1
         → steps.new ≡ steps.old + work_of (climb_of (desk_zero desks.old).net).looks }
@@ -133,7 +133,7 @@ fn print_brief<K: Sink>(
     sink: &mut K,
 ) -> Result<(), Failed>
     requires { length numbers.now ≤ 6 }
-    ensures { Prints (K.written sink.old) (K.written sink.new) (K.faults sink.old) (K.faults sink.new) result
+    ensures { PrintsOn K.written K.faults sink.old sink.new result
         (form_line (brief_form local) numbers.now) }
 {
     if local {

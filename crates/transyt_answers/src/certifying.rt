@@ -4,7 +4,7 @@ ghost use Rattle.transyt_moves.specs.Moves.{move_count};
 ghost use Rattle.transyt_sweep.specs.Sweeps.{index};
 ghost use Rattle.transyt_sweep.specs.Climb.{tried_at};
 ghost use Rattle.transyt_climb.specs.Turns.{certified};
-ghost use Rattle.transyt_text.specs.Prints.{Prints};
+ghost use Rattle.transyt_text.specs.Prints.{PrintsOn};
 ghost use Rattle.transyt_cert.specs.Certificate.{place_text, last_text, cert_text};
 ghost use Rattle.transyt_answers.specs.Commands.{after_answer};
 ghost use Rattle.transyt_answers.specs.Conditions.{index_found};
@@ -56,7 +56,7 @@ fn certify_place<K: Sink, L: Ledger>(
     requires place { place < move_count session.old.net }
     requires closed { session.old.before ≡ None }
     requires room { session.old.work ≤ 2 ^ 62 }
-    ensures prints { Prints (K.written sink.old) (K.written sink.new) (K.faults sink.old) (K.faults sink.new) result
+    ensures prints { PrintsOn K.written K.faults sink.old sink.new result
         (place_text session.old.net place) }
     ensures state { session.new ≡ certified place session.old }
     ensures few { session.new.work ≤ session.old.work + 8000 }
@@ -75,7 +75,7 @@ fn certify_end<K: Sink>(
     line: &mut LineBuffer,
     sink: &mut K,
 ) -> Result<(), Failed>
-    ensures { Prints (K.written sink.old) (K.written sink.new) (K.faults sink.old) (K.faults sink.new) result
+    ensures { PrintsOn K.written K.faults sink.old sink.new result
         (last_text places (index session.now.net)) }
 {
     cert_line(places, session.index(), line);
@@ -91,7 +91,7 @@ pub(crate) fn certify_on<K: Sink, L: Ledger>(
 ) -> Result<(), Failed>
     requires closed { session.old.before ≡ None }
     requires room { session.old.work ≤ 2 ^ 60 }
-    ensures prints { Prints (K.written sink.old) (K.written sink.new) (K.faults sink.old) (K.faults sink.new) result
+    ensures prints { PrintsOn K.written K.faults sink.old sink.new result
         (cert_text session.old.net) }
     ensures state { OnOk result (session.new ≡ after_answer Answer.Cert session.old) }
     ensures same { session.new.net ≡ session.old.net }

@@ -5,7 +5,7 @@ ghost use Rattle.transyt_sweep.specs.Climb.{climb};
 ghost use Rattle.transyt_climb.specs.Turns.{start_at, step_then};
 ghost use Rattle.transyt_climb.specs.Way.{climbed};
 ghost use Rattle.transyt_desks.specs.Desks.{desk_zero, AreAlike};
-ghost use Rattle.transyt_text.specs.Prints.{Prints};
+ghost use Rattle.transyt_text.specs.Prints.{PrintsOn};
 ghost use Rattle.transyt_report.specs.MoveTexts.{end_text};
 ghost use Rattle.transyt_answers.specs.Commands.{steps_text, climb_text, climb_of, budget_of};
 ghost use Rattle.transyt_answers.specs.Conditions.{IsStep, AreReady};
@@ -33,7 +33,7 @@ pub(crate) fn steps_of(turn: Turn) -> u32
 /// Writes the line of the step that a turn took, and nothing where it took none.
 fn say_step<K: Sink>(turn: Turn, line: &mut LineBuffer, sink: &mut K) -> Result<(), Failed>
     requires { IsStep turn }
-    ensures { Prints (K.written sink.old) (K.written sink.new) (K.faults sink.old) (K.faults sink.new) result
+    ensures { PrintsOn K.written K.faults sink.old sink.new result
         (steps_text (step_then turn [])) }
 {
     let Turn::Took { place, edit, index } = turn else {
@@ -51,8 +51,7 @@ fn say_end<K: Sink>(
     line: &mut LineBuffer,
     sink: &mut K,
 ) -> Result<(), Failed>
-    ensures { Prints (K.written sink.old) (K.written sink.new) (K.faults sink.old) (K.faults sink.new) result
-        (end_text local looked index) }
+    ensures { PrintsOn K.written K.faults sink.old sink.new result (end_text local looked index) }
 {
     end_line(local, looked, index, line);
     write_line(line, sink)
@@ -87,7 +86,7 @@ fn climb_by_rounds<R: Threads + Sync, G: Gate, K: Sink, L: Ledger>(
     requires closed { (desk_zero desks.old).before ≡ None }
     requires few { length desks.old ≤ 8 }
     requires room { (desk_zero desks.old).work ≤ 2 ^ 60 }
-    ensures prints { Prints (K.written sink.old) (K.written sink.new) (K.faults sink.old) (K.faults sink.new) result
+    ensures prints { PrintsOn K.written K.faults sink.old sink.new result
         (climb_text (climb (desk_zero desks.old).net 0 climber.old.budget)) }
     ensures state { OnOk result (desk_zero desks.new ≡ climbed climber.old.budget (desk_zero desks.old)) }
     ensures alike { AreAlike desks.new }
@@ -122,7 +121,7 @@ pub(crate) fn climb_on<R: Threads + Sync, G: Gate, K: Sink, L: Ledger>(
     requires closed { (desk_zero desks.old).before ≡ None }
     requires few { length desks.old ≤ 8 }
     requires room { (desk_zero desks.old).work ≤ 2 ^ 60 }
-    ensures prints { Prints (K.written sink.old) (K.written sink.new) (K.faults sink.old) (K.faults sink.new) result
+    ensures prints { PrintsOn K.written K.faults sink.old sink.new result
         (climb_text (climb_of (desk_zero desks.old).net)) }
     ensures state { OnOk result
         (desk_zero desks.new ≡ climbed (budget_of (desk_zero desks.old).net.plan) (desk_zero desks.old)) }

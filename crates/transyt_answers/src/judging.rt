@@ -4,12 +4,12 @@ ghost use Rattle.transyt_net.specs.EditFaults.{edit_fault};
 ghost use Rattle.transyt_net.specs.Valid.{place_of, link_numbers};
 ghost use Rattle.transyt_session.specs.Session.{edited, trial_of, back_of, keep_of};
 ghost use Rattle.transyt_answers.specs.Commands.{edit_code, edit_answer, about_link, plan_refusal, refusal_or, trial_answer};
-ghost use Rattle.transyt_answers.specs.Commands.{end_answer, answer_to, judged, line_answer, line_judged};
+ghost use Rattle.transyt_answers.specs.Commands.{end_answer, requested, answer_to, judged, line_answer, line_judged};
 ghost use Rattle.transyt_answers.specs.Conditions.{IsOf};
 
 use crate::answer::Answer;
 use std::sync::ledger::Ledger;
-use transyt_cards::{Code, Command, read_command};
+use transyt_cards::{Code, Command, Request, read_command};
 use transyt_net::{Edit, EditFault};
 use transyt_report::Report;
 use transyt_session::{Reply, Session};
@@ -158,6 +158,26 @@ fn judge_plot(session: &Session, link: u32) -> Answer
     }
 }
 
+/// The answer to a request.
+fn judge_request(session: &Session, request: Request) -> Answer
+    ensures answer { result ≡ requested session.now request }
+    ensures ready { IsOf session.now result }
+{
+    match request {
+        Request::Climb => judge_climb(session),
+        Request::Cert => judge_cert(session),
+        Request::Index => Answer::Show(Report::Index),
+        Request::Links => Answer::Show(Report::Links),
+        Request::Timing => Answer::Show(Report::Timing),
+        Request::Profile { link } => judge_profile(session, link),
+        Request::Plot { link } => judge_plot(session, link),
+        Request::Queue { link } => judge_queue(session, link),
+        Request::Work => Answer::Show(Report::Work),
+        Request::Deck => Answer::Deck,
+        Request::Stop => Answer::Stop,
+    }
+}
+
 /// Judges a command: edits and the commands of a trial are carried out.
 fn judge_command<L: Ledger>(session: &mut Session, command: Command, steps: &mut Steps<L>) -> Answer
     requires room { session.old.work ≤ 2 ^ 62 }
@@ -172,17 +192,7 @@ fn judge_command<L: Ledger>(session: &mut Session, command: Command, steps: &mut
         Command::Trial => judge_trial(session),
         Command::Back => judge_back(session),
         Command::Keep => judge_keep(session),
-        Command::Climb => judge_climb(session),
-        Command::Cert => judge_cert(session),
-        Command::Index => Answer::Show(Report::Index),
-        Command::Links => Answer::Show(Report::Links),
-        Command::Timing => Answer::Show(Report::Timing),
-        Command::Profile { link } => judge_profile(session, link),
-        Command::Plot { link } => judge_plot(session, link),
-        Command::Queue { link } => judge_queue(session, link),
-        Command::Work => Answer::Show(Report::Work),
-        Command::Deck => Answer::Deck,
-        Command::Stop => Answer::Stop,
+        Command::Request(request) => judge_request(session, request),
     }
 }
 

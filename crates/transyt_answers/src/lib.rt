@@ -13,6 +13,6 @@ mod saying;
 
 pub use brief::write_brief;
 pub use laws::{
-    steps_lower, worked_brief, worked_commands, worked_conditions, worked_lowering, worked_reports,
+    steps_are_work, steps_lower, worked_brief, worked_commands, worked_lowering, worked_reports,
 };
 pub use running::run_deck;

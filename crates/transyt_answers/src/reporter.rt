@@ -2,7 +2,7 @@
 ghost use Rattle.std.specs.Prelude.{◌≡◌, ◌≤◌, ◌<◌, ◌+◌, ◌^◌, true, None, Some, Ok, IfOk, IfNone, OnOk, OnErr, IsErrOf, IsTrue, length, ℕ, List, []};
 ghost use Rattle.transyt_running.specs.Turns.{AnsweredWhole, ClosedWhole, answers_after};
 ghost use Rattle.transyt_io.specs.Streams.{Adds, AddsFront, Rose};
-ghost use Rattle.transyt_text.specs.Prints.{Prints};
+ghost use Rattle.transyt_text.specs.Prints.{PrintsOn};
 ghost use Rattle.transyt_deck.specs.Deck.{next, is_complete, line_count};
 ghost use Rattle.transyt_desks.specs.Desks.{desk_zero};
 ghost use Rattle.transyt_answers.specs.Commands.{line_answer, answer_text, session_after};
@@ -83,7 +83,7 @@ fn answer_command<R: Threads + Sync, G: Gate, K: Sink, L: Ledger>(
     requires ready { AreReady desks.old }
     requires few { length desks.old ≤ 8 }
     requires room { (desk_zero desks.old).work ≤ 2 ^ 59 }
-    ensures prints { Prints (K.written sink.old) (K.written sink.new) (K.faults sink.old) (K.faults sink.new) result
+    ensures prints { PrintsOn K.written K.faults sink.old sink.new result
         (answer_text (desk_zero desks.old) (line_answer (desk_zero desks.old) command.now)) }
     ensures ends { IfOk result (λ end. end ≡ answer_ends (line_answer (desk_zero desks.old) command.now)) }
     ensures state { OnOk result (desk_zero desks.new ≡ session_after (desk_zero desks.old) command.now) }
@@ -187,6 +187,7 @@ impl Reporter {
         };
         let net = desks.session().net();
         if let Err(Failed) = print_accepted(net, &mut self.buffer, sink) {
+            drop(desks);
             return Err(Stop::Write);
         }
         self.desks = Some(desks);

@@ -83,7 +83,11 @@ pub fn run_deck<R: Threads + Sync, S: Source, K: Sink, G: Gate, L: Ledger>(
         return Status::NoMemory;
     };
     let Ok(mut reader) = LineReader::open(alloc) else {
+        drop(reporter);
         return Status::NoMemory;
     };
-    run(rt, &mut reporter, &mut reader, source, sink, gate, steps)
+    let status = run(rt, &mut reporter, &mut reader, source, sink, gate, steps);
+    drop(reader);
+    drop(reporter);
+    status
 }

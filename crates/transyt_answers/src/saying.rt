@@ -2,7 +2,7 @@
 ghost use Rattle.std.specs.Prelude.{◌≡◌, ◌+◌, ◌*◌, ◌^◌, ◌≤◌, length, OnOk};
 ghost use Rattle.transyt_net.specs.Parts.{Network};
 ghost use Rattle.transyt_desks.specs.Desks.{desk_zero};
-ghost use Rattle.transyt_text.specs.Prints.{Prints};
+ghost use Rattle.transyt_text.specs.Prints.{PrintsOn};
 ghost use Rattle.transyt_answers.specs.Commands.{done_text, refused_text, answer_text, after_answer};
 ghost use Rattle.transyt_answers.specs.Conditions.{AreReady, IsOf};
 ghost use Rattle.transyt_answers.specs.Report.{card_refused, accepted};
@@ -30,8 +30,7 @@ pub(crate) fn print_card_refused<K: Sink>(
     line: &mut LineBuffer,
     sink: &mut K,
 ) -> Result<(), Failed>
-    ensures { Prints (K.written sink.old) (K.written sink.new) (K.faults sink.old) (K.faults sink.new) result
-        (card_refused card code) }
+    ensures { PrintsOn K.written K.faults sink.old sink.new result (card_refused card code) }
 {
     let numbers = [u128::from(card), u128::from(code.number())];
     print_form(b"CARD # REFUSED #", &numbers, line, sink)
@@ -44,8 +43,7 @@ pub(crate) fn print_accepted<K: Sink>(
     line: &mut LineBuffer,
     sink: &mut K,
 ) -> Result<(), Failed>
-    ensures { Prints (K.written sink.old) (K.written sink.new) (K.faults sink.old) (K.faults sink.new) result
-        (accepted net.now) }
+    ensures { PrintsOn K.written K.faults sink.old sink.new result (accepted net.now) }
 {
     let numbers = [net.nodes().len() as u128, net.links().len() as u128];
     print_form(b"ACCEPTED # #", &numbers, line, sink)
@@ -54,8 +52,7 @@ pub(crate) fn print_accepted<K: Sink>(
 /// Writes the line of an accepted edit, TRIAL, BACK or KEEP.
 #[tactic(auto, unfolding(crate::specs::Commands::done_text))]
 fn print_done<K: Sink>(line: &mut LineBuffer, sink: &mut K) -> Result<(), Failed>
-    ensures { Prints (K.written sink.old) (K.written sink.new) (K.faults sink.old) (K.faults sink.new) result
-        done_text }
+    ensures { PrintsOn K.written K.faults sink.old sink.new result done_text }
 {
     print_form(b"DONE", &[], line, sink)
 }
@@ -63,8 +60,7 @@ fn print_done<K: Sink>(line: &mut LineBuffer, sink: &mut K) -> Result<(), Failed
 /// Writes the line of a refused command.
 #[tactic(auto, unfolding(crate::specs::Commands::refused_text))]
 fn print_refused<K: Sink>(code: Code, line: &mut LineBuffer, sink: &mut K) -> Result<(), Failed>
-    ensures { Prints (K.written sink.old) (K.written sink.new) (K.faults sink.old) (K.faults sink.new) result
-        (refused_text code) }
+    ensures { PrintsOn K.written K.faults sink.old sink.new result (refused_text code) }
 {
     print_form(b"REFUSED #", &[u128::from(code.number())], line, sink)
 }
@@ -85,7 +81,7 @@ pub(crate) fn say<R: Threads + Sync, G: Gate, K: Sink, L: Ledger>(
     requires few { length desks.old ≤ 8 }
     requires of { IsOf (desk_zero desks.old) answer }
     requires room { (desk_zero desks.old).work ≤ 2 ^ 60 }
-    ensures prints { Prints (K.written sink.old) (K.written sink.new) (K.faults sink.old) (K.faults sink.new) result
+    ensures prints { PrintsOn K.written K.faults sink.old sink.new result
         (answer_text (desk_zero desks.old) answer) }
     ensures state { OnOk result (desk_zero desks.new ≡ after_answer answer (desk_zero desks.old)) }
     ensures ready { AreReady desks.new }

@@ -1,5 +1,5 @@
 -- One round more of a climb on its way, whose line is written, or its last.
-use Rattle.std.proofs.Common.{◌≡◌, ◌+◌, ◌≤◌, Result, Ok, Err, OnOk, false, List, length, refl, sym, ◌∙◌, ap, arith}
+use Rattle.std.proofs.Common.{◌≡◌, ◌≤◌, Result, Ok, Err, OnOk, false, List, length, refl, sym, ◌∙◌, ap, arith}
 use Rattle.transyt_climb.specs.Turns.{Counters, is_end, machine}
 use Rattle.transyt_sweep.specs.Sweeps.{index}
 use Rattle.transyt_session.specs.Session.{SessionValue}

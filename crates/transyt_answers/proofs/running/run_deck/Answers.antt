@@ -25,10 +25,10 @@ returns-in_default-clause-steps g c = λ all. record {
 
 -- what was taken and what was written
 pub returns-clause-outcome : goal.returns-clause-outcome
-returns-clause-outcome g c = outcome_of c.run.ensures.ran
+returns-clause-outcome g c = outcome_of c.run-status.ensures.ran
 
 -- the steps
 pub returns-clause-steps : goal.returns-clause-steps
 returns-clause-steps g c = λ one.
-    steps_of c.run.ensures.ran
+    steps_of c.run-status.ensures.ran
     (ap (λ (r : ReporterValue). nat_eq r.workers 1) c.in-Ok.ensures.value ∙ ap (λ (n : ℕ). nat_eq n 1) one)
