@@ -17,6 +17,3 @@ pub use deck_text::print_deck;
 pub use transyt_commands::{Command, Request, read_command};
 pub use transyt_deck::{Card, CardReader, CardStop, Cut, Part, Progress, State, cut_deck};
 pub use transyt_syntax::Code;
-
-#[cfg(test)]
-mod tests;

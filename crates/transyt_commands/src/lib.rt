@@ -16,6 +16,3 @@ mod reading;
 pub use command::{Command, Request};
 pub use laws::worked_lines;
 pub use reading::read_command;
-
-#[cfg(test)]
-mod tests;

@@ -11,4 +11,3 @@ pub mod Reading
 pub mod RuleBlocks
 pub mod Small
 pub mod Worked
-pub mod WorkedAdds

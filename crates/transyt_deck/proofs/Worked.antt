@@ -1,13 +1,12 @@
 -- The worked decks and codes, computed from the definitions.
-use Rattle.std.proofs.Common.{◌≡◌, map, Some, refl}
+use Rattle.std.proofs.Common.{◌≡◌, map, refl}
 use Rattle.transyt_deck.specs.Deck.{Complete, code, deck}
-use Rattle.transyt_deck.specs.WorkedCodes.{each_card, limits, places}
-use Rattle.transyt_deck.specs.WorkedOrder.{in_order}
+use Rattle.transyt_deck.specs.WorkedCodes.{coded, each_card, places}
 use Rattle.transyt_deck.specs.WorkedTown.{town, town_net, town_text}
-use Rattle.transyt_deck.specs.WorkedVillage.{bytes_of, cuts, finishes, readers, village, village_net}
+use Rattle.transyt_deck.specs.WorkedVillage.{bytes_of, cuts, finishes, village, village_net}
 use Rattle.transyt_deck.specs.Cards.{deck_text}
 use Rattle.transyt_deck.specs.Cut.{cut_of}
-use Rattle.transyt_deck.specs.Reader.{finished, may_finish}
+use Rattle.transyt_deck.specs.Reader.{finished}
 use Rattle.transyt_text.specs.Forms.{filled, form_line, values_line, values_text}
 use Rattle.std.specs.Fmt.{digits}
 
@@ -19,13 +18,9 @@ town_is = refl
 pub places_are : map (λ row. map (code row.0) each_card) places ≡ map (λ row. row.1) places
 places_are = refl
 
--- each number at its limits has its code
-pub limits_are : map (λ row. map (λ line. code row.0 line.0) row.1) limits ≡ map (λ row. map (λ line. line.1) row.1) limits
-limits_are = refl
-
--- each line has the first of its codes
-pub order_is : map (λ row. code row.0 row.1) in_order ≡ map (λ row. Some row.2) in_order
-order_is = refl
+-- each line has its code
+pub coded_are : map (λ row. code row.0 row.1) coded ≡ map (λ row. row.2) coded
+coded_are = refl
 
 -- the deck of form 1 has its network
 pub village_is : deck village ≡ Complete 6 village_net
@@ -43,7 +38,3 @@ cuts_are = refl
 -- what a reader finishes with after these lines
 pub finishes_are : map (λ row. finished (deck row.0)) finishes ≡ map (λ row. row.1) finishes
 finishes_are = refl
-
--- whether a reader may finish
-pub readers_are : map (λ row. may_finish row.0) readers ≡ map (λ row. row.1) readers
-readers_are = refl

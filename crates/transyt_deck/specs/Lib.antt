@@ -5,8 +5,6 @@ pub mod Deck
 pub mod Reader
 pub mod State
 pub mod Table
-pub mod WorkedAdds
 pub mod WorkedCodes
-pub mod WorkedOrder
 pub mod WorkedTown
 pub mod WorkedVillage

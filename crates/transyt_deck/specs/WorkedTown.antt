@@ -35,22 +35,15 @@ linked l feeds rule = record l { feeds = feeds; gives_way = rule }
 -- its links, in card order, with their feeds and rules
 abbrev pub town_links : List LinkValue
 town_links =
-    linked (new_link 5 21 431 1733 3 2 1 2 (1 ∷ []))
-    (new_feed 8 173 38 ∷ []) None
-    ∷ linked (new_link 2 21 97 1619 5 7 0 1 (2 ∷ 3 ∷ []))
-    [] None
-    ∷ linked (new_link 9 7 613 1877 2 11 2 0 (2 ∷ []))
-    [] None
-    ∷ linked (new_link 4 7 0 1451 4 1 0 0 (1 ∷ []))
-    (new_feed 5 311 23 ∷ new_feed 2 77 61 ∷ []) (Some (new_rule 9 35))
-    ∷ linked (new_link 8 300 229 1999 6 5 1 1 (1 ∷ 3 ∷ []))
-    (new_feed 9 402 47 ∷ new_feed 3 219 300 ∷ []) None
-    ∷ linked (new_link 3 300 877 1201 1 9 0 0 (4 ∷ []))
-    [] None
-    ∷ linked (new_link 6 300 53 1327 7 3 3 4 (2 ∷ []))
-    (new_feed 6 41 17 ∷ []) None
-    ∷ linked (new_link 11 21 151 907 9 4 0 0 (1 ∷ 2 ∷ 3 ∷ []))
-    (new_feed 4 88 9 ∷ new_feed 3 60 111 ∷ []) (Some (new_rule 5 150))
+    linked (new_link 5 21 431 1733 3 2 1 2 (1 ∷ [])) (new_feed 8 173 38 ∷ []) None
+    ∷ new_link 2 21 97 1619 5 7 0 1 (2 ∷ 3 ∷ []) ∷ new_link 9 7 613 1877 2 11 2 0 (2 ∷ [])
+    ∷ linked (new_link 4 7 0 1451 4 1 0 0 (1 ∷ [])) (new_feed 5 311 23 ∷ new_feed 2 77 61 ∷ [])
+    (Some (new_rule 9 35))
+    ∷ linked (new_link 8 300 229 1999 6 5 1 1 (1 ∷ 3 ∷ [])) (new_feed 9 402 47 ∷ new_feed 3 219 300 ∷ []) None
+    ∷ new_link 3 300 877 1201 1 9 0 0 (4 ∷ [])
+    ∷ linked (new_link 6 300 53 1327 7 3 3 4 (2 ∷ [])) (new_feed 6 41 17 ∷ []) None
+    ∷ linked (new_link 11 21 151 907 9 4 0 0 (1 ∷ 2 ∷ 3 ∷ [])) (new_feed 4 88 9 ∷ new_feed 3 60 111 ∷ [])
+    (Some (new_rule 5 150))
     ∷ []
 
 -- its network

@@ -1,10 +1,8 @@
 -- A worked deck of form 1, which leaves out the dispersion; and worked bytes, lines and readers.
-use Rattle.std.specs.Prelude.{ℕ, List, [], ◌∷◌, ◌++◌, codes, flat_map, None, Bool, true, false, Result, Ok, Err}
+use Rattle.std.specs.Prelude.{ℕ, List, [], ◌∷◌, ◌++◌, codes, flat_map, None, Result, Ok, Err}
 use Rattle.transyt_syntax.specs.declared.code.Code.TheVariants as code
 use Rattle.transyt_parts.specs.Made.{new_link, new_stage}
 use Rattle.transyt_net.specs.Parts.{Network}
-use Rattle.transyt_deck.specs.Deck.{start, Complete, Refused}
-use Rattle.transyt_deck.specs.Reader.{ReaderValue}
 use Rattle.transyt_deck.specs.declared.cut.Cut.{Cut}
 use Rattle.transyt_deck.specs.declared.reader.CardStop.{CardStop}
 use Rattle.transyt_deck.specs.declared.reader.CardStop.TheVariants as stop
@@ -33,7 +31,7 @@ abbrev pub bytes_of : List (List ℕ) → List ℕ
 bytes_of lines = flat_map (λ line. line ++ 10 ∷ []) lines
 
 -- bytes, with their cut: the deck with END's line end, a carriage return and a line end, and none, then one that is
--- refused and one that is open
+-- refused
 abbrev pub cuts : List (List ℕ × Result Cut CardStop)
 cuts =
     (bytes_of (village ++ codes "INDEX" ∷ []), Ok (record { net = village_net; line = 6; rest = 86 }))
@@ -45,18 +43,10 @@ cuts =
       codes "* END" ++ 10 ∷ bytes_of village_cards ++ codes "END",
       Ok (record { net = village_net; line = 7; rest = 91 }),
     )
-    ∷ (codes "FORM 1" ++ 10 ∷ codes "END", Err (stop.Refused 2 code.OutOfPlace))
-    ∷ (bytes_of village_cards, Err (stop.Refused 6 code.NoEnd)) ∷ []
+    ∷ (codes "FORM 1" ++ 10 ∷ codes "END", Err (stop.Refused 2 code.OutOfPlace)) ∷ []
 
 -- lines, with what a reader finishes with after them
 abbrev pub finishes : List (List (List ℕ) × Result Network CardStop)
 finishes =
     (village, Ok village_net) ∷ (codes "FORM 1" ∷ codes "END" ∷ [], Err (stop.Refused 2 code.OutOfPlace))
     ∷ (village_cards, Err (stop.Refused 6 code.NoEnd)) ∷ []
-
--- readers, and whether each may finish
-abbrev pub readers : List (ReaderValue × Bool)
-readers =
-    (record { deck = start; live = true }, true) ∷ (record { deck = start; live = false }, false)
-    ∷ (record { deck = Complete 6 village_net; live = false }, true)
-    ∷ (record { deck = Refused 2 code.OutOfPlace; live = false }, false) ∷ []

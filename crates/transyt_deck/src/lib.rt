@@ -21,6 +21,3 @@ pub use cut::{Cut, cut_deck};
 pub use laws::{line_by_line, text_reads_back, worked_decks};
 pub use reader::{CardReader, CardStop, Progress};
 pub use state::{Part, State};
-
-#[cfg(test)]
-mod tests;
