@@ -1,8 +1,4 @@
 pub mod WorkedLaws
-pub mod WorkedBack
-pub mod WorkedGoing
-pub mod WorkedTracking
-pub mod WorkedReaders
 pub mod DataLaws
 pub mod OwnLaws
 pub mod ShapeLaws

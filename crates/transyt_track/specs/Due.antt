@@ -6,11 +6,11 @@ use Rattle.transyt_net.specs.Parts.{Network}
 use Rattle.transyt_sweep.specs.Sweeps.{out_of, read_at}
 use Rattle.transyt_track.specs.Own.{own, same_own, places_at}
 
--- whether what leaves a link at a sweep differs between two networks
+-- whether a link's departures at a sweep differ between two networks
 unfoldable pub differs : Network → Network → ℕ → ℕ → Bool
 differs before after sweep link = not (bytes_eq (out_of before sweep link) (out_of after sweep link))
 
--- whether what a link, at a sweep, reads of another differs
+-- whether the departures of another link that a link reads at a sweep differ
 abbrev pub read_differs : Network → Network → ℕ → ℕ → ℕ → Bool
 read_differs before after sweep link other = differs before after (read_at sweep link other) other
 
@@ -19,15 +19,15 @@ abbrev pub is_some_and : (ℕ → Bool) → Option ℕ → Bool
 is_some_and test None = false
 is_some_and test (Some place) = test place
 
--- whether a link at a sweep is due: its own data differ, or what it reads of a feeder or of the link to which it gives
--- way
+-- whether a link at a sweep is due: its own data differ, or the departures that it reads of a feeder or of the link to
+-- which it gives way
 abbrev pub is_due : Network → Network → ℕ → ℕ → Bool
 is_due before after sweep link =
     not (same_own (own before link) (own after link))
     || list_any (read_differs before after sweep link) (places_at before link).feeders
     || is_some_and (read_differs before after sweep link) (places_at before link).rule
 
--- how many of the first so many links are due at a sweep
+-- how many of the first `count` links are due at a sweep
 unfoldable pub due_in : Network → Network → ℕ → ℕ → ℕ
 due_in before after sweep count = count_by (is_due before after sweep) (range_with_len 0 count)
 
@@ -35,7 +35,7 @@ due_in before after sweep count = count_by (is_due before after sweep) (range_wi
 abbrev pub due_at : Network → Network → ℕ → ℕ
 due_at before after sweep = due_in before after sweep (length before.links)
 
--- how many links are due at the first so many sweeps together, each at each sweep counted
+-- how many links are due at the first `count` sweeps together, each at each sweep counted
 unfoldable pub due_through : Network → Network → ℕ → ℕ
 due_through before after count = sum_by (due_at before after) (range_with_len 1 count)
 

@@ -23,12 +23,12 @@ pub record AreShownMixed (net : Network) (early late : ℕ → CellValue) (sweep
 abbrev pub flag : List Bool → ℕ → Bool
 flag flags link = slice_index_or flags link false
 
--- a flag for each of so many links: up where the test holds of it
+-- a flag for each link: up where the test holds of it
 pub record AreFlags (test : ℕ → Bool) (link_count : ℕ) (flags : List Bool) : Type 0 where
   pub count : length flags ≡ link_count
   pub flagged : (link : ℕ) → link < link_count → flag flags link ≡ test link
 
--- a flag for each of at least so many places: down exactly where the fact holds of the place
+-- a flag for each place, and maybe more: down exactly where the fact holds of the place
 pub record AreDownWhere (fact : ℕ → Type 0) (place_count : ℕ) (flags : List Bool) : Type 0 where
   pub count : place_count ≤ length flags
   pub down : (place : ℕ) → place < place_count → (flag flags place ≡ false ↔ fact place)
@@ -53,13 +53,13 @@ had_turn front reader other =
     if nat_lt other front then not (nat_lt reader front && nat_lt other reader)
     else not (nat_lt reader front) && not (nat_lt other reader)
 
--- whether what a reader reads next of another is worked out, and differs
+-- whether the departures that a reader reads next of another are worked out, and differ
 abbrev pub has_moved : Network → Network → ℕ → ℕ → ℕ → ℕ → Bool
 has_moved before after sweep front reader other =
     had_turn front reader other && read_differs before after sweep front other
 
--- whether a link is due at its next turn for what is known at the front: its own data differ, or what it reads next of a
--- feeder or of the link to which it gives way is worked out, and differs
+-- whether a link is known at the front to be due at its next turn: its own data differ, or the departures that it reads
+-- next of a feeder or of the link to which it gives way are worked out, and differ
 abbrev pub awaits : Network → Network → ℕ → ℕ → ℕ → Bool
 awaits before after sweep front reader =
     own_differs before after reader
@@ -67,7 +67,7 @@ awaits before after sweep front reader =
     || is_some_and (has_moved before after sweep front reader) (places_at before reader).rule
 
 -- THE LAW OF THE FRONT: before a link at a sweep the rows are those of the network after, from it on those of the
--- network before; the flag of each link is up where it is due at its next turn for what is known
+-- network before; the flag of each link is up where it is known to be due at its next turn
 pub record AreAt (before after : Network) (sweep link : ℕ) (rows : RowsValue) (awaited : List Bool) : Type 0 where
   pub outs : AreMixed after (out_of after) (out_of before) sweep link rows
   pub shown : AreShownMixed after (evaluated after) (evaluated before) sweep link rows
@@ -91,7 +91,7 @@ pub record AreBetween (net : Network) (early : ℕ → ℕ → List ℕ) (early_
   pub outs : AreMixed net early late sweep link rows
   pub shown : AreShownMixed net early_shown late_shown sweep link rows
 
--- what leaves is that of the network, and the last sweep too: whole before a link, and but for the weights from it on
+-- departures are those of the network, and the last sweep too: whole before a link, and but for the weights from it on
 pub record AreWeighed (net : Network) (link : ℕ) (rows : RowsValue) : Type 0 where
   pub fits : Fits net rows
   pub outs : (sweep other : ℕ) → sweep ≤ net.frame.sweeps → other < length net.links

@@ -2,10 +2,7 @@ pub mod Own
 pub mod Due
 pub mod Readers
 pub mod Work
-pub mod WorkedFacts
 pub mod WorkedWork
 pub mod Front
 pub mod Saved
 pub mod Tracker
-pub mod WorkedSame
-pub mod WorkedReaders

@@ -1,4 +1,4 @@
--- What a link's work is made of that edits change, departures and weights apart, and which links it reads.
+-- The own data of a link: all that edits change of its work, departures and weights apart; and which links it reads.
 use Rattle.std.specs.Prelude.{◌≡◌, ℕ, ◌<◌, Bool, true, false, ◌&&◌, nat_eq, List, [], ◌∷◌, length, map, Option, Some}
 use Rattle.std.specs.Prelude.{None, slice_index_or, IsTrue}
 use Rattle.std.specs.Str.{bytes_eq}
@@ -43,7 +43,7 @@ cruise_of feed = feed.cruise
 abbrev pub feeder_place : Network → Feed → ℕ
 feeder_place net feed = link_place net feed.feeder
 
--- what counts of a feed
+-- the own data of a feed
 abbrev pub part_of : Network → Feed → Part
 part_of net feed = record {
   flow = feed.flow;
@@ -133,7 +133,7 @@ pub record PlacesValue : Type 0 where
   pub feeders : List ℕ
   pub rule : Option ℕ
 
--- what stands where there is no link
+-- the places where there is no link
 abbrev pub no_places : PlacesValue
 no_places = record { node = 0; feeders = []; rule = None }
 

@@ -1,4 +1,4 @@
--- What the rows and the saved rows of a tracker say of the network that was marked.
+-- The rows and the saved rows of a tracker, against the network that was marked.
 use Rattle.std.specs.Prelude.{◌≡◌, ℕ, ◌<◌, ◌≤◌, true, false, length}
 use Rattle.transyt_net.specs.Parts.{Network}
 use Rattle.transyt_sweep.specs.Rows.{RowsValue, shown_at}
@@ -13,7 +13,7 @@ pub record LeadBack (marked : Network) (rows : RowsValue) (saved : SavedValue) :
   pub shown : saved.live ≡ true → (link : ℕ) → link < length marked.links
       → unweighed (old_shown saved rows link) ≡ unweighed (evaluated marked link)
 
--- from a link on, the figures of each link of which nothing is saved that is shown are those of the network
+-- from a link on, figures are those of the network where neither arrivals, GO, queue nor figures are saved
 pub record AreUnsaved (net : Network) (saved : SavedValue) (link : ℕ) (rows : RowsValue) : Type 0 where
   pub figures : (other : ℕ) → link ≤ other → other < length net.links
       → is_shown_saved saved other ≡ false → (shown_at rows other).figures ≡ (evaluated net other).figures

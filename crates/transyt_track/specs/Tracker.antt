@@ -1,4 +1,4 @@
--- What a tracker is seen as, and what its parts satisfy.
+-- A tracker as its contracts see it, and the facts of its parts.
 use Rattle.std.specs.Prelude.{◌≡◌, ℕ, Bool, true, false, List, length, Option, Some, None}
 use Rattle.transyt_net.specs.Parts.{Network}
 use Rattle.transyt_net.specs.Shape.{SameShape}

@@ -14,7 +14,7 @@ abbrev pub work_with : Network → Edit → Option EditFault → ℕ
 work_with net edit None = due net (with_edit net edit)
 work_with net edit (Some fault) = 0
 
--- the work of an edit: what is due from the network to that with the edit, and none where it isn't allowed
+-- the work of an edit: the pairs due from the network to that with the edit, and none where it isn't allowed
 abbrev pub edit_work : Network → Edit → ℕ
 edit_work net edit = work_with net edit (edit_fault net edit)
 
@@ -23,7 +23,7 @@ abbrev pub work_of : List Look → ℕ
 work_of [] = 0
 work_of (look ∷ looks) = edit_work look.net (move look.net look.place) + work_of looks
 
--- the work of a certificate: that of the moves at the first so many places, each tried on the network as it is
+-- the work of a certificate: that of the moves at the first `places` places, each tried on the network as it is
 abbrev pub cert_work : Network → ℕ → ℕ
 cert_work net zero = 0
 cert_work net (suc places) = cert_work net places + edit_work net (move net places)

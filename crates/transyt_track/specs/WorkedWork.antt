@@ -8,6 +8,7 @@ use Rattle.transyt_net.specs.declared.edit.Edit.TheVariants.{Offset, Change, Ent
 use Rattle.transyt_net.specs.Parts.{Network}
 use Rattle.transyt_net.specs.Edits.{with_edit}
 use Rattle.transyt_sweep.specs.Climb.{Look}
+use Rattle.transyt_track.specs.Own.{Own}
 
 -- two junctions and three links, no number of which is neutral: link 9 is fed by link 5, which it feeds too, and link 4
 -- is fed by link 9 and gives way to link 5
@@ -55,6 +56,28 @@ junctions = record {
   } ∷ [];
   plan = Some (record { budget = 5; sizes = 1 ∷ [] });
 }
+
+-- the own data of its links
+abbrev pub own_three : List Own
+own_three = record {
+  entry = 431;
+  saturation = 1733;
+  offset = 4;
+  changes = 2 ∷ 7 ∷ [];
+  parts = record { flow = 88; cruise = 9; whole = 408 } ∷ [];
+} ∷ record {
+  entry = 97;
+  saturation = 1619;
+  offset = 13;
+  changes = 5 ∷ 14 ∷ [];
+  parts = record { flow = 311; cruise = 23; whole = 519 } ∷ [];
+} ∷ record {
+  entry = 151;
+  saturation = 907;
+  offset = 13;
+  changes = 5 ∷ 14 ∷ [];
+  parts = record { flow = 77; cruise = 61; whole = 408 } ∷ [];
+} ∷ []
 
 -- edits of it, each with its work; that of the first cruise time leaves the travel at three steps
 abbrev pub worked_edits : List (Edit × ℕ)

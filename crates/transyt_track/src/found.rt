@@ -1,6 +1,6 @@
-//! What an edit would make.
+//! The network that an edit would give, as far as it was looked at.
 
-/// What was found of a network with an edit made.
+/// Found of a network with an edit made: its index, and how many pairs were due.
 #[derive(Clone, Copy, Debug, PartialEq, Eq)]
 pub struct Found {
     /// The index of the network then.

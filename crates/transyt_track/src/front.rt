@@ -36,7 +36,7 @@ fn differ(one: &[u64], other: &[u64]) -> bool
     bits != 0
 }
 
-/// A link has had its turn: its flag stays up only for its own data, and where what leaves it differs the flags of its
+/// A link has had its turn: its flag stays up only for its own data, and where its departures differ the flags of its
 /// readers go up.
 fn pass_on(
     link: usize,
@@ -61,7 +61,7 @@ fn pass_on(
     }
 }
 
-/// Whether what can go of a link may differ: its own data do, or it gives way to another link.
+/// Whether a link's GO may differ: its own data do, or it gives way to another link.
 fn go_may_differ(net: &Net, own_changed: &[bool], link: usize) -> bool
     requires link { link < length net.now.links }
     requires count { length own_changed.now ≡ length net.now.links }

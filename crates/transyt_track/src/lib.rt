@@ -25,13 +25,6 @@ mod starting;
 mod tracker;
 
 pub use found::Found;
-pub use laws::{
-    rule_of_due, worked_awaiting, worked_back, worked_flags, worked_fronts, worked_going,
-    worked_marks, worked_own, worked_places, worked_readers, worked_same, worked_starts,
-    worked_tracking, worked_weighed, worked_work,
-};
+pub use laws::{rule_of_due, worked_own, worked_work};
 pub use size::MOST_BYTES;
 pub use tracker::Tracker;
-
-#[cfg(test)]
-mod tests;

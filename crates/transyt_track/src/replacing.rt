@@ -1,4 +1,4 @@
-//! The writes of rows. Each saves the row that it writes over, so what the saved rows lead back to stays.
+//! The writes of rows. Each saves the row that it writes over, so the rows that the saved rows lead back to stay.
 
 ghost use Rattle.std.specs.Prelude.{◌≡◌, ◌<◌, ◌≤◌, false, length};
 ghost use Rattle.transyt_net.specs.Shape.{SameShape};
@@ -14,7 +14,7 @@ use transyt_net::Net;
 use transyt_saved::Saved;
 use transyt_sweep::{Rows, Scratch};
 
-/// What leaves a link at a sweep becomes what was worked out, where it differs.
+/// Writes a link's departures at a sweep from a scratch, where they differ.
 fn place_out(
     sweep: u32,
     link: usize,
@@ -36,8 +36,7 @@ fn place_out(
     }
 }
 
-/// The rest of a link at the last sweep becomes what was worked out: what comes, its queue and its figures, and what can
-/// go where it may differ.
+/// Writes the rest of a link at the last sweep from a scratch: arrivals, queue and figures, and GO where it may differ.
 fn place_shown(
     link: usize,
     may_differ: bool,
@@ -59,8 +58,8 @@ fn place_shown(
     }
 }
 
-/// A link at a sweep becomes what was worked out, at the last sweep all of it. `out_differs` tells whether what leaves
-/// differs, `go_differs` whether what can go may.
+/// Writes a link at a sweep from a scratch, at the last sweep all of it. `out_differs` tells whether its departures
+/// differ, `go_differs` whether its GO may.
 pub(crate) fn place(
     net: &Net,
     sweep: u32,

@@ -1,4 +1,4 @@
-//! How all rows become what was saved, or a copy.
+//! All rows go back to saved ones, or become a copy.
 
 ghost use Rattle.std.specs.Prelude.{◌≡◌, ◌<◌, ◌≤◌, false, true, length, IsTrue};
 ghost use Rattle.transyt_net.specs.Shape.{SameShape};
@@ -58,8 +58,8 @@ fn copy_pair(net: &Net, sweep: u32, link: usize, from: &Rows, rows: &mut Rows)
     rows.take_pair(sweep, link, from);
 }
 
-/// The rows of an evaluation of the marked network become those of an evaluation of the network after it: what was saved
-/// since the mark tells which rows changed, and no other is copied.
+/// The rows of an evaluation of the marked network become those of an evaluation of the network after it: the flags raised
+/// since the mark tell which rows changed, and no other is copied.
 pub(crate) fn copy_changes(marked: &Net, net: &Net, from: &Rows, saved: &Saved, rows: &mut Rows)
     requires shape { SameShape marked.now net.now }
     requires from { AreEvaluation net.now from.now }

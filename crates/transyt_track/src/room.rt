@@ -1,4 +1,4 @@
-//! What a tracker works with beside its networks and its rows.
+//! A tracker's room, beside its networks and its rows.
 
 ghost use Rattle.std.specs.Prelude.{◌≡◌, false, length, IfOk};
 ghost use Rattle.transyt_sweep.specs.Rows.{Fits};
@@ -12,8 +12,8 @@ use transyt_net::Net;
 use transyt_saved::Saved;
 use transyt_sweep::Scratch;
 
-/// What a tracker works with: where what each link reads stands, the links that read each, room for saved rows, two
-/// flags for each link, and room for the work on one.
+/// A tracker's room: for each link the places that it reads, the links that read it and two flags; room for saved rows,
+/// and for the work on one link.
 #[derive(Drop)]
 pub(crate) struct Room {
     pub(crate) saved: Saved,
@@ -24,7 +24,7 @@ pub(crate) struct Room {
     pub(crate) scratch: Scratch,
 }
 
-/// Where what each link reads stands, and the links that read each.
+/// For each link the places that it reads, and the links that read it.
 fn read(alloc: Global, net: &Net) -> Result<(Vec<Places>, Vec<Readers>), AllocError>
     ensures places { IfOk result (λ read. read.0.items ≡ all_places net.now) }
     ensures readers { IfOk result (λ read. AreReaders net.now read.1.items) }

@@ -24,17 +24,17 @@ const PROFILE: usize = STEPS * size_of::<u64>();
 const ROW: usize = PROFILE + size_of::<Vec<u64>>();
 // the arrivals, green, queue and figures of each link at the last sweep
 const SHOWN: usize = LINKS * (3 * ROW + size_of::<Figures>());
-// what leaves each link at each sweep, in one piece of memory, and the rest of the last
+// the departures of each link at each sweep, in one piece of memory, and the rest of the last
 const ROWS: usize = PAIRS * PROFILE + SHOWN;
-// the flags of saved rows: one of what leaves for each pair, and of each link one of what comes and one of what can go
+// the flags of saved rows: one for the departures of each pair, and for each link one for its arrivals and one for its GO
 const FLAGS: usize = (PAIRS + 2 * LINKS) * size_of::<bool>();
-// the saved rows, in which what leaves takes half the memory, and their flags
+// the saved rows, in which departures take half the memory, and their flags
 const SAVED: usize = PAIRS * STEPS * size_of::<u32>() + SHOWN + FLAGS;
 // the places of each link's node, feeders and rule
 const PLACES: usize = LINKS * (size_of::<Places>() + FEEDS * size_of::<usize>());
-// the readers of each link: what links read, nine at most each, in room that doubles as it fills and is four at least
+// the readers of each link: each link reads nine at most, and room doubles as it fills and is four at least
 const READERS: usize = LINKS * (size_of::<Readers>() + (2 * (FEEDS + 1) + 4) * size_of::<usize>());
-// two flags for each link, the room for one link's work, and what was worked out last of each feed's numbers
+// two flags for each link, the room for one link's work, and the numbers worked out last for each feed
 const ROOM: usize = 2 * LINKS * size_of::<bool>() + 13 * PROFILE + LINKS * FACTOR_BYTES;
 
 /// The most bytes that a tracker takes beside its two networks, at the limits of a network: 1,000 links of eight feeds,
@@ -49,3 +49,5 @@ pub const MOST_BYTES: usize = size_of::<Rows>()
     + ROOM;
 
 const _: () = prove!(MOST_BYTES <= 20_200_000);
+
+const _: () = prove!(MOST_BYTES > 20_100_000);

@@ -43,7 +43,7 @@ fn flag_nodes(before: &Net, after: &Net, node_changed: &mut [bool])
     }
 }
 
-/// Starts a link anew where what leaves it before the first sweep differs.
+/// Starts a link anew where its departures before the first sweep differ.
 fn start_link(
     before: &Net,
     after: &Net,

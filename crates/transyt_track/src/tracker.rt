@@ -44,7 +44,7 @@ pub struct Tracker {
     saved: Saved,
     // a flag for each link, set by `follow`: its own data differ
     own_changed: Vec<bool>,
-    // and: it is due at its next turn for what is known
+    // and: it is known to be due at its next turn
     awaited: Vec<bool>,
     scratch: Scratch,
 }
@@ -92,8 +92,15 @@ impl Tracker {
         requires { AreEvaluation net.now rows }
         ensures { IfOk result (λ tracker. tracker ≡ unmarked net.now) }
     {
-        let room = Room::open(alloc, net)?;
-        let nets = Tracker::copies(alloc, net)?;
+        let Ok(room) = Room::open(alloc, net) else {
+            drop(rows);
+            return Err(AllocError);
+        };
+        let Ok(nets) = Tracker::copies(alloc, net) else {
+            drop(rows);
+            drop(room);
+            return Err(AllocError);
+        };
         Ok(Tracker::of_parts(nets.0, nets.1, rows, room))
     }
 
@@ -140,7 +147,7 @@ impl Tracker {
         self.saved.is_live()
     }
 
-    /// What leaves a link at a sweep, in millionths of a vehicle per step.
+    /// The departures of a link at a sweep, in millionths of a vehicle per step.
     pub fn out(&self, sweep: u32, link: usize) -> &[u64]
         requires sweep { sweep ≤ self.now.net.frame.sweeps }
         requires link { link < length self.now.net.links }
@@ -149,7 +156,7 @@ impl Tracker {
         self.rows.out(sweep, link)
     }
 
-    /// What comes to a link at the last sweep, before any cut, in millionths of a vehicle per step.
+    /// The arrivals of a link at the last sweep, before any cut, in millionths of a vehicle per step.
     pub fn arrivals(&self, link: usize) -> &[u64]
         requires { link < length self.now.net.links }
         ensures { result.now ≡ (evaluated self.now.net link).arrivals }
@@ -157,7 +164,7 @@ impl Tracker {
         self.rows.arrivals(link)
     }
 
-    /// What can go of a link at the last sweep, in millionths of a vehicle per step.
+    /// The GO of a link at the last sweep, in millionths of a vehicle per step.
     pub fn go(&self, link: usize) -> &[u64]
         requires { link < length self.now.net.links }
         ensures { result.now ≡ (evaluated self.now.net link).go }
@@ -251,7 +258,7 @@ impl Tracker {
     }
 
     /// Follows an allowed edit to `after`, the network with it made, where the index is below a bound then, and else
-    /// stays as it was. Returns what it found there.
+    /// stays as it was. Returns the index there, and how many pairs were due.
     ///
     /// Each pair that is due is worked out once, in one step, and no other is. No network is copied. It takes no memory.
     #[tactic(auto, using(crate::proofs::DueBounds::due_most))]

@@ -4,9 +4,9 @@ use Rattle.transyt_track.proofs.tracker.Tracker.around.Goals as goal
 
 pub of_parts-requires : goal.of_parts-requires
 of_parts-requires c =
-    let room = c.in_ok-room.room in
-    let say = c.in_ok-room.ensures in
-    rw c.in_ok-nets.ensures.first (opened_tracks c.args.net.now c.in_ok-nets.nets.1 c.args.rows room.saved
+    let room = c.in-Ok.room in
+    let say = c.in-Ok.ensures in
+    rw c.in-Ok-copies.ensures.first (opened_tracks c.args.net.now c.in-Ok-copies.nets.1 c.args.rows room.saved
     room.places.items room.readers.items room.own_changed.items room.awaited.items room.scratch
-    c.in_ok-nets.ensures.second c.requires say.live say.fits say.links say.places say.readers say.own_count say.count
+    c.in-Ok-copies.ensures.second c.requires say.live say.fits say.links say.places say.readers say.own_count say.count
     say.steps)
