@@ -3,7 +3,7 @@ use Rattle.std.proofs.Common.{◌≡◌, [], ◌∷◌, codes, map, refl}
 use Rattle.std.specs.Fmt.{digits}
 use Rattle.transyt_text.specs.Forms.{filled, form_line}
 use Rattle.transyt_plot.specs.Plot.{field, step_line, scale_line, plot_of, three_digits}
-use Rattle.transyt_plot.specs.WorkedPlots.{three_steps, two_steps, one_step, unit_step, open_step}
+use Rattle.transyt_plot.specs.WorkedPlots.{three_steps, one_step, open_step}
 
 -- steps in three digits
 pub three_digits_are : map three_digits (117 ∷ 99 ∷ 100 ∷ []) ≡ codes "117" ∷ codes "099" ∷ codes "100" ∷ []
@@ -14,20 +14,10 @@ pub three_are : plot_of 8 (558201 ∷ 468920 ∷ 1563415 ∷ []) (2776388 ∷ 27
 unfolding field step_line scale_line form_line filled digits
 three_are = refl
 
--- two steps at red, where most comes
-pub two_are : plot_of 4 (1245980 ∷ 1098059 ∷ []) (0 ∷ 0 ∷ []) (0 ∷ 0 ∷ []) ≡ two_steps
-unfolding field step_line scale_line form_line filled digits
-two_are = refl
-
 -- a step of nothing
 pub one_is : plot_of 1 (0 ∷ []) (0 ∷ []) (0 ∷ []) ≡ one_step
 unfolding field step_line scale_line form_line filled digits
 one_is = refl
-
--- a step of a single unit
-pub unit_is : plot_of 2 (1 ∷ []) (0 ∷ []) (1 ∷ []) ≡ unit_step
-unfolding field step_line scale_line form_line filled digits
-unit_is = refl
 
 -- a step in which more can go than comes or leaves
 pub open_is : plot_of 5 (2 ∷ []) (8 ∷ []) (5 ∷ []) ≡ open_step

@@ -9,51 +9,24 @@ ended lines = flat_map (λ line. line ++ 10 ∷ []) lines
 abbrev pub three_steps : List ℕ
 three_steps =
     ended
-    (
-    codes "PLOT 8 SCALE 2776388"
+    (codes "PLOT 8 SCALE 2776388"
     ∷ codes "000 IIII................|GGGGGGGGGGGGGGGGGGGG|OOOOOOOOOOOOOOOOOOOO"
     ∷ codes "001 III.................|GGGGGGGGGGGGGGGGGGGG|OOOOOOOOOOOOOOOOOOO."
     ∷ codes "002 IIIIIIIIIII.........|....................|...................."
-    ∷ []
-    )
-
--- two steps at red, where most comes
-abbrev pub two_steps : List ℕ
-two_steps =
-    ended
-    (
-    codes "PLOT 4 SCALE 1245980"
-    ∷ codes "000 IIIIIIIIIIIIIIIIIIII|....................|...................."
-    ∷ codes "001 IIIIIIIIIIIIIIIII...|....................|...................."
-    ∷ []
-    )
+    ∷ [])
 
 -- a step of nothing
 abbrev pub one_step : List ℕ
 one_step =
     ended
-    (
-    codes "PLOT 1 SCALE 0"
+    (codes "PLOT 1 SCALE 0"
     ∷ codes "000 ....................|....................|...................."
-    ∷ []
-    )
-
--- a step of a single unit, which is the scale
-abbrev pub unit_step : List ℕ
-unit_step =
-    ended
-    (
-    codes "PLOT 2 SCALE 1"
-    ∷ codes "000 IIIIIIIIIIIIIIIIIIII|....................|OOOOOOOOOOOOOOOOOOOO"
-    ∷ []
-    )
+    ∷ [])
 
 -- a step in which more can go than comes or leaves
 abbrev pub open_step : List ℕ
 open_step =
     ended
-    (
-    codes "PLOT 5 SCALE 8"
+    (codes "PLOT 5 SCALE 8"
     ∷ codes "000 IIIII...............|GGGGGGGGGGGGGGGGGGGG|OOOOOOOOOOOO........"
-    ∷ []
-    )
+    ∷ [])

@@ -3,19 +3,15 @@ ghost use Rattle.std.specs.Prelude.{◌≡◌, ◌∷◌, [], codes, map, slice_
 ghost use Rattle.transyt_stage.specs.ThreeJunctions.{three_junctions};
 ghost use Rattle.transyt_sweep.specs.WorkedLinks.{arrivals_of_three, gos_of_three, outs_of_three};
 ghost use Rattle.transyt_plot.specs.Plot.{plot_of, plot_text, three_digits};
-ghost use Rattle.transyt_plot.specs.WorkedPlots.{three_steps, two_steps, one_step, unit_step, open_step};
+ghost use Rattle.transyt_plot.specs.WorkedPlots.{three_steps, one_step, open_step};
 
 /// The plots that are written beside the definitions, worked out apart, come out of them.
-#[tactic(auto, using(crate::proofs::Worked::three_digits_are, crate::proofs::Worked::three_are, crate::proofs::Worked::two_are, crate::proofs::Worked::one_is, crate::proofs::Worked::unit_is, crate::proofs::Worked::open_is))]
+#[tactic(auto, using(crate::proofs::Worked::three_digits_are, crate::proofs::Worked::three_are, crate::proofs::Worked::one_is, crate::proofs::Worked::open_is))]
 pub fn worked_plots()
     ensures digits { map three_digits (117 ∷ 99 ∷ 100 ∷ []) ≡ codes "117" ∷ codes "099" ∷ codes "100" ∷ [] }
     ensures three { plot_of 8 (558201 ∷ 468920 ∷ 1563415 ∷ []) (2776388 ∷ 2776388 ∷ 0 ∷ []) (2776388 ∷ 2776379 ∷ 0 ∷ [])
         ≡ three_steps }
-    ensures two { plot_of 4 (1245980 ∷ 1098059 ∷ []) (0 ∷ 0 ∷ []) (0 ∷ 0 ∷ [])
-        ≡ two_steps }
-    ensures one { plot_of 1 (0 ∷ []) (0 ∷ []) (0 ∷ [])
-        ≡ one_step }
-    ensures unit { plot_of 2 (1 ∷ []) (0 ∷ []) (1 ∷ []) ≡ unit_step }
+    ensures one { plot_of 1 (0 ∷ []) (0 ∷ []) (0 ∷ []) ≡ one_step }
     ensures open { plot_of 5 (2 ∷ []) (8 ∷ []) (5 ∷ []) ≡ open_step }
 {}
 

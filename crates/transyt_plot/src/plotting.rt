@@ -3,7 +3,7 @@ ghost use Rattle.std.specs.Prelude.{◌≡◌, ◌≤◌, ◌<◌, length, flat_
 ghost use Rattle.std.specs.List.{range_with_len};
 ghost use Rattle.transyt_net.specs.Parts.{link_of};
 ghost use Rattle.transyt_sweep.specs.Sweeps.{evaluated};
-ghost use Rattle.transyt_text.specs.Prints.{Prints};
+ghost use Rattle.transyt_text.specs.Prints.{PrintsOn};
 ghost use Rattle.transyt_plot.specs.Plot.{greatest, step_line, scale_line, step_lines, plot_of, plot_text};
 
 use crate::field::{greatest, set_step};
@@ -36,9 +36,8 @@ fn print_step<K: Sink>(
     requires arrivals { step < length arrivals.now }
     requires go { step < length go.now }
     requires out { step < length out.now }
-    ensures { Prints (K.written sink.old) (K.written sink.new) (K.faults sink.old)
-        (K.faults sink.new) result (step_line scale step (slice_index arrivals.now step)
-        (slice_index go.now step) (slice_index out.now step)) }
+    ensures { PrintsOn K.written K.faults sink.old sink.new result
+        (step_line scale step (slice_index arrivals.now step) (slice_index go.now step) (slice_index out.now step)) }
 {
     set_step(
         scale,
@@ -63,9 +62,8 @@ fn print_steps<K: Sink>(
     requires few { length arrivals.now < 1000 }
     requires go { length go.now ≡ length arrivals.now }
     requires out { length out.now ≡ length arrivals.now }
-    ensures { Prints (K.written sink.old) (K.written sink.new) (K.faults sink.old)
-        (K.faults sink.new) result (flat_map (step_lines scale arrivals.now go.now out.now)
-        (range_with_len 0 (length arrivals.now))) }
+    ensures { PrintsOn K.written K.faults sink.old sink.new result
+        (flat_map (step_lines scale arrivals.now go.now out.now) (range_with_len 0 (length arrivals.now))) }
 {
     for step in 0..arrivals.len() {
         print_step(scale, step, arrivals, go, out, line, sink)?;
@@ -81,8 +79,7 @@ fn print_scale<K: Sink>(
     line: &mut LineBuffer,
     sink: &mut K,
 ) -> Result<(), Failed>
-    ensures { Prints (K.written sink.old) (K.written sink.new) (K.faults sink.old)
-        (K.faults sink.new) result (scale_line number scale) }
+    ensures { PrintsOn K.written K.faults sink.old sink.new result (scale_line number scale) }
 {
     let numbers = [u128::from(number), u128::from(scale)];
     print_form(b"PLOT # SCALE #", &numbers, line, sink)
@@ -101,8 +98,8 @@ fn print_plot<K: Sink>(
     requires few { length arrivals.now < 1000 }
     requires go { length go.now ≡ length arrivals.now }
     requires out { length out.now ≡ length arrivals.now }
-    ensures { Prints (K.written sink.old) (K.written sink.new) (K.faults sink.old)
-        (K.faults sink.new) result (plot_of number arrivals.now go.now out.now) }
+    ensures { PrintsOn K.written K.faults sink.old sink.new result
+        (plot_of number arrivals.now go.now out.now) }
 {
     let scale = greatest(greatest(greatest(0, arrivals), go), out);
     print_scale(number, scale, line, sink)?;
@@ -121,8 +118,8 @@ pub fn plot<K: Sink>(
     sink: &mut K,
 ) -> Result<(), Failed>
     requires { link < length session.now.net.links }
-    ensures { Prints (K.written sink.old) (K.written sink.new) (K.faults sink.old)
-        (K.faults sink.new) result (plot_text session.now.net link) }
+    ensures { PrintsOn K.written K.faults sink.old sink.new result
+        (plot_text session.now.net link) }
 {
     print_plot(
         number_at(session.net(), link),

@@ -5,7 +5,7 @@ ghost use Rattle.transyt_sweep.specs.Sweeps.{evaluated};
 
 use transyt_session::Session;
 
-/// What comes to the link at a place, before any cut.
+/// The arrivals of the link at a place, before any cut.
 pub fn arrivals(session: &Session, link: usize) -> &[u64]
     requires { link < length session.now.net.links }
     ensures value { result.now ≡ (evaluated session.now.net link).arrivals }
@@ -16,7 +16,7 @@ pub fn arrivals(session: &Session, link: usize) -> &[u64]
     session.arrivals(link)
 }
 
-/// What can go of the link at a place.
+/// The GO of the link at a place.
 pub fn go(session: &Session, link: usize) -> &[u64]
     requires { link < length session.now.net.links }
     ensures value { result.now ≡ (evaluated session.now.net link).go }
@@ -27,7 +27,7 @@ pub fn go(session: &Session, link: usize) -> &[u64]
     session.go(link)
 }
 
-/// What leaves the link at a place.
+/// The departures of the link at a place.
 pub fn out(session: &Session, link: usize) -> &[u64]
     requires { link < length session.now.net.links }
     ensures value { result.now ≡ (evaluated session.now.net link).out }

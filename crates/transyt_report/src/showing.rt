@@ -2,7 +2,7 @@
 ghost use Rattle.std.specs.Prelude.{◌≡◌, ◌<◌, length, flat_map};
 ghost use Rattle.std.specs.List.{range_with_len};
 ghost use Rattle.transyt_net.specs.Parts.{link_of};
-ghost use Rattle.transyt_text.specs.Prints.{Prints};
+ghost use Rattle.transyt_text.specs.Prints.{PrintsOn};
 ghost use Rattle.transyt_sweep.specs.Sweeps.{index};
 ghost use Rattle.transyt_report.specs.Texts.{index_line, figures_line, link_line, links_text, timing_text, in_line, go_line, out_line, queue_line};
 ghost use Rattle.transyt_report.specs.Texts.{profile_text, work_line, report_text, IsOfPlace};
@@ -15,7 +15,7 @@ use transyt_net::Net;
 use transyt_session::Session;
 use transyt_text::{print_form, print_values};
 
-/// What is session. A link is a place in card order, from 0.
+/// A report of the session. A link is named by its place in card order, from 0.
 #[derive(Clone, Copy, Debug, PartialEq, Eq)]
 pub enum Report {
     /// The index of the network.
@@ -24,7 +24,7 @@ pub enum Report {
     Links,
     /// The plans of the nodes.
     Timing,
-    /// What comes, what can go and what leaves, step by step.
+    /// Arrivals, GO and departures of a link, step by step.
     Profile { link: usize },
     /// The queue at the end of each step.
     Queue { link: usize },
@@ -48,8 +48,8 @@ fn print_index<K: Sink>(
     line: &mut LineBuffer,
     sink: &mut K,
 ) -> Result<(), Failed>
-    ensures { Prints (K.written sink.old) (K.written sink.new) (K.faults sink.old)
-        (K.faults sink.new) result (index_line (index session.now.net)) }
+    ensures { PrintsOn K.written K.faults sink.old sink.new result
+        (index_line (index session.now.net)) }
 {
     print_form(b"INDEX #", &[session.index()], line, sink)
 }
@@ -62,8 +62,7 @@ fn print_figures<K: Sink>(
     line: &mut LineBuffer,
     sink: &mut K,
 ) -> Result<(), Failed>
-    ensures { Prints (K.written sink.old) (K.written sink.new) (K.faults sink.old)
-        (K.faults sink.new) result (figures_line number figures) }
+    ensures { PrintsOn K.written K.faults sink.old sink.new result (figures_line number figures) }
 {
     let numbers = [
         u128::from(number),
@@ -88,8 +87,8 @@ fn print_link<K: Sink>(
     sink: &mut K,
 ) -> Result<(), Failed>
     requires { link < length session.now.net.links }
-    ensures { Prints (K.written sink.old) (K.written sink.new) (K.faults sink.old)
-        (K.faults sink.new) result (link_line session.now.net link) }
+    ensures { PrintsOn K.written K.faults sink.old sink.new result
+        (link_line session.now.net link) }
 {
     print_figures(
         number_at(session.net(), link),
@@ -101,8 +100,7 @@ fn print_link<K: Sink>(
 
 /// Writes the line of each link.
 fn print_each<K: Sink>(session: &Session, line: &mut LineBuffer, sink: &mut K) -> Result<(), Failed>
-    ensures { Prints (K.written sink.old) (K.written sink.new) (K.faults sink.old)
-        (K.faults sink.new) result
+    ensures { PrintsOn K.written K.faults sink.old sink.new result
         (flat_map (link_line session.now.net) (range_with_len 0 (length session.now.net.links))) }
 {
     let net = session.net();
@@ -118,8 +116,7 @@ fn print_links<K: Sink>(
     line: &mut LineBuffer,
     sink: &mut K,
 ) -> Result<(), Failed>
-    ensures { Prints (K.written sink.old) (K.written sink.new) (K.faults sink.old)
-        (K.faults sink.new) result (links_text session.now.net) }
+    ensures { PrintsOn K.written K.faults sink.old sink.new result (links_text session.now.net) }
 {
     print_each(session, line, sink)?;
     print_index(session, line, sink)
@@ -134,8 +131,7 @@ fn print_in<K: Sink>(
     sink: &mut K,
 ) -> Result<(), Failed>
     requires { link < length session.now.net.links }
-    ensures { Prints (K.written sink.old) (K.written sink.new) (K.faults sink.old)
-        (K.faults sink.new) result (in_line session.now.net link) }
+    ensures { PrintsOn K.written K.faults sink.old sink.new result (in_line session.now.net link) }
 {
     let number = [u128::from(number_at(session.net(), link))];
     print_values(b"IN #", &number, arrivals(session, link), line, sink)
@@ -150,8 +146,7 @@ fn print_go<K: Sink>(
     sink: &mut K,
 ) -> Result<(), Failed>
     requires { link < length session.now.net.links }
-    ensures { Prints (K.written sink.old) (K.written sink.new) (K.faults sink.old)
-        (K.faults sink.new) result (go_line session.now.net link) }
+    ensures { PrintsOn K.written K.faults sink.old sink.new result (go_line session.now.net link) }
 {
     let number = [u128::from(number_at(session.net(), link))];
     print_values(b"GO #", &number, go(session, link), line, sink)
@@ -166,8 +161,7 @@ fn print_out<K: Sink>(
     sink: &mut K,
 ) -> Result<(), Failed>
     requires { link < length session.now.net.links }
-    ensures { Prints (K.written sink.old) (K.written sink.new) (K.faults sink.old)
-        (K.faults sink.new) result (out_line session.now.net link) }
+    ensures { PrintsOn K.written K.faults sink.old sink.new result (out_line session.now.net link) }
 {
     let number = [u128::from(number_at(session.net(), link))];
     print_values(b"OUT #", &number, out(session, link), line, sink)
@@ -182,8 +176,8 @@ fn print_queue<K: Sink>(
     sink: &mut K,
 ) -> Result<(), Failed>
     requires { link < length session.now.net.links }
-    ensures { Prints (K.written sink.old) (K.written sink.new) (K.faults sink.old)
-        (K.faults sink.new) result (queue_line session.now.net link) }
+    ensures { PrintsOn K.written K.faults sink.old sink.new result
+        (queue_line session.now.net link) }
 {
     let number = [u128::from(number_at(session.net(), link))];
     print_values(b"QUEUE #", &number, queue(session, link), line, sink)
@@ -198,8 +192,8 @@ fn print_profile<K: Sink>(
     sink: &mut K,
 ) -> Result<(), Failed>
     requires { link < length session.now.net.links }
-    ensures { Prints (K.written sink.old) (K.written sink.new) (K.faults sink.old)
-        (K.faults sink.new) result (profile_text session.now.net link) }
+    ensures { PrintsOn K.written K.faults sink.old sink.new result
+        (profile_text session.now.net link) }
 {
     print_in(session, link, line, sink)?;
     print_go(session, link, line, sink)?;
@@ -209,8 +203,7 @@ fn print_profile<K: Sink>(
 /// Writes WORK.
 #[tactic(auto, unfolding(crate::specs::Texts::work_line))]
 fn print_work<K: Sink>(session: &Session, line: &mut LineBuffer, sink: &mut K) -> Result<(), Failed>
-    ensures { Prints (K.written sink.old) (K.written sink.new) (K.faults sink.old)
-        (K.faults sink.new) result (work_line session.now.work) }
+    ensures { PrintsOn K.written K.faults sink.old sink.new result (work_line session.now.work) }
 {
     print_form(b"WORK #", &[u128::from(session.work())], line, sink)
 }
@@ -221,8 +214,7 @@ fn print_plans<K: Sink>(
     line: &mut LineBuffer,
     sink: &mut K,
 ) -> Result<(), Failed>
-    ensures { Prints (K.written sink.old) (K.written sink.new) (K.faults sink.old)
-        (K.faults sink.new) result (timing_text session.now.net) }
+    ensures { PrintsOn K.written K.faults sink.old sink.new result (timing_text session.now.net) }
 {
     print_timing(session.net(), line, sink)
 }
@@ -239,8 +231,8 @@ pub fn show<K: Sink>(
     sink: &mut K,
 ) -> Result<(), Failed>
     requires { IsOfPlace session.now.net what }
-    ensures { Prints (K.written sink.old) (K.written sink.new) (K.faults sink.old)
-        (K.faults sink.new) result (report_text session.now.net session.now.work what) }
+    ensures { PrintsOn K.written K.faults sink.old sink.new result
+        (report_text session.now.net session.now.work what) }
 {
     match what {
         Report::Index => print_index(session, line, sink),

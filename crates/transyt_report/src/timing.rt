@@ -2,7 +2,7 @@
 ghost use Rattle.std.specs.Prelude.{◌≡◌, ◌<◌, ◌≤◌, ◌+◌, ◌%◌, length, flat_map};
 ghost use Rattle.std.specs.List.{range_with_len};
 ghost use Rattle.transyt_net.specs.Parts.{node_of};
-ghost use Rattle.transyt_text.specs.Prints.{Prints};
+ghost use Rattle.transyt_text.specs.Prints.{PrintsOn};
 ghost use Rattle.transyt_report.specs.Texts.{stage_line, node_line, node_text, node_text_at, timing_end, timing_text};
 
 use transyt_io::{Failed, LineBuffer, Sink};
@@ -40,8 +40,8 @@ fn print_stage<K: Sink>(
     requires steps { 0 < steps }
     requires place { place < length node.now.stages }
     requires few { length node.now.stages ≤ 8 }
-    ensures { Prints (K.written sink.old) (K.written sink.new) (K.faults sink.old)
-        (K.faults sink.new) result (stage_line steps node.now place) }
+    ensures { PrintsOn K.written K.faults sink.old sink.new result
+        (stage_line steps node.now place) }
 {
     let stage = node.stages[place];
     let number = place as u32 + 1;
@@ -69,8 +69,7 @@ fn print_stages<K: Sink>(
 ) -> Result<(), Failed>
     requires steps { 0 < steps }
     requires few { length node.now.stages ≤ 8 }
-    ensures { Prints (K.written sink.old) (K.written sink.new) (K.faults sink.old)
-        (K.faults sink.new) result
+    ensures { PrintsOn K.written K.faults sink.old sink.new result
         (flat_map (stage_line steps node.now) (range_with_len 0 (length node.now.stages))) }
 {
     for place in 0..node.stages.len() {
@@ -82,8 +81,7 @@ fn print_stages<K: Sink>(
 /// Writes the line of a node.
 #[tactic(auto, unfolding(crate::specs::Texts::node_line))]
 fn print_number<K: Sink>(node: &Node, line: &mut LineBuffer, sink: &mut K) -> Result<(), Failed>
-    ensures { Prints (K.written sink.old) (K.written sink.new) (K.faults sink.old)
-        (K.faults sink.new) result (node_line node.now) }
+    ensures { PrintsOn K.written K.faults sink.old sink.new result (node_line node.now) }
 {
     let numbers = [u128::from(node.number), u128::from(node.offset)];
     print_form(b"NODE # OFFSET #", &numbers, line, sink)
@@ -99,8 +97,7 @@ fn print_node<K: Sink>(
 ) -> Result<(), Failed>
     requires steps { 0 < steps }
     requires few { length node.now.stages ≤ 8 }
-    ensures { Prints (K.written sink.old) (K.written sink.new) (K.faults sink.old)
-        (K.faults sink.new) result (node_text steps node.now) }
+    ensures { PrintsOn K.written K.faults sink.old sink.new result (node_text steps node.now) }
 {
     print_number(node, line, sink)?;
     print_stages(steps, node, line, sink)
@@ -114,8 +111,7 @@ fn print_node_at<K: Sink>(
     sink: &mut K,
 ) -> Result<(), Failed>
     requires { place < length net.now.nodes }
-    ensures { Prints (K.written sink.old) (K.written sink.new) (K.faults sink.old)
-        (K.faults sink.new) result (node_text_at net.now place) }
+    ensures { PrintsOn K.written K.faults sink.old sink.new result (node_text_at net.now place) }
 {
     let frame = net.frame();
     print_node(frame.step_count, node_at(net, place), line, sink)
@@ -123,8 +119,7 @@ fn print_node_at<K: Sink>(
 
 /// Writes the lines of all nodes.
 fn print_nodes<K: Sink>(net: &Net, line: &mut LineBuffer, sink: &mut K) -> Result<(), Failed>
-    ensures { Prints (K.written sink.old) (K.written sink.new) (K.faults sink.old)
-        (K.faults sink.new) result
+    ensures { PrintsOn K.written K.faults sink.old sink.new result
         (flat_map (node_text_at net.now) (range_with_len 0 (length net.now.nodes))) }
 {
     for place in 0..net.nodes().len() {
@@ -136,8 +131,7 @@ fn print_nodes<K: Sink>(net: &Net, line: &mut LineBuffer, sink: &mut K) -> Resul
 /// Writes the last line.
 #[tactic(auto, unfolding(crate::specs::Texts::timing_end))]
 fn print_end<K: Sink>(line: &mut LineBuffer, sink: &mut K) -> Result<(), Failed>
-    ensures { Prints (K.written sink.old) (K.written sink.new) (K.faults sink.old)
-        (K.faults sink.new) result timing_end }
+    ensures { PrintsOn K.written K.faults sink.old sink.new result timing_end }
 {
     print_form(b"END TIMING", &[], line, sink)
 }
@@ -148,8 +142,7 @@ pub(crate) fn print_timing<K: Sink>(
     line: &mut LineBuffer,
     sink: &mut K,
 ) -> Result<(), Failed>
-    ensures { Prints (K.written sink.old) (K.written sink.new) (K.faults sink.old)
-        (K.faults sink.new) result (timing_text net.now) }
+    ensures { PrintsOn K.written K.faults sink.old sink.new result (timing_text net.now) }
 {
     print_nodes(net, line, sink)?;
     print_end(line, sink)

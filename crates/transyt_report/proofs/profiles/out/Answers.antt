@@ -1,4 +1,4 @@
--- What leaves at the last sweep is what leaves in the evaluation, with as many values as the cycle has steps.
+-- The departures at the last sweep are those of the evaluation, with as many values as the cycle has steps.
 use Rattle.std.proofs.Common.{◌≡◌, ◌≤◌, List, length, arith, ap, ◌∙◌}
 use Rattle.transyt_net.specs.Parts.{Network}
 use Rattle.transyt_sweep.specs.Sweeps.{evaluated}
