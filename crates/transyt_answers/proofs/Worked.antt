@@ -35,12 +35,7 @@ pub commands_reported : report (text_of (one_link ++ commands)) ≡ text_of answ
 unfolding accepted done_text refused_text queue_line node_line stage_line timing_end work_line form_line filled values_line values_text digits due due_through due_in differs evaluated seen out_of smoothed sum_back greatest
 commands_reported = refl
 
--- nothing is worked out without links
-pub steps_of_climb : costs_by deck_answering (no_link ++ climb_commands) ≡ 0
-unfolding climb move move_count tried_at lowers moved due due_through due_in
-steps_of_climb = refl
-
--- and nothing for a refused card
+-- a refused card has none
 pub steps_of_refused : costs_by deck_answering taken_number ≡ 0
 steps_of_refused = refl
 

@@ -21,9 +21,6 @@ use Rattle.transyt_answers.proofs.WorkedCommands.{index_after}
 abbrev HasNoFault : NodeValue → Type 0
 HasNoFault n = plan_fault 18 n.stages ≡ None
 
-pub are_planned : ArePlanned three_junctions
-are_planned = All-from_recursion HasNoFault three_junctions.nodes (refl, (refl, (refl, tt)))
-
 -- the second stage is too short: it has no more than a step up to the change of the first
 pub late : ArePlanned late_stage → ⊥
 late h =
@@ -47,10 +44,6 @@ abbrev offset_of : Edit → ℕ
 offset_of (Offset node offset) = offset
 offset_of e = 0
 
-other_place : IsLowering three_junctions (record first_step { place = 6 }) → ⊥
-unfolding move
-other_place h = let wrong : 8 ≡ 0 = ap offset_of h.edit_is in absurd (omega (arith, wrong))
-
 other_edit : IsLowering three_junctions (record first_step { edit = Offset 21 9 }) → ⊥
 unfolding move
 other_edit h = let wrong : 9 ≡ 8 = ap offset_of h.edit_is in absurd (omega (arith, wrong))
@@ -61,4 +54,4 @@ other_index h = let wrong : 554272111 ≡ 554272112 = h.index_is ∙ index_after
 pub none_is_lowering : All (λ (step : Step). IsLowering three_junctions step → ⊥) wrong_steps
 none_is_lowering =
     All-from_recursion (λ (step : Step). IsLowering three_junctions step → ⊥) wrong_steps
-    (other_place, (other_edit, (other_index, tt)))
+    (other_edit, (other_index, tt))

@@ -11,11 +11,10 @@ use Rattle.transyt_climb.specs.WorkedTurns.{idle}
 abbrev pub first_step : Step
 first_step = record { place = 0; edit = Offset 21 8; index = 554272112 }
 
--- another place than that of its edit, another edit than that of its place, and another index
+-- another edit than that of its place, and another index
 abbrev pub wrong_steps : List Step
 wrong_steps =
-    record first_step { place = 6 }
-    ∷ record first_step { edit = Offset 21 9 }
+    record first_step { edit = Offset 21 9 }
     ∷ record first_step { index = 554272111 }
     ∷ []
 

@@ -10,7 +10,7 @@ ghost use Rattle.transyt_net.specs.declared.edit.EditFault.{EditFault};
 ghost use Rattle.transyt_net.specs.Parts.{Network};
 ghost use Rattle.transyt_net.specs.Valid.{IsValid};
 ghost use Rattle.transyt_stage.specs.ThreeJunctions.{three_junctions};
-ghost use Rattle.transyt_sweep.specs.Climb.{climb, Step};
+ghost use Rattle.transyt_sweep.specs.Climb.{climb};
 ghost use Rattle.transyt_commands.specs.declared.command.Command.{Command};
 ghost use Rattle.transyt_session.specs.Session.{SessionValue, opened};
 ghost use Rattle.transyt_session.specs.WorkedSessions.{begun, in_trial, kept, taken_back};
@@ -45,7 +45,7 @@ pub fn steps_are_work()
 {}
 
 /// The worked reports come out as they are written beside the definitions, with their statuses and their steps.
-#[tactic(auto, using(crate::proofs::Worked::commands_reported, crate::proofs::Worked::climb_reported, crate::proofs::Worked::card_refused_at, crate::proofs::Worked::end_missing, crate::proofs::Worked::steps_of_commands, crate::proofs::Worked::steps_of_climb, crate::proofs::Worked::steps_of_refused))]
+#[tactic(auto, using(crate::proofs::Worked::commands_reported, crate::proofs::Worked::climb_reported, crate::proofs::Worked::card_refused_at, crate::proofs::Worked::end_missing, crate::proofs::Worked::steps_of_commands, crate::proofs::Worked::steps_of_refused))]
 pub fn worked_reports()
     ensures commands { report (text_of (one_link ++ commands)) ≡ text_of answers }
     ensures climb { report (text_of (no_link ++ climb_commands)) ≡ text_of climb_answers }
@@ -53,9 +53,7 @@ pub fn worked_reports()
     ensures no_end { report (text_of without_end) ≡ codes "CARD 4 REFUSED 21" ++ 10 ∷ [] }
     ensures done { status (text_of (one_link ++ commands)) ≡ Status.Done }
     ensures refused_status { status (text_of taken_number) ≡ Status.DeckRefused }
-    ensures no_end_status { status (text_of without_end) ≡ Status.DeckRefused }
     ensures steps { costs_by deck_answering (one_link ++ commands) ≡ 8 }
-    ensures no_steps { costs_by deck_answering (no_link ++ climb_commands) ≡ 0 }
     ensures refused_steps { costs_by deck_answering taken_number ≡ 0 }
 {}
 
@@ -88,12 +86,11 @@ pub fn worked_commands()
     ensures brief { climbed_line three_junctions some_climb ≡ climb_line }
 {}
 
-/// The first move of the three junctions is a step that lowers the index; with another place, edit or index it is none.
-/// Their nodes are planned, and a node whose second stage begins after the cycle's last step isn't.
-#[tactic(auto, using(crate::proofs::WorkedLowering::is_lowering, crate::proofs::WorkedLowering::none_is_lowering, crate::proofs::WorkedLowering::are_planned, crate::proofs::WorkedLowering::late))]
+/// The first move of the three junctions is a step that lowers the index; with another edit or index it is none.
+/// A node whose second stage begins after the cycle's last step isn't planned.
+#[tactic(auto, using(crate::proofs::WorkedLowering::is_lowering, crate::proofs::WorkedLowering::none_is_lowering, crate::proofs::WorkedLowering::late))]
 pub fn worked_lowering()
     ensures step { IsLowering three_junctions first_step }
     ensures wrong_steps { All (λ step. IsLowering three_junctions step → ⊥) wrong_steps }
-    ensures planned { ArePlanned three_junctions }
     ensures late { ArePlanned late_stage → ⊥ }
 {}
