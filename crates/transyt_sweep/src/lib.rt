@@ -35,6 +35,3 @@ pub use saved_rows::SavedRows;
 pub use scratch::{FACTOR_BYTES, Scratch};
 pub use whole::full;
 pub use working::cell;
-
-#[cfg(test)]
-mod tests;
