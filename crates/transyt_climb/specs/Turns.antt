@@ -20,7 +20,7 @@ pub record Counters : Type 0 where
   pub budget : ℕ
   pub count : ℕ
 
--- what the counters keep to
+-- the counters are in their bounds
 pub record AreCounters (c : Counters) : Type 0 where
   pub since : c.since ≤ c.count
   pub looked : c.looked ≤ c.budget
@@ -48,7 +48,7 @@ start_of net (Some plan) = Some (start_at plan.budget (move_count net))
 abbrev pub started : ℕ → SessionValue → Machine
 started budget s = machine (start_at budget (move_count s.net)) s
 
--- what one look does to the counters: after a step the same place is next, else the next one round the list
+-- the counters after one look: after a step the same place is next, else the next one round the list
 abbrev pub noted : Bool → Counters → Counters
 noted took c = record {
   place = if took then c.place else (c.place + 1) % c.count;
@@ -66,11 +66,11 @@ looked_at place s = lowered (move s.net place) s
 abbrev pub found_at : Network → ℕ → Option ℕ
 found_at net place = lower_index net (move net place)
 
--- what a look at a place answers
+-- the answer of a look at a place
 abbrev pub look_answer : Network → ℕ → Turn
 look_answer net place = if lowers net place then Took place (move net place) (index (moved net place)) else Passed
 
--- what a turn answers: an end, or what the look at the next place does
+-- the answer of a turn: an end, or that of the look at the next place
 abbrev pub answer_of : Machine → Turn
 answer_of m =
     if m.counters.since == m.counters.count then Local
@@ -92,12 +92,12 @@ after_answer Budget m = m
 abbrev pub turned : Machine → Machine
 turned m = after_answer (answer_of m) m
 
--- the state after so many turns
+-- the state after n turns
 abbrev pub turns : ℕ → Machine → Machine
 turns zero m = m
 turns (suc n) m = turns n (turned m)
 
--- what the first turns answer, in order
+-- the answers of the first n turns, in order
 abbrev pub answers : ℕ → Machine → List Turn
 answers zero m = []
 answers (suc n) m = answer_of m ∷ answers n (turned m)

@@ -1,4 +1,4 @@
--- A climb on its way: what is done, what is left, and what all of it is.
+-- A climb on its way: the steps done, the climb left, and the whole of it.
 use Rattle.std.specs.Prelude.{ℕ, ◌≡◌, ◌+◌, ◌-◌, ◌%◌, ◌<◌, ◌≤◌, Bool, false, List, ◌++◌, length, None}
 use Rattle.transyt_net.specs.Parts.{Network}
 use Rattle.transyt_moves.specs.Moves.{move_count}
@@ -52,7 +52,7 @@ pub record IsOver (whole : Climb) (work : ℕ) (done : List Step) (local : Bool)
   pub looks : length whole.looks ≡ m.counters.looked
   pub work_is : work + work_of whole.looks ≡ m.session.work
 
--- what n turns from a state came to is this climb
+-- n turns from a state came to this climb
 pub record AreClimb (c : Climb) (n : ℕ) (m : Machine) : Type 0 where
   pub steps : c.steps ≡ steps_in (answers n m)
   pub local : c.local ≡ is_local (answer_of (turns n m))

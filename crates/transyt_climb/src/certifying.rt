@@ -1,4 +1,4 @@
-//! A place of the certificate: what its move would make.
+//! A place of the certificate.
 
 ghost use Rattle.std.specs.Prelude.{◌≡◌, ℕ, ◌+◌, ◌^◌, ◌≤◌, ◌<◌, None};
 ghost use Rattle.transyt_moves.specs.Moves.{move, move_count};
@@ -11,7 +11,7 @@ use transyt_moves::move_at;
 use transyt_session::{Session, Tried};
 use transyt_steps::Steps;
 
-/// What the move at a place would make: its index, or that it isn't allowed. Its work is credited, and nothing else
+/// Tries the move at a place: finds its index, or that it isn't allowed. Its work is credited, and nothing else
 /// changes. It takes no memory.
 pub fn certify<L: Ledger>(session: &mut Session, place: u32, steps: &mut Steps<L>) -> Tried
     requires place { place < move_count session.old.net }

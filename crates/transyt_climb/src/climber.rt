@@ -88,7 +88,7 @@ impl Climber {
         self.count
     }
 
-    /// What one look does to the counters, where `took` tells whether its move was made.
+    /// Counts one look; `took` tells whether its move was made.
     pub fn note(&mut self, took: bool)
         requires since { self.old.since < self.old.count }
         requires looked { self.old.looked < self.old.budget }

@@ -6,7 +6,7 @@
 //! budget and the place after a step are this project's own.
 //!
 //! A contract sees a climber as its five counters, and climber and session together as a `Machine`: `answer_of` and
-//! `turned` of `specs/Turns` are a turn, and `turns` is so many. `IsUnderWay` and `IsOver` of `specs/Way` say how far a
+//! `turned` of `specs/Turns` are a turn, and `turns` is n of them. `IsUnderWay` and `IsOver` of `specs/Way` say how far a
 //! climb has come, and `rule_of_way` how they go on. The climb itself is `climb` of transyt_sweep, which knows no
 //! counters; `rule_of_turns` says that the turns are that climb.
 #![tactic(auto)]
@@ -23,6 +23,3 @@ pub use climbing::{Ended, climb_on};
 pub use laws::{rule_of_local, rule_of_turns, rule_of_way, worked_turns, worked_way};
 pub use transyt_moves::{move_at, move_count};
 pub use turn::Turn;
-
-#[cfg(test)]
-mod tests;

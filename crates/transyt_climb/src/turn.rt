@@ -1,11 +1,11 @@
-//! What a turn of a climber answers.
+//! The answer of a climber's turn.
 
 ghost use Rattle.std.specs.Prelude.{◌≡◌};
 ghost use Rattle.transyt_climb.specs.Turns.{is_end, is_local};
 
 use transyt_net::Edit;
 
-/// What a turn answers.
+/// The answer of a turn.
 #[derive(Clone, Copy, Debug, PartialEq, Eq)]
 pub enum Turn {
     /// The move at this place was made, as this edit, and lowered the index to this one.

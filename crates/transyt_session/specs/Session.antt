@@ -1,4 +1,4 @@
--- A session, and what each of its calls makes of it.
+-- A session, and the session after each of its calls.
 use Rattle.std.specs.Prelude.{ℕ, ◌+◌, Bool, Option, Some, None, is_some, if◌then◌else◌}
 use Rattle.transyt_net.specs.declared.edit.Edit.{Edit}
 use Rattle.transyt_net.specs.declared.edit.EditFault.{EditFault}
@@ -37,21 +37,21 @@ edited_net net e = net_with net e (edit_fault net e)
 abbrev pub edited : Edit → SessionValue → SessionValue
 edited e s = record { net = edited_net s.net e; before = s.before; work = s.work + edit_work s.net e }
 
--- what is answered to an edit, by its fault
+-- the answer to an edit, by its fault
 abbrev pub reply_with : Network → Edit → Option EditFault → Reply
 reply_with net e None = Done (due net (with_edit net e))
 reply_with net e (Some fault) = Refused fault
 
--- what is answered to an edit: its work, or its fault
+-- the answer to an edit: its work, or its fault
 abbrev pub reply_to : Network → Edit → Reply
 reply_to net e = reply_with net e (edit_fault net e)
 
--- what trying an edit finds, by its fault
+-- the answer to a try of an edit, by its fault
 abbrev pub tried_with : Network → Edit → Option EditFault → Tried
 tried_with net e None = Index (index (with_edit net e)) (due net (with_edit net e))
 tried_with net e (Some fault) = Barred
 
--- what trying an edit finds: the index with the edit made and the work of it, or that it isn't allowed
+-- the answer to a try of an edit: the index with the edit made and its work, or that it isn't allowed
 abbrev pub try_of : Network → Edit → Tried
 try_of net e = tried_with net e (edit_fault net e)
 
@@ -67,7 +67,7 @@ lowered e s = record {
   work = s.work + edit_work s.net e;
 }
 
--- what is answered to a look at an edit: the index with the edit made, where it is allowed and lowers it
+-- the answer to a look at an edit: the index with the edit made, where it is allowed and lowers it
 abbrev pub lower_index : Network → Edit → Option ℕ
 lower_index net e = if edit_lowers net e then Some (index (with_edit net e)) else None
 

@@ -30,7 +30,7 @@ taken_back = record { net = junctions; before = None; work = 11 }
 abbrev pub kept : SessionValue
 kept = record { net = shifted; before = None; work = 11 }
 
--- edits of the network, each with what is answered to it
+-- edits of the network, each with its answer
 abbrev pub worked_replies : List (Edit × Reply)
 worked_replies =
     (Offset 21 9, Done 6)

@@ -1,4 +1,4 @@
-//! What a session answers.
+//! The answers of a session.
 
 use transyt_net::EditFault;
 
@@ -11,7 +11,7 @@ pub enum Reply {
     Refused(EditFault),
 }
 
-/// What trying an edit finds.
+/// The answer to a try of an edit.
 #[derive(Clone, Copy, Debug, PartialEq, Eq)]
 pub enum Tried {
     /// It isn't allowed.

@@ -8,7 +8,7 @@ ghost use Rattle.transyt_session.specs.declared.answers.Tried.TheVariants.{Barre
 ghost use Rattle.transyt_session.specs.Session.{opened, edited, reply_to, try_of, trial_of, back_of, keep_of, credited, standing_for, trial_for, lowered, lower_index};
 ghost use Rattle.transyt_session.specs.WorkedSessions.{shifted, begun, in_trial, taken_back, kept, worked_replies};
 
-/// A worked session: what each call makes of it, and what is answered to edits.
+/// A worked session after each call, and the answers to edits.
 pub fn worked_session()
     ensures trial { edited (Offset 21 9) (trial_of begun) ≡ in_trial }
     ensures second_trial { trial_of in_trial ≡ in_trial }

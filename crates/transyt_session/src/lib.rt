@@ -15,6 +15,3 @@ mod session;
 pub use answers::{NoTrial, Reply, TrialOpen, Tried};
 pub use laws::worked_session;
 pub use session::Session;
-
-#[cfg(test)]
-mod tests;

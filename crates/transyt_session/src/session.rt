@@ -50,7 +50,10 @@ impl Session {
         ensures ok { OnOk result (steps.new ≡ steps.old + net.frame.sweeps * length net.links) }
         ensures err { OnErr result (steps.new ≤ steps.old + net.frame.sweeps * length net.links) }
     {
-        let tracker = Tracker::open(alloc, &net, steps)?;
+        let Ok(tracker) = Tracker::open(alloc, &net, steps) else {
+            drop(net);
+            return Err(AllocError);
+        };
         Ok(Session {
             net,
             tracker,
@@ -64,7 +67,10 @@ impl Session {
         ensures { IfOk result (λ s. s ≡ opened self.now.net) }
     {
         let net = self.net.copy(alloc)?;
-        let tracker = self.tracker.twin(alloc)?;
+        let Ok(tracker) = self.tracker.twin(alloc) else {
+            drop(net);
+            return Err(AllocError);
+        };
         Ok(Session {
             net,
             tracker,
@@ -93,7 +99,7 @@ impl Session {
         self.work
     }
 
-    /// What comes to a link, in units: one value for each step of the cycle, before any cut.
+    /// The arrivals of a link, in units: one value for each step of the cycle, before any cut.
     pub fn arrivals(&self, link: usize) -> &[u64]
         requires { link < length self.now.net.links }
         ensures { result.now ≡ (evaluated self.now.net link).arrivals }
@@ -101,7 +107,7 @@ impl Session {
         self.tracker.arrivals(link)
     }
 
-    /// What can go of a link, in units: one value for each step of the cycle.
+    /// The GO of a link, in units: one value for each step of the cycle.
     pub fn go(&self, link: usize) -> &[u64]
         requires { link < length self.now.net.links }
         ensures { result.now ≡ (evaluated self.now.net link).go }
@@ -117,7 +123,7 @@ impl Session {
         self.tracker.queue(link)
     }
 
-    /// What leaves a link, in units: one value for each step of the cycle, at the last sweep.
+    /// The departures of a link, in units: one value for each step of the cycle, at the last sweep.
     pub fn out(&self, link: usize) -> &[u64]
         requires { link < length self.now.net.links }
         ensures { result.now ≡ out_of self.now.net self.now.net.frame.sweeps link }
@@ -186,7 +192,7 @@ impl Session {
         Ok(())
     }
 
-    /// Keeps what was done in the trial, and closes it. It takes no memory.
+    /// Keeps the edits of the trial, and closes it. It takes no memory.
     pub fn keep(&mut self) -> Result<(), NoTrial>
         ensures state { self.new ≡ keep_of self.old }
         ensures none { is_err result ≡ is_none self.old.before }
@@ -198,7 +204,8 @@ impl Session {
         Ok(())
     }
 
-    /// What an edit would make. All stays as it is, the work too; only steps are made. It takes no memory.
+    /// Tries an edit: finds the index with it made. All stays as it is, the work too; only steps are made. It takes no
+    /// memory.
     pub fn try_edit<L: Ledger>(&mut self, e: Edit, steps: &mut Steps<L>) -> Tried
         requires closed { self.old.before ≡ None }
         ensures tried { result ≡ try_of self.old.net e }
@@ -276,7 +283,7 @@ impl Session {
     }
 
     /// Stands for the network of another session, which has an open trial of it and stood for this one's before, with
-    /// the work as it was. It copies only what changed in the trial, works out nothing and takes no memory.
+    /// the work as it was. It copies only rows that changed in the trial, works out nothing and takes no memory.
     pub fn take_trial(&mut self, from: &Session)
         requires before { from.now.before ≡ Some self.old.net }
         requires closed { self.old.before ≡ None }
