@@ -1,4 +1,4 @@
--- What the desks have tried, as a list of answers; and a round of one desk and of several.
+-- The moves that the desks have tried, as a list of answers; and a round of one desk and of several.
 use Rattle.std.proofs.Common.{◌≡◌, ℕ, zero, suc, ◌+◌, ◌*◌, ◌%◌, ◌<◌, ◌≤◌, List, length, take, slice_index_or, ap, sym, ◌∙◌, subst, refl, arith}
 use Rattle.std.proofs.Common.{Bool, true, false, None, if◌then◌else◌}
 use Rattle.std.proofs.Common.{slice_set, ◌==◌}

@@ -2,11 +2,10 @@
 use Rattle.std.proofs.Common.{◌≡◌, ◌<◌, ◌+◌, ℕ, zero, suc, map, refl, ap, ◌∙◌, arith}
 use Rattle.std.proofs.Common.{Some, if◌then◌else◌}
 use Rattle.std.specs.Option.{option_map}
-use Rattle.transyt_net.specs.Shape.{SameShape}
 use Rattle.transyt_moves.specs.Moves.{move_count, move}
 use Rattle.transyt_sweep.specs.Climb.{tried_at, lowers, moved, least}
 use Rattle.transyt_track.specs.Due.{due_in, due_through, due}
-use Rattle.transyt_desks.specs.Desks.{AreAligned, AreAlike, desk_zero, session_at}
+use Rattle.transyt_desks.specs.Desks.{AreAligned, desk_zero, session_at}
 use Rattle.transyt_climb.specs.declared.turn.Turn.{Turn}
 use Rattle.transyt_climb.specs.declared.turn.Turn.TheVariants.{Passed}
 use Rattle.transyt_climb.specs.Turns.{Machine, machine, answer_of, is_end, turned, turns}
@@ -30,16 +29,6 @@ same_at (suc (suc (suc k))) below = absurd (omega (arith, below))
 
 pub are_aligned : AreAligned three_desks
 are_aligned = record { same = same_at }
-
--- and so their networks have one shape
-alike_at : (k : ℕ) → k < 3 → SameShape (session_at three_desks k).net (desk_zero three_desks).net
-alike_at zero below = refl
-alike_at (suc zero) below = refl
-alike_at (suc (suc zero)) below = refl
-alike_at (suc (suc (suc k))) below = absurd (omega (arith, below))
-
-pub are_alike : AreAlike three_desks
-are_alike = record { shape = alike_at }
 
 -- the last move is barred
 last_passes : answer_of seven_left ≡ Passed

@@ -1,4 +1,4 @@
--- What becomes of desks whose desk 0 is lent.
+-- The desks whose desk 0 was lent.
 use Rattle.std.specs.Borrow.{Lends, MutBor, Fml}
 use Rattle.std.specs.Prelude.{List}
 use Rattle.transyt_session.specs.Session.{SessionValue}

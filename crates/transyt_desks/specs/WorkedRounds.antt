@@ -64,16 +64,3 @@ abbrev pub three_desks : List SessionValue
 three_desks =
     junctions_session ∷ record { net = junctions; before = None; work = 0 }
     ∷ record { net = junctions; before = None; work = 0 } ∷ []
-
--- what stands where there is no desk
-abbrev pub nothing : SessionValue
-nothing = record {
-  net = record {
-    frame = record { cycle = 0; step_count = 0; sweeps = 0; period = 0; stop_penalty = 0; dispersion = 0 };
-    nodes = [];
-    links = [];
-    plan = None;
-  };
-  before = None;
-  work = 0;
-}

@@ -161,7 +161,7 @@ pub(crate) fn try_front<R: Threads + Sync, G: Gate>(
     try_all(rt, gate, front, place, count);
 }
 
-/// What the first desks have tried.
+/// The answers to the moves that the first desks have tried.
 pub(crate) fn answers_of(desks: &[Desk], room: usize) -> [Tried; 8]
     requires few { room ≤ 8 }
     requires room { room ≤ length desks.now }

@@ -53,7 +53,10 @@ impl Desks {
         requires closed { session.before ≡ None }
         ensures { IfOk result (λ desks. desks ≡ opened_desks session workers) }
     {
-        let spare = session.net().copy(alloc)?;
+        let Ok(spare) = session.net().copy(alloc) else {
+            drop(session);
+            return Err(AllocError);
+        };
         let mut desks = Vec::new(alloc);
         add_desk(&mut desks, session)?;
         for made in 1..workers {

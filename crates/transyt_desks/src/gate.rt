@@ -1,6 +1,6 @@
 //! A gate that each desk passes with each candidate.
 
-/// What is told when a desk begins to try a candidate, and when it has tried it. Desks are numbered from 0.
+/// A gate is told when a desk begins to try a candidate, and when it has tried it. Desks are numbered from 0.
 ///
 /// Several desks may be inside at once, so a gate is shared among threads. A clause names nothing of it.
 pub trait Gate: Sync {

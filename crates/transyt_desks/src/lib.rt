@@ -22,7 +22,7 @@ mod settling;
 pub use climbing::climb_by_rounds;
 pub use desks::Desks;
 pub use gate::{Gate, OpenGate};
-pub use laws::{worked_desks, worked_rounds, worked_tries};
+pub use laws::{worked_desks, worked_rounds};
 pub use settling::Round;
 
 #[cfg(test)]

@@ -1,4 +1,4 @@
-//! What a round comes to: the answers of the desks, one after another in the order of the list.
+//! The turns of a round: the answers of the desks, one after another in the order of the list.
 
 ghost use Rattle.std.specs.Prelude.{◌≡◌, ℕ, ◌+◌, ◌-◌, ◌*◌, ◌%◌, ◌^◌, ◌<◌, ◌≤◌, length, None, nat_lt};
 ghost use Rattle.transyt_net.specs.EditFaults.{edit_fault};

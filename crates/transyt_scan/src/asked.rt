@@ -1,4 +1,4 @@
-//! What the word asks for.
+//! The cycle times and workers that the word asks for.
 
 ghost use Rattle.std.specs.Prelude.{◌≡◌, ◌≤◌, IfSome};
 ghost use Rattle.transyt_scan.specs.Rows.{IsScan, scan_of};

@@ -1,6 +1,6 @@
 //! A bench that the climb of each cycle time passes.
 
-/// What is told when the climb of a cycle time begins, and when it is done. Cycle times are in seconds.
+/// A bench is told when the climb of a cycle time begins, and when it is done. Cycle times are in seconds.
 ///
 /// Several climbs may be inside at once, so a bench is shared among threads. A clause names nothing of it.
 pub trait Bench: Sync {

@@ -109,7 +109,9 @@ fn row_at<L: Ledger>(
     let mut steps = Steps::<L>::begin(blank);
     let net = net.with_cycle(alloc, cycle)?;
     let mut session = Session::open(alloc, net, &mut steps)?;
-    Ok(row_of(&mut session, &mut steps))
+    let row = row_of(&mut session, &mut steps);
+    drop(session);
+    Ok(row)
 }
 
 /// The row of a cycle time in seconds, made between entering and leaving the bench; none where memory is out.

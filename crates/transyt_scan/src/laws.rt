@@ -1,10 +1,10 @@
 //! Worked climbs over cycle times, computed from the definitions.
 
-ghost use Rattle.std.specs.Prelude.{◌≡◌, [], ◌∷◌, All, map, true, false, None, Some};
+ghost use Rattle.std.specs.Prelude.{◌≡◌, [], ◌∷◌, map, true, false, None, Some};
 ghost use Rattle.transyt_climb.specs.WorkedTurns.{idle};
 ghost use Rattle.transyt_stage.specs.ThreeJunctions.{three_junctions};
 ghost use Rattle.transyt_whole.specs.Answer.{done};
-ghost use Rattle.transyt_scan.specs.Rows.{IsScan, climb_by, climbed_row, cycles, row_at, scan_of, table};
+ghost use Rattle.transyt_scan.specs.Rows.{climb_by, climbed_row, cycles, row_at, scan_of, table};
 ghost use Rattle.transyt_scan.specs.Best.{IsLeast, best};
 ghost use Rattle.transyt_scan.specs.Scan.{scan_answer, table_lines};
 ghost use Rattle.transyt_scan.specs.WorkedScan.{from_60, from_44, at_72, idle_with, four_looks, stayed};
@@ -36,20 +36,15 @@ pub fn worked_rows()
 {}
 
 /// What may be asked for: each number at its limits, and one past them.
-#[tactic(auto, using(crate::proofs::WorkedLimits::are_scans, crate::proofs::WorkedLimits::are_none))]
 pub fn worked_limits()
     ensures within { map (λ a. scan_of a.workers a.times.low a.times.high a.times.by) in_range ≡ map Some in_range }
     ensures beyond { map (λ a. scan_of a.workers a.times.low a.times.high a.times.by) out_of_range
         ≡ map (λ _. None) out_of_range }
-    ensures are { All IsScan in_range }
-    ensures none { All (λ a. IsScan a → ⊥) out_of_range }
 {}
 
-/// The best of the worked rows stands at place 1; the row at place 2 is as good, and comes after it. Of no row none is.
-#[tactic(auto, using(crate::proofs::WorkedLimits::first_is_least, crate::proofs::WorkedLimits::later_is_not, crate::proofs::WorkedLimits::none_is))]
+/// The best of the worked rows stands at place 1; the row at place 2 is as good, and comes after it.
+#[tactic(auto, using(crate::proofs::WorkedLimits::first_is_least, crate::proofs::WorkedLimits::later_is_not))]
 pub fn worked_best()
     ensures first { IsLeast four_rows 1 }
     ensures later { IsLeast four_rows 2 → ⊥ }
-    ensures none { IsLeast [] 0 → ⊥ }
-    ensures no_row { best [] ≡ climbed_at 0 0 0 true 0 0 }
 {}

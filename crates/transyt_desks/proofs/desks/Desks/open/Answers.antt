@@ -33,8 +33,8 @@ invariant_of-result c =
     let all : sessions_of c.loop-made.desks.items ≡ opened_desks s c.args.workers =
     (let made : c.loop-made.made ≡ c.args.workers = omega arith in
     c.loop-made.invariant.desks ∙ ap (opened_desks s) made) in
-    let spare_is : c.in_ok-spare.spare ≡ s.net = first_of (cc, search rules) in
-    subst (AreDesks c.in_ok-spare.spare) (sym all)
+    let spare_is : c.in-Ok.spare ≡ s.net = first_of (cc, search rules) in
+    subst (AreDesks c.in-Ok.spare) (sym all)
     (subst (λ (n : Network). AreDesks n (opened_desks s c.args.workers)) (sym spare_is)
     (opened_are s c.args.workers (omega arith) c.requires.few))
 
