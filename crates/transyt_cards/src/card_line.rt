@@ -1,7 +1,7 @@
 //! The line of a card that ends in a list of numbers.
 ghost use Rattle.std.specs.Prelude.{◌≡◌, ◌≤◌, ◌+◌, ◌*◌, ◌++◌, length};
 ghost use Rattle.transyt_text.specs.Forms.{values_text, values_line};
-ghost use Rattle.transyt_text.specs.Prints.{Prints};
+ghost use Rattle.transyt_text.specs.Prints.{PrintsOn};
 
 use transyt_io::{Failed, LineBuffer, Sink, write_line};
 use transyt_text::put_form;
@@ -28,8 +28,8 @@ pub(crate) fn print_list<K: Sink>(
     sink: &mut K,
 ) -> Result<(), Failed>
     requires { length form.now + 39 * length numbers.now + 40 * length list.now ≤ 4000 }
-    ensures { Prints (K.written sink.old) (K.written sink.new) (K.faults sink.old)
-        (K.faults sink.new) result (values_line form.now numbers.now list.now) }
+    ensures { PrintsOn K.written K.faults sink.old sink.new result
+        (values_line form.now numbers.now list.now) }
 {
     line.clear();
     put_form(form, numbers, line);

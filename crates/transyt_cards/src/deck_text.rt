@@ -2,7 +2,7 @@
 ghost use Rattle.std.specs.Prelude.{◌≡◌, ◌≤◌, ◌∷◌, [], length, map, flat_map, All, IfSome};
 ghost use Rattle.std.specs.Option.{option_map};
 ghost use Rattle.transyt_io.specs.Lines.{lines};
-ghost use Rattle.transyt_text.specs.Prints.{Prints};
+ghost use Rattle.transyt_text.specs.Prints.{PrintsOn};
 ghost use Rattle.transyt_parts.specs.Parts.{LinkValue};
 ghost use Rattle.transyt_deck.specs.Cards.{node_cards, link_card, feed_cards};
 ghost use Rattle.transyt_deck.specs.declared.card.Card.TheVariants as card;
@@ -21,8 +21,7 @@ use transyt_text::print_form;
 /// and what it holds afterwards is unspecified. The lines of the text, taken by a `CardReader`, are accepted to the
 /// last, which is END, and give an equal network.
 pub fn print_deck<K: Sink>(net: &Net, line: &mut LineBuffer, sink: &mut K) -> Result<(), Failed>
-    ensures prints { Prints (K.written sink.old) (K.written sink.new) (K.faults sink.old)
-        (K.faults sink.new) result (deck_text net.now) }
+    ensures prints { PrintsOn K.written K.faults sink.old sink.new result (deck_text net.now) }
     ensures reads_back { deck (lines (deck_text net.now))
         ≡ Complete (length (deck_cards net.now)) net.now }
 {
@@ -38,8 +37,8 @@ pub fn print_deck<K: Sink>(net: &Net, line: &mut LineBuffer, sink: &mut K) -> Re
 
 /// Writes the FORM card, of form 2, and the CYCLE card.
 fn print_frame<K: Sink>(frame: Frame, line: &mut LineBuffer, sink: &mut K) -> Result<(), Failed>
-    ensures { Prints (K.written sink.old) (K.written sink.new) (K.faults sink.old)
-        (K.faults sink.new) result (cards_text (card.Form 2 ∷ card.Cycle frame ∷ [])) }
+    ensures { PrintsOn K.written K.faults sink.old sink.new result
+        (cards_text (card.Form 2 ∷ card.Cycle frame ∷ [])) }
 {
     print_form(b"FORM #", &[2], line, sink)?;
     print_cycle(frame, line, sink)
@@ -47,8 +46,7 @@ fn print_frame<K: Sink>(frame: Frame, line: &mut LineBuffer, sink: &mut K) -> Re
 
 /// Writes the CYCLE card of a frame.
 fn print_cycle<K: Sink>(frame: Frame, line: &mut LineBuffer, sink: &mut K) -> Result<(), Failed>
-    ensures { Prints (K.written sink.old) (K.written sink.new) (K.faults sink.old)
-        (K.faults sink.new) result (card_line (card.Cycle frame)) }
+    ensures { PrintsOn K.written K.faults sink.old sink.new result (card_line (card.Cycle frame)) }
 {
     let numbers = [
         u128::from(frame.cycle),
@@ -63,8 +61,8 @@ fn print_cycle<K: Sink>(frame: Frame, line: &mut LineBuffer, sink: &mut K) -> Re
 
 /// Writes the NODE card of each node, with its STAGE cards after it.
 fn print_nodes<K: Sink>(nodes: &[Node], line: &mut LineBuffer, sink: &mut K) -> Result<(), Failed>
-    ensures { Prints (K.written sink.old) (K.written sink.new) (K.faults sink.old)
-        (K.faults sink.new) result (cards_text (flat_map node_cards nodes.now)) }
+    ensures { PrintsOn K.written K.faults sink.old sink.new result
+        (cards_text (flat_map node_cards nodes.now)) }
 {
     for node in nodes {
         print_node(node, line, sink)?;
@@ -74,8 +72,8 @@ fn print_nodes<K: Sink>(nodes: &[Node], line: &mut LineBuffer, sink: &mut K) -> 
 
 /// Writes the NODE card of a node and its STAGE cards.
 fn print_node<K: Sink>(node: &Node, line: &mut LineBuffer, sink: &mut K) -> Result<(), Failed>
-    ensures { Prints (K.written sink.old) (K.written sink.new) (K.faults sink.old)
-        (K.faults sink.new) result (cards_text (node_cards node.now)) }
+    ensures { PrintsOn K.written K.faults sink.old sink.new result
+        (cards_text (node_cards node.now)) }
 {
     print_number(node.number, node.offset, line, sink)?;
     print_stages(&node.stages, line, sink)
@@ -88,8 +86,8 @@ fn print_number<K: Sink>(
     line: &mut LineBuffer,
     sink: &mut K,
 ) -> Result<(), Failed>
-    ensures { Prints (K.written sink.old) (K.written sink.new) (K.faults sink.old)
-        (K.faults sink.new) result (card_line (card.Node number offset)) }
+    ensures { PrintsOn K.written K.faults sink.old sink.new result
+        (card_line (card.Node number offset)) }
 {
     print_form(
         b"NODE # #",
@@ -105,8 +103,8 @@ fn print_stages<K: Sink>(
     line: &mut LineBuffer,
     sink: &mut K,
 ) -> Result<(), Failed>
-    ensures { Prints (K.written sink.old) (K.written sink.new) (K.faults sink.old)
-        (K.faults sink.new) result (cards_text (map card.Stage stages.now)) }
+    ensures { PrintsOn K.written K.faults sink.old sink.new result
+        (cards_text (map card.Stage stages.now)) }
 {
     for stage in stages {
         print_stage(*stage, line, sink)?;
@@ -116,8 +114,7 @@ fn print_stages<K: Sink>(
 
 /// Writes the STAGE card of a stage.
 fn print_stage<K: Sink>(stage: Stage, line: &mut LineBuffer, sink: &mut K) -> Result<(), Failed>
-    ensures { Prints (K.written sink.old) (K.written sink.new) (K.faults sink.old)
-        (K.faults sink.new) result (card_line (card.Stage stage)) }
+    ensures { PrintsOn K.written K.faults sink.old sink.new result (card_line (card.Stage stage)) }
 {
     let numbers = [
         u128::from(stage.change),
@@ -130,8 +127,8 @@ fn print_stage<K: Sink>(stage: Stage, line: &mut LineBuffer, sink: &mut K) -> Re
 /// Writes the LINK card of each link.
 fn print_links<K: Sink>(links: &[Link], line: &mut LineBuffer, sink: &mut K) -> Result<(), Failed>
     requires { All (λ (l : LinkValue). length l.stages ≤ 8) links.now }
-    ensures { Prints (K.written sink.old) (K.written sink.new) (K.faults sink.old)
-        (K.faults sink.new) result (cards_text (map link_card links.now)) }
+    ensures { PrintsOn K.written K.faults sink.old sink.new result
+        (cards_text (map link_card links.now)) }
 {
     for link in links {
         print_link(link, line, sink)?;
@@ -142,8 +139,8 @@ fn print_links<K: Sink>(links: &[Link], line: &mut LineBuffer, sink: &mut K) -> 
 /// Writes the LINK card of a link, of form 2.
 fn print_link<K: Sink>(link: &Link, line: &mut LineBuffer, sink: &mut K) -> Result<(), Failed>
     requires { length link.now.stages ≤ 8 }
-    ensures { Prints (K.written sink.old) (K.written sink.new) (K.faults sink.old)
-        (K.faults sink.new) result (card_line (link_card link.now)) }
+    ensures { PrintsOn K.written K.faults sink.old sink.new result
+        (card_line (link_card link.now)) }
 {
     let numbers = [
         u128::from(link.number),
@@ -160,8 +157,8 @@ fn print_link<K: Sink>(link: &Link, line: &mut LineBuffer, sink: &mut K) -> Resu
 
 /// Writes the FEED cards of each link.
 fn print_feeds<K: Sink>(links: &[Link], line: &mut LineBuffer, sink: &mut K) -> Result<(), Failed>
-    ensures { Prints (K.written sink.old) (K.written sink.new) (K.faults sink.old)
-        (K.faults sink.new) result (cards_text (flat_map feed_cards links.now)) }
+    ensures { PrintsOn K.written K.faults sink.old sink.new result
+        (cards_text (flat_map feed_cards links.now)) }
 {
     for link in links {
         print_feeds_of(link.number, &link.feeds, line, sink)?;
@@ -176,8 +173,8 @@ fn print_feeds_of<K: Sink>(
     line: &mut LineBuffer,
     sink: &mut K,
 ) -> Result<(), Failed>
-    ensures { Prints (K.written sink.old) (K.written sink.new) (K.faults sink.old)
-        (K.faults sink.new) result (cards_text (map (card.Feed link) feeds.now)) }
+    ensures { PrintsOn K.written K.faults sink.old sink.new result
+        (cards_text (map (card.Feed link) feeds.now)) }
 {
     for feed in feeds {
         print_feed(link, *feed, line, sink)?;
@@ -192,8 +189,8 @@ fn print_feed<K: Sink>(
     line: &mut LineBuffer,
     sink: &mut K,
 ) -> Result<(), Failed>
-    ensures { Prints (K.written sink.old) (K.written sink.new) (K.faults sink.old)
-        (K.faults sink.new) result (card_line (card.Feed link feed)) }
+    ensures { PrintsOn K.written K.faults sink.old sink.new result
+        (card_line (card.Feed link feed)) }
 {
     let numbers = [
         u128::from(link),
@@ -206,8 +203,8 @@ fn print_feed<K: Sink>(
 
 /// Writes the YIELD card of each link that has a give-way rule.
 fn print_rules<K: Sink>(links: &[Link], line: &mut LineBuffer, sink: &mut K) -> Result<(), Failed>
-    ensures { Prints (K.written sink.old) (K.written sink.new) (K.faults sink.old)
-        (K.faults sink.new) result (cards_text (flat_map rule_cards links.now)) }
+    ensures { PrintsOn K.written K.faults sink.old sink.new result
+        (cards_text (flat_map rule_cards links.now)) }
 {
     for link in links {
         print_rule(link, line, sink)?;
@@ -217,8 +214,8 @@ fn print_rules<K: Sink>(links: &[Link], line: &mut LineBuffer, sink: &mut K) -> 
 
 /// Writes the YIELD card of a link, if it has a give-way rule.
 fn print_rule<K: Sink>(link: &Link, line: &mut LineBuffer, sink: &mut K) -> Result<(), Failed>
-    ensures { Prints (K.written sink.old) (K.written sink.new) (K.faults sink.old)
-        (K.faults sink.new) result (cards_text (rule_cards link.now)) }
+    ensures { PrintsOn K.written K.faults sink.old sink.new result
+        (cards_text (rule_cards link.now)) }
 {
     let Some(rule) = link.gives_way else {
         return Ok(());
@@ -238,8 +235,8 @@ fn print_plan<K: Sink>(
     sink: &mut K,
 ) -> Result<(), Failed>
     requires { IfSome plan (λ p. length p.now.sizes ≤ 16) }
-    ensures { Prints (K.written sink.old) (K.written sink.new) (K.faults sink.old)
-        (K.faults sink.new) result (cards_text (plan_cards (option_map (λ p. p.now) plan.entry))) }
+    ensures { PrintsOn K.written K.faults sink.old sink.new result
+        (cards_text (plan_cards (option_map (λ p. p.now) plan.entry))) }
 {
     let Some(plan) = plan else {
         return Ok(());

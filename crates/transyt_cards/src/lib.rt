@@ -14,7 +14,7 @@ mod card_line;
 mod deck_text;
 
 pub use deck_text::print_deck;
-pub use transyt_commands::{Command, read_command};
+pub use transyt_commands::{Command, Request, read_command};
 pub use transyt_deck::{Card, CardReader, CardStop, Cut, Part, Progress, State, cut_deck};
 pub use transyt_syntax::Code;
 

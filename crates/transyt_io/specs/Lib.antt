@@ -5,6 +5,7 @@ pub mod Memory
 pub mod Model
 pub mod Pull
 pub mod Reading
+pub mod StdEnds
 pub mod Streams
 pub mod WorkedEnds
 pub mod WorkedLines

@@ -1,0 +1,18 @@
+-- The ends of std: what contracts see of them.
+use Rattle.std.specs.Prelude.{ℕ, List, Bool, ◌||◌, IsTrue, Option, None, Some, is_none, is_some}
+
+-- what an end of std is seen as
+pub record StdEnd : Type 0 where
+  -- of a reader the bytes left, of a writer the bytes that it holds, where std told them when the end was made
+  pub told : Option (List ℕ)
+  -- how many calls failed
+  pub faults : ℕ
+
+-- what is told now, where something was told at first
+abbrev pub told_since : Option (List ℕ) → Option (List ℕ) → Option (List ℕ)
+told_since None now = None
+told_since (Some first) now = now
+
+-- where something was told at first, something is told now
+abbrev pub StillTells : Option (List ℕ) → Option (List ℕ) → Type 0
+StillTells first now = IsTrue (is_none first || is_some now)
