@@ -9,11 +9,13 @@
 #![tactic(auto)]
 
 mod laws;
+mod refusing;
 mod top;
 mod town;
 mod word;
 
 pub use laws::{worked_ranges, worked_steps, worked_words};
+pub use refusing::refused_by_deck;
 pub use top::transyt;
 pub use transyt_answers::steps_lower;
 pub use transyt_desks::{Gate, OpenGate};
