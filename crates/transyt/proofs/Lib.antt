@@ -1,7 +1,10 @@
 -- The lemmas of the crate.
 pub mod BudgetLaws
 pub mod DeckLaws
+pub mod ProgramLaws
+pub mod Refusals
 pub mod SaidCards
 pub mod TaskLaws
 pub mod ValidRuns
 pub mod WorkedSteps
+pub mod WorkedTasks

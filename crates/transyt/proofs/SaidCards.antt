@@ -113,10 +113,9 @@ said_none : (code : Option Code) → CanSaid (unless code None)
 said_none None = tt
 said_none (Some code) = tt
 
--- a card that a line says
-pub said_can : (form : ℕ) (line : List ℕ) → CanSaid (said (cards form) line)
-said_can form line =
-    let table = cards form in
+-- a card that a line says, by any such table
+said_by : (table : List (Entry Card)) (line : List ℕ) → EachCan table → CanSaid (said table line)
+said_by table line each =
     let Goal : Option (Entry Card) → Option (List ℕ) → Type 0 = λ e o.
     CanSaid (unless (syntax_code (option_map (λ found. found.counts) e) line)
     (option_and_then (λ found. option_map found.says o) e)) in
@@ -130,7 +129,7 @@ said_can form line =
     ] in
     let by : (e : Option (Entry Card)) → entry_of table line ≡ e → Goal e (numbers_of line) = elim [
       | None ↦ λ is. said_none _
-      | Some found ↦ λ is. with found (named_can table (first_word (words line)) found (cards_can form) is) (numbers_of line) refl
+      | Some found ↦ λ is. with found (named_can table (first_word (words line)) found each is) (numbers_of line) refl
     ] in
     let skip : (b : Bool) → CanSaid (if b then Ok None
     else unless (syntax_code (option_map (λ found. found.counts) (entry_of table line)) line)
@@ -139,3 +138,7 @@ said_can form line =
       | false ↦ by (entry_of table line) refl
     ] in
     skip (is_skipped line)
+
+-- a card that a line says
+pub said_can : (form : ℕ) (line : List ℕ) → CanSaid (said (cards form) line)
+said_can form line = said_by (cards form) line (cards_can form)

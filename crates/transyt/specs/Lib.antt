@@ -1,5 +1,7 @@
 -- The definitions of the crate.
 pub mod Climbs
+pub mod Program
+pub mod Refusals
 pub mod Tasks
 pub mod Words
 pub mod WorkedWords

@@ -1,6 +1,6 @@
 -- The words that the program takes, and what they ask for.
 use Rattle.std.specs.Prelude.{ℕ, ◌-◌, ◌≤◌, ◌<◌, ◌&&◌, nat_le, List, [], ◌∷◌, Option, None, Some, codes, if◌then◌else◌}
-use Rattle.std.specs.Option.{option_map}
+use Rattle.std.specs.Option.{option_map, option_and_then}
 use Rattle.std.specs.Str.{bytes_eq}
 use Rattle.transyt_num.specs.Number.{number_of}
 use Rattle.transyt_scan.specs.Rows.{IsScan, scan_of}
@@ -33,54 +33,55 @@ IsWord w.Equisat = Unit {0}
 IsWord w.Audit = Unit {0}
 IsWord (w.Scan asked) = IsScan asked
 
--- what one word asks for
-abbrev pub one_word : List ℕ → Option Word
-one_word name =
-    if bytes_eq name (codes "run") then Some (w.Run 1)
-    else if bytes_eq name (codes "counts") then Some w.Counts
-    else if bytes_eq name (codes "equisat") then Some w.Equisat
-    else if bytes_eq name (codes "audit") then Some w.Audit
-    else None
+-- a word that stands alone
+abbrev pub alone : Word → List (List ℕ) → Option Word
+alone word [] = Some word
+alone word (next ∷ more) = None
 
--- `run w`, with the number of workers
-abbrev pub run_word : List ℕ → Option ℕ → Option Word
-run_word name None = None
-run_word name (Some workers) = if bytes_eq name (codes "run") then Some (w.Run workers) else None
+-- `run` and `run w`, by what stands after `run`
+abbrev pub run_word : List (List ℕ) → Option Word
+run_word [] = Some (w.Run 1)
+run_word (workers ∷ []) = option_map w.Run (workers_of workers)
+run_word (workers ∷ next ∷ more) = None
 
--- `make seed nodes` and `brief seed nodes`, with their numbers
-abbrev pub town_word : List ℕ → Option ℕ → Option ℕ → Option Word
-town_word name None nodes = None
-town_word name (Some seed) None = None
-town_word name (Some seed) (Some nodes) =
-    if bytes_eq name (codes "make") then Some (w.Make seed nodes)
-    else if bytes_eq name (codes "brief") then Some (w.Brief seed nodes 1)
-    else None
+-- `make seed nodes`
+abbrev pub make_word : List (List ℕ) → Option Word
+make_word (seed ∷ nodes ∷ []) =
+    option_and_then (λ s. option_map (λ n. w.Make s n) (nodes_of nodes)) (number_of seed)
+make_word _ = None
 
--- `brief seed nodes w`, with its numbers
-abbrev pub brief_word : List ℕ → Option ℕ → Option ℕ → Option ℕ → Option Word
-brief_word name None nodes workers = None
-brief_word name (Some seed) None workers = None
-brief_word name (Some seed) (Some nodes) None = None
-brief_word name (Some seed) (Some nodes) (Some workers) =
-    if bytes_eq name (codes "brief") then Some (w.Brief seed nodes workers) else None
+-- `brief seed nodes` with so many workers
+abbrev pub brief_by : List ℕ → List ℕ → Option ℕ → Option Word
+brief_by seed nodes workers =
+    option_and_then (λ s. option_and_then (λ n. option_map (λ k. w.Brief s n k) workers) (nodes_of nodes))
+    (number_of seed)
 
--- `scan w low high by`, with its numbers
-abbrev pub scan_word : List ℕ → Option ℕ → Option ℕ → Option ℕ → Option ℕ → Option Word
-scan_word name None low high by = None
-scan_word name (Some workers) None high by = None
-scan_word name (Some workers) (Some low) None by = None
-scan_word name (Some workers) (Some low) (Some high) None = None
-scan_word name (Some workers) (Some low) (Some high) (Some by) =
-    if bytes_eq name (codes "scan") then option_map w.Scan (scan_of workers low high by) else None
+-- `brief seed nodes` and `brief seed nodes w`
+abbrev pub brief_word : List (List ℕ) → Option Word
+brief_word (seed ∷ nodes ∷ []) = brief_by seed nodes (Some 1)
+brief_word (seed ∷ nodes ∷ workers ∷ []) = brief_by seed nodes (workers_of workers)
+brief_word _ = None
+
+-- what these numbers ask `scan` for
+abbrev pub scan_by : Option ℕ → Option ℕ → Option ℕ → Option ℕ → Option Word
+scan_by (Some workers) (Some low) (Some high) (Some by) = option_map w.Scan (scan_of workers low high by)
+scan_by _ _ _ _ = None
+
+-- `scan w low high by`
+abbrev pub scan_word : List (List ℕ) → Option Word
+scan_word (workers ∷ low ∷ high ∷ by ∷ []) =
+    scan_by (workers_of workers) (number_of low) (number_of high) (number_of by)
+scan_word _ = None
 
 -- what words ask for; none where they are none that the program takes
 abbrev pub word_of : List (List ℕ) → Option Word
 word_of [] = None
-word_of (name ∷ []) = one_word name
-word_of (name ∷ workers ∷ []) = run_word name (workers_of workers)
-word_of (name ∷ seed ∷ nodes ∷ []) = town_word name (number_of seed) (nodes_of nodes)
-word_of (name ∷ seed ∷ nodes ∷ workers ∷ []) =
-    brief_word name (number_of seed) (nodes_of nodes) (workers_of workers)
-word_of (name ∷ workers ∷ low ∷ high ∷ by ∷ []) =
-    scan_word name (workers_of workers) (number_of low) (number_of high) (number_of by)
-word_of (name ∷ a ∷ b ∷ c ∷ d ∷ e ∷ more) = None
+word_of (name ∷ rest) =
+    if bytes_eq name (codes "run") then run_word rest
+    else if bytes_eq name (codes "make") then make_word rest
+    else if bytes_eq name (codes "brief") then brief_word rest
+    else if bytes_eq name (codes "counts") then alone w.Counts rest
+    else if bytes_eq name (codes "equisat") then alone w.Equisat rest
+    else if bytes_eq name (codes "scan") then scan_word rest
+    else if bytes_eq name (codes "audit") then alone w.Audit rest
+    else None

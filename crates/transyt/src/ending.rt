@@ -3,7 +3,7 @@ ghost use Rattle.std.specs.Prelude.{◌≡◌, ◌≢◌, ◌≤◌, ◌↔◌, 
 ghost use Rattle.transyt_running.specs.Exit.{exit_number};
 
 use std::io::ErrorKind;
-use transyt::Status;
+use transyt_running::Status;
 
 /// The exit number of the program: that of the status; where the words could not be had, 5 out of memory and 7 for another
 /// cause.

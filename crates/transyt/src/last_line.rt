@@ -10,13 +10,22 @@ const KEPT: usize = 48;
 
 /// The first bytes of a line.
 #[derive(Drop)]
-struct Front {
+pub(crate) struct Front {
     bytes: [u8; 48],
     length: usize,
     is_whole: bool,
 }
 
 impl Front {
+    /// No line was begun.
+    pub(crate) fn new() -> Front {
+        Front {
+            bytes: [0; KEPT],
+            length: 0,
+            is_whole: false,
+        }
+    }
+
     /// Notes a byte that was written: the one after a whole line begins the next.
     fn note(&mut self, byte: u8) {
         if self.is_whole {
@@ -42,24 +51,14 @@ impl Front {
 
 /// A sink over another, which keeps the first bytes of the last line that was begun.
 #[derive(Drop)]
-pub(crate) struct LastLine<K> {
-    sink: K,
-    front: Front,
+pub(crate) struct LastLine<'a, K> {
+    /// The sink that is written.
+    pub(crate) sink: &'a mut K,
+    /// The first bytes of the last line.
+    pub(crate) front: Front,
 }
 
-impl<K> LastLine<K> {
-    /// No line was begun.
-    pub(crate) fn over(sink: K) -> LastLine<K> {
-        LastLine {
-            sink,
-            front: Front {
-                bytes: [0; KEPT],
-                length: 0,
-                is_whole: false,
-            },
-        }
-    }
-
+impl<K> LastLine<'_, K> {
     /// The text of the last line; nothing where it is no text.
     pub(crate) fn text(&self) -> &str {
         match self.front.bytes.get(..self.front.length) {
@@ -69,10 +68,10 @@ impl<K> LastLine<K> {
     }
 }
 
-impl<K: Sink> Sink for LastLine<K> {
-    ghost written = { λ s. K.written s.sink };
+impl<K: Sink> Sink for LastLine<'_, K> {
+    ghost written = { λ s. K.written s.sink.now };
 
-    ghost faults = { λ s. K.faults s.sink };
+    ghost faults = { λ s. K.faults s.sink.now };
 
     fn write(&mut self, piece: &[u8]) -> Result<usize, Failed> {
         let taken = self.sink.write(piece)?;

@@ -1,12 +1,15 @@
 //! Laws about the definitions.
-ghost use Rattle.std.specs.Prelude.{◌≡◌, ℕ, List, Option, None, All, map};
+ghost use Rattle.std.specs.Prelude.{◌≡◌, ◌<◌, ℕ, List, [], ◌∷◌, Option, None, Some, All, false, length, map};
 ghost use Rattle.transyt_make.specs.Made.{made};
 ghost use Rattle.transyt_running.specs.Runs.{StepsTaken};
 ghost use Rattle.transyt_running.specs.declared.status.Status.{Status};
 ghost use Rattle.transyt_answers.specs.Brief.{brief_steps};
 ghost use Rattle.transyt_answers.specs.Report.{deck_answering};
 ghost use Rattle.transyt.specs.declared.word.Word.{Word};
-ghost use Rattle.transyt.specs.Tasks.{TextSteps, WordSteps};
+ghost use Rattle.transyt_net.specs.Parts.{Network};
+ghost use Rattle.transyt_whole.specs.Answer.{done, of_whole};
+ghost use Rattle.transyt.specs.Climbs.{Descends};
+ghost use Rattle.transyt.specs.Tasks.{Reads, TaskComplete, TaskHeadline, TaskTooLong, TextRow, TextSteps, WordSteps, Writes};
 ghost use Rattle.transyt.specs.Words.{IsWord, word_of};
 ghost use Rattle.transyt.specs.WorkedWords.{words_in_range, words_out_of_range, worked_words};
 
@@ -36,4 +39,24 @@ pub fn worked_steps()
         → WordSteps (Word.Brief seed nodes 1) left left_new steps steps_new status
         → TextSteps (brief_steps (made seed nodes)) steps steps_new status }
     ensures brief_by_two { WordSteps (Word.Brief 7 1 2) None None 40 7 Status.Done }
+{}
+
+/// What a status says of a text, of an input of too many bytes and of a climb: what is so, and what isn't.
+#[tactic(auto, using(crate::proofs::WorkedTasks::text_whole, crate::proofs::WorkedTasks::text_cut, crate::proofs::WorkedTasks::text_front, crate::proofs::WorkedTasks::text_other, crate::proofs::WorkedTasks::headline_after, crate::proofs::WorkedTasks::headline_over, crate::proofs::WorkedTasks::text_complete, crate::proofs::WorkedTasks::text_refused, crate::proofs::WorkedTasks::many_bytes, crate::proofs::WorkedTasks::many_done, crate::proofs::WorkedTasks::no_looks, crate::proofs::WorkedTasks::too_few_looks))]
+pub fn worked_tasks()
+    ensures whole { TextRow (5 ∷ 7 ∷ []) (5 ∷ 7 ∷ []) Status.Done }
+    ensures cut { TextRow (5 ∷ 7 ∷ []) (5 ∷ []) Status.Done → ⊥ }
+    ensures front { TextRow (5 ∷ 7 ∷ []) (5 ∷ []) Status.WriteFault }
+    ensures other { TextRow (5 ∷ 7 ∷ []) (7 ∷ []) Status.WriteFault → ⊥ }
+    ensures after { TaskHeadline (Writes (5 ∷ 7 ∷ [])) None (Some (9 ∷ [])) (Some (9 ∷ 5 ∷ 7 ∷ [])) Status.Done }
+    ensures over { TaskHeadline (Writes (5 ∷ 7 ∷ [])) None (Some (9 ∷ [])) (Some (5 ∷ 7 ∷ [])) Status.Done → ⊥ }
+    ensures complete { TaskComplete (Writes (5 ∷ 7 ∷ [])) None Status.Done }
+    ensures refused { TaskComplete (Writes (5 ∷ 7 ∷ [])) None Status.DeckRefused → ⊥ }
+    ensures many { (input : List ℕ) → TaskTooLong (Reads (of_whole (λ bytes. done []))) (Some input) Status.TooLong }
+    ensures many_done { (input : List ℕ) → 4194304 < length input
+        → TaskTooLong (Reads (of_whole (λ bytes. done []))) (Some input) Status.Done → ⊥ }
+    ensures no_looks { (net : Network)
+        → Descends net 0 (record { steps = []; «local» = false; looks = []; net = net }) }
+    ensures too_few_looks { (net : Network)
+        → Descends net 1 (record { steps = []; «local» = false; looks = []; net = net }) → ⊥ }
 {}

@@ -8,12 +8,20 @@
 //! is read. `Outcome` of transyt_running says what a run took, what it wrote and what each status says of both.
 #![tactic(auto)]
 
+mod ending;
+mod last_line;
 mod laws;
+mod program;
+mod refusal;
+mod refusing;
 mod top;
 mod town;
 mod word;
 
-pub use laws::{worked_ranges, worked_steps, worked_words};
+pub use ending::{exit_of, sentence_of};
+pub use laws::{worked_ranges, worked_steps, worked_tasks, worked_words};
+pub use program::{given_words, run_program, run_steady, run_tallied};
+pub use refusing::refused_by_deck;
 pub use top::transyt;
 pub use transyt_answers::steps_lower;
 pub use transyt_desks::{Gate, OpenGate};

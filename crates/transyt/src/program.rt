@@ -1,28 +1,42 @@
-//! The program: the words of a runtime, the top call and the end.
-ghost use Rattle.std.specs.Prelude.{◌≡◌, ◌<◌, ◌≤◌};
+//! The program over any source and sink: its words, the top call and the end.
+ghost use Rattle.std.specs.Prelude.{◌≡◌, ◌≢◌, ◌<◌, ◌≤◌, ◌⊎◌, IfErr, map, string_bytes};
+ghost use Rattle.transyt_running.specs.declared.status.Status.{Status};
+ghost use Rattle.transyt.specs.Program.{TopCall, after_name, ends_of};
 
 use crate::ending::{exit_of, sentence_of};
-use crate::last_line::LastLine;
+use crate::last_line::{Front, LastLine};
 use crate::refusal::{Refusal, refusal_in};
+use crate::top::transyt;
 use std::env::{self, Env};
 use std::io::{self, ErrorKind};
 use std::marker::Brand;
 use std::sync::ledger::{Blank, Ledger};
 use std::thread::Threads;
-use transyt::{OpenGate, Status, transyt};
-use transyt_io::{Sink, Source};
+use transyt_desks::OpenGate;
+use transyt_io::{Sink, Source, SteadySource, TallySink};
+use transyt_running::Status;
 use transyt_steps::Steps;
 
-/// The words after the program's name.
-fn words_of<R: Env + AllocGlobal>(rt: &R) -> io::Result<Vec<String>> {
+/// The words that the runtime was started with: the program's name, and those after it.
+pub fn given_words<R: Env + AllocGlobal>(rt: &R) -> io::Result<Vec<String>> {
     let mut words = Vec::new(rt.alloc());
-    for word in env::args(rt)?.skip(1) {
+    for word in env::args(rt)? {
         words.push(word)?;
     }
     Ok(words)
 }
 
-/// The top call, with an open gate and a counter of steps of its own.
+/// The words after the program's name.
+fn after_name(given: &[String]) -> &[String]
+    ensures { result.now ≡ after_name given.now }
+{
+    match given {
+        [_, words @ ..] => words,
+        [] => given,
+    }
+}
+
+/// The top call with a counter of steps that this blank makes, and an open gate.
 fn run_words<R: Threads + Sync + AllocGlobal, S: Source, K: Sink, L: Ledger>(
     rt: &R,
     words: &[String],
@@ -33,9 +47,50 @@ fn run_words<R: Threads + Sync + AllocGlobal, S: Source, K: Sink, L: Ledger>(
     requires name { blank.name ≡ L.name }
     requires parts { blank.parts ≡ L.parts }
     requires some { 0 < L.parts }
+    ensures { TopCall (map string_bytes words.now)
+        (ends_of S.left S.last S.faults K.written K.faults source.old sink.old)
+        (ends_of S.left S.last S.faults K.written K.faults source.new sink.new) result }
 {
     let mut steps = Steps::<L>::begin(blank);
     transyt(rt, rt.alloc(), words, source, sink, &OpenGate, &mut steps)
+}
+
+/// The top call, with an open gate and a counter of steps of its own.
+fn run_call<R: Threads + Sync + AllocGlobal, S: Source, K: Sink>(
+    rt: &R,
+    words: &[String],
+    source: &mut S,
+    sink: &mut K,
+) -> Status
+    ensures { TopCall (map string_bytes words.now)
+        (ends_of S.left S.last S.faults K.written K.faults source.old sink.old)
+        (ends_of S.left S.last S.faults K.written K.faults source.new sink.new) result }
+{
+    run_words::<R, S, K, Brand>(rt, words, source, sink, Blank::new(1))
+}
+
+/// The top call over a source that never fails: it ends with no fault of a read.
+pub fn run_steady<R: Threads + Sync + AllocGlobal, K: Sink>(
+    rt: &R,
+    words: &[String],
+    source: &mut SteadySource,
+    sink: &mut K,
+) -> Status
+    ensures { result ≢ Status.ReadFault }
+{
+    run_call(rt, words, source, sink)
+}
+
+/// The top call over a sink that never fails: it ends with no fault of a write.
+pub fn run_tallied<R: Threads + Sync + AllocGlobal, S: Source>(
+    rt: &R,
+    words: &[String],
+    source: &mut S,
+    sink: &mut TallySink,
+) -> Status
+    ensures { result ≢ Status.WriteFault }
+{
+    run_call(rt, words, source, sink)
 }
 
 /// Tells standard error why not all was done: in one sentence, or with the lists of words that the program takes. A fault
@@ -54,27 +109,28 @@ fn tell<R: Eprint>(rt: &R, ended: Result<Status, ErrorKind>, last: &str) {
     }
 }
 
-/// Runs the program with the words that the runtime was started with, and gives its exit number.
+/// Runs the program with the words that it was given, its own name first, and gives its exit number.
 ///
-/// Where not all was done, standard error is told why: of a refused deck the line, the code and what it means.
-pub fn run_program<R: Threads + Sync + Env + Eprint + AllocGlobal, S: Source, K: Sink + Drop>(
+/// Where not all was done, standard error is told why: of a refused deck the line, the code and its meaning.
+pub fn run_program<R: Threads + Sync + Eprint + AllocGlobal, S: Source, K: Sink>(
     rt: &R,
+    given: io::Result<Vec<String>>,
     source: &mut S,
-    sink: K,
+    sink: &mut K,
 ) -> u8
-    ensures { result ≤ 7 }
+    // with no words nothing is read or written
+    ensures no_words { IfErr given (λ error. (source.new ≡ source.old) × (sink.new ≡ sink.old)) }
+    ensures no_words_number { IfErr given (λ error. (result ≡ 5) ⊎ (result ≡ 7)) }
+    ensures most { result ≤ 7 }
 {
-    let mut sink = LastLine::over(sink);
-    let ended = match words_of(rt) {
-        Ok(words) => Ok(run_words::<R, S, LastLine<K>, Brand>(
-            rt,
-            &words,
-            source,
-            &mut sink,
-            Blank::new(1),
-        )),
+    let mut last = LastLine {
+        sink,
+        front: Front::new(),
+    };
+    let ended = match &given {
+        Ok(words) => Ok(run_call(rt, after_name(words), source, &mut last)),
         Err(error) => Err(error.kind()),
     };
-    tell(rt, ended, sink.text());
+    tell(rt, ended, last.text());
     exit_of(ended)
 }

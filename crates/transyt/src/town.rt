@@ -31,9 +31,13 @@ pub(crate) fn write_made<K: Sink>(alloc: Global, seed: u32, nodes: u32, sink: &m
         return Status::NoMemory;
     };
     let Ok(mut line) = LineBuffer::open(alloc) else {
+        drop(net);
         return Status::NoMemory;
     };
-    match print_deck(&net, &mut line, sink) {
+    let printed = print_deck(&net, &mut line, sink);
+    drop(line);
+    drop(net);
+    match printed {
         Ok(()) => Status::Done,
         Err(_) => Status::WriteFault,
     }

@@ -1,7 +1,7 @@
 //! The words that the program takes.
 ghost use Rattle.std.specs.Prelude.{◌≡◌, ◌≤◌, ◌<◌, IfSome, map, string_bytes};
 ghost use Rattle.transyt_num.specs.Number.{number_of};
-ghost use Rattle.transyt.specs.Words.{within, workers_of, nodes_of, one_word, run_word, town_word, brief_word};
+ghost use Rattle.transyt.specs.Words.{within, workers_of, nodes_of, alone, run_word, make_word, brief_by, brief_word};
 ghost use Rattle.transyt.specs.Words.{scan_word, word_of, IsWord};
 
 use transyt_num::read_number;
@@ -74,108 +74,91 @@ fn nodes_of(word: &[u8]) -> Option<u32>
     within(1, 200, read_number(word))
 }
 
-/// What one word asks for.
-fn one_word(name: &[u8]) -> Option<Word>
-    ensures word { result ≡ one_word name.now }
+/// A word that stands alone.
+fn alone(word: Word, rest: &[String]) -> Option<Word>
+    requires { IsWord word }
+    ensures word { result ≡ alone word (map string_bytes rest.now) }
     ensures within { IfSome result IsWord }
 {
-    if name == b"run".as_slice() {
-        Some(Word::Run { workers: 1 })
-    } else if name == b"counts".as_slice() {
-        Some(Word::Counts)
-    } else if name == b"equisat".as_slice() {
-        Some(Word::Equisat)
-    } else if name == b"audit".as_slice() {
-        Some(Word::Audit)
-    } else {
-        None
+    match rest {
+        [] => Some(word),
+        _ => None,
     }
 }
 
-/// `run w`, with the number of workers.
-fn run_word(name: &[u8], workers: Option<u32>) -> Option<Word>
+/// `run` and `run w`, by what stands after `run`.
+fn run_word(rest: &[String]) -> Option<Word>
+    ensures word { result ≡ run_word (map string_bytes rest.now) }
+    ensures within { IfSome result IsWord }
+{
+    match rest {
+        [] => Some(Word::Run { workers: 1 }),
+        [workers] => {
+            let workers = workers_of(workers.as_bytes())?;
+            Some(Word::Run { workers })
+        }
+        _ => None,
+    }
+}
+
+/// `make seed nodes`.
+fn make_word(rest: &[String]) -> Option<Word>
+    ensures word { result ≡ make_word (map string_bytes rest.now) }
+    ensures within { IfSome result IsWord }
+{
+    let [seed, nodes] = rest else {
+        return None;
+    };
+    let seed = read_number(seed.as_bytes())?;
+    let nodes = nodes_of(nodes.as_bytes())?;
+    Some(Word::Make { seed, nodes })
+}
+
+/// `brief seed nodes`, with so many workers.
+fn brief_by(seed: &[u8], nodes: &[u8], workers: Option<u32>) -> Option<Word>
     requires { IfSome workers (λ n. (1 ≤ n) × (n ≤ 8)) }
-    ensures word { result ≡ run_word name.now workers }
+    ensures word { result ≡ brief_by seed.now nodes.now workers }
     ensures within { IfSome result IsWord }
 {
+    let seed = read_number(seed)?;
+    let nodes = nodes_of(nodes)?;
     let workers = workers?;
-    if name == b"run".as_slice() {
-        Some(Word::Run { workers })
-    } else {
-        None
+    Some(Word::Brief {
+        seed,
+        nodes,
+        workers,
+    })
+}
+
+/// `brief seed nodes` and `brief seed nodes w`.
+fn brief_word(rest: &[String]) -> Option<Word>
+    ensures word { result ≡ brief_word (map string_bytes rest.now) }
+    ensures within { IfSome result IsWord }
+{
+    match rest {
+        [seed, nodes] => brief_by(seed.as_bytes(), nodes.as_bytes(), Some(1)),
+        [seed, nodes, workers] => {
+            let workers = workers_of(workers.as_bytes());
+            brief_by(seed.as_bytes(), nodes.as_bytes(), workers)
+        }
+        _ => None,
     }
 }
 
-/// `make seed nodes` and `brief seed nodes`, with their numbers.
-fn town_word(name: &[u8], seed: Option<u32>, nodes: Option<u32>) -> Option<Word>
-    requires seed { IfSome seed (λ n. n < 1000000000) }
-    requires nodes { IfSome nodes (λ n. (1 ≤ n) × (n ≤ 200)) }
-    ensures word { result ≡ town_word name.now seed nodes }
+/// `scan w low high by`.
+fn scan_word(rest: &[String]) -> Option<Word>
+    ensures word { result ≡ scan_word (map string_bytes rest.now) }
     ensures within { IfSome result IsWord }
 {
-    let seed = seed?;
-    let nodes = nodes?;
-    if name == b"make".as_slice() {
-        Some(Word::Make { seed, nodes })
-    } else if name == b"brief".as_slice() {
-        Some(Word::Brief {
-            seed,
-            nodes,
-            workers: 1,
-        })
-    } else {
-        None
-    }
-}
-
-/// `brief seed nodes w`, with its numbers.
-fn brief_word(
-    name: &[u8],
-    seed: Option<u32>,
-    nodes: Option<u32>,
-    workers: Option<u32>,
-) -> Option<Word>
-    requires seed { IfSome seed (λ n. n < 1000000000) }
-    requires nodes { IfSome nodes (λ n. (1 ≤ n) × (n ≤ 200)) }
-    requires workers { IfSome workers (λ n. (1 ≤ n) × (n ≤ 8)) }
-    ensures word { result ≡ brief_word name.now seed nodes workers }
-    ensures within { IfSome result IsWord }
-{
-    let seed = seed?;
-    let nodes = nodes?;
-    let workers = workers?;
-    if name == b"brief".as_slice() {
-        Some(Word::Brief {
-            seed,
-            nodes,
-            workers,
-        })
-    } else {
-        None
-    }
-}
-
-/// `scan w low high by`, with its numbers.
-fn scan_word(
-    name: &[u8],
-    workers: Option<u32>,
-    low: Option<u32>,
-    high: Option<u32>,
-    by: Option<u32>,
-) -> Option<Word>
-    ensures word { result ≡ scan_word name.now workers low high by }
-    ensures within { IfSome result IsWord }
-{
-    let workers = workers?;
-    let low = low?;
-    let high = high?;
-    let by = by?;
-    if name == b"scan".as_slice() {
-        let asked = ScanWord::new(workers, low, high, by)?;
-        Some(Word::Scan { asked })
-    } else {
-        None
-    }
+    let [workers, low, high, by] = rest else {
+        return None;
+    };
+    let workers = workers_of(workers.as_bytes())?;
+    let low = read_number(low.as_bytes())?;
+    let high = read_number(high.as_bytes())?;
+    let by = read_number(by.as_bytes())?;
+    let asked = ScanWord::new(workers, low, high, by)?;
+    Some(Word::Scan { asked })
 }
 
 /// What words ask for; none where they are none that the program takes. It takes no memory.
@@ -183,27 +166,17 @@ pub(crate) fn word_of(words: &[String]) -> Option<Word>
     ensures word { result ≡ word_of (map string_bytes words.now) }
     ensures within { IfSome result IsWord }
 {
-    match words {
-        [name] => one_word(name.as_bytes()),
-        [name, workers] => run_word(name.as_bytes(), workers_of(workers.as_bytes())),
-        [name, seed, nodes] => town_word(
-            name.as_bytes(),
-            read_number(seed.as_bytes()),
-            nodes_of(nodes.as_bytes()),
-        ),
-        [name, seed, nodes, workers] => brief_word(
-            name.as_bytes(),
-            read_number(seed.as_bytes()),
-            nodes_of(nodes.as_bytes()),
-            workers_of(workers.as_bytes()),
-        ),
-        [name, workers, low, high, by] => scan_word(
-            name.as_bytes(),
-            workers_of(workers.as_bytes()),
-            read_number(low.as_bytes()),
-            read_number(high.as_bytes()),
-            read_number(by.as_bytes()),
-        ),
+    let [name, rest @ ..] = words else {
+        return None;
+    };
+    match name.as_bytes() {
+        b"run" => run_word(rest),
+        b"make" => make_word(rest),
+        b"brief" => brief_word(rest),
+        b"counts" => alone(Word::Counts, rest),
+        b"equisat" => alone(Word::Equisat, rest),
+        b"scan" => scan_word(rest),
+        b"audit" => alone(Word::Audit, rest),
         _ => None,
     }
 }

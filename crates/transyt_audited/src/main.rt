@@ -2,10 +2,11 @@
 #![tactic(auto)]
 
 use std::process::ExitCode;
+use transyt::{given_words, run_program};
 use transyt_io::{StdSink, StdSource};
-use transyt_program::run_program;
 
 fn main(rt: HostRuntime) -> ExitCode {
     let mut source = StdSource::new(rt.stdin());
-    ExitCode::from(run_program(&rt, &mut source, StdSink::new(rt.stdout())))
+    let mut sink = StdSink::new(rt.stdout());
+    ExitCode::from(run_program(&rt, given_words(&rt), &mut source, &mut sink))
 }

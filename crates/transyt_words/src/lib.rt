@@ -13,6 +13,3 @@ pub use audit::AuditWord;
 pub use counts::CountsWord;
 pub use equisat::EquisatWord;
 pub use laws::worked_answers;
-
-#[cfg(test)]
-mod tests;

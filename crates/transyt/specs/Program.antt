@@ -1,0 +1,53 @@
+-- What the program does with its words, between a source and a sink.
+use Rattle.std.specs.Prelude.{◌≡◌, ◌≢◌, ◌↔◌, ◌≤◌, ◌++◌, ℕ, List, Option, None, Some, IfSome, drop, length}
+use Rattle.transyt_io.specs.Streams.{Rose}
+use Rattle.transyt_running.specs.declared.status.Status.{Status}
+use Rattle.transyt_running.specs.declared.status.Status.TheVariants.{BadWords, ReadFault, WriteFault, NoMemory}
+use Rattle.transyt_answers.specs.Report.{report, status}
+use Rattle.transyt.specs.Tasks.{task_of, TaskOutcome, TaskHeadline, TaskComplete, TaskTooLong, IsRun}
+use Rattle.transyt.specs.Words.{word_of}
+
+-- what a source and a sink tell, with their counts of faults
+pub record Ends : Type 0 where
+  pub left : Option (List ℕ)
+  pub last : Option ℕ
+  pub reads : ℕ
+  pub written : Option (List ℕ)
+  pub writes : ℕ
+
+-- what they tell by the meanings of a source and of a sink
+abbrev pub ends_of : {S K : Type 0} → (S → Option (List ℕ)) → (S → Option ℕ) → (S → ℕ) → (K → Option (List ℕ))
+    → (K → ℕ) → S → K → Ends
+ends_of left last reads written writes source sink = record {
+  left = left source;
+  last = last source;
+  reads = reads source;
+  written = written sink;
+  writes = writes sink;
+}
+
+-- neither count of faults rose
+pub record NoFault (old new : Ends) : Type 0 where
+  pub read : Rose old.reads new.reads → ⊥
+  pub write : Rose old.writes new.writes → ⊥
+
+-- the top call was made with these words: what its status says
+pub record TopCall (words : List (List ℕ)) (old new : Ends) (ended : Status) : Type 0 where
+  pub bad_words : (ended ≡ BadWords) ↔ (word_of words ≡ None)
+  pub outcome : IfSome (task_of words) (λ asked.
+      TaskOutcome asked old.left new.left new.last old.written new.written ended)
+  pub read_fault : ended ≡ ReadFault → Rose old.reads new.reads
+  pub write_fault : ended ≡ WriteFault → Rose old.writes new.writes
+  pub told : ended ≢ NoMemory → NoFault old new → IfSome (task_of words) (λ asked.
+      TaskHeadline asked old.left old.written new.written ended)
+  pub complete : ended ≢ NoMemory → NoFault old new → IfSome (task_of words) (λ asked.
+      TaskComplete asked old.left ended)
+  pub too_long : ended ≢ NoMemory → NoFault old new → IfSome (task_of words) (λ asked.
+      TaskTooLong asked old.left ended)
+  pub headline : IsRun (word_of words) → ended ≢ NoMemory → NoFault old new
+      → (input held : List ℕ) → old.left ≡ Some input → old.written ≡ Some held → length input ≤ 4194304
+      → (new.written ≡ Some (held ++ report input)) × (ended ≡ status input)
+
+-- the words after the program's name
+abbrev pub after_name : {X : Type 0} → List X → List X
+after_name given = drop 1 given
