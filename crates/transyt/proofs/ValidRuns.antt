@@ -63,17 +63,7 @@ judged_is c.Trial s h =
     by (is_some s.before)
 judged_is c.Back s h = record { net = back_is s.before s.net h.before h.net; before = tt }
 judged_is c.Keep s h = record { net = h.net; before = tt }
-judged_is c.Climb s h = h
-judged_is c.Cert s h = h
-judged_is c.Index s h = h
-judged_is c.Links s h = h
-judged_is c.Timing s h = h
-judged_is (c.Profile link) s h = h
-judged_is (c.Plot link) s h = h
-judged_is (c.Queue link) s h = h
-judged_is c.Work s h = h
-judged_is c.Deck s h = h
-judged_is c.Stop s h = h
+judged_is (c.Request asked) s h = h
 
 said_is : (r : Result (Option Command) Code) (s : SessionValue) → IsSession s → IsSession (said_judged r s)
 said_is (Err code) s h = h

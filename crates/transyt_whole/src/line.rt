@@ -1,7 +1,7 @@
 //! The lines of an answer, and the writing of them.
 ghost use Rattle.std.specs.Prelude.{◌≡◌, ◌≤◌, ◌∷◌, [], length};
 ghost use Rattle.transyt_text.specs.Forms.{form_line};
-ghost use Rattle.transyt_text.specs.Prints.{Prints};
+ghost use Rattle.transyt_text.specs.Prints.{PrintsOn};
 ghost use Rattle.transyt_whole.specs.Texts.{counts_text, balance_text, scan_text, audit_text, line_text, lines_text};
 
 use transyt_io::{Failed, LineBuffer, Sink};
@@ -101,8 +101,8 @@ fn print_two<K: Sink>(
     sink: &mut K,
 ) -> Result<(), Failed>
     requires { length form.now ≤ 100 }
-    ensures { Prints (K.written sink.old) (K.written sink.new) (K.faults sink.old)
-        (K.faults sink.new) result (form_line form.now (first ∷ second ∷ [])) }
+    ensures { PrintsOn K.written K.faults sink.old sink.new result
+        (form_line form.now (first ∷ second ∷ [])) }
 {
     print_form(form, &[first, second], line, sink)
 }
@@ -113,8 +113,7 @@ fn print_counts<K: Sink>(
     line: &mut LineBuffer,
     sink: &mut K,
 ) -> Result<(), Failed>
-    ensures { Prints (K.written sink.old) (K.written sink.new) (K.faults sink.old)
-        (K.faults sink.new) result (counts_text said) }
+    ensures { PrintsOn K.written K.faults sink.old sink.new result (counts_text said) }
 {
     match said {
         CountsLine::Refused { row, code } => {
@@ -145,8 +144,7 @@ fn print_balance<K: Sink>(
     line: &mut LineBuffer,
     sink: &mut K,
 ) -> Result<(), Failed>
-    ensures { Prints (K.written sink.old) (K.written sink.new) (K.faults sink.old)
-        (K.faults sink.new) result (balance_text said) }
+    ensures { PrintsOn K.written K.faults sink.old sink.new result (balance_text said) }
 {
     match said {
         BalanceLine::Node {
@@ -183,8 +181,7 @@ fn print_balance<K: Sink>(
 
 /// Writes a line of climbs over cycle times.
 fn print_scan<K: Sink>(said: ScanLine, line: &mut LineBuffer, sink: &mut K) -> Result<(), Failed>
-    ensures { Prints (K.written sink.old) (K.written sink.new) (K.faults sink.old)
-        (K.faults sink.new) result (scan_text said) }
+    ensures { PrintsOn K.written K.faults sink.old sink.new result (scan_text said) }
 {
     match said {
         ScanLine::Cycle(row) => {
@@ -207,8 +204,7 @@ fn print_scan<K: Sink>(said: ScanLine, line: &mut LineBuffer, sink: &mut K) -> R
 
 /// Writes the line of an audit.
 fn print_audit<K: Sink>(said: AuditLine, line: &mut LineBuffer, sink: &mut K) -> Result<(), Failed>
-    ensures { Prints (K.written sink.old) (K.written sink.new) (K.faults sink.old)
-        (K.faults sink.new) result (audit_text said) }
+    ensures { PrintsOn K.written K.faults sink.old sink.new result (audit_text said) }
 {
     match said {
         AuditLine::Yes { places, index } => {
@@ -234,8 +230,7 @@ fn print_audit<K: Sink>(said: AuditLine, line: &mut LineBuffer, sink: &mut K) ->
 
 /// Writes a line.
 fn print_line<K: Sink>(said: AnswerLine, line: &mut LineBuffer, sink: &mut K) -> Result<(), Failed>
-    ensures { Prints (K.written sink.old) (K.written sink.new) (K.faults sink.old)
-        (K.faults sink.new) result (line_text said) }
+    ensures { PrintsOn K.written K.faults sink.old sink.new result (line_text said) }
 {
     match said {
         AnswerLine::CardRefused { card, code } => {
@@ -260,8 +255,7 @@ pub(crate) fn print_lines<K: Sink>(
     line: &mut LineBuffer,
     sink: &mut K,
 ) -> Result<(), Failed>
-    ensures { Prints (K.written sink.old) (K.written sink.new) (K.faults sink.old)
-        (K.faults sink.new) result (lines_text lines.now) }
+    ensures { PrintsOn K.written K.faults sink.old sink.new result (lines_text lines.now) }
 {
     for said in lines {
         print_line(*said, line, sink)?;
