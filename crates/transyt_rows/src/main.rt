@@ -1,0 +1,27 @@
+//! Rows over the whole program: each has words, an input, how both are cut and which calls fail, and the bytes and the
+//! status that are wanted. The rows are read from standard input, whose first lines say how they are written.
+#![tactic(auto)]
+
+mod content;
+mod meeting;
+mod parts;
+mod reader;
+mod report;
+mod row;
+mod trial;
+
+use crate::reader::rows_of;
+use crate::report::Tally;
+use crate::trial::passes;
+use anyhow::{Context, Result};
+use std::io;
+
+fn main(rt: HostRuntime) -> Result<()> {
+    let text = io::read_to_string(rt.alloc(), rt.stdin()).context("the rows are no text")?;
+    let mut tally = Tally::new();
+    for row in &rows_of(rt.alloc(), &text)? {
+        tally.count(passes(&rt, row)?);
+    }
+    println!(rt; "{tally}")?;
+    Ok(())
+}
