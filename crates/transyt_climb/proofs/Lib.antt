@@ -6,4 +6,3 @@ pub mod LocalLaws
 pub mod WayLaws
 pub mod CountedLaws
 pub mod WorkedLaws
-pub mod WorkedWayLaws

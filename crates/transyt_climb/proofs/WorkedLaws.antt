@@ -1,49 +1,31 @@
--- The worked turns, computed from the definitions.
-use Rattle.std.proofs.Common.{◌≡◌, ℕ, ◌+◌, Bool, true, false, [], ◌∷◌, Option, Some, None, refl, ap, ◌∙◌}
-use Rattle.std.proofs.Common.{if◌then◌else◌}
+-- The worked turns, and the moves of the worked networks, computed from the definitions.
+use Rattle.std.proofs.Common.{◌≡◌, ℕ, zero, suc, Bool, true, false, [], ◌∷◌, Option, Some, None, refl, sym, ap, ◌∙◌}
+use Rattle.std.proofs.Common.{sum, if◌then◌else◌, arith, lit<, lit≤}
+use Rattle.transyt_delay.specs.declared.figures.Figures.{Figures}
+use Rattle.transyt_delay.specs.declared.terms.Terms.{Terms}
 use Rattle.transyt_platoon.specs.Platoon.{smoothed}
 use Rattle.transyt_stopline.specs.LastSteps.{sum_back, greatest}
-use Rattle.transyt_net.specs.declared.edit.Edit.TheVariants.{Offset}
+use Rattle.transyt_net.specs.declared.edit.Edit.TheVariants.{Offset, Change}
 use Rattle.transyt_net.specs.Edits.{with_edit}
 use Rattle.transyt_net.specs.Parts.{Network}
 use Rattle.transyt_moves.specs.Moves.{move, move_count}
 use Rattle.transyt_stage.specs.ThreeJunctions.{three_junctions}
-use Rattle.transyt_sweep.specs.Sweeps.{seen, out_of, index}
-use Rattle.transyt_sweep.specs.Climb.{tried_at, lowers, moved, climb}
+use Rattle.transyt_sweep.specs.Cell.{terms_frame}
+use Rattle.transyt_sweep.specs.Sweeps.{seen, out_of, evaluated, index}
+use Rattle.transyt_sweep.specs.Climb.{tried_at, is_below, lowers, moved}
+use Rattle.transyt_sweep.specs.WorkedLinks.{new_figures}
+use Rattle.transyt_sweep.proofs.WorkedFigures.{figures_by_root}
 use Rattle.transyt_sweep.proofs.WorkedMove.{tried_first, lowers_first}
 use Rattle.transyt_track.specs.Due.{differs, due_in, due_through, due}
-use Rattle.transyt_session.specs.Session.{SessionValue, lowered, lower_index}
 use Rattle.transyt_climb.specs.declared.turn.Turn.TheVariants.{Took, Passed}
-use Rattle.transyt_climb.specs.Turns.{machine, start_of, answer_of, after_answer, look_answer, looked_at, found_at, turned}
-use Rattle.transyt_climb.specs.Turns.{answers, certified, started, turns}
-use Rattle.transyt_climb.specs.Way.{climb_left}
-use Rattle.transyt_climb.specs.WorkedTurns.{idle, idle_session, junctions_session, way, stayed}
-use Rattle.transyt_climb.specs.WorkedTurns.{three_session, before_step, after_step, stepped_session}
-
--- a climber at its start
-pub start : start_of idle idle.plan ≡ Some (record { place = 0; since = 0; looked = 0; budget = 7; count = 6 })
-unfolding move_count
-start = refl
-
--- two turns that pass
-pub passed : answers 2 (way 9) ≡ Passed ∷ (Passed ∷ [])
-unfolding move_count move tried_at lowers moved due due_through due_in
-passed = refl
+use Rattle.transyt_climb.specs.Turns.{machine, answer_of, look_answer, found_at, turns, certified}
+use Rattle.transyt_climb.specs.Way.{IsLocal}
+use Rattle.transyt_climb.specs.WorkedTurns.{idle, idle_session, junctions_session, way, three_session, before_step, by_last}
 
 -- three turns, round the end of the list
 pub three : turns 3 (way 9) ≡ machine (record { place = 1; since = 4; looked = 6; budget = 9; count = 6 }) idle_session
 unfolding move_count move tried_at lowers moved due due_through due_in
 three = refl
-
--- a whole round of the list is left
-pub left : climb_left (way 9) ≡ stayed true (4 ∷ (5 ∷ (0 ∷ (1 ∷ (2 ∷ [])))))
-unfolding climb_left climb move_count move tried_at lowers moved
-left = refl
-
--- the budget ends before that
-pub left_budget : climb_left (way 5) ≡ stayed false (4 ∷ (5 ∷ []))
-unfolding climb_left climb move_count move tried_at lowers moved
-left_budget = refl
 
 -- a certified place
 pub certificate : certified 0 junctions_session ≡ record junctions_session { work = 11 }
@@ -51,7 +33,7 @@ unfolding sum_back greatest smoothed seen out_of differs due_in due_through due 
 certificate = refl
 
 -- the three junctions after their first move
-abbrev pub after_move : Network
+abbrev after_move : Network
 after_move = with_edit three_junctions (Offset 21 8)
 
 -- the number that is there, if there is one
@@ -60,14 +42,9 @@ number_of None = 0
 number_of (Some n) = n
 
 -- the index after that move
-pub index_after : index after_move ≡ 554272112
+index_after : index after_move ≡ 554272112
 unfolding tried_at move
 index_after = ap number_of tried_first
-
--- the work of it
-pub work_of_first : due three_junctions after_move ≡ 12
-unfolding sum_back greatest smoothed seen out_of differs due_in due_through due
-work_of_first = refl
 
 -- a look at the first place takes it
 pub look_first : look_answer three_junctions 0 ≡ Took 0 (Offset 21 8) 554272112
@@ -76,57 +53,67 @@ look_first =
     ap (λ (b : Bool). if b then Took 0 (Offset 21 8) (index after_move) else Passed) lowers_first
     ∙ ap (Took 0 (Offset 21 8)) index_after
 
--- a session of a network with this work
-abbrev pub session_of : Network → ℕ → SessionValue
-session_of net work = record { net = net; before = None; work = work }
-
--- the session after it
-pub session_first : looked_at 0 three_session ≡ stepped_session
-unfolding lowers tried_at move moved
-session_first =
-    ap (λ (b : Bool). session_of (if b then after_move else three_junctions) (5 + due three_junctions after_move)) lowers_first
-    ∙ ap (λ work. session_of after_move (5 + work)) work_of_first
-
--- a look at that edit
-pub lowered_first : lowered (Offset 21 8) three_session ≡ stepped_session
-unfolding lowers tried_at move moved
-lowered_first = session_first
-
--- a turn that takes it
+-- and so does a turn there
 pub took : answer_of (machine before_step three_session) ≡ Took 0 (Offset 21 8) 554272112
 took = look_first
 
--- the state after it
-pub stepped : turned (machine before_step three_session) ≡ machine after_step stepped_session
-stepped = ap (λ a. after_answer a (machine before_step three_session)) took ∙ ap (machine after_step) session_first
-
--- the index that a look there finds
-pub found : found_at three_junctions 0 ≡ Some 554272112
-unfolding lowers tried_at move moved
-found =
-    ap (λ (b : Bool). if b then Some (index after_move) else None) lowers_first
-    ∙ ap Some index_after
-
--- as does a look at that edit
-pub found_first : lower_index three_junctions (Offset 21 8) ≡ Some 554272112
-unfolding lowers tried_at move moved
-found_first = found
-
--- an edit that leaves the index isn't made, and answers none
-pub tied : lowered (Offset 21 8) idle_session ≡ idle_session
-unfolding differs due_in due_through due
+-- an equal index isn't lower
+pub tied : found_at idle 0 ≡ None
+unfolding move tried_at lowers moved
 tied = refl
 
-pub tied_found : lower_index idle (Offset 21 8) ≡ None
-tied_found = refl
+-- no move of a network without links lowers
+pub local : IsLocal idle
+unfolding move_count move tried_at lowers
+local zero less = refl
+local (suc zero) less = refl
+local (suc (suc zero)) less = refl
+local (suc (suc (suc zero))) less = refl
+local (suc (suc (suc (suc zero)))) less = refl
+local (suc (suc (suc (suc (suc zero))))) less = refl
+local (suc (suc (suc (suc (suc (suc k)))))) less = absurd (omega (arith, less))
 
--- a network without links has none to find
-pub not_found : found_at idle 0 ≡ None
-unfolding move tried_at lowers moved
-not_found = refl
+-- the terms of the link of the other network, of these sums
+abbrev its_terms : ℕ → ℕ → ℕ → ℕ → Terms
+its_terms arrivals room queued stopped = record {
+  arrivals = arrivals;
+  room = room;
+  queued = queued;
+  stopped = stopped;
+  frame = terms_frame by_last.frame;
+  delay_weight = 3;
+  stop_weight = 2;
+}
 
--- a climber at the start of a climb of that
-pub start_idle : started 9 idle_session
-    ≡ machine (record { place = 0; since = 0; looked = 0; budget = 9; count = 6 }) idle_session
+-- the network after its last move
+abbrev after_last : Network
+after_last = with_edit by_last (Change 21 3 8)
+
+-- the figures before that move and after it
+figures_before : (evaluated by_last 0).figures ≡ new_figures 365997 106712 13555 1445237
+unfolding sum_back greatest smoothed seen out_of evaluated
+figures_before = figures_by_root (its_terms 1016660 5776666 3659976 813328) 286027208 (lit≤ tt) (lit< tt)
+
+figures_after : (evaluated after_last 0).figures ≡ new_figures 284664 66443 11861 1077043
+unfolding sum_back greatest smoothed seen out_of evaluated
+figures_after = figures_by_root (its_terms 1016660 8664999 2846648 711662) 459166114 (lit≤ tt) (lit< tt)
+
+-- the indexes
+index_before : index by_last ≡ 1445237
+index_before = ap (λ (f : Figures). sum (f.index ∷ [])) figures_before
+
+index_last : index after_last ≡ 1077043
+index_last = ap (λ (f : Figures). sum (f.index ∷ [])) figures_after
+
+-- so it lowers the index
+tried_last : tried_at by_last 7 ≡ Some 1077043
+unfolding tried_at move
+tried_last = ap Some index_last
+
+lowers_last : lowers by_last 7 ≡ true
+unfolding lowers
+lowers_last = λ j. is_below (index_before j) (tried_last j)
+
+pub not_local : IsLocal by_last → ⊥
 unfolding move_count
-start_idle = refl
+not_local is = let both : true ≡ false = sym lowers_last ∙ is 7 (lit< tt) in cc

@@ -1,4 +1,3 @@
 pub mod Turns
 pub mod Way
 pub mod WorkedTurns
-pub mod WorkedWay

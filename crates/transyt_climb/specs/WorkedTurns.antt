@@ -1,11 +1,9 @@
--- Worked turns: over a network without links, where no move lowers the index, and over two of which no number is neutral.
-use Rattle.std.specs.Prelude.{ℕ, List, [], ◌∷◌, map, Bool, None, Some}
-use Rattle.transyt_parts.specs.Made.{new_stage}
-use Rattle.transyt_net.specs.declared.edit.Edit.TheVariants.{Offset}
-use Rattle.transyt_net.specs.Edits.{with_edit}
+-- Worked turns: over a network without links, where no move lowers the index, and over two of which no number is neutral;
+-- and a network of which the last move alone lowers it.
+use Rattle.std.specs.Prelude.{ℕ, [], ◌∷◌, None, Some}
+use Rattle.transyt_parts.specs.Made.{new_stage, new_link, new_plan}
 use Rattle.transyt_net.specs.Parts.{Network}
 use Rattle.transyt_stage.specs.ThreeJunctions.{three_junctions}
-use Rattle.transyt_sweep.specs.Climb.{Climb}
 use Rattle.transyt_track.specs.WorkedWork.{junctions}
 use Rattle.transyt_session.specs.Session.{SessionValue}
 use Rattle.transyt_climb.specs.Turns.{Counters, Machine, machine}
@@ -43,15 +41,6 @@ gone_round = record { place = 3; since = 6; looked = 9; budget = 9; count = 6 }
 abbrev pub used_up : Counters
 used_up = record { place = 2; since = 5; looked = 9; budget = 9; count = 6 }
 
--- a climb on the network that takes no step and looks at these places
-abbrev pub stayed : Bool → List ℕ → Climb
-stayed local places = record {
-  steps = [];
-  local = local;
-  looks = map (λ place. record { net = idle; place = place }) places;
-  net = idle;
-}
-
 -- a session of three junctions, of which the first move lowers the index, and some work
 abbrev pub three_session : SessionValue
 three_session = record { net = three_junctions; before = None; work = 5 }
@@ -60,10 +49,12 @@ three_session = record { net = three_junctions; before = None; work = 5 }
 abbrev pub before_step : Counters
 before_step = record { place = 0; since = 3; looked = 8; budget = 250; count = 72 }
 
--- the same after the step
-abbrev pub after_step : Counters
-after_step = record { place = 0; since = 0; looked = 9; budget = 250; count = 72 }
-
--- the session after the step, whose work is 12
-abbrev pub stepped_session : SessionValue
-stepped_session = record { net = with_edit three_junctions (Offset 21 8); before = None; work = 17 }
+-- one junction whose first stage has as many steps as it needs, and a link that runs in its third: of its eight moves
+-- only the last, by which that stage begins a step earlier, lowers the index
+abbrev pub by_last : Network
+by_last = record {
+  frame = record { cycle = 60; step_count = 10; sweeps = 1; period = 60; stop_penalty = 100; dispersion = 35 };
+  nodes = record { number = 21; offset = 4; stages = new_stage 2 1 2 ∷ new_stage 5 1 1 ∷ new_stage 9 1 1 ∷ [] } ∷ [];
+  links = new_link 5 21 61 1733 3 2 0 0 (3 ∷ []) ∷ [];
+  plan = Some (new_plan 7 (1 ∷ []));
+}

@@ -20,6 +20,6 @@ mod turn;
 pub use certifying::certify;
 pub use climber::Climber;
 pub use climbing::{Ended, climb_on};
-pub use laws::{rule_of_local, rule_of_turns, rule_of_way, worked_turns, worked_way};
+pub use laws::{rule_of_local, rule_of_turns, rule_of_way, worked_local, worked_turns};
 pub use transyt_moves::{move_at, move_count};
 pub use turn::Turn;

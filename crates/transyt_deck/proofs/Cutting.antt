@@ -1,6 +1,6 @@
 -- The cut of bytes, by the deck of the lines that were taken.
-use Rattle.std.proofs.Common.{◌≡◌, ◌≤◌, ℕ, suc, ◌+◌, ◌-◌, List, ◌∷◌, length, true, Result, Ok, Err, sym, ◌∙◌, ap, subst, refl}
-use Rattle.std.proofs.Common.{IfOk, IfErr, arith}
+use Rattle.std.proofs.Common.{◌≡◌, ◌≤◌, ℕ, suc, ◌+◌, ◌-◌, List, length, true, Result, Ok, Err, sym, ◌∙◌, ap}
+use Rattle.std.proofs.Common.{IfOk, arith}
 use Rattle.std.specs.List.{fold}
 use Rattle.transyt_io.specs.Lines.{after_first_line, lines}
 use Rattle.transyt_deck.specs.declared.reader.CardStop.{CardStop}

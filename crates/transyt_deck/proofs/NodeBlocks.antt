@@ -1,6 +1,6 @@
 -- The NODE and STAGE cards of a valid network make its nodes again.
 use Rattle.std.proofs.Common.{◌≡◌, ℕ, ◌+◌, ◌-◌, ◌<◌, ◌≤◌, nat_le, List, [], ◌∷◌, ◌++◌, map, length, Bool, true, false}
-use Rattle.std.proofs.Common.{cond, not, Option, Some, None, Ok, Err, Result, refl, sym, subst, ◌∙◌, ap, arith, append_assoc}
+use Rattle.std.proofs.Common.{cond, not, Option, Some, None, Ok, Err, refl, sym, subst, ◌∙◌, ap, arith, append_assoc}
 use Rattle.std.proofs.Common.{flat_map, length-append, slice_get, All, option_and_then}
 use Rattle.std.proofs.lemmas.List.{append-nil}
 use Rattle.std.proofs.lemmas.List.Elements.{All-head, All-tail}

@@ -1,6 +1,6 @@
 -- The YIELD cards of a valid network make the rules of its links again.
-use Rattle.std.proofs.Common.{◌≡◌, ℕ, ◌≤◌, arith, List, [], ◌∷◌, ◌++◌, map, true, false, cond, not, ◌&&◌, Option, Some}
-use Rattle.std.proofs.Common.{None, refl, sym, subst, ◌∙◌, ap, is_some, append_assoc, flat_map, IfSome, Ok}
+use Rattle.std.proofs.Common.{◌≡◌, arith, List, [], ◌∷◌, ◌++◌, map, true, false, cond, not, ◌&&◌, Option, Some}
+use Rattle.std.proofs.Common.{None, refl, subst, ◌∙◌, ap, is_some, append_assoc, flat_map, IfSome, Ok}
 use Rattle.std.proofs.lemmas.List.Elements.{All-head, All-tail}
 use Rattle.std.proofs.lemmas.Bool.{le-leb}
 use Rattle.transyt_parts.specs.declared.link.GiveWay.{GiveWay}

@@ -1,9 +1,9 @@
 -- The numbers of a valid network are small enough for a card.
-use Rattle.std.proofs.Common.{◌≡◌, ℕ, ◌<◌, ◌≤◌, nat_eq, nat_le, List, [], ◌∷◌, length, Bool, true, false, cond, ◌&&◌, Option}
-use Rattle.std.proofs.Common.{Some, None, refl, ◌∙◌, ap, arith, inl, inr, All}
+use Rattle.std.proofs.Common.{◌≡◌, ℕ, ◌<◌, ◌≤◌, nat_eq, nat_le, List, [], ◌∷◌, length, Bool, true, false, cond, Option}
+use Rattle.std.proofs.Common.{Some, refl, ◌∙◌, ap, arith, inl, inr, All}
 use Rattle.std.specs.List.{list_all}
 use Rattle.std.proofs.lemmas.List.Elements.{All-head, All-tail}
-use Rattle.std.proofs.lemmas.Bool.{and_from, or_cases, eqb-true, le-leb, lt-ltb}
+use Rattle.std.proofs.lemmas.Bool.{and_from, or_cases, eqb-true, le-leb}
 use Rattle.std.proofs.lemmas.Bool.Decides.{nat_tests}
 use Rattle.transyt_parts.specs.Parts.{LinkValue, NodeValue}
 use Rattle.transyt_net.specs.Parts.{Network}

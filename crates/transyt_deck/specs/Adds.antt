@@ -1,5 +1,5 @@
 -- What adding a card comes to. Only private contracts cite these words.
-use Rattle.std.specs.Prelude.{◌≡◌, ◌<◌, ◌≤◌, ℕ, length, IsOk, Option, Some, None, Result, Ok, Err}
+use Rattle.std.specs.Prelude.{◌≡◌, ◌<◌, ◌≤◌, length, IsOk, Option, Some, None, Result, Ok, Err}
 use Rattle.transyt_syntax.specs.declared.code.Code.{Code}
 use Rattle.transyt_net.specs.declared.draft.DraftFault.{DraftFault}
 use Rattle.transyt_net.specs.Parts.{Network}

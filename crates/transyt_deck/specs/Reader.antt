@@ -1,5 +1,5 @@
 -- What a reader of cards stands for.
-use Rattle.std.specs.Prelude.{ℕ, ◌≡◌, ◌+◌, ◌||◌, Bool, true, false, not, is_some, IsTrue, Result, Ok, Err}
+use Rattle.std.specs.Prelude.{◌≡◌, ◌+◌, ◌||◌, Bool, true, false, not, is_some, IsTrue, Result, Ok, Err}
 use Rattle.transyt_syntax.specs.declared.code.Code.TheVariants as code
 use Rattle.transyt_net.specs.Parts.{Network}
 use Rattle.transyt_deck.specs.declared.reader.CardStop.{CardStop}

@@ -6,7 +6,6 @@ use Rattle.transyt_syntax.specs.declared.code.Code.{Code}
 use Rattle.transyt_syntax.specs.declared.code.Code.TheVariants as code
 use Rattle.transyt_syntax.specs.Findings.{when}
 use Rattle.transyt_syntax.specs.Syntax.{unless, said}
-use Rattle.transyt_parts.specs.declared.frame.Frame.{Frame}
 use Rattle.transyt_parts.specs.declared.stage_plan.PlanFault.{PlanFault}
 use Rattle.transyt_parts.specs.declared.stage_plan.PlanFault.TheVariants as plan
 use Rattle.transyt_parts.specs.Valid.{within, is_frame}

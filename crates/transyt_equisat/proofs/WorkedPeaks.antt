@@ -1,5 +1,5 @@
 -- A worked plan, and what worked answers are not worth.
-use Rattle.std.proofs.Common.{◌≡◌, ◌≤◌, All, refl, arith}
+use Rattle.std.proofs.Common.{All, refl, arith}
 use Rattle.std.proofs.lemmas.List.Elements.{All-from_recursion}
 use Rattle.transyt_net.specs.Parts.{node_of}
 use Rattle.transyt_equisat.specs.Answer.{GreensValue}

@@ -1,5 +1,5 @@
 -- The profiles of the evaluation, as a session gives them.
-use Rattle.std.proofs.Common.{◌≡◌, ℕ, ◌≤◌, List, sym, ap, subst, ◌∙◌}
+use Rattle.std.proofs.Common.{◌≡◌, ℕ, ◌≤◌, sym, ap, subst, ◌∙◌}
 use Rattle.transyt_net.specs.Parts.{Network}
 use Rattle.transyt_sweep.specs.Cell.{CellValue, HasSteps}
 use Rattle.transyt_sweep.specs.Sweeps.{out_of, read_of, evaluated}

@@ -1,5 +1,5 @@
 -- What a line says that isn't skipped.
-use Rattle.std.proofs.Common.{◌≡◌, ◌∙◌, ℕ, List, [], false, cond, Option, Some, None, Result, Ok, Err, refl, sym, ap, IfErr, IfOk, IsSome, subst}
+use Rattle.std.proofs.Common.{◌≡◌, ◌∙◌, ℕ, List, false, cond, Option, Some, None, Result, Ok, Err, refl, sym, ap, IfErr, IfOk, IsSome, subst}
 use Rattle.transyt_io.specs.Lines.{is_skipped, words}
 use Rattle.transyt_syntax.specs.declared.code.Code.{Code}
 use Rattle.transyt_syntax.specs.Syntax.{Entry, counts_of, entry_of, first_word, named, said, says_of, syntax_code, unless, with_numbers}

@@ -1,6 +1,6 @@
 use Rattle.std.proofs.Common.{◌≡◌, sym, ◌∙◌, false}
 use Rattle.transyt_io.specs.Lines.{is_skipped}
-use Rattle.transyt_syntax.specs.Syntax.{counts_of, says_of, syntax_code, unless}
+use Rattle.transyt_syntax.specs.Syntax.{counts_of, says_of, syntax_code}
 use Rattle.transyt_syntax.proofs.Says.{error_is, found_of, kept_says, not_nothing}
 use Rattle.transyt_commands.specs.Commands.{commands}
 use Rattle.transyt_commands.proofs.reading.read_command.Goals as goal

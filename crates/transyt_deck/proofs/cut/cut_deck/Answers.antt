@@ -1,4 +1,4 @@
-use Rattle.std.proofs.Common.{◌≡◌, ◌≤◌, ℕ, ◌+◌, ◌-◌, List, ◌∷◌, length, true, Result, Ok, sym, ◌∙◌, ap, subst, IfOk, arith}
+use Rattle.std.proofs.Common.{◌≡◌, ◌≤◌, ℕ, ◌+◌, ◌-◌, length, Result, Ok, sym, ◌∙◌, ap, subst, IfOk, arith}
 use Rattle.std.specs.List.{fold}
 use Rattle.transyt_io.specs.Lines.{lines}
 use Rattle.transyt_deck.specs.declared.reader.CardStop.{CardStop}

@@ -1,4 +1,4 @@
-use Rattle.std.proofs.Common.{◌≡◌, ℕ, List, Some, Err, sym, subst, ◌∙◌}
+use Rattle.std.proofs.Common.{ℕ, List, Some, Err, sym, subst, ◌∙◌}
 use Rattle.transyt_net.specs.declared.draft.DraftFault.TheVariants.{Memory}
 use Rattle.transyt_net.specs.Refuses.{Refuses}
 use Rattle.transyt_parts.specs.Made.{link_from}

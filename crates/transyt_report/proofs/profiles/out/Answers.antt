@@ -1,7 +1,6 @@
 -- The departures at the last sweep are those of the evaluation, with as many values as the cycle has steps.
-use Rattle.std.proofs.Common.{◌≡◌, ◌≤◌, List, length, arith, ap, ◌∙◌}
+use Rattle.std.proofs.Common.{◌≤◌, length, arith, ap, ◌∙◌}
 use Rattle.transyt_net.specs.Parts.{Network}
-use Rattle.transyt_sweep.specs.Sweeps.{evaluated}
 use Rattle.transyt_report.proofs.ProfileLaws.{evaluated_steps, out_is}
 use Rattle.transyt_report.proofs.profiles.out.Goals as goal
 

@@ -1,4 +1,4 @@
-use Rattle.std.proofs.Common.{ℕ, ap, ◌∙◌}
+use Rattle.std.proofs.Common.{ap, ◌∙◌}
 use Rattle.transyt_net.specs.Parts.{Network, link_of}
 use Rattle.transyt_text.proofs.PrintLaws.{prints_same}
 use Rattle.transyt_report.specs.Texts.{figures_line}
