@@ -5,22 +5,22 @@ use Rattle.std.proofs.lemmas.List.{length-map, get_or-map}
 use Rattle.std.proofs.lemmas.Simd.{map-map}
 use Rattle.std.proofs.lemmas.List.FromFn.{fill_by_all, length-map-range_with_len}
 use Rattle.transyt_net.specs.Parts.{Network}
-use Rattle.transyt_whole.specs.declared.line.Climbed.{Climbed}
+use Rattle.transyt_scan.specs.declared.row.ScanRow.{ScanRow}
 use Rattle.transyt_scan.specs.declared.asked.CycleTimes.{CycleTimes}
 use Rattle.transyt_scan.specs.Rows.{cycle_at, cycle_count, cycles, row_at, table}
 use Rattle.transyt_scan.specs.Best.{no_row}
 
 -- where each place holds the row of its cycle time, the rows are the table
-pub table_made : (net : Network) (times : CycleTimes) (slots : List (Option Climbed)) (rows : List Climbed)
+pub table_made : (net : Network) (times : CycleTimes) (slots : List (Option ScanRow)) (rows : List ScanRow)
     → length slots ≡ cycle_count times
-    → ((k : ℕ) (d : Option Climbed) → k < cycle_count times
+    → ((k : ℕ) (d : Option ScanRow) → k < cycle_count times
     → IfSome (get_or slots k d) (λ made. made ≡ row_at net (cycle_at times k)))
     → map Some rows ≡ slots → rows ≡ table net times
 table_made net times slots rows len made all =
     let long : length rows ≡ cycle_count times = sym (length-map rows Some) ∙ ap length all ∙ len in
     let at : (k : ℕ) → k < cycle_count times → get_or rows k no_row ≡ row_at net (cycle_at times k) =
     λ k less.
-    let P : Option Climbed → Type 0 = λ slot. IfSome slot (λ row. row ≡ row_at net (cycle_at times k)) in
+    let P : Option ScanRow → Type 0 = λ slot. IfSome slot (λ row. row ≡ row_at net (cycle_at times k)) in
     let there : get_or slots k (Some no_row) ≡ Some (get_or rows k no_row) =
     ap (λ s. get_or s k (Some no_row)) (sym all) ∙ get_or-map Some rows k no_row (Some no_row) (omega (arith, long, less)) in
     subst P there (made k (Some no_row) less) in

@@ -1,31 +1,31 @@
 -- The best row: the one with the least index at its end, and the first among equals.
 use Rattle.std.specs.Prelude.{ℕ, ◌<◌, ◌≤◌, nat_lt, true, List, [], ◌∷◌, length, slice_index_or, if◌then◌else◌}
-use Rattle.transyt_whole.specs.declared.line.Climbed.{Climbed}
+use Rattle.transyt_scan.specs.declared.row.ScanRow.{ScanRow}
 
 -- what stands where there is no row
-abbrev pub no_row : Climbed
+abbrev pub no_row : ScanRow
 no_row = record { cycle = 0; from = 0; took = 0; local = true; looked = 0; to = 0 }
 
 -- the index at the end of the row at a place
-abbrev pub to_at : List Climbed → ℕ → ℕ
+abbrev pub to_at : List ScanRow → ℕ → ℕ
 to_at rows place = (slice_index_or rows place no_row).to
 
 -- the place of the first row with the least index at its end
-pub record IsLeast (rows : List Climbed) (place : ℕ) : Type 0 where
+pub record IsLeast (rows : List ScanRow) (place : ℕ) : Type 0 where
   pub within : place < length rows
   pub least : (k : ℕ) → k < length rows → to_at rows place ≤ to_at rows k
   pub first : (k : ℕ) → k < place → to_at rows place < to_at rows k
 
 -- the better of two rows: the later only where its index at the end is lower
-abbrev pub better : Climbed → Climbed → Climbed
+abbrev pub better : ScanRow → ScanRow → ScanRow
 better row later = if nat_lt later.to row.to then later else row
 
 -- the best of a row and those after it
-abbrev pub best_from : Climbed → List Climbed → Climbed
+abbrev pub best_from : ScanRow → List ScanRow → ScanRow
 best_from row [] = row
 best_from row (later ∷ rows) = best_from (better row later) rows
 
 -- the best row
-abbrev pub best : List Climbed → Climbed
+abbrev pub best : List ScanRow → ScanRow
 best [] = no_row
 best (row ∷ rows) = best_from row rows

@@ -6,7 +6,7 @@ use Rattle.transyt_parts.specs.Parts.{PlanValue}
 use Rattle.transyt_net.specs.Parts.{Network, with_cycle}
 use Rattle.transyt_sweep.specs.Sweeps.{index}
 use Rattle.transyt_sweep.specs.Climb.{Climb, climb, ended}
-use Rattle.transyt_whole.specs.declared.line.Climbed.{Climbed}
+use Rattle.transyt_scan.specs.declared.row.ScanRow.{ScanRow}
 use Rattle.transyt_scan.specs.declared.asked.CycleTimes.{CycleTimes}
 use Rattle.transyt_scan.specs.declared.asked.ScanWord.{ScanWord}
 
@@ -30,12 +30,18 @@ is_scan workers low high by =
     nat_le 1 workers && nat_le workers 8 && nat_le 30 low && nat_le low high && nat_le high 240 && nat_le 1 by
     && nat_le by 210
 
+-- cycle times from a lowest to a highest by a step
+abbrev pub times_of : ℕ → ℕ → ℕ → CycleTimes
+times_of low high by = record { low = low; high = high; by = by }
+
+-- so many workers over such cycle times
+abbrev pub asking : ℕ → ℕ → ℕ → ℕ → ScanWord
+asking workers low high by = record { workers = workers; times = times_of low high by }
+
 -- what these numbers ask for, where they may
 abbrev pub scan_of : ℕ → ℕ → ℕ → ℕ → Option ScanWord
 scan_of workers low high by =
-    if is_scan workers low high by
-    then Some (record { workers = workers; times = record { low = low; high = high; by = by } })
-    else None
+    if is_scan workers low high by then Some (asking workers low high by) else None
 
 -- the cycle time at a place, from 0
 abbrev pub cycle_at : CycleTimes → ℕ → ℕ
@@ -56,7 +62,7 @@ climb_by net (Some plan) = climb net 0 plan.budget
 
 -- the row of a climb of a network: its cycle time, its index, the steps taken, how it ended after how many looks, and
 -- the index at its end
-abbrev pub climbed_row : Network → Climb → Climbed
+abbrev pub climbed_row : Network → Climb → ScanRow
 climbed_row net c = record {
   cycle = net.frame.cycle;
   from = index net;
@@ -67,13 +73,13 @@ climbed_row net c = record {
 }
 
 -- the row of a network
-unfoldable pub row_of : Network → Climbed
+unfoldable pub row_of : Network → ScanRow
 row_of net = climbed_row net (climb_by net net.plan)
 
 -- the row of a cycle time: that of the network with this cycle and all else as it is
-abbrev pub row_at : Network → ℕ → Climbed
+abbrev pub row_at : Network → ℕ → ScanRow
 row_at net cycle = row_of (with_cycle net cycle)
 
 -- the table: a row for each cycle time
-abbrev pub table : Network → CycleTimes → List Climbed
+abbrev pub table : Network → CycleTimes → List ScanRow
 table net times = map (row_at net) (cycles times)

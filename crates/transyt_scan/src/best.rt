@@ -3,10 +3,10 @@
 ghost use Rattle.std.specs.Prelude.{◌≡◌, ◌<◌, length, slice_index_or};
 ghost use Rattle.transyt_scan.specs.Best.{IsLeast, best, no_row};
 
-use transyt_whole::Climbed;
+use crate::row::ScanRow;
 
 /// The place of the row with the least index at its end, the first among equals, from 0.
-pub fn least(rows: &[Climbed]) -> usize
+pub fn least(rows: &[ScanRow]) -> usize
     requires some { 0 < length rows.now }
     ensures least { IsLeast rows.now result }
     ensures best { slice_index_or rows.now result no_row ≡ best rows.now }

@@ -1,70 +1,21 @@
 //! One climb, and its row.
 
-ghost use Rattle.std.specs.Prelude.{◌≡◌, ◌+◌, ◌^◌, ◌≤◌, ◌<◌, ℕ, [], length, None, IfOk, IfSome};
-ghost use Rattle.transyt_moves.specs.Moves.{move_count};
-ghost use Rattle.transyt_sweep.specs.Climb.{climb};
-ghost use Rattle.transyt_climb.specs.Turns.{start_at, step_then};
+ghost use Rattle.std.specs.Prelude.{◌≡◌, ◌^◌, ◌≤◌, ◌<◌, None, IfOk, IfSome};
 ghost use Rattle.transyt_scan.specs.Rows.{row_of, row_at};
 
 use crate::bench::Bench;
+use crate::row::ScanRow;
 use std::alloc::{AllocError, Global};
 use std::marker::Brand;
 use std::sync::ledger::{Blank, Ledger};
-use transyt_climb::{Climber, Turn};
+use transyt_climb::{Climber, climb_on};
 use transyt_net::Net;
 use transyt_session::Session;
 use transyt_steps::Steps;
-use transyt_whole::Climbed;
-
-/// How a climb ended: how many steps it took, and whether it ended since no move lowers the index.
-#[derive(Clone, Copy, Debug, PartialEq, Eq, Drop)]
-struct Ended {
-    took: u32,
-    local: bool,
-}
-
-/// How many steps a turn took: one or none.
-fn steps_of(turn: Turn) -> u32
-    ensures value { result ≡ length (step_then turn []) }
-    ensures few { result ≤ 1 }
-{
-    match turn {
-        Turn::Took { .. } => 1,
-        _ => 0,
-    }
-}
-
-/// Climbs from a climber at its start to its end, and counts the steps taken.
-fn count_steps<L: Ledger>(
-    climber: &mut Climber,
-    session: &mut Session,
-    steps: &mut Steps<L>,
-) -> Ended
-    requires start { climber.old ≡ start_at climber.old.budget (move_count session.old.net) }
-    requires closed { session.old.before ≡ None }
-    requires room { session.old.work ≤ 2 ^ 60 }
-    ensures took { result.took ≡ length (climb session.old.net 0 climber.old.budget).steps }
-    ensures local { result.local ≡ (climb session.old.net 0 climber.old.budget).local }
-    ensures looked { climber.new.looked ≡ length (climb session.old.net 0 climber.old.budget).looks }
-    ensures net { session.new.net ≡ (climb session.old.net 0 climber.old.budget).net }
-{
-    let _ = climber.budget();
-    let mut took = 0;
-    loop {
-        let turn = climber.turn(session, steps);
-        if turn.is_end() {
-            return Ended {
-                took,
-                local: turn.is_local(),
-            };
-        }
-        took += steps_of(turn);
-    }
-}
 
 /// Climbs a session's network once by its climb plan. Without a plan there is nothing to look at, so that the row has 0
 /// steps, LOCAL and 0 looks.
-fn row_of<L: Ledger>(session: &mut Session, steps: &mut Steps<L>) -> Climbed
+fn row_of<L: Ledger>(session: &mut Session, steps: &mut Steps<L>) -> ScanRow
     requires closed { session.old.before ≡ None }
     requires room { session.old.work ≤ 2 ^ 60 }
     ensures { result ≡ row_of session.old.net }
@@ -72,7 +23,7 @@ fn row_of<L: Ledger>(session: &mut Session, steps: &mut Steps<L>) -> Climbed
     let cycle = session.net().frame().cycle;
     let from = session.index();
     let Some(mut climber) = Climber::start(session.net()) else {
-        return Climbed {
+        return ScanRow {
             cycle,
             from,
             took: 0,
@@ -81,8 +32,8 @@ fn row_of<L: Ledger>(session: &mut Session, steps: &mut Steps<L>) -> Climbed
             to: from,
         };
     };
-    let ended = count_steps(&mut climber, session, steps);
-    Climbed {
+    let ended = climb_on(&mut climber, session, steps);
+    ScanRow {
         cycle,
         from,
         took: ended.took,
@@ -98,7 +49,7 @@ fn row_at<L: Ledger>(
     net: &Net,
     cycle: u32,
     blank: Blank,
-) -> Result<Climbed, AllocError>
+) -> Result<ScanRow, AllocError>
     requires name { blank.name ≡ L.name }
     requires parts { blank.parts ≡ L.parts }
     requires some { 0 < L.parts }
@@ -120,7 +71,7 @@ pub(crate) fn pass_bench<B: Bench>(
     alloc: Global,
     net: &Net,
     cycle: u32,
-) -> Option<Climbed>
+) -> Option<ScanRow>
     requires short { 30 ≤ cycle }
     requires long { cycle ≤ 240 }
     ensures { IfSome result (λ row. row ≡ row_at net.now cycle) }

@@ -1,50 +1,47 @@
 //! Worked climbs over cycle times, computed from the definitions.
 
 ghost use Rattle.std.specs.Prelude.{◌≡◌, [], ◌∷◌, map, true, false, None, Some};
+ghost use Rattle.transyt_parts.specs.Made.{new_plan};
 ghost use Rattle.transyt_climb.specs.WorkedTurns.{idle};
-ghost use Rattle.transyt_stage.specs.ThreeJunctions.{three_junctions};
+ghost use Rattle.transyt_whole.specs.declared.line.AnswerLine.TheVariants as line;
+ghost use Rattle.transyt_whole.specs.declared.line.ScanLine.TheVariants as said;
 ghost use Rattle.transyt_whole.specs.Answer.{done};
-ghost use Rattle.transyt_scan.specs.Rows.{climb_by, climbed_row, cycles, row_at, scan_of, table};
+ghost use Rattle.transyt_scan.specs.Rows.{cycles, row_at, scan_of, table, times_of};
 ghost use Rattle.transyt_scan.specs.Best.{IsLeast, best};
-ghost use Rattle.transyt_scan.specs.Scan.{scan_answer, table_lines};
-ghost use Rattle.transyt_scan.specs.WorkedScan.{from_60, from_44, at_72, idle_with, four_looks, stayed};
-ghost use Rattle.transyt_scan.specs.WorkedScan.{junctions_at_61, climbed_at, four_rows, five_lines};
-ghost use Rattle.transyt_scan.specs.WorkedScan.{in_range, one_look, out_of_range, two_steps};
+ghost use Rattle.transyt_scan.specs.Scan.{row_line, scan_answer, table_lines, told};
+ghost use Rattle.transyt_scan.specs.WorkedScan.{from_44, idle_with, in_range, junction, out_of_range, stayed};
+ghost use Rattle.transyt_scan.specs.WorkedScan.{climbed_at, three_rows};
 
-/// Worked cycle times, rows, a best row, the lines of a table and an answer.
+/// Worked cycle times, what may be asked for (each number at its limits, and one past them), rows where no move lowers
+/// the index, the lines of a table and an answer.
 pub fn worked_scan()
-    ensures missed { cycles from_60 ≡ 60 ∷ 77 ∷ 94 ∷ 111 ∷ [] }
+    ensures missed { cycles (times_of 60 120 17) ≡ 60 ∷ 77 ∷ 94 ∷ 111 ∷ [] }
     ensures met { cycles from_44 ≡ 44 ∷ 51 ∷ [] }
-    ensures alone { cycles at_72 ≡ 72 ∷ [] }
+    ensures within { map (λ a. scan_of a.workers a.times.low a.times.high a.times.by) in_range ≡ map Some in_range }
+    ensures beyond { map (λ a. scan_of a.workers a.times.low a.times.high a.times.by) out_of_range
+        ≡ map (λ _. None) out_of_range }
     ensures rows { table idle from_44 ≡ stayed 44 true 6 ∷ stayed 51 true 6 ∷ [] }
-    ensures budget { row_at (idle_with four_looks) 44 ≡ stayed 44 false 4 }
+    ensures budget { row_at (idle_with (Some (new_plan 4 (2 ∷ [])))) 44 ≡ stayed 44 false 4 }
     ensures unplanned { row_at (idle_with None) 44 ≡ stayed 44 true 0 }
-    ensures from { (row_at junctions_at_61 90).from ≡ 556223009 }
-    ensures best { best four_rows ≡ climbed_at 58 8 2 false 20 3 }
-    ensures lines { table_lines four_rows ≡ five_lines }
+    ensures told { told (climbed_at 58 8 2 false 20 3)
+        ≡ record { cycle = 58; from = 8; took = 2; local = false; looked = 20; to = 3 } }
+    ensures lines { table_lines three_rows ≡ row_line (climbed_at 50 9 1 true 11 7) ∷ row_line (climbed_at 58 8 2 false 20 3)
+        ∷ row_line (climbed_at 66 5 4 true 13 3) ∷ line.Scan (said.Best 58 3) ∷ [] }
     ensures answer { scan_answer from_44 idle 17 (5 ∷ [])
         ≡ done (table_lines (stayed 44 true 6 ∷ stayed 51 true 6 ∷ [])) }
 {}
 
-/// Worked rows over three junctions whose first move lowers the index: of a climb of two steps after three looks, and of
-/// one by a budget of one look, which begins at the first place.
-#[tactic(auto, using(crate::proofs::WorkedRows::row_of_two, crate::proofs::WorkedRows::row_of_one))]
-pub fn worked_rows()
-    ensures two { climbed_row three_junctions two_steps ≡ climbed_at 90 556223009 2 false 3 554272112 }
-    ensures one { climbed_row three_junctions (climb_by three_junctions one_look)
-        ≡ climbed_at 90 556223009 1 false 1 554272112 }
-{}
-
-/// What may be asked for: each number at its limits, and one past them.
-pub fn worked_limits()
-    ensures within { map (λ a. scan_of a.workers a.times.low a.times.high a.times.by) in_range ≡ map Some in_range }
-    ensures beyond { map (λ a. scan_of a.workers a.times.low a.times.high a.times.by) out_of_range
-        ≡ map (λ _. None) out_of_range }
+/// The row of a junction with a link at another cycle time than its own: its third move lowers the index, by what it is
+/// at that cycle time.
+#[tactic(auto, using(crate::proofs::WorkedRow::row_at_90))]
+pub fn worked_row()
+    ensures { row_at (junction 61 5 16) 90 ≡ climbed_at 90 13935199 1 false 3 8632377 }
 {}
 
 /// The best of the worked rows stands at place 1; the row at place 2 is as good, and comes after it.
-#[tactic(auto, using(crate::proofs::WorkedLimits::first_is_least, crate::proofs::WorkedLimits::later_is_not))]
+#[tactic(auto, using(crate::proofs::WorkedBest::first_is_least, crate::proofs::WorkedBest::later_is_not))]
 pub fn worked_best()
-    ensures first { IsLeast four_rows 1 }
-    ensures later { IsLeast four_rows 2 → ⊥ }
+    ensures first { IsLeast three_rows 1 }
+    ensures later { IsLeast three_rows 2 → ⊥ }
+    ensures best { best three_rows ≡ climbed_at 58 8 2 false 20 3 }
 {}

@@ -16,13 +16,15 @@ mod bench;
 mod best;
 mod climbing;
 mod laws;
+mod row;
 mod scanning;
 mod word;
 
 pub use asked::{CycleTimes, ScanWord};
 pub use bench::{Bench, IdleBench};
 pub use best::least;
-pub use laws::{worked_best, worked_limits, worked_rows, worked_scan};
+pub use laws::{worked_best, worked_row, worked_scan};
+pub use row::ScanRow;
 pub use scanning::scan;
 pub use word::{answer_scan, scan_deck};
 

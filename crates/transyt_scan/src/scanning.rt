@@ -1,17 +1,17 @@
 //! The table of the climbs.
 
 ghost use Rattle.std.specs.Prelude.{◌≡◌, ◌≤◌, ◌<◌, ℕ, length, map, Some, IfOk, IfSome, slice_index_or, vec_len};
-ghost use Rattle.transyt_scan.specs.Rows.{AreTimes, IsScan, cycle_at, cycle_count, row_at, table};
+ghost use Rattle.transyt_scan.specs.Rows.{AreTimes, IsScan, asking, cycle_at, cycle_count, row_at, table, times_of};
 ghost use Rattle.std.specs.Prelude.{Option};
-ghost use Rattle.transyt_whole.specs.declared.line.Climbed.{Climbed};
+ghost use Rattle.transyt_scan.specs.declared.row.ScanRow.{ScanRow};
 
 use crate::asked::{CycleTimes, ScanWord};
 use crate::bench::Bench;
 use crate::climbing::pass_bench;
+use crate::row::ScanRow;
 use std::alloc::{AllocError, Global};
 use std::thread::{self, Threads};
 use transyt_net::Net;
-use transyt_whole::Climbed;
 
 /// How many cycle times are asked for, 1 to 211.
 fn cycle_count(times: CycleTimes) -> usize
@@ -39,7 +39,7 @@ fn fill<B: Bench>(
     net: &Net,
     times: CycleTimes,
     place: usize,
-    row: &mut Option<Climbed>,
+    row: &mut Option<ScanRow>,
 )
     requires times { AreTimes times }
     requires place { place < cycle_count times }
@@ -55,12 +55,12 @@ fn fill_all<R: Threads + Sync, B: Bench>(
     alloc: Global,
     net: &Net,
     asked: ScanWord,
-    rows: &mut [Option<Climbed>],
+    rows: &mut [Option<ScanRow>],
 )
     requires scan { IsScan asked }
     requires all { length rows.old ≡ cycle_count asked.times }
     ensures len { length rows.new ≡ length rows.old }
-    ensures made { (k : ℕ) (d : Option Climbed) → k < length rows.old
+    ensures made { (k : ℕ) (d : Option ScanRow) → k < length rows.old
         → IfSome (slice_index_or rows.new k d) (λ made. made ≡ row_at net.now (cycle_at asked.times k)) }
 {
     let times = asked.times;
@@ -68,14 +68,14 @@ fn fill_all<R: Threads + Sync, B: Bench>(
         rt,
         rows,
         asked.workers as usize,
-        &|place: usize, row: &mut Option<Climbed>|
+        &|place: usize, row: &mut Option<ScanRow>|
             requires { AreTimes times × (place < cycle_count times) }
         { fill(bench, alloc, net, times, place, row) },
     );
 }
 
 /// All rows, or want of memory where one wasn't made.
-fn made_rows(alloc: Global, rows: &[Option<Climbed>]) -> Result<Vec<Climbed>, AllocError>
+fn made_rows(alloc: Global, rows: &[Option<ScanRow>]) -> Result<Vec<ScanRow>, AllocError>
     ensures { IfOk result (λ made. map Some made.items ≡ rows.now) }
 {
     let mut made = Vec::new(alloc);
@@ -88,17 +88,14 @@ fn made_rows(alloc: Global, rows: &[Option<Climbed>]) -> Result<Vec<Climbed>, Al
     Ok(made)
 }
 
-/// The table of a network: a row for each cycle time that is asked for, in their order.
-///
-/// The cycle times are parted among the workers, and each climb stands between entering and leaving the bench. It is the
-/// table of one worker for every number of them. Out of memory in one climb is the answer for all.
-pub fn scan<R: Threads + Sync, B: Bench>(
+/// The table of a network for what was asked.
+fn scan_asked<R: Threads + Sync, B: Bench>(
     rt: &R,
     alloc: Global,
     net: &Net,
     asked: ScanWord,
     bench: &B,
-) -> Result<Vec<Climbed>, AllocError>
+) -> Result<Vec<ScanRow>, AllocError>
     requires { IsScan asked }
     ensures table { IfOk result (λ rows. rows.items ≡ table net.now asked.times) }
     ensures some { IfOk result (λ rows. 0 < vec_len rows) }
@@ -106,4 +103,26 @@ pub fn scan<R: Threads + Sync, B: Bench>(
     let mut rows = vec![in alloc; None; cycle_count(asked.times)]?;
     fill_all(rt, bench, alloc, net, asked, rows.as_mut_slice());
     made_rows(alloc, &rows)
+}
+
+/// The table of a network: a row for each cycle time from `low` to `high` by the step `by`, in their order, all in seconds.
+///
+/// The cycle times are parted among the workers, and each climb stands between entering and leaving the bench. It is the
+/// table of one worker for every number of them. Out of memory in one climb is the answer for all.
+pub fn scan<R: Threads + Sync, B: Bench>(
+    rt: &R,
+    alloc: Global,
+    net: &Net,
+    low: u32,
+    high: u32,
+    by: u32,
+    workers: u32,
+    bench: &B,
+) -> Result<Vec<ScanRow>, AllocError>
+    requires { IsScan (asking workers low high by) }
+    ensures table { IfOk result (λ rows. rows.items ≡ table net.now (times_of low high by)) }
+    ensures some { IfOk result (λ rows. 0 < vec_len rows) }
+{
+    let times = CycleTimes { low, high, by };
+    scan_asked(rt, alloc, net, ScanWord { workers, times }, bench)
 }

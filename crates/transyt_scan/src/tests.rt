@@ -1,11 +1,10 @@
 //! Two climbs under way at once.
 
-use crate::{Bench, ScanWord, least, scan};
+use crate::{Bench, ScanRow, least, scan};
 use std::alloc::Global;
 use std::sync::atomic::{AtomicU64, Ordering};
 use std::thread::{self, Threads};
 use transyt_deck::cut_deck;
-use transyt_whole::Climbed;
 
 /// One junction with a link.
 const ONE: &str =
@@ -49,7 +48,7 @@ impl Bench for Meeting {
 
 /// Climbs at cycle times 60 and 120 with two workers who wait for each other: the best row, the entries of both, and how
 /// often one had gone on alone.
-fn climb_together<R: Threads + Sync>(rt: &R, alloc: Global) -> Option<(Climbed, (u64, u64, u64))> {
+fn climb_together<R: Threads + Sync>(rt: &R, alloc: Global) -> Option<(ScanRow, (u64, u64, u64))> {
     let Ok(cut) = cut_deck(alloc, ONE.as_bytes()) else {
         return None;
     };
@@ -58,8 +57,7 @@ fn climb_together<R: Threads + Sync>(rt: &R, alloc: Global) -> Option<(Climbed, 
         long: AtomicU64::new(0),
         alone: AtomicU64::new(0),
     };
-    let asked = ScanWord::new(2, 60, 120, 60)?;
-    let Ok(rows) = scan(rt, alloc, &cut.net, asked, &bench) else {
+    let Ok(rows) = scan(rt, alloc, &cut.net, 60, 120, 60, 2, &bench) else {
         return None;
     };
     let entries = (
@@ -72,7 +70,7 @@ fn climb_together<R: Threads + Sync>(rt: &R, alloc: Global) -> Option<(Climbed, 
 
 #[test]
 fn two_climbs_are_under_way_at_once(rt: HostRuntime) {
-    let best = Climbed {
+    let best = ScanRow {
         cycle: 60,
         from: 1948618,
         took: 2,

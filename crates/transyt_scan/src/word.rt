@@ -7,11 +7,12 @@ ghost use Rattle.transyt_whole.specs.Answer.{done, of_whole};
 ghost use Rattle.transyt_whole.specs.Whole.{IsSilent};
 ghost use Rattle.transyt_words.specs.AfterDeck.{answer_after};
 ghost use Rattle.transyt_scan.specs.Rows.{IsScan, table};
-ghost use Rattle.transyt_scan.specs.Scan.{table_lines, scan_answer};
+ghost use Rattle.transyt_scan.specs.Scan.{told, table_lines, scan_answer};
 
-use crate::asked::ScanWord;
+use crate::asked::{CycleTimes, ScanWord};
 use crate::bench::Bench;
 use crate::best::least;
+use crate::row::ScanRow;
 use crate::scanning::scan;
 use std::alloc::{AllocError, Global};
 use std::thread::Threads;
@@ -21,14 +22,28 @@ use transyt_net::Net;
 use transyt_running::{Status, stopped_reading};
 use transyt_whole::{Answer, AnswerLine, Climbed, ScanLine, say};
 
+/// A row as its line tells it.
+fn told(row: ScanRow) -> Climbed
+    ensures { result ≡ told row }
+{
+    Climbed {
+        cycle: row.cycle,
+        from: row.from,
+        took: row.took,
+        local: row.local,
+        looked: row.looked,
+        to: row.to,
+    }
+}
+
 /// The lines of a table: each row, and then the best.
-fn table_lines(alloc: Global, rows: &[Climbed]) -> Result<Vec<AnswerLine>, AllocError>
+fn table_lines(alloc: Global, rows: &[ScanRow]) -> Result<Vec<AnswerLine>, AllocError>
     requires { 0 < length rows.now }
     ensures { IfOk result (λ lines. lines.items ≡ table_lines rows.now) }
 {
     let mut lines = Vec::new(alloc);
     for row in rows {
-        lines.push(AnswerLine::Scan(ScanLine::Cycle(*row)))?;
+        lines.push(AnswerLine::Scan(ScanLine::Cycle(told(*row))))?;
     }
     let best = rows[least(rows)];
     lines.push(AnswerLine::Scan(ScanLine::Best {
@@ -49,7 +64,8 @@ fn answer_net<R: Threads + Sync, B: Bench>(
     requires { IsScan asked }
     ensures { IfOk result (λ found. found ≡ done (table_lines (table net.now asked.times))) }
 {
-    let rows = scan(rt, alloc, net, asked, bench)?;
+    let CycleTimes { low, high, by } = asked.times;
+    let rows = scan(rt, alloc, net, low, high, by, asked.workers, bench)?;
     Ok(Answer::done(table_lines(alloc, &rows)?))
 }
 

@@ -4,13 +4,14 @@ use Rattle.transyt_parts.specs.declared.frame.Frame.{Frame}
 use Rattle.transyt_net.specs.Parts.{Network}
 use Rattle.transyt_sweep.specs.Sweeps.{index}
 use Rattle.transyt_sweep.specs.Climb.{climb, ended}
+use Rattle.transyt_session.specs.Session.{SessionValue}
 use Rattle.transyt_climb.specs.Turns.{start_of}
 use Rattle.transyt_scan.proofs.RowLaws.{row_is, IsPlanned, planned, unplanned}
 use Rattle.transyt_scan.proofs.climbing.row_of.Goals as goal
 
 -- the climber is at its start
-pub count_steps-ended-requires-clause-start : goal.count_steps-ended-requires-clause-start
-count_steps-ended-requires-clause-start g c =
+pub climb_on-ended-requires-clause-start : goal.climb_on-ended-requires-clause-start
+climb_on-ended-requires-clause-start g c =
     (planned c.args.session.now.net c.in-Some.climber
     (sym c.in-Some.is ∙ c.start.ensures ∙ ap (λ (n : Network). start_of n n.plan) c.net-2.ensures)).start
 
@@ -23,9 +24,9 @@ returns g c =
     (sym c.in-Some.is ∙ c.start.ensures ∙ ap (λ (n : Network). start_of n n.plan) c.net-2.ensures) in
     row_is net (climb net 0 c.in-Some.climber.budget) plan.climb_is
     (ap (λ (f : Frame). f.cycle) c.frame-cycle.ensures.value ∙ ap (λ (n : Network). n.frame.cycle) c.net.ensures)
-    c.index-from.ensures c.count_steps-ended.ensures.took c.count_steps-ended.ensures.local
-    (c.looked.ensures.value ∙ c.count_steps-ended.ensures.looked)
-    (c.index.ensures ∙ ap index c.count_steps-ended.ensures.net)
+    c.index-from.ensures c.climb_on-ended.ensures.took c.climb_on-ended.ensures.local
+    (c.looked.ensures.value ∙ c.climb_on-ended.ensures.looks)
+    (c.index.ensures ∙ ap (λ (s : SessionValue). index s.net) c.climb_on-ended.ensures.state)
 
 -- the row where nothing is listed
 pub returns-in_default : goal.returns-in_default

@@ -2,7 +2,6 @@
 use Rattle.std.proofs.Common.{refl}
 use Rattle.transyt_moves.specs.Moves.{move, move_count}
 use Rattle.transyt_sweep.specs.Climb.{tried_at, lowers, moved, climb}
-use Rattle.transyt_sweep.proofs.WorkedFigures.{index_comes_out}
 use Rattle.transyt_scan.specs.Rows.{row_of}
 use Rattle.transyt_scan.proofs.laws.worked_scan.Goals as goal
 
@@ -20,11 +19,6 @@ returns-clause-budget c = refl
 pub returns-clause-unplanned : goal.returns-clause-unplanned
 unfolding row_of
 returns-clause-unplanned c = refl
-
--- the index with another cycle time
-pub returns-clause-from : goal.returns-clause-from
-unfolding row_of
-returns-clause-from c = index_comes_out
 
 -- the two rows and the last line
 pub returns-clause-answer : goal.returns-clause-answer

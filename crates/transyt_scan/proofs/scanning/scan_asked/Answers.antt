@@ -2,15 +2,15 @@
 use Rattle.std.proofs.Common.{◌≡◌, List, Option, Some, map, drop, length, ◌∙◌, arith, rules}
 use Rattle.std.proofs.lemmas.List.{take-append-le, take_all}
 use Rattle.std.proofs.lemmas.Result.{IfOk-weaker}
-use Rattle.transyt_whole.specs.declared.line.Climbed.{Climbed}
+use Rattle.transyt_scan.specs.declared.row.ScanRow.{ScanRow}
 use Rattle.transyt_scan.specs.Rows.{cycle_count, table}
 use Rattle.transyt_scan.proofs.TableLaws.{table_made}
-use Rattle.transyt_scan.proofs.scanning.scan.Goals as goal
+use Rattle.transyt_scan.proofs.scanning.scan_asked.Goals as goal
 
 -- each slot has the row of its cycle time, where there is one
 pub returns-clause-table : goal.returns-clause-table
 returns-clause-table g c =
-    let slots : List (Option Climbed) = c.fill_all.new.rows in
+    let slots : List (Option ScanRow) = c.fill_all.new.rows in
     let all : length c.as_mut_slice.result.now ≡ cycle_count c.args.asked.times = search rules in
     let held : length c.as_mut_slice.result.now ≡ c.in_ok-rows.rows.len = search rules in
     let long : length slots ≡ cycle_count c.args.asked.times = c.fill_all.ensures.len ∙ all in
