@@ -11,7 +11,7 @@ use Rattle.transyt_sweep.proofs.RowLaws.{length-row}
 use Rattle.transyt_sweep.proofs.IndexLaws.{kept_with_figures}
 
 -- a link's row is within the rows
-row_room : (links n l : ℕ) → l < links → l * n + n ≤ links * n
+pub row_room : (links n l : ℕ) → l < links → l * n + n ≤ links * n
 row_room links n l inside = omega (arith, mul-le-mul_right {m = l + 1} {n = links} n (omega arith))
 
 module _ (rows : RowsValue) (l : ℕ) (arrivals queue : List ℕ) (f : Figures) where

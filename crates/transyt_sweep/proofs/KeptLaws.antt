@@ -6,10 +6,11 @@ use Rattle.std.proofs.lemmas.List.Elements.{All-replicate}
 use Rattle.std.proofs.lemmas.List.Folds.{sum_by-replicate}
 use Rattle.transyt_delay.specs.declared.figures.Figures.{Figures}
 use Rattle.transyt_sweep.specs.Rows.{RowsValue, row, rows_of, put_row, pair_place, out_at, SameSize, AreRows, AreSmall}
-use Rattle.transyt_sweep.specs.Rows.{no_figures}
+use Rattle.transyt_sweep.specs.Rows.{no_figures, with_come, with_go}
 use Rattle.transyt_sweep.specs.Table.{TableValue, with_row, empty_table, IsTable, AreKept, AreKeptApart}
 use Rattle.transyt_sweep.proofs.PairLaws.{kept_with_out, out_steps, out_small}
-use Rattle.transyt_sweep.proofs.RowLaws.{all-row}
+use Rattle.transyt_sweep.proofs.ComeLaws.{row_room}
+use Rattle.transyt_sweep.proofs.RowLaws.{all-row, length-put_row, length-row}
 use Rattle.transyt_sweep.proofs.IndexLaws.{weighed_sum, kept_with_figures}
 
 -- a table with a row written is one of the same size
@@ -25,6 +26,20 @@ pub written_items : (rows n p : ℕ) (x : List ℕ) (old new : TableValue) → n
     → new.items ≡ put_row n old.items p x
 written_items rows n p x old new made size =
     ap (λ (t : TableValue). t.items) made ∙ ap (λ k. put_row k old.items p x) size.step_count
+
+-- it has as many values
+written_long : (rows n p : ℕ) (x : List ℕ) (old new : TableValue) → new ≡ with_row old p x → IsTable rows n old
+    → p < rows → length x ≡ n → length old.items ≡ rows * n → length new.items ≡ rows * n
+written_long rows n p x old new made size inside len long =
+    ap length (written_items rows n p x old new made size)
+    ∙ length-put_row n old.items p x len (omega (arith, long, row_room rows n p inside))
+    ∙ long
+
+-- a row of a table of the size has a value for each step
+pub long_row : (rows n m p : ℕ) (items : List ℕ) → m ≡ n → p < rows → length items ≡ rows * n
+    → length (row m items p) ≡ n
+long_row rows n m p items same inside long =
+    ap (λ k. length (row k items p)) same ∙ length-row n items p (omega (arith, long, row_room rows n p inside))
 
 -- the row of a pair in other rows of the size
 pub taken_out : (a b : RowsValue) (n place s l : ℕ) → n ≡ a.step_count → SameSize a b → place ≡ pair_place a s l
@@ -58,6 +73,86 @@ module _ (step_count sweeps : ℕ) (outs arrivals go queue : TableValue) (figure
         queue_size = kept.queue_size;
       }
 
+  -- what comes to link l is written
+  pub apart_arrivals : (l : ℕ) (x : List ℕ) (new : TableValue) → l < length figures → length x ≡ step_count
+      → new ≡ with_row arrivals l x → AreKeptApart step_count sweeps outs new go queue figures
+  apart_arrivals l x new inside len made = record {
+    rows = record {
+      steps = kept.rows.steps;
+      sweeps = kept.rows.sweeps;
+      links = kept.rows.links;
+      outs = kept.rows.outs;
+      arrivals = written_long (length figures) step_count l x arrivals new made kept.arrivals_size inside len
+          kept.rows.arrivals;
+      go = kept.rows.go;
+      queue = kept.rows.queue;
+      small = kept.rows.small;
+      figures = kept.rows.figures;
+    };
+    outs_size = kept.outs_size;
+    arrivals_size = written_size (length figures) step_count l x arrivals new made kept.arrivals_size;
+    go_size = kept.go_size;
+    queue_size = kept.queue_size;
+  }
+
+  -- what can go of link l is written
+  pub apart_go : (l : ℕ) (x : List ℕ) (new : TableValue) → l < length figures → length x ≡ step_count
+      → new ≡ with_row go l x → AreKeptApart step_count sweeps outs arrivals new queue figures
+  apart_go l x new inside len made = record {
+    rows = record {
+      steps = kept.rows.steps;
+      sweeps = kept.rows.sweeps;
+      links = kept.rows.links;
+      outs = kept.rows.outs;
+      arrivals = kept.rows.arrivals;
+      go = written_long (length figures) step_count l x go new made kept.go_size inside len
+          kept.rows.go;
+      queue = kept.rows.queue;
+      small = kept.rows.small;
+      figures = kept.rows.figures;
+    };
+    outs_size = kept.outs_size;
+    arrivals_size = kept.arrivals_size;
+    go_size = written_size (length figures) step_count l x go new made kept.go_size;
+    queue_size = kept.queue_size;
+  }
+
+  -- the queue of link l is written
+  pub apart_queue : (l : ℕ) (x : List ℕ) (new : TableValue) → l < length figures → length x ≡ step_count
+      → new ≡ with_row queue l x → AreKeptApart step_count sweeps outs arrivals go new figures
+  apart_queue l x new inside len made = record {
+    rows = record {
+      steps = kept.rows.steps;
+      sweeps = kept.rows.sweeps;
+      links = kept.rows.links;
+      outs = kept.rows.outs;
+      arrivals = kept.rows.arrivals;
+      go = kept.rows.go;
+      queue = written_long (length figures) step_count l x queue new made kept.queue_size inside len
+          kept.rows.queue;
+      small = kept.rows.small;
+      figures = kept.rows.figures;
+    };
+    outs_size = kept.outs_size;
+    arrivals_size = kept.arrivals_size;
+    go_size = kept.go_size;
+    queue_size = written_size (length figures) step_count l x queue new made kept.queue_size;
+  }
+
+  -- the figures of link l are written
+  pub apart_figures : (l : ℕ) (f : Figures) → AreSmall f
+      → AreKeptApart step_count sweeps outs arrivals go queue (set figures l f)
+  apart_figures l f small =
+      let same : length (set figures l f) ≡ length figures = length-set figures l f in
+      record {
+        rows = kept_with_figures (rows_of step_count sweeps outs.items arrivals.items go.items queue.items figures)
+            kept.rows l f small;
+        outs_size = subst (λ n. IsTable ((sweeps + 1) * n) step_count outs) (sym same) kept.outs_size;
+        arrivals_size = subst (λ n. IsTable n step_count arrivals) (sym same) kept.arrivals_size;
+        go_size = subst (λ n. IsTable n step_count go) (sym same) kept.go_size;
+        queue_size = subst (λ n. IsTable n step_count queue) (sym same) kept.queue_size;
+      }
+
   -- a row of the departures is small
   pub row_small : (place : ℕ) (x : List ℕ) → x ≡ row outs.step_count outs.items place → All (λ v. v < 2 ^ 30) x
   row_small place x is =
@@ -66,6 +161,29 @@ module _ (step_count sweeps : ℕ) (outs arrivals go queue : TableValue) (figure
 
   module _ (value : RowsValue)
       (same : rows_of step_count sweeps outs.items arrivals.items go.items queue.items figures ≡ value) where
+    -- with what can go of link l written, that is seen
+    pub go_seen : (l : ℕ) (x y : List ℕ) (new : TableValue) → new ≡ with_row go l x → x ≡ y
+        → rows_of step_count sweeps outs.items arrivals.items new.items queue.items figures ≡ with_go value l y
+    go_seen l x y new made is =
+        ap (λ g. rows_of step_count sweeps outs.items arrivals.items g queue.items figures)
+        (written_items (length figures) step_count l x go new made kept.go_size)
+        ∙ ap (λ v. with_go v l x) same
+        ∙ ap (with_go value l) is
+
+    -- and with what comes to it, its queue and its figures
+    pub come_seen : (l : ℕ) (x y p q : List ℕ) (f : Figures) (new_arrivals new_queue : TableValue)
+        → new_arrivals ≡ with_row arrivals l x → new_queue ≡ with_row queue l p → x ≡ y → p ≡ q
+        → rows_of step_count sweeps outs.items new_arrivals.items go.items new_queue.items (set figures l f)
+        ≡ with_come value l y q f
+    come_seen l x y p q f new_arrivals new_queue comes stands is_come is_queue =
+        ap (λ a. rows_of step_count sweeps outs.items a go.items new_queue.items (set figures l f))
+        (written_items (length figures) step_count l x arrivals new_arrivals comes kept.arrivals_size)
+        ∙ ap (λ b. rows_of step_count sweeps outs.items (put_row step_count arrivals.items l x) go.items b (set figures l f))
+        (written_items (length figures) step_count l p queue new_queue stands kept.queue_size)
+        ∙ ap (λ v. with_come v l x p f) same
+        ∙ ap (λ a. with_come value l a p f) is_come
+        ∙ ap (λ b. with_come value l y b f) is_queue
+
     -- they are rows
     pub seen_rows : AreRows value
     seen_rows = subst AreRows same kept.rows
@@ -105,10 +223,11 @@ module _ (step_count sweeps : ℕ) (outs arrivals go queue : TableValue) (figure
     queue_size = kept.queue_size;
   }
 
-  -- other departures are kept with the same index
-  with_index : (new : TableValue) → AreKeptApart step_count sweeps new arrivals go queue figures
-      → AreKept step_count sweeps new arrivals go queue figures index
-  with_index new apart = record {
+  -- other tables are kept with the same index
+  pub with_index : (new_outs new_arrivals new_go new_queue : TableValue)
+      → AreKeptApart step_count sweeps new_outs new_arrivals new_go new_queue figures
+      → AreKept step_count sweeps new_outs new_arrivals new_go new_queue figures index
+  with_index new_outs new_arrivals new_go new_queue apart = record {
     rows = apart.rows;
     index_sum = kept.index_sum;
     outs_size = apart.outs_size;
@@ -122,7 +241,7 @@ module _ (step_count sweeps : ℕ) (outs arrivals go queue : TableValue) (figure
       → All (λ v. v < 2 ^ 30) x → new ≡ with_row outs (s * length figures + l) x
       → AreKept step_count sweeps new arrivals go queue figures index
   kept_out s l x new swept inside len small made =
-      with_index new
+      with_index new arrivals go queue
       (apart_out step_count sweeps outs arrivals go queue figures apart_of s l x new swept inside len small made)
 
   -- the same, as the rows are seen
@@ -132,7 +251,7 @@ module _ (step_count sweeps : ℕ) (outs arrivals go queue : TableValue) (figure
       → length x ≡ value.step_count → All (λ v. v < 2 ^ 30) x → place ≡ pair_place value s l
       → new ≡ with_row outs place x → AreKept step_count sweeps new arrivals go queue figures index
   kept_at value same s l swept inside x place new len small at made =
-      with_index new
+      with_index new arrivals go queue
       (apart_at step_count sweeps outs arrivals go queue figures apart_of value same s l swept inside x place new len
       small at made)
 

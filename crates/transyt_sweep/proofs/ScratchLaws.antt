@@ -1,15 +1,23 @@
 -- What is seen in room for one link's work.
-use Rattle.std.proofs.Common.{◌≡◌, ◌^◌, ◌<◌, ◌≤◌, ℕ, List, length, sum, All, arith}
+use Rattle.std.proofs.Common.{◌≡◌, ◌*◌, ◌^◌, ◌<◌, ◌≤◌, ℕ, List, length, sum, All, replicate, ap, sym, subst, ◌∙◌, arith}
 use Rattle.std.proofs.lemmas.Bool.Decides.{nat_tests}
+use Rattle.std.proofs.lemmas.List.{length-replicate}
+use Rattle.std.proofs.lemmas.List.Elements.{All-replicate}
 use Rattle.std.proofs.lemmas.List.Sums.{sum_by-le}
 use Rattle.transyt_stopline.specs.Cut.{arrivals_of}
 use Rattle.transyt_stopline.specs.Queue.{queues, outs}
 use Rattle.transyt_stopline.specs.Stops.{stopped_of}
 use Rattle.transyt_delay.specs.Figures.{figures}
 use Rattle.transyt_net.specs.Parts.{Network, link_of}
+use Rattle.transyt_delay.specs.declared.figures.Figures.{Figures}
+use Rattle.transyt_sweep.specs.declared.asked.Asked.{Asked}
+use Rattle.transyt_sweep.specs.declared.asked.Asked.TheVariants.{Known}
 use Rattle.transyt_sweep.specs.declared.asked.Weights.{Weights}
+use Rattle.transyt_sweep.specs.declared.factors.Factors.{Factors}
+use Rattle.transyt_sweep.specs.Factors.{AreFactors}
+use Rattle.transyt_sweep.specs.Rows.{AreSmall}
 use Rattle.transyt_sweep.specs.Cell.{CellValue, cell_of, terms_frame}
-use Rattle.transyt_sweep.specs.Scratch.{terms_in}
+use Rattle.transyt_sweep.specs.Scratch.{IsScratch, terms_in}
 
 -- all of a link, with the figures that these rows and weights give
 abbrev pub seen : (arrivals go queue out : List ℕ) → Weights → CellValue
@@ -26,6 +34,47 @@ pub sum_small : (limit : ℕ) (xs : List ℕ) → limit ≤ 2 ^ 48 → length xs
 sum_small limit xs within few small =
     let each : All (λ v. v ≤ 2 ^ 48) xs = λ k d h. let one = small k d h in omega (arith, one) in
     omega (arith, sum_by-le (λ v. v) (2 ^ 48) xs each)
+
+-- rows of the same length, and figures that are known, are kept in room for one link's work
+pub known_scratch : (arrivals go queue out : List ℕ) (asked : Asked) (room reaching : List ℕ) (factors : List Factors)
+    → IsScratch arrivals go queue out asked room reaching factors → (come green standing : List ℕ) (f : Figures)
+    → length come ≡ length arrivals → length green ≡ length arrivals → length standing ≡ length arrivals → AreSmall f
+    → IsScratch come green standing out (Known f) room reaching factors
+known_scratch arrivals go queue out asked room reaching factors was come green standing f come_len green_len
+    standing_len small = record {
+      go_len = green_len ∙ sym come_len;
+      queue_len = standing_len ∙ sym come_len;
+      out_len = was.out_len ∙ sym come_len;
+      room_len = was.room_len ∙ ap (λ n. 8 * n) (sym come_len);
+      reaching_len = was.reaching_len ∙ sym come_len;
+      out_small = was.out_small;
+      told = small;
+      right = subst (λ n. All (AreFactors n) factors) (sym come_len) was.right;
+    }
+
+-- rows of 0, factors that are right and figures that are small are kept in it
+pub empty_scratch : (n links : ℕ) (arrivals go queue out room reaching : List ℕ) (factors : List Factors) (f : Factors)
+    (g : Figures) → arrivals ≡ replicate n 0 → go ≡ replicate n 0 → queue ≡ replicate n 0 → out ≡ replicate n 0
+    → room ≡ replicate (8 * n) 0 → reaching ≡ replicate n 0 → factors ≡ replicate links f → AreFactors n f → AreSmall g
+    → IsScratch arrivals go queue out (Known g) room reaching factors
+empty_scratch n links arrivals go queue out room reaching factors f g come green standing leaving lanes reached kept are
+    small =
+    let zero_value : ℕ = 0 in
+    let count : length arrivals ≡ n = ap length come ∙ length-replicate n zero_value in
+    let long : (xs : List ℕ) → xs ≡ replicate n 0 → length xs ≡ length arrivals =
+    λ xs is. ap length is ∙ length-replicate n zero_value ∙ sym count in
+    record {
+      go_len = long go green;
+      queue_len = long queue standing;
+      out_len = long out leaving;
+      room_len = ap length lanes ∙ length-replicate (8 * n) zero_value ∙ ap (λ k. 8 * k) (sym count);
+      reaching_len = long reaching reached;
+      out_small = subst (All (λ v. v < 2 ^ 30)) (sym leaving)
+          (All-replicate (λ v. v < 2 ^ 30) n zero_value (omega arith));
+      told = small;
+      right = subst (λ k. All (AreFactors k) factors) (sym count)
+          (subst (All (AreFactors n)) (sym kept) (All-replicate (AreFactors n) links f are));
+    }
 
 -- where no more comes than the green lets pass, all of it reaches the stop line
 pub all_arrives : (come room : List ℕ) → sum come ≤ sum room → arrivals_of come room ≡ come

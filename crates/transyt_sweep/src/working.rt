@@ -2,6 +2,7 @@
 
 ghost use Rattle.std.specs.Prelude.{◌≡◌, ◌+◌, ◌-◌, ◌*◌, ◌^◌, ◌<◌, ◌≤◌, ℕ, length, sum, All};
 ghost use Rattle.transyt_stopline.specs.Cut.{arrivals_of};
+ghost use Rattle.transyt_stopline.specs.Queue.{queues, outs};
 ghost use Rattle.transyt_sweep.specs.Cell.{go, worked};
 ghost use Rattle.transyt_sweep.specs.Factors.{AreFactors};
 ghost use Rattle.transyt_sweep.specs.Rows.{Fits, read_in};
@@ -100,6 +101,35 @@ fn work_out(
     net.frame();
     fill_inflow(net, link, sweep, rows, kept, room, come);
     fill_going(net, link, sweep, rows, going);
+    stand(come, going, reaching, standing, leaving)
+}
+
+/// Works out the queue and what leaves, of what comes and what can go. Returns what comes in a cycle and what can go in
+/// it: where more comes, `reaching` is what reaches the stop line.
+fn stand(
+    come: &[u64],
+    going: &[u64],
+    reaching: &mut [u64],
+    standing: &mut [u64],
+    leaving: &mut [u64],
+) -> Totals
+    requires some { 0 < length come.now }
+    requires most { length come.now ≤ 120 }
+    requires going_len { length going.now ≡ length come.now }
+    requires reaching_len { length reaching.old ≡ length come.now }
+    requires standing_len { length standing.old ≡ length come.now }
+    requires leaving_len { length leaving.old ≡ length come.now }
+    requires come_small { All (λ v. v < 2 ^ 48) come.now }
+    requires going_small { All (λ v. v < 2 ^ 30) going.now }
+    ensures standing { standing.new ≡ queues (arrivals_of come.now going.now) going.now }
+    ensures leaving { leaving.new ≡ outs (arrivals_of come.now going.now) going.now }
+    ensures total { result.come ≡ sum come.now }
+    ensures served { result.served ≡ sum going.now }
+    ensures cut { result.served < result.come → reaching.new ≡ arrivals_of come.now going.now }
+    ensures reached_small { All (λ v. v < 2 ^ 48) (arrivals_of come.now going.now) }
+    ensures standing_small { All (λ v. v < 2 ^ 37) standing.new }
+    ensures leaving_small { All (λ v. v < 2 ^ 30) leaving.new }
+{
     let totals = cut(come, going, reaching);
     if totals.more_comes() {
         queue(reaching, going, standing, leaving);
