@@ -109,6 +109,14 @@ fn work_out<L: Ledger>(
     );
 }
 
+/// Whether a link's flag is up.
+fn is_awaited(flags: &[bool], link: usize) -> bool
+    requires { link < length flags.now }
+    ensures { result ≡ flag flags.now link }
+{
+    flags[link]
+}
+
 /// One turn: the link at the front is worked out if its flag is up, and else left. Returns how many links were worked
 /// out: 1 or 0.
 fn turn<L: Ledger>(
@@ -141,7 +149,7 @@ fn turn<L: Ledger>(
     ensures count { result ≡ (if is_due before.now after.now sweep link then 1 else 0) }
     ensures steps { steps.new ≡ steps.old + result }
 {
-    if awaited[link] {
+    if is_awaited(awaited, link) {
         work_out(
             before,
             after,

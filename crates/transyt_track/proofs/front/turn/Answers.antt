@@ -1,8 +1,8 @@
 -- A link whose flag is up is due, and any other is left.
-use Rattle.std.proofs.Common.{◌≡◌, ◌∙◌, true, false, if◌then◌else◌, ap, sym, arith}
-use Rattle.std.proofs.lemmas.List.{get_or_default}
+use Rattle.std.proofs.Common.{◌≡◌, ◌∙◌, List, Bool, true, false, if◌then◌else◌, ap, sym}
 use Rattle.transyt_sweep.specs.Sweeps.{evaluated}
 use Rattle.transyt_track.specs.Due.{is_due}
+use Rattle.transyt_track.specs.Front.{flag}
 use Rattle.transyt_track.proofs.MixedLaws.{shown_now}
 use Rattle.transyt_track.proofs.FrontLaws.{flag_tells, turned_left}
 use Rattle.transyt_track.proofs.front.turn.Goals as goal
@@ -12,41 +12,41 @@ leave-requires-clause-shown g c = λ last.
     shown_now c.args.after.now (evaluated c.args.after.now) (evaluated c.args.before.now) c.args.sweep c.args.link
     c.args.rows.now c.requires.at.shown (sym last) c.requires.link
 
-pub returns-then-index-clause-count : goal.returns-then-index-clause-count
-returns-then-index-clause-count g c =
+pub returns-then-is_awaited-clause-count : goal.returns-then-is_awaited-clause-count
+returns-then-is_awaited-clause-count g c =
     let a = c.args.before.now in
     let b = c.args.after.now in
     let flags = c.args.awaited.now.items in
     let due : is_due a b c.args.sweep c.args.link ≡ true =
     sym (flag_tells a b c.args.sweep c.args.link c.args.rows.now flags c.requires.at c.requires.link)
-    ∙ sym (get_or_default flags c.args.link c.index.result.now false (omega (arith, c.requires.link, c.requires.at.flags.count)))
-    ∙ sym c.index.ensures
-    ∙ c.if-index.true in
+    ∙ ap (λ (up : List Bool). flag up c.args.link) (sym c.deref.ensures.value)
+    ∙ sym c.is_awaited.ensures
+    ∙ c.if-is_awaited.true in
     sym (ap (λ t. if t then 1 else 0) due)
 
-pub returns-else-index-clause-at : goal.returns-else-index-clause-at
-returns-else-index-clause-at g c =
+pub returns-else-is_awaited-clause-at : goal.returns-else-is_awaited-clause-at
+returns-else-is_awaited-clause-at g c =
     let r = c.requires in
     let a = c.args.before.now in
     let b = c.args.after.now in
     let flags = c.args.awaited.now.items in
     let none : is_due a b c.args.sweep c.args.link ≡ false =
     sym (flag_tells a b c.args.sweep c.args.link c.args.rows.now flags r.at r.link)
-    ∙ sym (get_or_default flags c.args.link c.index.result.now false (omega (arith, r.link, r.at.flags.count)))
-    ∙ sym c.index.ensures
-    ∙ c.if-index.false in
+    ∙ ap (λ (up : List Bool). flag up c.args.link) (sym c.deref.ensures.value)
+    ∙ sym c.is_awaited.ensures
+    ∙ c.if-is_awaited.false in
     rw c.leave.ensures.value
     (turned_left a b c.args.sweep c.args.link c.args.rows.now flags r.at r.shape r.first r.last r.link none)
 
-pub returns-else-index-clause-count : goal.returns-else-index-clause-count
-returns-else-index-clause-count g c =
+pub returns-else-is_awaited-clause-count : goal.returns-else-is_awaited-clause-count
+returns-else-is_awaited-clause-count g c =
     let r = c.requires in
     let a = c.args.before.now in
     let b = c.args.after.now in
     let flags = c.args.awaited.now.items in
     let none : is_due a b c.args.sweep c.args.link ≡ false =
     sym (flag_tells a b c.args.sweep c.args.link c.args.rows.now flags r.at r.link)
-    ∙ sym (get_or_default flags c.args.link c.index.result.now false (omega (arith, r.link, r.at.flags.count)))
-    ∙ sym c.index.ensures
-    ∙ c.if-index.false in
+    ∙ ap (λ (up : List Bool). flag up c.args.link) (sym c.deref.ensures.value)
+    ∙ sym c.is_awaited.ensures
+    ∙ c.if-is_awaited.false in
     sym (ap (λ t. if t then 1 else 0) none)

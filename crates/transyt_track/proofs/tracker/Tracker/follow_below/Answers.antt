@@ -1,12 +1,15 @@
 -- The rows are those of the network with the edit made, or those from before it.
 use Rattle.std.proofs.Common.{◌≡◌, IfSome, refl, ap, sym, subst, if◌then◌else◌, nat_lt, ◌∙◌}
+use Rattle.transyt_parts.specs.declared.frame.Frame.{Frame}
 use Rattle.transyt_net.specs.Shape.{shape, SameShape}
 use Rattle.transyt_net.specs.Edits.{with_edit}
 use Rattle.transyt_track.specs.Own.{DifferAt}
 use Rattle.transyt_sweep.specs.Sweeps.{index}
 use Rattle.transyt_sweep.proofs.IndexLaws.{index_is}
 use Rattle.transyt_saved.specs.Saved.{Carries, begun, settled}
+use Rattle.transyt_track.specs.Due.{due}
 use Rattle.transyt_track.specs.Tracker.{TrackerValue, IsTracking}
+use Rattle.transyt_track.proofs.ShapeLaws.{shape_frame, shape_count}
 use Rattle.transyt_track.proofs.TrackLaws.{begun_tracks, followed_tracks, closed_tracks}
 use Rattle.transyt_track.proofs.tracker.Tracker.follow_below.Goals as goal
 
@@ -66,3 +69,29 @@ returns-clause-net g c =
 pub returns-clause-index : goal.returns-clause-index
 returns-clause-index g c =
     c.index-index.ensures.value ∙ index_is c.args.after.now c.follow_rows-due.new.rows c.follow_rows-due.ensures.rows
+
+pub follow_rows-due-requires-clause-shape : goal.follow_rows-due-requires-clause-shape
+follow_rows-due-requires-clause-shape g c = ap (λ (t : TrackerValue). shape t.net) c.self.view_is ∙ c.requires.shape
+
+pub follow_rows-due-requires-clause-own_changed : goal.follow_rows-due-requires-clause-own_changed
+follow_rows-due-requires-clause-own_changed g c =
+    let same : SameShape c.self.inside.net c.args.after.now =
+    ap (λ (t : TrackerValue). shape t.net) c.self.view_is ∙ c.requires.shape in
+    c.self.invariant.own_count ∙ shape_count c.self.inside.net c.args.after.now same
+
+pub follow_rows-due-requires-clause-awaited : goal.follow_rows-due-requires-clause-awaited
+follow_rows-due-requires-clause-awaited g c =
+    let same : SameShape c.self.inside.net c.args.after.now =
+    ap (λ (t : TrackerValue). shape t.net) c.self.view_is ∙ c.requires.shape in
+    c.self.invariant.awaited_count ∙ shape_count c.self.inside.net c.args.after.now same
+
+pub follow_rows-due-requires-clause-step_count : goal.follow_rows-due-requires-clause-step_count
+follow_rows-due-requires-clause-step_count g c =
+    let same : SameShape c.self.inside.net c.args.after.now =
+    ap (λ (t : TrackerValue). shape t.net) c.self.view_is ∙ c.requires.shape in
+    c.self.invariant.steps
+    ∙ ap (λ (f : Frame). f.step_count) (shape_frame c.self.inside.net c.args.after.now same)
+
+pub returns-clause-due : goal.returns-clause-due
+returns-clause-due g c =
+    c.follow_rows-due.ensures.count ∙ ap (λ (t : TrackerValue). due t.net c.args.after.now) c.self.view_is
