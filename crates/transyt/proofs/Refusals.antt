@@ -7,6 +7,7 @@ use Rattle.transyt_io.specs.Lines.{lines}
 use Rattle.transyt_deck.specs.declared.state.State.{State}
 use Rattle.transyt_deck.specs.Deck.{Deck, Refused, Complete, Open, next, start, deck, is_complete}
 use Rattle.transyt_session.specs.Session.{SessionValue, opened}
+use Rattle.transyt_running.specs.declared.ending.Ending.{Ending}
 use Rattle.transyt_running.specs.declared.status.Status.{Status}
 use Rattle.transyt_running.specs.declared.status.Status.TheVariants.{Done, DeckRefused}
 use Rattle.transyt_running.specs.Runs.{is_refused_by}
@@ -25,7 +26,7 @@ one_more before line state at =
     fold-append run_after (InDeck start) before (line ∷ []) ∙ ap (λ (s : RunState). run_after s line) at
 
 -- an answer ends no run as a refusal
-answer_kept : (answer : Answer) (later : Option Bool) (other : Bool) → or_else later other ≡ false
+answer_kept : (answer : Answer) (later : Option Ending) (other : Bool) → or_else later other ≡ false
     → or_else (first_of (answer_ends answer) later) other ≡ false
 answer_kept a.Stop later other h = refl
 answer_kept a.Nothing later other h = h

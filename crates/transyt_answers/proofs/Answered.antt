@@ -7,6 +7,7 @@ use Rattle.transyt_io.specs.Streams.{Adds, AddsFront}
 use Rattle.transyt_deck.specs.Deck.{Deck, Open, Complete, Refused, next, start, is_open}
 use Rattle.transyt_session.specs.Session.{SessionValue}
 use Rattle.transyt_desks.specs.Desks.{desk_zero}
+use Rattle.transyt_running.specs.declared.ending.Ending.{Ending}
 use Rattle.transyt_running.specs.Turns.{answers_after, unless_ended, AnsweredWhole}
 use Rattle.transyt_running.specs.declared.ending.Stop.{Stop}
 use Rattle.transyt_answers.specs.Commands.{session_after}
@@ -32,7 +33,7 @@ quiet_on before line quiet nothing goes more =
     let rest = answers_after text ends (before ++ line ∷ []) more in
     ap (answers_after text ends []) (append_assoc before (line ∷ []) more) ∙ quiet (line ∷ more)
     ∙ ap (λ (xs : List ℕ). xs ++ unless_ended (ends before line) rest) nothing
-    ∙ ap (λ (e : Option Bool). unless_ended e rest) goes
+    ∙ ap (λ (e : Option Ending). unless_ended e rest) goes
 
 -- what lines have come to with one more
 pub state_on : (before : List (List ℕ)) (line : List ℕ) → run_state (before ++ line ∷ []) ≡ run_after (run_state before) line
@@ -111,10 +112,10 @@ module _ (r : ReporterValue) (before : List (List ℕ)) (h : HasAnswered r befor
       record { is = state ∙ at; awaited = both.0; live = live; quiet = both.1 }
 
 -- what was said of a line answers it
-pub told_whole : (result : Result (Option Bool) Stop) (said : List ℕ) (end : Option Bool)
+pub told_whole : (result : Result (Option Ending) Stop) (said : List ℕ) (end : Option Ending)
     (has_answered : List (List ℕ) → Type 0) (before : List (List ℕ)) (line : List ℕ) (old new : Option (List ℕ))
     → said ≡ text before line → end ≡ ends before line → OnOk result (Adds old new said)
-    → IfOk result (λ (e : Option Bool). e ≡ end) → (result ≡ Ok None → has_answered (before ++ line ∷ []))
+    → IfOk result (λ (e : Option Ending). e ≡ end) → (result ≡ Ok None → has_answered (before ++ line ∷ []))
     → IfOk result (AnsweredWhole text ends has_answered old new before line)
 told_whole (Ok e) said end has_answered before line old new said_is end_is adds is goes_on = record {
   adds = let P : List ℕ → Type 0 = λ xs. Adds old new xs in subst P said_is adds;
@@ -124,7 +125,7 @@ told_whole (Ok e) said end has_answered before line old new said_is end_is adds 
 told_whole (Err stop) said end has_answered before line old new said_is end_is adds is goes_on = tt
 
 -- and what was said of it in part, in part
-pub told_part : (result : Result (Option Bool) Stop) (said : List ℕ) (before : List (List ℕ)) (line : List ℕ)
+pub told_part : (result : Result (Option Ending) Stop) (said : List ℕ) (before : List (List ℕ)) (line : List ℕ)
     (old new : Option (List ℕ)) → said ≡ text before line → OnErr result (AddsFront old new said)
     → OnErr result (AddsFront old new (text before line))
 told_part (Ok e) said before line old new said_is adds = tt
@@ -132,7 +133,7 @@ told_part (Err stop) said before line old new said_is adds =
     let P : List ℕ → Type 0 = λ xs. AddsFront old new xs in subst P said_is adds
 
 -- the steps of a command
-pub command_cost : (result : Result (Option Bool) Stop) (s after : SessionValue) (before : List (List ℕ)) (line : List ℕ)
+pub command_cost : (result : Result (Option Ending) Stop) (s after : SessionValue) (before : List (List ℕ)) (line : List ℕ)
     (steps steps_new : ℕ) → InSession s ≡ run_state before → OnOk result (after ≡ session_after s line)
     → steps_new + s.work ≡ steps + after.work → OnOk result (steps_new ≡ steps + cost before line)
 command_cost (Ok e) s after before line steps steps_new is state spent =

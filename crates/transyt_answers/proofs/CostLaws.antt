@@ -11,6 +11,7 @@ use Rattle.transyt_moves.specs.Moves.{move_count}
 use Rattle.transyt_sweep.specs.Climb.{Climb, moved, first, ended, stepped, after_search, climb_within, climb}
 use Rattle.transyt_session.specs.Session.{SessionValue}
 use Rattle.transyt_climb.proofs.CountLaws.{shape_moved}
+use Rattle.transyt_running.specs.declared.ending.Ending.{Ending}
 use Rattle.transyt_running.specs.Turns.{ending_after, costs_after, first_of, unless_over}
 use Rattle.transyt_running.specs.Runs.{costs_by, ending_by}
 use Rattle.transyt_answers.specs.declared.answer.Answer.{Answer}
@@ -125,7 +126,7 @@ steps_to before [] h none =
 steps_to before (line ∷ more) h none =
     let on = state_on before line in
     let later = costs_after cost ends (before ++ line ∷ []) more in
-    let cases : (e : Option Bool) → ends before line ≡ e
+    let cases : (e : Option Ending) → ends before line ≡ e
     → first_of e (ending_after ends (before ++ line ∷ []) more) ≡ None
     → steps_in (run_state before) + (cost before line + unless_over e later) ≡ steps_in (run_state (before ++ line ∷ more)) =
     elim [

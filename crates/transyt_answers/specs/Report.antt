@@ -8,6 +8,8 @@ use Rattle.transyt_net.specs.Parts.{Network}
 use Rattle.transyt_deck.specs.Deck.{Deck, Refused, Complete, Open, next, start}
 use Rattle.transyt_session.specs.Session.{SessionValue, opened}
 use Rattle.transyt_text.specs.Forms.{form_line}
+use Rattle.transyt_running.specs.declared.ending.Ending.{Ending}
+use Rattle.transyt_running.specs.declared.ending.Ending.TheVariants as ending
 use Rattle.transyt_running.specs.Runs.{Answering, answering, of_lines, report_by}
 use Rattle.transyt_running.specs.Outcome.{Reporting, status_by}
 use Rattle.transyt_running.specs.declared.status.Status.{Status}
@@ -41,14 +43,14 @@ deck_closing (Complete number net) = []
 deck_closing (Refused number code) = []
 
 -- a refused card ends the run, as a refusal
-abbrev pub deck_ends : Deck → Option Bool
+abbrev pub deck_ends : Deck → Option Ending
 deck_ends (Open count state) = None
 deck_ends (Complete number net) = None
-deck_ends (Refused number code) = Some true
+deck_ends (Refused number code) = Some ending.Refused
 
 -- an accepted STOP ends the run
-abbrev pub answer_ends : Answer → Option Bool
-answer_ends a.Stop = Some false
+abbrev pub answer_ends : Answer → Option Ending
+answer_ends a.Stop = Some ending.Stopped
 answer_ends answer = None
 
 -- the steps of a line before END or of END, by the deck with it: an accepted END works out each sweep of each link
@@ -77,8 +79,8 @@ abbrev pub line_text : RunState → List ℕ → List ℕ
 line_text (InDeck deck) line = deck_said (next deck line)
 line_text (InSession s) line = answer_text s (line_answer s line)
 
--- whether the line ends the run, and then whether as a refusal
-abbrev pub line_ends : RunState → List ℕ → Option Bool
+-- how the line ends the run, if it does
+abbrev pub line_ends : RunState → List ℕ → Option Ending
 line_ends (InDeck deck) line = deck_ends (next deck line)
 line_ends (InSession s) line = answer_ends (line_answer s line)
 
@@ -106,8 +108,8 @@ end_refused (InSession s) = false
 abbrev pub text : List (List ℕ) → List ℕ → List ℕ
 text before line = line_text (run_state before) line
 
--- whether a line ends the run
-abbrev pub ends : List (List ℕ) → List ℕ → Option Bool
+-- how a line ends the run, if it does
+abbrev pub ends : List (List ℕ) → List ℕ → Option Ending
 ends before line = line_ends (run_state before) line
 
 -- the text at the end of lines

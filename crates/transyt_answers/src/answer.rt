@@ -4,6 +4,7 @@ ghost use Rattle.transyt_answers.specs.Report.{answer_ends};
 
 use transyt_cards::Code;
 use transyt_report::Report;
+use transyt_running::Ending;
 
 /// What is answered to a line after END.
 #[derive(Clone, Copy, Debug, PartialEq, Eq, Drop)]
@@ -29,12 +30,12 @@ pub enum Answer {
 }
 
 impl Answer {
-    /// Whether it ends the run, and then whether as a refusal.
-    pub(crate) fn ending(self) -> Option<bool>
+    /// How it ends the run, if it does.
+    pub(crate) fn ending(self) -> Option<Ending>
         ensures { result ≡ answer_ends self }
     {
         match self {
-            Answer::Stop => Some(false),
+            Answer::Stop => Some(Ending::Stopped),
             _ => None,
         }
     }

@@ -21,7 +21,7 @@ use std::thread::Threads;
 use transyt_cards::{CardReader, CardStop, Code, Progress};
 use transyt_desks::{Desks, Gate};
 use transyt_io::{Failed, LineBuffer, Sink};
-use transyt_running::Stop;
+use transyt_running::{Ending, Stop};
 use transyt_session::Session;
 use transyt_steps::Steps;
 
@@ -79,7 +79,7 @@ fn answer_command<R: Threads + Sync, G: Gate, K: Sink, L: Ledger>(
     buffer: &mut LineBuffer,
     sink: &mut K,
     steps: &mut Steps<L>,
-) -> Result<Option<bool>, Stop>
+) -> Result<Option<Ending>, Stop>
     requires ready { AreReady desks.old }
     requires few { length desks.old ≤ 8 }
     requires room { (desk_zero desks.old).work ≤ 2 ^ 59 }
@@ -125,7 +125,7 @@ impl Reporter {
         line: &[u8],
         sink: &mut K,
         steps: &mut Steps<L>,
-    ) -> Result<Option<bool>, Stop>
+    ) -> Result<Option<Ending>, Stop>
         requires closed { self.old.desks ≡ None }
         requires live { self.old.cards.live ≡ true }
         requires room { line_count self.old.cards.deck < 4294967294 }
@@ -151,7 +151,7 @@ impl Reporter {
             Ok(Progress::Complete) => self.complete(sink, steps),
             Err(CardStop::Refused { card, code }) => {
                 match print_card_refused(card, code, &mut self.buffer, sink) {
-                    Ok(()) => Ok(Some(true)),
+                    Ok(()) => Ok(Some(Ending::Refused)),
                     Err(Failed) => Err(Stop::Write),
                 }
             }
@@ -164,7 +164,7 @@ impl Reporter {
         &mut self,
         sink: &mut K,
         steps: &mut Steps<L>,
-    ) -> Result<Option<bool>, Stop>
+    ) -> Result<Option<Ending>, Stop>
         requires closed { self.old.desks ≡ None }
         requires complete { IsTrue (is_complete self.old.cards.deck) }
         ensures ok { OnOk result (Adds (K.written sink.old) (K.written sink.new) (deck_said self.old.cards.deck)) }
@@ -195,7 +195,7 @@ impl Reporter {
     }
 }
 
-/// Answers a line: whether it ends the run, and then whether as a refusal.
+/// Answers a line: how it ends the run, if it does.
 pub(crate) fn answer_line<R: Threads + Sync, G: Gate, K: Sink, L: Ledger>(
     rt: &R,
     gate: &G,
@@ -203,7 +203,7 @@ pub(crate) fn answer_line<R: Threads + Sync, G: Gate, K: Sink, L: Ledger>(
     line: &[u8],
     sink: &mut K,
     steps: &mut Steps<L>,
-) -> Result<Option<bool>, Stop>
+) -> Result<Option<Ending>, Stop>
     requires { reporter.old.lines < 4194305 }
     ensures whole { (before : List (List ℕ)) → HasAnswered reporter.old before
         → IfOk result (AnsweredWhole text ends (HasAnswered reporter.new)
@@ -227,7 +227,7 @@ pub(crate) fn answer_line<R: Threads + Sync, G: Gate, K: Sink, L: Ledger>(
         return answer_command(rt, gate, desks, line, &mut reporter.buffer, sink, steps);
     }
     if !reporter.cards.is_live() {
-        return Ok(Some(true));
+        return Ok(Some(Ending::Refused));
     }
     reporter.answer_card(line, sink, steps)
 }

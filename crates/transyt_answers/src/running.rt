@@ -49,7 +49,7 @@ fn run<R: Threads + Sync, S: Source, K: Sink, G: Gate, L: Ledger>(
         }
         match answer_line(rt, gate, reporter, reader.line(), sink, steps) {
             Ok(None) => {}
-            Ok(Some(refused)) => return ended(refused),
+            Ok(Some(ending)) => return ending.status(),
             Err(stop) => return stopped(stop),
         }
     }

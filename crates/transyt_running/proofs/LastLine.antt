@@ -1,12 +1,13 @@
 -- How the lines answered so far end a run, on plain lists: by one line more, by the end of the source, or by a stop.
-use Rattle.std.proofs.Common.{◌≡◌, inl, inr, ℕ, ◌+◌, ◌≤◌, ◌++◌, Bool, false, List, [], ◌∷◌, Option, None, Some, length}
+use Rattle.std.proofs.Common.{◌≡◌, inl, inr, ℕ, ◌+◌, ◌≤◌, ◌++◌, false, List, [], ◌∷◌, Option, None, Some, length}
 use Rattle.std.proofs.Common.{refl, sym, ◌∙◌, ap, subst, arith, append_assoc}
 use Rattle.std.proofs.lemmas.List.{append-nil}
 use Rattle.transyt_io.specs.Lines.{lines, whole}
 use Rattle.transyt_io.specs.Model.{Reading}
 use Rattle.transyt_io.specs.Reading.{HasRead}
 use Rattle.transyt_io.specs.Streams.{IsAtEnd}
-use Rattle.transyt_running.specs.Turns.{answers_after, costs_after, unless_ended, or_else}
+use Rattle.transyt_running.specs.declared.ending.Ending.{Ending}
+use Rattle.transyt_running.specs.Turns.{answers_after, costs_after, is_refusal, unless_ended, or_else}
 use Rattle.transyt_running.specs.Outcome.{IsFront, EndsRun, Finished, CutOff, IsPart}
 use Rattle.transyt_running.specs.Runs.{Answering, of_lines, answers_by, ending_by, costs_by, StepsAll, StepsMost}
 use Rattle.transyt_running.specs.RunSoFar.{AnsweredSoFar}
@@ -18,23 +19,23 @@ module _ {by : Answering} {before : List (List ℕ)} {out : List ℕ} {steps ste
     (so : AnsweredSoFar by before out steps steps_old) {reading : Reading} {left : Option (List ℕ)} {taken : List ℕ}
     (line : List ℕ) (stands : HasRead reading left taken (before ++ line ∷ [])) where
   -- the line ended the run
-  pub finished_line : {refused : Bool} → by.ends before line ≡ Some refused → length taken ≤ 4194304
-      → Finished (of_lines by) left taken (out ++ by.text before line) refused
-  finished_line {refused} is few =
+  pub finished_line : {ending : Ending} → by.ends before line ≡ Some ending → length taken ≤ 4194304
+      → Finished (of_lines by) left taken (out ++ by.text before line) (is_refusal ending)
+  finished_line {ending} is few =
       let text = by.text before line in
       let all = lines_given stands in
       let answered : answers_by by (lines taken) ≡ out ++ text =
       ap (answers_by by) all.1 ∙ line_texts so line is all.0 ∙ ap (λ (xs : List ℕ). out ++ xs) (append-nil text) in
-      let ended : ending_by by (lines taken) ≡ Some refused =
+      let ended : ending_by by (lines taken) ≡ Some ending =
       ap (ending_by by) all.1 ∙ line_endings so line is all.0 in
       record {
         out_is =
             sym ((λ i. answered i ++ unless_ended (ended i) (by.closing (lines taken))) ∙ append-nil (out ++ text));
-        status = ap (λ (e : Option Bool). or_else e (by.refused (lines taken))) ended;
+        status = ap (λ (e : Option Ending). or_else e (by.refused (lines taken))) ended;
         ended = elim (whole_given stands) [
           | inl at_end ↦ inl at_end
           | inr some ↦
-              let is_ended : ending_by by (whole taken) ≡ Some refused =
+              let is_ended : ending_by by (whole taken) ≡ Some ending =
               ap (ending_by by) some.1 ∙ line_endings so line is some.0 in
               inr (subst EndsRun (sym is_ended) tt)
         ];
@@ -42,9 +43,9 @@ module _ {by : Answering} {before : List (List ℕ)} {out : List ℕ} {steps ste
       }
 
   -- its steps are the last
-  pub steps_line : {refused : Bool} {steps_new : ℕ} → by.ends before line ≡ Some refused
+  pub steps_line : {ending : Ending} {steps_new : ℕ} → by.ends before line ≡ Some ending
       → steps_new ≡ steps_old + by.cost before line → StepsAll by taken steps steps_new
-  steps_line {refused} {steps_new} is cost =
+  steps_line {ending} {steps_new} is cost =
       let all = lines_given stands in
       let e : steps + costs_by by (lines taken) ≡ steps_old + (by.cost before line + 0) =
       ap (λ (ls : List (List ℕ)). steps + costs_by by ls) all.1 ∙ line_costs so line is all.0 in

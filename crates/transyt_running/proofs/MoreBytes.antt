@@ -3,6 +3,7 @@ use Rattle.std.proofs.Common.{◌≡◌, ℕ, ◌++◌, ◌==◌, Bool, true, fa
 use Rattle.std.proofs.Common.{Some, refl, sym, ◌∙◌, ap}
 use Rattle.std.proofs.lemmas.List.{append-nil, map-append}
 use Rattle.transyt_io.specs.Lines.{cut, onto_first, line_of, lines, whole, lines_by}
+use Rattle.transyt_running.specs.declared.ending.Ending.{Ending}
 use Rattle.transyt_running.specs.Turns.{answers_after, ending_after, unless_ended, first_of, or_else}
 use Rattle.transyt_running.specs.Outcome.{EndsRun, IsSettled}
 use Rattle.transyt_running.specs.Runs.{Answering, of_lines, answers_by, ending_by, report_by, is_refused_by}
@@ -31,18 +32,18 @@ whole_then keep xs ys =
     let parts = cut_more keep xs ys in
     (map line_of parts.0, ap (map line_of) parts.1 ∙ map-append line_of (cut false xs) parts.0)
 
-unless_more : (turn later : Option Bool) (xs ys : List ℕ) → (EndsRun later → xs ≡ ys)
+unless_more : (turn later : Option Ending) (xs ys : List ℕ) → (EndsRun later → xs ≡ ys)
     → EndsRun (first_of turn later) → unless_ended turn xs ≡ unless_ended turn ys
 unless_more None later xs ys f h = f h
-unless_more (Some refused) later xs ys f h = refl
+unless_more (Some ending) later xs ys f h = refl
 
-first_more : (turn later longer : Option Bool) → (EndsRun later → longer ≡ later)
+first_more : (turn later longer : Option Ending) → (EndsRun later → longer ≡ later)
     → EndsRun (first_of turn later) → first_of turn longer ≡ first_of turn later
 first_more None later longer f h = f h
-first_more (Some refused) later longer f h = refl
+first_more (Some ending) later longer f h = refl
 
 -- after a line that ends the run no line is answered
-pub answers_more : (text : List (List ℕ) → List ℕ → List ℕ) (ends : List (List ℕ) → List ℕ → Option Bool)
+pub answers_more : (text : List (List ℕ) → List ℕ → List ℕ) (ends : List (List ℕ) → List ℕ → Option Ending)
     (before ls more : List (List ℕ)) → EndsRun (ending_after ends before ls)
     → answers_after text ends before (ls ++ more) ≡ answers_after text ends before ls
 answers_more text ends before [] more h = absurd h
@@ -55,20 +56,20 @@ answers_more text ends before (line ∷ ls) more h =
     (unless_more (ends before line) (ending_after ends with ls) _ _ rest h)
 
 -- and no later line ends it
-pub ending_more : (ends : List (List ℕ) → List ℕ → Option Bool) (before ls more : List (List ℕ))
+pub ending_more : (ends : List (List ℕ) → List ℕ → Option Ending) (before ls more : List (List ℕ))
     → EndsRun (ending_after ends before ls) → ending_after ends before (ls ++ more) ≡ ending_after ends before ls
 ending_more ends before [] more h = absurd h
 ending_more ends before (line ∷ ls) more h =
     let with = before ++ line ∷ [] in
     first_more (ends before line) (ending_after ends with ls) _ (ending_more ends with ls more) h
 
-open_first : (turn : Option Bool) (x : List ℕ) → EndsRun turn → unless_ended turn x ≡ []
+open_first : (turn : Option Ending) (x : List ℕ) → EndsRun turn → unless_ended turn x ≡ []
 open_first None x h = absurd h
-open_first (Some refused) x h = refl
+open_first (Some ending) x h = refl
 
-or_ended : (turn : Option Bool) (x y : Bool) → EndsRun turn → or_else turn x ≡ or_else turn y
+or_ended : (turn : Option Ending) (x y : Bool) → EndsRun turn → or_else turn x ≡ or_else turn y
 or_ended None x y h = absurd h
-or_ended (Some refused) x y h = refl
+or_ended (Some ending) x y h = refl
 
 module _ (by : Answering) (taken : List ℕ) (ended : EndsRun (ending_by by (whole taken))) where
   lines_more : (rest : List ℕ) → answers_by by (lines (taken ++ rest)) ≡ answers_by by (whole taken)
@@ -90,7 +91,7 @@ module _ (by : Answering) (taken : List ℕ) (ended : EndsRun (ending_by by (who
 
   refused_whole : (rest : List ℕ) → is_refused_by by (taken ++ rest) ≡ or_else (ending_by by (whole taken)) false
   refused_whole rest =
-      ap (λ (e : Option Bool). or_else e (by.refused (lines (taken ++ rest)))) (end_more rest)
+      ap (λ (e : Option Ending). or_else e (by.refused (lines (taken ++ rest)))) (end_more rest)
       ∙ or_ended (ending_by by (whole taken)) _ false ended
 
   -- the report of more bytes, where a whole line ended the run

@@ -14,12 +14,13 @@ use Rattle.transyt_io.specs.Reading.{HasRead, ReadsLine, HandedOut, AnswerSays, 
 use Rattle.transyt_io.specs.Streams.{Takes, Adds, AddsFront}
 use Rattle.transyt_io.proofs.Told.{takes_nothing, takes_both, adds_nothing, adds_both}
 use Rattle.transyt_io.proofs.Reading.{new_has_read}
+use Rattle.transyt_running.specs.declared.ending.Ending.{Ending}
 use Rattle.transyt_running.specs.declared.ending.Stop.{Stop}
 use Rattle.transyt_running.specs.declared.ending.Stop.TheVariants.{Write, Memory}
 use Rattle.transyt_running.specs.declared.status.Status.{Status}
 use Rattle.transyt_running.specs.declared.status.Status.TheVariants.{Done, DeckRefused, ReadFault, TooLong, WriteFault}
 use Rattle.transyt_running.specs.declared.status.Status.TheVariants.{NoMemory}
-use Rattle.transyt_running.specs.Turns.{AnsweredWhole, ClosedWhole}
+use Rattle.transyt_running.specs.Turns.{AnsweredWhole, ClosedWhole, is_refusal}
 use Rattle.transyt_running.specs.Outcome.{Finished, IsWritten, Row, Outcome}
 use Rattle.transyt_running.specs.Runs.{Answering, of_lines, answers_by, costs_by, StepsAll, StepsRow, StepsTaken, Ran}
 use Rattle.transyt_running.specs.RunSoFar.{RunSoFar}
@@ -137,15 +138,15 @@ module _ {by : Answering} {answered : List (List ℕ) → Type 0} {count : ℕ} 
 
   -- a line that ends the run is answered
   pub line_ends : (p : ReadsLine old new left_old left_new last_old last_new (Ok Text)) {line : List ℕ}
-      {answered_new : List (List ℕ) → Type 0} {written_new : Option (List ℕ)} {steps_new : ℕ} {refused : Bool}
+      {answered_new : List (List ℕ) → Type 0} {written_new : Option (List ℕ)} {steps_new : ℕ} {ending : Ending}
       {status : Status}
       → new.line ≡ Some line → new.taken ≤ 4194304
-      → AnsweredWhole by.text by.ends answered_new written_old written_new way.before line (Some refused)
-      → (counted ≡ true → steps_new ≡ steps_old + by.cost way.before line) → status ≡ (if refused then DeckRefused else Done)
+      → AnsweredWhole by.text by.ends answered_new written_old written_new way.before line (Some ending)
+      → (counted ≡ true → steps_new ≡ steps_old + by.cost way.before line) → status ≡ (if is_refusal ending then DeckRefused else Done)
       → Ran by counted left left_new last_new written written_new steps steps_new status
-  line_ends p {line} {refused = refused} now most told cost is =
+  line_ends p {line} {ending = ending} now most told cost is =
       let text = by.text way.before line in
-      ran_finished p (way.out ++ text) refused is (adds_both _ _ _ way.out text way.adds told.adds)
+      ran_finished p (way.out ++ text) (is_refusal ending) is (adds_both _ _ _ way.out text way.adds told.adds)
       (finished_line way.so_far line (stands_with p now) (sym told.turn_is) (few_taken p now most))
       (λ all.
       let had = way.counted_all all in

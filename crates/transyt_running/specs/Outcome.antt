@@ -2,15 +2,16 @@
 use Rattle.std.specs.Prelude.{◌≡◌, ◌⊎◌, ℕ, ◌-◌, ◌++◌, ◌≤◌, ◌<◌, List, [], Bool, true, false, Option, None, Some}
 use Rattle.std.specs.Prelude.{IfSome, length, take, if◌then◌else◌}
 use Rattle.transyt_io.specs.Streams.{Takes, Adds, IsAtEnd}
+use Rattle.transyt_running.specs.declared.ending.Ending.{Ending}
 use Rattle.transyt_running.specs.declared.status.Status.{Status}
 use Rattle.transyt_running.specs.declared.status.Status.TheVariants.{Done, DeckRefused, ReadFault, TooLong, WriteFault}
 use Rattle.transyt_running.specs.declared.status.Status.TheVariants.{NoMemory, BadWords}
 
--- What is reported of bytes: what is written of them while more may come, and whether they end the run before the input
--- ends, and then whether as a refusal; and, where they are the whole input, the report of it and whether it is refused.
+-- What is reported of bytes: what is written of them while more may come, and how they end the run before the input ends,
+-- if they do; and, where they are the whole input, the report of it and whether it is refused.
 pub record Reporting : Type 0 where
   pub so_far : List ℕ → List ℕ
-  pub ends : List ℕ → Option Bool
+  pub ends : List ℕ → Option Ending
   pub report : List ℕ → List ℕ
   pub refused : List ℕ → Bool
 
@@ -24,9 +25,9 @@ pub record IsFront (front all : List ℕ) : Type 0 where
   pub parts : front ++ back ≡ all
 
 -- the run was ended
-abbrev pub EndsRun : Option Bool → Type 0
+abbrev pub EndsRun : Option Ending → Type 0
 EndsRun None = ⊥
-EndsRun (Some refused) = Unit {0}
+EndsRun (Some ending) = Unit {0}
 
 -- the report was written: the source was read to its end, or the bytes taken ended the run
 pub record Finished (by : Reporting) (left : Option (List ℕ)) (taken out : List ℕ) (refused : Bool) : Type 0 where

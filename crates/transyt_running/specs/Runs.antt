@@ -2,23 +2,23 @@
 use Rattle.std.specs.Prelude.{◌≡◌, ◌⊎◌, ℕ, ◌+◌, ◌++◌, ◌≤◌, List, [], Bool, true, Option}
 use Rattle.transyt_io.specs.Lines.{lines, whole}
 use Rattle.transyt_io.specs.Streams.{Takes, Adds, IsAtEnd}
+use Rattle.transyt_running.specs.declared.ending.Ending.{Ending}
 use Rattle.transyt_running.specs.declared.status.Status.{Status}
 use Rattle.transyt_running.specs.declared.status.Status.TheVariants.{Done, DeckRefused, ReadFault, TooLong, WriteFault}
 use Rattle.transyt_running.specs.declared.status.Status.TheVariants.{NoMemory, BadWords}
 use Rattle.transyt_running.specs.Turns.{answers_after, ending_after, costs_after, unless_ended, or_else}
 use Rattle.transyt_running.specs.Outcome.{Reporting, Row}
 
--- how lines are answered: the text of a line after the lines before it, whether it ends the run and then whether as a
--- refusal, the text at the end of the input and whether that is a refusal, and the steps of a line
+-- how lines are answered: the text of a line after the lines before it, how it ends the run if it does, the text at the end of the input and whether that is a refusal, and the steps of a line
 pub record Answering : Type 0 where
   pub text : List (List ℕ) → List ℕ → List ℕ
-  pub ends : List (List ℕ) → List ℕ → Option Bool
+  pub ends : List (List ℕ) → List ℕ → Option Ending
   pub closing : List (List ℕ) → List ℕ
   pub refused : List (List ℕ) → Bool
   pub cost : List (List ℕ) → List ℕ → ℕ
 
 -- the answering of these parts
-abbrev pub answering : (List (List ℕ) → List ℕ → List ℕ) → (List (List ℕ) → List ℕ → Option Bool)
+abbrev pub answering : (List (List ℕ) → List ℕ → List ℕ) → (List (List ℕ) → List ℕ → Option Ending)
     → (List (List ℕ) → List ℕ) → (List (List ℕ) → Bool) → (List (List ℕ) → List ℕ → ℕ) → Answering
 answering text ends closing refused cost =
     record { text = text; ends = ends; closing = closing; refused = refused; cost = cost }
@@ -28,7 +28,7 @@ abbrev pub answers_by : Answering → List (List ℕ) → List ℕ
 answers_by by ls = answers_after by.text by.ends [] ls
 
 -- how lines end the run, if they do
-abbrev pub ending_by : Answering → List (List ℕ) → Option Bool
+abbrev pub ending_by : Answering → List (List ℕ) → Option Ending
 ending_by by ls = ending_after by.ends [] ls
 
 -- the steps of lines, up to the one that ends the run

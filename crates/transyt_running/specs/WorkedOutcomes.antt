@@ -1,13 +1,15 @@
 -- Worked runs over lines that are said again: such as end with a status, and such as don't, each wrong in one thing.
-use Rattle.std.specs.Prelude.{ℕ, ◌+◌, ◌*◌, ◌++◌, List, [], ◌∷◌, Bool, Option, None, Some, false, true, codes, length, nat_eq, nat_lt, if◌then◌else◌}
+use Rattle.std.specs.Prelude.{ℕ, ◌+◌, ◌*◌, ◌++◌, List, [], ◌∷◌, Option, None, Some, codes, length, nat_eq, nat_lt, if◌then◌else◌}
+use Rattle.transyt_running.specs.declared.ending.Ending.{Ending}
+use Rattle.transyt_running.specs.declared.ending.Ending.TheVariants as e
 use Rattle.transyt_running.specs.declared.status.Status.{Status}
 use Rattle.transyt_running.specs.declared.status.Status.TheVariants as s
 use Rattle.transyt_running.specs.Runs.{Answering, answering}
 
 -- a line that begins with S ends the run, and one that begins with R ends it as a refusal
-abbrev pub echo_ends : List ℕ → Option Bool
+abbrev pub echo_ends : List ℕ → Option Ending
 echo_ends [] = None
-echo_ends (b ∷ bs) = if nat_eq b 83 then Some false else if nat_eq b 82 then Some true else None
+echo_ends (b ∷ bs) = if nat_eq b 83 then Some e.Stopped else if nat_eq b 82 then Some e.Refused else None
 
 -- Each line is said again behind a `>`, and takes a step for each byte and a hundred for each line before it. The end of
 -- the input is told by how many lines there were, as a digit, and is a refusal after more than two.

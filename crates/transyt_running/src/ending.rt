@@ -1,8 +1,30 @@
 //! The status of a run by what ended it.
 ghost use Rattle.std.specs.Prelude.{◌≡◌, if◌then◌else◌};
+ghost use Rattle.transyt_running.specs.Turns.{is_refusal};
 
 use crate::status::Status;
 use transyt_io::ReadStop;
+
+/// How a line ends a run.
+#[derive(Clone, Copy, Debug, PartialEq, Eq, Drop)]
+pub enum Ending {
+    /// All that was asked for is done: STOP.
+    Stopped,
+    /// The line is refused, and nothing after it is answered.
+    Refused,
+}
+
+impl Ending {
+    /// The status of the run that it ends.
+    pub fn status(self) -> Status
+        ensures { result ≡ (if is_refusal self then Status.DeckRefused else Status.Done) }
+    {
+        match self {
+            Ending::Stopped => Status::Done,
+            Ending::Refused => Status::DeckRefused,
+        }
+    }
+}
 
 /// Why an answer stopped.
 #[derive(Clone, Copy, Drop)]
@@ -13,7 +35,7 @@ pub enum Stop {
     Memory,
 }
 
-/// The status of a run that a line or the end of the input ended.
+/// The status of a run that the end of the input ended: whether that is a refusal.
 pub fn ended(refused: bool) -> Status
     ensures { result ≡ (if refused then Status.DeckRefused else Status.Done) }
 {

@@ -12,6 +12,6 @@ mod ending;
 mod laws;
 mod status;
 
-pub use ending::{Stop, ended, stopped, stopped_reading};
+pub use ending::{Ending, Stop, ended, stopped, stopped_reading};
 pub use laws::worked_outcomes;
 pub use status::Status;

@@ -1,5 +1,6 @@
 -- A line is a command, or one of the deck.
 use Rattle.std.proofs.Common.{◌≡◌, Bool, List, Option, None, Some, IfSome, refl, sym, ◌∙◌, ap, subst}
+use Rattle.transyt_running.specs.declared.ending.Ending.{Ending}
 use Rattle.transyt_session.specs.Session.{SessionValue}
 use Rattle.transyt_desks.specs.Desks.{desk_zero}
 use Rattle.transyt_deck.specs.Deck.{next}
@@ -56,7 +57,7 @@ returns-clause-whole g c before h =
     let none : old.desks ≡ None = none_is old.desks c.in_default.not-Some in
     let is = deck_is r before k none in
     let told = c.answer_card.ensures in
-    let F : Option Bool → Type 0 = λ end. end ≡ deck_ends (next old.cards.deck line) in
+    let F : Option Ending → Type 0 = λ end. end ≡ deck_ends (next old.cards.deck line) in
     told_whole c.answer_card.result _ _ _ before line _ _ (ap (λ (s : RunState). line_text s line) is)
     (ap (λ (s : RunState). line_ends s line) is) told.ok told.ends
     (λ goes. answered_card r before k c.answer_card.new.self line none (told.state goes)
