@@ -109,13 +109,14 @@ impl Reporter {
         requires most { workers ≤ 8 }
         ensures value { IfOk result (λ r. r ≡ new_reporter workers) }
     {
+        let buffer = LineBuffer::open(alloc)?;
         Ok(Reporter {
             alloc,
             workers,
             lines: 0,
             cards: CardReader::new(alloc),
             desks: None,
-            buffer: LineBuffer::open(alloc)?,
+            buffer,
         })
     }
 
