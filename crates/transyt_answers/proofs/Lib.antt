@@ -10,6 +10,7 @@ pub mod WorkLaws
 pub mod CostLaws
 pub mod CountLaws
 pub mod JudgedTexts
+pub mod LeavesLaws
 pub mod Worked
 pub mod WorkedBrief
 pub mod WorkedCommands

@@ -1,5 +1,6 @@
 -- What the code keeps to between two lines. No clause of the top call cites it.
 use Rattle.std.specs.Prelude.{ℕ, ◌+◌, ◌*◌, ◌≡◌, ◌<◌, ◌≤◌, true, length, Option, None, Some, IsSome, IfSome, List}
+use Rattle.std.specs.Prelude.{Bool, false}
 use Rattle.transyt_net.specs.Shape.{SameShape}
 use Rattle.transyt_sweep.specs.Climb.{Step, climb}
 use Rattle.transyt_session.specs.Session.{SessionValue}
@@ -24,6 +25,12 @@ IsOf s (a.Plot place) = place < length s.net.links
 IsOf s a.Climb = IsSome s.net.plan × (s.before ≡ None)
 IsOf s a.Cert = IsSome s.net.plan × (s.before ≡ None)
 IsOf s _ = Unit {0}
+
+-- whether an answer is no more than its text: CLIMB and CERT aren't
+abbrev pub is_told : Answer → Bool
+is_told a.Climb = false
+is_told a.Cert = false
+is_told _ = true
 
 -- desks between two lines: each has the shape of desk 0, and so has the network before an open trial
 pub record AreReady (desks : List SessionValue) : Type 0 where
@@ -69,3 +76,12 @@ IsStep Budget = Unit {0}
 abbrev pub index_found : Tried → Option ℕ
 index_found Barred = None
 index_found (Index index work) = Some index
+
+-- desks and steps after an answer, also one whose text broke off: the desks are ready, the work rose by no more than a
+-- limit and not past that of the whole answer, and with one worker the steps rose as it did
+pub record Leaves (most : ℕ) (answered : SessionValue) (old new : List SessionValue) (steps steps_new : ℕ) : Type 0 where
+  pub ready : AreReady new
+  pub len : length new ≡ length old
+  pub few : (desk_zero new).work ≤ (desk_zero old).work + most
+  pub work : (desk_zero new).work ≤ answered.work
+  pub made : length old ≡ 1 → steps_new + (desk_zero old).work ≡ steps + (desk_zero new).work

@@ -175,12 +175,17 @@ pub fn write_brief<R: Threads + Sync, G: Gate, K: Sink, L: Ledger>(
         return Err(Stop::Memory);
     };
     let Ok(session) = Session::open(alloc, net, steps) else {
+        drop(line);
         return Err(Stop::Memory);
     };
     let Ok(mut desks) = Desks::open(alloc, session, workers) else {
+        drop(line);
         return Err(Stop::Memory);
     };
-    match tell_climb(rt, gate, &mut desks, &mut line, sink, steps) {
+    let told = tell_climb(rt, gate, &mut desks, &mut line, sink, steps);
+    drop(desks);
+    drop(line);
+    match told {
         Ok(()) => Ok(()),
         Err(Failed) => Err(Stop::Write),
     }

@@ -7,9 +7,10 @@ ghost use Rattle.transyt_climb.specs.Way.{climbed};
 ghost use Rattle.transyt_desks.specs.Desks.{desk_zero, AreAlike};
 ghost use Rattle.transyt_text.specs.Prints.{PrintsOn};
 ghost use Rattle.transyt_report.specs.MoveTexts.{end_text};
-ghost use Rattle.transyt_answers.specs.Commands.{steps_text, climb_text, climb_of, budget_of};
-ghost use Rattle.transyt_answers.specs.Conditions.{IsStep, AreReady};
+ghost use Rattle.transyt_answers.specs.Commands.{after_answer, steps_text, climb_text, climb_of, budget_of};
+ghost use Rattle.transyt_answers.specs.Conditions.{IsStep, AreReady, Leaves};
 
+use crate::answer::Answer;
 use std::sync::ledger::Ledger;
 use std::thread::Threads;
 use transyt_climb::{Climber, Turn};
@@ -123,15 +124,9 @@ pub(crate) fn climb_on<R: Threads + Sync, G: Gate, K: Sink, L: Ledger>(
     requires room { (desk_zero desks.old).work ≤ 2 ^ 60 }
     ensures prints { PrintsOn K.written K.faults sink.old sink.new result
         (climb_text (climb_of (desk_zero desks.old).net)) }
-    ensures state { OnOk result
-        (desk_zero desks.new ≡ climbed (budget_of (desk_zero desks.old).net.plan) (desk_zero desks.old)) }
-    ensures ready { AreReady desks.new }
-    ensures len { length desks.new ≡ length desks.old }
-    ensures few { (desk_zero desks.new).work ≤ (desk_zero desks.old).work + 8000072000 }
-    ensures work { (desk_zero desks.new).work
-        ≤ (climbed (budget_of (desk_zero desks.old).net.plan) (desk_zero desks.old)).work }
-    ensures steps { length desks.old ≡ 1
-        → steps.new + (desk_zero desks.old).work ≡ steps.old + (desk_zero desks.new).work }
+    ensures state { OnOk result (desk_zero desks.new ≡ after_answer Answer.Climb (desk_zero desks.old)) }
+    ensures leaves { Leaves 8000072000 (after_answer Answer.Climb (desk_zero desks.old)) desks.old desks.new
+        steps.old steps.new }
 {
     let mut climber = start_climber(desks.session().net());
     climb_by_rounds(rt, gate, desks, &mut climber, line, sink, steps)

@@ -6,7 +6,7 @@ ghost use Rattle.transyt_text.specs.Prints.{PrintsOn};
 ghost use Rattle.transyt_deck.specs.Deck.{next, is_complete, line_count};
 ghost use Rattle.transyt_desks.specs.Desks.{desk_zero};
 ghost use Rattle.transyt_answers.specs.Commands.{line_answer, answer_text, session_after};
-ghost use Rattle.transyt_answers.specs.Conditions.{AreReady};
+ghost use Rattle.transyt_answers.specs.Conditions.{AreReady, Leaves};
 ghost use Rattle.transyt_answers.specs.Report.{InSession, text, ends, closing, refused_at_end, cost, answer_ends, deck_said};
 ghost use Rattle.transyt_answers.specs.Report.{deck_ends, deck_steps, run_of};
 ghost use Rattle.transyt_answers.specs.Reporter.{HasAnswered, state_of, AreKept, new_reporter};
@@ -88,12 +88,8 @@ fn answer_command<R: Threads + Sync, G: Gate, K: Sink, L: Ledger>(
     ensures ends { IfOk result (λ end. end ≡ answer_ends (line_answer (desk_zero desks.old) command.now)) }
     ensures state { OnOk result (desk_zero desks.new ≡ session_after (desk_zero desks.old) command.now) }
     ensures takes_none { IsErrOf result Stop.Memory → ⊥ }
-    ensures ready { AreReady desks.new }
-    ensures len { length desks.new ≡ length desks.old }
-    ensures few { (desk_zero desks.new).work ≤ (desk_zero desks.old).work + 8589934592 }
-    ensures work { (desk_zero desks.new).work ≤ (session_after (desk_zero desks.old) command.now).work }
-    ensures steps { length desks.old ≡ 1
-        → steps.new + (desk_zero desks.old).work ≡ steps.old + (desk_zero desks.new).work }
+    ensures leaves { Leaves 8589934592 (session_after (desk_zero desks.old) command.now) desks.old desks.new
+        steps.old steps.new }
 {
     let answer = judge(desks.session_mut(), command, steps);
     match say(rt, gate, answer, desks, buffer, sink, steps) {
@@ -109,13 +105,14 @@ impl Reporter {
         requires most { workers ≤ 8 }
         ensures value { IfOk result (λ r. r ≡ new_reporter workers) }
     {
+        let buffer = LineBuffer::open(alloc)?;
         Ok(Reporter {
             alloc,
             workers,
             lines: 0,
             cards: CardReader::new(alloc),
             desks: None,
-            buffer: LineBuffer::open(alloc)?,
+            buffer,
         })
     }
 

@@ -1,10 +1,10 @@
 //! What was judged is said: its text is written.
-ghost use Rattle.std.specs.Prelude.{◌≡◌, ◌+◌, ◌*◌, ◌^◌, ◌≤◌, length, OnOk};
+ghost use Rattle.std.specs.Prelude.{◌≡◌, ◌^◌, ◌≤◌, length, true, OnOk};
 ghost use Rattle.transyt_net.specs.Parts.{Network};
 ghost use Rattle.transyt_desks.specs.Desks.{desk_zero};
 ghost use Rattle.transyt_text.specs.Prints.{PrintsOn};
 ghost use Rattle.transyt_answers.specs.Commands.{done_text, refused_text, answer_text, after_answer};
-ghost use Rattle.transyt_answers.specs.Conditions.{AreReady, IsOf};
+ghost use Rattle.transyt_answers.specs.Conditions.{AreReady, IsOf, Leaves, is_told};
 ghost use Rattle.transyt_answers.specs.Report.{card_refused, accepted};
 
 use crate::answer::Answer;
@@ -65,6 +65,28 @@ fn print_refused<K: Sink>(code: Code, line: &mut LineBuffer, sink: &mut K) -> Re
     print_form(b"REFUSED #", &[u128::from(code.number())], line, sink)
 }
 
+/// Writes the text of an answer other than CLIMB and CERT.
+fn say_text<K: Sink>(
+    answer: Answer,
+    session: &Session,
+    line: &mut LineBuffer,
+    sink: &mut K,
+) -> Result<(), Failed>
+    requires of { IsOf session.now answer }
+    requires told { is_told answer ≡ true }
+    ensures { PrintsOn K.written K.faults sink.old sink.new result (answer_text session.now answer) }
+{
+    match answer {
+        Answer::Nothing | Answer::Stop => Ok(()),
+        Answer::Done => print_done(line, sink),
+        Answer::Refused(code) => print_refused(code, line, sink),
+        Answer::Show(what) => show(what, session, line, sink),
+        Answer::Plot(place) => plot(session, place, line, sink),
+        Answer::Deck => print_deck(session.net(), line, sink),
+        Answer::Climb | Answer::Cert => unreachable!(),
+    }
+}
+
 /// Writes the text of an answer; CLIMB and CERT are carried out line by line as they are written.
 ///
 /// On Failed some first bytes of the text were written. It takes no memory.
@@ -84,21 +106,12 @@ pub(crate) fn say<R: Threads + Sync, G: Gate, K: Sink, L: Ledger>(
     ensures prints { PrintsOn K.written K.faults sink.old sink.new result
         (answer_text (desk_zero desks.old) answer) }
     ensures state { OnOk result (desk_zero desks.new ≡ after_answer answer (desk_zero desks.old)) }
-    ensures ready { AreReady desks.new }
-    ensures len { length desks.new ≡ length desks.old }
-    ensures few { (desk_zero desks.new).work ≤ (desk_zero desks.old).work + 8000072000 }
-    ensures work { (desk_zero desks.new).work ≤ (after_answer answer (desk_zero desks.old)).work }
-    ensures steps { length desks.old ≡ 1
-        → steps.new + (desk_zero desks.old).work ≡ steps.old + (desk_zero desks.new).work }
+    ensures leaves { Leaves 8000072000 (after_answer answer (desk_zero desks.old)) desks.old desks.new
+        steps.old steps.new }
 {
     match answer {
-        Answer::Nothing | Answer::Stop => Ok(()),
-        Answer::Done => print_done(line, sink),
-        Answer::Refused(code) => print_refused(code, line, sink),
-        Answer::Show(what) => show(what, desks.session(), line, sink),
-        Answer::Plot(place) => plot(desks.session(), place, line, sink),
-        Answer::Deck => print_deck(desks.session().net(), line, sink),
         Answer::Climb => climb_on(rt, gate, desks, line, sink, steps),
         Answer::Cert => certify_on(desks.session_mut(), line, sink, steps),
+        _ => say_text(answer, desks.session(), line, sink),
     }
 }

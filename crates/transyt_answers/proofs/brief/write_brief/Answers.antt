@@ -6,8 +6,8 @@ use Rattle.transyt_answers.proofs.ReadyLaws.{ready_opened}
 use Rattle.transyt_answers.proofs.brief.write_brief.Goals as goal
 
 -- of the session that was opened
-pub tell_climb-requires-clause-ready : goal.tell_climb-requires-clause-ready
-tell_climb-requires-clause-ready g c κs within =
+pub tell_climb-told-requires-clause-ready : goal.tell_climb-told-requires-clause-ready
+tell_climb-told-requires-clause-ready g c κs within =
     let P : List SessionValue → Type 0 = λ desks. AreReady desks in
     subst P (sym c.in-Ok-open-2.ensures)
     (ready_opened c.in-Ok-open.session c.args.workers

@@ -1,13 +1,13 @@
 -- A command is judged, and then said.
 use Rattle.std.proofs.Common.{◌≡◌, ℕ, List, sym, ◌∙◌, ap, subst, set}
-use Rattle.std.proofs.lemmas.List.{length-set}
 use Rattle.transyt_io.specs.Streams.{Adds, AddsFront}
 use Rattle.transyt_session.specs.Session.{SessionValue}
 use Rattle.transyt_desks.specs.Desks.{desk_zero}
-use Rattle.transyt_answers.specs.Commands.{answer_text, line_answer, line_judged}
+use Rattle.transyt_answers.specs.Commands.{after_answer, answer_text, line_answer, line_judged}
 use Rattle.transyt_answers.specs.Conditions.{AreReady}
 use Rattle.transyt_answers.proofs.ReadyLaws.{ready_judged, zero_set}
 use Rattle.transyt_answers.proofs.JudgedTexts.{line_said}
+use Rattle.transyt_answers.proofs.LeavesLaws.{command_leaves}
 use Rattle.transyt_answers.proofs.reporter.answer_command.Goals as goal
 
 -- the desks are ready when desk 0 has judged the line
@@ -39,10 +39,6 @@ returns-in-Ok-clause-prints g c =
       cause = record { later = told.cause.later; failed = tt };
     }
 
--- as many desks
-pub returns-in-Ok-clause-len : goal.returns-in-Ok-clause-len
-returns-in-Ok-clause-len g c = c.say.ensures.len ∙ length-set c.args.desks.now 0 c.judge-answer.new.session
-
 -- and where it broke off
 pub returns-in-Err-clause-prints : goal.returns-in-Err-clause-prints
 returns-in-Err-clause-prints g c =
@@ -62,3 +58,33 @@ returns-in-Err-clause-prints g c =
       err = subst P same told.err;
       cause = record { later = told.cause.later; failed = told.cause.failed };
     }
+
+-- the desks and the steps
+pub returns-in-Ok-clause-leaves : goal.returns-in-Ok-clause-leaves
+returns-in-Ok-clause-leaves g c =
+    let desks = c.args.desks.now in
+    let line = c.args.command.now in
+    let s = c.judge-answer.new.session in
+    let value = c.session_mut.ensures.value in
+    let told = c.judge-answer.ensures in
+    let at : desk_zero (set desks 0 s) ≡ line_judged (desk_zero desks) line =
+    zero_set desks s c.requires.ready.some ∙ told.state ∙ ap (λ (s : SessionValue). line_judged s line) value in
+    let answer : c.judge-answer.result ≡ line_answer (desk_zero desks) line =
+    told.answer ∙ ap (λ (s : SessionValue). line_answer s line) value in
+    command_leaves desks c.say.new.desks _ s _ _ c.args.steps.now c.judge-answer.new.steps c.say.new.steps
+    c.requires.ready value told.few told.steps (λ i. after_answer (answer i) (at i)) c.in-Ok.ensures.leaves
+
+-- and where it broke off
+pub returns-in-Err-clause-leaves : goal.returns-in-Err-clause-leaves
+returns-in-Err-clause-leaves g c =
+    let desks = c.args.desks.now in
+    let line = c.args.command.now in
+    let s = c.judge-answer.new.session in
+    let value = c.session_mut.ensures.value in
+    let told = c.judge-answer.ensures in
+    let at : desk_zero (set desks 0 s) ≡ line_judged (desk_zero desks) line =
+    zero_set desks s c.requires.ready.some ∙ told.state ∙ ap (λ (s : SessionValue). line_judged s line) value in
+    let answer : c.judge-answer.result ≡ line_answer (desk_zero desks) line =
+    told.answer ∙ ap (λ (s : SessionValue). line_answer s line) value in
+    command_leaves desks c.say.new.desks _ s _ _ c.args.steps.now c.judge-answer.new.steps c.say.new.steps
+    c.requires.ready value told.few told.steps (λ i. after_answer (answer i) (at i)) c.in-Err.ensures.leaves

@@ -44,7 +44,7 @@ returns-in-Some-clause-steps g c before h one =
     let told = c.answer_command.ensures in
     command_cost c.answer_command.result (desk_zero desks) (desk_zero c.answer_command.new.desks) before c.args.line.now
     c.args.steps.now c.answer_command.new.steps (session_is r before k desks c.in-Some.is) told.state
-    (told.steps (kept.len ∙ ap (λ (r : ReporterValue). r.workers) c.reporter.view_is ∙ one))
+    (told.leaves.made (kept.len ∙ ap (λ (r : ReporterValue). r.workers) c.reporter.view_is ∙ one))
 
 -- a line of the deck is answered
 pub returns-clause-whole : goal.returns-clause-whole
