@@ -69,7 +69,7 @@ returns-in-Ok-Some-clause-ran g c =
     let told = rw c.in-Ok-Some.field-0-is at c.in-Ok-Some.ensures in
     line_ends way found.reads c.line.ensures c.next.ensures.most
     (told.whole way.before way.answered)
-    (λ all. told.steps way.before way.answered (c.loop-found.invariant.workers ∙ one_is all)) c.status-in-Ok-Some.ensures
+    (λ all. told.steps way.before way.answered (c.loop-found.invariant.workers ∙ one_is all)) c.status.ensures
 
 -- the answer to a line stopped
 pub returns-in-Err-answer_line-clause-ran : goal.returns-in-Err-answer_line-clause-ran
