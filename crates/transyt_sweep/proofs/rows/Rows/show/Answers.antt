@@ -1,5 +1,5 @@
 -- Three rows are written, each with a value for each step.
-use Rattle.std.proofs.Common.{◌≡◌, ◌<◌, length, ap, sym, subst, ◌∙◌, refl, arith}
+use Rattle.std.proofs.Common.{◌<◌, length, ap, sym, subst, ◌∙◌, arith}
 use Rattle.transyt_sweep.specs.Rows.{RowsValue, AreRows}
 use Rattle.transyt_sweep.proofs.KeptLaws.{apart_arrivals, apart_go, apart_of, apart_queue, with_index}
 use Rattle.transyt_sweep.proofs.rows.Rows.show.Goals as goal

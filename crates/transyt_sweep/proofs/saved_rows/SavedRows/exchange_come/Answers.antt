@@ -1,5 +1,5 @@
 -- The rows that change places have a value for each step.
-use Rattle.std.proofs.Common.{◌≡◌, ◌<◌, length, ap, sym, subst, ◌∙◌, refl, arith}
+use Rattle.std.proofs.Common.{◌≡◌, ◌<◌, length, ap, sym, subst, ◌∙◌, arith}
 use Rattle.transyt_sweep.specs.Cell.{CellValue}
 use Rattle.transyt_sweep.specs.Rows.{RowsValue, AreRows, AreSmall}
 use Rattle.transyt_sweep.proofs.KeptLaws.{apart_arrivals, apart_figures, apart_queue}

@@ -1,5 +1,5 @@
 -- Rows and figures change places: each row has a value for each step.
-use Rattle.std.proofs.Common.{◌≡◌, ◌<◌, length, ap, sym, subst, ◌∙◌, refl, arith}
+use Rattle.std.proofs.Common.{◌≡◌, ◌<◌, length, ap, sym, subst, ◌∙◌, arith}
 use Rattle.transyt_sweep.specs.Rows.{RowsValue, AreRows, row}
 use Rattle.transyt_sweep.proofs.KeptLaws.{apart_arrivals, apart_figures, apart_of, apart_queue, long_row, with_index}
 use Rattle.transyt_sweep.proofs.saved_rows.SavedRows.give_come.Goals as goal

@@ -1,5 +1,5 @@
 -- Two rows change places: each has a value for each step.
-use Rattle.std.proofs.Common.{◌≡◌, ◌<◌, length, ap, sym, subst, ◌∙◌, refl, arith}
+use Rattle.std.proofs.Common.{◌≡◌, ◌<◌, length, ap, sym, subst, ◌∙◌, arith}
 use Rattle.transyt_sweep.specs.Rows.{RowsValue, AreRows, row}
 use Rattle.transyt_sweep.proofs.KeptLaws.{apart_go, apart_of, go_seen, long_row, with_index}
 use Rattle.transyt_sweep.proofs.saved_rows.SavedRows.give_go.Goals as goal

@@ -1,5 +1,5 @@
 -- Rows of 0 are room for one link's work, and known figures of 0 are small.
-use Rattle.std.proofs.Common.{◌≡◌, ◌*◌, length, ap, subst, sym, rules, arith}
+use Rattle.std.proofs.Common.{◌*◌, length, ap, subst, sym, rules, arith}
 use Rattle.transyt_parts.specs.declared.frame.Frame.{Frame}
 use Rattle.transyt_sweep.specs.Factors.{AreFactors}
 use Rattle.transyt_sweep.specs.Rows.{no_figures}
