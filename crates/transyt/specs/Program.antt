@@ -1,6 +1,7 @@
 -- What the program does with its words, between a source and a sink.
 use Rattle.std.specs.Prelude.{◌≡◌, ◌≢◌, ◌↔◌, ◌≤◌, ◌++◌, ℕ, List, Option, None, Some, IfSome, drop, length}
 use Rattle.transyt_io.specs.Streams.{Rose}
+use Rattle.transyt_running.specs.Exit.{exit_number}
 use Rattle.transyt_running.specs.declared.status.Status.{Status}
 use Rattle.transyt_running.specs.declared.status.Status.TheVariants.{BadWords, ReadFault, WriteFault, NoMemory}
 use Rattle.transyt_answers.specs.Report.{report, status}
@@ -51,3 +52,17 @@ pub record TopCall (words : List (List ℕ)) (old new : Ends) (ended : Status) :
 -- the words after the program's name
 abbrev pub after_name : {X : Type 0} → List X → List X
 after_name given = drop 1 given
+
+-- the program ran the top call once with these words: what its status says, and the number is that of the status
+pub record ProgramRan (words : List (List ℕ)) (old new : Ends) (number : ℕ) : Type 0 where
+  pub ended : Status
+  pub number_is : number ≡ exit_number ended
+  pub call : TopCall words old new ended
+
+-- with `run`, with no fault and no want of memory, the program writes the report of the input, and its number is that
+-- of the input's status
+abbrev pub ProgramHeadline : List (List ℕ) → Ends → Ends → ℕ → Type 0
+ProgramHeadline words old new number =
+    IsRun (word_of words) → number ≢ 5 → NoFault old new
+    → (input held : List ℕ) → old.left ≡ Some input → old.written ≡ Some held → length input ≤ 4194304
+    → (new.written ≡ Some (held ++ report input)) × (number ≡ exit_number (status input))

@@ -26,6 +26,14 @@ impl Front {
         }
     }
 
+    /// The text of the line; nothing where it is no text.
+    pub(crate) fn text(&self) -> &str {
+        match self.bytes.get(..self.length) {
+            Some(line) => str::from_utf8(line).unwrap_or(""),
+            None => "",
+        }
+    }
+
     /// Notes a byte that was written: the one after a whole line begins the next.
     fn note(&mut self, byte: u8) {
         if self.is_whole {
@@ -51,27 +59,17 @@ impl Front {
 
 /// A sink over another, which keeps the first bytes of the last line that was begun.
 #[derive(Drop)]
-pub(crate) struct LastLine<'a, K> {
+pub(crate) struct LastLine<K> {
     /// The sink that is written.
-    pub(crate) sink: &'a mut K,
+    pub(crate) sink: K,
     /// The first bytes of the last line.
     pub(crate) front: Front,
 }
 
-impl<K> LastLine<'_, K> {
-    /// The text of the last line; nothing where it is no text.
-    pub(crate) fn text(&self) -> &str {
-        match self.front.bytes.get(..self.front.length) {
-            Some(line) => str::from_utf8(line).unwrap_or(""),
-            None => "",
-        }
-    }
-}
+impl<K: Sink> Sink for LastLine<K> {
+    ghost written = { λ s. K.written s.sink };
 
-impl<K: Sink> Sink for LastLine<'_, K> {
-    ghost written = { λ s. K.written s.sink.now };
-
-    ghost faults = { λ s. K.faults s.sink.now };
+    ghost faults = { λ s. K.faults s.sink };
 
     fn write(&mut self, piece: &[u8]) -> Result<usize, Failed> {
         let taken = self.sink.write(piece)?;

@@ -1,7 +1,7 @@
 //! The program over any source and sink: its words, the top call and the end.
-ghost use Rattle.std.specs.Prelude.{◌≡◌, ◌≢◌, ◌<◌, ◌≤◌, ◌⊎◌, IfErr, map, string_bytes};
+ghost use Rattle.std.specs.Prelude.{◌≡◌, ◌≢◌, ◌<◌, ◌≤◌, ◌⊎◌, IfErr, IfOk, map, string_bytes};
 ghost use Rattle.transyt_running.specs.declared.status.Status.{Status};
-ghost use Rattle.transyt.specs.Program.{TopCall, after_name, ends_of};
+ghost use Rattle.transyt.specs.Program.{ProgramHeadline, ProgramRan, TopCall, after_name, ends_of};
 
 use crate::ending::{exit_of, sentence_of};
 use crate::last_line::{Front, LastLine};
@@ -109,28 +109,63 @@ fn tell<R: Eprint>(rt: &R, ended: Result<Status, ErrorKind>, last: &str) {
     }
 }
 
-/// Runs the program with the words that it was given, its own name first, and gives its exit number.
+/// The top call with the words after the program's name, into a sink that keeps the last line; standard error is told why
+/// not all was done.
+fn run_given<R: Threads + Sync + Eprint + AllocGlobal, S: Source, K: Sink>(
+    rt: &R,
+    given: &[String],
+    source: &mut S,
+    last: &mut LastLine<K>,
+) -> Status
+    ensures { TopCall (map string_bytes (after_name given.now))
+        (ends_of S.left S.last S.faults K.written K.faults source.old last.old.sink)
+        (ends_of S.left S.last S.faults K.written K.faults source.new last.new.sink) result }
+{
+    let status = run_call(rt, after_name(given), source, last);
+    tell(rt, Ok(status), last.front.text());
+    status
+}
+
+/// The program without words: nothing is read or written.
+fn run_without<R: Eprint>(rt: &R, cause: ErrorKind) -> u8
+    ensures number { (result ≡ 5) ⊎ (result ≡ 7) }
+    ensures most { result ≤ 7 }
+{
+    tell(rt, Err(cause), "");
+    exit_of(Err(cause))
+}
+
+/// Runs the program with the words that it was given, its own name first, and gives its exit number, and the sink again.
 ///
 /// Where not all was done, standard error is told why: of a refused deck the line, the code and its meaning.
 pub fn run_program<R: Threads + Sync + Eprint + AllocGlobal, S: Source, K: Sink>(
     rt: &R,
     given: io::Result<Vec<String>>,
     source: &mut S,
-    sink: &mut K,
-) -> u8
+    sink: K,
+) -> (u8, K)
+    // what the top call says of one run with the words after the program's name; the number is that of its status
+    ensures ran { IfOk given (λ words. ProgramRan (map string_bytes (after_name words.items))
+        (ends_of S.left S.last S.faults K.written K.faults source.old sink)
+        (ends_of S.left S.last S.faults K.written K.faults source.new result.1) result.0) }
+    // with `run`, with no fault and no want of memory: the report of the input, and the number of its status
+    ensures headline { IfOk given (λ words. ProgramHeadline (map string_bytes (after_name words.items))
+        (ends_of S.left S.last S.faults K.written K.faults source.old sink)
+        (ends_of S.left S.last S.faults K.written K.faults source.new result.1) result.0) }
     // with no words nothing is read or written
-    ensures no_words { IfErr given (λ error. (source.new ≡ source.old) × (sink.new ≡ sink.old)) }
-    ensures no_words_number { IfErr given (λ error. (result ≡ 5) ⊎ (result ≡ 7)) }
-    ensures most { result ≤ 7 }
+    ensures no_words { IfErr given (λ error. (source.new ≡ source.old) × (result.1 ≡ sink)) }
+    ensures no_words_number { IfErr given (λ error. (result.0 ≡ 5) ⊎ (result.0 ≡ 7)) }
+    ensures most { result.0 ≤ 7 }
 {
+    let words = match given {
+        Ok(words) => words,
+        Err(error) => return (run_without(rt, error.kind()), sink),
+    };
     let mut last = LastLine {
         sink,
         front: Front::new(),
     };
-    let ended = match &given {
-        Ok(words) => Ok(run_call(rt, after_name(words), source, &mut last)),
-        Err(error) => Err(error.kind()),
-    };
-    tell(rt, ended, last.text());
-    exit_of(ended)
+    let status = run_given(rt, &words, source, &mut last);
+    drop(words);
+    (exit_of(Ok(status)), last.sink)
 }

@@ -7,6 +7,7 @@ use transyt_io::{StdSink, StdSource};
 
 fn main(rt: HostRuntime) -> ExitCode {
     let mut source = StdSource::new(rt.stdin());
-    let mut sink = StdSink::new(rt.stdout());
-    ExitCode::from(run_program(&rt, given_words(&rt), &mut source, &mut sink))
+    let sink = StdSink::new(rt.stdout());
+    let (number, _) = run_program(&rt, given_words(&rt), &mut source, sink);
+    ExitCode::from(number)
 }

@@ -1,0 +1,18 @@
+-- What the program did, from what the top call's status says.
+use Rattle.std.proofs.Common.{List, String, Global, map, string_bytes, ap}
+use Rattle.transyt.specs.Program.{after_name}
+use Rattle.transyt.proofs.ProgramLaws.{program_ran, program_headline}
+use Rattle.transyt.proofs.program.run_program.Goals as goal
+
+-- the top call was made, and the number is that of its status
+pub returns-clause-ran : goal.returns-clause-ran
+returns-clause-ran g c = rw c.in-Ok.is (program_ran _ _ _ _ c.run_given-status.result c.exit_of.result
+    (ap (λ (xs : List (String Global)). map (string_bytes {Z = Global}) (after_name xs)) c.deref.ensures.value)
+    c.exit_of.ensures.status c.run_given-status.ensures)
+
+-- the headline
+pub returns-clause-headline : goal.returns-clause-headline
+returns-clause-headline g c = rw c.in-Ok.is (program_headline (program_ran _ _ _ _ c.run_given-status.result
+    c.exit_of.result
+    (ap (λ (xs : List (String Global)). map (string_bytes {Z = Global}) (after_name xs)) c.deref.ensures.value)
+    c.exit_of.ensures.status c.run_given-status.ensures))
