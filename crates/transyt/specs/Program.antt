@@ -66,3 +66,20 @@ ProgramHeadline words old new number =
     IsRun (word_of words) → number ≢ 5 → NoFault old new
     → (input held : List ℕ) → old.left ≡ Some input → old.written ≡ Some held → length input ≤ 4194304
     → (new.written ≡ Some (held ++ report input)) × (number ≡ exit_number (status input))
+
+-- the program ran over a reader and a writer, of which what remains and what is held are told: the number is that of a
+-- status, and where it is none of 3, 4 and 5 (a read failed, a write failed, no memory) the writer holds what it held and
+-- what the words ask for
+pub record OverRan (words : List (List ℕ)) (remaining contents contents_new : Option (List ℕ)) (number : ℕ) : Type 0 where
+  pub ended : Status
+  pub number_is : number ≡ exit_number ended
+  pub bad_words : (ended ≡ BadWords) ↔ (word_of words ≡ None)
+  pub told : number ≢ 3 → number ≢ 4 → number ≢ 5 → IfSome (task_of words) (λ asked.
+      TaskHeadline asked remaining contents contents_new ended)
+
+-- with `run` that is the report of the input, and the number is that of the input's status
+abbrev pub OverHeadline : List (List ℕ) → Option (List ℕ) → Option (List ℕ) → Option (List ℕ) → ℕ → Type 0
+OverHeadline words remaining contents contents_new number =
+    IsRun (word_of words) → number ≢ 3 → number ≢ 4 → number ≢ 5
+    → (input held : List ℕ) → remaining ≡ Some input → contents ≡ Some held → length input ≤ 4194304
+    → (contents_new ≡ Some (held ++ report input)) × (number ≡ exit_number (status input))

@@ -11,6 +11,7 @@
 mod ending;
 mod last_line;
 mod laws;
+mod over;
 mod program;
 mod refusal;
 mod refusing;
@@ -20,6 +21,7 @@ mod word;
 
 pub use ending::{exit_of, sentence_of};
 pub use laws::{worked_ranges, worked_steps, worked_tasks, worked_words};
+pub use over::run_over;
 pub use program::{given_words, run_program, run_steady, run_tallied};
 pub use refusing::refused_by_deck;
 pub use top::transyt;

@@ -7,6 +7,7 @@ ghost use Rattle.transyt_syntax.specs.Codes.{number};
 ghost use Rattle.transyt_parts.specs.Made.{new_plan};
 ghost use Rattle.transyt_parts.specs.Parts.{PlanValue};
 ghost use Rattle.transyt_net.specs.declared.edit.EditFault.{EditFault};
+ghost use Rattle.transyt_net.specs.Edits.{with_edit};
 ghost use Rattle.transyt_net.specs.Parts.{Network};
 ghost use Rattle.transyt_net.specs.Valid.{IsValid};
 ghost use Rattle.transyt_stage.specs.ThreeJunctions.{three_junctions};
@@ -23,7 +24,8 @@ ghost use Rattle.transyt_answers.specs.Commands.{judged, line_work};
 ghost use Rattle.transyt_answers.specs.Report.{deck_answering, deck_steps, report, run_state, status, steps_in};
 ghost use Rattle.transyt_answers.specs.Steps.{ArePlanned, IsLowering, LeadDown};
 ghost use Rattle.transyt_answers.specs.WorkedCommands.{climb_line, climb_lines, some_climb, worked_answers};
-ghost use Rattle.transyt_answers.specs.WorkedLowering.{first_step, late_stage, wrong_steps};
+ghost use Rattle.transyt_answers.specs.WorkedLowering.{after_two, earlier, earlier_again, first_step, late_stage, stays};
+ghost use Rattle.transyt_answers.specs.WorkedLowering.{by_last, wrong_steps};
 ghost use Rattle.transyt_answers.specs.WorkedReports.{answers, climb_answers, climb_commands, commands, no_link, one_link};
 ghost use Rattle.transyt_answers.specs.WorkedReports.{taken_number, text_of, without_end, idle_step};
 
@@ -87,10 +89,15 @@ pub fn worked_commands()
 {}
 
 /// The first move of the three junctions is a step that lowers the index; with another edit or index it is none.
-/// A node whose second stage begins after the cycle's last step isn't planned.
-#[tactic(auto, using(crate::proofs::WorkedLowering::is_lowering, crate::proofs::WorkedLowering::none_is_lowering, crate::proofs::WorkedLowering::late))]
+/// A node whose second stage begins after the cycle's last step isn't planned. Two steps of the network of one link lead
+/// down to the network after both: not to the one after the first, and to none with a step between them that doesn't lower.
+#[tactic(auto, using(crate::proofs::WorkedLowering::is_lowering, crate::proofs::WorkedLowering::none_is_lowering, crate::proofs::WorkedLowering::late, crate::proofs::WorkedLowering::two_lead, crate::proofs::WorkedLowering::other_last, crate::proofs::WorkedLowering::no_step, crate::proofs::WorkedLowering::stays_between))]
 pub fn worked_lowering()
     ensures step { IsLowering three_junctions first_step }
     ensures wrong_steps { All (λ step. IsLowering three_junctions step → ⊥) wrong_steps }
     ensures late { ArePlanned late_stage → ⊥ }
+    ensures lead { LeadDown by_last (earlier ∷ earlier_again ∷ []) after_two }
+    ensures other_last { LeadDown by_last (earlier ∷ earlier_again ∷ []) (with_edit by_last earlier.edit) → ⊥ }
+    ensures no_step { LeadDown by_last [] (with_edit by_last earlier.edit) → ⊥ }
+    ensures stays { (last : Network) → LeadDown by_last (earlier ∷ stays ∷ earlier_again ∷ []) last → ⊥ }
 {}
