@@ -2,12 +2,9 @@
 #![tactic(auto)]
 
 use std::process::ExitCode;
-use transyt::{given_words, run_program};
-use transyt_io::{StdSink, StdSource};
+use transyt::{given_words, run_over};
 
 fn main(rt: HostRuntime) -> ExitCode {
-    let mut source = StdSource::new(rt.stdin());
-    let sink = StdSink::new(rt.stdout());
-    let (number, _) = run_program(&rt, given_words(&rt), &mut source, sink);
+    let (number, _) = run_over(&rt, given_words(&rt), rt.stdin(), rt.stdout());
     ExitCode::from(number)
 }

@@ -83,6 +83,8 @@ pub(crate) enum Ends {
     Meeting,
     /// A source that never fails, and a sink that only counts.
     Tally,
+    /// A slice and a vector, as a reader and a writer of std.
+    Std,
 }
 
 impl Ends {
@@ -92,7 +94,8 @@ impl Ends {
             "memory" => Ends::Memory,
             "meeting" => Ends::Meeting,
             "tally" => Ends::Tally,
-            _ => bail!("`over` takes `memory`, `meeting` or `tally`"),
+            "std" => Ends::Std,
+            _ => bail!("`over` takes `memory`, `meeting`, `tally` or `std`"),
         })
     }
 }

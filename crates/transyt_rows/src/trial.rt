@@ -10,7 +10,7 @@ use std::io;
 use std::marker::Brand;
 use std::sync::ledger::{Blank, Ledger};
 use std::thread::Threads;
-use transyt::{Gate, OpenGate, Status, transyt};
+use transyt::{Gate, OpenGate, Status, run_over, transyt};
 use transyt_io::{MemorySink, MemorySource, Sink, Source, SteadySource, TallySink};
 use transyt_steps::Steps;
 
@@ -134,8 +134,29 @@ fn over_tally<R: Threads + Sync + AllocGlobal>(
     })
 }
 
+/// Runs over a slice and a vector, as a reader and a writer of std, with a program's name before the words.
+fn over_std<R: Threads + Sync + Eprint + AllocGlobal>(
+    rt: &R,
+    trial: &Trial<'_>,
+) -> Result<Outcome, AllocError> {
+    let alloc = rt.alloc();
+    let mut given = Vec::new(alloc);
+    given.push(String::from_str(alloc, "transyt")?)?;
+    for word in trial.words {
+        given.push(String::from_str(alloc, word)?)?;
+    }
+    let input = trial.row.input(alloc)?;
+    let (status, written) = run_over(rt, Ok(given), input.as_slice(), Vec::new(alloc));
+    Ok(Outcome {
+        status,
+        written,
+        left: Vec::new(alloc),
+        met: true,
+    })
+}
+
 /// What came of a trial.
-fn outcome_of<R: Threads + Sync + AllocGlobal>(
+fn outcome_of<R: Threads + Sync + Eprint + AllocGlobal>(
     rt: &R,
     trial: &Trial<'_>,
 ) -> Result<Outcome, AllocError> {
@@ -143,11 +164,15 @@ fn outcome_of<R: Threads + Sync + AllocGlobal>(
         Ends::Memory => over_memory(rt, trial, &OpenGate),
         Ends::Meeting => at_meeting(rt, trial),
         Ends::Tally => over_tally(rt, trial),
+        Ends::Std => over_std(rt, trial),
     }
 }
 
 /// Whether what came of a trial is wanted; if not, it is told.
-fn holds<R: Threads + Sync + Print + AllocGlobal>(rt: &R, trial: &Trial<'_>) -> io::Result<bool> {
+fn holds<R: Threads + Sync + Print + Eprint + AllocGlobal>(
+    rt: &R,
+    trial: &Trial<'_>,
+) -> io::Result<bool> {
     let outcome = outcome_of(rt, trial)?;
     let row = trial.row;
     let left = match &row.left {
@@ -166,7 +191,7 @@ fn holds<R: Threads + Sync + Print + AllocGlobal>(rt: &R, trial: &Trial<'_>) -> 
 }
 
 /// Lets each read of one byte fail in turn, the one that finds the end too: the answers to the lines before it stand.
-fn holds_at_each_read<R: Threads + Sync + Print + AllocGlobal>(
+fn holds_at_each_read<R: Threads + Sync + Print + Eprint + AllocGlobal>(
     rt: &R,
     mut trial: Trial<'_>,
 ) -> io::Result<bool> {
@@ -183,7 +208,7 @@ fn holds_at_each_read<R: Threads + Sync + Print + AllocGlobal>(
 }
 
 /// Lets each write fail in turn: the pieces before it stand. Each line is written by calls of its own.
-fn holds_at_each_write<R: Threads + Sync + Print + AllocGlobal>(
+fn holds_at_each_write<R: Threads + Sync + Print + Eprint + AllocGlobal>(
     rt: &R,
     mut trial: Trial<'_>,
 ) -> io::Result<bool> {
@@ -203,7 +228,7 @@ fn holds_at_each_write<R: Threads + Sync + Print + AllocGlobal>(
 }
 
 /// Whether a row holds with these words and pieces.
-fn passes_with<R: Threads + Sync + Print + AllocGlobal>(
+fn passes_with<R: Threads + Sync + Print + Eprint + AllocGlobal>(
     rt: &R,
     row: &Row,
     words: &[String],
@@ -228,7 +253,7 @@ fn passes_with<R: Threads + Sync + Print + AllocGlobal>(
 }
 
 /// Whether a row holds with each list of its words and each size of its pieces.
-pub(crate) fn passes<R: Threads + Sync + Print + AllocGlobal>(
+pub(crate) fn passes<R: Threads + Sync + Print + Eprint + AllocGlobal>(
     rt: &R,
     row: &Row,
 ) -> io::Result<bool> {
