@@ -1,5 +1,5 @@
 -- The status of an input is that of its deck.
-use Rattle.std.proofs.Common.{◌≡◌, ℕ, ◌++◌, Bool, true, false, not, List, [], ◌∷◌, Option, Some, None, if◌then◌else◌, refl}
+use Rattle.std.proofs.Common.{◌≡◌, ℕ, ◌++◌, Bool, true, false, not, List, [], ◌∷◌, Option, if◌then◌else◌, refl}
 use Rattle.std.proofs.Common.{sym, subst, ap, ◌∙◌, ◌↔◌}
 use Rattle.std.specs.List.{fold}
 use Rattle.std.proofs.lemmas.Grind.{fold-append}
@@ -8,7 +8,6 @@ use Rattle.transyt_deck.specs.declared.state.State.{State}
 use Rattle.transyt_deck.specs.Deck.{Deck, Refused, Complete, Open, next, start, deck, is_complete}
 use Rattle.transyt_session.specs.Session.{SessionValue, opened}
 use Rattle.transyt_running.specs.declared.ending.Ending.{Ending}
-use Rattle.transyt_running.specs.declared.status.Status.{Status}
 use Rattle.transyt_running.specs.declared.status.Status.TheVariants.{Done, DeckRefused}
 use Rattle.transyt_running.specs.Runs.{is_refused_by}
 use Rattle.transyt_running.specs.Turns.{ending_after, first_of, or_else}
@@ -16,7 +15,7 @@ use Rattle.transyt_answers.specs.declared.answer.Answer.{Answer}
 use Rattle.transyt_answers.specs.declared.answer.Answer.TheVariants as a
 use Rattle.transyt_answers.specs.Commands.{line_answer, session_after}
 use Rattle.transyt_answers.specs.Report.{RunState, InDeck, InSession, run_of, run_after, run_state, line_ends, ends, deck_ends}
-use Rattle.transyt_answers.specs.Report.{answer_ends, end_refused, deck_answering, status}
+use Rattle.transyt_answers.specs.Report.{answer_ends, end_refused, deck_answering}
 use Rattle.transyt.specs.Refusals.{IsRefusedOrOpen, IsRefusedByDeck}
 
 -- what lines and one more have come to

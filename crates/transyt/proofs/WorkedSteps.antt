@@ -1,5 +1,5 @@
 -- The steps of words, by their definitions.
-use Rattle.std.proofs.Common.{◌≡◌, ℕ, List, Option, None, refl, lit≤, arith}
+use Rattle.std.proofs.Common.{ℕ, List, Option, None, refl, lit≤, arith}
 use Rattle.transyt_make.specs.Made.{made}
 use Rattle.transyt_running.specs.Runs.{StepsTaken}
 use Rattle.transyt_running.specs.declared.status.Status.{Status}

@@ -1,11 +1,10 @@
 -- Worked texts, headlines and climbs: one that is so, and one that isn't.
-use Rattle.std.proofs.Common.{◌≡◌, ℕ, ◌<◌, ◌++◌, true, false, List, [], ◌∷◌, Option, None, Some, length, refl, arith}
+use Rattle.std.proofs.Common.{◌≡◌, ℕ, ◌<◌, false, List, [], ◌∷◌, Option, None, Some, length, refl, arith}
 use Rattle.transyt_net.specs.Parts.{Network}
-use Rattle.transyt_sweep.specs.Climb.{Climb}
 use Rattle.transyt_running.specs.declared.status.Status.TheVariants.{Done, DeckRefused, WriteFault, TooLong}
 use Rattle.transyt_whole.specs.Answer.{of_whole, done}
 use Rattle.transyt.specs.Climbs.{Descends}
-use Rattle.transyt.specs.Tasks.{Task, Reads, Writes, TextRow, TaskHeadline, TaskComplete, TaskTooLong}
+use Rattle.transyt.specs.Tasks.{Reads, Writes, TextRow, TaskHeadline, TaskComplete, TaskTooLong}
 
 -- a text is written whole, or a front of it and the sink failed
 pub text_whole : TextRow (5 ∷ 7 ∷ []) (5 ∷ 7 ∷ []) Done
