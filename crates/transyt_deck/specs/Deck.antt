@@ -68,3 +68,9 @@ abbrev pub line_count : Deck → ℕ
 line_count (Open count state) = count
 line_count (Complete number net) = number
 line_count (Refused number code) = number
+
+-- the network of a deck so far: from an accepted CYCLE card on, where no line was refused
+abbrev pub network_in : Deck → Option Network
+network_in (Open count (s.Making form part net)) = Some net
+network_in (Complete number net) = Some net
+network_in _ = None

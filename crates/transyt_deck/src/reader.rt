@@ -1,12 +1,15 @@
 //! Cards, taken line by line.
-ghost use Rattle.std.specs.Prelude.{◌≡◌, ◌<◌, true, IsTrue, OnOk, OnErr};
-ghost use Rattle.transyt_deck.specs.Deck.{start, next, line_count};
+ghost use Rattle.std.specs.Prelude.{◌≡◌, ◌<◌, ℕ, true, IsTrue, OnOk, OnErr};
+ghost use Rattle.std.specs.Option.{option_map};
+ghost use Rattle.transyt_deck.specs.Deck.{start, next, line_count, network_in, Open};
+ghost use Rattle.transyt_deck.specs.State.{form_of};
+ghost use Rattle.transyt_deck.specs.declared.state.State.{State};
 ghost use Rattle.transyt_deck.specs.Reader.{Answers, goes_on, may_finish, finished};
 
 use crate::state::{Part, State, Stop, take_line};
 use std::alloc::Global;
 use std::marker::Model;
-use transyt_net::Net;
+use transyt_net::{Draft, Net};
 use transyt_syntax::Code;
 
 /// Why a line isn't taken.
@@ -83,6 +86,23 @@ impl CardReader {
         ensures { result ≡ line_count self.now.deck }
     {
         self.taken
+    }
+
+    /// The form of the LINK cards, 1 or 2.
+    pub fn form(&self) -> u32
+        ensures { (count : ℕ) (state : State) → self.now.deck ≡ Open count state → result ≡ form_of state }
+    {
+        self.state.form()
+    }
+
+    /// The network so far, from an accepted CYCLE card on.
+    pub fn draft(&self) -> Option<&Draft>
+        ensures { option_map (λ draft. draft.now) result ≡ network_in self.now.deck }
+    {
+        match &self.state {
+            State::Making { draft, .. } => Some(draft),
+            _ => None,
+        }
     }
 
     /// Takes the next line, or refuses it with its number and the first code that holds of it after the lines before

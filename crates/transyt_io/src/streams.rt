@@ -1,5 +1,5 @@
 //! Where bytes come from, and where they go.
-ghost use Rattle.std.specs.Prelude.{◌<◌, ◌≤◌, ℕ, List, Option, IfOk, length};
+ghost use Rattle.std.specs.Prelude.{◌≡◌, ◌<◌, ◌≤◌, ℕ, List, Option, IfOk, length};
 ghost use Rattle.transyt_io.specs.Streams.{Reads, TellsLast, Writes, CountsFault, last_count};
 
 /// A read or write that did not happen: no byte was taken or given.
@@ -51,4 +51,11 @@ pub trait Sink {
         ensures bytes { Writes (written self.old) (written self.new) result piece.now }
         ensures cause { CountsFault (faults self.old) (faults self.new) result }
         ensures most { faults self.new ≤ last_count };
+
+    /// Takes a sentence for a person, which is no part of what is written: one that standard error may show. A sink that
+    /// doesn't say otherwise drops it.
+    fn remark(&mut self, _sentence: &[u8])
+        ensures written { written self.new ≡ written self.old }
+        ensures faults { faults self.new ≡ faults self.old }
+    {}
 }

@@ -289,6 +289,27 @@ impl Draft {
         first_fault(self.frame.step_count, &self.nodes)
     }
 
+    /// The frame.
+    pub fn frame(&self) -> Frame
+        ensures { result ≡ self.now.frame }
+    {
+        self.frame
+    }
+
+    /// The nodes so far, in card order.
+    pub fn nodes(&self) -> &[Node]
+        ensures { result.now ≡ self.now.nodes }
+    {
+        &self.nodes
+    }
+
+    /// The links so far, in card order.
+    pub fn links(&self) -> &[Link]
+        ensures { result.now ≡ self.now.links }
+    {
+        &self.links
+    }
+
     /// The network that was made. It takes no memory.
     pub fn close(self) -> Net
         requires { first_fault self.frame.step_count self.nodes ≡ None }

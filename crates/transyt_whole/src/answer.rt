@@ -3,12 +3,15 @@ ghost use Rattle.std.specs.Prelude.{◌≡◌, true, false};
 
 use crate::line::AnswerLine;
 use std::marker::Model;
+use transyt_sentences::Sentence;
 
-/// The answer to a whole input: the lines that are written, and whether the input is refused.
-#[derive(Debug, Drop)]
+/// The answer to a whole input: the lines that are written, and whether the input is refused; and a sentence for
+/// standard error, which a contract doesn't see.
+#[derive(Drop)]
 pub struct Answer {
     lines: Vec<AnswerLine>,
     refused: bool,
+    remark: Option<Sentence>,
 }
 
 impl Model for Answer {
@@ -29,6 +32,7 @@ impl Answer {
         Answer {
             lines,
             refused: false,
+            remark: None,
         }
     }
 
@@ -39,7 +43,23 @@ impl Answer {
         Answer {
             lines,
             refused: true,
+            remark: None,
         }
+    }
+
+    /// The same answer, with a sentence for standard error.
+    pub fn with_remark(self, sentence: Sentence) -> Answer
+        ensures { result ≡ self }
+    {
+        Answer {
+            remark: Some(sentence),
+            ..self
+        }
+    }
+
+    /// The sentence for standard error, if there is one.
+    pub fn remark(&self) -> Option<&Sentence> {
+        self.remark.as_ref()
     }
 
     /// The lines that are written.

@@ -34,13 +34,16 @@ pub trait Whole {
         ensures more_steps { steps.old ≤ steps.new };
 }
 
-/// Writes the lines of an answer, one after another.
+/// Tells the sink the remark of an answer, and writes the answer's lines, one after another.
 pub fn say<K: Sink>(found: &Answer, line: &mut LineBuffer, sink: &mut K) -> Status
     ensures told { Told found.now (K.written sink.old) (K.written sink.new) result }
     ensures later { K.faults sink.old ≤ K.faults sink.new }
     ensures fault { result ≡ Status.WriteFault → Rose (K.faults sink.old) (K.faults sink.new) }
     ensures said { result ≢ Status.NoMemory }
 {
+    if let Some(sentence) = found.remark() {
+        sink.remark(sentence.bytes());
+    }
     if let Err(Failed) = print_lines(found.lines(), line, sink) {
         return Status::WriteFault;
     }

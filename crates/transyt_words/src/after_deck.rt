@@ -5,6 +5,7 @@ ghost use Rattle.transyt_net.specs.Parts.{Network};
 ghost use Rattle.transyt_words.specs.AfterDeck.{answer_after, most_after};
 
 use crate::lines::one;
+use crate::refusal::on_refused_card;
 use std::alloc::{AllocError, Global};
 use std::sync::ledger::Ledger;
 use transyt_deck::{CardStop, cut_deck};
@@ -65,7 +66,10 @@ impl<W: DeckWord> Whole for AfterDeck<W> {
         let cut = match cut_deck(alloc, input) {
             Ok(cut) => cut,
             Err(CardStop::Refused { card, code }) => {
-                return Ok(Answer::refusal(one(alloc, AnswerLine::CardRefused { card, code })?));
+                let lines = one(alloc, AnswerLine::CardRefused { card, code })?;
+                return Ok(Answer::refusal(lines).with_remark(on_refused_card(
+                    alloc, input, card, code,
+                )));
             }
             Err(CardStop::Memory) => return Err(AllocError),
         };

@@ -8,6 +8,7 @@ use std::alloc::{AllocError, Global};
 use std::sync::ledger::Ledger;
 use transyt_audit::{Verdict, audit};
 use transyt_net::Net;
+use transyt_sentences::on_audit;
 use transyt_steps::Steps;
 use transyt_whole::{Answer, AnswerLine, AuditLine};
 
@@ -39,6 +40,10 @@ impl DeckWord for AuditWord {
         steps: &mut Steps<L>,
     ) -> Result<Answer, AllocError> {
         let verdict = audit(alloc, net, table, line, steps)?;
-        Ok(Answer::done(one(alloc, AnswerLine::Audit(audit_line(verdict)))?))
+        let answer = Answer::done(one(alloc, AnswerLine::Audit(audit_line(verdict)))?);
+        match verdict {
+            Verdict::Yes { .. } => Ok(answer),
+            Verdict::No { line, code } => Ok(answer.with_remark(on_audit(line, code))),
+        }
     }
 }

@@ -8,6 +8,7 @@ use std::alloc::{AllocError, Global};
 use std::sync::ledger::Ledger;
 use transyt_counts::{CountStop, Counts, read_counts};
 use transyt_net::{Edit, Net};
+use transyt_sentences::on_row;
 use transyt_steps::Steps;
 use transyt_whole::{Answer, AnswerLine, CountsLine};
 
@@ -66,10 +67,8 @@ impl DeckWord for CountsWord {
         match read_counts(alloc, table, net) {
             Ok(counts) => Ok(Answer::done(counts_lines(alloc, &counts)?)),
             Err(CountStop::Refused { row, code }) => {
-                Ok(Answer::refusal(one(
-                    alloc,
-                    AnswerLine::Counts(CountsLine::Refused { row, code }),
-                )?))
+                let lines = one(alloc, AnswerLine::Counts(CountsLine::Refused { row, code }))?;
+                Ok(Answer::refusal(lines).with_remark(on_row(row, code)))
             }
             Err(CountStop::Memory) => Err(AllocError),
         }

@@ -1,0 +1,138 @@
+//! A refused line: its words, and the codes that they alone tell.
+
+use crate::fields::Field;
+use crate::sentence::Sentence;
+use std::str;
+use transyt_io::{next_line, next_word};
+use transyt_num::read_number;
+use transyt_syntax::{Further, first_of, further_of, word_count};
+
+/// Whether a line stands among the cards of a deck or among the commands after it.
+#[derive(Clone, Copy)]
+pub(crate) enum Part {
+    /// Before END.
+    Card,
+    /// After END.
+    Command,
+}
+
+/// A refused line: its keyword, and the words after it.
+#[derive(Drop)]
+pub(crate) struct Words<'a> {
+    pub(crate) keyword: &'a str,
+    pub(crate) rest: &'a [u8],
+    pub(crate) further: Further,
+}
+
+impl<'a> Words<'a> {
+    /// The words of a line. A keyword that is no text is an empty one.
+    pub(crate) fn of(line: &'a [u8]) -> Words<'a> {
+        let (first, rest) = first_of(line);
+        Words {
+            keyword: str::from_utf8(first).unwrap_or(""),
+            rest,
+            further: further_of(rest),
+        }
+    }
+
+    /// Number `place` from 0, or 0 where there is none.
+    pub(crate) fn number(&self, place: usize) -> u32 {
+        self.further.numbers.at(place)
+    }
+}
+
+/// The line with this number, from 1; empty where there is none.
+pub fn line_at(input: &[u8], number: u32) -> &[u8] {
+    let mut rest = input;
+    let mut before = 1;
+    while let Some((line, after)) = next_line(rest) {
+        if before == number {
+            return line;
+        }
+        before = before.saturating_add(1);
+        rest = after;
+    }
+    b""
+}
+
+/// The place, from 1, and the value of the first byte that may not stand in a line.
+fn odd_byte(line: &[u8]) -> Option<(u32, u8)> {
+    let mut place: u32 = 0;
+    for byte in line {
+        place = place.saturating_add(1);
+        if *byte != 9 && (*byte < 32 || *byte > 126) {
+            return Some((place, *byte));
+        }
+    }
+    None
+}
+
+/// Code 10: the byte that may not stand there, or the keyword that is none.
+pub(crate) fn say_odd(sentence: &mut Sentence, line: &[u8], part: Part, keyword: &str) {
+    if let Some((place, byte)) = odd_byte(line) {
+        sentence.say_with("byte ", place);
+        sentence.say_with(" of the line is ", u32::from(byte));
+        sentence.say(", which is no printable ASCII, blank or tab");
+        return;
+    }
+    sentence.say(match part {
+        Part::Card => "no card is called '",
+        Part::Command => "no command is called '",
+    });
+    match keyword.as_bytes().get(..20) {
+        Some(front) => sentence.say_bytes(front),
+        None => sentence.say(keyword),
+    }
+    sentence.say("' (keywords are capitals)");
+}
+
+/// Code 12: how many numbers there are, and how many it takes.
+pub(crate) fn say_counts(sentence: &mut Sentence, words: &Words<'_>, counts: (u32, u32)) {
+    let (least, most) = counts;
+    let given = u32::try_from(word_count(words.rest)).unwrap_or(u32::MAX);
+    sentence.say(words.keyword);
+    sentence.say_with(" takes ", least);
+    if least != most {
+        sentence.say_with(" to ", most);
+    }
+    sentence.say(if most == 1 { " number" } else { " numbers" });
+    sentence.say_with(", and here are ", given);
+}
+
+/// Code 13: the first word that is no number.
+pub(crate) fn say_no_number(sentence: &mut Sentence, words: &Words<'_>) {
+    let mut rest = words.rest;
+    while let Some((word, after)) = next_word(rest) {
+        if read_number(word).is_none() {
+            sentence.say("'");
+            match word.get(..20) {
+                Some(front) => sentence.say_bytes(front),
+                None => sentence.say_bytes(word),
+            }
+            break;
+        }
+        rest = after;
+    }
+    sentence.say("' is no number of 1 to 9 digits");
+}
+
+/// Code 14: whether this number is out of its range; if so that is said.
+pub(crate) fn say_range(
+    sentence: &mut Sentence,
+    field: Field,
+    number: u32,
+    step_count: u32,
+) -> bool {
+    let Some((least, most)) = field.range.bounds(step_count) else {
+        return false;
+    };
+    if least <= number && number <= most {
+        return false;
+    }
+    sentence.say("the ");
+    sentence.say(field.name);
+    sentence.say_with(" ", number);
+    sentence.say_with(" is not from ", least);
+    sentence.say_with(" to ", most);
+    true
+}

@@ -1,0 +1,95 @@
+//! The stage plans that codes 18, 19 and 22 are about.
+
+use crate::sentence::Sentence;
+use transyt_net::{Node, Stage};
+
+/// The stage of a plan with one change put in place of another, in a cycle of so many steps.
+#[derive(Clone, Copy)]
+pub(crate) struct Plan<'a> {
+    pub(crate) number: u32,
+    pub(crate) stages: &'a [Stage],
+    pub(crate) step_count: u32,
+    /// The place of the stage whose change is another, from 0, and that change.
+    pub(crate) changed: Option<(usize, u32)>,
+}
+
+impl<'a> Plan<'a> {
+    /// The plan of a node as it is.
+    pub(crate) fn of(node: &'a Node, step_count: u32) -> Plan<'a> {
+        Plan {
+            number: node.number,
+            stages: &node.stages,
+            step_count,
+            changed: None,
+        }
+    }
+
+    /// The change of the stage at a place, from 0.
+    fn change(&self, place: usize) -> u32 {
+        match (self.changed, self.stages.get(place)) {
+            (Some((at, change)), _) if at == place => change,
+            (_, Some(stage)) => stage.change,
+            _ => 0,
+        }
+    }
+
+    /// The length of the stage at a place, from 0, in steps.
+    fn length(&self, place: usize) -> u32 {
+        let after = place.saturating_add(1);
+        let next = if after < self.stages.len() {
+            self.change(after)
+        } else {
+            self.change(0)
+        };
+        let begin = self.change(place);
+        if next >= begin {
+            next - begin
+        } else {
+            next.saturating_add(self.step_count).saturating_sub(begin)
+        }
+    }
+
+    /// The sum of the lengths, in steps.
+    fn sum(&self) -> u32 {
+        let mut sum: u32 = 0;
+        for place in 0..self.stages.len() {
+            sum = sum.saturating_add(self.length(place));
+        }
+        sum
+    }
+}
+
+/// Says what is wrong with a plan; whether anything is.
+pub(crate) fn say_plan(sentence: &mut Sentence, plan: &Plan<'_>) -> bool {
+    if plan.stages.len() < 2 {
+        sentence.say_with("node ", plan.number);
+        sentence.say(" has fewer than two stages");
+        return true;
+    }
+    if plan.sum() != plan.step_count {
+        sentence.say_with("node ", plan.number);
+        sentence.say_with(": its stages have ", plan.sum());
+        sentence.say_with(" steps in all, and the cycle has ", plan.step_count);
+        return true;
+    }
+    say_short_stage(sentence, plan)
+}
+
+/// Says which stage is shorter than its intergreen and least green; whether one is.
+fn say_short_stage(sentence: &mut Sentence, plan: &Plan<'_>) -> bool {
+    let mut number: u32 = 0;
+    for (place, stage) in plan.stages.iter().enumerate() {
+        number = number.saturating_add(1);
+        let length = plan.length(place);
+        if length < stage.intergreen.saturating_add(stage.least) {
+            sentence.say_with("node ", plan.number);
+            sentence.say_with(", stage ", number);
+            sentence.say_with(": ", length);
+            sentence.say_with(" steps, needs ", stage.intergreen);
+            sentence.say_with(" intergreen and ", stage.least);
+            sentence.say(" green");
+            return true;
+        }
+    }
+    false
+}

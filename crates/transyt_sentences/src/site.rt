@@ -1,0 +1,64 @@
+//! The network that a refused line meets.
+
+use transyt_net::{Draft, Link, Net, Node};
+
+/// What a refused line meets: the form of the LINK cards, the steps of the cycle, and the nodes and links so far.
+#[derive(Clone, Copy)]
+pub struct Site<'a> {
+    /// The form of the LINK cards, 1 or 2.
+    pub form: u32,
+    /// How many steps the cycle has; 0 before CYCLE.
+    pub step_count: u32,
+    /// The nodes so far, in card order.
+    pub nodes: &'a [Node],
+    /// The links so far, in card order.
+    pub links: &'a [Link],
+}
+
+impl<'a> Site<'a> {
+    /// No card was accepted.
+    pub fn empty() -> Site<'a> {
+        Site {
+            form: 1,
+            step_count: 0,
+            nodes: &[],
+            links: &[],
+        }
+    }
+
+    /// A deck of this form, and the network of its cards so far, from CYCLE on.
+    pub fn in_deck(form: u32, draft: Option<&'a Draft>) -> Site<'a> {
+        match draft {
+            Some(draft) => Site {
+                form,
+                step_count: draft.frame().step_count,
+                nodes: draft.nodes(),
+                links: draft.links(),
+            },
+            None => Site {
+                form,
+                ..Site::empty()
+            },
+        }
+    }
+
+    /// A network as it stands.
+    pub fn of(net: &'a Net) -> Site<'a> {
+        Site {
+            form: 1,
+            step_count: net.frame().step_count,
+            nodes: net.nodes(),
+            links: net.links(),
+        }
+    }
+
+    /// The node with this number.
+    pub(crate) fn node(&self, number: u32) -> Option<&'a Node> {
+        self.nodes.iter().find(|node| node.number == number)
+    }
+
+    /// Whether there is a link with this number.
+    pub(crate) fn has_link(&self, number: u32) -> bool {
+        self.links.iter().any(|link| link.number == number)
+    }
+}
