@@ -9,14 +9,14 @@
 #![tactic(auto)]
 
 mod ending;
-mod last_line;
 mod laws;
 mod over;
 mod program;
-mod refusal;
 mod refusing;
+mod telling;
 mod top;
 mod town;
+mod version;
 mod word;
 
 pub use ending::{exit_of, sentence_of};
@@ -28,3 +28,4 @@ pub use top::transyt;
 pub use transyt_answers::steps_lower;
 pub use transyt_desks::{Gate, OpenGate};
 pub use transyt_running::Status;
+pub use version::VERSION;

@@ -4,9 +4,9 @@ ghost use Rattle.transyt_running.specs.declared.status.Status.{Status};
 ghost use Rattle.transyt.specs.Program.{ProgramHeadline, ProgramRan, TopCall, after_name, ends_of};
 
 use crate::ending::{exit_of, sentence_of};
-use crate::last_line::{Front, LastLine};
-use crate::refusal::{Refusal, refusal_in};
+use crate::telling::Telling;
 use crate::top::transyt;
+use crate::version::VERSION;
 use std::env::{self, Env};
 use std::io::{self, ErrorKind};
 use std::marker::Brand;
@@ -93,36 +93,34 @@ pub fn run_tallied<R: Threads + Sync + AllocGlobal, S: Source>(
     run_call(rt, words, source, sink)
 }
 
-/// Tells standard error why not all was done: in one sentence, or with the lists of words that the program takes. A fault
-/// of standard error changes nothing.
-fn tell<R: Eprint>(rt: &R, ended: Result<Status, ErrorKind>, last: &str) {
-    if let (Ok(Status::DeckRefused), Some(refusal)) = (&ended, refusal_in(last)) {
-        let Refusal {
-            kind,
-            number,
-            code,
-            meaning,
-        } = refusal;
-        let _ = eprintln!(rt; "{kind} {number}: code {code}: {meaning}");
-    } else if let Some(sentence) = sentence_of(ended) {
+/// Tells standard error why not all was done, in a sentence or with the lists of words that the program takes. Of a refused
+/// deck the sink has told it already. A fault of standard error changes nothing.
+fn tell<R: Eprint>(rt: &R, ended: Result<Status, ErrorKind>) {
+    if let Ok(Status::DeckRefused) = ended {
+        return;
+    }
+    if let Ok(Status::BadWords) = ended {
+        let _ = eprintln!(rt; "{VERSION}");
+    }
+    if let Some(sentence) = sentence_of(ended) {
         let _ = eprintln!(rt; "{sentence}");
     }
 }
 
-/// The top call with the words after the program's name, into a sink that keeps the last line; standard error is told why
-/// not all was done.
+/// The top call with the words after the program's name, into a sink that tells remarks; standard error is told why not
+/// all was done.
 fn run_given<R: Threads + Sync + Eprint + AllocGlobal, S: Source, K: Sink>(
     rt: &R,
     given: &[String],
     source: &mut S,
-    last: &mut LastLine<K>,
+    telling: &mut Telling<'_, R, K>,
 ) -> Status
     ensures { TopCall (map string_bytes (after_name given.now))
-        (ends_of S.left S.last S.faults K.written K.faults source.old last.old.sink)
-        (ends_of S.left S.last S.faults K.written K.faults source.new last.new.sink) result }
+        (ends_of S.left S.last S.faults K.written K.faults source.old telling.old.sink)
+        (ends_of S.left S.last S.faults K.written K.faults source.new telling.new.sink) result }
 {
-    let status = run_call(rt, after_name(given), source, last);
-    tell(rt, Ok(status), last.front.text());
+    let status = run_call(rt, after_name(given), source, telling);
+    tell(rt, Ok(status));
     status
 }
 
@@ -131,13 +129,13 @@ fn run_without<R: Eprint>(rt: &R, cause: ErrorKind) -> u8
     ensures number { (result ≡ 5) ⊎ (result ≡ 7) }
     ensures most { result ≤ 7 }
 {
-    tell(rt, Err(cause), "");
+    tell(rt, Err(cause));
     exit_of(Err(cause))
 }
 
 /// Runs the program with the words that it was given, its own name first, and gives its exit number, and the sink again.
 ///
-/// Where not all was done, standard error is told why: of a refused deck the line, the code and its meaning.
+/// Standard error is told of each refused line: its number, the code, and why; and of a run that didn't do all, why not.
 pub fn run_program<R: Threads + Sync + Eprint + AllocGlobal, S: Source, K: Sink>(
     rt: &R,
     given: io::Result<Vec<String>>,
@@ -161,11 +159,8 @@ pub fn run_program<R: Threads + Sync + Eprint + AllocGlobal, S: Source, K: Sink>
         Ok(words) => words,
         Err(error) => return (run_without(rt, error.kind()), sink),
     };
-    let mut last = LastLine {
-        sink,
-        front: Front::new(),
-    };
-    let status = run_given(rt, &words, source, &mut last);
+    let mut telling = Telling { rt, sink };
+    let status = run_given(rt, &words, source, &mut telling);
     drop(words);
-    (exit_of(Ok(status)), last.sink)
+    (exit_of(Ok(status)), telling.sink)
 }

@@ -11,6 +11,7 @@ ghost use Rattle.transyt_answers.specs.Commands.{after_answer, steps_text, climb
 ghost use Rattle.transyt_answers.specs.Conditions.{IsStep, AreReady, Leaves};
 
 use crate::answer::Answer;
+use crate::remarks::remark_end;
 use std::sync::ledger::Ledger;
 use std::thread::Threads;
 use transyt_climb::{Climber, Turn};
@@ -54,6 +55,7 @@ fn say_end<K: Sink>(
 ) -> Result<(), Failed>
     ensures { PrintsOn K.written K.faults sink.old sink.new result (end_text local looked index) }
 {
+    remark_end(local, looked, sink);
     end_line(local, looked, index, line);
     write_line(line, sink)
 }

@@ -7,6 +7,7 @@ mod certifying;
 mod climbing;
 mod judging;
 mod laws;
+mod remarks;
 mod reporter;
 mod running;
 mod saying;

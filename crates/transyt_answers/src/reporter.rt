@@ -11,7 +11,9 @@ ghost use Rattle.transyt_answers.specs.Report.{InSession, text, ends, closing, r
 ghost use Rattle.transyt_answers.specs.Report.{deck_ends, deck_steps, run_of};
 ghost use Rattle.transyt_answers.specs.Reporter.{HasAnswered, state_of, AreKept, new_reporter};
 
+use crate::answer::Answer;
 use crate::judging::judge;
+use crate::remarks::{InputLine, remark_card, remark_command};
 use crate::saying::{print_accepted, print_card_refused, say};
 use std::alloc::{AllocError, Global};
 use std::marker::Model;
@@ -25,6 +27,22 @@ use transyt_running::{Ending, Stop};
 use transyt_session::Session;
 use transyt_steps::Steps;
 
+/// What the answers are written with: a line, and how many commands were refused.
+#[derive(Drop)]
+struct Pen {
+    line: LineBuffer,
+    refused: u32,
+}
+
+impl Pen {
+    /// Counts an answer that is a refusal.
+    fn count(&mut self, answer: Answer) {
+        if let Answer::Refused(_) = answer {
+            self.refused = self.refused.saturating_add(1);
+        }
+    }
+}
+
 /// Answers the lines of a deck and, from END on, the commands over desks for so many workers.
 ///
 /// A contract sees how many workers and lines there are, the reader of cards, and from END on the sessions of the desks.
@@ -35,7 +53,7 @@ pub(crate) struct Reporter {
     lines: u32,
     cards: CardReader,
     desks: Option<Desks>,
-    buffer: LineBuffer,
+    pen: Pen,
 }
 
 impl Model for Reporter {
@@ -75,8 +93,8 @@ fn answer_command<R: Threads + Sync, G: Gate, K: Sink, L: Ledger>(
     rt: &R,
     gate: &G,
     desks: &mut Desks,
-    command: &[u8],
-    buffer: &mut LineBuffer,
+    command: InputLine<'_>,
+    pen: &mut Pen,
     sink: &mut K,
     steps: &mut Steps<L>,
 ) -> Result<Option<Ending>, Stop>
@@ -84,15 +102,17 @@ fn answer_command<R: Threads + Sync, G: Gate, K: Sink, L: Ledger>(
     requires few { length desks.old ≤ 8 }
     requires room { (desk_zero desks.old).work ≤ 2 ^ 59 }
     ensures prints { PrintsOn K.written K.faults sink.old sink.new result
-        (answer_text (desk_zero desks.old) (line_answer (desk_zero desks.old) command.now)) }
-    ensures ends { IfOk result (λ end. end ≡ answer_ends (line_answer (desk_zero desks.old) command.now)) }
-    ensures state { OnOk result (desk_zero desks.new ≡ session_after (desk_zero desks.old) command.now) }
+        (answer_text (desk_zero desks.old) (line_answer (desk_zero desks.old) command.text.now)) }
+    ensures ends { IfOk result (λ end. end ≡ answer_ends (line_answer (desk_zero desks.old) command.text.now)) }
+    ensures state { OnOk result (desk_zero desks.new ≡ session_after (desk_zero desks.old) command.text.now) }
     ensures takes_none { IsErrOf result Stop.Memory → ⊥ }
-    ensures leaves { Leaves 8589934592 (session_after (desk_zero desks.old) command.now) desks.old desks.new
+    ensures leaves { Leaves 8589934592 (session_after (desk_zero desks.old) command.text.now) desks.old desks.new
         steps.old steps.new }
 {
-    let answer = judge(desks.session_mut(), command, steps);
-    match say(rt, gate, answer, desks, buffer, sink, steps) {
+    let answer = judge(desks.session_mut(), command.text, steps);
+    pen.count(answer);
+    remark_command(answer, command, desks.session(), sink);
+    match say(rt, gate, answer, desks, &mut pen.line, sink, steps) {
         Ok(()) => Ok(answer.ending()),
         Err(Failed) => Err(Stop::Write),
     }
@@ -105,14 +125,14 @@ impl Reporter {
         requires most { workers ≤ 8 }
         ensures value { IfOk result (λ r. r ≡ new_reporter workers) }
     {
-        let buffer = LineBuffer::open(alloc)?;
+        let line = LineBuffer::open(alloc)?;
         Ok(Reporter {
             alloc,
             workers,
             lines: 0,
             cards: CardReader::new(alloc),
             desks: None,
-            buffer,
+            pen: Pen { line, refused: 0 },
         })
     }
 
@@ -147,7 +167,12 @@ impl Reporter {
             Ok(Progress::More) => Ok(None),
             Ok(Progress::Complete) => self.complete(sink, steps),
             Err(CardStop::Refused { card, code }) => {
-                match print_card_refused(card, code, &mut self.buffer, sink) {
+                let refused = InputLine {
+                    number: card,
+                    text: line,
+                };
+                remark_card(&self.cards, code, refused, sink);
+                match print_card_refused(card, code, &mut self.pen.line, sink) {
                     Ok(()) => Ok(Some(Ending::Refused)),
                     Err(Failed) => Err(Stop::Write),
                 }
@@ -183,7 +208,7 @@ impl Reporter {
             return Err(Stop::Memory);
         };
         let net = desks.session().net();
-        if let Err(Failed) = print_accepted(net, &mut self.buffer, sink) {
+        if let Err(Failed) = print_accepted(net, &mut self.pen.line, sink) {
             drop(desks);
             return Err(Stop::Write);
         }
@@ -221,7 +246,9 @@ pub(crate) fn answer_line<R: Threads + Sync, G: Gate, K: Sink, L: Ledger>(
 {
     reporter.lines += 1;
     if let Some(desks) = &mut reporter.desks {
-        return answer_command(rt, gate, desks, line, &mut reporter.buffer, sink, steps);
+        let number = reporter.lines;
+        let command = InputLine { number, text: line };
+        return answer_command(rt, gate, desks, command, &mut reporter.pen, sink, steps);
     }
     if !reporter.cards.is_live() {
         return Ok(Some(Ending::Refused));
@@ -230,6 +257,11 @@ pub(crate) fn answer_line<R: Threads + Sync, G: Gate, K: Sink, L: Ledger>(
 }
 
 impl Reporter {
+    /// How many commands were refused.
+    pub(crate) fn refused(&self) -> u32 {
+        self.pen.refused
+    }
+
     /// Answers the end of the input: whether it is a refusal. It takes no memory.
     pub(crate) fn finish<K: Sink>(&mut self, sink: &mut K) -> Result<bool, Stop>
         requires { self.old.lines ≤ 4194305 }
@@ -245,7 +277,12 @@ impl Reporter {
             return Ok(false);
         }
         let card = self.cards.taken() + 1;
-        match print_card_refused(card, Code::NoEnd, &mut self.buffer, sink) {
+        let end = InputLine {
+            number: card,
+            text: b"",
+        };
+        remark_card(&self.cards, Code::NoEnd, end, sink);
+        match print_card_refused(card, Code::NoEnd, &mut self.pen.line, sink) {
             Ok(()) => Ok(true),
             Err(Failed) => Err(Stop::Write),
         }

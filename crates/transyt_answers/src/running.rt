@@ -7,6 +7,7 @@ ghost use Rattle.transyt_running.specs.Runs.{Ran, StepsTaken};
 ghost use Rattle.transyt_answers.specs.Report.{deck_answering, reporting_run};
 ghost use Rattle.transyt_answers.specs.Reporter.{new_reporter};
 
+use crate::remarks::remark_refused;
 use crate::reporter::{Reporter, answer_line};
 use std::alloc::Global;
 use std::sync::ledger::Ledger;
@@ -87,6 +88,7 @@ pub fn run_deck<R: Threads + Sync, S: Source, K: Sink, G: Gate, L: Ledger>(
         return Status::NoMemory;
     };
     let status = run(rt, &mut reporter, &mut reader, source, sink, gate, steps);
+    remark_refused(reporter.refused(), sink);
     drop(reader);
     drop(reporter);
     status

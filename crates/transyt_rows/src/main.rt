@@ -3,6 +3,7 @@
 #![tactic(auto)]
 
 mod content;
+mod hearing;
 mod meeting;
 mod parts;
 mod reader;

@@ -15,6 +15,8 @@ pub(crate) enum Part {
     Output,
     /// Bytes that the source has left.
     Left,
+    /// Remarks, a line each.
+    Told,
 }
 
 /// Bytes that are read, or that are written.

@@ -107,6 +107,7 @@ impl Reader {
                 Part::Input => row.said.push(Said::Read(bytes))?,
                 Part::Output => row.said.push(Said::Written(bytes))?,
                 Part::Left => row.left = Some(bytes),
+                Part::Told => row.told = Some(bytes),
                 Part::Nothing | Part::Text => {}
             }
         }

@@ -30,6 +30,8 @@ pub(crate) struct Row {
     pub(crate) said: Vec<Said>,
     /// The bytes that the source has left, where the row names them.
     pub(crate) left: Option<Vec<u8>>,
+    /// The remarks, where the row names them.
+    pub(crate) told: Option<Vec<u8>>,
     /// The exit number.
     pub(crate) status: u8,
 }
@@ -46,6 +48,7 @@ impl Row {
             room: ROOM,
             said: Vec::new(alloc),
             left: None,
+            told: None,
             status: 0,
         })
     }
@@ -62,6 +65,7 @@ impl Row {
             "input" => return Ok(Part::Input),
             "output" => return Ok(Part::Output),
             "left" => return Ok(Part::Left),
+            "told" => return Ok(Part::Told),
             _ => bail!("no line of a row begins with {keyword}"),
         }
         Ok(Part::Nothing)

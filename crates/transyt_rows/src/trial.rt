@@ -1,6 +1,7 @@
 //! Runs of a row.
 ghost use Rattle.std.specs.Prelude.{◌≡◌, ◌<◌};
 
+use crate::hearing::Hearing;
 use crate::meeting::Meeting;
 use crate::parts::{Ends, Failing, Pieces};
 use crate::report::{print_difference, print_failed};
@@ -26,12 +27,14 @@ struct Trial<'a> {
     wanted: Vec<u8>,
 }
 
-/// What came of a run: the exit number, what was written, what the source has left, and whether the gate was met.
+/// What came of a run: the exit number, what was written, what the source has left, the remarks, and whether the gate was
+/// met.
 #[derive(Drop)]
 struct Outcome {
     status: u8,
     written: Vec<u8>,
     left: Vec<u8>,
+    told: Vec<u8>,
     met: bool,
 }
 
@@ -91,7 +94,10 @@ fn over_memory<R: Threads + Sync + AllocGlobal, G: Gate>(
     let failing_reads = calls(alloc, trial.failing_read)?;
     let mut source = MemorySource::new(row.input(alloc)?, pieces.read.max(1), failing_reads);
     let failing_writes = calls(alloc, trial.failing_write)?;
-    let mut sink = MemorySink::new(alloc, row.room, pieces.written.max(1), failing_writes)?;
+    let mut sink = Hearing {
+        sink: MemorySink::new(alloc, row.room, pieces.written.max(1), failing_writes)?,
+        heard: Vec::new(alloc),
+    };
     let status = run(rt, trial.words, &mut source, &mut sink, gate);
     let most = row
         .left
@@ -99,8 +105,9 @@ fn over_memory<R: Threads + Sync + AllocGlobal, G: Gate>(
         .map_or(0, |left| left.len().saturating_add(1));
     Ok(Outcome {
         status: status.code(),
-        written: sink.bytes().to_vec(alloc)?,
+        written: sink.sink.bytes().to_vec(alloc)?,
         left: rest_of(alloc, &mut source, most)?,
+        told: sink.heard,
         met: true,
     })
 }
@@ -130,6 +137,7 @@ fn over_tally<R: Threads + Sync + AllocGlobal>(
         status: status.code(),
         written: trial.wanted.to_vec(alloc)?,
         left: Vec::new(alloc),
+        told: Vec::new(alloc),
         met,
     })
 }
@@ -151,6 +159,7 @@ fn over_std<R: Threads + Sync + Eprint + AllocGlobal>(
         status,
         written,
         left: Vec::new(alloc),
+        told: Vec::new(alloc),
         met: true,
     })
 }
@@ -179,7 +188,13 @@ fn holds<R: Threads + Sync + Print + Eprint + AllocGlobal>(
         Some(left) => left.as_slice(),
         None => &[],
     };
-    let is_same = outcome.written == trial.wanted && outcome.left.as_slice() == left;
+    let told = match &row.told {
+        Some(told) => told.as_slice(),
+        None => outcome.told.as_slice(),
+    };
+    let is_same = outcome.written == trial.wanted
+        && outcome.left.as_slice() == left
+        && outcome.told.as_slice() == told;
     if is_same && outcome.met && outcome.status == row.status {
         return Ok(true);
     }
@@ -187,6 +202,7 @@ fn holds<R: Threads + Sync + Print + Eprint + AllocGlobal>(
     println!(rt; "  status wanted: {}, got: {}", row.status, outcome.status)?;
     print_difference(rt, "output", &trial.wanted, &outcome.written)?;
     print_difference(rt, "left", left, &outcome.left)?;
+    print_difference(rt, "told", told, &outcome.told)?;
     Ok(false)
 }
 
