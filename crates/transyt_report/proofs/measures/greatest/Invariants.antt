@@ -1,6 +1,6 @@
 use Rattle.std.proofs.Common.{◌≡◌, take}
-use Rattle.transyt_plot.specs.Plot.{greatest}
-use Rattle.transyt_plot.proofs.field.greatest.Given as goal
+use Rattle.transyt_report.specs.Measures.{greatest}
+use Rattle.transyt_report.proofs.measures.greatest.Given as goal
 
 -- the greatest so far
 abbrev pub invariant-loop-value : goal.invariant-loop-value
