@@ -52,11 +52,15 @@ pub fn worked_reports()
 /// cases, the first of the worst links, the flows sent on by the links of the three junctions, and FIGURES of them.
 #[tactic(auto, using(crate::proofs::WorkedMeasures::degrees_are, crate::proofs::WorkedMeasures::delays_are, crate::proofs::WorkedMeasures::stops_are, crate::proofs::WorkedMeasures::worst_are, crate::proofs::WorkedMeasures::sent_are, crate::proofs::WorkedMeasures::report_is))]
 pub fn worked_measures()
-    ensures degrees { map (λ row. degree_of_saturation row.0.0 row.0.1) worked_degrees ≡ map (λ row. row.1) worked_degrees }
-    ensures delays { map (λ row. mean_delay row.0.0 row.0.1 row.0.2) worked_delays ≡ map (λ row. row.1) worked_delays }
-    ensures stops { map (λ row. part_stopped row.0.0 row.0.1 row.0.2) worked_stops ≡ map (λ row. row.1) worked_stops }
+    ensures degrees { map (λ row. degree_of_saturation row.0.0 row.0.1) worked_degrees
+        ≡ map (λ row. row.1) worked_degrees }
+    ensures delays { map (λ row. mean_delay row.0.0 row.0.1 row.0.2) worked_delays
+        ≡ map (λ row. row.1) worked_delays }
+    ensures stops { map (λ row. part_stopped row.0.0 row.0.1 row.0.2) worked_stops
+        ≡ map (λ row. row.1) worked_stops }
     ensures worst { map (λ row. worst_of row.0) worked_worst ≡ map (λ row. row.1) worked_worst }
-    ensures sent { map (λ row. flow_sent three_junctions.links row.0) sent_of_three ≡ map (λ row. row.1) sent_of_three }
+    ensures sent { map (λ row. flow_sent three_junctions.links row.0) sent_of_three
+        ≡ map (λ row. row.1) sent_of_three }
     ensures report { report_text three_junctions 1378 Report.Figures ≡ report_of_three }
 {}
 

@@ -61,7 +61,8 @@ fn worse_of(session: &Session, worst: usize, link: usize) -> usize
 /// The place of the link with the greatest degree of saturation, the first of equals.
 fn worst_place(session: &Session) -> usize
     requires { 0 < length session.now.net.links }
-    ensures { IsFirstMaxByKey degree (all_link_figures session.now.net) (length session.now.net.links) result }
+    ensures { IsFirstMaxByKey degree (all_link_figures session.now.net)
+        (length session.now.net.links) result }
 {
     let net = session.net();
     let mut worst = 0;
