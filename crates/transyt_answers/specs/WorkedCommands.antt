@@ -1,5 +1,5 @@
 -- Worked answers to commands over two junctions and three links, and what a climb is told by.
-use Rattle.std.specs.Prelude.{ℕ, List, [], ◌∷◌, ◌++◌, map, codes, None, Some, false}
+use Rattle.std.specs.Prelude.{ℕ, List, [], ◌∷◌, map, codes, None, Some, false}
 use Rattle.transyt_syntax.specs.declared.code.Code.TheVariants as code
 use Rattle.transyt_net.specs.declared.edit.Edit.TheVariants.{Offset, Change}
 use Rattle.transyt_net.specs.Edits.{with_edit}
@@ -32,11 +32,15 @@ worked_answers =
     ∷ (begun, c.Request r.Cert, a.Cert)
     ∷ (begun, c.Request r.Index, a.Show report.Index)
     ∷ (begun, c.Request r.Links, a.Show report.Links)
+    ∷ (begun, c.Request r.Figures, a.Show report.Figures)
+    ∷ (in_trial, c.Request r.Figures, a.Show report.Figures)
     ∷ (begun, c.Request r.Timing, a.Show report.Timing)
     ∷ (begun, c.Request (r.Profile 9), a.Show (report.Profile 1))
     ∷ (begun, c.Request (r.Profile 8), a.Refused code.Unknown)
     ∷ (begun, c.Request (r.Plot 4), a.Plot 2)
     ∷ (begun, c.Request (r.Queue 4), a.Show (report.Queue 2))
+    ∷ (begun, c.Request r.Chart, a.Show report.Chart)
+    ∷ (in_trial, c.Request r.Chart, a.Show report.Chart)
     ∷ (begun, c.Request r.Work, a.Show report.Work)
     ∷ (begun, c.Request r.Deck, a.Deck)
     ∷ (begun, c.Request r.Stop, a.Stop)
@@ -62,7 +66,3 @@ abbrev pub climb_lines : List ℕ
 climb_lines =
     text_of (codes "TOOK 24 OFFSET 21 17 INDEX 530008683" ∷ codes "TOOK 29 CHANGE 21 2 7 INDEX 521795021"
     ∷ codes "BUDGET 5 INDEX 554272112" ∷ [])
-
--- its line as a brief of three junctions with eight links
-abbrev pub climb_line : List ℕ
-climb_line = codes "BRIEF 3 8 FROM 556223009 TOOK 2 BUDGET 5 TO 554272112" ++ 10 ∷ []

@@ -28,6 +28,8 @@ pub enum Request {
     Index,
     /// Writes each link's figures and index.
     Links,
+    /// Writes each link's figures in the units of an engineer, and those of the network.
+    Figures,
     /// Writes each node's stages.
     Timing,
     /// Writes a link's IN, GO and OUT.
@@ -45,6 +47,8 @@ pub enum Request {
         /// The card number of the link.
         link: u32,
     },
+    /// Draws the cycle of all links, a character for each step.
+    Chart,
     /// Writes the work so far.
     Work,
     /// Writes the deck text of the network as it stands.

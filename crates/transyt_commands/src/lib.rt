@@ -1,4 +1,4 @@
-//! The commands that follow a deck: 21 keywords, each with its numbers.
+//! The commands that follow a deck: 23 keywords, each with its numbers.
 //!
 //! [`read_command`] reads one line. A contract sees a [`Command`] as the value that it is; all names in it are
 //! card numbers, and no range is judged here. Cite

@@ -1,14 +1,11 @@
 -- The character plot of a link.
-use Rattle.std.specs.Prelude.{ℕ, ◌+◌, ◌*◌, ◌/◌, ◌%◌, ◌==◌, nat_lt, max, List, [], ◌∷◌, ◌++◌, map, fold, flat_map, codes, length}
+use Rattle.std.specs.Prelude.{ℕ, ◌+◌, ◌*◌, ◌/◌, ◌%◌, ◌==◌, nat_lt, List, [], ◌∷◌, ◌++◌, map, flat_map, codes, length}
 use Rattle.std.specs.Prelude.{slice_index, if◌then◌else◌}
 use Rattle.std.specs.List.{range_with_len}
 use Rattle.transyt_net.specs.Parts.{Network, link_of}
 use Rattle.transyt_sweep.specs.Sweeps.{evaluated}
 use Rattle.transyt_text.specs.Forms.{form_line}
-
--- the greatest of a number and these values
-abbrev pub greatest : ℕ → List ℕ → ℕ
-greatest least values = fold max least values
+use Rattle.transyt_report.specs.Measures.{greatest}
 
 -- the greatest of all values of three profiles
 abbrev pub scale_of : List ℕ → List ℕ → List ℕ → ℕ

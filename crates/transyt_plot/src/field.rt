@@ -1,19 +1,8 @@
 //! Fields of a plot.
 ghost use Rattle.std.specs.Prelude.{◌≡◌, ◌≤◌, ◌<◌, ◌+◌, ◌++◌, length};
-ghost use Rattle.transyt_plot.specs.Plot.{greatest, letters, mark, field, three_digits, step_line};
+ghost use Rattle.transyt_plot.specs.Plot.{letters, mark, field, three_digits, step_line};
 
 use transyt_io::LineBuffer;
-
-/// The greatest of a number and these values.
-pub(crate) fn greatest(least: u64, values: &[u64]) -> u64
-    ensures { result ≡ greatest least values.now }
-{
-    let mut best = least;
-    for value in values {
-        best = best.max(*value);
-    }
-    best
-}
 
 /// How many letters stand for a value, of 20 for the scale, rounded down; none where the scale is 0.
 fn letters(scale: u64, value: u64) -> u128

@@ -4,17 +4,17 @@ ghost use Rattle.std.specs.List.{range_with_len};
 ghost use Rattle.transyt_net.specs.Parts.{link_of};
 ghost use Rattle.transyt_sweep.specs.Sweeps.{evaluated};
 ghost use Rattle.transyt_text.specs.Prints.{PrintsOn};
-ghost use Rattle.transyt_plot.specs.Plot.{greatest, step_line, scale_line, step_lines, plot_of, plot_text};
+ghost use Rattle.transyt_plot.specs.Plot.{step_line, scale_line, step_lines, plot_of, plot_text};
 
-use crate::field::{greatest, set_step};
+use crate::field::set_step;
 use transyt_io::{Failed, LineBuffer, Sink, write_line};
 use transyt_net::Net;
-use transyt_report::{arrivals, go, out};
+use transyt_report::{arrivals, go, greatest, out};
 use transyt_session::Session;
 use transyt_text::print_form;
 
 /// The card number of the link at a place.
-fn number_at(net: &Net, link: usize) -> u32
+pub(crate) fn number_at(net: &Net, link: usize) -> u32
     requires { link < length net.now.links }
     ensures { result ≡ (link_of net.now link).number }
 {

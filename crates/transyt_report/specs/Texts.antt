@@ -8,7 +8,9 @@ use Rattle.transyt_net.specs.Parts.{Network, node_of, link_of}
 use Rattle.transyt_sweep.specs.Sweeps.{evaluated, index}
 use Rattle.transyt_text.specs.Forms.{form_line, values_line}
 use Rattle.transyt_report.specs.declared.showing.Report.{Report}
-use Rattle.transyt_report.specs.declared.showing.Report.TheVariants.{Index, Links, Timing, Profile, Queue, Work}
+use Rattle.transyt_report.specs.declared.showing.Report.TheVariants as r
+use Rattle.transyt_report.specs.Chart.{chart_text}
+use Rattle.transyt_report.specs.FiguresText.{figures_report}
 
 -- the line of an index
 unfoldable pub index_line : ℕ → List ℕ
@@ -82,18 +84,22 @@ work_line work = form_line (codes "WORK #") (work ∷ [])
 
 -- the text of a report
 abbrev pub report_text : Network → ℕ → Report → List ℕ
-report_text net work Index = index_line (index net)
-report_text net work Links = links_text net
-report_text net work Timing = timing_text net
-report_text net work (Profile link) = profile_text net link
-report_text net work (Queue link) = queue_line net link
-report_text net work Work = work_line work
+report_text net work r.Index = index_line (index net)
+report_text net work r.Links = links_text net
+report_text net work r.Figures = figures_report net
+report_text net work r.Timing = timing_text net
+report_text net work (r.Profile link) = profile_text net link
+report_text net work (r.Queue link) = queue_line net link
+report_text net work r.Chart = chart_text net
+report_text net work r.Work = work_line work
 
 -- the link that a report is of is a place of the network
 abbrev pub IsOfPlace : Network → Report → Type 0
-IsOfPlace net (Profile link) = link < length net.links
-IsOfPlace net (Queue link) = link < length net.links
-IsOfPlace net Index = Unit {0}
-IsOfPlace net Links = Unit {0}
-IsOfPlace net Timing = Unit {0}
-IsOfPlace net Work = Unit {0}
+IsOfPlace net (r.Profile link) = link < length net.links
+IsOfPlace net (r.Queue link) = link < length net.links
+IsOfPlace net r.Index = Unit {0}
+IsOfPlace net r.Links = Unit {0}
+IsOfPlace net r.Figures = Unit {0}
+IsOfPlace net r.Timing = Unit {0}
+IsOfPlace net r.Chart = Unit {0}
+IsOfPlace net r.Work = Unit {0}

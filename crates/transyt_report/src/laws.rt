@@ -1,11 +1,16 @@
 //! Laws about the definitions.
-ghost use Rattle.std.specs.Prelude.{◌≡◌, ◌++◌, ◌∷◌, [], codes, true, false};
+ghost use Rattle.std.specs.Prelude.{◌≡◌, ◌++◌, ◌∷◌, [], codes, map, true, false};
 ghost use Rattle.transyt_net.specs.declared.edit.Edit.{Edit};
 ghost use Rattle.transyt_stage.specs.ThreeJunctions.{three_junctions};
 ghost use Rattle.transyt_report.specs.declared.showing.Report.{Report};
+ghost use Rattle.transyt_report.specs.Chart.{chart_line};
+ghost use Rattle.transyt_report.specs.Measures.{degree_of_saturation, mean_delay, part_stopped, worst_of, flow_sent};
 ghost use Rattle.transyt_report.specs.Texts.{index_line, figures_line, node_text, timing_end, work_line};
 ghost use Rattle.transyt_report.specs.Texts.{report_text, IsOfPlace};
 ghost use Rattle.transyt_report.specs.MoveTexts.{took_text, end_text};
+ghost use Rattle.transyt_report.specs.WorkedCharts.{six_steps, six_marks, chart_of_three};
+ghost use Rattle.transyt_report.specs.WorkedMeasures.{worked_degrees, worked_delays, worked_stops, worked_worst, sent_of_three};
+ghost use Rattle.transyt_report.specs.WorkedMeasures.{report_of_three};
 ghost use Rattle.transyt_report.specs.WorkedTexts.{some_figures, figures_text, node_of_two, lines_of_two, node_of_three};
 ghost use Rattle.transyt_report.specs.WorkedTexts.{lines_of_three, two_nodes, links_of_three, profile_of_fourth};
 ghost use Rattle.transyt_report.specs.WorkedTexts.{queue_of_fourth};
@@ -41,4 +46,27 @@ pub fn worked_reports()
     ensures last_place { IsOfPlace three_junctions (Report.Profile 7) × IsOfPlace three_junctions (Report.Queue 7) }
     ensures no_place { (IsOfPlace three_junctions (Report.Profile 8) → ⊥)
         × (IsOfPlace three_junctions (Report.Queue 8) → ⊥) }
+{}
+
+/// Figures in the units of an engineer come out as they are written beside the definitions: the formulas in each of their
+/// cases, the first of the worst links, the flows sent on by the links of the three junctions, and FIGURES of them.
+#[tactic(auto, using(crate::proofs::WorkedMeasures::degrees_are, crate::proofs::WorkedMeasures::delays_are, crate::proofs::WorkedMeasures::stops_are, crate::proofs::WorkedMeasures::worst_are, crate::proofs::WorkedMeasures::sent_are, crate::proofs::WorkedMeasures::report_is))]
+pub fn worked_measures()
+    ensures degrees { map (λ row. degree_of_saturation row.0.0 row.0.1) worked_degrees
+        ≡ map (λ row. row.1) worked_degrees }
+    ensures delays { map (λ row. mean_delay row.0.0 row.0.1 row.0.2) worked_delays
+        ≡ map (λ row. row.1) worked_delays }
+    ensures stops { map (λ row. part_stopped row.0.0 row.0.1 row.0.2) worked_stops
+        ≡ map (λ row. row.1) worked_stops }
+    ensures worst { map (λ row. worst_of row.0) worked_worst ≡ map (λ row. row.1) worked_worst }
+    ensures sent { map (λ row. flow_sent three_junctions.links row.0) sent_of_three
+        ≡ map (λ row. row.1) sent_of_three }
+    ensures report { report_text three_junctions 1378 Report.Figures ≡ report_of_three }
+{}
+
+/// Charts come out as they are written beside the definitions: each case of a step, and CHART of the three junctions.
+#[tactic(auto, using(crate::proofs::WorkedCharts::six_are, crate::proofs::WorkedCharts::three_are))]
+pub fn worked_charts()
+    ensures six { chart_line 17 six_steps.0 six_steps.1 ≡ six_marks }
+    ensures three { report_text three_junctions 1378 Report.Chart ≡ chart_of_three }
 {}

@@ -1,18 +1,25 @@
-//! The texts that a run writes of its network: INDEX, LINKS, TIMING, PROFILE, QUEUE and WORK, and the lines of a climb
-//! and of a certificate.
+//! The texts that a run writes of its network: INDEX, LINKS, FIGURES, TIMING, PROFILE, QUEUE, CHART and WORK, and the
+//! lines of a climb and of a certificate.
 //!
 //! `specs/Texts` has the text of each report over the network and the work so far, `report_text net work what`, and
 //! `specs/MoveTexts` the lines of a climb; those of a certificate are of `transyt_cert`. [`show`] writes a report of a
-//! session, and says so by `Prints` of `transyt_text`. All texts are this project's own.
+//! session, and says so by `Prints` of `transyt_text`. The figures of FIGURES are values too, by `specs/Measures`:
+//! [`link_figures`] and [`network_figures`]. All texts are this project's own.
 #![tactic(auto)]
 
+mod charting;
+mod figures;
 mod laws;
+mod measures;
 mod moves;
 mod profiles;
 mod showing;
 mod timing;
+mod totals;
 
-pub use laws::{worked_reports, worked_texts};
+pub use laws::{worked_charts, worked_measures, worked_reports, worked_texts};
+pub use measures::{LinkFigures, greatest, link_figures};
 pub use moves::{cert_line, end_line, move_line, took_line};
 pub use profiles::{arrivals, go, out, queue};
 pub use showing::{Report, show};
+pub use totals::{NetworkFigures, network_figures};

@@ -1,17 +1,18 @@
 //! The reports.
 ghost use Rattle.std.specs.Prelude.{◌≡◌, ◌<◌, length, flat_map};
 ghost use Rattle.std.specs.List.{range_with_len};
-ghost use Rattle.transyt_net.specs.Parts.{link_of};
 ghost use Rattle.transyt_text.specs.Prints.{PrintsOn};
 ghost use Rattle.transyt_sweep.specs.Sweeps.{index};
 ghost use Rattle.transyt_report.specs.Texts.{index_line, figures_line, link_line, links_text, timing_text, in_line, go_line, out_line, queue_line};
 ghost use Rattle.transyt_report.specs.Texts.{profile_text, work_line, report_text, IsOfPlace};
 
+use crate::charting::print_chart;
+use crate::figures::print_report;
+use crate::measures::number_at;
 use crate::profiles::{arrivals, go, out, queue};
 use crate::timing::print_timing;
 use transyt_delay::Figures;
 use transyt_io::{Failed, LineBuffer, Sink};
-use transyt_net::Net;
 use transyt_session::Session;
 use transyt_text::{print_form, print_values};
 
@@ -22,23 +23,18 @@ pub enum Report {
     Index,
     /// The figures of each link, and the index of the network.
     Links,
+    /// The figures of each link and of the network in the units of an engineer.
+    Figures,
     /// The plans of the nodes.
     Timing,
     /// Arrivals, GO and departures of a link, step by step.
     Profile { link: usize },
     /// The queue at the end of each step.
     Queue { link: usize },
+    /// The cycle of all links, a character for each step.
+    Chart,
     /// The work so far.
     Work,
-}
-
-/// The card number of the link at a place.
-fn number_at(net: &Net, link: usize) -> u32
-    requires { link < length net.now.links }
-    ensures { result ≡ (link_of net.now link).number }
-{
-    let link = &net.links()[link];
-    link.number
 }
 
 /// Writes the line of the network's index.
@@ -237,9 +233,11 @@ pub fn show<K: Sink>(
     match what {
         Report::Index => print_index(session, line, sink),
         Report::Links => print_links(session, line, sink),
+        Report::Figures => print_report(session, line, sink),
         Report::Timing => print_plans(session, line, sink),
         Report::Profile { link } => print_profile(session, link, line, sink),
         Report::Queue { link } => print_queue(session, link, line, sink),
+        Report::Chart => print_chart(session, line, sink),
         Report::Work => print_work(session, line, sink),
     }
 }

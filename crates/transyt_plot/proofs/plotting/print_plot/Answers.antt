@@ -1,7 +1,8 @@
 use Rattle.std.proofs.Common.{ℕ, ◌++◌, length, flat_map, ap, ◌∙◌}
 use Rattle.std.specs.List.{range_with_len}
 use Rattle.transyt_text.proofs.PrintLaws.{prints_both, prints_same}
-use Rattle.transyt_plot.specs.Plot.{greatest, scale_line, step_lines}
+use Rattle.transyt_report.specs.Measures.{greatest}
+use Rattle.transyt_plot.specs.Plot.{scale_line, step_lines}
 use Rattle.transyt_plot.proofs.plotting.print_plot.Goals as goal
 
 -- the first line, and the steps after it, by the greatest of all values

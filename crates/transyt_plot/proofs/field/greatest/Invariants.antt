@@ -1,7 +1,0 @@
-use Rattle.std.proofs.Common.{◌≡◌, take}
-use Rattle.transyt_plot.specs.Plot.{greatest}
-use Rattle.transyt_plot.proofs.field.greatest.Given as goal
-
--- the greatest so far
-abbrev pub invariant-loop-value : goal.invariant-loop-value
-invariant-loop-value l = l.best ≡ greatest l.least (take l.value-index l.values)

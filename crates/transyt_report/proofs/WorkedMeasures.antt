@@ -1,0 +1,90 @@
+-- The worked figures in the units of an engineer, computed from the definitions.
+use Rattle.std.proofs.Common.{◌≡◌, ℕ, ◌+◌, List, [], ◌∷◌, ◌++◌, map, sum, refl, ◌∙◌}
+use Rattle.std.specs.List.{range_with_len}
+use Rattle.std.specs.Fmt.{digits}
+use Rattle.transyt_delay.specs.declared.figures.Figures.{Figures}
+use Rattle.transyt_platoon.specs.Platoon.{smoothed}
+use Rattle.transyt_stopline.specs.LastSteps.{sum_back, greatest}
+use Rattle.transyt_stage.specs.ThreeJunctions.{three_junctions}
+use Rattle.transyt_sweep.specs.Sweeps.{seen, out_of, evaluated, index}
+use Rattle.transyt_sweep.specs.WorkedLinks.{figures_of_three}
+use Rattle.transyt_sweep.proofs.WorkedFigures.{figures_come_out, index_comes_out}
+use Rattle.transyt_text.specs.Forms.{filled, form_line}
+use Rattle.transyt_report.specs.declared.measures.LinkFigures.{LinkFigures}
+use Rattle.transyt_report.specs.Measures.{flow_sent, degree_of_saturation, mean_delay, part_stopped, worst_of}
+use Rattle.transyt_report.specs.FiguresText.{figures_report, link_figures_line, total_line}
+use Rattle.transyt_report.specs.declared.showing.Report.TheVariants as r
+use Rattle.transyt_report.specs.Texts.{report_text}
+use Rattle.transyt_report.specs.WorkedMeasures.{worked_degrees, worked_delays, worked_stops, worked_worst, sent_of_three}
+use Rattle.transyt_report.specs.WorkedMeasures.{report_of_three}
+
+-- degrees of saturation
+pub degrees_are : map (λ row. degree_of_saturation row.0.0 row.0.1) worked_degrees ≡ map (λ row. row.1) worked_degrees
+degrees_are = refl
+
+-- mean delays
+pub delays_are : map (λ row. mean_delay row.0.0 row.0.1 row.0.2) worked_delays ≡ map (λ row. row.1) worked_delays
+delays_are = refl
+
+-- vehicles that stop
+pub stops_are : map (λ row. part_stopped row.0.0 row.0.1 row.0.2) worked_stops ≡ map (λ row. row.1) worked_stops
+stops_are = refl
+
+-- the worst of links
+pub worst_are : map (λ row. worst_of row.0) worked_worst ≡ map (λ row. row.1) worked_worst
+worst_are = refl
+
+-- flows that are sent on
+pub sent_are : map (λ row. flow_sent three_junctions.links row.0) sent_of_three ≡ map (λ row. row.1) sent_of_three
+sent_are = refl
+
+-- a link by its number, total flow, flow sent on, arrivals, GO, greatest queue and figures
+abbrev link_by : ℕ → ℕ → ℕ → ℕ → ℕ → ℕ → Figures → LinkFigures
+link_by number flow sent arrivals go queue f = record {
+  link = number;
+  flow = flow;
+  sent = sent;
+  saturation = degree_of_saturation arrivals go;
+  delay = mean_delay 90 (f.uniform + f.random) arrivals;
+  stopped = part_stopped 90 f.stops arrivals;
+  queue = queue;
+}
+
+-- the lines of links by these and their figures
+abbrev lines_by : List (Figures → LinkFigures) → List Figures → List ℕ
+lines_by [] fs = []
+lines_by (link ∷ links) [] = []
+lines_by (link ∷ links) (f ∷ fs) = link_figures_line (link f) ++ lines_by links fs
+
+-- the three junctions' links, without what their figures give
+abbrev links_of_three : List (Figures → LinkFigures)
+links_of_three =
+    link_by 5 604 311 13599728 14441664 9004625 ∷ link_by 2 97 77 2424996 24734721 943054
+    ∷ link_by 9 613 402 15324984 10427776 8110480 ∷ link_by 4 388 88 8924480 16122216 5542873
+    ∷ link_by 8 850 173 14183665 13881940 8842101 ∷ link_by 3 877 279 21924990 6672220 5189492
+    ∷ link_by 6 94 41 2349969 7372220 1705649 ∷ link_by 11 299 0 6252317 15116670 2953803 ∷ []
+
+-- the lines of the links, and then the last
+abbrev told_by : List Figures → ℕ → List ℕ
+told_by fs x =
+    lines_by links_of_three fs
+    ++ total_line (record {
+      delay = sum (map (λ (f : Figures). f.uniform + f.random) fs);
+      stops = sum (map (λ (f : Figures). f.stops) fs);
+      index = x;
+      worst = 3;
+    })
+
+told_is : told_by figures_of_three 556223009 ≡ report_of_three
+unfolding link_figures_line total_line form_line filled digits
+told_is = refl
+
+-- the lines are those of what each link comes to
+lines_are : figures_report three_junctions
+    ≡ told_by (map (λ l. (evaluated three_junctions l).figures) (range_with_len 0 8)) (index three_junctions)
+unfolding sum_back greatest smoothed seen out_of evaluated
+lines_are = refl
+
+-- FIGURES
+pub report_is : report_text three_junctions 1378 r.Figures ≡ report_of_three
+report_is = lines_are ∙ ((λ j. told_by (figures_come_out j) (index_comes_out j)) ∙ told_is)

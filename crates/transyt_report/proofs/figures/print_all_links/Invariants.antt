@@ -1,0 +1,12 @@
+use Rattle.std.proofs.Common.{take, length, flat_map}
+use Rattle.std.specs.List.{range_with_len}
+use Rattle.transyt_text.specs.Prints.{Printed}
+use Rattle.transyt_report.specs.FiguresText.{link_figures_at}
+use Rattle.transyt_report.proofs.figures.print_all_links.Given as goal
+
+-- the lines of the links before this one are written
+abbrev pub invariant-loop-link : goal.invariant-loop-link
+invariant-loop-link g l =
+    let net = l.session.net in
+    Printed (g.K.Sink.written l.fn.sink) (g.K.Sink.written l.sink) (g.K.Sink.faults l.fn.sink) (g.K.Sink.faults l.sink)
+    (flat_map (link_figures_at net) (take l.link (range_with_len 0 (length net.links))))

@@ -1,0 +1,11 @@
+use Rattle.std.proofs.Common.{◌≡◌, ◌*◌, ◌^◌, ◌≤◌, map, sum}
+use Rattle.std.specs.List.{range_with_len}
+use Rattle.transyt_report.specs.Measures.{waiting_at}
+use Rattle.transyt_report.proofs.totals.all_delay.Given as goal
+
+-- the sum over the links so far, and its bound
+abbrev pub invariant-loop-link : goal.invariant-loop-link
+invariant-loop-link l = record {
+  so_far : l.delay ≡ sum (map (waiting_at l.session.net) (range_with_len 0 l.link));
+  small : l.delay ≤ l.link * 2 ^ 65;
+}

@@ -1,0 +1,120 @@
+//! CHART.
+ghost use Rattle.std.specs.Prelude.{◌≡◌, ◌≤◌, ◌<◌, ◌+◌, ◌++◌, length, flat_map};
+ghost use Rattle.std.specs.List.{range_with_len};
+ghost use Rattle.transyt_text.specs.Prints.{PrintsOn};
+ghost use Rattle.transyt_report.specs.Chart.{step_mark, cycle_marks, chart_line, chart_line_at, chart_end, chart_text};
+
+use crate::measures::number_at;
+use crate::profiles::{go, queue};
+use transyt_io::{Failed, LineBuffer, Sink, write_line};
+use transyt_session::Session;
+use transyt_text::{print_form, put_form};
+
+/// The character of a step, by its GO and the queue at its end: a queue that goes, a green without a queue, a queue that
+/// stands, or neither.
+fn step_mark(go: u64, queue: u64) -> u8
+    ensures { result ≡ step_mark go queue }
+{
+    match (go > 0, queue > 0) {
+        (true, true) => b'Q',
+        (true, false) => b'G',
+        (false, true) => b'q',
+        (false, false) => b'.',
+    }
+}
+
+/// Puts the characters of a cycle after what the line holds.
+fn put_cycle(go: &[u64], queue: &[u64], line: &mut LineBuffer)
+    requires room { length line.old ≤ 1000 }
+    requires few { length go.now ≤ 120 }
+    requires queue { length queue.now ≡ length go.now }
+    ensures text { line.new ≡ line.old ++ cycle_marks go.now queue.now }
+    ensures room { length line.new ≤ length line.old + 120 }
+{
+    for step in 0..go.len() {
+        line.put(&[step_mark(go[step], queue[step])]);
+    }
+}
+
+/// The line becomes that of a link of this number.
+#[tactic(auto, unfolding(crate::specs::Chart::chart_line))]
+fn set_link(number: u32, go: &[u64], queue: &[u64], line: &mut LineBuffer)
+    requires few { length go.now ≤ 120 }
+    requires queue { length queue.now ≡ length go.now }
+    ensures text { line.new ≡ chart_line number go.now queue.now }
+    ensures some { 0 < length line.new }
+{
+    line.clear();
+    put_form(b"CHART # ", &[u128::from(number)], line);
+    put_cycle(go, queue, line);
+    line.put(b"\n");
+}
+
+/// Writes the line of a link of this number.
+fn print_cycle<K: Sink>(
+    number: u32,
+    go: &[u64],
+    queue: &[u64],
+    line: &mut LineBuffer,
+    sink: &mut K,
+) -> Result<(), Failed>
+    requires few { length go.now ≤ 120 }
+    requires queue { length queue.now ≡ length go.now }
+    ensures { PrintsOn K.written K.faults sink.old sink.new result
+        (chart_line number go.now queue.now) }
+{
+    set_link(number, go, queue, line);
+    write_line(line, sink)
+}
+
+/// Writes the line of the link at a place.
+fn print_link<K: Sink>(
+    session: &Session,
+    link: usize,
+    line: &mut LineBuffer,
+    sink: &mut K,
+) -> Result<(), Failed>
+    requires { link < length session.now.net.links }
+    ensures { PrintsOn K.written K.faults sink.old sink.new result
+        (chart_line_at session.now.net link) }
+{
+    let number = number_at(session.net(), link);
+    print_cycle(number, go(session, link), queue(session, link), line, sink)
+}
+
+/// Writes the lines of all links.
+fn print_links<K: Sink>(
+    session: &Session,
+    line: &mut LineBuffer,
+    sink: &mut K,
+) -> Result<(), Failed>
+    ensures { PrintsOn K.written K.faults sink.old sink.new result
+        (flat_map (chart_line_at session.now.net) (range_with_len 0 (length session.now.net.links))) }
+{
+    let net = session.net();
+    for link in 0..net.links().len() {
+        print_link(session, link, line, sink)?;
+    }
+    Ok(())
+}
+
+/// Writes the last line.
+#[tactic(auto, unfolding(crate::specs::Chart::chart_end))]
+fn print_end<K: Sink>(line: &mut LineBuffer, sink: &mut K) -> Result<(), Failed>
+    ensures { PrintsOn K.written K.faults sink.old sink.new result chart_end }
+{
+    print_form(b"END CHART", &[], line, sink)
+}
+
+/// Writes CHART.
+#[tactic(auto, using(transyt_text::proofs::PrintLaws::prints_both, transyt_text::proofs::PrintLaws::prints_front))]
+pub(crate) fn print_chart<K: Sink>(
+    session: &Session,
+    line: &mut LineBuffer,
+    sink: &mut K,
+) -> Result<(), Failed>
+    ensures { PrintsOn K.written K.faults sink.old sink.new result (chart_text session.now.net) }
+{
+    print_links(session, line, sink)?;
+    print_end(line, sink)
+}

@@ -1,0 +1,97 @@
+//! The figures of a network in the units of an engineer.
+ghost use Rattle.std.specs.Prelude.{◌≡◌, ◌+◌, ◌<◌, length};
+ghost use Rattle.std.specs.List.{IsFirstMaxByKey};
+ghost use Rattle.transyt_report.specs.Measures.{degree, all_link_figures, worst_of, over_links, waiting_at, stops_at, network_figures};
+
+use crate::measures::{number_at, saturation_at, stops_at, waiting_at};
+use transyt_session::Session;
+
+/// The figures of a network in the units of an engineer.
+#[derive(Clone, Copy, Debug, PartialEq, Eq)]
+pub struct NetworkFigures {
+    /// The uniform and random delay of all links without weights, in millionths: vehicle-hours of delay in an hour.
+    pub delay: u128,
+    /// The stops of all links in a second without weights, in millionths of a vehicle.
+    pub stops: u128,
+    /// The index of the network, weighted.
+    pub index: u128,
+    /// The card number of the link with the greatest degree of saturation, the first of equals; 0 without a link.
+    pub worst: u32,
+}
+
+/// The sum of delays over all links.
+fn all_delay(session: &Session) -> u128
+    ensures { result ≡ over_links waiting_at session.now.net }
+{
+    let net = session.net();
+    let mut delay: u128 = 0;
+    for link in 0..net.links().len() {
+        delay += waiting_at(session, link);
+    }
+    delay
+}
+
+/// The sum of stops over all links.
+fn all_stops(session: &Session) -> u128
+    ensures { result ≡ over_links stops_at session.now.net }
+{
+    let net = session.net();
+    let mut stops: u128 = 0;
+    for link in 0..net.links().len() {
+        stops += u128::from(stops_at(session, link));
+    }
+    stops
+}
+
+/// The worse of two links, the first of equals: `worst` is the first link with the greatest degree of saturation among
+/// those before `link`.
+#[tactic(auto, using(crate::proofs::WorstLaws::worse_taken, crate::proofs::WorstLaws::worse_kept))]
+fn worse_of(session: &Session, worst: usize, link: usize) -> usize
+    requires link { link < length session.now.net.links }
+    requires worst { IsFirstMaxByKey degree (all_link_figures session.now.net) link worst }
+    ensures { IsFirstMaxByKey degree (all_link_figures session.now.net) (link + 1) result }
+{
+    if saturation_at(session, link) > saturation_at(session, worst) {
+        link
+    } else {
+        worst
+    }
+}
+
+/// The place of the link with the greatest degree of saturation, the first of equals.
+fn worst_place(session: &Session) -> usize
+    requires { 0 < length session.now.net.links }
+    ensures { IsFirstMaxByKey degree (all_link_figures session.now.net)
+        (length session.now.net.links) result }
+{
+    let net = session.net();
+    let mut worst = 0;
+    for link in 1..net.links().len() {
+        worst = worse_of(session, worst, link);
+    }
+    worst
+}
+
+/// The card number of that link; 0 without a link.
+#[tactic(auto, using(crate::proofs::WorstLaws::worst_is, crate::proofs::WorstLaws::no_worst))]
+fn worst(session: &Session) -> u32
+    ensures { result ≡ worst_of (all_link_figures session.now.net) }
+{
+    let net = session.net();
+    if net.links().is_empty() {
+        return 0;
+    }
+    number_at(net, worst_place(session))
+}
+
+/// The figures of the network now.
+pub fn network_figures(session: &Session) -> NetworkFigures
+    ensures { result ≡ network_figures session.now.net }
+{
+    NetworkFigures {
+        delay: all_delay(session),
+        stops: all_stops(session),
+        index: session.index(),
+        worst: worst(session),
+    }
+}
