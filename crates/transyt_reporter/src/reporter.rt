@@ -18,7 +18,7 @@ use std::marker::Model;
 use std::mem;
 use std::sync::ledger::Ledger;
 use std::thread::Threads;
-use transyt_answers::{judge, print_accepted, print_card_refused};
+use transyt_answers::{Answer, judge, print_accepted, print_card_refused};
 use transyt_cards::{CardReader, CardStop, Code, Progress};
 use transyt_desks::{Desks, Gate};
 use transyt_io::{Failed, LineBuffer, Sink};
