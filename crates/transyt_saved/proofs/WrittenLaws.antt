@@ -1,18 +1,18 @@
--- A link at the last sweep written: what stands there then, and elsewhere; and how long its rows are.
-use Rattle.std.proofs.Common.{◌≡◌, ◌≢◌, ℕ, ◌+◌, ◌*◌, ◌<◌, ◌≤◌, List, length, refl, ap, sym, arith}
+-- A link at the last sweep written: the rows there then, and elsewhere; and how long they are.
+use Rattle.std.proofs.Common.{◌≡◌, ◌≢◌, ℕ, ◌+◌, ◌*◌, ◌<◌, ◌≤◌, length, refl, ap, arith}
 use Rattle.std.proofs.lemmas.List.{length-set, get_or-set_other}
 use Rattle.std.proofs.lemmas.Grind.{get_or-set_at}
 use Rattle.std.proofs.Math.Nat.{mul-le-mul_right}
 use Rattle.transyt_delay.specs.declared.figures.Figures.{Figures}
 use Rattle.transyt_sweep.specs.Cell.{CellValue, HasSteps}
-use Rattle.transyt_sweep.specs.Rows.{RowsValue, row, out_at, shown_at, with_out, with_rest}
+use Rattle.transyt_sweep.specs.Rows.{RowsValue, row, out_at, shown_at, with_rest}
 use Rattle.transyt_sweep.specs.Rows.{with_figures, pair_in}
 use Rattle.transyt_sweep.specs.Rows.{no_figures, SameSize, AreRows}
 use Rattle.transyt_sweep.proofs.RowLaws.{row_here, row_elsewhere, length-row}
-use Rattle.transyt_sweep.proofs.PairLaws.{out_elsewhere, out_steps}
+use Rattle.transyt_sweep.proofs.PairLaws.{out_steps}
 use Rattle.transyt_sweep.proofs.ComeLaws.{come_out}
 
--- all of the last sweep of a link but what leaves is written
+-- all of the last sweep of a link but its departures is written
 module _ (rows : RowsValue) (kept : AreRows rows) (l : ℕ) (c : CellValue) (inside : l < length rows.figures)
     (long : HasSteps rows.step_count c) where
   room : l * rows.step_count ≤ length rows.figures * rows.step_count
@@ -29,7 +29,7 @@ module _ (rows : RowsValue) (kept : AreRows rows) (l : ℕ) (c : CellValue) (ins
       let weighed = get_or-set_at rows.figures l l c.figures no_figures refl inside in
       (λ j. record { arrivals = come j; go = going j; queue = standing j; out = leaving j; figures = weighed j })
 
-  -- and of any other link what was
+  -- and those of any other link stay
   pub rest_elsewhere : (k : ℕ) → k ≢ l → shown_at (with_rest rows l c) k ≡ shown_at rows k
   rest_elsewhere k other =
       let come = row_elsewhere rows.step_count rows.arrivals l c.arrivals k long.arrivals
@@ -67,7 +67,7 @@ pub shown_steps : (rows : RowsValue) → AreRows rows → (l : ℕ) → l < leng
     → HasSteps rows.step_count (shown_at rows l)
 shown_steps rows kept l inside = pair_steps rows kept rows.sweeps l (omega arith) inside
 
--- figures that are written don't move what leaves
+-- figures that are written don't move departures
 pub figures_out : (rows : RowsValue) (l : ℕ) (f : Figures) (t k : ℕ)
     → out_at (with_figures rows l f) t k ≡ out_at rows t k
 figures_out rows l f t k = ap (λ n. row rows.step_count rows.outs (t * n + k)) (length-set rows.figures l f)
@@ -102,19 +102,4 @@ figures_elsewhere rows l f k other =
       queue = (shown_at rows k).queue;
       out = out j;
       figures = there j;
-    })
-
--- what leaves is written, and what is shown elsewhere stays
-pub shown_with_out : (rows : RowsValue) → AreRows rows → (s l : ℕ) (x : List ℕ) → s ≤ rows.sweeps
-    → l < length rows.figures
-    → length x ≡ rows.step_count → (k : ℕ) → k < length rows.figures → (s ≡ rows.sweeps → k ≡ l → ⊥)
-    → shown_at (with_out rows s l x) k ≡ shown_at rows k
-shown_with_out rows kept s l x swept inside long k there apart =
-    let out = out_elsewhere rows kept s l x swept inside long rows.sweeps k there (λ e f. apart (sym e) f) in
-    (λ j. record {
-      arrivals = (shown_at rows k).arrivals;
-      go = (shown_at rows k).go;
-      queue = (shown_at rows k).queue;
-      out = out j;
-      figures = (shown_at rows k).figures;
     })

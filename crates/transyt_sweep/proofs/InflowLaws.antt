@@ -1,10 +1,11 @@
--- What comes to a link, feed by feed.
-use Rattle.std.proofs.Common.{◌≡◌, ℕ, ◌+◌, ◌-◌, ◌*◌, ◌^◌, ◌<◌, ◌≤◌, List, All, length, take, drop, get_or, ap, sym, ◌∙◌, arith}
+-- The arrivals of a link, feed by feed.
+use Rattle.std.proofs.Common.{◌≡◌, ℕ, ◌+◌, ◌-◌, ◌*◌, ◌^◌, ◌<◌, ◌≤◌, List, All, length, take, drop, get_or, ap, sym, subst, ◌∙◌, arith}
 use Rattle.std.proofs.lemmas.Nat.{mul-le}
 use Rattle.std.proofs.lemmas.List.Sums.{fold_more, fold-append}
 use Rattle.std.proofs.Math.Seq.{take-add, take-length}
 use Rattle.std.proofs.lemmas.List.{length-drop, take-append-drop}
-use Rattle.transyt_profile.specs.Profile.{added, folded}
+use Rattle.std.proofs.lemmas.List.Elements.{All-replicate}
+use Rattle.transyt_profile.specs.Profile.{added, folded, uniform}
 use Rattle.transyt_platoon.specs.Platoon.{travel_steps, dispersed}
 use Rattle.transyt_parts.specs.declared.link.Feed.{Feed}
 use Rattle.transyt_net.specs.Parts.{Network}
@@ -36,7 +37,7 @@ feeds_next net read come feeds next p n now new is_next before sum =
     ∙ sym (fold-append (λ c f. added c (brought net read f)) come (take p feeds) (take n (drop p feeds)))
     ∙ ap (with_feeds net read come) (sym (take-add p n feeds))
 
--- what is left from a place on is all that is left
+-- as many feeds as are left from a place on are all from there on
 pub all_left : (p : ℕ) (feeds : List Feed) → take (length feeds - p) (drop p feeds) ≡ drop p feeds
 all_left p feeds =
     ap (λ n. take n (drop p feeds)) (sym (length-drop p feeds)) ∙ take-length (drop p feeds)
@@ -54,12 +55,26 @@ feeds_rest net read come feeds rest p now new is_rest before sum =
     ∙ sym (fold-append (λ c f. added c (brought net read f)) come (take p feeds) (drop p feeds))
     ∙ ap (with_feeds net read come) (take-append-drop p feeds)
 
--- the values of so many feeds leave room for others, eight in all
-pub room_left : (n p : ℕ) (next : List Feed) (turns : List ℕ) → p + length next ≤ 8 → length turns ≡ 2 * n
-    → All (λ v. v < (p + 1) * 2 ^ 44) (folded n turns) → HaveRoom n (length next) turns
-room_left n p next turns few len small = record {
+-- two turns with room for all feeds have room for those that are left after some
+pub room_after : (n all done : ℕ) (next : List Feed) (turns : List ℕ) → done + length next ≤ all → all ≤ 8
+    → length turns ≡ 2 * n → All (λ v. v < (16 - all) * 2 ^ 44 + done * 2 ^ 44) (folded n turns)
+    → HaveRoom n (length next) turns
+room_after n all done next turns left few len small = record {
   len = len;
-  small = λ j d h. omega (arith, few, small j d h);
+  small = λ j d h. omega (arith, left, few, small j d h);
+}
+
+-- two turns that begin with an entry flow have room for eight feeds
+pub started_small : (n value : ℕ) (turns : List ℕ) → value < 2 ^ 30 → folded n turns ≡ uniform n value
+    → All (λ v. v < 2 ^ 30) (folded n turns)
+started_small n value turns small started =
+    subst (All (λ v. v < 2 ^ 30)) (sym started) (All-replicate (λ v. v < 2 ^ 30) n value small)
+
+pub started_room : (n value count : ℕ) (turns : List ℕ) → count ≤ 8 → length turns ≡ 2 * n → value < 2 ^ 30
+    → folded n turns ≡ uniform n value → HaveRoom n count turns
+started_room n value count turns few len small started = record {
+  len = len;
+  small = λ j d h. omega (arith, few, started_small n value turns small started j d h);
 }
 
 -- the feeds of a link are within their limits, each
@@ -69,7 +84,7 @@ feeds_small numbers feeds are = λ i d below. let one = are i d below in record 
   cruise = one.cruise.1;
 }
 
--- what a feed brings, made of the part that goes on and of its travel
+-- the arrivals of a feed, made of the part that goes on and of its travel
 pub brought_by : (net : Network) (read : ℕ → List ℕ) (f : Feed) (part out : List ℕ) (time percent : ℕ)
     → out ≡ dispersed part time percent → part ≡ taken net read f
     → time ≡ travel_steps f.cruise net.frame.step_count net.frame.cycle → percent ≡ net.frame.dispersion

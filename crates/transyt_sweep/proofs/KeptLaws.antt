@@ -6,7 +6,7 @@ use Rattle.std.proofs.lemmas.List.Elements.{All-replicate}
 use Rattle.std.proofs.lemmas.List.Folds.{sum_by-replicate}
 use Rattle.transyt_delay.specs.declared.figures.Figures.{Figures}
 use Rattle.transyt_sweep.specs.Rows.{RowsValue, row, rows_of, put_row, pair_place, out_at, SameSize, AreRows, AreSmall}
-use Rattle.transyt_sweep.specs.Rows.{no_figures, with_come, with_go}
+use Rattle.transyt_sweep.specs.Rows.{no_figures, with_go}
 use Rattle.transyt_sweep.specs.Table.{TableValue, with_row, empty_table, IsTable, AreKept, AreKeptApart}
 use Rattle.transyt_sweep.proofs.PairLaws.{kept_with_out, out_steps, out_small}
 use Rattle.transyt_sweep.proofs.ComeLaws.{row_room}
@@ -54,7 +54,7 @@ narrow_enough xs small = λ k d h. let one = small k d h in omega (arith, one)
 
 module _ (step_count sweeps : ℕ) (outs arrivals go queue : TableValue) (figures : List Figures)
     (kept : AreKeptApart step_count sweeps outs arrivals go queue figures) where
-  -- what leaves link l at sweep s is written
+  -- the departures of link l at sweep s are written
   pub apart_out : (s l : ℕ) (x : List ℕ) (new : TableValue) → s ≤ sweeps → l < length figures → length x ≡ step_count
       → All (λ v. v < 2 ^ 30) x → new ≡ with_row outs (s * length figures + l) x
       → AreKeptApart step_count sweeps new arrivals go queue figures
@@ -73,7 +73,7 @@ module _ (step_count sweeps : ℕ) (outs arrivals go queue : TableValue) (figure
         queue_size = kept.queue_size;
       }
 
-  -- what comes to link l is written
+  -- the arrivals of link l are written
   pub apart_arrivals : (l : ℕ) (x : List ℕ) (new : TableValue) → l < length figures → length x ≡ step_count
       → new ≡ with_row arrivals l x → AreKeptApart step_count sweeps outs new go queue figures
   apart_arrivals l x new inside len made = record {
@@ -95,7 +95,7 @@ module _ (step_count sweeps : ℕ) (outs arrivals go queue : TableValue) (figure
     queue_size = kept.queue_size;
   }
 
-  -- what can go of link l is written
+  -- the GO of link l is written
   pub apart_go : (l : ℕ) (x : List ℕ) (new : TableValue) → l < length figures → length x ≡ step_count
       → new ≡ with_row go l x → AreKeptApart step_count sweeps outs arrivals new queue figures
   apart_go l x new inside len made = record {
@@ -161,7 +161,7 @@ module _ (step_count sweeps : ℕ) (outs arrivals go queue : TableValue) (figure
 
   module _ (value : RowsValue)
       (same : rows_of step_count sweeps outs.items arrivals.items go.items queue.items figures ≡ value) where
-    -- with what can go of link l written, that is seen
+    -- with the GO of link l written, that is seen
     pub go_seen : (l : ℕ) (x y : List ℕ) (new : TableValue) → new ≡ with_row go l x → x ≡ y
         → rows_of step_count sweeps outs.items arrivals.items new.items queue.items figures ≡ with_go value l y
     go_seen l x y new made is =
@@ -169,20 +169,6 @@ module _ (step_count sweeps : ℕ) (outs arrivals go queue : TableValue) (figure
         (written_items (length figures) step_count l x go new made kept.go_size)
         ∙ ap (λ v. with_go v l x) same
         ∙ ap (with_go value l) is
-
-    -- and with what comes to it, its queue and its figures
-    pub come_seen : (l : ℕ) (x y p q : List ℕ) (f : Figures) (new_arrivals new_queue : TableValue)
-        → new_arrivals ≡ with_row arrivals l x → new_queue ≡ with_row queue l p → x ≡ y → p ≡ q
-        → rows_of step_count sweeps outs.items new_arrivals.items go.items new_queue.items (set figures l f)
-        ≡ with_come value l y q f
-    come_seen l x y p q f new_arrivals new_queue comes stands is_come is_queue =
-        ap (λ a. rows_of step_count sweeps outs.items a go.items new_queue.items (set figures l f))
-        (written_items (length figures) step_count l x arrivals new_arrivals comes kept.arrivals_size)
-        ∙ ap (λ b. rows_of step_count sweeps outs.items (put_row step_count arrivals.items l x) go.items b (set figures l f))
-        (written_items (length figures) step_count l p queue new_queue stands kept.queue_size)
-        ∙ ap (λ v. with_come v l x p f) same
-        ∙ ap (λ a. with_come value l a p f) is_come
-        ∙ ap (λ b. with_come value l y b f) is_queue
 
     -- they are rows
     pub seen_rows : AreRows value
@@ -193,7 +179,7 @@ module _ (step_count sweeps : ℕ) (outs arrivals go queue : TableValue) (figure
     row_count = kept.outs_size.step_count ∙ ap (λ (v : RowsValue). v.step_count) same
 
     module _ (s l : ℕ) (swept : s ≤ value.sweeps) (inside : l < length value.figures) where
-      -- what leaves link l at sweep s is written, as the rows are seen
+      -- the departures of link l at sweep s are written, as the rows are seen
       pub apart_at : (x : List ℕ) (place : ℕ) (new : TableValue) → length x ≡ value.step_count
           → All (λ v. v < 2 ^ 30) x → place ≡ pair_place value s l → new ≡ with_row outs place x
           → AreKeptApart step_count sweeps new arrivals go queue figures
@@ -203,7 +189,7 @@ module _ (step_count sweeps : ℕ) (outs arrivals go queue : TableValue) (figure
           (omega (arith, inside, ap (λ (v : RowsValue). length v.figures) same))
           (len ∙ ap (λ (v : RowsValue). v.step_count) (sym same)) small (made ∙ ap (λ p. with_row outs p x) there)
 
-      -- what leaves there has as many values as there are steps
+      -- the departures there have a value for each step
       pub seen_steps : length (out_at value s l) ≡ value.step_count
       seen_steps = out_steps value seen_rows s l swept inside
 
@@ -236,7 +222,7 @@ module _ (step_count sweeps : ℕ) (outs arrivals go queue : TableValue) (figure
     queue_size = apart.queue_size;
   }
 
-  -- what leaves link l at sweep s is written
+  -- the departures of link l at sweep s are written
   pub kept_out : (s l : ℕ) (x : List ℕ) (new : TableValue) → s ≤ sweeps → l < length figures → length x ≡ step_count
       → All (λ v. v < 2 ^ 30) x → new ≡ with_row outs (s * length figures + l) x
       → AreKept step_count sweeps new arrivals go queue figures index

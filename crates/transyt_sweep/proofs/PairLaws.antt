@@ -3,7 +3,7 @@ use Rattle.std.proofs.Common.{◌≡◌, ◌≢◌, ℕ, ◌+◌, ◌*◌, ◌^�
 use Rattle.std.proofs.lemmas.Bool.{cases_lt}
 use Rattle.std.proofs.Math.Nat.{mul-le-mul_right}
 use Rattle.transyt_sweep.specs.Rows.{RowsValue, pair_place, out_at, with_out, AreRows}
-use Rattle.transyt_sweep.proofs.RowLaws.{row_here, row_elsewhere, row_again, row_twice, length-put_row, all-put_row}
+use Rattle.transyt_sweep.proofs.RowLaws.{row_here, row_elsewhere, row_again, length-put_row, all-put_row}
 use Rattle.transyt_sweep.proofs.RowLaws.{length-row, all-row}
 
 -- the first rows are those of sweep 0
@@ -38,11 +38,11 @@ module _ (rows : RowsValue) (kept : AreRows rows) (s l : ℕ) (x : List ℕ) (sw
   room : pair_place rows s l * rows.step_count + rows.step_count ≤ length rows.outs
   room = omega (arith, kept.outs, pair_room rows.sweeps (length rows.figures) rows.step_count s l swept inside)
 
-  -- what was put is what leaves there
+  -- the departures there are those that were put
   pub out_here : out_at (with_out rows s l x) s l ≡ x
   out_here = row_here rows.step_count rows.outs (pair_place rows s l) x len (omega (arith, room))
 
-  -- and elsewhere what left
+  -- and elsewhere they stay
   pub out_elsewhere : (t k : ℕ) → k < length rows.figures → (t ≡ s → k ≡ l → ⊥)
       → out_at (with_out rows s l x) t k ≡ out_at rows t k
   out_elsewhere t k there apart =
@@ -63,18 +63,12 @@ module _ (rows : RowsValue) (kept : AreRows rows) (s l : ℕ) (x : List ℕ) (sw
     figures = kept.figures;
   }
 
-  -- of two writes the second holds
-  pub out_twice : (y : List ℕ) → with_out (with_out rows s l x) s l y ≡ with_out rows s l y
-  out_twice y =
-      ap (λ o. record rows { outs = o })
-      (row_twice rows.step_count rows.outs (pair_place rows s l) x y len (omega (arith, room)))
-
--- what leaves there, written again, changes nothing
+-- the departures there, written again, change nothing
 pub out_again : (rows : RowsValue) (s l : ℕ) → with_out rows s l (out_at rows s l) ≡ rows
 out_again rows s l =
     ap (λ o. record rows { outs = o }) (row_again rows.step_count rows.outs (pair_place rows s l))
 
--- what leaves link l at sweep s has as many values as there are steps
+-- the departures of link l at sweep s have a value for each step
 pub out_steps : (rows : RowsValue) → AreRows rows → (s l : ℕ) → s ≤ rows.sweeps → l < length rows.figures
     → length (out_at rows s l) ≡ rows.step_count
 out_steps rows kept s l swept inside =

@@ -1,8 +1,10 @@
--- What is sent of a feed by the factors that serve it, and that it stays ready.
-use Rattle.std.proofs.Common.{◌≡◌, ℕ, suc, ◌+◌, ◌*◌, ◌<◌, List, [], ◌∷◌, get_or, Option, Some, IfSome, refl, ap, subst, ◌∙◌, arith}
-use Rattle.transyt_profile.specs.Profile.{shared, added}
+-- The part of a feed that is sent by the factors that serve it, and that it stays ready.
+use Rattle.std.proofs.Common.{◌≡◌, ℕ, suc, ◌+◌, ◌*◌, ◌<◌, List, All, [], ◌∷◌, length, sum, get_or, Option, Some, IfSome}
+use Rattle.std.proofs.Common.{refl, ap, sym, subst, ◌∙◌, arith}
+use Rattle.std.proofs.lemmas.List.{get_or-map, length-map}
+use Rattle.transyt_profile.specs.Profile.{shared, share_of, added}
 use Rattle.transyt_platoon.specs.Platoon.{dispersed}
-use Rattle.transyt_platoon.specs.Travels.{IsReady, arriving, sent}
+use Rattle.transyt_platoon.specs.Travels.{IsReady, IsTravel, arriving, sent}
 use Rattle.transyt_platoon.specs.declared.platoon.Platoon.{Platoon}
 use Rattle.transyt_platoon.specs.declared.travel.Travel.{Travel}
 use Rattle.transyt_parts.specs.declared.link.Feed.{Feed}
@@ -23,14 +25,14 @@ taken_served net read f factors serve =
     ∙ ap (λ w. shared f.flow w (read factors.feeder)) serve.whole
     ∙ ap (λ l. shared f.flow (total_flow (link_of net (link_place net f.feeder))) (read l)) serve.feeder
 
--- so what comes by them is what the feed brings
+-- so the arrivals by them are those of the feed
 pub carried_served : (net : Network) (read : ℕ → List ℕ) (f : Feed) (factors : Factors)
     → ServeIn net f factors → carried read factors ≡ brought net read f
 carried_served net read f factors serve =
     brought_by net read f (taken_by read factors) (carried read factors) factors.travel.time factors.travel.percent refl
     (taken_served net read f factors serve) serve.time serve.percent
 
--- and what comes by slots that serve feeds is what the feeds bring
+-- and the arrivals by slots that serve feeds are those of the feeds
 pub with_served : (net : Network) (read : ℕ → List ℕ) (come : List ℕ) (feeds : List Feed) (slots : List Factors)
     → AreServed net feeds slots → with_carried read come slots ≡ with_feeds net read come feeds
 with_served net read come [] [] served = refl
@@ -45,7 +47,7 @@ with_served net read come (f ∷ fs) (s ∷ ss) served =
     ap (λ x. with_carried read (added come x) ss) (carried_served net read f s first.serve)
     ∙ with_served net read (added come (brought net read f)) fs ss rest
 
--- a platoon that is sent by factors brings what comes by them
+-- a platoon that is sent by factors brings the arrivals by them
 pub sent_brings : (read : ℕ → List ℕ) (factors : Factors) (r : Option Platoon) (p : Platoon) → r ≡ Some p
     → IfSome r (λ (q : Platoon). sent q ≡ taken_by read factors)
     → IfSome r (λ (q : Platoon). q.travel.now ≡ factors.travel) → arriving p ≡ carried read factors
@@ -55,11 +57,29 @@ sent_brings read factors r p some is_sent is_travel =
     ap (λ x. dispersed x p.travel.now.time p.travel.now.percent) same
     ∙ ap (λ (t : Travel). dispersed (taken_by read factors) t.time t.percent) travel
 
--- it is ready round as many steps
-pub sent_ready : (n m lane : ℕ) (lanes : List ℕ) (r : Option Platoon) (p : Platoon) → r ≡ Some p → n ≡ m
-    → IfSome r (λ (q : Platoon). IsReady n lane lanes q) → IsReady m lane lanes p
-sent_ready n m lane lanes r p some same is =
-    subst (λ k. IsReady k lane lanes p) same (subst (λ o. IfSome o (λ (q : Platoon). IsReady n lane lanes q)) some is)
+-- it is ready in its lane
+pub sent_ready : (n lane : ℕ) (lanes : List ℕ) (r : Option Platoon) (p : Platoon) → r ≡ Some p
+    → IfSome r (λ (q : Platoon). IsReady n lane lanes q) → IsReady n lane lanes p
+sent_ready n lane lanes r p some is = subst (λ o. IfSome o (λ (q : Platoon). IsReady n lane lanes q)) some is
+
+-- a platoon is ready where the products of its departures are
+pub made_ready : (steps lane : ℕ) (lanes : List ℕ) (p : Platoon) → length p.leaving.now ≡ steps
+    → All (λ v. v < p.travel.now.limit) (sent p)
+    → ((k : ℕ) → k < length p.leaving.now → get_or lanes (4 * k + lane) 0
+    ≡ share_of p.part.now.part p.part.now.whole (get_or p.leaving.now k 0) * p.travel.now.starting_factor)
+    → p.total ≡ sum (sent p) → IsTravel steps p.travel.now → IsReady steps lane lanes p
+made_ready steps lane lanes p len fit products total travel =
+    let share : ℕ → ℕ = share_of p.part.now.part p.part.now.whole in
+    record {
+      values_len = length-map p.leaving.now share ∙ len;
+      fit = fit;
+      ready = λ k below.
+          let within : k < length p.leaving.now = omega (arith, len, below) in
+          products k within
+          ∙ ap (λ v. v * p.travel.now.starting_factor) (sym (get_or-map share p.leaving.now k 0 0 within));
+      total = total;
+      travel = travel;
+    }
 
 -- and stays so while another lane is filled
 pub ready_kept : (n lane other : ℕ) (old new : List ℕ) (p : Platoon) → lane < 4 → (lane ≡ other → ⊥)

@@ -10,7 +10,7 @@ use Rattle.transyt_parts.specs.declared.link.Feed.{Feed}
 use Rattle.transyt_sweep.specs.declared.factors.Factors.{Factors}
 use Rattle.transyt_sweep.specs.Factors.{AreFactors}
 use Rattle.transyt_sweep.specs.Inflow.{no_factors, no_feed, AreServed, AreSendable, Served}
-use Rattle.transyt_sweep.specs.Rows.{RowsValue, Fits}
+use Rattle.transyt_sweep.specs.declared.inputs.Inputs.{Inputs}
 
 -- slots that are right again leave all right
 pub are_put : (n place count : ℕ) (kept slots : List Factors) → All (AreFactors n) kept → All (AreFactors n) slots
@@ -41,14 +41,14 @@ four_of (p ∷ q ∷ r ∷ []) four = absurd (omega (arith, four))
 four_of (p ∷ q ∷ r ∷ s ∷ []) four = refl
 four_of (p ∷ q ∷ r ∷ s ∷ t ∷ rest) four = absurd (omega (arith, four))
 
--- factors that serve can be sent over rows of the network's size
-pub sendable : (net : Network) (rows : RowsValue) (feeds : List Feed) (slots : List Factors) → Fits net rows
-    → AreServed net feeds slots → All (AreSendable net.frame.step_count rows) slots
-sendable net rows feeds slots fits served =
-    All-from_get_or (AreSendable net.frame.step_count rows) slots no_factors
+-- factors that serve can be sent
+pub sendable : (inputs : Inputs) (feeds : List Feed) (slots : List Factors) → AreServed inputs.net.now feeds slots
+    → All (AreSendable inputs) slots
+sendable inputs feeds slots served =
+    All-from_get_or (AreSendable inputs) slots no_factors
     (λ i below. let one = served.each i (omega (arith, below, served.same)) in record {
-      are = one.are;
-      feeder = omega (arith, one.below, fits.link_count);
+      are = subst (λ k. AreFactors k (get_or slots i no_factors)) (sym inputs.steps) one.are;
+      feeder = omega (arith, one.below, inputs.rows_links);
     })
 
 -- one slot more serves its feed

@@ -8,13 +8,7 @@ use Rattle.transyt_net.specs.Parts.{Network}
 use Rattle.transyt_sweep.specs.Cell.{worked}
 use Rattle.transyt_sweep.specs.Sweeps.{seen, out_of, start, read_of, worked_at, evaluated}
 
--- one link is worked out, and the others stay
-seen_more : (net : Network) (before : ℕ → List ℕ) (l j : ℕ)
-    → seen net before (suc l) j ≡ (if j == l then (worked net (seen net before l) l).out else seen net before l j)
-unfolding seen
-seen_more net before l j = refl
-
--- a link before l was worked out of what was seen there, any other is as it was before
+-- a link before l was worked out of the departures that were seen there, any other is as it was before
 pub seen_is : (net : Network) (before : ℕ → List ℕ) (l j : ℕ)
     → seen net before l j ≡ (if nat_lt j l then (worked net (seen net before j) j).out else before j)
 unfolding seen
@@ -49,7 +43,7 @@ out_of_more : (net : Network) (s l : ℕ) → out_of net (suc s) l ≡ (worked n
 unfolding out_of
 out_of_more net s l = refl
 
--- what was seen of link j is what is read of it
+-- the departures of link j that were seen are those that are read
 seen_read : (net : Network) (s l j : ℕ) → seen net (out_of net s) l j ≡ read_of net (suc s) l j
 seen_read net s l j =
     seen_is net (out_of net s) l j

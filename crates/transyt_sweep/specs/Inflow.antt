@@ -1,4 +1,4 @@
--- By which a link's feeds are worked out side by side. No public clause cites it.
+-- A link's feeds, worked out side by side. No public clause cites it.
 use Rattle.std.specs.Prelude.{◌≡◌, ℕ, ◌-◌, ◌*◌, ◌^◌, ◌<◌, ◌≤◌, List, All, fold, length, slice_index_or, false}
 use Rattle.transyt_profile.specs.Profile.{added, folded}
 use Rattle.transyt_platoon.specs.Platoon.{dispersed}
@@ -7,33 +7,32 @@ use Rattle.transyt_net.specs.Parts.{Network}
 use Rattle.transyt_sweep.specs.Cell.{brought}
 use Rattle.transyt_sweep.specs.Factors.{AreFactors, ServeIn, taken_by}
 use Rattle.transyt_sweep.specs.declared.factors.Factors.{Factors}
-use Rattle.transyt_sweep.specs.Rows.{RowsValue, Fits}
+use Rattle.transyt_sweep.specs.declared.inputs.Inputs.{Inputs}
+use Rattle.transyt_sweep.specs.Rows.{read_in}
 
 -- a feed's numbers are within their limits
 pub record IsSmall (f : Feed) : Type 0 where
   pub flow : f.flow ≤ 9999
   pub cruise : f.cruise ≤ 300
 
--- the network has links, the sweep is one of its, and the rows are of its size
-pub record CanRead (net : Network) (rows : RowsValue) (s : ℕ) : Type 0 where
-  pub some : 0 < length net.links
-  pub sweep : s ≤ net.frame.sweeps
-  pub fits : Fits net rows
+-- the departures that a cell reads of each link
+abbrev pub read_by : Inputs → ℕ → List ℕ
+read_by inputs = read_in inputs.rows.now inputs.sweep inputs.link
 
 -- two turns of n steps have room for the values of so many feeds more
 pub record HaveRoom (n count : ℕ) (turns : List ℕ) : Type 0 where
   pub len : length turns ≡ 2 * n
   pub small : All (λ v. v < (16 - count) * 2 ^ 44) (folded n turns)
 
--- this profile with all that these feeds bring
+-- this profile with the arrivals of these feeds
 abbrev pub with_feeds : Network → (ℕ → List ℕ) → List ℕ → List Feed → List ℕ
 with_feeds net read come feeds = fold (λ come f. added come (brought net read f)) come feeds
 
--- what is read where there is no feed
+-- the feed that stands for none
 abbrev pub no_feed : Feed
 no_feed = record { feeder = 0; flow = 0; cruise = 0 }
 
--- what is read where there are no factors
+-- the factors that stand for none
 abbrev pub no_factors : Factors
 no_factors = record {
   feeder = 0;
@@ -63,24 +62,16 @@ pub record AreServed (net : Network) (feeds : List Feed) (slots : List Factors) 
   pub same : length slots ≡ length feeds
   pub each : (i : ℕ) → i < length feeds → Served net (slice_index_or feeds i no_feed) (slice_index_or slots i no_factors)
 
--- a sweep of rows of so many steps can be read, and the lanes are four of so many steps
-pub record CanSend (steps : ℕ) (rows : RowsValue) (s : ℕ) (lanes : List ℕ) : Type 0 where
-  pub rows_steps : rows.step_count ≡ steps
-  pub some : 0 < steps
-  pub most : steps ≤ 120
-  pub sweep : s ≤ rows.sweeps
-  pub lanes_len : length lanes ≡ 4 * steps
+-- the factors are right for the cell's steps, and name a link of its rows
+pub record AreSendable (inputs : Inputs) (f : Factors) : Type 0 where
+  pub are : AreFactors inputs.step_count f
+  pub feeder : f.feeder < length inputs.rows.now.figures
 
--- the factors are right for so many steps, and name a place of the rows
-pub record AreSendable (steps : ℕ) (rows : RowsValue) (f : Factors) : Type 0 where
-  pub are : AreFactors steps f
-  pub feeder : f.feeder < length rows.figures
-
--- what comes by these factors
+-- the arrivals by these factors
 abbrev pub carried : (ℕ → List ℕ) → Factors → List ℕ
 carried read f = dispersed (taken_by read f) f.travel.time f.travel.percent
 
--- this profile with all that comes by these factors
+-- this profile with the arrivals by these factors
 abbrev pub with_carried : (ℕ → List ℕ) → List ℕ → List Factors → List ℕ
 with_carried read come slots = fold (λ come f. added come (carried read f)) come slots
 

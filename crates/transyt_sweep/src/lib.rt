@@ -16,6 +16,7 @@ mod asked;
 mod factors;
 mod flat;
 mod inflow;
+mod inputs;
 mod laws;
 mod narrow;
 mod rows;

@@ -1,4 +1,4 @@
-//! What a feed's feeder sends on to a link.
+//! The part of a feeder's departures that goes on to a link.
 
 ghost use Rattle.std.specs.Prelude.{◌≡◌, ◌+◌, ◌*◌, ◌^◌, ◌<◌, ◌≤◌, ℕ, length, slice_index, All, Any};
 ghost use Rattle.std.specs.Prelude.{IfNone, IfSome, IsTrue};
@@ -7,11 +7,10 @@ ghost use Rattle.transyt_net.specs.Valid.{link_place};
 ghost use Rattle.transyt_platoon.specs.Travels.{IsReady, sent};
 ghost use Rattle.transyt_sweep.specs.Cell.{taken};
 ghost use Rattle.transyt_sweep.specs.Factors.{AreFactors, taken_by};
-ghost use Rattle.transyt_sweep.specs.Inflow.{AreSendable, CanSend, IsSmall, Served};
-ghost use Rattle.transyt_sweep.specs.Rows.{Fits, read_in};
+ghost use Rattle.transyt_sweep.specs.Inflow.{AreSendable, IsSmall, Served, read_by};
 
 use crate::factors::{Factors, renew};
-use crate::rows::Rows;
+use crate::inputs::Inputs;
 use transyt_net::{Feed, Net};
 use transyt_platoon::Platoon;
 use transyt_profile::{share_into, share_ready};
@@ -55,26 +54,17 @@ fn is_at(net: &Net, place: usize, number: u32) -> bool
     link.number == number
 }
 
-/// The departures that a link, at a sweep, reads for a feed, and the feed's part of them in `shared`.
-pub(crate) fn share_feed(
-    net: &Net,
-    feed: Feed,
-    link: usize,
-    sweep: u32,
-    rows: &Rows,
-    shared: &mut [u64],
-)
-    requires some { 0 < length net.now.links }
-    requires sweep { sweep ≤ net.now.frame.sweeps }
+/// A feed's part of the departures that a cell reads of its feeder, written to `shared`.
+pub(crate) fn share_feed(inputs: &Inputs<'_>, feed: Feed, shared: &mut [u64])
     requires flow { feed.flow ≤ 9999 }
-    requires fits { Fits net.now rows.now }
-    requires shared_len { length shared.old ≡ net.now.frame.step_count }
-    ensures value { shared.new ≡ taken net.now (read_in rows.now sweep link) feed }
+    requires shared_len { length shared.old ≡ inputs.now.step_count }
+    ensures value { shared.new ≡ taken inputs.now.net.now (read_by inputs.now) feed }
     ensures small { All (λ v. v < 2 ^ 44) shared.new }
 {
-    let feeder = link_place(net, feed.feeder);
-    let leaving = rows.read(sweep, link, feeder);
-    share_into(leaving, feed.flow, net.total_flow(feeder), shared);
+    let feeder = link_place(inputs.net, feed.feeder);
+    let departures = inputs.rows.read(inputs.sweep, inputs.link, feeder);
+    let total = inputs.net.total_flow(feeder);
+    share_into(departures, feed.flow, total, shared);
 }
 
 /// Works the factors that are kept in `slot` out anew, where they are not a feed's. Where its feeder was found last is
@@ -89,28 +79,26 @@ pub(crate) fn renew_feed(net: &Net, feed: Feed, slot: &mut Factors)
     renew(net, feed, feeder, net.total_flow(feeder), slot);
 }
 
-/// Makes a feed's part of what leaves its feeder ready in a lane, each value times the first factor of its travel, by the
+/// Makes a feed's part of its feeder's departures ready in a lane, each value times the first factor of its travel, by the
 /// feed's factors; none where a value is at the limit of its travel or past it. The other lanes stay.
 pub(crate) fn send_feed<'a>(
-    link: usize,
-    sweep: u32,
-    rows: &'a Rows,
+    inputs: &Inputs<'a>,
     factors: &'a Factors,
     lane: usize,
     lanes: &mut [u64],
 ) -> Option<Platoon<'a>>
-    requires can { CanSend rows.now.step_count rows.now sweep lanes.old }
-    requires factors { AreSendable rows.now.step_count rows.now factors.now }
+    requires factors { AreSendable inputs.now factors.now }
     requires lane { lane < 4 }
-    ensures ready { IfSome result (λ p. IsReady rows.now.step_count lane lanes.new p) }
-    ensures taken { IfSome result (λ p. sent p ≡ taken_by (read_in rows.now sweep link) factors.now) }
+    requires lanes_len { length lanes.old ≡ 4 * inputs.now.step_count }
+    ensures ready { IfSome result (λ p. IsReady inputs.now.step_count lane lanes.new p) }
+    ensures taken { IfSome result (λ p. sent p ≡ taken_by (read_by inputs.now) factors.now) }
     ensures travel { IfSome result (λ p. p.travel.now ≡ factors.now.travel) }
-    ensures none { IfNone result (0 < rows.now.step_count
-        → Any (λ v. factors.now.travel.limit ≤ v) (taken_by (read_in rows.now sweep link) factors.now)) }
+    ensures none { IfNone result (Any (λ v. factors.now.travel.limit ≤ v) (taken_by (read_by inputs.now) factors.now)) }
     ensures others { (k : ℕ) → (m : ℕ) → m < 4 → (m ≡ lane → ⊥)
         → slice_index lanes.new (4 * k + m) ≡ slice_index lanes.old (4 * k + m) }
 {
-    let leaving = rows.read(sweep, link, factors.feeder);
+    let rows = inputs.rows;
+    let leaving = rows.read(inputs.sweep, inputs.link, factors.feeder);
     let part = &factors.part;
     let travel = &factors.travel;
     let factor = travel.starting_factor;

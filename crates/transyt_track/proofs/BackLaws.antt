@@ -1,4 +1,4 @@
--- The rows go back to what was saved, or become those of an evaluation, pair by pair.
+-- The rows go back to the saved ones, or become those of an evaluation, pair by pair.
 use Rattle.std.proofs.Common.{◌≡◌, ◌≢◌, ℕ, ◌+◌, ◌<◌, ◌≤◌, true, false, cond, List, length, ap, sym}
 use Rattle.std.proofs.Common.{subst, ◌∙◌, arith}
 use Rattle.std.proofs.Common.{◌⊎◌, inl, inr, ◌||◌, slice_index_or}
@@ -10,7 +10,7 @@ use Rattle.transyt_sweep.specs.Sweeps.{out_of, evaluated}
 use Rattle.transyt_sweep.specs.Rows.{RowsValue, out_at, shown_at, pair_in, placed, with_weights, reweighed, Fits}
 use Rattle.transyt_sweep.specs.Rows.{AreRows}
 use Rattle.transyt_sweep.specs.Front.{AreEvaluation}
-use Rattle.transyt_sweep.proofs.FrontLaws.{mixed_turn, before_end, not_before_first}
+use Rattle.transyt_sweep.proofs.FrontLaws.{mixed_turn, before_end}
 use Rattle.transyt_saved.specs.Saved.{SavedValue, is_come_saved, is_go_saved, is_shown_saved, part_by, unweighed}
 use Rattle.transyt_saved.specs.Saved.{AreRestored, SaveAlike}
 use Rattle.transyt_saved.proofs.WrittenLaws.{figures_out, figures_size, figures_here, figures_elsewhere, pair_steps}
@@ -18,20 +18,6 @@ use Rattle.transyt_track.specs.Front.{AreBetween, AreWeighed}
 use Rattle.transyt_track.specs.Saved.{LeadBack, AreUnsaved}
 use Rattle.transyt_track.proofs.LeftLaws.{weighed_self}
 use Rattle.transyt_track.proofs.MixedLaws.{fits_same, mixed_placed, shown_placed, shown_turn}
-
--- before any pair the rows are what they are
-pub between_none : (net : Network) (f : ℕ → ℕ → List ℕ) (shown_f : ℕ → CellValue) (rows : RowsValue) → Fits net rows
-    → AreBetween net f shown_f (out_at rows) (shown_at rows) 0 0 rows
-between_none net f shown_f rows fits = record {
-  outs = record {
-    fits = fits;
-    outs = λ t k within there. sym (ap (λ w. cond w (f t k) (out_at rows t k)) (not_before_first t k 0 (omega arith)));
-  };
-  shown = record {
-    shown = λ k there.
-        sym (ap (λ w. cond w (shown_f k) (shown_at rows k)) (not_before_first net.frame.sweeps k 0 (omega arith)));
-  };
-}
 
 module _ (net : Network) (f : ℕ → ℕ → List ℕ) (shown_f : ℕ → CellValue) (g : ℕ → ℕ → List ℕ) (shown_g : ℕ → CellValue)
     (s l : ℕ) (rows : RowsValue) (between : AreBetween net f shown_f g shown_g s l rows) where

@@ -1,59 +1,32 @@
--- One pair of the rows written: what stands there then, and elsewhere.
-use Rattle.std.proofs.Common.{◌≡◌, ◌≢◌, ℕ, ◌<◌, ◌≤◌, Bool, true, false, length, refl, ap, sym, ◌∙◌}
+-- One pair of the rows written: the last sweep there then, and elsewhere.
+use Rattle.std.proofs.Common.{◌≡◌, ◌≢◌, ℕ, ◌<◌, ◌≤◌, Bool, true, false, length, ap, sym, ◌∙◌}
 use Rattle.std.proofs.Common.{arith}
 use Rattle.std.proofs.Common.{◌==◌, ◌⊎◌, inl, inr, if◌then◌else◌}
 use Rattle.std.proofs.lemmas.Bool.{cases_eq}
 use Rattle.std.proofs.lemmas.Bool.Decides.{nat_tests}
-use Rattle.std.proofs.lemmas.List.{length-set}
 use Rattle.transyt_sweep.specs.Cell.{CellValue, HasSteps}
-use Rattle.transyt_sweep.specs.Rows.{RowsValue, out_at, shown_at, with_out, with_shown, placed}
-use Rattle.transyt_sweep.specs.Rows.{SameSize, AreRows}
-use Rattle.transyt_sweep.proofs.PairLaws.{out_here, out_elsewhere}
+use Rattle.transyt_sweep.specs.Rows.{RowsValue, shown_at, with_out, with_shown, placed}
+use Rattle.transyt_sweep.specs.Rows.{AreRows}
+use Rattle.transyt_sweep.proofs.PairLaws.{out_elsewhere}
 use Rattle.transyt_sweep.proofs.ShownLaws.{put_shown, shown_here, shown_elsewhere}
-use Rattle.transyt_sweep.proofs.FrontLaws.{out_shown}
 
 abbrev all_of : RowsValue → ℕ → ℕ → CellValue → Bool → RowsValue
 all_of rows s l c b =
     if b then with_shown (with_out rows s l c.out) l c.arrivals c.go c.queue c.figures else with_out rows s l c.out
 
-all_of_out : (rows : RowsValue) (s l : ℕ) (c : CellValue) (b : Bool) (t k : ℕ)
-    → out_at (all_of rows s l c b) t k ≡ out_at (with_out rows s l c.out) t k
-all_of_out rows s l c true t k = out_shown (with_out rows s l c.out) l c.arrivals c.go c.queue c.figures t k
-all_of_out rows s l c false t k = refl
-
-all_of_size : (rows : RowsValue) (s l : ℕ) (c : CellValue) (b : Bool) → SameSize (all_of rows s l c b) rows
-all_of_size rows s l c true =
-    record { step_count = refl; sweeps = refl; link_count = length-set rows.figures l c.figures }
-all_of_size rows s l c false = record { step_count = refl; sweeps = refl; link_count = refl }
-
--- the rows have the same size
-pub placed_size : (rows : RowsValue) (s l : ℕ) (c : CellValue) → SameSize (placed rows s l c) rows
-placed_size rows s l c = all_of_size rows s l c (s == rows.sweeps)
-
 module _ (rows : RowsValue) (kept : AreRows rows) (s l : ℕ) (c : CellValue) (swept : s ≤ rows.sweeps)
     (inside : l < length rows.figures) (long : HasSteps rows.step_count c) where
-  -- what was put leaves there
-  pub placed_here : out_at (placed rows s l c) s l ≡ c.out
-  placed_here = all_of_out rows s l c (s == rows.sweeps) s l ∙ out_here rows kept s l c.out swept inside long.out
-
-  -- and elsewhere what left
-  pub placed_elsewhere : (t k : ℕ) → k < length rows.figures → (t ≡ s → k ≡ l → ⊥)
-      → out_at (placed rows s l c) t k ≡ out_at rows t k
-  placed_elsewhere t k there apart =
-      all_of_out rows s l c (s == rows.sweeps) t k ∙ out_elsewhere rows kept s l c.out swept inside long.out t k there
-      apart
-
   last_rows : (k : ℕ) → s ≡ rows.sweeps → shown_at (placed rows s l c) k ≡ shown_at (put_shown rows l c) k
   last_rows k last =
       let test : (s == rows.sweeps) ≡ true = grind (arith, nat_tests) in
       ap (λ b. shown_at (all_of rows s l c b) k) test
       ∙ ap (λ u. shown_at (with_shown (with_out rows u l c.out) l c.arrivals c.go c.queue c.figures) k) last
 
-  -- at the last sweep what was put is shown
+  -- at the last sweep the cell that was put is shown
   pub placed_last : s ≡ rows.sweeps → shown_at (placed rows s l c) l ≡ c
   placed_last last = last_rows l last ∙ shown_here rows kept l c inside long
 
-  -- and elsewhere what was shown
+  -- and elsewhere the cells stay
   pub placed_stays : (k : ℕ) → k < length rows.figures → (s ≡ rows.sweeps → k ≡ l → ⊥)
       → shown_at (placed rows s l c) k ≡ shown_at rows k
   placed_stays k there apart = by (cases_eq s rows.sweeps)

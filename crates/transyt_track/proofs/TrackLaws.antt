@@ -30,14 +30,6 @@ fits_shape a b same rows fits = record {
   link_count = fits.link_count ∙ shape_count a b same;
 }
 
--- the links stay in a network with an edit that leaves them
-pub stay_made : (stay : Bool) (net after : Network) (e : Edit)
-    → (IsTrue stay → (n : Network) → (with_edit n e).links ≡ n.links) → after ≡ with_edit net e
-    → LinksStay stay net after
-stay_made stay net after e leaves made = record {
-  links = λ stays. sym (ap (λ (n : Network). n.links) made ∙ leaves stays net);
-}
-
 -- and the other way round
 pub stay_back : (stay : Bool) (net after : Network) (e : Edit)
     → (IsTrue stay → (n : Network) → (with_edit n e).links ≡ n.links) → after ≡ with_edit net e

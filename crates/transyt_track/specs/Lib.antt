@@ -4,5 +4,6 @@ pub mod Readers
 pub mod Work
 pub mod WorkedWork
 pub mod Front
+pub mod Change
 pub mod Saved
 pub mod Tracker

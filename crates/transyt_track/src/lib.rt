@@ -12,6 +12,7 @@
 //! worked out again, marks and saved rows are this project's own.
 #![tactic(auto)]
 
+mod change;
 mod found;
 mod front;
 mod laws;

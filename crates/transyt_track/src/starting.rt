@@ -5,15 +5,15 @@ ghost use Rattle.std.specs.List.{list_any};
 ghost use Rattle.transyt_net.specs.Shape.{SameShape};
 ghost use Rattle.transyt_sweep.specs.Front.{AreEvaluation};
 ghost use Rattle.transyt_track.specs.Own.{ArePlaces, DifferAt, HaveData, HaveNode};
+ghost use Rattle.transyt_track.specs.Change.{HasRoom, IsChange, IsFront};
 ghost use Rattle.transyt_track.specs.Due.{differs, is_some_and};
-ghost use Rattle.transyt_track.specs.Front.{flag, flag_from, AreFlags, AreDownWhere, own_differs, total_differs, AreAt};
+ghost use Rattle.transyt_track.specs.Front.{flag, flag_from, AreFlags, AreDownWhere, own_differs, total_differs};
 ghost use Rattle.transyt_track.specs.Front.{awaits, AreStarting};
 ghost use Rattle.transyt_saved.specs.Saved.{FitsRows, Carries};
 
+use crate::change::{Change, Front};
 use crate::own::{Places, other_total, same_data, same_times};
 use transyt_net::Net;
-use transyt_saved::Saved;
-use transyt_sweep::Rows;
 
 /// The most nodes that a network has.
 const MOST_NODES: usize = 200;
@@ -44,62 +44,53 @@ fn flag_nodes(before: &Net, after: &Net, node_changed: &mut [bool])
 }
 
 /// Starts a link anew where its departures before the first sweep differ.
-fn start_link(
-    before: &Net,
-    after: &Net,
-    link: usize,
-    moves: bool,
-    rows: &mut Rows,
-    saved: &mut Saved,
-    changed: &mut Vec<bool>,
-)
-    requires shape { SameShape before.now after.now }
-    requires link { link < length after.now.links }
-    requires moves { moves ≡ differs before.now after.now 0 link }
-    requires some { 1 ≤ after.now.frame.sweeps }
-    requires starting { AreStarting before.now after.now link rows.old changed.old.items }
-    requires fits { FitsRows rows.old saved.old }
-    ensures starting { AreStarting before.now after.now (link + 1) rows.new changed.new.items }
-    ensures carries { Carries rows.old saved.old rows.new saved.new }
+fn start_link(change: &Change<'_>, link: usize, moves: bool, front: &mut Front)
+    requires change { IsChange change.now }
+    requires link { link < length change.now.after.now.links }
+    requires moves { moves ≡ differs change.now.before.now change.now.after.now 0 link }
+    requires some { 1 ≤ change.now.after.now.frame.sweeps }
+    requires starting { AreStarting change.now.before.now change.now.after.now link front.old.rows front.old.awaited.items }
+    requires fits { FitsRows front.old.rows front.old.saved }
+    ensures starting { AreStarting change.now.before.now change.now.after.now (link + 1) front.new.rows
+        front.new.awaited.items }
+    ensures carries { Carries front.old.rows front.old.saved front.new.rows front.new.saved }
+    ensures own_changed { front.new.own_changed ≡ front.old.own_changed }
+    ensures scratch { front.new.scratch ≡ front.old.scratch }
 {
-    changed[link] = moves;
+    front.awaited[link] = moves;
     if moves {
-        saved.start(after, link, rows);
+        front.saved.start(change.after, link, &mut front.rows);
     }
 }
 
 /// Flags the links whose own data differ, the total flows of their feeders apart, and starts those anew whose departures
-/// before the first sweep differ.
-fn start_links(
-    before: &Net,
-    after: &Net,
-    places: &[Places],
-    rows: &mut Rows,
-    saved: &mut Saved,
-    own_changed: &mut Vec<bool>,
-    changed: &mut Vec<bool>,
-)
-    requires shape { SameShape before.now after.now }
-    requires places { ArePlaces before.now places.now }
-    requires rows { AreEvaluation before.now rows.old }
-    requires fits { FitsRows rows.old saved.old }
-    requires own_count { length own_changed.old.items ≡ length after.now.links }
-    requires count { length changed.old.items ≡ length after.now.links }
-    ensures starting { AreStarting before.now after.now (length after.now.links) rows.new changed.new.items }
-    ensures totals { AreFlags (total_differs before.now after.now) (length after.now.links) changed.new.items }
-    ensures own_count { length own_changed.new.items ≡ length after.now.links }
-    ensures down { AreDownWhere (HaveData before.now after.now) (length after.now.links) own_changed.new.items }
-    ensures carries { Carries rows.old saved.old rows.new saved.new }
+/// before the first sweep differ: their other flag goes up.
+fn start_links(change: &Change<'_>, front: &mut Front)
+    requires change { IsChange change.now }
+    requires rows { AreEvaluation change.now.before.now front.old.rows }
+    requires fits { FitsRows front.old.rows front.old.saved }
+    requires room { HasRoom change.now.after.now front.old }
+    ensures starting { AreStarting change.now.before.now change.now.after.now (length change.now.after.now.links)
+        front.new.rows front.new.awaited.items }
+    ensures totals { AreFlags (total_differs change.now.before.now change.now.after.now)
+        (length change.now.after.now.links) front.new.awaited.items }
+    ensures down { AreDownWhere (HaveData change.now.before.now change.now.after.now) (length change.now.after.now.links)
+        front.new.own_changed.items }
+    ensures room { HasRoom change.now.after.now front.new }
+    ensures carries { Carries front.old.rows front.old.saved front.new.rows front.new.saved }
 {
     // a total flow that differs lets another profile go, since a vehicle per hour is more than a unit per step
+    let before = change.before;
+    let after = change.after;
+    let places = change.places;
     after.frame();
     let mut node_changed = [false; MOST_NODES];
     flag_nodes(before, after, &mut node_changed);
     for link in 0..after.links().len() {
         let same = same_data(before, after, link, &places[link], &node_changed);
-        own_changed[link] = !same;
+        front.own_changed[link] = !same;
         let moves = other_total(before, after, link, same);
-        start_link(before, after, link, moves, rows, saved, changed);
+        start_link(change, link, moves, front);
     }
 }
 
@@ -206,38 +197,40 @@ fn flag_node(before: &Net, after: &Net, node: usize, places: &[Places], own_chan
 }
 
 /// The rows stand before the first sweep, and the links are flagged whose own data differ and that are due first. Where
-/// a node is named, the networks differ in its times alone: then no link is started anew.
-pub(crate) fn set_out(
-    before: &Net,
-    after: &Net,
-    node: Option<usize>,
-    places: &[Places],
-    rows: &mut Rows,
-    saved: &mut Saved,
-    own_changed: &mut Vec<bool>,
-    awaited: &mut Vec<bool>,
-)
-    requires shape { SameShape before.now after.now }
-    requires node { IfSome node (λ place. DifferAt place before.now after.now) }
-    requires places { ArePlaces before.now places.now }
-    requires rows { AreEvaluation before.now rows.old }
-    requires fits { FitsRows rows.old saved.old }
-    requires own_count { length own_changed.old.items ≡ length after.now.links }
-    requires count { length awaited.old.items ≡ length after.now.links }
-    ensures at { AreAt before.now after.now 1 0 rows.new awaited.new.items }
-    ensures own_changed { AreFlags (own_differs before.now after.now) (length after.now.links) own_changed.new.items }
-    ensures carries { Carries rows.old saved.old rows.new saved.new }
+/// the networks differ in the times of a node alone, no link is started anew.
+pub(crate) fn set_out(change: &Change<'_>, front: &mut Front)
+    requires change { IsChange change.now }
+    requires rows { AreEvaluation change.now.before.now front.old.rows }
+    requires fits { FitsRows front.old.rows front.old.saved }
+    requires room { HasRoom change.now.after.now front.old }
+    ensures front { IsFront change.now 1 0 front.new }
+    ensures carries { Carries front.old.rows front.old.saved front.new.rows front.new.saved }
 {
+    let before = change.before;
+    let after = change.after;
+    let places = change.places;
     after.frame();
-    match node {
+    match change.node {
         Some(node) => {
-            flag_node(before, after, node, places, own_changed);
-            awaited.copy_from_slice(own_changed);
+            flag_node(before, after, node, places, &mut front.own_changed);
+            front.awaited.copy_from_slice(&front.own_changed);
         }
         None => {
-            start_links(before, after, places, rows, saved, own_changed, awaited);
-            flag_own(before, after, places, awaited, own_changed);
-            await_first(before, after, places, own_changed, awaited);
+            start_links(change, front);
+            flag_own(
+                before,
+                after,
+                places,
+                &front.awaited,
+                &mut front.own_changed,
+            );
+            await_first(
+                before,
+                after,
+                places,
+                &front.own_changed,
+                &mut front.awaited,
+            );
         }
     }
 }

@@ -13,6 +13,7 @@ ghost use Rattle.transyt_saved.specs.Saved.{FitsRows, SaveAlike};
 ghost use Rattle.transyt_track.specs.Saved.{LeadBack};
 ghost use Rattle.transyt_track.specs.Tracker.{tracker_of, unmarked, IsTracking};
 
+use crate::change::{Change, Front};
 use crate::found::Found;
 use crate::front::follow_rows;
 use crate::own::{Places, edited_node, leaves_links};
@@ -27,7 +28,7 @@ use transyt_delay::Figures;
 use transyt_net::{Edit, Net};
 use transyt_saved::Saved;
 use transyt_steps::Steps;
-use transyt_sweep::{Rows, Scratch, full};
+use transyt_sweep::{Rows, full};
 
 /// The evaluation of a network, which follows its edits, and can go back to a mark.
 ///
@@ -40,13 +41,7 @@ pub struct Tracker {
     marked: Net,
     places: Vec<Places>,
     readers: Vec<Readers>,
-    rows: Rows,
-    saved: Saved,
-    // a flag for each link, set by `follow`: its own data differ
-    own_changed: Vec<bool>,
-    // and: it is known to be due at its next turn
-    awaited: Vec<bool>,
-    scratch: Scratch,
+    front: Front,
 }
 
 impl Model for Tracker {
@@ -54,12 +49,12 @@ impl Model for Tracker {
 
     ghost Value = { TrackerValue };
 
-    ghost view = { λ t. tracker_of t.net t.saved.live t.marked };
+    ghost view = { λ t. tracker_of t.net t.front.saved.live t.marked };
 
     // the rows are the evaluation of the network, and the saved rows lead back to the marked one
     ghost invariant = { λ t.
-        IsTracking t.net t.marked t.rows t.saved t.places.items t.readers.items
-        t.own_changed.items t.awaited.items t.scratch };
+        IsTracking t.net t.marked t.front.rows t.front.saved t.places.items t.readers.items
+        t.front.own_changed.items t.front.awaited.items t.front.scratch };
 }
 
 impl Tracker {
@@ -83,7 +78,7 @@ impl Tracker {
         ensures { IfOk result (λ tracker. tracker ≡ self.now) }
     {
         let mut rows = Rows::open(alloc, &self.net)?;
-        copy_rows(&self.net, &self.rows, &mut rows);
+        copy_rows(&self.net, &self.front.rows, &mut rows);
         Tracker::around(alloc, &self.net, rows)
     }
 
@@ -125,11 +120,13 @@ impl Tracker {
             marked,
             places: room.places,
             readers: room.readers,
-            rows,
-            saved: room.saved,
-            own_changed: room.own_changed,
-            awaited: room.awaited,
-            scratch: room.scratch,
+            front: Front {
+                rows,
+                saved: room.saved,
+                own_changed: room.own_changed,
+                awaited: room.awaited,
+                scratch: room.scratch,
+            },
         }
     }
 
@@ -144,7 +141,7 @@ impl Tracker {
     pub fn is_marked(&self) -> bool
         ensures { result ≡ is_some self.now.mark }
     {
-        self.saved.is_live()
+        self.front.saved.is_live()
     }
 
     /// The departures of a link at a sweep, in millionths of a vehicle per step.
@@ -153,7 +150,7 @@ impl Tracker {
         requires link { link < length self.now.net.links }
         ensures { result.now ≡ out_of self.now.net sweep link }
     {
-        self.rows.out(sweep, link)
+        self.front.rows.out(sweep, link)
     }
 
     /// The arrivals of a link at the last sweep, before any cut, in millionths of a vehicle per step.
@@ -161,7 +158,7 @@ impl Tracker {
         requires { link < length self.now.net.links }
         ensures { result.now ≡ (evaluated self.now.net link).arrivals }
     {
-        self.rows.arrivals(link)
+        self.front.rows.arrivals(link)
     }
 
     /// The GO of a link at the last sweep, in millionths of a vehicle per step.
@@ -169,7 +166,7 @@ impl Tracker {
         requires { link < length self.now.net.links }
         ensures { result.now ≡ (evaluated self.now.net link).go }
     {
-        self.rows.go(link)
+        self.front.rows.go(link)
     }
 
     /// The queue at the end of each step of the last sweep, in millionths of a vehicle.
@@ -177,7 +174,7 @@ impl Tracker {
         requires { link < length self.now.net.links }
         ensures { result.now ≡ (evaluated self.now.net link).queue }
     {
-        self.rows.queue(link)
+        self.front.rows.queue(link)
     }
 
     /// The figures of a link at the last sweep, in millionths as those of `transyt_delay`.
@@ -185,14 +182,14 @@ impl Tracker {
         requires { link < length self.now.net.links }
         ensures { result ≡ (evaluated self.now.net link).figures }
     {
-        self.rows.figures(link)
+        self.front.rows.figures(link)
     }
 
     /// The index of the network: the sum of its links' indexes.
     pub fn index(&self) -> u128
         ensures { result ≡ index self.now.net }
     {
-        self.rows.index()
+        self.front.rows.index()
     }
 
     /// Follows edits: stands for `after` then, and returns how many pairs of a link and a sweep were due.
@@ -208,19 +205,14 @@ impl Tracker {
         ensures few { result ≤ 8000 }
         ensures steps { steps.new ≡ steps.old + result }
     {
-        let due = follow_rows(
-            &self.net,
+        let change = Change {
+            before: &self.net,
             after,
-            None,
-            &self.places,
-            &self.readers,
-            &mut self.rows,
-            &mut self.saved,
-            &mut self.own_changed,
-            &mut self.awaited,
-            &mut self.scratch,
-            steps,
-        );
+            node: None,
+            places: &self.places,
+            readers: &self.readers,
+        };
+        let due = follow_rows(&change, &mut self.front, steps);
         self.net.take_numbers(after);
         due
     }
@@ -240,19 +232,14 @@ impl Tracker {
         ensures few { result ≤ 8000 }
         ensures steps { steps.new ≡ steps.old + result }
     {
-        let due = follow_rows(
-            &self.net,
+        let change = Change {
+            before: &self.net,
             after,
-            edited_node(&self.net, &e),
-            &self.places,
-            &self.readers,
-            &mut self.rows,
-            &mut self.saved,
-            &mut self.own_changed,
-            &mut self.awaited,
-            &mut self.scratch,
-            steps,
-        );
+            node: edited_node(&self.net, &e),
+            places: &self.places,
+            readers: &self.readers,
+        };
+        let due = follow_rows(&change, &mut self.front, steps);
         make(&mut self.net, e);
         due
     }
@@ -280,30 +267,25 @@ impl Tracker {
         ensures few { result.due ≤ 8000 }
         ensures steps { steps.new ≡ steps.old + result.due }
     {
-        self.saved.begin();
-        let due = follow_rows(
-            &self.net,
+        self.front.saved.begin();
+        let change = Change {
+            before: &self.net,
             after,
-            edited_node(&self.net, &e),
-            &self.places,
-            &self.readers,
-            &mut self.rows,
-            &mut self.saved,
-            &mut self.own_changed,
-            &mut self.awaited,
-            &mut self.scratch,
-            steps,
-        );
-        let index = self.rows.index();
+            node: edited_node(&self.net, &e),
+            places: &self.places,
+            readers: &self.readers,
+        };
+        let due = follow_rows(&change, &mut self.front, steps);
+        let index = self.front.rows.index();
         settle_on(
             &mut self.net,
             after,
             e,
             index < bound,
-            &mut self.rows,
-            &mut self.saved,
+            &mut self.front.rows,
+            &mut self.front.saved,
         );
-        self.saved.settle();
+        self.front.saved.settle();
         Found { index, due }
     }
 
@@ -314,7 +296,7 @@ impl Tracker {
         ensures net { self.new.net ≡ from.now.net }
         ensures mark { self.new.mark ≡ None }
     {
-        copy_rows(&from.net, &from.rows, &mut self.rows);
+        copy_rows(&from.net, &from.front.rows, &mut self.front.rows);
         self.net.take_numbers(&from.net);
     }
 
@@ -330,9 +312,9 @@ impl Tracker {
         copy_changes(
             &self.net,
             &from.net,
-            &from.rows,
-            &from.saved,
-            &mut self.rows,
+            &from.front.rows,
+            &from.front.saved,
+            &mut self.front.rows,
         );
         self.net.take_numbers(&from.net);
     }
@@ -344,7 +326,7 @@ impl Tracker {
         ensures mark { self.new.mark ≡ Some self.old.net }
     {
         self.marked.take_numbers(&self.net);
-        self.saved.begin();
+        self.front.saved.begin();
     }
 
     /// Stands for the marked network again, and the mark is gone. It takes no memory and no step.
@@ -358,11 +340,11 @@ impl Tracker {
             &self.net,
             &self.marked,
             false,
-            &mut self.rows,
-            &mut self.saved,
+            &mut self.front.rows,
+            &mut self.front.saved,
         );
         mem::swap(&mut self.net, &mut self.marked);
-        self.saved.settle();
+        self.front.saved.settle();
     }
 
     /// The mark is gone, and all else stays.
@@ -371,7 +353,7 @@ impl Tracker {
         ensures net { self.new.net ≡ self.old.net }
         ensures mark { self.new.mark ≡ None }
     {
-        self.saved.settle();
+        self.front.saved.settle();
     }
 }
 

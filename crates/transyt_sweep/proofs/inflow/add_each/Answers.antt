@@ -1,8 +1,7 @@
 -- One feed more.
 use Rattle.std.proofs.Common.{ℕ, ◌+◌, ◌-◌, ◌*◌, ◌^◌, length, arith, rules}
 use Rattle.transyt_profile.specs.Profile.{folded}
-use Rattle.transyt_sweep.specs.Inflow.{no_feed}
-use Rattle.transyt_sweep.specs.Rows.{read_in}
+use Rattle.transyt_sweep.specs.Inflow.{no_feed, read_by}
 use Rattle.transyt_sweep.proofs.InflowLaws.{feeds_more}
 use Rattle.transyt_sweep.proofs.inflow.add_each.Goals as goal
 
@@ -12,10 +11,10 @@ add_feed-requires-clause-turns_small c = λ j d h.
 
 pub feeds-preserved : goal.feeds-preserved
 feeds-preserved c =
-    let n : ℕ = c.args.net.now.frame.step_count in
+    let n : ℕ = c.args.inputs.now.step_count in
     record {
       turns = search rules;
-      value = feeds_more c.args.net.now (read_in c.args.rows.now c.args.sweep c.args.link) (folded n c.args.turns.now)
+      value = feeds_more c.args.inputs.now.net.now (read_by c.args.inputs.now) (folded n c.args.turns.now)
           c.args.feeds.now c.feeds.i no_feed (folded n c.feeds.turns) (folded n c.add_feed.new.turns)
           c.feeds-test.true c.feeds.invariant.value c.add_feed.ensures.value;
       grows = λ limit within j d h. omega (

@@ -1,26 +1,25 @@
--- What one feed brings is added.
+-- The arrivals of one feed are added.
 use Rattle.std.proofs.Common.{◌≡◌, ℕ, ◌+◌, ◌^◌, ◌<◌, List, All, length, ap, sym, subst, ◌∙◌, arith}
 use Rattle.transyt_profile.specs.Profile.{added, folded}
 use Rattle.transyt_platoon.specs.Platoon.{travel_steps}
 use Rattle.transyt_parts.specs.declared.frame.Frame.{Frame}
 use Rattle.transyt_net.specs.Parts.{Network}
 use Rattle.transyt_sweep.specs.Cell.{brought}
-use Rattle.transyt_sweep.specs.Rows.{read_in}
+use Rattle.transyt_sweep.specs.Inflow.{read_by}
 use Rattle.transyt_sweep.proofs.InflowLaws.{brought_by}
 use Rattle.transyt_sweep.proofs.inflow.add_feed.Goals as goal
 
 -- it is the part that goes on, after its travel
 pub returns-clause-value : goal.returns-clause-value
 returns-clause-value c =
-    let read : ℕ → List ℕ = read_in c.args.rows.now c.args.sweep c.args.link in
-    let net : Network = c.args.net.now in
-    let n : ℕ = net.frame.step_count in
+    let read : ℕ → List ℕ = read_by c.args.inputs.now in
+    let net : Network = c.args.inputs.now.net.now in
+    let n : ℕ = c.args.inputs.now.step_count in
     let turns : List ℕ = c.add_to_first.new.turns in
     let comes : List ℕ = c.disperse.new.out in
     let frame : Frame = c.frame-frame.result in
     let is_frame : frame ≡ net.frame = c.frame-frame.ensures.value in
-    let same : length comes ≡ n =
-    omega (arith, c.split_at_mut-shared.ensures.front_len, ap (λ (f : Frame). f.step_count) is_frame) in
+    let same : length comes ≡ n = omega (arith, c.split_at_mut-shared.ensures.front_len) in
     let sum : folded n turns ≡ added (folded n c.args.turns.now) comes =
     subst (λ k. folded k turns ≡ added (folded k c.args.turns.now) comes) same c.add_to_first.ensures.value in
     let is : comes ≡ brought net read c.args.feed =
@@ -32,12 +31,7 @@ returns-clause-value c =
 -- a limit goes up as that of a profile does
 pub returns-clause-grows : goal.returns-clause-grows
 returns-clause-grows c = λ limit within.
-    let n : ℕ = c.args.net.now.frame.step_count in
-    let same : length c.disperse.new.out ≡ n =
-    omega (
-      arith,
-      c.split_at_mut-shared.ensures.front_len,
-      ap (λ (f : Frame). f.step_count) c.frame-frame.ensures.value,
-    ) in
+    let n : ℕ = c.args.inputs.now.step_count in
+    let same : length c.disperse.new.out ≡ n = omega (arith, c.split_at_mut-shared.ensures.front_len) in
     subst (λ k. All (λ v. v < limit + 2 ^ 44) (folded k c.add_to_first.new.turns)) same
     (c.add_to_first.ensures.grows limit (subst (λ k. All (λ v. v < limit) (folded k c.args.turns.now)) (sym same) within))

@@ -1,139 +1,114 @@
--- A group of feeds more, and those that are left.
-use Rattle.std.proofs.Common.{◌≡◌, ℕ, ◌+◌, ◌-◌, ◌*◌, ◌^◌, ◌<◌, ◌≤◌, List, All, length, take, drop, arith, rules, ap, sym, subst, ◌∙◌}
-use Rattle.std.proofs.lemmas.List.{length-take}
+-- The entry flow, the arrivals of the feeds, and both turns folded to one.
+use Rattle.std.proofs.Common.{◌≡◌, ℕ, ◌-◌, ◌^◌, ◌<◌, ◌≤◌, List, All, length, drop, arith, ap, sym, subst, ◌∙◌}
+use Rattle.std.proofs.lemmas.List.Elements.{All-take, All-drop}
 use Rattle.transyt_profile.specs.Profile.{folded, uniform}
 use Rattle.transyt_parts.specs.Parts.{LinkValue}
-use Rattle.transyt_parts.specs.declared.link.Feed.{Feed}
-use Rattle.transyt_net.specs.Parts.{link_of}
+use Rattle.transyt_net.specs.Parts.{Network, link_of}
 use Rattle.transyt_net.specs.Flow.{perstep}
-use Rattle.transyt_sweep.specs.Rows.{read_in}
-use Rattle.transyt_sweep.proofs.InflowLaws.{all_left, feeds_next, feeds_rest, room_left}
+use Rattle.transyt_net.specs.Valid.{IsFeed, link_numbers}
+use Rattle.transyt_sweep.specs.Factors.{AreFactors}
+use Rattle.transyt_sweep.specs.Inflow.{read_by, with_feeds}
+use Rattle.transyt_sweep.proofs.InflowLaws.{feeds_small, started_room, started_small}
 use Rattle.transyt_sweep.proofs.SlotLaws.{are_put}
 use Rattle.transyt_sweep.proofs.inflow.fill_inflow.Goals as goal
 
--- a group has room
-pub add_together-requires-clause-turns : goal.add_together-requires-clause-turns
-add_together-requires-clause-turns c =
-    let p : ℕ = c.groups.done in
-    let k : ℕ = c.group-count.result in
-    let same = ap (λ (l : LinkValue). length l.feeds) c.link-at.ensures.value in
-    let feeds : c.as_slice-feeds.result.now ≡ (link_of c.args.net.now c.args.link).feeds =
-    c.as_slice-feeds.ensures.value ∙ ap (λ (l : LinkValue). l.feeds) (c.at.view_is ∙ c.link-at.ensures.value) in
-    let next : List Feed = take (p + k - p) (drop p c.as_slice-feeds.result.now) in
-    room_left c.args.net.now.frame.step_count p next c.groups.turns
+-- a link's feeds are small, at most eight, and have room
+pub add_feeds-requires-clause-feeds : goal.add_feeds-requires-clause-feeds
+add_feeds-requires-clause-feeds c =
+    let numbers : List ℕ = link_numbers c.args.inputs.now.net.now.links in
+    feeds_small numbers c.as_slice-feeds.result.now
+    (subst (All (IsFeed numbers)) (sym (c.as_slice-feeds.ensures.value ∙ ap (λ (l : LinkValue). l.feeds) c.at.view_is))
+    c.link-at.ensures.kept.feeds)
+
+pub add_feeds-requires-clause-few : goal.add_feeds-requires-clause-few
+add_feeds-requires-clause-few c =
+    omega (
+      arith,
+      c.link-at.ensures.kept.feed_count,
+      ap length c.as_slice-feeds.ensures.value,
+      ap (λ (l : LinkValue). length l.feeds) c.at.view_is,
+    )
+
+pub add_feeds-requires-clause-slots : goal.add_feeds-requires-clause-slots
+add_feeds-requires-clause-slots c =
+    let n : ℕ = c.args.inputs.now.net.now.frame.step_count in
+    let own : ℕ = c.own_place-own.result in
+    All-take (AreFactors n) (c.min-end.result - own) (drop own c.args.kept.now)
+    (All-drop (AreFactors n) own c.args.kept.now c.requires.kept)
+
+pub add_feeds-requires-clause-turns : goal.add_feeds-requires-clause-turns
+add_feeds-requires-clause-turns c =
+    started_room c.args.inputs.now.step_count c.per_step-entry.result (length c.as_slice-feeds.result.now)
+    c.start_turns.new.turns
     (omega (
       arith,
-      length-take (p + k - p) (drop p c.as_slice-feeds.result.now),
-      c.group-count.ensures.within,
-      c.grouped-side_by_side.ensures.most,
       c.link-at.ensures.kept.feed_count,
-      same,
-      ap length feeds,
+      ap length c.as_slice-feeds.ensures.value,
+      ap (λ (l : LinkValue). length l.feeds) c.at.view_is,
     ))
-    c.groups.invariant.turns c.groups.invariant.small
+    (omega arith) c.per_step-entry.ensures.small c.start_turns.ensures
 
--- a group more
-pub groups-preserved : goal.groups-preserved
-groups-preserved c =
-    let n : ℕ = c.args.net.now.frame.step_count in
-    let read : ℕ → List ℕ = read_in c.args.rows.now c.args.sweep c.args.link in
-    let link : LinkValue = link_of c.args.net.now c.args.link in
-    let p : ℕ = c.groups.done in
-    let k : ℕ = c.group-count.result in
-    let place : ℕ = c.own_place-own.result + p in
-    let feeds : c.as_slice-feeds.result.now ≡ link.feeds =
-    c.as_slice-feeds.ensures.value ∙ ap (λ (l : LinkValue). l.feeds) (c.at.view_is ∙ c.link-at.ensures.value) in
-    let next : List Feed = take (p + k - p) (drop p c.as_slice-feeds.result.now) in
-    let count : p + k - p ≡ k = omega arith in
-    let is_next : next ≡ take k (drop p link.feeds) =
-    ap (λ m. take m (drop p c.as_slice-feeds.result.now)) count ∙ ap (λ (fs : List Feed). take k (drop p fs)) feeds in
-    let within : length next ≤ k = omega (arith, length-take (p + k - p) (drop p c.as_slice-feeds.result.now)) in
-    record {
-      within = omega (arith, c.group-count.ensures.within, c.groups-test.true);
-      room = search rules;
-      turns = search rules;
-      kept = are_put n place (place + k - place) c.groups.kept c.add_together.new.slots
-          c.groups.invariant.kept c.add_together.ensures.slots;
-      value = feeds_next c.args.net.now read (uniform n (perstep c.args.net.now.frame link.entry)) link.feeds next p k
-          (folded n c.groups.turns) (folded n c.add_together.new.turns) is_next c.groups.invariant.value
-          c.add_together.ensures.value;
-      small = λ j d h. omega (
-        arith,
-        within,
-        c.add_together.ensures.grows ((p + 1) * 2 ^ 44) c.groups.invariant.small j d h,
-      );
-    }
-
--- those that are left have room
-pub add_each-requires-clause-turns : goal.add_each-requires-clause-turns
-add_each-requires-clause-turns c =
-    let p : ℕ = c.groups.done in
-    let same = ap (λ (l : LinkValue). length l.feeds) c.link-at.ensures.value in
-    let feeds : c.as_slice-feeds.result.now ≡ (link_of c.args.net.now c.args.link).feeds =
-    c.as_slice-feeds.ensures.value ∙ ap (λ (l : LinkValue). l.feeds) (c.at.view_is ∙ c.link-at.ensures.value) in
-    let rest : List Feed = take (length c.as_slice-feeds.result.now - p) (drop p c.as_slice-feeds.result.now) in
-    room_left c.args.net.now.frame.step_count p rest c.groups.turns
-    (omega (
-      arith,
-      length-take (length c.as_slice-feeds.result.now - p) (drop p c.as_slice-feeds.result.now),
-      c.groups.invariant.within,
-      c.grouped-side_by_side.ensures.most,
-      c.link-at.ensures.kept.feed_count,
-      same,
-      ap length feeds,
-    ))
-    c.groups.invariant.turns c.groups.invariant.small
-
--- and all values of the two turns, folded, are small
+-- all values of the two turns, folded, are small
 pub fold_into-requires-clause-fit : goal.fold_into-requires-clause-fit
 fold_into-requires-clause-fit c =
-    let p : ℕ = c.groups.done in
-    let same = ap (λ (l : LinkValue). length l.feeds) c.link-at.ensures.value in
-    let feeds : c.as_slice-feeds.result.now ≡ (link_of c.args.net.now c.args.link).feeds =
-    c.as_slice-feeds.ensures.value ∙ ap (λ (l : LinkValue). l.feeds) (c.at.view_is ∙ c.link-at.ensures.value) in
-    let few : p + length (take (length c.as_slice-feeds.result.now - p) (drop p c.as_slice-feeds.result.now)) ≤ 8 = omega (
+    let n : ℕ = c.args.inputs.now.step_count in
+    let few : length c.as_slice-feeds.result.now ≤ 8 = omega (
       arith,
-      length-take (length c.as_slice-feeds.result.now - p) (drop p c.as_slice-feeds.result.now),
-      c.groups.invariant.within,
-      c.grouped-side_by_side.ensures.most,
       c.link-at.ensures.kept.feed_count,
-      same,
-      ap length feeds,
+      ap length c.as_slice-feeds.ensures.value,
+      ap (λ (l : LinkValue). length l.feeds) c.at.view_is,
     ) in
-    subst (λ m. All (λ v. v < 2 ^ 48) (folded m c.add_each.new.turns)) (sym c.requires.come_len)
-    (λ j d h. omega (arith, few, c.add_each.ensures.grows ((p + 1) * 2 ^ 44) c.groups.invariant.small j d h))
+    subst (λ m. All (λ v. v < 2 ^ 48) (folded m c.add_feeds.new.turns)) (sym c.requires.arrivals_len)
+    (λ j d h. omega (
+      arith,
+      few,
+      c.add_feeds.ensures.grows (2 ^ 30)
+          (started_small n c.per_step-entry.result c.start_turns.new.turns c.per_step-entry.ensures.small
+          c.start_turns.ensures)
+          j d h,
+    ))
 
 pub returns-clause-small : goal.returns-clause-small
 returns-clause-small c =
-    let p : ℕ = c.groups.done in
-    let same = ap (λ (l : LinkValue). length l.feeds) c.link-at.ensures.value in
-    let feeds : c.as_slice-feeds.result.now ≡ (link_of c.args.net.now c.args.link).feeds =
-    c.as_slice-feeds.ensures.value ∙ ap (λ (l : LinkValue). l.feeds) (c.at.view_is ∙ c.link-at.ensures.value) in
-    let few : p + length (take (length c.as_slice-feeds.result.now - p) (drop p c.as_slice-feeds.result.now)) ≤ 8 = omega (
+    let n : ℕ = c.args.inputs.now.step_count in
+    let few : length c.as_slice-feeds.result.now ≤ 8 = omega (
       arith,
-      length-take (length c.as_slice-feeds.result.now - p) (drop p c.as_slice-feeds.result.now),
-      c.groups.invariant.within,
-      c.grouped-side_by_side.ensures.most,
       c.link-at.ensures.kept.feed_count,
-      same,
-      ap length feeds,
+      ap length c.as_slice-feeds.ensures.value,
+      ap (λ (l : LinkValue). length l.feeds) c.at.view_is,
     ) in
-    subst (All (λ v. v < 2 ^ 48)) (sym c.fold_into.ensures)
-    (subst (λ m. All (λ v. v < 2 ^ 48) (folded m c.add_each.new.turns)) (sym c.requires.come_len)
-    (λ j d h. omega (arith, few, c.add_each.ensures.grows ((p + 1) * 2 ^ 44) c.groups.invariant.small j d h)))
+    subst (All (λ v. v < 2 ^ 48)) (sym (c.fold_into.ensures ∙ ap (λ m. folded m c.add_feeds.new.turns) c.requires.arrivals_len))
+    (λ j d h. omega (
+      arith,
+      few,
+      c.add_feeds.ensures.grows (2 ^ 30)
+          (started_small n c.per_step-entry.result c.start_turns.new.turns c.per_step-entry.ensures.small
+          c.start_turns.ensures)
+          j d h,
+    ))
 
--- all that comes
+pub returns-clause-kept : goal.returns-clause-kept
+returns-clause-kept c =
+    let own : ℕ = c.own_place-own.result in
+    are_put c.args.inputs.now.net.now.frame.step_count own (c.min-end.result - own) c.args.kept.now
+    c.add_feeds.new.slots c.requires.kept c.add_feeds.ensures.slots
+
+-- all arrivals
 pub returns-clause-value : goal.returns-clause-value
 returns-clause-value c =
-    let n : ℕ = c.args.net.now.frame.step_count in
-    let read : ℕ → List ℕ = read_in c.args.rows.now c.args.sweep c.args.link in
-    let link : LinkValue = link_of c.args.net.now c.args.link in
-    let p : ℕ = c.groups.done in
+    let n : ℕ = c.args.inputs.now.step_count in
+    let net : Network = c.args.inputs.now.net.now in
+    let read : ℕ → List ℕ = read_by c.args.inputs.now in
+    let link : LinkValue = link_of net c.args.inputs.now.link in
+    let is = c.at.view_is ∙ c.link-at.ensures.value in
     let feeds : c.as_slice-feeds.result.now ≡ link.feeds =
-    c.as_slice-feeds.ensures.value ∙ ap (λ (l : LinkValue). l.feeds) (c.at.view_is ∙ c.link-at.ensures.value) in
+    c.as_slice-feeds.ensures.value ∙ ap (λ (l : LinkValue). l.feeds) is in
+    let start : folded n c.start_turns.new.turns ≡ uniform net.frame.step_count (perstep net.frame link.entry) =
+    c.start_turns.ensures
+    ∙ ap (uniform n) (c.per_step-entry.ensures.value ∙ ap (λ (l : LinkValue). perstep net.frame l.entry) is)
+    ∙ ap (λ k. uniform k (perstep net.frame link.entry)) c.args.inputs.now.steps in
     c.fold_into.ensures
-    ∙ ap (λ m. folded m c.add_each.new.turns) c.requires.come_len
-    ∙ feeds_rest c.args.net.now read (uniform n (perstep c.args.net.now.frame link.entry)) link.feeds
-    (take (length c.as_slice-feeds.result.now - p) (drop p c.as_slice-feeds.result.now)) p
-    (folded n c.groups.turns) (folded n c.add_each.new.turns) (all_left p c.as_slice-feeds.result.now ∙ ap (drop p) feeds)
-    c.groups.invariant.value c.add_each.ensures.value
+    ∙ ap (λ m. folded m c.add_feeds.new.turns) c.requires.arrivals_len
+    ∙ c.add_feeds.ensures.value
+    ∙ ap (λ t. with_feeds net read t c.as_slice-feeds.result.now) start
+    ∙ ap (with_feeds net read (uniform net.frame.step_count (perstep net.frame link.entry))) feeds

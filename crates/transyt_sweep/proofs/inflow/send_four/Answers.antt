@@ -1,19 +1,18 @@
--- Side by side, each brings what comes by its factors.
+-- Side by side, each platoon brings the arrivals by its factors.
 use Rattle.std.proofs.Common.{◌≡◌, ℕ, List, get_or, ap, sym, ◌∙◌, arith}
 use Rattle.transyt_profile.specs.Profile.{added, folded}
 use Rattle.transyt_platoon.specs.Travels.{arriving}
 use Rattle.transyt_sweep.specs.declared.factors.Factors.{Factors}
-use Rattle.transyt_sweep.specs.Inflow.{carried, no_factors, with_carried}
-use Rattle.transyt_sweep.specs.Rows.{read_in}
+use Rattle.transyt_sweep.specs.Inflow.{carried, no_factors, with_carried, read_by}
 use Rattle.transyt_sweep.proofs.SlotLaws.{four_of}
 use Rattle.transyt_sweep.proofs.SendingLaws.{ready_kept, sent_brings, sent_ready}
 use Rattle.transyt_sweep.proofs.inflow.send_four.Goals as goal
 
 pub returns-in-Some-Some-Some-Some-clause-value : goal.returns-in-Some-Some-Some-Some-clause-value
 returns-in-Some-Some-Some-Some-clause-value c = λ is.
-    let read : ℕ → List ℕ = read_in c.args.rows.now c.args.sweep c.args.link in
+    let read : ℕ → List ℕ = read_by c.args.inputs.now in
     let sent = c.in-Some-Some-Some-Some in
-    let come : List ℕ = folded c.args.steps c.args.turns.now in
+    let come : List ℕ = folded c.args.inputs.now.step_count c.args.turns.now in
     let one : Factors = get_or c.args.slots.now 0 no_factors in
     let one_brings : arriving sent.one_sent ≡ carried read one =
     sent_brings read one c.send_feed-one_sent.result sent.one_sent sent.is-0 c.send_feed-one_sent.ensures.taken
@@ -37,7 +36,7 @@ returns-in-Some-Some-Some-Some-clause-value c = λ is.
     ∙ ap (λ x. added (added (added (added come (carried read one)) (carried read two)) (carried read three)) x) four_brings
     ∙ ap (with_carried read come) (sym (four_of c.args.slots.now c.requires.len))
 
--- what stands leaves room for them
+-- the two turns have room for them
 pub disperse_four-requires-clause-fit : goal.disperse_four-requires-clause-fit
 disperse_four-requires-clause-fit c = λ j d h. omega (arith, c.requires.turns.small j d h)
 
@@ -45,35 +44,35 @@ disperse_four-requires-clause-fit c = λ j d h. omega (arith, c.requires.turns.s
 pub disperse_four-requires-clause-x_ready : goal.disperse_four-requires-clause-x_ready
 disperse_four-requires-clause-x_ready c =
     let sent = c.in-Some-Some-Some-Some in
-    ready_kept c.args.steps 0 3 c.send_feed-three_sent.new.lanes c.send_feed-four_sent.new.lanes
+    ready_kept c.args.inputs.now.step_count 0 3 c.send_feed-three_sent.new.lanes c.send_feed-four_sent.new.lanes
     sent.one_sent (omega arith) (λ taken. omega (arith, taken)) c.send_feed-four_sent.ensures.others
-    (ready_kept c.args.steps 0 2 c.send_feed-two_sent.new.lanes c.send_feed-three_sent.new.lanes
+    (ready_kept c.args.inputs.now.step_count 0 2 c.send_feed-two_sent.new.lanes c.send_feed-three_sent.new.lanes
     sent.one_sent (omega arith) (λ taken. omega (arith, taken)) c.send_feed-three_sent.ensures.others
-    (ready_kept c.args.steps 0 1 c.send_feed-one_sent.new.lanes c.send_feed-two_sent.new.lanes
+    (ready_kept c.args.inputs.now.step_count 0 1 c.send_feed-one_sent.new.lanes c.send_feed-two_sent.new.lanes
     sent.one_sent (omega arith) (λ taken. omega (arith, taken)) c.send_feed-two_sent.ensures.others
-    (sent_ready c.args.rows.now.step_count c.args.steps 0 c.send_feed-one_sent.new.lanes c.send_feed-one_sent.result
-    sent.one_sent sent.is-0 c.requires.can.rows_steps c.send_feed-one_sent.ensures.ready)))
+    (sent_ready c.args.inputs.now.step_count 0 c.send_feed-one_sent.new.lanes c.send_feed-one_sent.result
+    sent.one_sent sent.is-0 c.send_feed-one_sent.ensures.ready)))
 
 pub disperse_four-requires-clause-y_ready : goal.disperse_four-requires-clause-y_ready
 disperse_four-requires-clause-y_ready c =
     let sent = c.in-Some-Some-Some-Some in
-    ready_kept c.args.steps 1 3 c.send_feed-three_sent.new.lanes c.send_feed-four_sent.new.lanes
+    ready_kept c.args.inputs.now.step_count 1 3 c.send_feed-three_sent.new.lanes c.send_feed-four_sent.new.lanes
     sent.two_sent (omega arith) (λ taken. omega (arith, taken)) c.send_feed-four_sent.ensures.others
-    (ready_kept c.args.steps 1 2 c.send_feed-two_sent.new.lanes c.send_feed-three_sent.new.lanes
+    (ready_kept c.args.inputs.now.step_count 1 2 c.send_feed-two_sent.new.lanes c.send_feed-three_sent.new.lanes
     sent.two_sent (omega arith) (λ taken. omega (arith, taken)) c.send_feed-three_sent.ensures.others
-    (sent_ready c.args.rows.now.step_count c.args.steps 1 c.send_feed-two_sent.new.lanes c.send_feed-two_sent.result
-    sent.two_sent sent.is-1 c.requires.can.rows_steps c.send_feed-two_sent.ensures.ready))
+    (sent_ready c.args.inputs.now.step_count 1 c.send_feed-two_sent.new.lanes c.send_feed-two_sent.result
+    sent.two_sent sent.is-1 c.send_feed-two_sent.ensures.ready))
 
 pub disperse_four-requires-clause-z_ready : goal.disperse_four-requires-clause-z_ready
 disperse_four-requires-clause-z_ready c =
     let sent = c.in-Some-Some-Some-Some in
-    ready_kept c.args.steps 2 3 c.send_feed-three_sent.new.lanes c.send_feed-four_sent.new.lanes
+    ready_kept c.args.inputs.now.step_count 2 3 c.send_feed-three_sent.new.lanes c.send_feed-four_sent.new.lanes
     sent.three_sent (omega arith) (λ taken. omega (arith, taken)) c.send_feed-four_sent.ensures.others
-    (sent_ready c.args.rows.now.step_count c.args.steps 2 c.send_feed-three_sent.new.lanes c.send_feed-three_sent.result
-    sent.three_sent sent.is-2 c.requires.can.rows_steps c.send_feed-three_sent.ensures.ready)
+    (sent_ready c.args.inputs.now.step_count 2 c.send_feed-three_sent.new.lanes c.send_feed-three_sent.result
+    sent.three_sent sent.is-2 c.send_feed-three_sent.ensures.ready)
 
 pub disperse_four-requires-clause-u_ready : goal.disperse_four-requires-clause-u_ready
 disperse_four-requires-clause-u_ready c =
     let sent = c.in-Some-Some-Some-Some in
-    sent_ready c.args.rows.now.step_count c.args.steps 3 c.send_feed-four_sent.new.lanes c.send_feed-four_sent.result
-    sent.four_sent sent.is-3 c.requires.can.rows_steps c.send_feed-four_sent.ensures.ready
+    sent_ready c.args.inputs.now.step_count 3 c.send_feed-four_sent.new.lanes c.send_feed-four_sent.result
+    sent.four_sent sent.is-3 c.send_feed-four_sent.ensures.ready

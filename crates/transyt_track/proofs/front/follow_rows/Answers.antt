@@ -11,18 +11,17 @@ use Rattle.transyt_track.proofs.front.follow_rows.Goals as goal
 
 pub loop-sweep-init : goal.loop-sweep-init
 loop-sweep-init g c = record {
-  at = c.set_out.ensures.at;
+  front = c.set_out.ensures.front;
   carries = c.set_out.ensures.carries;
-  step_count = c.requires.step_count;
-  count = sym (due_through_none c.args.before.now c.args.after.now);
+  count = sym (due_through_none c.args.change.now.before.now c.args.change.now.after.now);
   few = omega arith;
   steps = omega arith;
 }
 
 pub loop-sweep-preserved : goal.loop-sweep-preserved
 loop-sweep-preserved g c =
-    let a = c.args.before.now in
-    let b = c.args.after.now in
+    let a = c.args.change.now.before.now in
+    let b = c.args.change.now.after.now in
     let s = c.loop-sweep.sweep in
     let last : s + 1 - 1 ≡ s = omega arith in
     let more : c.loop-sweep.count + c.sweep_links-count.result ≡ due_through a b s =
@@ -33,11 +32,10 @@ loop-sweep-preserved g c =
       due_through_more a b s c.loop-sweep.auto.sweep,
     ) in
     record {
-      at = c.sweep_links-count.ensures.at;
-      carries = carries_more c.args.rows.now c.args.saved.now c.loop-sweep.rows c.loop-sweep.saved
-          c.sweep_links-count.new.rows c.sweep_links-count.new.saved c.loop-sweep.invariant.carries
+      front = c.sweep_links-count.ensures.front;
+      carries = carries_more c.args.front.now.rows c.args.front.now.saved c.loop-sweep.front.rows c.loop-sweep.front.saved
+          c.sweep_links-count.new.front.rows c.sweep_links-count.new.front.saved c.loop-sweep.invariant.carries
           c.sweep_links-count.ensures.carries;
-      step_count = c.sweep_links-count.ensures.step_count;
       count = more ∙ sym (ap (due_through a b) last);
       few = omega (arith, c.loop-sweep.invariant.few, c.sweep_links-count.ensures.few, c.loop-sweep.auto.sweep);
       steps = omega (arith, c.loop-sweep.invariant.steps, c.sweep_links-count.ensures.steps);
@@ -45,22 +43,22 @@ loop-sweep-preserved g c =
 
 pub returns-clause-rows : goal.returns-clause-rows
 returns-clause-rows g c =
-    let b = c.args.after.now in
+    let b = c.args.change.now.after.now in
     let all : c.loop-sweep.sweep ≡ b.frame.sweeps + 1 = omega
     (arith, ap (λ (f : Frame). f.sweeps) c.frame-sweep-end.ensures.value) in
-    ended c.args.before.now b c.loop-sweep.rows c.loop-sweep.awaited.items
-    (subst (λ s. AreAt c.args.before.now b s 0 c.loop-sweep.rows c.loop-sweep.awaited.items) all
-    c.loop-sweep.invariant.at)
+    ended c.args.change.now.before.now b c.loop-sweep.front.rows c.loop-sweep.front.awaited.items
+    (subst (λ s. AreAt c.args.change.now.before.now b s 0 c.loop-sweep.front.rows c.loop-sweep.front.awaited.items) all
+    c.loop-sweep.invariant.front.at)
 
 pub returns-clause-count : goal.returns-clause-count
 returns-clause-count g c =
-    let a = c.args.before.now in
-    let b = c.args.after.now in
+    let a = c.args.change.now.before.now in
+    let b = c.args.change.now.after.now in
     let all : c.loop-sweep.sweep - 1 ≡ a.frame.sweeps =
     omega (
       arith,
       ap (λ (f : Frame). f.sweeps) c.frame-sweep-end.ensures.value,
-      ap (λ (f : Frame). f.sweeps) (shape_frame a b c.requires.shape),
+      ap (λ (f : Frame). f.sweeps) (shape_frame a b c.requires.change.shape),
     ) in
     c.loop-sweep.invariant.count ∙ ap (due_through a b) all ∙ due_is a b
 
@@ -72,3 +70,8 @@ returns-clause-few g c =
       ap (λ (f : Frame). f.sweeps) c.frame-sweep-end.ensures.value,
       c.frame-sweep-end.ensures.valid.sound.frame.sweeps,
     )
+
+pub returns-clause-room : goal.returns-clause-room
+returns-clause-room g c =
+    let front = c.loop-sweep.invariant.front in
+    record { own_count = front.own.count; count = front.at.flags.count; steps = front.steps }

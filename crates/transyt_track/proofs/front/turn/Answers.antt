@@ -9,43 +9,47 @@ use Rattle.transyt_track.proofs.front.turn.Goals as goal
 
 pub leave-requires-clause-shown : goal.leave-requires-clause-shown
 leave-requires-clause-shown g c = λ last.
-    shown_now c.args.after.now (evaluated c.args.after.now) (evaluated c.args.before.now) c.args.sweep c.args.link
-    c.args.rows.now c.requires.at.shown (sym last) c.requires.link
+    shown_now c.args.change.now.after.now (evaluated c.args.change.now.after.now) (evaluated c.args.change.now.before.now) c.args.sweep c.args.link
+    c.args.front.now.rows c.requires.front.at.shown (sym last) c.requires.link
 
 pub returns-then-is_awaited-clause-count : goal.returns-then-is_awaited-clause-count
 returns-then-is_awaited-clause-count g c =
-    let a = c.args.before.now in
-    let b = c.args.after.now in
-    let flags = c.args.awaited.now.items in
+    let a = c.args.change.now.before.now in
+    let b = c.args.change.now.after.now in
+    let flags = c.args.front.now.awaited.items in
     let due : is_due a b c.args.sweep c.args.link ≡ true =
-    sym (flag_tells a b c.args.sweep c.args.link c.args.rows.now flags c.requires.at c.requires.link)
+    sym (flag_tells a b c.args.sweep c.args.link c.args.front.now.rows flags c.requires.front.at c.requires.link)
     ∙ ap (λ (up : List Bool). flag up c.args.link) (sym c.deref.ensures.value)
     ∙ sym c.is_awaited.ensures
     ∙ c.if-is_awaited.true in
     sym (ap (λ t. if t then 1 else 0) due)
 
-pub returns-else-is_awaited-clause-at : goal.returns-else-is_awaited-clause-at
-returns-else-is_awaited-clause-at g c =
+pub returns-else-is_awaited-clause-front : goal.returns-else-is_awaited-clause-front
+returns-else-is_awaited-clause-front g c =
     let r = c.requires in
-    let a = c.args.before.now in
-    let b = c.args.after.now in
-    let flags = c.args.awaited.now.items in
+    let a = c.args.change.now.before.now in
+    let b = c.args.change.now.after.now in
+    let flags = c.args.front.now.awaited.items in
     let none : is_due a b c.args.sweep c.args.link ≡ false =
-    sym (flag_tells a b c.args.sweep c.args.link c.args.rows.now flags r.at r.link)
+    sym (flag_tells a b c.args.sweep c.args.link c.args.front.now.rows flags r.front.at r.link)
     ∙ ap (λ (up : List Bool). flag up c.args.link) (sym c.deref.ensures.value)
     ∙ sym c.is_awaited.ensures
     ∙ c.if-is_awaited.false in
-    rw c.leave.ensures.value
-    (turned_left a b c.args.sweep c.args.link c.args.rows.now flags r.at r.shape r.first r.last r.link none)
+    record {
+      at = rw c.leave.ensures.value (turned_left a b c.args.sweep c.args.link c.args.front.now.rows flags r.front.at
+          r.change.shape r.first r.last r.link none);
+      own = r.front.own;
+      steps = r.front.steps;
+    }
 
 pub returns-else-is_awaited-clause-count : goal.returns-else-is_awaited-clause-count
 returns-else-is_awaited-clause-count g c =
     let r = c.requires in
-    let a = c.args.before.now in
-    let b = c.args.after.now in
-    let flags = c.args.awaited.now.items in
+    let a = c.args.change.now.before.now in
+    let b = c.args.change.now.after.now in
+    let flags = c.args.front.now.awaited.items in
     let none : is_due a b c.args.sweep c.args.link ≡ false =
-    sym (flag_tells a b c.args.sweep c.args.link c.args.rows.now flags r.at r.link)
+    sym (flag_tells a b c.args.sweep c.args.link c.args.front.now.rows flags r.front.at r.link)
     ∙ ap (λ (up : List Bool). flag up c.args.link) (sym c.deref.ensures.value)
     ∙ sym c.is_awaited.ensures
     ∙ c.if-is_awaited.false in

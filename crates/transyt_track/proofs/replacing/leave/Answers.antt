@@ -9,12 +9,12 @@ use Rattle.transyt_track.proofs.replacing.leave.Goals as goal
 
 pub returns-else-not-same_weights-clause-value : goal.returns-else-not-same_weights-clause-value
 returns-else-not-same_weights-clause-value c =
-    let b = c.args.after.now in
+    let b = c.args.change.now.after.now in
     let l = c.args.link in
     let rows = c.args.rows.now in
     let sweeps : c.frame.result.sweeps ≡ b.frame.sweeps = ap (λ (f : Frame). f.sweeps) c.frame.ensures.value in
     let last : c.args.sweep ≡ b.frame.sweeps = omega (arith, c.if-sweep-frame.false, sweeps) in
     let told : IsTrue c.same_weights.result = search rules in
     sym (ap (λ w. if w then with_weights rows b l else rows) (same_test c.args.sweep b.frame.sweeps (sym last))
-    ∙ weights_stay c.args.before.now b l rows c.requires.shape (c.same_weights.ensures.0 told)
+    ∙ weights_stay c.args.change.now.before.now b l rows c.requires.change.shape (c.same_weights.ensures.0 told)
     (ap (λ (v : CellValue). v.figures) (c.requires.shown last)))

@@ -6,19 +6,19 @@ use Rattle.transyt_track.proofs.starting.start_link.Goals as goal
 pub returns-then-moves-clause-starting : goal.returns-then-moves-clause-starting
 returns-then-moves-clause-starting c =
     let r = c.requires in
-    let a = c.args.before.now in
-    let b = c.args.after.now in
-    let flags = c.args.changed.now.items in
-    let made = started_put a b r.shape c.args.link c.args.rows.now flags r.starting r.link r.some c.start.ensures.kept
+    let a = c.args.change.now.before.now in
+    let b = c.args.change.now.after.now in
+    let flags = c.args.front.now.awaited.items in
+    let made = started_put a b r.change.shape c.args.link c.args.front.now.rows flags r.starting r.link r.some c.start.ensures.kept
     (sym r.moves ∙ c.if-moves.true) in
     rw (c.start.ensures.value, c.if-moves.true) made
 
 pub returns-else-moves-clause-starting : goal.returns-else-moves-clause-starting
 returns-else-moves-clause-starting c =
     let r = c.requires in
-    let a = c.args.before.now in
-    let b = c.args.after.now in
-    let flags = c.args.changed.now.items in
-    let made = started_left a b r.shape c.args.link c.args.rows.now flags r.starting r.link r.some
+    let a = c.args.change.now.before.now in
+    let b = c.args.change.now.after.now in
+    let flags = c.args.front.now.awaited.items in
+    let made = started_left a b r.change.shape c.args.link c.args.front.now.rows flags r.starting r.link r.some
     (sym r.moves ∙ c.if-moves.false) in
     rw c.if-moves.false made

@@ -8,8 +8,10 @@ use Rattle.transyt_track.proofs.starting.start_links.Given as goal
 -- those so far are flagged, and started anew where they are to be
 abbrev pub invariant-loop-link : goal.invariant-loop-link
 invariant-loop-link l = record {
-  starting : AreStarting l.before l.after l.link l.rows l.changed.items;
-  own_count : length l.own_changed.items ≡ length l.after.links;
-  down : (m : ℕ) → m < l.link → (flag l.own_changed.items m ≡ false ↔ HaveData l.before l.after m);
-  carries : Carries l.fn.rows l.fn.saved l.rows l.saved;
+  starting : AreStarting l.change.before.now l.change.after.now l.link l.front.rows l.front.awaited.items;
+  own_count : length l.front.own_changed.items ≡ length l.change.after.now.links;
+  down : (m : ℕ) → m < l.link
+      → (flag l.front.own_changed.items m ≡ false ↔ HaveData l.change.before.now l.change.after.now m);
+  steps : length l.front.scratch.arrivals ≡ l.change.after.now.frame.step_count;
+  carries : Carries l.fn.front.rows l.fn.front.saved l.front.rows l.front.saved;
 }

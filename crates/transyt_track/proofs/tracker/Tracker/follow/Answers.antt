@@ -1,8 +1,10 @@
 -- The rows are those of the network after.
-use Rattle.std.proofs.Common.{ap, ◌∙◌}
+use Rattle.std.proofs.Common.{ap, sym, subst, ◌∙◌, rules}
 use Rattle.transyt_parts.specs.declared.frame.Frame.{Frame}
 use Rattle.transyt_net.specs.Shape.{shape, SameShape}
 use Rattle.transyt_track.specs.Due.{due}
+use Rattle.transyt_track.specs.Own.{ArePlaces}
+use Rattle.transyt_track.specs.Readers.{AreReaders}
 use Rattle.transyt_track.specs.Tracker.{TrackerValue}
 use Rattle.transyt_track.proofs.ShapeLaws.{shape_frame, shape_count}
 use Rattle.transyt_track.proofs.TrackLaws.{followed_tracks}
@@ -15,33 +17,32 @@ invariant_of-self g c =
     let say = c.follow_rows-due.ensures in
     let same : SameShape i.net c.args.after.now = ap (λ (t : TrackerValue). shape t.net) c.self.view_is ∙ c.requires in
     rw c.take_numbers.ensures
-    (followed_tracks i.net i.marked i.rows i.saved i.places.items i.readers.items i.own_changed.items i.awaited.items i.scratch
-    c.self.invariant c.args.after.now same new.rows new.saved new.own_changed.items new.awaited.items new.scratch
+    (followed_tracks i.net i.marked i.front.rows i.front.saved i.places.items i.readers.items i.front.own_changed.items i.front.awaited.items i.front.scratch
+    c.self.invariant c.args.after.now same new.front.rows new.front.saved new.front.own_changed.items new.front.awaited.items new.front.scratch
     say.rows say.carries
-    say.own_changed say.awaited say.step_count)
-
-pub follow_rows-due-requires-clause-shape : goal.follow_rows-due-requires-clause-shape
-follow_rows-due-requires-clause-shape g c = ap (λ (t : TrackerValue). shape t.net) c.self.view_is ∙ c.requires
-
-pub follow_rows-due-requires-clause-own_changed : goal.follow_rows-due-requires-clause-own_changed
-follow_rows-due-requires-clause-own_changed g c =
-    let same : SameShape c.self.inside.net c.args.after.now =
-    ap (λ (t : TrackerValue). shape t.net) c.self.view_is ∙ c.requires in
-    c.self.invariant.own_count ∙ shape_count c.self.inside.net c.args.after.now same
-
-pub follow_rows-due-requires-clause-awaited : goal.follow_rows-due-requires-clause-awaited
-follow_rows-due-requires-clause-awaited g c =
-    let same : SameShape c.self.inside.net c.args.after.now =
-    ap (λ (t : TrackerValue). shape t.net) c.self.view_is ∙ c.requires in
-    c.self.invariant.awaited_count ∙ shape_count c.self.inside.net c.args.after.now same
-
-pub follow_rows-due-requires-clause-step_count : goal.follow_rows-due-requires-clause-step_count
-follow_rows-due-requires-clause-step_count g c =
-    let same : SameShape c.self.inside.net c.args.after.now =
-    ap (λ (t : TrackerValue). shape t.net) c.self.view_is ∙ c.requires in
-    c.self.invariant.steps
-    ∙ ap (λ (f : Frame). f.step_count) (shape_frame c.self.inside.net c.args.after.now same)
+    say.room.own_count say.room.count say.room.steps)
 
 pub returns-clause-due : goal.returns-clause-due
 returns-clause-due g c =
     c.follow_rows-due.ensures.count ∙ ap (λ (t : TrackerValue). due t.net c.args.after.now) c.self.view_is
+
+pub follow_rows-due-requires-clause-change : goal.follow_rows-due-requires-clause-change
+follow_rows-due-requires-clause-change g c =
+    let i = c.self.inside in
+    record {
+      shape = ap (λ (t : TrackerValue). shape t.net) c.self.view_is ∙ c.requires;
+      node = search rules;
+      places = subst (ArePlaces i.net) (sym c.deref.ensures.value) c.self.invariant.table;
+      readers = subst (AreReaders i.net) (sym c.deref-2.ensures.value) c.self.invariant.reading;
+    }
+
+pub follow_rows-due-requires-clause-room : goal.follow_rows-due-requires-clause-room
+follow_rows-due-requires-clause-room g c =
+    let i = c.self.inside in
+    let same : SameShape i.net c.args.after.now = ap (λ (t : TrackerValue). shape t.net) c.self.view_is ∙ c.requires in
+    record {
+      own_count = c.self.invariant.own_count ∙ shape_count i.net c.args.after.now same;
+      count = c.self.invariant.awaited_count ∙ shape_count i.net c.args.after.now same;
+      steps = c.self.invariant.steps
+          ∙ ap (λ (f : Frame). f.step_count) (shape_frame i.net c.args.after.now same);
+    }

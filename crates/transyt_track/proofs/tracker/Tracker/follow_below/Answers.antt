@@ -3,21 +3,16 @@ use Rattle.std.proofs.Common.{◌≡◌, IfSome, refl, ap, sym, subst, if◌then
 use Rattle.transyt_parts.specs.declared.frame.Frame.{Frame}
 use Rattle.transyt_net.specs.Shape.{shape, SameShape}
 use Rattle.transyt_net.specs.Edits.{with_edit}
-use Rattle.transyt_track.specs.Own.{DifferAt}
+use Rattle.transyt_track.specs.Own.{ArePlaces, DifferAt}
 use Rattle.transyt_sweep.specs.Sweeps.{index}
 use Rattle.transyt_sweep.proofs.IndexLaws.{index_is}
 use Rattle.transyt_saved.specs.Saved.{Carries, begun, settled}
 use Rattle.transyt_track.specs.Due.{due}
+use Rattle.transyt_track.specs.Readers.{AreReaders}
 use Rattle.transyt_track.specs.Tracker.{TrackerValue, IsTracking}
 use Rattle.transyt_track.proofs.ShapeLaws.{shape_frame, shape_count}
 use Rattle.transyt_track.proofs.TrackLaws.{begun_tracks, followed_tracks, closed_tracks}
 use Rattle.transyt_track.proofs.tracker.Tracker.follow_below.Goals as goal
-
-pub follow_rows-due-requires-clause-node : goal.follow_rows-due-requires-clause-node
-follow_rows-due-requires-clause-node g c =
-    subst (λ n. IfSome c.edited_node.result (λ place. DifferAt place c.self.inside.net n))
-    (sym (c.requires.after ∙ sym (ap (λ (t : TrackerValue). with_edit t.net c.args.e) c.self.view_is)))
-    c.edited_node.ensures
 
 pub settle_on-requires-clause-live : goal.settle_on-requires-clause-live
 settle_on-requires-clause-live g c =
@@ -30,11 +25,11 @@ settle_on-requires-clause-back g c =
     let say = c.follow_rows-due.ensures in
     let same : SameShape i.net c.args.after.now =
     ap (λ (t : TrackerValue). shape t.net) c.self.view_is ∙ c.requires.shape in
-    (followed_tracks i.net i.net i.rows (begun i.saved) i.places.items i.readers.items i.own_changed.items i.awaited.items i.scratch
-    (begun_tracks i.net i.marked i.rows i.saved i.places.items i.readers.items i.own_changed.items i.awaited.items i.scratch
-    c.self.invariant) c.args.after.now same new.rows new.saved new.own_changed.items new.awaited.items new.scratch
-    say.rows (subst (λ s. Carries i.rows s new.rows new.saved) c.begin.ensures say.carries)
-    say.own_changed say.awaited say.step_count).back
+    (followed_tracks i.net i.net i.front.rows (begun i.front.saved) i.places.items i.readers.items i.front.own_changed.items i.front.awaited.items i.front.scratch
+    (begun_tracks i.net i.marked i.front.rows i.front.saved i.places.items i.readers.items i.front.own_changed.items i.front.awaited.items i.front.scratch
+    c.self.invariant) c.args.after.now same new.front.rows new.front.saved new.front.own_changed.items new.front.awaited.items new.front.scratch
+    say.rows (subst (λ s. Carries i.front.rows s new.front.rows new.front.saved) c.begin.ensures say.carries)
+    say.room.own_count say.room.count say.room.steps).back
 
 pub invariant_of-self : goal.invariant_of-self
 invariant_of-self g c =
@@ -44,16 +39,16 @@ invariant_of-self g c =
     let end = c.settle_on.ensures in
     let same : SameShape i.net c.args.after.now =
     ap (λ (t : TrackerValue). shape t.net) c.self.view_is ∙ c.requires.shape in
-    let followed : IsTracking c.args.after.now i.net new.rows new.saved i.places.items i.readers.items new.own_changed.items
-    new.awaited.items new.scratch =
-    followed_tracks i.net i.net i.rows (begun i.saved) i.places.items i.readers.items i.own_changed.items i.awaited.items i.scratch
-    (begun_tracks i.net i.marked i.rows i.saved i.places.items i.readers.items i.own_changed.items i.awaited.items i.scratch
-    c.self.invariant) c.args.after.now same new.rows new.saved new.own_changed.items new.awaited.items new.scratch
-    say.rows (subst (λ s. Carries i.rows s new.rows new.saved) c.begin.ensures say.carries)
-    say.own_changed say.awaited say.step_count in
+    let followed : IsTracking c.args.after.now i.net new.front.rows new.front.saved i.places.items i.readers.items new.front.own_changed.items
+    new.front.awaited.items new.front.scratch =
+    followed_tracks i.net i.net i.front.rows (begun i.front.saved) i.places.items i.readers.items i.front.own_changed.items i.front.awaited.items i.front.scratch
+    (begun_tracks i.net i.marked i.front.rows i.front.saved i.places.items i.readers.items i.front.own_changed.items i.front.awaited.items i.front.scratch
+    c.self.invariant) c.args.after.now same new.front.rows new.front.saved new.front.own_changed.items new.front.awaited.items new.front.scratch
+    say.rows (subst (λ s. Carries i.front.rows s new.front.rows new.front.saved) c.begin.ensures say.carries)
+    say.room.own_count say.room.count say.room.steps in
     rw c.settle.ensures
-    (closed_tracks c.args.after.now i.net new.rows new.saved i.places.items i.readers.items new.own_changed.items new.awaited.items
-    new.scratch followed c.settle_on.new.net i.marked end.shape (sym end.shape ∙ sym same ∙ c.self.invariant.shape)
+    (closed_tracks c.args.after.now i.net new.front.rows new.front.saved i.places.items i.readers.items new.front.own_changed.items new.front.awaited.items
+    new.front.scratch followed c.settle_on.new.net i.marked end.shape (sym end.shape ∙ sym same ∙ c.self.invariant.shape)
     c.settle_on.new.rows end.rows (settled c.settle_on.new.saved) refl end.saved.size end.saved.link_count)
 
 pub returns-clause-net : goal.returns-clause-net
@@ -61,37 +56,38 @@ returns-clause-net g c =
     let after = c.args.after.now in
     let i = c.self.inside in
     let found : c.index-index.result ≡ index after =
-    c.index-index.ensures.value ∙ index_is after c.follow_rows-due.new.rows c.follow_rows-due.ensures.rows in
+    c.index-index.ensures.value ∙ index_is after c.follow_rows-due.new.front.rows c.follow_rows-due.ensures.rows in
     c.settle_on.ensures.net
     ∙ ap (λ x. if nat_lt x c.args.bound then after else i.net) found
     ∙ ap (λ (t : TrackerValue). if nat_lt (index after) c.args.bound then after else t.net) c.self.view_is
 
 pub returns-clause-index : goal.returns-clause-index
 returns-clause-index g c =
-    c.index-index.ensures.value ∙ index_is c.args.after.now c.follow_rows-due.new.rows c.follow_rows-due.ensures.rows
-
-pub follow_rows-due-requires-clause-shape : goal.follow_rows-due-requires-clause-shape
-follow_rows-due-requires-clause-shape g c = ap (λ (t : TrackerValue). shape t.net) c.self.view_is ∙ c.requires.shape
-
-pub follow_rows-due-requires-clause-own_changed : goal.follow_rows-due-requires-clause-own_changed
-follow_rows-due-requires-clause-own_changed g c =
-    let same : SameShape c.self.inside.net c.args.after.now =
-    ap (λ (t : TrackerValue). shape t.net) c.self.view_is ∙ c.requires.shape in
-    c.self.invariant.own_count ∙ shape_count c.self.inside.net c.args.after.now same
-
-pub follow_rows-due-requires-clause-awaited : goal.follow_rows-due-requires-clause-awaited
-follow_rows-due-requires-clause-awaited g c =
-    let same : SameShape c.self.inside.net c.args.after.now =
-    ap (λ (t : TrackerValue). shape t.net) c.self.view_is ∙ c.requires.shape in
-    c.self.invariant.awaited_count ∙ shape_count c.self.inside.net c.args.after.now same
-
-pub follow_rows-due-requires-clause-step_count : goal.follow_rows-due-requires-clause-step_count
-follow_rows-due-requires-clause-step_count g c =
-    let same : SameShape c.self.inside.net c.args.after.now =
-    ap (λ (t : TrackerValue). shape t.net) c.self.view_is ∙ c.requires.shape in
-    c.self.invariant.steps
-    ∙ ap (λ (f : Frame). f.step_count) (shape_frame c.self.inside.net c.args.after.now same)
+    c.index-index.ensures.value ∙ index_is c.args.after.now c.follow_rows-due.new.front.rows c.follow_rows-due.ensures.rows
 
 pub returns-clause-due : goal.returns-clause-due
 returns-clause-due g c =
     c.follow_rows-due.ensures.count ∙ ap (λ (t : TrackerValue). due t.net c.args.after.now) c.self.view_is
+
+pub follow_rows-due-requires-clause-change : goal.follow_rows-due-requires-clause-change
+follow_rows-due-requires-clause-change g c =
+    let i = c.self.inside in
+    record {
+      shape = ap (λ (t : TrackerValue). shape t.net) c.self.view_is ∙ c.requires.shape;
+      node = subst (λ n. IfSome c.edited_node.result (λ place. DifferAt place i.net n))
+          (sym (c.requires.after ∙ sym (ap (λ (t : TrackerValue). with_edit t.net c.args.e) c.self.view_is)))
+          c.edited_node.ensures;
+      places = subst (ArePlaces i.net) (sym c.deref.ensures.value) c.self.invariant.table;
+      readers = subst (AreReaders i.net) (sym c.deref-2.ensures.value) c.self.invariant.reading;
+    }
+
+pub follow_rows-due-requires-clause-room : goal.follow_rows-due-requires-clause-room
+follow_rows-due-requires-clause-room g c =
+    let i = c.self.inside in
+    let same : SameShape i.net c.args.after.now = ap (λ (t : TrackerValue). shape t.net) c.self.view_is ∙ c.requires.shape in
+    record {
+      own_count = c.self.invariant.own_count ∙ shape_count i.net c.args.after.now same;
+      count = c.self.invariant.awaited_count ∙ shape_count i.net c.args.after.now same;
+      steps = c.self.invariant.steps
+          ∙ ap (λ (f : Frame). f.step_count) (shape_frame i.net c.args.after.now same);
+    }

@@ -8,5 +8,5 @@ use Rattle.transyt_track.proofs.tracker.Tracker.index.Goals as goal
 pub returns : goal.returns
 returns c =
     c.index.ensures.value
-    ∙ index_is c.self.inside.net c.self.inside.rows c.self.invariant.evaluation
+    ∙ index_is c.self.inside.net c.self.inside.front.rows c.self.invariant.evaluation
     ∙ ap (λ (t : TrackerValue). index t.net) c.self.view_is

@@ -9,13 +9,13 @@ use Rattle.transyt_track.proofs.tracker.Tracker.take_changes.Goals as goal
 -- a mark is open at the other tracker, and marks the network that this one stands for
 pub copy_changes-requires-clause-live : goal.copy_changes-requires-clause-live
 copy_changes-requires-clause-live c =
-    (marked_of c.from.inside.saved.live c.from.inside.marked c.args.self.now.net
+    (marked_of c.from.inside.front.saved.live c.from.inside.marked c.args.self.now.net
     (ap (λ (t : TrackerValue). t.mark) c.from.view_is ∙ c.requires.marked)).0
 
 pub copy_changes-requires-clause-shape : goal.copy_changes-requires-clause-shape
 copy_changes-requires-clause-shape c =
     let marked : c.from.inside.marked ≡ c.self.inside.net =
-    (marked_of c.from.inside.saved.live c.from.inside.marked c.args.self.now.net
+    (marked_of c.from.inside.front.saved.live c.from.inside.marked c.args.self.now.net
     (ap (λ (t : TrackerValue). t.mark) c.from.view_is ∙ c.requires.marked)).1
     ∙ sym (ap (λ (t : TrackerValue). t.net) c.self.view_is) in
     sym (c.from.invariant.shape ∙ ap shape marked)
@@ -23,22 +23,22 @@ copy_changes-requires-clause-shape c =
 pub copy_changes-requires-clause-back : goal.copy_changes-requires-clause-back
 copy_changes-requires-clause-back c =
     let marked : c.from.inside.marked ≡ c.self.inside.net =
-    (marked_of c.from.inside.saved.live c.from.inside.marked c.args.self.now.net
+    (marked_of c.from.inside.front.saved.live c.from.inside.marked c.args.self.now.net
     (ap (λ (t : TrackerValue). t.mark) c.from.view_is ∙ c.requires.marked)).1
     ∙ sym (ap (λ (t : TrackerValue). t.net) c.self.view_is) in
-    subst (λ net. LeadBack net c.from.inside.rows c.from.inside.saved) marked c.from.invariant.back
+    subst (λ net. LeadBack net c.from.inside.front.rows c.from.inside.front.saved) marked c.from.invariant.back
 
 pub invariant_of-self : goal.invariant_of-self
 invariant_of-self c =
     let i = c.self.inside in
     let marked : c.from.inside.marked ≡ i.net =
-    (marked_of c.from.inside.saved.live c.from.inside.marked c.args.self.now.net
+    (marked_of c.from.inside.front.saved.live c.from.inside.marked c.args.self.now.net
     (ap (λ (t : TrackerValue). t.mark) c.from.view_is ∙ c.requires.marked)).1
     ∙ sym (ap (λ (t : TrackerValue). t.net) c.self.view_is) in
     let same : SameShape i.net c.from.inside.net = sym (c.from.invariant.shape ∙ ap shape marked) in
-    let closed : i.saved.live ≡ false =
-    not_live_of i.saved.live i.marked (ap (λ (t : TrackerValue). t.mark) c.self.view_is ∙ c.requires.closed) in
+    let closed : i.front.saved.live ≡ false =
+    not_live_of i.front.saved.live i.marked (ap (λ (t : TrackerValue). t.mark) c.self.view_is ∙ c.requires.closed) in
     rw c.take_numbers.ensures
-    (closed_tracks i.net i.marked i.rows i.saved i.places.items i.readers.items i.own_changed.items i.awaited.items i.scratch
+    (closed_tracks i.net i.marked i.front.rows i.front.saved i.places.items i.readers.items i.front.own_changed.items i.front.awaited.items i.front.scratch
     c.self.invariant c.from.inside.net i.marked same (sym same ∙ c.self.invariant.shape) c.copy_changes.new.rows
-    c.copy_changes.ensures i.saved closed (record { step_count = refl; sweeps = refl; link_count = refl }) refl)
+    c.copy_changes.ensures i.front.saved closed (record { step_count = refl; sweeps = refl; link_count = refl }) refl)

@@ -11,7 +11,7 @@ copy_rows-requires-clause-fits c =
     let same : SameShape i.net c.from.inside.net =
     ap (λ (t : TrackerValue). shape t.net) c.self.view_is ∙ c.requires.shape
     ∙ sym (ap (λ (t : TrackerValue). shape t.net) c.from.view_is) in
-    fits_shape i.net c.from.inside.net same i.rows c.self.invariant.evaluation.fits
+    fits_shape i.net c.from.inside.net same i.front.rows c.self.invariant.evaluation.fits
 
 pub invariant_of-self : goal.invariant_of-self
 invariant_of-self c =
@@ -19,9 +19,9 @@ invariant_of-self c =
     let same : SameShape i.net c.from.inside.net =
     ap (λ (t : TrackerValue). shape t.net) c.self.view_is ∙ c.requires.shape
     ∙ sym (ap (λ (t : TrackerValue). shape t.net) c.from.view_is) in
-    let closed : i.saved.live ≡ false =
-    not_live_of i.saved.live i.marked (ap (λ (t : TrackerValue). t.mark) c.self.view_is ∙ c.requires.closed) in
+    let closed : i.front.saved.live ≡ false =
+    not_live_of i.front.saved.live i.marked (ap (λ (t : TrackerValue). t.mark) c.self.view_is ∙ c.requires.closed) in
     rw c.take_numbers.ensures
-    (closed_tracks i.net i.marked i.rows i.saved i.places.items i.readers.items i.own_changed.items i.awaited.items i.scratch
+    (closed_tracks i.net i.marked i.front.rows i.front.saved i.places.items i.readers.items i.front.own_changed.items i.front.awaited.items i.front.scratch
     c.self.invariant c.from.inside.net i.marked same (sym same ∙ c.self.invariant.shape) c.copy_rows.new.rows
-    c.copy_rows.ensures i.saved closed (record { step_count = refl; sweeps = refl; link_count = refl }) refl)
+    c.copy_rows.ensures i.front.saved closed (record { step_count = refl; sweeps = refl; link_count = refl }) refl)

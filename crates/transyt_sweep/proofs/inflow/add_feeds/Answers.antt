@@ -1,0 +1,97 @@
+-- A group of feeds more, and those that are left.
+use Rattle.std.proofs.Common.{◌≡◌, ℕ, ◌+◌, ◌-◌, ◌*◌, ◌^◌, ◌≤◌, List, length, take, drop, arith, rules, ap}
+use Rattle.std.proofs.lemmas.List.{length-take}
+use Rattle.std.proofs.lemmas.List.Elements.{All-take, All-drop}
+use Rattle.transyt_profile.specs.Profile.{folded}
+use Rattle.transyt_parts.specs.declared.link.Feed.{Feed}
+use Rattle.transyt_sweep.specs.Inflow.{IsSmall, read_by}
+use Rattle.transyt_sweep.proofs.InflowLaws.{all_left, feeds_next, feeds_rest, room_after}
+use Rattle.transyt_sweep.proofs.SlotLaws.{are_put}
+use Rattle.transyt_sweep.proofs.inflow.add_feeds.Goals as goal
+
+-- a group of small feeds
+pub add_together-requires-clause-feeds : goal.add_together-requires-clause-feeds
+add_together-requires-clause-feeds c =
+    let p : ℕ = c.groups.done in
+    All-take IsSmall (p + c.group-count.result - p) (drop p c.args.feeds.now)
+    (All-drop IsSmall p c.args.feeds.now c.requires.feeds)
+
+-- a group has room
+pub add_together-requires-clause-turns : goal.add_together-requires-clause-turns
+add_together-requires-clause-turns c =
+    let n : ℕ = c.args.inputs.now.step_count in
+    let all : ℕ = length c.args.feeds.now in
+    let p : ℕ = c.groups.done in
+    let k : ℕ = c.group-count.result in
+    let next : List Feed = take (p + k - p) (drop p c.args.feeds.now) in
+    room_after n all p next c.groups.turns
+    (omega (
+      arith,
+      length-take (p + k - p) (drop p c.args.feeds.now),
+      c.group-count.ensures.within,
+      c.groups.invariant.within,
+    ))
+    c.requires.few c.groups.invariant.turns (c.groups.invariant.grows ((16 - all) * 2 ^ 44) c.requires.turns.small)
+
+-- a group more
+pub groups-preserved : goal.groups-preserved
+groups-preserved c =
+    let n : ℕ = c.args.inputs.now.step_count in
+    let p : ℕ = c.groups.done in
+    let k : ℕ = c.group-count.result in
+    let next : List Feed = take (p + k - p) (drop p c.args.feeds.now) in
+    let count : p + k - p ≡ k = omega arith in
+    let is_next : next ≡ take k (drop p c.args.feeds.now) = ap (λ m. take m (drop p c.args.feeds.now)) count in
+    let few : length next ≤ k = omega (arith, length-take (p + k - p) (drop p c.args.feeds.now)) in
+    record {
+      within = omega (arith, c.group-count.ensures.within, c.groups-test.true);
+      room = search rules;
+      turns = search rules;
+      slots = are_put c.args.inputs.now.net.now.frame.step_count p (p + k - p) c.groups.slots c.add_together.new.slots
+          c.groups.invariant.slots c.add_together.ensures.slots;
+      value = feeds_next c.args.inputs.now.net.now (read_by c.args.inputs.now) (folded n c.args.turns.now)
+          c.args.feeds.now next p k (folded n c.groups.turns) (folded n c.add_together.new.turns) is_next
+          c.groups.invariant.value c.add_together.ensures.value;
+      grows = λ limit within j d h. omega (
+        arith,
+        few,
+        c.add_together.ensures.grows (limit + p * 2 ^ 44) (c.groups.invariant.grows limit within) j d h,
+      );
+    }
+
+-- those that are left are small, few, and have room
+pub add_each-requires-clause-feeds : goal.add_each-requires-clause-feeds
+add_each-requires-clause-feeds c =
+    let p : ℕ = c.groups.done in
+    All-take IsSmall (length c.args.feeds.now - p) (drop p c.args.feeds.now)
+    (All-drop IsSmall p c.args.feeds.now c.requires.feeds)
+
+pub add_each-requires-clause-turns : goal.add_each-requires-clause-turns
+add_each-requires-clause-turns c =
+    let n : ℕ = c.args.inputs.now.step_count in
+    let all : ℕ = length c.args.feeds.now in
+    let p : ℕ = c.groups.done in
+    let rest : List Feed = take (all - p) (drop p c.args.feeds.now) in
+    room_after n all p rest c.groups.turns
+    (omega (arith, length-take (all - p) (drop p c.args.feeds.now), c.groups.invariant.within))
+    c.requires.few c.groups.invariant.turns (c.groups.invariant.grows ((16 - all) * 2 ^ 44) c.requires.turns.small)
+
+-- the arrivals of all
+pub returns-clause-value : goal.returns-clause-value
+returns-clause-value c =
+    let n : ℕ = c.args.inputs.now.step_count in
+    let p : ℕ = c.groups.done in
+    feeds_rest c.args.inputs.now.net.now (read_by c.args.inputs.now) (folded n c.args.turns.now) c.args.feeds.now
+    (take (length c.args.feeds.now - p) (drop p c.args.feeds.now)) p (folded n c.groups.turns)
+    (folded n c.add_each.new.turns) (all_left p c.args.feeds.now) c.groups.invariant.value c.add_each.ensures.value
+
+pub returns-clause-grows : goal.returns-clause-grows
+returns-clause-grows c = λ limit within j d h.
+    let all : ℕ = length c.args.feeds.now in
+    let p : ℕ = c.groups.done in
+    omega (
+      arith,
+      length-take (all - p) (drop p c.args.feeds.now),
+      c.groups.invariant.within,
+      c.add_each.ensures.grows (limit + p * 2 ^ 44) (c.groups.invariant.grows limit within) j d h,
+    )

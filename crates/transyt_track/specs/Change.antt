@@ -1,0 +1,29 @@
+-- A change that is followed, and the front that follows it. No public clause cites it.
+use Rattle.std.specs.Prelude.{◌≡◌, ℕ, length, IfSome}
+use Rattle.transyt_net.specs.Parts.{Network}
+use Rattle.transyt_net.specs.Shape.{SameShape}
+use Rattle.transyt_track.specs.declared.change.Change.{Change}
+use Rattle.transyt_track.specs.declared.change.Front.{Front}
+use Rattle.transyt_track.specs.Own.{ArePlaces, DifferAt}
+use Rattle.transyt_track.specs.Readers.{AreReaders}
+use Rattle.transyt_track.specs.Front.{AreAt, AreFlags, own_differs}
+
+-- two networks of one shape, with the places and the readers of their links
+pub record IsChange (change : Change) : Type 0 where
+  pub shape : SameShape change.before.now change.after.now
+  pub node : IfSome change.node (λ place. DifferAt place change.before.now change.after.now)
+  pub places : ArePlaces change.before.now change.places.now
+  pub readers : AreReaders change.before.now change.readers.now
+
+-- two flags for each link, and room for a value for each step
+pub record HasRoom (net : Network) (front : Front) : Type 0 where
+  pub own_count : length front.own_changed.items ≡ length net.links
+  pub count : length front.awaited.items ≡ length net.links
+  pub steps : length front.scratch.arrivals ≡ net.frame.step_count
+
+-- the front has come to a link at a sweep
+pub record IsFront (change : Change) (sweep link : ℕ) (front : Front) : Type 0 where
+  pub at : AreAt change.before.now change.after.now sweep link front.rows front.awaited.items
+  pub own : AreFlags (own_differs change.before.now change.after.now) (length change.after.now.links)
+      front.own_changed.items
+  pub steps : length front.scratch.arrivals ≡ change.after.now.frame.step_count

@@ -1,0 +1,37 @@
+//! A change that a tracker follows, and the front that follows it.
+
+use crate::own::Places;
+use crate::readers::Readers;
+use transyt_net::Net;
+use transyt_saved::Saved;
+use transyt_sweep::{Rows, Scratch};
+
+/// A change that a tracker follows: two networks of one shape, and for each link where it reads and what reads it.
+#[derive(Clone, Copy)]
+pub(crate) struct Change<'a> {
+    /// The network before the change.
+    pub(crate) before: &'a Net,
+    /// The network after it.
+    pub(crate) after: &'a Net,
+    /// The place of a node, where the networks differ in its times alone.
+    pub(crate) node: Option<usize>,
+    /// The places that each link reads.
+    pub(crate) places: &'a [Places],
+    /// The links that read each link.
+    pub(crate) readers: &'a [Readers],
+}
+
+/// The rows while they go over from one network to another, and all that changes with them.
+#[derive(Drop)]
+pub(crate) struct Front {
+    /// The rows.
+    pub(crate) rows: Rows,
+    /// The rows that were written over since the mark.
+    pub(crate) saved: Saved,
+    /// A flag for each link: its own data differ.
+    pub(crate) own_changed: Vec<bool>,
+    /// A flag for each link: it is known to be due at its next turn.
+    pub(crate) awaited: Vec<bool>,
+    /// Room for the work on one link.
+    pub(crate) scratch: Scratch,
+}
