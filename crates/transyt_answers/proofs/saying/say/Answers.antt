@@ -1,5 +1,5 @@
 -- A certificate, a climb, and an answer that is no more than its text.
-use Rattle.std.proofs.Common.{◌≡◌, ℕ, List, sym, ◌∙◌, ap, subst, set}
+use Rattle.std.proofs.Common.{sym, ◌∙◌, ap, subst, set}
 use Rattle.transyt_session.specs.Session.{SessionValue}
 use Rattle.transyt_desks.specs.Desks.{desk_zero}
 use Rattle.transyt_text.proofs.PrintLaws.{prints_same}
@@ -7,7 +7,7 @@ use Rattle.transyt_cert.specs.Certificate.{cert_text}
 use Rattle.transyt_answers.specs.declared.answer.Answer.{Answer}
 use Rattle.transyt_answers.specs.Commands.{answer_text, after_answer}
 use Rattle.transyt_answers.specs.Conditions.{Leaves}
-use Rattle.transyt_answers.proofs.LeavesLaws.{told_by, told_same, told_leaves, cert_leaves}
+use Rattle.transyt_answers.proofs.LeavesLaws.{told_by, told_leaves, cert_leaves}
 use Rattle.transyt_answers.proofs.saying.say.Goals as goal
 
 -- a certificate
