@@ -9,7 +9,7 @@ use Rattle.transyt_running.specs.declared.status.Status.TheVariants.{Done, BadWo
 use Rattle.transyt_running.specs.declared.status.Status.TheVariants.{NoMemory, TooLong}
 use Rattle.transyt_running.specs.Outcome.{Reporting, Outcome, IsFront, Headline, Complete, TooLongWhere}
 use Rattle.transyt_running.specs.Runs.{StepsTaken}
-use Rattle.transyt_answers.specs.Brief.{brief_text, brief_steps}
+use Rattle.transyt_reporter.specs.Brief.{brief_text, brief_steps}
 use Rattle.transyt_answers.specs.Report.{deck_answering, reporting_run}
 use Rattle.transyt_whole.specs.Answer.{of_whole}
 use Rattle.transyt_whole.specs.Whole.{StepsWithin}

@@ -3,7 +3,7 @@ ghost use Rattle.std.specs.Prelude.{◌≡◌, ◌<◌, ℕ, List, [], ◌∷◌
 ghost use Rattle.transyt_make.specs.Made.{made};
 ghost use Rattle.transyt_running.specs.Runs.{StepsTaken};
 ghost use Rattle.transyt_running.specs.declared.status.Status.{Status};
-ghost use Rattle.transyt_answers.specs.Brief.{brief_steps};
+ghost use Rattle.transyt_reporter.specs.Brief.{brief_steps};
 ghost use Rattle.transyt_answers.specs.Report.{deck_answering};
 ghost use Rattle.transyt.specs.declared.word.Word.{Word};
 ghost use Rattle.transyt_net.specs.Parts.{Network};

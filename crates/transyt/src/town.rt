@@ -3,17 +3,17 @@ ghost use Rattle.std.specs.Prelude.{◌≡◌, ◌≤◌};
 ghost use Rattle.transyt_io.specs.Streams.{Rose};
 ghost use Rattle.transyt_deck.specs.Cards.{deck_text};
 ghost use Rattle.transyt_make.specs.Made.{made};
-ghost use Rattle.transyt_answers.specs.Brief.{brief_text, brief_steps};
+ghost use Rattle.transyt_reporter.specs.Brief.{brief_text, brief_steps};
 ghost use Rattle.transyt.specs.Tasks.{TextOutcome, TextSteps};
 
 use std::alloc::Global;
 use std::sync::ledger::Ledger;
 use std::thread::Threads;
-use transyt_answers::write_brief;
 use transyt_cards::print_deck;
 use transyt_desks::Gate;
 use transyt_io::{LineBuffer, Sink};
 use transyt_make::make_net;
+use transyt_reporter::write_brief;
 use transyt_running::{Status, Stop};
 use transyt_steps::Steps;
 

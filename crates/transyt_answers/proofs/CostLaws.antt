@@ -2,10 +2,11 @@
 use Rattle.std.proofs.Common.{◌≡◌, ℕ, zero, suc, ◌+◌, ◌-◌, ◌*◌, ◌%◌, ◌≤◌, Bool, true, false, nat_le, nat_lt, List, [], ◌∷◌, ◌++◌, length}
 use Rattle.std.proofs.Common.{Option, Some, None, IfSome, if◌then◌else◌, refl, sym, ◌∙◌, ap, subst, arith, append_assoc}
 use Rattle.std.proofs.lemmas.List.{append-nil, length-map}
+use Rattle.std.proofs.lemmas.List.Sums.{fold-append}
 use Rattle.transyt_parts.specs.Shape.{bare_link}
 use Rattle.transyt_net.specs.Parts.{Network}
 use Rattle.transyt_net.specs.Shape.{shape, SameShape}
-use Rattle.transyt_deck.specs.Deck.{Deck, Open, Complete, Refused, next}
+use Rattle.transyt_deck.specs.Deck.{Deck, Open, Complete, Refused, next, start}
 use Rattle.transyt_commands.specs.Commands.{command_in}
 use Rattle.transyt_moves.specs.Moves.{move_count}
 use Rattle.transyt_sweep.specs.Climb.{Climb, moved, first, ended, stepped, after_search, climb_within, climb}
@@ -19,9 +20,12 @@ use Rattle.transyt_answers.specs.declared.answer.Answer.TheVariants as a
 use Rattle.transyt_answers.specs.Commands.{after_answer, budget_of, line_answer, line_judged, session_after}
 use Rattle.transyt_answers.specs.Report.{RunState, InDeck, InSession, run_of, run_after, run_state, ends, cost, line_steps}
 use Rattle.transyt_answers.specs.Report.{deck_steps, deck_answering, steps_in}
-use Rattle.transyt_answers.proofs.Answered.{state_on}
-use Rattle.transyt_answers.proofs.ReadyLaws.{KeepsShape, keeps_said}
+use Rattle.transyt_answers.proofs.ShapeLaws.{KeepsShape, keeps_said}
 use Rattle.transyt_answers.proofs.WorkLaws.{line_more}
+
+-- what lines have come to with one more
+pub state_on : (before : List (List ℕ)) (line : List ℕ) → run_state (before ++ line ∷ []) ≡ run_after (run_state before) line
+state_on before line = fold-append run_after (InDeck start) before (line ∷ [])
 
 -- S times the links
 abbrev whole_of : Network → ℕ

@@ -1,5 +1,5 @@
 -- The worked answers to commands, computed from the definitions.
-use Rattle.std.proofs.Common.{◌≡◌, ℕ, List, [], ◌∷◌, ◌++◌, Option, Some, None, false, refl, ap, ◌∙◌}
+use Rattle.std.proofs.Common.{◌≡◌, ℕ, List, ◌++◌, Option, Some, None, false, refl, ap, ◌∙◌}
 use Rattle.std.specs.Fmt.{digits}
 use Rattle.transyt_platoon.specs.Platoon.{smoothed}
 use Rattle.transyt_stopline.specs.LastSteps.{sum_back, greatest}
@@ -9,7 +9,6 @@ use Rattle.transyt_moves.specs.Moves.{move, move_count}
 use Rattle.transyt_stage.specs.ThreeJunctions.{three_junctions}
 use Rattle.transyt_sweep.specs.Sweeps.{seen, out_of, index}
 use Rattle.transyt_sweep.specs.Climb.{tried_at}
-use Rattle.transyt_sweep.proofs.WorkedFigures.{index_comes_out}
 use Rattle.transyt_sweep.proofs.WorkedMove.{tried_first}
 use Rattle.transyt_track.specs.Due.{differs, due_in, due_through, due}
 use Rattle.transyt_net.specs.Parts.{Network}
@@ -19,9 +18,8 @@ use Rattle.transyt_text.specs.Forms.{filled, form_line}
 use Rattle.transyt_report.specs.MoveTexts.{end_text}
 use Rattle.transyt_answers.specs.declared.answer.Answer.{Answer}
 use Rattle.transyt_answers.specs.declared.answer.Answer.TheVariants as a
-use Rattle.transyt_answers.specs.Brief.{brief_form, climbed_line}
 use Rattle.transyt_answers.specs.Commands.{after_answer, answer_text, climb_text, steps_text}
-use Rattle.transyt_answers.specs.WorkedCommands.{climb_line, climb_lines, some_climb}
+use Rattle.transyt_answers.specs.WorkedCommands.{climb_lines, some_climb}
 
 -- the work of a certificate is added
 pub certified : after_answer a.Cert begun ≡ record begun { work = 71 }
@@ -62,15 +60,3 @@ lines_are = refl
 -- the lines of a climb
 pub climb_told : climb_text some_climb ≡ climb_lines
 climb_told = ap lines_with index_after ∙ lines_are
-
--- the line with both indexes in their places
-abbrev line_with : ℕ → ℕ → List ℕ
-line_with from to = form_line (brief_form false) (3 ∷ 8 ∷ from ∷ 2 ∷ 5 ∷ to ∷ [])
-
-line_is : line_with 556223009 554272112 ≡ climb_line
-unfolding form_line filled digits
-line_is = refl
-
--- the line of a climb as a brief
-pub brief_told : climbed_line three_junctions some_climb ≡ climb_line
-brief_told = (λ j. line_with (index_comes_out j) (index_after j)) ∙ line_is

@@ -19,7 +19,8 @@ use Rattle.transyt_sweep.specs.Sweeps.{seen, out_of, evaluated, index}
 use Rattle.transyt_sweep.specs.WorkedLinks.{new_figures}
 use Rattle.transyt_sweep.proofs.WorkedFigures.{figures_by_root, its_terms, index_comes_out}
 use Rattle.transyt_answers.specs.Steps.{ArePlanned, IsLowering, LeadDown}
-use Rattle.transyt_answers.specs.WorkedLowering.{first_step, wrong_steps, late_node, late_stage}
+use Rattle.transyt_climb.specs.WorkedTurns.{idle}
+use Rattle.transyt_answers.specs.WorkedLowering.{first_step, wrong_steps, idle_step, late_node, late_stage}
 use Rattle.transyt_answers.specs.WorkedLowering.{by_last, earlier, earlier_again, after_two, stays}
 use Rattle.transyt_answers.proofs.WorkedCommands.{index_after}
 
@@ -61,6 +62,10 @@ pub none_is_lowering : All (λ (step : Step). IsLowering three_junctions step �
 none_is_lowering =
     All-from_recursion (λ (step : Step). IsLowering three_junctions step → ⊥) wrong_steps
     (other_edit, (other_index, tt))
+
+-- 0 is not below 0
+pub not_lower : IsLowering idle idle_step → ⊥
+not_lower step = let lower : 0 < 0 = step.lower in absurd (omega (arith, lower))
 
 -- the network after the first of the two steps
 abbrev after_one : Network

@@ -1,5 +1,5 @@
 -- Worked answers to commands over two junctions and three links, and what a climb is told by.
-use Rattle.std.specs.Prelude.{ℕ, List, [], ◌∷◌, ◌++◌, map, codes, None, Some, false}
+use Rattle.std.specs.Prelude.{ℕ, List, [], ◌∷◌, map, codes, None, Some, false}
 use Rattle.transyt_syntax.specs.declared.code.Code.TheVariants as code
 use Rattle.transyt_net.specs.declared.edit.Edit.TheVariants.{Offset, Change}
 use Rattle.transyt_net.specs.Edits.{with_edit}
@@ -62,7 +62,3 @@ abbrev pub climb_lines : List ℕ
 climb_lines =
     text_of (codes "TOOK 24 OFFSET 21 17 INDEX 530008683" ∷ codes "TOOK 29 CHANGE 21 2 7 INDEX 521795021"
     ∷ codes "BUDGET 5 INDEX 554272112" ∷ [])
-
--- its line as a brief of three junctions with eight links
-abbrev pub climb_line : List ℕ
-climb_line = codes "BRIEF 3 8 FROM 556223009 TOOK 2 BUDGET 5 TO 554272112" ++ 10 ∷ []

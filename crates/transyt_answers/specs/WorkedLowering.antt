@@ -19,6 +19,10 @@ wrong_steps =
     ∷ record first_step { index = 554272111 }
     ∷ []
 
+-- the first move of a network without links, with which its index of 0 stays
+abbrev pub idle_step : Step
+idle_step = record { place = 0; edit = Offset 21 6; index = 0 }
+
 -- a node whose second stage begins after the last of 15 steps, though not after the last of 90 seconds
 abbrev pub late_node : NodeValue
 late_node = record { number = 21; offset = 4; stages = new_stage 2 1 3 ∷ new_stage 16 2 4 ∷ [] }

@@ -1,7 +1,5 @@
 -- Worked inputs, each with its report, which was worked out apart.
 use Rattle.std.specs.Prelude.{ℕ, List, [], ◌∷◌, ◌++◌, codes, flat_map}
-use Rattle.transyt_net.specs.declared.edit.Edit.TheVariants.{Offset}
-use Rattle.transyt_sweep.specs.Climb.{Step}
 
 -- lines as they are written, each with a line end
 abbrev pub text_of : List (List ℕ) → List ℕ
@@ -67,7 +65,3 @@ taken_number = codes "CYCLE 90 15 2 45 37 40" ∷ codes "NODE 21 4" ∷ [] ∷ c
 -- a deck without END
 abbrev pub without_end : List (List ℕ)
 without_end = codes "CYCLE 90 15 2 45 37 40" ∷ codes "NODE 21 4" ∷ codes "STAGE 2 1 3" ∷ []
-
--- the first move of a network without links, with which its index of 0 stays
-abbrev pub idle_step : Step
-idle_step = record { place = 0; edit = Offset 21 6; index = 0 }

@@ -31,7 +31,7 @@ pub enum Answer {
 
 impl Answer {
     /// How it ends the run, if it does.
-    pub(crate) fn ending(self) -> Option<Ending>
+    pub fn ending(self) -> Option<Ending>
         ensures { result ≡ answer_ends self }
     {
         match self {

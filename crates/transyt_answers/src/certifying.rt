@@ -82,8 +82,9 @@ fn certify_end<K: Sink>(
     write_line(line, sink)
 }
 
-/// Writes the certificate of the network now. On Failed some first bytes of it were written.
-pub(crate) fn certify_on<K: Sink, L: Ledger>(
+/// Writes the certificate of the network now, whose work is added. On Failed some first bytes of it were written. It takes
+/// no memory.
+pub fn certify_on<K: Sink, L: Ledger>(
     session: &mut Session,
     line: &mut LineBuffer,
     sink: &mut K,

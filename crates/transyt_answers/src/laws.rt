@@ -2,10 +2,8 @@
 ghost use Rattle.std.specs.Prelude.{◌≡◌, ◌+◌, ◌∷◌, [], ◌++◌, ℕ, All, List, None, Option, Some, codes, map, true};
 ghost use Rattle.transyt_running.specs.Runs.{costs_by, ending_by};
 ghost use Rattle.transyt_running.specs.declared.status.Status.{Status};
-ghost use Rattle.transyt_deck.specs.Deck.{Complete};
 ghost use Rattle.transyt_syntax.specs.Codes.{number};
 ghost use Rattle.transyt_parts.specs.Made.{new_plan};
-ghost use Rattle.transyt_parts.specs.Parts.{PlanValue};
 ghost use Rattle.transyt_net.specs.declared.edit.EditFault.{EditFault};
 ghost use Rattle.transyt_net.specs.Edits.{with_edit};
 ghost use Rattle.transyt_net.specs.Parts.{Network};
@@ -13,21 +11,21 @@ ghost use Rattle.transyt_net.specs.Valid.{IsValid};
 ghost use Rattle.transyt_stage.specs.ThreeJunctions.{three_junctions};
 ghost use Rattle.transyt_sweep.specs.Climb.{climb};
 ghost use Rattle.transyt_commands.specs.declared.command.Command.{Command};
-ghost use Rattle.transyt_session.specs.Session.{SessionValue, opened};
+ghost use Rattle.transyt_session.specs.Session.{SessionValue};
 ghost use Rattle.transyt_session.specs.WorkedSessions.{begun, in_trial, kept, taken_back};
 ghost use Rattle.transyt_climb.specs.Way.{IsLocal};
 ghost use Rattle.transyt_climb.specs.WorkedTurns.{idle};
 ghost use Rattle.transyt_answers.specs.declared.answer.Answer.{Answer};
-ghost use Rattle.transyt_answers.specs.Brief.{brief_steps, brief_text, climbed_line};
 ghost use Rattle.transyt_answers.specs.Commands.{after_answer, answer_text, answer_to, budget_of, climb_text, edit_code};
-ghost use Rattle.transyt_answers.specs.Commands.{judged, line_work};
-ghost use Rattle.transyt_answers.specs.Report.{deck_answering, deck_steps, report, run_state, status, steps_in};
+ghost use Rattle.transyt_answers.specs.Commands.{judged};
+ghost use Rattle.transyt_answers.specs.Report.{deck_answering, report, run_state, status, steps_in};
 ghost use Rattle.transyt_answers.specs.Steps.{ArePlanned, IsLowering, LeadDown};
-ghost use Rattle.transyt_answers.specs.WorkedCommands.{climb_line, climb_lines, some_climb, worked_answers};
+ghost use Rattle.transyt_answers.specs.WorkedCommands.{climb_lines, some_climb, worked_answers};
 ghost use Rattle.transyt_answers.specs.WorkedLowering.{after_two, earlier, earlier_again, first_step, late_stage, stays};
-ghost use Rattle.transyt_answers.specs.WorkedLowering.{by_last, wrong_steps};
+ghost use Rattle.transyt_answers.specs.WorkedLowering.{by_last, idle_step, wrong_steps};
 ghost use Rattle.transyt_answers.specs.WorkedReports.{answers, climb_answers, climb_commands, commands, no_link, one_link};
-ghost use Rattle.transyt_answers.specs.WorkedReports.{taken_number, text_of, without_end, idle_step};
+ghost use Rattle.transyt_answers.specs.WorkedReports.{taken_number, text_of, without_end};
+ghost use Rattle.transyt_answers.specs.WorkedTrial.{trial_answers, trial_commands, two_junctions};
 
 /// Each step of a climb strictly lowers the index within every minimum green and intergreen, and a climb that ends as
 /// LOCAL ends at a network of which no listed move is allowed and lowers the index.
@@ -59,21 +57,16 @@ pub fn worked_reports()
     ensures refused_steps { costs_by deck_answering taken_number ≡ 0 }
 {}
 
-/// A brief of a network without links; its steps are those of END and of CLIMB, which the report counts one by one. A
-/// step that leaves the index as it was is no step of a climb.
-#[tactic(auto, using(crate::proofs::WorkedBrief::brief_is, crate::proofs::WorkedBrief::steps_of_brief, crate::proofs::WorkedBrief::not_lower))]
-pub fn worked_brief()
-    ensures text { brief_text idle ≡ codes "BRIEF 1 0 FROM 0 TOOK 0 LOCAL 6 TO 0" ++ 10 ∷ [] }
-    ensures steps { (net : Network) (plan : PlanValue) (number : ℕ) → brief_steps (record net { plan = Some plan })
-        ≡ deck_steps (Complete number (record net { plan = Some plan }))
-        + line_work (opened (record net { plan = Some plan })) (codes "CLIMB") }
-    ensures not_lower { IsLowering idle idle_step → ⊥ }
+/// DECK, PLOT and PROFILE in a trial tell the network as it stands then, and DECK after BACK that of before the trial.
+#[tactic(auto, using(crate::proofs::WorkedTrial::trial_reported))]
+pub fn worked_trial()
+    ensures { report (text_of (two_junctions (codes "4") ++ trial_commands)) ≡ text_of trial_answers }
 {}
 
 /// What is answered to the worked requests, without a trial, in one and without a climb plan; the text of an answer, in a
 /// trial too, is of the network now; what BACK and KEEP leave of a trial; the codes of an edit's faults, the budget of a
 /// climb, the work of a certificate, and the lines of a climb.
-#[tactic(auto, using(crate::proofs::WorkedCommands::certified, crate::proofs::WorkedCommands::of_now, crate::proofs::WorkedCommands::climb_told, crate::proofs::WorkedCommands::brief_told))]
+#[tactic(auto, using(crate::proofs::WorkedCommands::certified, crate::proofs::WorkedCommands::of_now, crate::proofs::WorkedCommands::climb_told))]
 pub fn worked_commands()
     ensures answers { map (λ row. answer_to row.0 row.1) worked_answers ≡ map (λ row. row.2) worked_answers }
     ensures codes { map (λ fault. number (edit_code fault)) (EditFault.Unknown ∷ EditFault.NoFeeder
@@ -85,16 +78,17 @@ pub fn worked_commands()
         ≡ taken_back ∷ kept ∷ [] }
     ensures certified { after_answer Answer.Cert begun ≡ record begun { work = 71 } }
     ensures lines { climb_text some_climb ≡ climb_lines }
-    ensures brief { climbed_line three_junctions some_climb ≡ climb_line }
 {}
 
-/// The first move of the three junctions is a step that lowers the index; with another edit or index it is none.
+/// The first move of the three junctions is a step that lowers the index; with another edit or index it is none, and
+/// neither is one that leaves the index as it was.
 /// A node whose second stage begins after the cycle's last step isn't planned. Two steps of the network of one link lead
 /// down to the network after both: not to the one after the first, and to none with a step between them that doesn't lower.
-#[tactic(auto, using(crate::proofs::WorkedLowering::is_lowering, crate::proofs::WorkedLowering::none_is_lowering, crate::proofs::WorkedLowering::late, crate::proofs::WorkedLowering::two_lead, crate::proofs::WorkedLowering::other_last, crate::proofs::WorkedLowering::no_step, crate::proofs::WorkedLowering::stays_between))]
+#[tactic(auto, using(crate::proofs::WorkedLowering::is_lowering, crate::proofs::WorkedLowering::none_is_lowering, crate::proofs::WorkedLowering::not_lower, crate::proofs::WorkedLowering::late, crate::proofs::WorkedLowering::two_lead, crate::proofs::WorkedLowering::other_last, crate::proofs::WorkedLowering::no_step, crate::proofs::WorkedLowering::stays_between))]
 pub fn worked_lowering()
     ensures step { IsLowering three_junctions first_step }
     ensures wrong_steps { All (λ step. IsLowering three_junctions step → ⊥) wrong_steps }
+    ensures not_lower { IsLowering idle idle_step → ⊥ }
     ensures late { ArePlanned late_stage → ⊥ }
     ensures lead { LeadDown by_last (earlier ∷ earlier_again ∷ []) after_two }
     ensures other_last { LeadDown by_last (earlier ∷ earlier_again ∷ []) (with_edit by_last earlier.edit) → ⊥ }

@@ -1,18 +1,21 @@
-//! What is answered to the lines of a run: a deck, and then the commands over a session.
+//! What is answered to a line of a run: what a command asks for over a session, its text, and the report of a deck and its
+//! commands as a definition.
+//!
+//! `specs/Commands` has what is answered to a command, its text and the session after it, `specs/Report` the report of an
+//! input as a fold over its lines, `specs/Steps` what a step of a climb keeps to. [`judge`] makes a line into an
+//! [`Answer`]; [`say_text`] and [`certify_on`] write it. A climb is written by `transyt_reporter`, over desks.
 #![tactic(auto)]
 
 mod answer;
-mod brief;
 mod certifying;
-mod climbing;
 mod judging;
 mod laws;
-mod reporter;
-mod running;
 mod saying;
 
-pub use brief::write_brief;
+pub use answer::Answer;
+pub use certifying::certify_on;
+pub use judging::judge;
 pub use laws::{
-    steps_are_work, steps_lower, worked_brief, worked_commands, worked_lowering, worked_reports,
+    steps_are_work, steps_lower, worked_commands, worked_lowering, worked_reports, worked_trial,
 };
-pub use running::run_deck;
+pub use saying::{print_accepted, print_card_refused, say_text};

@@ -1,30 +1,23 @@
-//! What was judged is said: its text is written.
-ghost use Rattle.std.specs.Prelude.{◌≡◌, ◌^◌, ◌≤◌, length, true, OnOk};
+//! What was judged is said: its text is written. CLIMB and CERT, which look as they write, are no part of this.
+ghost use Rattle.std.specs.Prelude.{◌≡◌, true};
 ghost use Rattle.transyt_net.specs.Parts.{Network};
-ghost use Rattle.transyt_desks.specs.Desks.{desk_zero};
 ghost use Rattle.transyt_text.specs.Prints.{PrintsOn};
-ghost use Rattle.transyt_answers.specs.Commands.{done_text, refused_text, answer_text, after_answer};
-ghost use Rattle.transyt_answers.specs.Conditions.{AreReady, IsOf, Leaves, is_told};
+ghost use Rattle.transyt_answers.specs.Commands.{done_text, refused_text, answer_text};
+ghost use Rattle.transyt_answers.specs.Conditions.{IsOf, is_told};
 ghost use Rattle.transyt_answers.specs.Report.{card_refused, accepted};
 
 use crate::answer::Answer;
-use crate::certifying::certify_on;
-use crate::climbing::climb_on;
-use std::sync::ledger::Ledger;
-use std::thread::Threads;
 use transyt_cards::{Code, print_deck};
-use transyt_desks::{Desks, Gate};
 use transyt_io::{Failed, LineBuffer, Sink};
 use transyt_net::Net;
 use transyt_plot::plot;
 use transyt_report::{Report, show};
 use transyt_session::Session;
-use transyt_steps::Steps;
 use transyt_text::print_form;
 
-/// Writes the line of a refused card.
+/// Writes the line of a refused card, `CARD number REFUSED code`. On Failed some first bytes of it were written.
 #[tactic(auto, unfolding(crate::specs::Report::card_refused))]
-pub(crate) fn print_card_refused<K: Sink>(
+pub fn print_card_refused<K: Sink>(
     card: u32,
     code: Code,
     line: &mut LineBuffer,
@@ -36,13 +29,9 @@ pub(crate) fn print_card_refused<K: Sink>(
     print_form(b"CARD # REFUSED #", &numbers, line, sink)
 }
 
-/// Writes the line of an accepted END.
+/// Writes the line of an accepted END, `ACCEPTED nodes links`. On Failed some first bytes of it were written.
 #[tactic(auto, unfolding(crate::specs::Report::accepted))]
-pub(crate) fn print_accepted<K: Sink>(
-    net: &Net,
-    line: &mut LineBuffer,
-    sink: &mut K,
-) -> Result<(), Failed>
+pub fn print_accepted<K: Sink>(net: &Net, line: &mut LineBuffer, sink: &mut K) -> Result<(), Failed>
     ensures { PrintsOn K.written K.faults sink.old sink.new result (accepted net.now) }
 {
     let numbers = [net.nodes().len() as u128, net.links().len() as u128];
@@ -65,8 +54,9 @@ fn print_refused<K: Sink>(code: Code, line: &mut LineBuffer, sink: &mut K) -> Re
     print_form(b"REFUSED #", &[u128::from(code.number())], line, sink)
 }
 
-/// Writes the text of an answer other than CLIMB and CERT.
-fn say_text<K: Sink>(
+/// Writes the text of an answer other than CLIMB and CERT. On Failed some first bytes of it were written. It takes no
+/// memory.
+pub fn say_text<K: Sink>(
     answer: Answer,
     session: &Session,
     line: &mut LineBuffer,
@@ -84,34 +74,5 @@ fn say_text<K: Sink>(
         Answer::Plot(place) => plot(session, place, line, sink),
         Answer::Deck => print_deck(session.net(), line, sink),
         Answer::Climb | Answer::Cert => unreachable!(),
-    }
-}
-
-/// Writes the text of an answer; CLIMB and CERT are carried out line by line as they are written.
-///
-/// On Failed some first bytes of the text were written. It takes no memory.
-pub(crate) fn say<R: Threads + Sync, G: Gate, K: Sink, L: Ledger>(
-    rt: &R,
-    gate: &G,
-    answer: Answer,
-    desks: &mut Desks,
-    line: &mut LineBuffer,
-    sink: &mut K,
-    steps: &mut Steps<L>,
-) -> Result<(), Failed>
-    requires ready { AreReady desks.old }
-    requires few { length desks.old ≤ 8 }
-    requires of { IsOf (desk_zero desks.old) answer }
-    requires room { (desk_zero desks.old).work ≤ 2 ^ 60 }
-    ensures prints { PrintsOn K.written K.faults sink.old sink.new result
-        (answer_text (desk_zero desks.old) answer) }
-    ensures state { OnOk result (desk_zero desks.new ≡ after_answer answer (desk_zero desks.old)) }
-    ensures leaves { Leaves 8000072000 (after_answer answer (desk_zero desks.old)) desks.old desks.new
-        steps.old steps.new }
-{
-    match answer {
-        Answer::Climb => climb_on(rt, gate, desks, line, sink, steps),
-        Answer::Cert => certify_on(desks.session_mut(), line, sink, steps),
-        _ => say_text(answer, desks.session(), line, sink),
     }
 }

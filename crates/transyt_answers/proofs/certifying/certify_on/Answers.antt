@@ -11,8 +11,8 @@ use Rattle.transyt_track.specs.Work.{edit_work, cert_work}
 use Rattle.transyt_session.specs.Session.{SessionValue}
 use Rattle.transyt_cert.specs.Certificate.{place_text, last_text}
 use Rattle.transyt_cert.proofs.CertificateLaws.{text_by_place}
-use Rattle.transyt_answers.proofs.ClimbTexts.{breaks_longer}
-use Rattle.transyt_answers.proofs.MoveLaws.{cert_more}
+use Rattle.transyt_answers.proofs.CertLaws.{breaks_longer}
+use Rattle.transyt_answers.proofs.CertLaws.{cert_more}
 use Rattle.transyt_answers.proofs.certifying.certify_on.Goals as goal
 
 -- the line of a place is written

@@ -1,7 +1,7 @@
 -- What a try found is the index with the move.
 use Rattle.std.proofs.Common.{◌∙◌, ap}
 use Rattle.transyt_answers.specs.Conditions.{index_found}
-use Rattle.transyt_answers.proofs.MoveLaws.{found_at_place}
+use Rattle.transyt_answers.proofs.CertLaws.{found_at_place}
 use Rattle.transyt_answers.proofs.certifying.index_with_move.Goals as goal
 
 -- of the move at the place

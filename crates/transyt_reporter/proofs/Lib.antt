@@ -1,0 +1,10 @@
+-- The lemmas of the crate.
+pub mod Answered
+pub mod BriefLaws
+pub mod ClimbTexts
+pub mod CountLaws
+pub mod LeavesLaws
+pub mod MoveLaws
+pub mod OpenedLaws
+pub mod ReadyLaws
+pub mod WorkedBrief

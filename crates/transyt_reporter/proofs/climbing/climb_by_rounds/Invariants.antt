@@ -1,0 +1,18 @@
+-- The climb is on its way, and the lines of its steps are written.
+use Rattle.std.proofs.Common.{◌≡◌, ◌+◌, ◌-◌, length}
+use Rattle.transyt_desks.specs.Desks.{desk_zero}
+use Rattle.transyt_reporter.specs.Conditions.{ClimbWritten}
+use Rattle.transyt_reporter.proofs.climbing.climb_by_rounds.Given as goal
+
+-- the climb so far, and its steps with one worker
+abbrev pub invariant-loop-desks : goal.invariant-loop-desks
+invariant-loop-desks g l = record {
+  written : ClimbWritten l.fn.climber.budget l.fn.desks l.desks l.climber (g.K.Sink.written l.fn.sink)
+      (g.K.Sink.written l.sink) (g.K.Sink.faults l.fn.sink) (g.K.Sink.faults l.sink);
+  steps : length l.fn.desks ≡ 1
+      → l.steps + (desk_zero l.fn.desks).work ≡ l.fn.steps + (desk_zero l.desks).work;
+}
+
+-- fewer places may still be looked at
+abbrev pub decreases-loop-desks : goal.decreases-loop-desks
+decreases-loop-desks g l = l.climber.budget - l.climber.looked

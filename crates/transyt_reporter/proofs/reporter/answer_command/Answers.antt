@@ -1,0 +1,90 @@
+-- A command is judged, and then said.
+use Rattle.std.proofs.Common.{◌≡◌, ℕ, List, sym, ◌∙◌, ap, subst, set}
+use Rattle.transyt_io.specs.Streams.{Adds, AddsFront}
+use Rattle.transyt_session.specs.Session.{SessionValue}
+use Rattle.transyt_desks.specs.Desks.{desk_zero}
+use Rattle.transyt_answers.specs.Commands.{after_answer, answer_text, line_answer, line_judged}
+use Rattle.transyt_reporter.specs.Conditions.{AreReady}
+use Rattle.transyt_reporter.proofs.ReadyLaws.{ready_judged, zero_set}
+use Rattle.transyt_answers.proofs.JudgedTexts.{line_said}
+use Rattle.transyt_reporter.proofs.LeavesLaws.{command_leaves}
+use Rattle.transyt_reporter.proofs.reporter.answer_command.Goals as goal
+
+-- the desks are ready when desk 0 has judged the line
+pub say-requires-clause-ready : goal.say-requires-clause-ready
+say-requires-clause-ready g c κs within =
+    let desks = c.args.desks.now in
+    let line = c.args.command.now in
+    let P : SessionValue → Type 0 = λ s. AreReady (set desks 0 s) in
+    let state = c.judge-answer.ensures.state ∙ ap (λ (s : SessionValue). line_judged s line) c.session_mut.ensures.value in
+    subst P (sym state) (ready_judged desks line c.requires.ready)
+
+-- the text is over the session before
+pub returns-in-Ok-clause-prints : goal.returns-in-Ok-clause-prints
+returns-in-Ok-clause-prints g c =
+    let zero = desk_zero c.args.desks.now in
+    let line = c.args.command.now in
+    let value = c.session_mut.ensures.value in
+    let at : desk_zero (set c.args.desks.now 0 c.judge-answer.new.session) ≡ line_judged zero line =
+    zero_set c.args.desks.now c.judge-answer.new.session c.requires.ready.some
+    ∙ c.judge-answer.ensures.state ∙ ap (λ (s : SessionValue). line_judged s line) value in
+    let answer : c.judge-answer.result ≡ line_answer zero line =
+    c.judge-answer.ensures.answer ∙ ap (λ (s : SessionValue). line_answer s line) value in
+    let same = (λ i. answer_text (at i) (answer i)) ∙ line_said zero line in
+    let told = c.in-Ok.ensures.prints in
+    let P : List ℕ → Type 0 = λ xs. Adds (g.K.Sink.written c.args.sink.now) (g.K.Sink.written c.say.new.sink) xs in
+    record {
+      ok = subst P same told.ok;
+      err = tt;
+      cause = record { later = told.cause.later; failed = tt };
+    }
+
+-- and where it broke off
+pub returns-in-Err-clause-prints : goal.returns-in-Err-clause-prints
+returns-in-Err-clause-prints g c =
+    let zero = desk_zero c.args.desks.now in
+    let line = c.args.command.now in
+    let value = c.session_mut.ensures.value in
+    let at : desk_zero (set c.args.desks.now 0 c.judge-answer.new.session) ≡ line_judged zero line =
+    zero_set c.args.desks.now c.judge-answer.new.session c.requires.ready.some
+    ∙ c.judge-answer.ensures.state ∙ ap (λ (s : SessionValue). line_judged s line) value in
+    let answer : c.judge-answer.result ≡ line_answer zero line =
+    c.judge-answer.ensures.answer ∙ ap (λ (s : SessionValue). line_answer s line) value in
+    let same = (λ i. answer_text (at i) (answer i)) ∙ line_said zero line in
+    let told = c.in-Err.ensures.prints in
+    let P : List ℕ → Type 0 = λ xs. AddsFront (g.K.Sink.written c.args.sink.now) (g.K.Sink.written c.say.new.sink) xs in
+    record {
+      ok = tt;
+      err = subst P same told.err;
+      cause = record { later = told.cause.later; failed = told.cause.failed };
+    }
+
+-- the desks and the steps
+pub returns-in-Ok-clause-leaves : goal.returns-in-Ok-clause-leaves
+returns-in-Ok-clause-leaves g c =
+    let desks = c.args.desks.now in
+    let line = c.args.command.now in
+    let s = c.judge-answer.new.session in
+    let value = c.session_mut.ensures.value in
+    let told = c.judge-answer.ensures in
+    let at : desk_zero (set desks 0 s) ≡ line_judged (desk_zero desks) line =
+    zero_set desks s c.requires.ready.some ∙ told.state ∙ ap (λ (s : SessionValue). line_judged s line) value in
+    let answer : c.judge-answer.result ≡ line_answer (desk_zero desks) line =
+    told.answer ∙ ap (λ (s : SessionValue). line_answer s line) value in
+    command_leaves desks c.say.new.desks _ s _ _ c.args.steps.now c.judge-answer.new.steps c.say.new.steps
+    c.requires.ready value told.few told.steps (λ i. after_answer (answer i) (at i)) c.in-Ok.ensures.leaves
+
+-- and where it broke off
+pub returns-in-Err-clause-leaves : goal.returns-in-Err-clause-leaves
+returns-in-Err-clause-leaves g c =
+    let desks = c.args.desks.now in
+    let line = c.args.command.now in
+    let s = c.judge-answer.new.session in
+    let value = c.session_mut.ensures.value in
+    let told = c.judge-answer.ensures in
+    let at : desk_zero (set desks 0 s) ≡ line_judged (desk_zero desks) line =
+    zero_set desks s c.requires.ready.some ∙ told.state ∙ ap (λ (s : SessionValue). line_judged s line) value in
+    let answer : c.judge-answer.result ≡ line_answer (desk_zero desks) line =
+    told.answer ∙ ap (λ (s : SessionValue). line_answer s line) value in
+    command_leaves desks c.say.new.desks _ s _ _ c.args.steps.now c.judge-answer.new.steps c.say.new.steps
+    c.requires.ready value told.few told.steps (λ i. after_answer (answer i) (at i)) c.in-Err.ensures.leaves

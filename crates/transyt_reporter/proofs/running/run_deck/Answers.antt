@@ -1,0 +1,34 @@
+-- Without memory nothing is taken or written; the rest is said by the run over the lines.
+use Rattle.std.proofs.Common.{ℕ, nat_eq, inl, arith, [], refl, ap, ◌∙◌}
+use Rattle.transyt_io.proofs.Told.{takes_nothing, adds_nothing}
+use Rattle.transyt_running.proofs.RunLaws.{outcome_of, steps_of}
+use Rattle.transyt_reporter.specs.Reporter.{ReporterValue}
+use Rattle.transyt_reporter.proofs.running.run_deck.Goals as goal
+
+-- no memory for writing
+pub returns-in_default-clause-outcome : goal.returns-in_default-clause-outcome
+returns-in_default-clause-outcome g c = record {
+  taken = [];
+  out = [];
+  takes = takes_nothing _;
+  adds = adds_nothing _;
+  row = refl;
+}
+
+-- and no step
+pub returns-in_default-clause-steps : goal.returns-in_default-clause-steps
+returns-in_default-clause-steps g c = λ all. record {
+  taken = [];
+  takes = takes_nothing _;
+  row = inl (omega arith);
+}
+
+-- what was taken and what was written
+pub returns-clause-outcome : goal.returns-clause-outcome
+returns-clause-outcome g c = outcome_of c.run-status.ensures.ran
+
+-- the steps
+pub returns-clause-steps : goal.returns-clause-steps
+returns-clause-steps g c = λ one.
+    steps_of c.run-status.ensures.ran
+    (ap (λ (r : ReporterValue). nat_eq r.workers 1) c.in-Ok.ensures.value ∙ ap (λ (n : ℕ). nat_eq n 1) one)

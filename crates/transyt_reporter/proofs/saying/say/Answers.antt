@@ -1,0 +1,51 @@
+-- A certificate, a climb, and an answer that is no more than its text.
+use Rattle.std.proofs.Common.{sym, ◌∙◌, ap, subst, set}
+use Rattle.transyt_session.specs.Session.{SessionValue}
+use Rattle.transyt_desks.specs.Desks.{desk_zero}
+use Rattle.transyt_text.proofs.PrintLaws.{prints_same}
+use Rattle.transyt_cert.specs.Certificate.{cert_text}
+use Rattle.transyt_answers.specs.declared.answer.Answer.{Answer}
+use Rattle.transyt_answers.specs.Commands.{answer_text, after_answer}
+use Rattle.transyt_reporter.specs.Conditions.{Leaves}
+use Rattle.transyt_reporter.proofs.LeavesLaws.{told_by, told_leaves, cert_leaves}
+use Rattle.transyt_reporter.proofs.saying.say.Goals as goal
+
+-- a certificate
+pub returns-in-Cert-clause-prints : goal.returns-in-Cert-clause-prints
+returns-in-Cert-clause-prints g c =
+    prints_same _ _ c.certify_on.result _ _ c.certify_on.ensures.prints
+    (ap (λ (s : SessionValue). cert_text s.net) c.session_mut.ensures.value
+    ∙ ap (answer_text (desk_zero c.args.desks.now)) (sym c.in-Cert.is))
+
+-- its desks and steps
+pub returns-in-Cert-clause-leaves : goal.returns-in-Cert-clause-leaves
+returns-in-Cert-clause-leaves g c =
+    let desks = c.args.desks.now in
+    let s = c.certify_on.new.session in
+    let told = c.certify_on.ensures in
+    let P : Answer → Type 0 = λ answer.
+    Leaves 8000072000 (after_answer answer (desk_zero desks)) desks (set desks 0 s) c.args.steps.now c.certify_on.new.steps in
+    subst P (sym c.in-Cert.is)
+    (cert_leaves desks _ s _ _ c.requires.ready c.session_mut.ensures.value told.same told.closed told.few told.work told.steps)
+
+-- the desks and the steps of a climb
+pub returns-in-Climb-clause-leaves : goal.returns-in-Climb-clause-leaves
+returns-in-Climb-clause-leaves g c =
+    let desks = c.args.desks.now in
+    let P : Answer → Type 0 = λ answer. Leaves 8000072000 (after_answer answer (desk_zero desks)) desks
+    c.climb_on.new.desks c.args.steps.now c.climb_on.new.steps in
+    subst P (sym c.in-Climb.is) c.climb_on.ensures.leaves
+
+-- any other answer is no more than its text
+pub say_text-requires-clause-told : goal.say_text-requires-clause-told
+say_text-requires-clause-told g c = told_by c.args.answer c.in_default.not-Climb c.in_default.not-Cert
+
+pub returns-in_default-clause-leaves : goal.returns-in_default-clause-leaves
+returns-in_default-clause-leaves g c =
+    told_leaves c.args.answer c.args.desks.now c.args.steps.now
+    (told_by c.args.answer c.in_default.not-Climb c.in_default.not-Cert) c.requires.ready
+
+pub returns-in_default-clause-prints : goal.returns-in_default-clause-prints
+returns-in_default-clause-prints g c =
+    prints_same _ _ c.say_text.result _ _ c.say_text.ensures
+    (ap (λ (s : SessionValue). answer_text s c.args.answer) c.session.ensures)

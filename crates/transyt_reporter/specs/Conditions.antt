@@ -1,0 +1,62 @@
+-- What the desks keep to between two lines and during a climb. No clause of the top call cites it.
+use Rattle.std.specs.Prelude.{ℕ, ◌+◌, ◌*◌, ◌≡◌, ◌<◌, ◌≤◌, true, length, Option, IfSome, List}
+use Rattle.transyt_net.specs.Shape.{SameShape}
+use Rattle.transyt_sweep.specs.Climb.{Step, climb}
+use Rattle.transyt_session.specs.Session.{SessionValue}
+use Rattle.transyt_climb.specs.declared.turn.Turn.{Turn}
+use Rattle.transyt_climb.specs.declared.turn.Turn.TheVariants.{Took, Passed, Local, Budget}
+use Rattle.transyt_climb.specs.Turns.{Counters, machine}
+use Rattle.transyt_climb.specs.Way.{IsUnderWay}
+use Rattle.transyt_desks.specs.Desks.{desk_zero, AreAlike}
+use Rattle.transyt_text.specs.Prints.{Printed}
+use Rattle.transyt_report.specs.MoveTexts.{is_move}
+use Rattle.transyt_answers.specs.Commands.{steps_text}
+
+-- desks between two lines: each has the shape of desk 0, and so has the network before an open trial
+pub record AreReady (desks : List SessionValue) : Type 0 where
+  pub some : 0 < length desks
+  pub alike : AreAlike desks
+  pub before : IfSome (desk_zero desks).before (λ net. SameShape (desk_zero desks).net net)
+
+-- the most work of a session after so many looks of a climb that began with some work
+abbrev pub most_work : ℕ → ℕ → ℕ
+most_work work looked = work + 8000 * looked
+
+-- a climb on its way over desks, from those of its start, with the steps done
+pub record ClimbSoFar (budget : ℕ) (first desks : List SessionValue) (counters : Counters) (done : List Step) : Type 0 where
+  pub way : IsUnderWay (climb (desk_zero first).net 0 budget) (desk_zero first).work done
+      (machine counters (desk_zero desks))
+  pub alike : AreAlike desks
+  pub len : length desks ≡ length first
+  pub budget_is : counters.budget ≡ budget
+  pub room : (desk_zero desks).work ≤ most_work (desk_zero first).work counters.looked
+
+-- a climb whose steps are written as they are taken
+pub record ClimbWritten (budget : ℕ) (first desks : List SessionValue) (counters : Counters)
+    (written written_new : Option (List ℕ)) (faults faults_new : ℕ) : Type 0 where
+  pub done : List Step
+  pub climb : ClimbSoFar budget first desks counters done
+  pub printed : Printed written written_new faults faults_new (steps_text done)
+
+-- a climb whose steps are counted
+pub record ClimbCounted (budget : ℕ) (first desks : List SessionValue) (counters : Counters) (count : ℕ) : Type 0 where
+  pub done : List Step
+  pub climb : ClimbSoFar budget first desks counters done
+  pub count_is : count ≡ length done
+  pub few : count ≤ counters.looked
+
+-- the edit of a step is one of an offset or a change
+abbrev pub IsStep : Turn → Type 0
+IsStep (Took place edit index) = is_move edit ≡ true
+IsStep Passed = Unit {0}
+IsStep Local = Unit {0}
+IsStep Budget = Unit {0}
+
+-- desks and steps after an answer, also one whose text broke off: the desks are ready, the work rose by no more than a
+-- limit and not past that of the whole answer, and with one worker the steps rose as it did
+pub record Leaves (most : ℕ) (answered : SessionValue) (old new : List SessionValue) (steps steps_new : ℕ) : Type 0 where
+  pub ready : AreReady new
+  pub len : length new ≡ length old
+  pub few : (desk_zero new).work ≤ (desk_zero old).work + most
+  pub work : (desk_zero new).work ≤ answered.work
+  pub made : length old ≡ 1 → steps_new + (desk_zero old).work ≡ steps + (desk_zero new).work

@@ -1,0 +1,50 @@
+-- What a reporter stands for, and what it keeps to.
+use Rattle.std.specs.Prelude.{ℕ, ◌≡◌, ◌*◌, ◌≤◌, ◌++◌, true, List, [], length, Option, None, Some, IfSome, IfNone}
+use Rattle.transyt_deck.specs.Deck.{start, line_count, is_open}
+use Rattle.transyt_deck.specs.Reader.{ReaderValue}
+use Rattle.transyt_session.specs.Session.{SessionValue}
+use Rattle.transyt_desks.specs.Desks.{desk_zero}
+use Rattle.transyt_running.specs.Turns.{answers_after}
+use Rattle.transyt_answers.specs.Report.{RunState, InDeck, InSession, text, ends, run_state}
+use Rattle.transyt_reporter.specs.Conditions.{AreReady}
+
+-- a reporter: how many workers, how many lines it has counted, its reader of cards, and from END on its desks
+pub record ReporterValue : Type 0 where
+  pub workers : ℕ
+  pub lines : ℕ
+  pub cards : ReaderValue
+  pub desks : Option (List SessionValue)
+
+-- what its lines have come to
+abbrev pub state_of : ReaderValue → Option (List SessionValue) → RunState
+state_of cards None = InDeck cards.deck
+state_of cards (Some desks) = InSession (desk_zero desks)
+
+-- a reporter of these
+abbrev pub reporter_of : ℕ → ℕ → ReaderValue → Option (List SessionValue) → ReporterValue
+reporter_of workers lines cards desks = record { workers = workers; lines = lines; cards = cards; desks = desks }
+
+-- a reporter to which no line came
+abbrev pub new_reporter : ℕ → ReporterValue
+new_reporter workers = reporter_of workers 0 (record { deck = start; live = true }) None
+
+-- what desks for so many workers keep to after so many lines
+pub record AreKept (workers lines : ℕ) (desks : List SessionValue) : Type 0 where
+  pub ready : AreReady desks
+  pub len : length desks ≡ workers
+  pub work : (desk_zero desks).work ≤ 8589934592 * lines
+
+-- what a reporter keeps to
+pub record IsReporter (r : ReporterValue) : Type 0 where
+  pub workers : r.workers ≤ 8
+  pub some : 1 ≤ r.workers
+  pub cards : line_count r.cards.deck ≤ r.lines
+  pub desks : IfSome r.desks (AreKept r.workers r.lines)
+
+-- These lines have come to this, and none of them ends the run: before END they write nothing.
+pub record HasAnswered (r : ReporterValue) (before : List (List ℕ)) : Type 0 where
+  pub is : state_of r.cards r.desks ≡ run_state before
+  pub awaited : IfNone r.desks (is_open r.cards.deck ≡ true)
+  pub live : IfNone r.desks (r.cards.live ≡ true)
+  pub quiet : IfNone r.desks ((more : List (List ℕ))
+      → answers_after text ends [] (before ++ more) ≡ answers_after text ends before more)

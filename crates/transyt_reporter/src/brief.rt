@@ -1,0 +1,192 @@
+//! BRIEF: one climb on a network, told in one line.
+ghost use Rattle.std.specs.Prelude.{◌≡◌, ◌+◌, ◌*◌, ◌^◌, ◌≤◌, ◌∷◌, [], length, None, IsSome, IsErrOf, OnOk, OnErr};
+ghost use Rattle.transyt_io.specs.Streams.{Adds, AddsFront, Rose};
+ghost use Rattle.transyt_moves.specs.Moves.{move_count};
+ghost use Rattle.transyt_sweep.specs.Climb.{climb};
+ghost use Rattle.transyt_sweep.specs.Sweeps.{index};
+ghost use Rattle.transyt_climb.specs.Turns.{start_at};
+ghost use Rattle.transyt_climb.specs.Way.{climbed};
+ghost use Rattle.transyt_desks.specs.Desks.{desk_zero, AreAlike};
+ghost use Rattle.transyt_text.specs.Prints.{PrintsOn};
+ghost use Rattle.transyt_text.specs.Forms.{form_line};
+ghost use Rattle.transyt_track.specs.Work.{work_of};
+ghost use Rattle.transyt_reporter.specs.Brief.{brief_form, brief_text, brief_steps};
+ghost use Rattle.transyt_answers.specs.Commands.{climb_of};
+ghost use Rattle.transyt_reporter.specs.Conditions.{AreReady};
+
+use crate::climbing::{start_climber, steps_of};
+use std::alloc::Global;
+use std::sync::ledger::Ledger;
+use std::thread::Threads;
+use transyt_climb::Climber;
+use transyt_desks::{Desks, Gate};
+use transyt_io::{Failed, LineBuffer, Sink};
+use transyt_net::Net;
+use transyt_running::Stop;
+use transyt_session::Session;
+use transyt_steps::Steps;
+use transyt_text::print_form;
+
+/// What a climb came to: how many steps it took, and whether it ended since no move lowers the index.
+#[derive(Clone, Copy, Debug, PartialEq, Eq, Drop)]
+struct Climbed {
+    took: u32,
+    local: bool,
+}
+
+/// Climbs by rounds of the desks, from a climber at its start to its end, and counts the steps.
+fn count_steps<R: Threads + Sync, G: Gate, L: Ledger>(
+    rt: &R,
+    gate: &G,
+    desks: &mut Desks,
+    climber: &mut Climber,
+    steps: &mut Steps<L>,
+) -> Climbed
+    requires start { climber.old ≡ start_at climber.old.budget (move_count (desk_zero desks.old).net) }
+    requires budget { climber.old.budget ≤ 1000000 }
+    requires alike { AreAlike desks.old }
+    requires closed { (desk_zero desks.old).before ≡ None }
+    requires few { length desks.old ≤ 8 }
+    requires room { (desk_zero desks.old).work ≤ 2 ^ 60 }
+    ensures took { result.took ≡ length (climb (desk_zero desks.old).net 0 climber.old.budget).steps }
+    ensures local { result.local ≡ (climb (desk_zero desks.old).net 0 climber.old.budget).local }
+    ensures looked { climber.new.looked ≡ length (climb (desk_zero desks.old).net 0 climber.old.budget).looks }
+    ensures state { desk_zero desks.new ≡ climbed climber.old.budget (desk_zero desks.old) }
+    ensures steps { length desks.old ≡ 1
+        → steps.new + (desk_zero desks.old).work ≡ steps.old + (desk_zero desks.new).work }
+{
+    let mut took = 0;
+    loop {
+        let round = desks.stretch_round(rt, climber, gate, steps);
+        if round.last.is_end() {
+            return Climbed {
+                took,
+                local: round.last.is_local(),
+            };
+        }
+        took += steps_of(round.last);
+    }
+}
+
+/// Climbs by the network's plan, and writes the line.
+fn tell_climb<R: Threads + Sync, G: Gate, K: Sink, L: Ledger>(
+    rt: &R,
+    gate: &G,
+    desks: &mut Desks,
+    line: &mut LineBuffer,
+    sink: &mut K,
+    steps: &mut Steps<L>,
+) -> Result<(), Failed>
+    requires ready { AreReady desks.old }
+    requires plan { IsSome (desk_zero desks.old).net.plan }
+    requires closed { (desk_zero desks.old).before ≡ None }
+    requires few { length desks.old ≤ 8 }
+    requires room { (desk_zero desks.old).work ≤ 2 ^ 60 }
+    ensures prints { PrintsOn K.written K.faults sink.old sink.new result
+        (brief_text (desk_zero desks.old).net) }
+    ensures steps { length desks.old ≡ 1
+        → steps.new ≡ steps.old + work_of (climb_of (desk_zero desks.old).net).looks }
+{
+    let net = desks.session().net();
+    let (nodes, links) = (net.nodes().len(), net.links().len());
+    let from = desks.session().index();
+    let mut climber = start_climber(desks.session().net());
+    let climbed = count_steps(rt, gate, desks, &mut climber, steps);
+    let numbers = numbers_of(
+        nodes,
+        links,
+        from,
+        climbed,
+        climber.looked(),
+        desks.session(),
+    );
+    print_brief(climbed.local, &numbers, line, sink)
+}
+
+/// The numbers of the line, in its order: of nodes and links, the index before the climb, the steps and the looks, and
+/// the index now.
+fn numbers_of(
+    nodes: usize,
+    links: usize,
+    from: u128,
+    climbed: Climbed,
+    looked: u32,
+    session: &Session,
+) -> [u128; 6]
+    ensures { result ≡ nodes ∷ links ∷ from ∷ climbed.took ∷ looked ∷ index session.now.net ∷ [] }
+{
+    [
+        nodes as u128,
+        links as u128,
+        from,
+        u128::from(climbed.took),
+        u128::from(looked),
+        session.index(),
+    ]
+}
+
+/// Writes the line with these numbers.
+fn print_brief<K: Sink>(
+    local: bool,
+    numbers: &[u128],
+    line: &mut LineBuffer,
+    sink: &mut K,
+) -> Result<(), Failed>
+    requires { length numbers.now ≤ 6 }
+    ensures { PrintsOn K.written K.faults sink.old sink.new result
+        (form_line (brief_form local) numbers.now) }
+{
+    if local {
+        print_form(b"BRIEF # # FROM # TOOK # LOCAL # TO #", numbers, line, sink)
+    } else {
+        print_form(
+            b"BRIEF # # FROM # TOOK # BUDGET # TO #",
+            numbers,
+            line,
+            sink,
+        )
+    }
+}
+
+/// Climbs once on a network by its plan, with so many workers, and writes the line of it.
+///
+/// All memory is taken before the line is written. On a failed write some first bytes of the line were written.
+pub fn write_brief<R: Threads + Sync, G: Gate, K: Sink, L: Ledger>(
+    rt: &R,
+    alloc: Global,
+    net: Net,
+    workers: u32,
+    gate: &G,
+    sink: &mut K,
+    steps: &mut Steps<L>,
+) -> Result<(), Stop>
+    requires plan { IsSome net.plan }
+    requires some { 1 ≤ workers }
+    requires most { workers ≤ 8 }
+    ensures ok { OnOk result (Adds (K.written sink.old) (K.written sink.new) (brief_text net)) }
+    ensures err { OnErr result (AddsFront (K.written sink.old) (K.written sink.new) (brief_text net)) }
+    ensures later { K.faults sink.old ≤ K.faults sink.new }
+    ensures fault { IsErrOf result Stop.Write → Rose (K.faults sink.old) (K.faults sink.new) }
+    ensures silent { IsErrOf result Stop.Memory → sink.new ≡ sink.old }
+    ensures steps { workers ≡ 1 → OnOk result (steps.new ≡ steps.old + brief_steps net) }
+    ensures some_steps { workers ≡ 1 → OnErr result (steps.new ≤ steps.old + brief_steps net) }
+{
+    let Ok(mut line) = LineBuffer::open(alloc) else {
+        return Err(Stop::Memory);
+    };
+    let Ok(session) = Session::open(alloc, net, steps) else {
+        drop(line);
+        return Err(Stop::Memory);
+    };
+    let Ok(mut desks) = Desks::open(alloc, session, workers) else {
+        drop(line);
+        return Err(Stop::Memory);
+    };
+    let told = tell_climb(rt, gate, &mut desks, &mut line, sink, steps);
+    drop(desks);
+    drop(line);
+    match told {
+        Ok(()) => Ok(()),
+        Err(Failed) => Err(Stop::Write),
+    }
+}

@@ -1,0 +1,133 @@
+//! CLIMB: each step is written before the next look.
+ghost use Rattle.std.specs.Prelude.{◌≡◌, ◌+◌, ◌*◌, ◌^◌, ◌≤◌, length, [], None, IsSome, OnOk};
+ghost use Rattle.transyt_moves.specs.Moves.{move_count};
+ghost use Rattle.transyt_sweep.specs.Climb.{climb};
+ghost use Rattle.transyt_climb.specs.Turns.{start_at, step_then};
+ghost use Rattle.transyt_climb.specs.Way.{climbed};
+ghost use Rattle.transyt_desks.specs.Desks.{desk_zero, AreAlike};
+ghost use Rattle.transyt_text.specs.Prints.{PrintsOn};
+ghost use Rattle.transyt_report.specs.MoveTexts.{end_text};
+ghost use Rattle.transyt_answers.specs.Commands.{after_answer, steps_text, climb_text, climb_of, budget_of};
+ghost use Rattle.transyt_reporter.specs.Conditions.{IsStep, AreReady, Leaves};
+
+use std::sync::ledger::Ledger;
+use std::thread::Threads;
+use transyt_answers::Answer;
+use transyt_climb::{Climber, Turn};
+use transyt_desks::{Desks, Gate};
+use transyt_io::{Failed, LineBuffer, Sink, write_line};
+use transyt_net::Net;
+use transyt_report::{end_line, took_line};
+use transyt_steps::Steps;
+
+/// How many steps a turn took: one or none.
+pub(crate) fn steps_of(turn: Turn) -> u32
+    ensures value { result ≡ length (step_then turn []) }
+    ensures few { result ≤ 1 }
+{
+    match turn {
+        Turn::Took { .. } => 1,
+        _ => 0,
+    }
+}
+
+/// Writes the line of the step that a turn took, and nothing where it took none.
+fn say_step<K: Sink>(turn: Turn, line: &mut LineBuffer, sink: &mut K) -> Result<(), Failed>
+    requires { IsStep turn }
+    ensures { PrintsOn K.written K.faults sink.old sink.new result
+        (steps_text (step_then turn [])) }
+{
+    let Turn::Took { place, edit, index } = turn else {
+        return Ok(());
+    };
+    took_line(&edit, place, index, line);
+    write_line(line, sink)
+}
+
+/// Writes the last line of a climb.
+fn say_end<K: Sink>(
+    local: bool,
+    looked: u32,
+    index: u128,
+    line: &mut LineBuffer,
+    sink: &mut K,
+) -> Result<(), Failed>
+    ensures { PrintsOn K.written K.faults sink.old sink.new result (end_text local looked index) }
+{
+    end_line(local, looked, index, line);
+    write_line(line, sink)
+}
+
+/// A climber at the start of a climb by the network's plan.
+pub(crate) fn start_climber(net: &Net) -> Climber
+    requires plan { IsSome net.now.plan }
+    ensures start { result ≡ start_at (budget_of net.now.plan) (move_count net.now) }
+    ensures few { budget_of net.now.plan ≤ 1000000 }
+{
+    let _plan = net.plan();
+    let Some(climber) = Climber::start(net) else {
+        unreachable!()
+    };
+    climber
+}
+
+/// Climbs by rounds of the desks, from a climber at its start to its end.
+fn climb_by_rounds<R: Threads + Sync, G: Gate, K: Sink, L: Ledger>(
+    rt: &R,
+    gate: &G,
+    desks: &mut Desks,
+    climber: &mut Climber,
+    line: &mut LineBuffer,
+    sink: &mut K,
+    steps: &mut Steps<L>,
+) -> Result<(), Failed>
+    requires start { climber.old ≡ start_at climber.old.budget (move_count (desk_zero desks.old).net) }
+    requires budget { climber.old.budget ≤ 1000000 }
+    requires alike { AreAlike desks.old }
+    requires closed { (desk_zero desks.old).before ≡ None }
+    requires few { length desks.old ≤ 8 }
+    requires room { (desk_zero desks.old).work ≤ 2 ^ 60 }
+    ensures prints { PrintsOn K.written K.faults sink.old sink.new result
+        (climb_text (climb (desk_zero desks.old).net 0 climber.old.budget)) }
+    ensures state { OnOk result (desk_zero desks.new ≡ climbed climber.old.budget (desk_zero desks.old)) }
+    ensures alike { AreAlike desks.new }
+    ensures closed { (desk_zero desks.new).before ≡ None }
+    ensures len { length desks.new ≡ length desks.old }
+    ensures few { (desk_zero desks.new).work ≤ (desk_zero desks.old).work + 8000 * climber.old.budget + 72000 }
+    ensures work { (desk_zero desks.new).work ≤ (climbed climber.old.budget (desk_zero desks.old)).work }
+    ensures steps { length desks.old ≡ 1
+        → steps.new + (desk_zero desks.old).work ≡ steps.old + (desk_zero desks.new).work }
+{
+    loop {
+        let round = desks.stretch_round(rt, climber, gate, steps);
+        if round.last.is_end() {
+            let index = desks.session().index();
+            return say_end(round.last.is_local(), climber.looked(), index, line, sink);
+        }
+        say_step(round.last, line, sink)?;
+    }
+}
+
+/// Climbs by the network's plan.
+pub(crate) fn climb_on<R: Threads + Sync, G: Gate, K: Sink, L: Ledger>(
+    rt: &R,
+    gate: &G,
+    desks: &mut Desks,
+    line: &mut LineBuffer,
+    sink: &mut K,
+    steps: &mut Steps<L>,
+) -> Result<(), Failed>
+    requires ready { AreReady desks.old }
+    requires plan { IsSome (desk_zero desks.old).net.plan }
+    requires closed { (desk_zero desks.old).before ≡ None }
+    requires few { length desks.old ≤ 8 }
+    requires room { (desk_zero desks.old).work ≤ 2 ^ 60 }
+    ensures prints { PrintsOn K.written K.faults sink.old sink.new result
+        (climb_text (climb_of (desk_zero desks.old).net)) }
+    ensures state { OnOk result (desk_zero desks.new ≡ after_answer Answer.Climb (desk_zero desks.old)) }
+    ensures leaves { Leaves 8000072000 (after_answer Answer.Climb (desk_zero desks.old)) desks.old desks.new
+        steps.old steps.new }
+{
+    let mut climber = start_climber(desks.session().net());
+    climb_by_rounds(rt, gate, desks, &mut climber, line, sink, steps)
+}

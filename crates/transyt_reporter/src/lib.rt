@@ -1,0 +1,16 @@
+//! The reporter: it answers the lines of a run, a deck and then the commands over desks, each before the next is read.
+//!
+//! The report is a definition of `transyt_answers`. `specs/Reporter` has what the reporter's lines have come to,
+//! `specs/Brief` one climb on a network in one line.
+#![tactic(auto)]
+
+mod brief;
+mod climbing;
+mod laws;
+mod reporter;
+mod running;
+mod saying;
+
+pub use brief::write_brief;
+pub use laws::worked_brief;
+pub use running::run_deck;

@@ -1,0 +1,253 @@
+//! What answers the lines of a deck and of its commands.
+ghost use Rattle.std.specs.Prelude.{◌≡◌, ◌≤◌, ◌<◌, ◌+◌, ◌^◌, true, None, Some, Ok, IfOk, IfNone, OnOk, OnErr, IsErrOf, IsTrue, length, ℕ, List, []};
+ghost use Rattle.transyt_running.specs.Turns.{AnsweredWhole, ClosedWhole, answers_after};
+ghost use Rattle.transyt_io.specs.Streams.{Adds, AddsFront, Rose};
+ghost use Rattle.transyt_text.specs.Prints.{PrintsOn};
+ghost use Rattle.transyt_deck.specs.Deck.{next, is_complete, line_count};
+ghost use Rattle.transyt_desks.specs.Desks.{desk_zero};
+ghost use Rattle.transyt_answers.specs.Commands.{line_answer, answer_text, session_after};
+ghost use Rattle.transyt_reporter.specs.Conditions.{AreReady, Leaves};
+ghost use Rattle.transyt_answers.specs.Report.{InSession, text, ends, closing, refused_at_end, cost, answer_ends, deck_said};
+ghost use Rattle.transyt_answers.specs.Report.{deck_ends, deck_steps, run_of};
+ghost use Rattle.transyt_reporter.specs.Reporter.{HasAnswered, state_of, AreKept, new_reporter};
+
+use crate::saying::say;
+use std::alloc::{AllocError, Global};
+use std::marker::Model;
+use std::mem;
+use std::sync::ledger::Ledger;
+use std::thread::Threads;
+use transyt_answers::{judge, print_accepted, print_card_refused};
+use transyt_cards::{CardReader, CardStop, Code, Progress};
+use transyt_desks::{Desks, Gate};
+use transyt_io::{Failed, LineBuffer, Sink};
+use transyt_running::{Ending, Stop};
+use transyt_session::Session;
+use transyt_steps::Steps;
+
+/// Answers the lines of a deck and, from END on, the commands over desks for so many workers.
+///
+/// A contract sees how many workers and lines there are, the reader of cards, and from END on the sessions of the desks.
+#[derive(Drop)]
+pub(crate) struct Reporter {
+    alloc: Global,
+    workers: u32,
+    lines: u32,
+    cards: CardReader,
+    desks: Option<Desks>,
+    buffer: LineBuffer,
+}
+
+impl Model for Reporter {
+    ghost use Rattle.transyt_reporter.specs.Reporter.{ReporterValue, IsReporter, reporter_of};
+
+    ghost Value = { ReporterValue };
+
+    ghost view = { λ r. reporter_of r.workers r.lines r.cards r.desks };
+
+    ghost invariant = { λ r. IsReporter (reporter_of r.workers r.lines r.cards r.desks) };
+}
+
+/// Opens the desks of a complete deck: all memory of the commands is taken here.
+fn open_desks<L: Ledger>(
+    alloc: Global,
+    cards: CardReader,
+    workers: u32,
+    steps: &mut Steps<L>,
+) -> Result<Desks, AllocError>
+    requires some { 1 ≤ workers }
+    requires most { workers ≤ 8 }
+    requires complete { IsTrue (is_complete cards.deck) }
+    ensures zero { IfOk result (λ desks. run_of cards.deck ≡ InSession (desk_zero desks)) }
+    ensures kept { IfOk result (λ desks. AreKept workers 0 desks) }
+    ensures ok { OnOk result (steps.new ≡ steps.old + deck_steps cards.deck) }
+    ensures err { OnErr result (steps.new ≤ steps.old + deck_steps cards.deck) }
+{
+    let Ok(net) = cards.finish() else {
+        unreachable!()
+    };
+    let session = Session::open(alloc, net, steps)?;
+    Desks::open(alloc, session, workers)
+}
+
+/// Answers a command: it is judged, and then said.
+fn answer_command<R: Threads + Sync, G: Gate, K: Sink, L: Ledger>(
+    rt: &R,
+    gate: &G,
+    desks: &mut Desks,
+    command: &[u8],
+    buffer: &mut LineBuffer,
+    sink: &mut K,
+    steps: &mut Steps<L>,
+) -> Result<Option<Ending>, Stop>
+    requires ready { AreReady desks.old }
+    requires few { length desks.old ≤ 8 }
+    requires room { (desk_zero desks.old).work ≤ 2 ^ 59 }
+    ensures prints { PrintsOn K.written K.faults sink.old sink.new result
+        (answer_text (desk_zero desks.old) (line_answer (desk_zero desks.old) command.now)) }
+    ensures ends { IfOk result (λ end. end ≡ answer_ends (line_answer (desk_zero desks.old) command.now)) }
+    ensures state { OnOk result (desk_zero desks.new ≡ session_after (desk_zero desks.old) command.now) }
+    ensures takes_none { IsErrOf result Stop.Memory → ⊥ }
+    ensures leaves { Leaves 8589934592 (session_after (desk_zero desks.old) command.now) desks.old desks.new
+        steps.old steps.new }
+{
+    let answer = judge(desks.session_mut(), command, steps);
+    match say(rt, gate, answer, desks, buffer, sink, steps) {
+        Ok(()) => Ok(answer.ending()),
+        Err(Failed) => Err(Stop::Write),
+    }
+}
+
+impl Reporter {
+    /// No line came. The memory for writing is taken here.
+    pub(crate) fn open(alloc: Global, workers: u32) -> Result<Reporter, AllocError>
+        requires some { 1 ≤ workers }
+        requires most { workers ≤ 8 }
+        ensures value { IfOk result (λ r. r ≡ new_reporter workers) }
+    {
+        let buffer = LineBuffer::open(alloc)?;
+        Ok(Reporter {
+            alloc,
+            workers,
+            lines: 0,
+            cards: CardReader::new(alloc),
+            desks: None,
+            buffer,
+        })
+    }
+
+    /// Answers a line before END or END.
+    fn answer_card<K: Sink, L: Ledger>(
+        &mut self,
+        line: &[u8],
+        sink: &mut K,
+        steps: &mut Steps<L>,
+    ) -> Result<Option<Ending>, Stop>
+        requires closed { self.old.desks ≡ None }
+        requires live { self.old.cards.live ≡ true }
+        requires room { line_count self.old.cards.deck < 4294967294 }
+        requires counted { line_count self.old.cards.deck < self.old.lines }
+        ensures ok { OnOk result (Adds (K.written sink.old) (K.written sink.new)
+            (deck_said (next self.old.cards.deck line.now))) }
+        ensures err { OnErr result (AddsFront (K.written sink.old) (K.written sink.new)
+            (deck_said (next self.old.cards.deck line.now))) }
+        ensures later { K.faults sink.old ≤ K.faults sink.new }
+        ensures fault { IsErrOf result Stop.Write → Rose (K.faults sink.old) (K.faults sink.new) }
+        ensures silent { IsErrOf result Stop.Memory → sink.new ≡ sink.old }
+        ensures ends { IfOk result (λ end. end ≡ deck_ends (next self.old.cards.deck line.now)) }
+        ensures state { result ≡ Ok None
+            → state_of self.new.cards self.new.desks ≡ run_of (next self.old.cards.deck line.now) }
+        ensures live { result ≡ Ok None → IfNone self.new.desks (self.new.cards.live ≡ true) }
+        ensures steps_ok { OnOk result (steps.new ≡ steps.old + deck_steps (next self.old.cards.deck line.now)) }
+        ensures steps_err { OnErr result (steps.new ≤ steps.old + deck_steps (next self.old.cards.deck line.now)) }
+        ensures lines { self.new.lines ≡ self.old.lines }
+        ensures workers { self.new.workers ≡ self.old.workers }
+    {
+        match self.cards.take(line) {
+            Ok(Progress::More) => Ok(None),
+            Ok(Progress::Complete) => self.complete(sink, steps),
+            Err(CardStop::Refused { card, code }) => {
+                match print_card_refused(card, code, &mut self.buffer, sink) {
+                    Ok(()) => Ok(Some(Ending::Refused)),
+                    Err(Failed) => Err(Stop::Write),
+                }
+            }
+            Err(CardStop::Memory) => Err(Stop::Memory),
+        }
+    }
+
+    /// Opens the desks of an accepted END, and then writes its line.
+    fn complete<K: Sink, L: Ledger>(
+        &mut self,
+        sink: &mut K,
+        steps: &mut Steps<L>,
+    ) -> Result<Option<Ending>, Stop>
+        requires closed { self.old.desks ≡ None }
+        requires complete { IsTrue (is_complete self.old.cards.deck) }
+        ensures ok { OnOk result (Adds (K.written sink.old) (K.written sink.new) (deck_said self.old.cards.deck)) }
+        ensures err { OnErr result (AddsFront (K.written sink.old) (K.written sink.new)
+            (deck_said self.old.cards.deck)) }
+        ensures later { K.faults sink.old ≤ K.faults sink.new }
+        ensures fault { IsErrOf result Stop.Write → Rose (K.faults sink.old) (K.faults sink.new) }
+        ensures silent { IsErrOf result Stop.Memory → sink.new ≡ sink.old }
+        ensures goes_on { IfOk result (λ end. end ≡ None) }
+        ensures state { OnOk result (state_of self.new.cards self.new.desks ≡ run_of self.old.cards.deck) }
+        ensures live { OnOk result (IfNone self.new.desks ⊥) }
+        ensures steps_ok { OnOk result (steps.new ≡ steps.old + deck_steps self.old.cards.deck) }
+        ensures steps_err { OnErr result (steps.new ≤ steps.old + deck_steps self.old.cards.deck) }
+        ensures lines { self.new.lines ≡ self.old.lines }
+        ensures workers { self.new.workers ≡ self.old.workers }
+    {
+        let cards = mem::replace(&mut self.cards, CardReader::new(self.alloc));
+        let Ok(desks) = open_desks(self.alloc, cards, self.workers, steps) else {
+            return Err(Stop::Memory);
+        };
+        let net = desks.session().net();
+        if let Err(Failed) = print_accepted(net, &mut self.buffer, sink) {
+            drop(desks);
+            return Err(Stop::Write);
+        }
+        self.desks = Some(desks);
+        Ok(None)
+    }
+}
+
+/// Answers a line: how it ends the run, if it does.
+pub(crate) fn answer_line<R: Threads + Sync, G: Gate, K: Sink, L: Ledger>(
+    rt: &R,
+    gate: &G,
+    reporter: &mut Reporter,
+    line: &[u8],
+    sink: &mut K,
+    steps: &mut Steps<L>,
+) -> Result<Option<Ending>, Stop>
+    requires { reporter.old.lines < 4194305 }
+    ensures whole { (before : List (List ℕ)) → HasAnswered reporter.old before
+        → IfOk result (AnsweredWhole text ends (HasAnswered reporter.new)
+        (K.written sink.old) (K.written sink.new) before line.now) }
+    ensures part { (before : List (List ℕ)) → HasAnswered reporter.old before
+        → OnErr result (AddsFront (K.written sink.old) (K.written sink.new) (text before line.now)) }
+    ensures steps { (before : List (List ℕ)) → HasAnswered reporter.old before → reporter.old.workers ≡ 1
+        → OnOk result (steps.new ≡ steps.old + cost before line.now) }
+    ensures some_steps { (before : List (List ℕ)) → HasAnswered reporter.old before → reporter.old.workers ≡ 1
+        → OnErr result (steps.new ≤ steps.old + cost before line.now) }
+    ensures workers { reporter.new.workers ≡ reporter.old.workers }
+    // out of memory only where nothing was written yet
+    ensures silent { (before : List (List ℕ)) → HasAnswered reporter.old before → IsErrOf result Stop.Memory
+        → (answers_after text ends [] before ≡ []) × (sink.new ≡ sink.old) }
+    ensures count { reporter.new.lines ≤ reporter.old.lines + 1 }
+    ensures later { K.faults sink.old ≤ K.faults sink.new }
+    ensures fault { IsErrOf result Stop.Write → Rose (K.faults sink.old) (K.faults sink.new) }
+{
+    reporter.lines += 1;
+    if let Some(desks) = &mut reporter.desks {
+        return answer_command(rt, gate, desks, line, &mut reporter.buffer, sink, steps);
+    }
+    if !reporter.cards.is_live() {
+        return Ok(Some(Ending::Refused));
+    }
+    reporter.answer_card(line, sink, steps)
+}
+
+impl Reporter {
+    /// Answers the end of the input: whether it is a refusal. It takes no memory.
+    pub(crate) fn finish<K: Sink>(&mut self, sink: &mut K) -> Result<bool, Stop>
+        requires { self.old.lines ≤ 4194305 }
+        ensures whole { (before : List (List ℕ)) → HasAnswered self.old before
+            → IfOk result (ClosedWhole closing refused_at_end (K.written sink.old) (K.written sink.new) before) }
+        ensures part { (before : List (List ℕ)) → HasAnswered self.old before
+            → OnErr result (AddsFront (K.written sink.old) (K.written sink.new) (closing before)) }
+        ensures takes_none { IsErrOf result Stop.Memory → ⊥ }
+        ensures later { K.faults sink.old ≤ K.faults sink.new }
+        ensures fault { IsErrOf result Stop.Write → Rose (K.faults sink.old) (K.faults sink.new) }
+    {
+        if self.desks.is_some() {
+            return Ok(false);
+        }
+        let card = self.cards.taken() + 1;
+        match print_card_refused(card, Code::NoEnd, &mut self.buffer, sink) {
+            Ok(()) => Ok(true),
+            Err(Failed) => Err(Stop::Write),
+        }
+    }
+}

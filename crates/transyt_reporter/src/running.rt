@@ -1,0 +1,93 @@
+//! The run over the lines of a source: each is answered before the next is read.
+ghost use Rattle.std.specs.Prelude.{◌≡◌, ◌≤◌, [], nat_eq};
+ghost use Rattle.transyt_io.specs.Streams.{Rose};
+ghost use Rattle.transyt_io.specs.Reading.{new_reading};
+ghost use Rattle.transyt_running.specs.Outcome.{Outcome};
+ghost use Rattle.transyt_running.specs.Runs.{Ran, StepsTaken};
+ghost use Rattle.transyt_answers.specs.Report.{deck_answering, reporting_run};
+ghost use Rattle.transyt_reporter.specs.Reporter.{new_reporter};
+
+use crate::reporter::{Reporter, answer_line};
+use std::alloc::Global;
+use std::sync::ledger::Ledger;
+use std::thread::Threads;
+use transyt_desks::Gate;
+use transyt_io::{Line, LineReader, Sink, Source};
+use transyt_running::{Status, ended, stopped, stopped_reading};
+use transyt_steps::Steps;
+
+/// Takes the lines of a new reader one at a time, and answers each before the next is taken.
+fn run<R: Threads + Sync, S: Source, K: Sink, G: Gate, L: Ledger>(
+    rt: &R,
+    reporter: &mut Reporter,
+    reader: &mut LineReader,
+    source: &mut S,
+    sink: &mut K,
+    gate: &G,
+    steps: &mut Steps<L>,
+) -> Status
+    requires new { reporter.old ≡ new_reporter reporter.old.workers }
+    requires fresh { reader.old ≡ new_reading }
+    ensures ran { Ran deck_answering (nat_eq reporter.old.workers 1)
+        (S.left source.old) (S.left source.new) (S.last source.new)
+        (K.written sink.old) (K.written sink.new) steps.old steps.new result }
+    ensures source_later { S.faults source.old ≤ S.faults source.new }
+    ensures sink_later { K.faults sink.old ≤ K.faults sink.new }
+    ensures read_fault { result ≡ Status.ReadFault → Rose (S.faults source.old) (S.faults source.new) }
+    ensures write_fault { result ≡ Status.WriteFault → Rose (K.faults sink.old) (K.faults sink.new) }
+{
+    loop {
+        let found = match reader.next(source) {
+            Ok(found) => found,
+            Err(stop) => return stopped_reading(stop),
+        };
+        if let Line::End = found {
+            return match reporter.finish(sink) {
+                Ok(refused) => ended(refused),
+                Err(stop) => stopped(stop),
+            };
+        }
+        match answer_line(rt, gate, reporter, reader.line(), sink, steps) {
+            Ok(None) => {}
+            Ok(Some(ending)) => return ending.status(),
+            Err(stop) => return stopped(stop),
+        }
+    }
+}
+
+/// Writes the report of a deck and of its commands, which a source gives, with so many workers.
+///
+/// Each line is answered before the next is read, and each step of a climb is written before the next look. The memory
+/// for reading and writing is taken before the first read, and all other memory before the first line is written.
+pub fn run_deck<R: Threads + Sync, S: Source, K: Sink, G: Gate, L: Ledger>(
+    rt: &R,
+    alloc: Global,
+    workers: u32,
+    source: &mut S,
+    sink: &mut K,
+    gate: &G,
+    steps: &mut Steps<L>,
+) -> Status
+    requires some { 1 ≤ workers }
+    requires most { workers ≤ 8 }
+    ensures outcome { Outcome reporting_run (S.left source.old) (S.left source.new) (S.last source.new)
+        (K.written sink.old) (K.written sink.new) result }
+    ensures source_later { S.faults source.old ≤ S.faults source.new }
+    ensures sink_later { K.faults sink.old ≤ K.faults sink.new }
+    ensures read_fault { result ≡ Status.ReadFault → Rose (S.faults source.old) (S.faults source.new) }
+    ensures write_fault { result ≡ Status.WriteFault → Rose (K.faults sink.old) (K.faults sink.new) }
+    ensures steps { workers ≡ 1
+        → StepsTaken deck_answering (S.left source.old) (S.left source.new) steps.old steps.new result }
+{
+    let Ok(mut reporter) = Reporter::open(alloc, workers) else {
+        return Status::NoMemory;
+    };
+    let Ok(mut reader) = LineReader::open(alloc) else {
+        drop(reporter);
+        return Status::NoMemory;
+    };
+    let status = run(rt, &mut reporter, &mut reader, source, sink, gate, steps);
+    drop(reader);
+    drop(reporter);
+    status
+}
