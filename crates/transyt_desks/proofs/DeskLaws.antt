@@ -1,12 +1,12 @@
 -- Desks as a list, and the sessions of desks.
-use Rattle.std.proofs.Common.{◌≡◌, ℕ, zero, suc, ◌+◌, ◌-◌, ◌%◌, ◌<◌, ◌≤◌, List, [], ◌∷◌, ◌++◌, length, take, drop}
+use Rattle.std.proofs.Common.{◌≡◌, ℕ, zero, suc, ◌+◌, ◌-◌, ◌<◌, ◌≤◌, List, [], ◌∷◌, ◌++◌, length, take, drop}
 use Rattle.std.proofs.Common.{slice_index_or, slice_set, replicate, refl, ap, sym, ◌∙◌, arith, subst, None}
 use Rattle.std.proofs.Math.ListN.{get_or-map}
-use Rattle.std.proofs.lemmas.List.{length-map, map-append, same_lists, take-append-drop, get_or_default, get_or-set_other}
-use Rattle.std.proofs.lemmas.List.{length-replicate, get_or-replicate, replicate-append-replicate, get_or-take, length-take}
+use Rattle.std.proofs.lemmas.List.{length-map, map-append, same_lists, get_or_default, get_or-set_other}
+use Rattle.std.proofs.lemmas.List.{length-replicate, get_or-replicate, replicate-append-replicate}
 use Rattle.std.proofs.lemmas.List.{length-set, length-drop}
 use Rattle.std.proofs.lemmas.List.{get_or-map as get_or-map-at}
-use Rattle.std.proofs.lemmas.List.{append-nil, get_or_append_left}
+use Rattle.std.proofs.lemmas.List.{append-nil}
 use Rattle.std.proofs.lemmas.Grind.{get_or_after_one}
 use Rattle.std.proofs.Math.Seq.{drop-length, take-length}
 use Rattle.transyt_net.specs.Parts.{Network}
@@ -14,7 +14,10 @@ use Rattle.transyt_net.specs.Shape.{SameShape, shape as shape_word}
 use Rattle.transyt_moves.specs.Moves.{move_count}
 use Rattle.transyt_session.specs.Session.{SessionValue, opened}
 use Rattle.transyt_desks.specs.declared.desk.Desk.{Desk}
-use Rattle.transyt_desks.specs.Desks.{no_session, no_desk, new_desk, session_at, desk_zero, sessions_of, opened_desks, AreAligned, tried_at, OthersClosed, AllStandFor, AreAlike, AreDesks, HasTried, IsTried}
+use Rattle.transyt_desks.specs.declared.stretch.Reach.{Reach}
+use Rattle.transyt_desks.specs.Stretches.{IsStretch, bound_at}
+use Rattle.transyt_desks.specs.Desks.{no_session, no_desk, new_desk, session_at, desk_zero, sessions_of, opened_desks, tried_at}
+use Rattle.transyt_desks.specs.Desks.{AreAligned, AreAlike, AreDesks, AreTried, HasTried, OthersClosed}
 
 -- the session at a place is that of the desk there
 pub session_is : (desks : List Desk) (k : ℕ) → session_at (sessions_of desks) k ≡ (slice_index_or desks k no_desk).session
@@ -36,9 +39,8 @@ pub others_kept : (sessions : List SessionValue) (s : SessionValue) (k : ℕ) �
 others_kept sessions s k other = get_or-set_other sessions 0 k s no_session (λ same. absurd (omega (arith, same)))
 
 -- and what desks keep to
-pub desks_lent : (spare : Network) (sessions : List SessionValue) (s : SessionValue) → AreDesks spare sessions
-    → AreDesks spare (slice_set sessions 0 s)
-desks_lent spare sessions s are =
+pub desks_lent : (sessions : List SessionValue) (s : SessionValue) → AreDesks sessions → AreDesks (slice_set sessions 0 s)
+desks_lent sessions s are =
     let count : length (slice_set sessions 0 s) ≡ length sessions = length-set sessions 0 s in
     record {
       some = omega (arith, are.some, count);
@@ -47,9 +49,31 @@ desks_lent spare sessions s are =
         closed = λ k other less. ap (λ (x : SessionValue). x.before) (others_kept sessions s k other)
             ∙ are.others.closed k other (omega (arith, count));
       };
-      shape = λ k other less. subst (λ (x : SessionValue). SameShape spare x.net) (sym (others_kept sessions s k other))
-          (are.shape k other (omega (arith, count)));
     }
+
+zero_set : (sessions : List SessionValue) (s : SessionValue) → 0 < length sessions → desk_zero (slice_set sessions 0 s) ≡ s
+zero_set [] s some = absurd (omega arith)
+zero_set (x ∷ xs) s some = refl
+
+-- desks are alike with another session of the same shape at desk 0
+pub alike_lent : (sessions : List SessionValue) (s : SessionValue) → 0 < length sessions → AreAlike sessions
+    → SameShape s.net (desk_zero sessions).net → AreAlike (slice_set sessions 0 s)
+alike_lent sessions s some alike same = record { shape = shape }
+  where
+    zero_is : desk_zero (slice_set sessions 0 s) ≡ s
+    zero_is = zero_set sessions s some
+
+    shape : (k : ℕ) → k < length (slice_set sessions 0 s)
+        → SameShape (session_at (slice_set sessions 0 s) k).net (desk_zero (slice_set sessions 0 s)).net
+    shape zero less = refl
+    shape (suc k) less =
+        ap (λ (x : SessionValue). shape_word x.net) (others_kept sessions s (suc k) (omega arith))
+        ∙ alike.shape (suc k) (omega (arith, length-set sessions 0 s)) ∙ sym same
+        ∙ sym (ap (λ (x : SessionValue). shape_word x.net) zero_is)
+
+-- desks that stand for one network are alike
+pub aligned_alike : (sessions : List SessionValue) → AreAligned sessions → AreAlike sessions
+aligned_alike sessions aligned = record { shape = λ k less. ap shape_word (aligned.same k less) }
 
 -- desks that stand for one network have as many moves
 pub aligned_count : (desks : List Desk) (count k : ℕ) (d : Desk) → AreAligned (sessions_of desks)
@@ -80,7 +104,7 @@ opened_at s n zero some less = absurd (omega arith)
 opened_at s n (suc k) some less = get_or-replicate (n - 1) k (opened s.net) no_session (omega arith)
 
 -- desks that were opened keep to what desks keep to
-pub opened_are : (s : SessionValue) (n : ℕ) → 0 < n → n ≤ 8 → AreDesks s.net (opened_desks s n)
+pub opened_are : (s : SessionValue) (n : ℕ) → 0 < n → n ≤ 8 → AreDesks (opened_desks s n)
 opened_are s n some few =
     let count : length (opened_desks s n) ≡ n = omega (arith, length-replicate (n - 1) (opened s.net)) in
     record {
@@ -89,8 +113,6 @@ opened_are s n some few =
       others = record {
         closed = λ k other less. ap (λ (x : SessionValue). x.before) (opened_at s n k other (omega (arith, count)));
       };
-      shape = λ k other less. subst (λ (x : SessionValue). SameShape s.net x.net)
-          (sym (opened_at s n k other (omega (arith, count)))) refl;
     }
 
 -- the first desk before others
@@ -152,61 +174,6 @@ other_read desks k d less =
     ∙ session_read desks (1 + k) d (omega (arith, length-drop 1 desks))
     ∙ ap (session_at (sessions_of desks)) next
 
--- of aligned desks those after the first stand for its network
-pub rest_stand : (desks : List Desk) → AreAligned (sessions_of desks) → OthersClosed (sessions_of desks)
-    → AllStandFor (desk_zero (sessions_of desks)).net (drop 1 desks)
-rest_stand desks aligned others = record {
-  stand = λ k d less. ap (λ (s : SessionValue). s.net) (other_read desks k d less)
-      ∙ aligned.same (k + 1) (omega (arith, length-drop 1 desks, sessions_count desks));
-  closed = λ k d less. ap (λ (s : SessionValue). s.before) (other_read desks k d less)
-      ∙ others.closed (k + 1) (omega arith) (omega (arith, length-drop 1 desks, sessions_count desks));
-}
-
--- the first desk is desk 0 of all
-pub before_zero : (front ys : List Desk) → 0 < length front
-    → desk_zero (sessions_of (front ++ ys)) ≡ desk_zero (sessions_of front)
-before_zero [] ys some = absurd (omega arith)
-before_zero (x ∷ xs) ys some = refl
-
-all_taken : (front : List Desk) → length front ≡ 1 → take 1 front ≡ front
-all_taken front one = ap (λ n. take n front) (sym one) ∙ take-length front
-
--- they are aligned where the others stand for its network
-pub before_aligned : (front ys : List Desk) → length front ≡ 1 → AllStandFor (desk_zero (sessions_of front)).net ys
-    → AreAligned (sessions_of (front ++ ys))
-before_aligned front ys one all =
-    subst (λ (ds : List Desk). AreAligned (sessions_of (ds ++ ys))) (all_taken front one)
-    (joined_aligned front ys (desk_zero (sessions_of front)).net (omega arith) refl all.stand)
-
--- and none but it has a trial
-pub before_closed : (front ys : List Desk) (net : Network) → length front ≡ 1 → AllStandFor net ys
-    → OthersClosed (sessions_of (front ++ ys))
-before_closed front ys net one all =
-    subst (λ (ds : List Desk). OthersClosed (sessions_of (ds ++ ys))) (all_taken front one)
-    (joined_closed front ys (omega arith) all.closed)
-
--- the first desks, with their sessions as they were, before the others
-pub front_sessions : (desks front : List Desk) (room : ℕ) → room ≤ length desks → length front ≡ room
-    → ((k : ℕ) (d : Desk) → k < room → (slice_index_or front k d).session ≡ (slice_index_or (take room desks) k d).session)
-    → sessions_of (front ++ drop room desks) ≡ sessions_of desks
-front_sessions desks front room inside count same =
-    map-append (λ (d : Desk). d.session) front (drop room desks)
-    ∙ ap (λ ss. ss ++ sessions_of (drop room desks)) (same_lists (sessions_of front) (sessions_of (take room desks)) lengths at)
-    ∙ sym (map-append (λ (d : Desk). d.session) (take room desks) (drop room desks))
-    ∙ ap sessions_of (take-append-drop room desks)
-  where
-    lengths : length (sessions_of front) ≡ length (sessions_of (take room desks))
-    lengths = omega (arith, sessions_count front, sessions_count (take room desks), length-take room desks)
-
-    at : (k : ℕ) (s : SessionValue) → k < length (sessions_of front)
-        → slice_index_or (sessions_of front) k s ≡ slice_index_or (sessions_of (take room desks)) k s
-    at k s less =
-        let here : k < room = omega (arith, sessions_count front) in
-        let there : k < length (take room desks) = omega (arith, length-take room desks) in
-        get_or-map-at (λ (d : Desk). d.session) front k no_desk s (omega arith)
-        ∙ same k no_desk here
-        ∙ sym (get_or-map-at (λ (d : Desk). d.session) (take room desks) k no_desk s there)
-
 -- another desk in the place of desk 0
 pub lent_sessions : (desks : List Desk) (d : Desk)
     → sessions_of (slice_set desks 0 d) ≡ slice_set (sessions_of desks) 0 d.session
@@ -234,33 +201,56 @@ written_whole desks olds n same all =
     ∙ ap (λ k. take k desks) (all ∙ sym same)
     ∙ take-length desks
 
--- the first desks have tried the next moves
-pub front_tried_at : (desks front rest : List Desk) (place count room : ℕ) → room ≤ length desks → length front ≡ room
-    → ((k : ℕ) (d : Desk) → k < room
-    → HasTried ((place + k) % count) (slice_index_or (take room desks) k d) (slice_index_or front k d))
-    → (k : ℕ) → k < room
-    → IsTried (session_at (sessions_of desks) k).net ((place + k) % count) (tried_at (front ++ rest) k)
-front_tried_at desks front rest place count room inside len has k less =
-    let before : (slice_index_or (take room desks) k no_desk).session.net ≡ (session_at (sessions_of desks) k).net =
-    ap (λ (d : Desk). d.session.net) (get_or-take room desks k no_desk less)
-    ∙ sym (ap (λ (s : SessionValue). s.net) (session_is desks k)) in
-    let after : (slice_index_or front k no_desk).tried ≡ tried_at (front ++ rest) k =
-    sym (ap (λ (d : Desk). d.tried) (get_or_append_left front rest no_desk k (omega arith))) in
-    subst (IsTried (session_at (sessions_of desks) k).net ((place + k) % count)) after
-    (subst (λ (n : Network). IsTried n ((place + k) % count) (slice_index_or front k no_desk).tried) before
-    (has k no_desk less).tried)
+-- desks whose sessions stayed have the same sessions
+pub same_sessions : (olds news : List Desk) → length news ≡ length olds
+    → ((k : ℕ) (d : Desk) → k < length olds → (slice_index_or news k d).session ≡ (slice_index_or olds k d).session)
+    → sessions_of news ≡ sessions_of olds
+same_sessions olds news count same = same_lists (sessions_of news) (sessions_of olds) lengths at
+  where
+    lengths : length (sessions_of news) ≡ length (sessions_of olds)
+    lengths = sessions_count news ∙ count ∙ sym (sessions_count olds)
 
--- aligned desks keep to what desks keep to, where desk 0 stays
-pub align_desks : (spare : Network) (olds news : List SessionValue) → AreDesks spare olds → AreAlike olds
-    → length news ≡ length olds → AreAligned news → OthersClosed news → desk_zero news ≡ desk_zero olds
-    → AreDesks spare news
-align_desks spare olds news are alike count aligned closed zero_same = record {
+    at : (k : ℕ) (s : SessionValue) → k < length (sessions_of news)
+        → slice_index_or (sessions_of news) k s ≡ slice_index_or (sessions_of olds) k s
+    at k s less =
+        let here : k < length olds = omega (arith, sessions_count news, count) in
+        get_or-map-at (λ (d : Desk). d.session) news k no_desk s (omega (arith, count))
+        ∙ same k no_desk here
+        ∙ sym (get_or-map-at (λ (d : Desk). d.session) olds k no_desk s here)
+
+-- aligned desks that have each tried a stretch have tried it on the network of desk 0
+pub all_tried : (reach : Reach) (olds news : List Desk) → AreAligned (sessions_of olds)
+    → sessions_of news ≡ sessions_of olds → length news ≡ length olds
+    → ((k : ℕ) (d : Desk) → k < length olds → HasTried reach k (slice_index_or olds k d) (slice_index_or news k d))
+    → AreTried reach news
+all_tried reach olds news aligned same count has = record { each = each }
+  where
+    each : (k : ℕ) → k < length news → IsStretch (desk_zero (sessions_of news)).net reach.place reach.count
+        (bound_at reach k) (bound_at reach (k + 1)) (tried_at news k)
+    each k less =
+        let here : k < length olds = omega (arith, count) in
+        let net_is : (slice_index_or olds k no_desk).session.net ≡ (desk_zero (sessions_of news)).net =
+        sym (ap (λ (s : SessionValue). s.net) (session_is olds k))
+        ∙ aligned.same k (omega (arith, sessions_count olds, here))
+        ∙ sym (ap (λ (ss : List SessionValue). (desk_zero ss).net) same) in
+        subst (λ (n : Network). IsStretch n reach.place reach.count (bound_at reach k) (bound_at reach (k + 1)) (tried_at news k))
+        net_is (has k no_desk here).tried
+
+-- no desk has an open trial
+pub all_closed : (desks : List Desk) (k : ℕ) (d : Desk) → OthersClosed (sessions_of desks)
+    → (desk_zero (sessions_of desks)).before ≡ None → k < length desks
+    → (slice_index_or desks k d).session.before ≡ None
+all_closed desks zero d others zero_closed less =
+    ap (λ (s : SessionValue). s.before) (session_read desks 0 d less) ∙ zero_closed
+all_closed desks (suc k) d others zero_closed less =
+    ap (λ (s : SessionValue). s.before) (session_read desks (suc k) d less)
+    ∙ others.closed (suc k) (omega arith) (omega (arith, sessions_count desks))
+
+-- aligned desks keep to what desks keep to, where as many did
+pub followed_desks : (olds news : List SessionValue) → AreDesks olds → length news ≡ length olds → OthersClosed news
+    → AreDesks news
+followed_desks olds news are count closed = record {
   some = omega (arith, are.some, count);
   few = omega (arith, are.few, count);
   others = closed;
-  shape = λ k other less.
-      (are.shape k other (omega (arith, count))
-      ∙ alike.shape k (omega (arith, count))
-      ∙ sym (ap (λ (s : SessionValue). shape_word s.net) zero_same)
-      ∙ sym (ap shape_word (aligned.same k less)));
 }

@@ -2,8 +2,8 @@ pub mod TriedLaws
 pub mod PassingLaws
 pub mod LeastLaws
 pub mod DeskLaws
-pub mod FrontLaws
-pub mod ShortLaws
+pub mod ShapeLaws
+pub mod StretchLaws
 pub mod RoundLaws
 pub mod WorkedLaws
 pub mod WorkedDeskLaws

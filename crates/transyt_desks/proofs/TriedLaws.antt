@@ -14,9 +14,10 @@ use Rattle.transyt_track.specs.Work.{edit_work, work_with}
 use Rattle.transyt_session.specs.declared.answers.Tried.TheVariants.{Barred, Index}
 use Rattle.transyt_session.specs.Session.{SessionValue, try_of, tried_with}
 use Rattle.transyt_climb.specs.declared.turn.Turn.TheVariants.{Took, Passed, Local, Budget}
-use Rattle.transyt_climb.specs.Turns.{Counters, Machine, machine, look_answer, answer_of, after_answer, turned, noted}
+use Rattle.transyt_climb.specs.Turns.{Machine, machine, look_answer, answer_of, after_answer, turned, noted}
 use Rattle.transyt_climb.proofs.LookLaws.{lowers_is}
-use Rattle.transyt_desks.specs.Rounds.{is_took}
+use Rattle.transyt_desks.specs.declared.stretch.Stretch.{Stretch}
+use Rattle.transyt_desks.specs.Stretches.{after_try, lowering, passing}
 
 -- what a try of an allowed move says
 pub record IsIndexed (net : Network) (place found work : ℕ) : Type 0 where
@@ -109,23 +110,6 @@ turned_passed m is higher =
       work = m.session.work + edit_work m.session.net (move m.session.net m.counters.place);
     })) higher
 
--- the state after a look that lowers
-pub turned_took : (m : Machine) (place found : ℕ) (e : Edit) → answer_of m ≡ Took place e found
-    → lowers m.session.net m.counters.place ≡ true
-    → turned m ≡ machine (noted true m.counters) (record {
-      net = moved m.session.net m.counters.place;
-      before = None;
-      work = m.session.work + edit_work m.session.net (move m.session.net m.counters.place);
-    })
-unfolding lowers tried_at moved
-turned_took m place found e is lower =
-    ap (λ a. after_answer a m) is
-    ∙ ap (λ b. machine (noted true m.counters) (record {
-      net = if b then moved m.session.net m.counters.place else m.session.net;
-      before = None;
-      work = m.session.work + edit_work m.session.net (move m.session.net m.counters.place);
-    })) lower
-
 passed_by : (place found : ℕ) (e : Edit) (a b c : Bool)
     → (if a then Local else if b then Budget else if c then Took place e found else Passed) ≡ Passed → c ≡ false
 passed_by place found e true b c is = let never : ⊥ = cc in absurd never
@@ -147,42 +131,25 @@ session_is s t n b w =
     λ x y z. record { net = x; before = y; work = z } in
     ap (λ x. made x s.before s.work) n ∙ ap (λ x. made t.net x s.work) b ∙ ap (made t.net t.before) w
 
--- a climber that has noted a look, and a session with the look's work
-pub state_passed : (m : Machine) (c : Counters) (s : SessionValue) → answer_of m ≡ Passed
-    → lowers m.session.net m.counters.place ≡ false → c ≡ noted false m.counters → s.net ≡ m.session.net → s.before ≡ None
-    → s.work ≡ m.session.work + edit_work m.session.net (move m.session.net m.counters.place) → machine c s ≡ turned m
-state_passed m c s is higher counters net closed work =
-    ap (λ x. machine x s) counters
-    ∙ ap (machine (noted false m.counters)) (session_is s (record {
-      net = m.session.net;
-      before = None;
-      work = m.session.work + edit_work m.session.net (move m.session.net m.counters.place);
-    }) net closed work)
-    ∙ sym (turned_passed m is higher)
+-- a try of a barred move is one that passes without work
+pub after_barred : (net : Network) (place : ℕ) (s : Stretch) → try_of net (move net place) ≡ Barred
+    → passing s 0 ≡ after_try net place s
+after_barred net place s is =
+    let barred : IsBarred net place = tried_barred net place is in
+    ap (passing s) (sym barred.work)
+    ∙ sym (ap (λ b. if b then lowering s else passing s (edit_work net (move net place))) barred.higher)
 
--- the same where the move was made
-pub state_took : (m : Machine) (c : Counters) (s : SessionValue) (place found : ℕ) (e : Edit) → answer_of m ≡ Took place e found
-    → lowers m.session.net m.counters.place ≡ true → c ≡ noted true m.counters
-    → s.net ≡ moved m.session.net m.counters.place → s.before ≡ None
-    → s.work ≡ m.session.work + edit_work m.session.net (move m.session.net m.counters.place) → machine c s ≡ turned m
-state_took m c s place found e is lower counters net closed work =
-    ap (λ x. machine x s) counters
-    ∙ ap (machine (noted true m.counters)) (session_is s (record {
-      net = moved m.session.net m.counters.place;
-      before = None;
-      work = m.session.work + edit_work m.session.net (move m.session.net m.counters.place);
-    }) net closed work)
-    ∙ sym (turned_took m place found e is lower)
+-- a try that finds a lower index ends the stretch
+pub after_lower : (net : Network) (place found work : ℕ) (s : Stretch) → try_of net (move net place) ≡ Index found work
+    → nat_lt found (index net) ≡ true → lowering s ≡ after_try net place s
+after_lower net place found work s is lower =
+    let tried : IsIndexed net place found work = tried_index net place found work is in
+    sym (ap (λ b. if b then lowering s else passing s (edit_work net (move net place))) (tried.lowers_is ∙ lower))
 
-no_step_by : (place found : ℕ) (e : Edit) (b : Bool) → is_took (if b then Took place e found else Passed) ≡ false
-    → (if b then Took place e found else Passed) ≡ Passed
-no_step_by place found e true none = let never : ⊥ = cc in absurd never
-no_step_by place found e false none = refl
-
--- a turn that is no end and takes no step passes
-pub no_step : (m : Machine) → m.counters.since < m.counters.count → m.counters.looked < m.counters.budget
-    → is_took (answer_of m) ≡ false → answer_of m ≡ Passed
-no_step m since looked none =
-    answers_look m since looked
-    ∙ no_step_by m.counters.place (index (moved m.session.net m.counters.place)) (move m.session.net m.counters.place)
-    (lowers m.session.net m.counters.place) (ap is_took (sym (answers_look m since looked)) ∙ none)
+-- any other passes with its work
+pub after_higher : (net : Network) (place found work : ℕ) (s : Stretch) → try_of net (move net place) ≡ Index found work
+    → nat_lt found (index net) ≡ false → passing s work ≡ after_try net place s
+after_higher net place found work s is higher =
+    let tried : IsIndexed net place found work = tried_index net place found work is in
+    ap (passing s) tried.work_is
+    ∙ sym (ap (λ b. if b then lowering s else passing s (edit_work net (move net place))) (tried.lowers_is ∙ higher))

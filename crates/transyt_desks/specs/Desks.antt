@@ -1,16 +1,14 @@
 -- Desks: sessions that try candidates for one climb, desk 0 first.
-use Rattle.std.specs.Prelude.{◌≡◌, ℕ, ◌+◌, ◌-◌, ◌*◌, ◌%◌, ◌<◌, ◌≤◌, List, [], ◌∷◌, map, length, All, None, replicate}
+use Rattle.std.specs.Prelude.{◌≡◌, ℕ, ◌+◌, ◌-◌, ◌<◌, ◌≤◌, List, [], ◌∷◌, map, length, None, replicate}
 use Rattle.std.specs.Prelude.{slice_index_or, slice_set}
 use Rattle.transyt_parts.specs.declared.frame.Frame.{Frame}
-use Rattle.transyt_net.specs.Parts.{Network, network_of}
+use Rattle.transyt_net.specs.Parts.{network_of}
 use Rattle.transyt_net.specs.Shape.{SameShape}
-use Rattle.transyt_moves.specs.Moves.{move}
-use Rattle.transyt_track.specs.Work.{edit_work}
-use Rattle.transyt_session.specs.declared.answers.Tried.{Tried}
-use Rattle.transyt_session.specs.declared.answers.Tried.TheVariants.{Barred}
-use Rattle.transyt_session.specs.Session.{SessionValue, opened, try_of}
-use Rattle.transyt_climb.specs.Turns.{Counters}
+use Rattle.transyt_session.specs.Session.{SessionValue, opened}
 use Rattle.transyt_desks.specs.declared.desk.Desk.{Desk}
+use Rattle.transyt_desks.specs.declared.stretch.Reach.{Reach}
+use Rattle.transyt_desks.specs.declared.stretch.Stretch.{Stretch}
+use Rattle.transyt_desks.specs.Stretches.{IsStretch, bound_at, untried}
 
 -- what stands where there is no frame
 abbrev pub no_frame : Frame
@@ -48,54 +46,35 @@ pub record AreAlike (sessions : List SessionValue) : Type 0 where
 pub record OthersClosed (sessions : List SessionValue) : Type 0 where
   pub closed : (k : ℕ) → 0 < k → k < length sessions → (session_at sessions k).before ≡ None
 
--- what desks keep to: one to eight of them, no trial at any but desk 0, and a spare network of the shape of all but
--- desk 0. No public clause cites it.
-pub record AreDesks (spare : Network) (sessions : List SessionValue) : Type 0 where
+-- what desks keep to: one to eight of them, and no trial at any but desk 0. No public clause cites it.
+pub record AreDesks (sessions : List SessionValue) : Type 0 where
   pub some : 0 < length sessions
   pub few : length sessions ≤ 8
   pub others : OthersClosed sessions
-  pub shape : (k : ℕ) → 0 < k → k < length sessions → SameShape spare (session_at sessions k).net
 
 -- the sessions of desks
 abbrev pub sessions_of : List Desk → List SessionValue
 sessions_of desks = map (λ d. d.session) desks
 
--- each of these desks stands for a network, with no open trial
-pub record AllStandFor (net : Network) (desks : List Desk) : Type 0 where
-  pub stand : All (λ d. d.session.net ≡ net) desks
-  pub closed : All (λ d. d.session.before ≡ None) desks
-
 -- what stands where there is no desk
 abbrev pub no_desk : Desk
-no_desk = record { session = no_session; tried = Barred }
+no_desk = record { session = no_session; tried = untried }
 
 -- what the desk at a place has tried
-abbrev pub tried_at : List Desk → ℕ → Tried
+abbrev pub tried_at : List Desk → ℕ → Stretch
 tried_at desks k = (slice_index_or desks k no_desk).tried
 
 -- a new desk with a session
 abbrev pub new_desk : SessionValue → Desk
-new_desk session = record { session = session; tried = Barred }
+new_desk session = record { session = session; tried = untried }
 
--- no more than the most work of an edit
-abbrev pub IsLittle : ℕ → Type 0
-IsLittle work = work ≤ 8000
-
--- work grows by no more than that a turn
-abbrev pub AddsLittle : ℕ → ℕ → ℕ → Type 0
-AddsLittle before after turns = after ≤ before + 8000 * turns
-
--- what trying the move at a place of a network finds, in little work
-pub record IsTried (net : Network) (place : ℕ) (tried : Tried) : Type 0 where
-  pub found : tried ≡ try_of net (move net place)
-  pub few : IsLittle (edit_work net (move net place))
-
--- what trying the next moves of the list found, from a climber's place on, round the list
-pub record AreTried (net : Network) (c : Counters) (answers : List Tried) : Type 0 where
-  pub each : (k : ℕ) → k < length answers
-      → IsTried net ((c.place + k) % c.count) (slice_index_or answers k Barred)
-
--- a desk that has tried the move at a place, before and after
-pub record HasTried (place : ℕ) (before after : Desk) : Type 0 where
+-- a desk that has tried its stretch of a reach, before and after
+pub record HasTried (reach : Reach) (number : ℕ) (before after : Desk) : Type 0 where
   pub session : after.session ≡ before.session
-  pub tried : IsTried before.session.net place after.tried
+  pub tried : IsStretch before.session.net reach.place reach.count (bound_at reach number) (bound_at reach (number + 1))
+      after.tried
+
+-- desks that have each tried a stretch of a reach on the network of desk 0
+pub record AreTried (reach : Reach) (desks : List Desk) : Type 0 where
+  pub each : (k : ℕ) → k < length desks → IsStretch (desk_zero (sessions_of desks)).net reach.place reach.count
+      (bound_at reach k) (bound_at reach (k + 1)) (tried_at desks k)

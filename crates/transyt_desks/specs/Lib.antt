@@ -1,3 +1,4 @@
+pub mod Stretches
 pub mod Desks
 pub mod Rounds
 pub mod Lends

@@ -1,6 +1,6 @@
 -- A round: the turns that several desks make together.
-use Rattle.std.specs.Prelude.{◌≡◌, ℕ, ◌+◌, ◌-◌, min, Bool, true, false, List, Option, Some, None, if◌then◌else◌}
-use Rattle.std.specs.Prelude.{◌==◌, ◌&&◌, nat_le, nat_lt}
+use Rattle.std.specs.Prelude.{◌≡◌, ℕ, ◌+◌, ◌-◌, ◌*◌, ◌/◌, ◌%◌, ◌^◌, ◌≤◌, min, max, Bool, true, false, List, Option, Some, None}
+use Rattle.std.specs.Prelude.{if◌then◌else◌, ◌==◌, ◌&&◌, ◌||◌, nat_lt}
 use Rattle.transyt_moves.specs.Moves.{move_count}
 use Rattle.transyt_session.specs.Session.{SessionValue}
 use Rattle.transyt_sweep.specs.Climb.{least}
@@ -9,7 +9,9 @@ use Rattle.transyt_climb.specs.declared.turn.Turn.TheVariants.{Took, Passed, Loc
 use Rattle.transyt_climb.specs.Turns.{Counters, Machine, machine, answer_of, turns, is_end}
 use Rattle.transyt_climb.specs.Way.{IsRound}
 use Rattle.transyt_desks.specs.declared.settling.Round.{Round}
-use Rattle.transyt_desks.specs.Desks.{desk_zero, AreAligned, AddsLittle}
+use Rattle.transyt_desks.specs.declared.stretch.Reach.{Reach}
+use Rattle.transyt_desks.specs.Stretches.{IsReach}
+use Rattle.transyt_desks.specs.Desks.{desk_zero, with_zero}
 
 -- whether a turn takes a step
 abbrev pub is_took : Turn → Bool
@@ -27,6 +29,10 @@ up_to (Some r) n = r + 1
 unfoldable pub turns_up_to : ℕ → Machine → ℕ
 turns_up_to n m = up_to (least (λ r. is_took (answer_of (turns r m))) n) n
 
+-- work grows by no more than the most work of an edit a turn
+abbrev pub AddsLittle : ℕ → ℕ → ℕ → Type 0
+AddsLittle before after turns = after ≤ before + 8000 * turns
+
 -- how many places are tried at once: one a worker, and none past the budget or a whole round of the list
 abbrev pub room_of : ℕ → Counters → ℕ
 room_of workers c = min workers (min (c.budget - c.looked) (c.count - c.since))
@@ -35,25 +41,52 @@ room_of workers c = min workers (min (c.budget - c.looked) (c.count - c.since))
 abbrev pub turns_of : ℕ → Machine → ℕ
 turns_of workers m = if is_end (answer_of m) then 1 else turns_up_to (room_of workers m.counters) m
 
--- whether the last look took a step
-abbrev pub just_stepped : Counters → Bool
-just_stepped c = (c.since == 0) && nat_lt 0 c.looked
+-- whether desk 0 of so many goes on alone: where there is no other, or up to eight places after a step
+abbrev pub goes_alone : ℕ → Counters → Bool
+goes_alone desks c = (desks == 1) || (nat_lt 0 c.looked && nat_lt c.since 8)
 
--- how many of so many desks try in a short round. One or two all try, always: who asks for two workers wants both at
--- work. Of more, one tries right after a step, then two, and all once eight places have passed since.
-abbrev pub tries_of : ℕ → Counters → ℕ
-tries_of desks c =
-    if nat_le desks 2 then desks
-    else if just_stepped c then 1
-    else if nat_lt c.since 8 then 2
-    else desks
+-- how many places each desk tries: an eighth of the places since the last step, but at least one and at most 32
+abbrev pub each_of : Counters → ℕ
+each_of c = min 32 (max 1 (c.since / 8))
 
--- what a round of so many workers makes of a climber and the desks that it is made on
-pub record RoundsTo (workers : ℕ) (before : Counters) (olds : List SessionValue) (after : Counters) (news : List SessionValue)
+-- how many places so many desks try in a round of stretches
+abbrev pub places_of : ℕ → Counters → ℕ
+places_of desks c = if goes_alone desks c then 1 else desks * each_of c
+
+-- a climber and a session on which a round can be made
+pub record CanRound (c : Counters) (s : SessionValue) : Type 0 where
+  pub count : c.count ≡ move_count s.net
+  pub closed : s.before ≡ None
+  pub room : s.work ≤ 2 ^ 61
+
+-- the counters after so many looks at moves that don't lower the index
+abbrev pub passed_by : ℕ → Counters → Counters
+passed_by n c = record {
+  place = (c.place + n) % c.count;
+  since = c.since + n;
+  looked = c.looked + n;
+  budget = c.budget;
+  count = c.count;
+}
+
+-- a round that tries so many places at most: some turns, all but the last of which pass, in little work
+pub record MakesRound (places : ℕ) (before after : Machine) (result : Round) : Type 0 where
+  pub round : IsRound before after result.turns result.last
+  pub turns : result.turns ≡ turns_of places before
+  pub kept : after.counters.count ≡ move_count after.session.net
+  pub closed : after.session.before ≡ None
+  pub few : AddsLittle before.session.work after.session.work result.turns
+
+-- a round at desk 0: the other desks stay as they are
+pub record RoundsDesks (places : ℕ) (before : Counters) (olds : List SessionValue) (after : Counters) (news : List SessionValue)
     (result : Round) : Type 0 where
-  pub round : IsRound (machine before (desk_zero olds)) (machine after (desk_zero news)) result.turns result.last
-  pub turns : result.turns ≡ turns_of workers (machine before (desk_zero olds))
-  pub aligned : AreAligned news
-  pub kept : after.count ≡ move_count (desk_zero news).net
-  pub closed : (desk_zero news).before ≡ None
-  pub few : AddsLittle (desk_zero olds).work (desk_zero news).work result.turns
+  pub made : MakesRound places (machine before (desk_zero olds)) (machine after (desk_zero news)) result
+  pub others : news ≡ with_zero olds (desk_zero news)
+
+-- the next moves of a climber's list, so many each desk
+pub record IsReachOf (c : Counters) (size : ℕ) (reach : Reach) : Type 0 where
+  pub place : reach.place ≡ c.place
+  pub count : reach.count ≡ c.count
+  pub room : reach.room ≡ min (c.budget - c.looked) (c.count - c.since)
+  pub each : reach.each ≡ size
+  pub is : IsReach reach

@@ -21,28 +21,26 @@ worked_rooms =
 
 -- a climber so many places after its last step, or its start, after so many looks
 abbrev pub has_passed : ℕ → ℕ → Counters
-has_passed since looked = record { place = 4; since = since; looked = looked; budget = 250; count = 72 }
+has_passed since looked = record { place = 4; since = since; looked = looked; budget = 2500; count = 1152 }
 
--- numbers of desks and a climber, with how many of them try in a short round: before any step, right after one, and when
--- one, seven and eight places have passed since
-abbrev pub worked_tries_of : List (ℕ × Counters × ℕ)
-worked_tries_of =
+-- numbers of desks and a climber, with how many places they try in a round of stretches: before any step, right after
+-- one, and when seven, eight and more places have passed since
+abbrev pub worked_places : List (ℕ × Counters × ℕ)
+worked_places =
     (1, has_passed 0 0, 1)
-    ∷ (1, has_passed 9 20, 1)
-    ∷ (2, has_passed 0 5, 2)
-    ∷ (3, has_passed 0 0, 2)
+    ∷ (1, has_passed 70 90, 1)
+    ∷ (3, has_passed 0 0, 3)
     ∷ (3, has_passed 0 1, 1)
-    ∷ (3, has_passed 8 20, 3)
-    ∷ (8, has_passed 0 0, 2)
-    ∷ (8, has_passed 0 5, 1)
-    ∷ (8, has_passed 1 5, 2)
-    ∷ (8, has_passed 7 20, 2)
-    ∷ (8, has_passed 8 20, 8)
+    ∷ (8, has_passed 7 20, 1)
+    ∷ (8, has_passed 7 7, 1)
+    ∷ (2, has_passed 8 20, 2)
+    ∷ (8, has_passed 15 20, 8)
+    ∷ (3, has_passed 16 20, 6)
+    ∷ (3, has_passed 71 90, 24)
+    ∷ (2, has_passed 255 300, 62)
+    ∷ (2, has_passed 256 300, 64)
+    ∷ (8, has_passed 1000 1100, 256)
     ∷ []
-
--- climbers, and whether the last look took a step
-abbrev pub worked_stepped : List (Counters × Bool)
-worked_stepped = (has_passed 0 1, true) ∷ (has_passed 0 0, false) ∷ (has_passed 1 5, false) ∷ []
 
 -- numbers of workers and a climber, with how many turns its round is where no move lowers the index
 abbrev pub worked_rounds : List (ℕ × Machine × ℕ)

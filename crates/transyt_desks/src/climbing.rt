@@ -37,7 +37,7 @@ pub fn climb_by_rounds<R: Threads + Sync, G: Gate, L: Ledger>(
 {
     let _ = climber.budget();
     loop {
-        let round = desks.short_round(rt, climber, gate, steps);
+        let round = desks.stretch_round(rt, climber, gate, steps);
         if round.last.is_end() {
             return round.last.is_local();
         }

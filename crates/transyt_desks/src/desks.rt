@@ -1,35 +1,30 @@
 //! The desks, and their rounds.
 
-ghost use Rattle.std.specs.Prelude.{◌≡◌, ℕ, ◌+◌, ◌*◌, ◌^◌, ◌<◌, ◌≤◌, ◌↔◌, [], ◌∷◌, ◌++◌, length, None, IfOk, OnOk, IsTrue};
+ghost use Rattle.std.specs.Prelude.{◌≡◌, ℕ, ◌+◌, ◌*◌, ◌^◌, ◌<◌, ◌≤◌, ◌↔◌, [], ◌∷◌, ◌++◌, length, None, true, false, IfOk, OnOk, IsTrue};
 ghost use Rattle.std.specs.Borrow.{sem};
-ghost use Rattle.transyt_net.specs.Shape.{SameShape};
-ghost use Rattle.transyt_moves.specs.Moves.{move_count};
 ghost use Rattle.transyt_climb.specs.Turns.{machine};
-ghost use Rattle.transyt_climb.specs.Way.{IsRound};
 ghost use Rattle.transyt_desks.specs.Desks.{desk_zero, new_desk, opened_desks, sessions_of, AreAligned, AreAlike, AreDesks};
 ghost use Rattle.transyt_desks.specs.Lends.{LendsZero};
-ghost use Rattle.transyt_desks.specs.Rounds.{just_stepped, room_of, tries_of, turns_of, RoundsTo};
+ghost use Rattle.transyt_session.specs.Session.{SessionValue};
+ghost use Rattle.transyt_desks.specs.Rounds.{each_of, goes_alone, places_of, turns_of, CanRound, IsReachOf, MakesRound, RoundsDesks};
 
-use crate::desk::{Desk, answers_of, follow_zero, try_front};
+use crate::desk::{Desk, follow_zero, try_reach};
 use crate::equal::same_net;
 use crate::gate::Gate;
-use crate::settling::{Round, settle_zero};
+use crate::settling::{Round, settle, take_turn};
+use crate::stretch::{Reach, untried};
 use std::alloc::{AllocError, Global};
 use std::marker::Model;
 use std::sync::ledger::Ledger;
 use std::thread::Threads;
-use transyt_climb::{Climber, Turn};
-use transyt_net::Net;
-use transyt_session::{Session, Tried};
+use transyt_climb::Climber;
+use transyt_session::Session;
 use transyt_steps::Steps;
 
 /// One to eight desks. Desk 0's session is the one that counts; the others follow it.
-///
-/// `spare` is a network of the shape of the others, on which a move is made before desk 0 stands for it.
 #[derive(Drop)]
 pub struct Desks {
     desks: Vec<Desk>,
-    spare: Net,
 }
 
 impl Model for Desks {
@@ -41,7 +36,7 @@ impl Model for Desks {
 
     ghost view = { λ d. sessions_of d.desks.items };
 
-    ghost invariant = { λ d. AreDesks d.spare (sessions_of d.desks.items) };
+    ghost invariant = { λ d. AreDesks (sessions_of d.desks.items) };
 }
 
 impl Desks {
@@ -53,17 +48,13 @@ impl Desks {
         requires closed { session.before ≡ None }
         ensures { IfOk result (λ desks. desks ≡ opened_desks session workers) }
     {
-        let Ok(spare) = session.net().copy(alloc) else {
-            drop(session);
-            return Err(AllocError);
-        };
         let mut desks = Vec::new(alloc);
         add_desk(&mut desks, session)?;
         for made in 1..workers {
             let twin = desks[0].session.twin(alloc)?;
             add_desk(&mut desks, twin)?;
         }
-        Ok(Desks { desks, spare })
+        Ok(Desks { desks })
     }
 
     /// The session of desk 0.
@@ -114,38 +105,25 @@ impl Desks {
         steps: &mut Steps<L>,
     ) -> Round
         requires aligned { AreAligned self.old }
-        requires count { climber.old.count ≡ move_count (desk_zero self.old).net }
-        requires closed { (desk_zero self.old).before ≡ None }
-        requires room { (desk_zero self.old).work ≤ 2 ^ 61 }
-        ensures round { IsRound (machine climber.old (desk_zero self.old)) (machine climber.new (desk_zero self.new))
-            result.turns result.last }
-        ensures turns { result.turns ≡ turns_of (length self.old) (machine climber.old (desk_zero self.old)) }
+        requires ready { CanRound climber.old (desk_zero self.old) }
+        ensures made { MakesRound (length self.old) (machine climber.old (desk_zero self.old))
+            (machine climber.new (desk_zero self.new)) result }
         ensures aligned { AreAligned self.new }
         ensures workers { length self.new ≡ length self.old }
-        ensures kept { climber.new.count ≡ move_count (desk_zero self.new).net }
-        ensures closed { (desk_zero self.new).before ≡ None }
-        ensures few { (desk_zero self.new).work ≤ (desk_zero self.old).work + 8000 * result.turns }
         ensures steps { length self.old ≡ 1
             → steps.new + (desk_zero self.old).work ≡ steps.old + (desk_zero self.new).work }
     {
-        let workers = self.desks.len();
-        round_on(
-            rt,
-            workers,
-            self.desks.as_mut_slice(),
-            &mut self.spare,
-            climber,
-            gate,
-            steps,
-        )
+        aligned_round(rt, gate, self.desks.as_mut_slice(), climber, steps)
     }
 
-    /// A round in which fewer desks try just after a step: the first `tries_of` of them. The others stay as they are, and
-    /// stand for the network of desk 0 again once their turn to try comes.
+    /// A round in which desk 0 goes on alone for a while after a step, and then every desk tries a stretch of the next
+    /// moves, a longer one the longer no move lowers the index: as many moves in all as `places_of` says. The first of
+    /// them that lowers the index is made at desk 0.
     ///
-    /// Right after a step the same move mostly lowers the index again, so one desk goes on alone, with nothing to copy;
-    /// the longer no move lowers it, the more are tried at once. All else is as in `round`.
-    pub fn short_round<R: Threads + Sync, G: Gate, L: Ledger>(
+    /// Right after a step the same move mostly lowers the index again, so that one desk goes on alone, with nothing to
+    /// copy. The other desks are left behind, and stand for the network of desk 0 again once they try. A desk tries its
+    /// stretch between entering and leaving the gate. All else is as in `round`.
+    pub fn stretch_round<R: Threads + Sync, G: Gate, L: Ledger>(
         &mut self,
         rt: &R,
         climber: &mut Climber,
@@ -153,31 +131,15 @@ impl Desks {
         steps: &mut Steps<L>,
     ) -> Round
         requires alike { AreAlike self.old }
-        requires count { climber.old.count ≡ move_count (desk_zero self.old).net }
-        requires closed { (desk_zero self.old).before ≡ None }
-        requires room { (desk_zero self.old).work ≤ 2 ^ 61 }
-        ensures round { IsRound (machine climber.old (desk_zero self.old)) (machine climber.new (desk_zero self.new))
-            result.turns result.last }
-        ensures turns { result.turns
-            ≡ turns_of (tries_of (length self.old) climber.old) (machine climber.old (desk_zero self.old)) }
+        requires ready { CanRound climber.old (desk_zero self.old) }
+        ensures made { MakesRound (places_of (length self.old) climber.old) (machine climber.old (desk_zero self.old))
+            (machine climber.new (desk_zero self.new)) result }
         ensures alike { AreAlike self.new }
         ensures workers { length self.new ≡ length self.old }
-        ensures kept { climber.new.count ≡ move_count (desk_zero self.new).net }
-        ensures closed { (desk_zero self.new).before ≡ None }
-        ensures few { (desk_zero self.new).work ≤ (desk_zero self.old).work + 8000 * result.turns }
         ensures steps { length self.old ≡ 1
             → steps.new + (desk_zero self.old).work ≡ steps.old + (desk_zero self.new).work }
     {
-        let workers = tries(self.desks.len(), climber);
-        front_round(
-            rt,
-            workers,
-            self.desks.as_mut_slice(),
-            &mut self.spare,
-            climber,
-            gate,
-            steps,
-        )
+        alike_round(rt, gate, self.desks.as_mut_slice(), climber, steps)
     }
 }
 
@@ -187,7 +149,7 @@ fn add_desk(desks: &mut Vec<Desk>, session: Session) -> Result<(), AllocError>
 {
     let desk = Desk {
         session,
-        tried: Tried::Barred,
+        tried: untried(),
     };
     desks.push(desk)?;
     Ok(())
@@ -207,170 +169,187 @@ fn all_same(desks: &[Desk]) -> bool
     true
 }
 
-/// Whether the last look took a step.
-fn just_stepped(climber: &Climber) -> bool
-    ensures { result ≡ just_stepped climber.now }
+/// Whether desk 0 of so many goes on alone.
+fn goes_alone(desks: usize, climber: &Climber) -> bool
+    ensures { result ≡ goes_alone desks climber.now }
 {
-    climber.since() == 0 && climber.looked() > 0
+    desks == 1 || (climber.looked() > 0 && climber.since() < 8)
 }
 
-/// How many of so many desks try in a short round.
-fn tries(desks: usize, climber: &Climber) -> usize
-    ensures { result ≡ tries_of desks climber.now }
+/// How many moves each desk tries.
+fn each(climber: &Climber) -> u32
+    ensures { result ≡ each_of climber.now }
 {
-    if desks <= 2 {
-        return desks;
-    }
-    if just_stepped(climber) {
-        return 1;
-    }
-    if climber.since() < 8 {
-        return 2;
-    }
-    desks
+    (climber.since() / 8).clamp(1, 32)
 }
 
-/// How many places are tried at once.
-fn room(workers: usize, climber: &Climber) -> usize
-    requires few { workers ≤ 8 }
-    ensures { result ≡ room_of workers climber.now }
+/// Whether a climber's next turn ends its climb, so that a round is this turn alone.
+fn is_over(climber: &Climber) -> bool
+    ensures over { (places : ℕ) (s : SessionValue) → result ≡ true → turns_of places (machine climber.now s) ≡ 1 }
+    ensures since { result ≡ false → climber.now.since < climber.now.count }
+    ensures looked { result ≡ false → climber.now.looked < climber.now.budget }
 {
-    let looks = climber.budget() - climber.looked();
-    let places = climber.count() - climber.since();
-    workers.min(looks.min(places) as usize)
+    climber.since() == climber.count() || climber.looked() == climber.budget()
 }
 
-/// A round of so many of the first desks, which stand for the network of desk 0 first. The others stay as they are.
-fn front_round<R: Threads + Sync, G: Gate, L: Ledger>(
-    rt: &R,
-    workers: usize,
-    desks: &mut [Desk],
-    spare: &mut Net,
-    climber: &mut Climber,
-    gate: &G,
-    steps: &mut Steps<L>,
-) -> Round
-    requires some { 0 < workers }
-    requires inside { workers ≤ length desks.old }
-    requires desks { AreDesks spare.old (sessions_of desks.old) }
-    requires alike { AreAlike (sessions_of desks.old) }
-    requires count { climber.old.count ≡ move_count (desk_zero (sessions_of desks.old)).net }
-    requires closed { (desk_zero (sessions_of desks.old)).before ≡ None }
-    requires room { (desk_zero (sessions_of desks.old)).work ≤ 2 ^ 61 }
-    ensures round { IsRound (machine climber.old (desk_zero (sessions_of desks.old)))
-        (machine climber.new (desk_zero (sessions_of desks.new))) result.turns result.last }
-    ensures turns { result.turns ≡ turns_of workers (machine climber.old (desk_zero (sessions_of desks.old))) }
-    ensures alike { AreAlike (sessions_of desks.new) }
-    ensures kept { climber.new.count ≡ move_count (desk_zero (sessions_of desks.new)).net }
-    ensures closed { (desk_zero (sessions_of desks.new)).before ≡ None }
-    ensures few { (desk_zero (sessions_of desks.new)).work
-        ≤ (desk_zero (sessions_of desks.old)).work + 8000 * result.turns }
-    ensures desks { AreDesks spare.new (sessions_of desks.new) }
-    ensures len { length desks.new ≡ length desks.old }
-    ensures steps { workers ≡ 1 → steps.new + (desk_zero (sessions_of desks.old)).work
-        ≡ steps.old + (desk_zero (sessions_of desks.new)).work }
-{
-    let front = &mut desks[..workers];
-    follow_zero(front);
-    round_on(rt, workers, front, spare, climber, gate, steps)
-}
-
-/// A round of so many workers on desks that all stand for one network.
-fn round_on<R: Threads + Sync, G: Gate, L: Ledger>(
-    rt: &R,
-    workers: usize,
-    desks: &mut [Desk],
-    spare: &mut Net,
-    climber: &mut Climber,
-    gate: &G,
-    steps: &mut Steps<L>,
-) -> Round
-    requires some { 0 < workers }
-    requires inside { workers ≤ length desks.old }
-    requires desks { AreDesks spare.old (sessions_of desks.old) }
-    requires aligned { AreAligned (sessions_of desks.old) }
-    requires count { climber.old.count ≡ move_count (desk_zero (sessions_of desks.old)).net }
-    requires closed { (desk_zero (sessions_of desks.old)).before ≡ None }
-    requires room { (desk_zero (sessions_of desks.old)).work ≤ 2 ^ 61 }
-    ensures round { RoundsTo workers climber.old (sessions_of desks.old) climber.new (sessions_of desks.new) result }
-    ensures desks { AreDesks spare.new (sessions_of desks.new) }
-    ensures spare { SameShape spare.new spare.old }
-    ensures len { length desks.new ≡ length desks.old }
-    ensures steps { length desks.old ≡ 1 → steps.new + (desk_zero (sessions_of desks.old)).work
-        ≡ steps.old + (desk_zero (sessions_of desks.new)).work }
-{
-    if climber.since() == climber.count() {
-        return Round {
-            turns: 1,
-            last: Turn::Local,
-        };
-    }
-    if climber.looked() == climber.budget() {
-        return Round {
-            turns: 1,
-            last: Turn::Budget,
-        };
-    }
-    if desks.len() == 1 {
-        return alone(workers, desks, climber, gate, steps);
-    }
-    together(rt, workers, desks, spare, climber, gate, steps)
-}
-
-/// A round of one desk: a turn, which passes the gate.
-fn alone<G: Gate, L: Ledger>(
-    workers: usize,
+/// A round of one turn at desk 0, of which so many places are one. The other desks stay as they are.
+fn turn_zero<L: Ledger>(
     desks: &mut [Desk],
     climber: &mut Climber,
-    gate: &G,
+    places: u32,
     steps: &mut Steps<L>,
 ) -> Round
-    requires alone { workers ≡ 1 }
-    requires one { length desks.old ≡ 1 }
-    requires count { climber.old.count ≡ move_count (desk_zero (sessions_of desks.old)).net }
-    requires closed { (desk_zero (sessions_of desks.old)).before ≡ None }
-    requires room { (desk_zero (sessions_of desks.old)).work ≤ 2 ^ 61 }
-    requires since { climber.old.since < climber.old.count }
-    requires looked { climber.old.looked < climber.old.budget }
-    ensures round { RoundsTo workers climber.old (sessions_of desks.old) climber.new (sessions_of desks.new) result }
+    requires some { 0 < length desks.old }
+    requires ready { CanRound climber.old (desk_zero (sessions_of desks.old)) }
+    requires one { turns_of places (machine climber.old (desk_zero (sessions_of desks.old))) ≡ 1 }
+    ensures made { RoundsDesks places climber.old (sessions_of desks.old) climber.new (sessions_of desks.new) result }
     ensures len { length desks.new ≡ length desks.old }
     ensures steps { steps.new + (desk_zero (sessions_of desks.old)).work
         ≡ steps.old + (desk_zero (sessions_of desks.new)).work }
 {
-    gate.enter(0);
-    let last = climber.turn(&mut desks[0].session, steps);
-    gate.leave(0);
-    Round { turns: 1, last }
+    take_turn(climber, &mut desks[0].session, places, steps)
 }
 
-/// A round of several desks.
-fn together<R: Threads + Sync, G: Gate, L: Ledger>(
-    rt: &R,
-    workers: usize,
-    desks: &mut [Desk],
-    spare: &mut Net,
-    climber: &mut Climber,
+/// A round of one turn at desk 0, which passes the gate.
+fn alone<G: Gate, L: Ledger>(
     gate: &G,
+    desks: &mut [Desk],
+    climber: &mut Climber,
     steps: &mut Steps<L>,
 ) -> Round
-    requires some { 0 < workers }
-    requires inside { workers ≤ length desks.old }
-    requires several { 1 < length desks.old }
-    requires desks { AreDesks spare.old (sessions_of desks.old) }
+    requires some { 0 < length desks.old }
+    requires ready { CanRound climber.old (desk_zero (sessions_of desks.old)) }
+    ensures made { RoundsDesks 1 climber.old (sessions_of desks.old) climber.new (sessions_of desks.new) result }
+    ensures len { length desks.new ≡ length desks.old }
+    ensures steps { steps.new + (desk_zero (sessions_of desks.old)).work
+        ≡ steps.old + (desk_zero (sessions_of desks.new)).work }
+{
+    if is_over(climber) {
+        return turn_zero(desks, climber, 1, steps);
+    }
+    gate.enter(0);
+    let round = turn_zero(desks, climber, 1, steps);
+    gate.leave(0);
+    round
+}
+
+/// The next moves of a climber's list, so many each desk, up to its budget and at most once round the list.
+fn reach_of(climber: &Climber, each: u32) -> Reach
+    requires since { climber.now.since < climber.now.count }
+    requires few { each ≤ 65536 }
+    ensures { IsReachOf climber.now each result }
+{
+    let looks = climber.budget() - climber.looked();
+    let places = climber.count() - climber.since();
+    Reach {
+        place: climber.place(),
+        count: climber.count(),
+        room: looks.min(places),
+        each,
+    }
+}
+
+/// A round in which every desk tries a stretch.
+fn together<R: Threads + Sync, G: Gate, L: Ledger>(
+    rt: &R,
+    gate: &G,
+    desks: &mut [Desk],
+    each: u32,
+    climber: &mut Climber,
+    steps: &mut Steps<L>,
+) -> Round
+    requires desks { AreDesks (sessions_of desks.old) }
     requires aligned { AreAligned (sessions_of desks.old) }
-    requires count { climber.old.count ≡ move_count (desk_zero (sessions_of desks.old)).net }
-    requires closed { (desk_zero (sessions_of desks.old)).before ≡ None }
-    requires room { (desk_zero (sessions_of desks.old)).work ≤ 2 ^ 61 }
+    requires ready { CanRound climber.old (desk_zero (sessions_of desks.old)) }
+    requires some { 0 < each }
+    requires few { each ≤ 65536 }
     requires since { climber.old.since < climber.old.count }
     requires looked { climber.old.looked < climber.old.budget }
-    ensures round { RoundsTo workers climber.old (sessions_of desks.old) climber.new (sessions_of desks.new) result }
-    ensures desks { AreDesks spare.new (sessions_of desks.new) }
-    ensures spare { SameShape spare.new spare.old }
+    ensures made { RoundsDesks (length desks.old * each) climber.old (sessions_of desks.old) climber.new
+        (sessions_of desks.new) result }
     ensures len { length desks.new ≡ length desks.old }
 {
-    let room = room(workers, climber);
-    try_front(rt, gate, desks, room, climber.place(), climber.count());
-    let answers = answers_of(desks, room);
-    let (zero, others) = desks.split_at_mut(1);
-    settle_zero(climber, zero, others, spare, &answers[..room], steps)
+    let reach = reach_of(climber, each);
+    let tried = try_reach(rt, gate, desks, reach);
+    let places = desks.len() as u32 * each;
+    settle(climber, &mut desks[0].session, tried, places, steps)
+}
+
+/// A round in which every desk tries a stretch, or the end of the climb.
+fn round_on<R: Threads + Sync, G: Gate, L: Ledger>(
+    rt: &R,
+    gate: &G,
+    desks: &mut [Desk],
+    each: u32,
+    climber: &mut Climber,
+    steps: &mut Steps<L>,
+) -> Round
+    requires desks { AreDesks (sessions_of desks.old) }
+    requires aligned { AreAligned (sessions_of desks.old) }
+    requires ready { CanRound climber.old (desk_zero (sessions_of desks.old)) }
+    requires some { 0 < each }
+    requires few { each ≤ 65536 }
+    ensures made { RoundsDesks (length desks.old * each) climber.old (sessions_of desks.old) climber.new
+        (sessions_of desks.new) result }
+    ensures len { length desks.new ≡ length desks.old }
+{
+    if is_over(climber) {
+        let places = desks.len() as u32 * each;
+        return turn_zero(desks, climber, places, steps);
+    }
+    together(rt, gate, desks, each, climber, steps)
+}
+
+/// A round of desks that stand for one network, before it and after it, in which each tries one move.
+fn aligned_round<R: Threads + Sync, G: Gate, L: Ledger>(
+    rt: &R,
+    gate: &G,
+    desks: &mut [Desk],
+    climber: &mut Climber,
+    steps: &mut Steps<L>,
+) -> Round
+    requires desks { AreDesks (sessions_of desks.old) }
+    requires aligned { AreAligned (sessions_of desks.old) }
+    requires ready { CanRound climber.old (desk_zero (sessions_of desks.old)) }
+    ensures made { MakesRound (length desks.old) (machine climber.old (desk_zero (sessions_of desks.old)))
+        (machine climber.new (desk_zero (sessions_of desks.new))) result }
+    ensures desks { AreDesks (sessions_of desks.new) }
+    ensures aligned { AreAligned (sessions_of desks.new) }
+    ensures len { length desks.new ≡ length desks.old }
+    ensures steps { length desks.old ≡ 1 → steps.new + (desk_zero (sessions_of desks.old)).work
+        ≡ steps.old + (desk_zero (sessions_of desks.new)).work }
+{
+    if desks.len() == 1 {
+        return alone(gate, desks, climber, steps);
+    }
+    let round = round_on(rt, gate, desks, 1, climber, steps);
+    follow_zero(desks);
+    round
+}
+
+/// A round of desks whose networks have one shape, in which desk 0 goes on alone, or every desk tries a stretch.
+fn alike_round<R: Threads + Sync, G: Gate, L: Ledger>(
+    rt: &R,
+    gate: &G,
+    desks: &mut [Desk],
+    climber: &mut Climber,
+    steps: &mut Steps<L>,
+) -> Round
+    requires desks { AreDesks (sessions_of desks.old) }
+    requires alike { AreAlike (sessions_of desks.old) }
+    requires ready { CanRound climber.old (desk_zero (sessions_of desks.old)) }
+    ensures made { MakesRound (places_of (length desks.old) climber.old)
+        (machine climber.old (desk_zero (sessions_of desks.old)))
+        (machine climber.new (desk_zero (sessions_of desks.new))) result }
+    ensures desks { AreDesks (sessions_of desks.new) }
+    ensures alike { AreAlike (sessions_of desks.new) }
+    ensures len { length desks.new ≡ length desks.old }
+    ensures steps { length desks.old ≡ 1 → steps.new + (desk_zero (sessions_of desks.old)).work
+        ≡ steps.old + (desk_zero (sessions_of desks.new)).work }
+{
+    if goes_alone(desks.len(), climber) {
+        return alone(gate, desks, climber, steps);
+    }
+    follow_zero(desks);
+    round_on(rt, gate, desks, each(climber), climber, steps)
 }

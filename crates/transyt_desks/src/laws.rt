@@ -4,17 +4,16 @@ ghost use Rattle.std.specs.Prelude.{◌≡◌, map, None, Some};
 ghost use Rattle.transyt_session.specs.WorkedSessions.{in_trial};
 ghost use Rattle.transyt_climb.specs.WorkedTurns.{junctions_session};
 ghost use Rattle.transyt_desks.specs.Desks.{AreAligned, AreAlike, desk_zero, opened_desks, with_zero};
-ghost use Rattle.transyt_desks.specs.Rounds.{is_took, just_stepped, room_of, tries_of, turns_of, up_to};
+ghost use Rattle.transyt_desks.specs.Rounds.{is_took, places_of, room_of, turns_of, up_to};
 ghost use Rattle.transyt_desks.specs.WorkedDesks.{seven_left, trial_first, trial_second, unlike};
-ghost use Rattle.transyt_desks.specs.WorkedRounds.{three_desks, worked_rooms, worked_rounds, worked_stepped};
-ghost use Rattle.transyt_desks.specs.WorkedRounds.{worked_tooks, worked_tries_of};
+ghost use Rattle.transyt_desks.specs.WorkedRounds.{three_desks, worked_places, worked_rooms, worked_rounds};
+ghost use Rattle.transyt_desks.specs.WorkedRounds.{worked_tooks};
 
 /// The worked rounds and desks come out as they are written beside the definitions.
 #[tactic(auto, using(crate::proofs::WorkedLaws::rounds, crate::proofs::WorkedLaws::are_aligned, crate::proofs::WorkedLaws::step_round))]
 pub fn worked_rounds()
     ensures rooms { map (λ row. room_of row.0 row.1) worked_rooms ≡ map (λ row. row.2) worked_rooms }
-    ensures tries { map (λ row. tries_of row.0 row.1) worked_tries_of ≡ map (λ row. row.2) worked_tries_of }
-    ensures stepped { map (λ row. just_stepped row.0) worked_stepped ≡ map (λ row. row.1) worked_stepped }
+    ensures places { map (λ row. places_of row.0 row.1) worked_places ≡ map (λ row. row.2) worked_places }
     ensures rounds { map (λ row. turns_of row.0 row.1) worked_rounds ≡ map (λ row. row.2) worked_rounds }
     ensures step { turns_of 8 seven_left ≡ 2 }
     ensures tooks { map (λ row. is_took row.0) worked_tooks ≡ map (λ row. row.1) worked_tooks }

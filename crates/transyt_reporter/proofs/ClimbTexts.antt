@@ -126,7 +126,8 @@ module _ {budget : ℕ} {first desks : List SessionValue} {counters : Counters} 
       cases (is_end last) refl
 
   -- the work after a round is little
-  pub climb_few : (desk_zero after).work ≤ (desk_zero desks).work + 8000 * count → count ≤ 8
+  pub climb_few : (desk_zero after).work ≤ (desk_zero desks).work + 8000 * count
+      → counters.looked + count ≤ counters.budget + 1
       → (desk_zero after).work ≤ (desk_zero first).work + 8000 * budget + 72000
   climb_few few turns =
       let looked = so.way.ready.looked in

@@ -1,8 +1,7 @@
--- Each listed move is of an offset or of a change, and a round has no more turns than workers.
-use Rattle.std.proofs.Common.{◌≡◌, ℕ, zero, suc, ◌-◌, ◌≤◌, Bool, true, false, List, [], ◌∷◌, ◌++◌, length, Option, None, Some, IfSome}
-use Rattle.std.proofs.Common.{if◌then◌else◌, refl, sym, ap, subst, arith, slice_index_or, ◌==◌}
+-- Each listed move is of an offset or of a change, and a round has no more turns than places are left, or one.
+use Rattle.std.proofs.Common.{◌+◌, ◌≡◌, ℕ, zero, suc, ◌-◌, ◌≤◌, Bool, true, false, List, [], ◌∷◌, ◌++◌, length, Option, None, Some, IfSome}
+use Rattle.std.proofs.Common.{if◌then◌else◌, refl, sym, subst, arith, slice_index_or, ◌==◌}
 use Rattle.std.specs.List.{flat_map, range_with_len}
-use Rattle.std.proofs.Math.Nat.{min-le_left}
 use Rattle.transyt_parts.specs.Parts.{NodeValue}
 use Rattle.transyt_net.specs.Parts.{Network}
 use Rattle.transyt_net.specs.declared.edit.Edit.{Edit}
@@ -85,16 +84,6 @@ unfolding turns_up_to
 few_turns n m =
     few_up_to (λ r. is_took (answer_of (turns r m))) n (least (λ r. is_took (answer_of (turns r m))) n) refl
 
--- a round has no more turns than there are workers
-pub turns_few : (workers : ℕ) (m : Machine) → 1 ≤ workers → turns_of workers m ≤ workers
-turns_few workers m some =
-    let room = room_of workers m.counters in
-    let least_room : room ≤ workers = min-le_left workers _ in
-    let up = few_turns room m in
-    let by : (b : Bool) → (if b then 1 else turns_up_to room m) ≤ workers =
-    elim [ true ↦ some | false ↦ omega (arith, least_room, up) ] in
-    by (is_end (answer_of m))
-
 -- a climb plan's budget is at most 1,000,000
 budget_at_most : (steps : ℕ) (o : Option PlanValue) → IfSome o (IsPlan steps) → budget_of o ≤ 1000000
 budget_at_most steps None h = omega arith
@@ -110,19 +99,14 @@ pub start_is : (net : Network) (o : Option PlanValue) (c : Counters) → Some c 
 start_is net None c h = absurd (cc)
 start_is net (Some plan) c h = cc
 
--- a round of no desk has at most one turn
-few_none : (m : Machine) → turns_of 0 m ≤ 1
-few_none m =
-    let up = few_turns (room_of 0 m.counters) m in
-    let room : room_of 0 m.counters ≤ 0 = min-le_left 0 _ in
-    let by : (b : Bool) → (if b then 1 else turns_up_to (room_of 0 m.counters) m) ≤ 1 =
-    elim [ true ↦ omega arith | false ↦ omega (arith, up, room) ] in
-    by (is_end (answer_of m))
-
--- a round of at most eight desks has at most eight turns
-pub few_turns_of : (m : Machine) {turns count first : ℕ} → turns ≡ turns_of count m → count ≡ first → first ≤ 8 → turns ≤ 8
-few_turns_of m {turns} {count} {first} is len few = by count refl
-  where
-    by : (k : ℕ) → count ≡ k → turns ≤ 8
-    by zero none = let one = few_none m in omega (arith, is, ap (λ (k : ℕ). turns_of k m) none, one)
-    by (suc k) some = let most = turns_few count m (omega (arith, some)) in omega (arith, is, most, len, few)
+-- a round has no more turns than places may still be looked at, or one
+pub turns_left : (m : Machine) (places : ℕ) {turns : ℕ} → turns ≡ turns_of places m
+    → m.counters.looked ≤ m.counters.budget → m.counters.looked + turns ≤ m.counters.budget + 1
+turns_left m places is inside =
+    let up = few_turns (room_of places m.counters) m in
+    let room : room_of places m.counters ≤ m.counters.budget - m.counters.looked = omega arith in
+    let by : (b : Bool) → m.counters.looked + (if b then 1 else turns_up_to (room_of places m.counters) m)
+    ≤ m.counters.budget + 1 =
+    elim [ true ↦ omega (arith, inside) | false ↦ omega (arith, up, room, inside) ] in
+    let most = by (is_end (answer_of m)) in
+    omega (arith, is, most)

@@ -57,7 +57,7 @@ fn count_steps<R: Threads + Sync, G: Gate, L: Ledger>(
 {
     let mut took = 0;
     loop {
-        let round = desks.short_round(rt, climber, gate, steps);
+        let round = desks.stretch_round(rt, climber, gate, steps);
         if round.last.is_end() {
             return Climbed {
                 took,

@@ -101,7 +101,7 @@ fn climb_by_rounds<R: Threads + Sync, G: Gate, K: Sink, L: Ledger>(
         → steps.new + (desk_zero desks.old).work ≡ steps.old + (desk_zero desks.new).work }
 {
     loop {
-        let round = desks.short_round(rt, climber, gate, steps);
+        let round = desks.stretch_round(rt, climber, gate, steps);
         if round.last.is_end() {
             let index = desks.session().index();
             return say_end(round.last.is_local(), climber.looked(), index, line, sink);

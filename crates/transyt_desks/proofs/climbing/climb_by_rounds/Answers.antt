@@ -30,23 +30,23 @@ pub loop-round-preserved : goal.loop-round-preserved
 loop-round-preserved g c =
     let s : SessionValue = desk_zero c.args.desks.now in
     let m : Machine = machine c.loop-round.climber (desk_zero c.loop-round.desks) in
-    let m' : Machine = machine c.short_round-round.new.climber (desk_zero c.short_round-round.new.self) in
+    let m' : Machine = machine c.stretch_round-round.new.climber (desk_zero c.stretch_round-round.new.self) in
     let whole : Climb = climb s.net 0 c.args.climber.now.budget in
-    let going : is_end c.short_round-round.result.last ≡ false = sym c.is_end.ensures ∙ c.if-is_end.false in
-    let looks : HasLooked m m' c.short_round-round.result.turns =
-    round_looks m m' c.short_round-round.result.turns c.short_round-round.result.last c.short_round-round.ensures.round going in
+    let going : is_end c.stretch_round-round.result.last ≡ false = sym c.is_end.ensures ∙ c.if-is_end.false in
+    let looks : HasLooked m m' c.stretch_round-round.result.turns =
+    round_looks m m' c.stretch_round-round.result.turns c.stretch_round-round.result.last c.stretch_round-round.ensures.made.round going in
     record {
       way = (
-        c.loop-round.invariant.way.0 ++ step_then c.short_round-round.result.last [],
-        way_round whole s.work c.loop-round.invariant.way.0 m m' c.short_round-round.result.turns
-            c.short_round-round.result.last c.loop-round.invariant.way.1 c.short_round-round.ensures.round going,
+        c.loop-round.invariant.way.0 ++ step_then c.stretch_round-round.result.last [],
+        way_round whole s.work c.loop-round.invariant.way.0 m m' c.stretch_round-round.result.turns
+            c.stretch_round-round.result.last c.loop-round.invariant.way.1 c.stretch_round-round.ensures.made.round going,
       );
       budget = looks.budget ∙ c.loop-round.invariant.budget;
-      alike = c.short_round-round.ensures.alike;
-      workers = c.short_round-round.ensures.workers ∙ c.loop-round.invariant.workers;
-      room = omega (arith, looks.looked, c.short_round-round.ensures.few, c.loop-round.invariant.room);
+      alike = c.stretch_round-round.ensures.alike;
+      workers = c.stretch_round-round.ensures.workers ∙ c.loop-round.invariant.workers;
+      room = omega (arith, looks.looked, c.stretch_round-round.ensures.made.few, c.loop-round.invariant.room);
       steps = λ one.
-          (let now = c.short_round-round.ensures.steps (c.loop-round.invariant.workers ∙ one) in
+          (let now = c.stretch_round-round.ensures.steps (c.loop-round.invariant.workers ∙ one) in
           let before = c.loop-round.invariant.steps one in omega (arith, now, before));
     }
 
@@ -54,44 +54,44 @@ pub returns-then-is_end-clause-local : goal.returns-then-is_end-clause-local
 returns-then-is_end-clause-local g c =
     let s : SessionValue = desk_zero c.args.desks.now in
     let m : Machine = machine c.loop-round.climber (desk_zero c.loop-round.desks) in
-    let m' : Machine = machine c.short_round-round.new.climber (desk_zero c.short_round-round.new.self) in
+    let m' : Machine = machine c.stretch_round-round.new.climber (desk_zero c.stretch_round-round.new.self) in
     let whole : Climb = climb s.net 0 c.args.climber.now.budget in
-    let over : IsOver whole s.work c.loop-round.invariant.way.0 (is_local c.short_round-round.result.last) m' =
-    way_over whole s.work c.loop-round.invariant.way.0 m m' c.short_round-round.result.turns c.short_round-round.result.last
-    c.loop-round.invariant.way.1 c.short_round-round.ensures.round (sym c.is_end.ensures ∙ c.if-is_end.true) in
+    let over : IsOver whole s.work c.loop-round.invariant.way.0 (is_local c.stretch_round-round.result.last) m' =
+    way_over whole s.work c.loop-round.invariant.way.0 m m' c.stretch_round-round.result.turns c.stretch_round-round.result.last
+    c.loop-round.invariant.way.1 c.stretch_round-round.ensures.made.round (sym c.is_end.ensures ∙ c.if-is_end.true) in
     c.is_local.ensures ∙ sym over.local_is
 
 pub returns-then-is_end-clause-state : goal.returns-then-is_end-clause-state
 returns-then-is_end-clause-state g c =
     let s : SessionValue = desk_zero c.args.desks.now in
     let m : Machine = machine c.loop-round.climber (desk_zero c.loop-round.desks) in
-    let m' : Machine = machine c.short_round-round.new.climber (desk_zero c.short_round-round.new.self) in
+    let m' : Machine = machine c.stretch_round-round.new.climber (desk_zero c.stretch_round-round.new.self) in
     let whole : Climb = climb s.net 0 c.args.climber.now.budget in
-    let over : IsOver whole s.work c.loop-round.invariant.way.0 (is_local c.short_round-round.result.last) m' =
-    way_over whole s.work c.loop-round.invariant.way.0 m m' c.short_round-round.result.turns c.short_round-round.result.last
-    c.loop-round.invariant.way.1 c.short_round-round.ensures.round (sym c.is_end.ensures ∙ c.if-is_end.true) in
-    over_climbed c.args.climber.now.budget s c.loop-round.invariant.way.0 (is_local c.short_round-round.result.last) m' over
+    let over : IsOver whole s.work c.loop-round.invariant.way.0 (is_local c.stretch_round-round.result.last) m' =
+    way_over whole s.work c.loop-round.invariant.way.0 m m' c.stretch_round-round.result.turns c.stretch_round-round.result.last
+    c.loop-round.invariant.way.1 c.stretch_round-round.ensures.made.round (sym c.is_end.ensures ∙ c.if-is_end.true) in
+    over_climbed c.args.climber.now.budget s c.loop-round.invariant.way.0 (is_local c.stretch_round-round.result.last) m' over
 
 pub returns-then-is_end-clause-looks : goal.returns-then-is_end-clause-looks
 returns-then-is_end-clause-looks g c =
     let s : SessionValue = desk_zero c.args.desks.now in
     let m : Machine = machine c.loop-round.climber (desk_zero c.loop-round.desks) in
-    let m' : Machine = machine c.short_round-round.new.climber (desk_zero c.short_round-round.new.self) in
+    let m' : Machine = machine c.stretch_round-round.new.climber (desk_zero c.stretch_round-round.new.self) in
     let whole : Climb = climb s.net 0 c.args.climber.now.budget in
-    let over : IsOver whole s.work c.loop-round.invariant.way.0 (is_local c.short_round-round.result.last) m' =
-    way_over whole s.work c.loop-round.invariant.way.0 m m' c.short_round-round.result.turns c.short_round-round.result.last
-    c.loop-round.invariant.way.1 c.short_round-round.ensures.round (sym c.is_end.ensures ∙ c.if-is_end.true) in
+    let over : IsOver whole s.work c.loop-round.invariant.way.0 (is_local c.stretch_round-round.result.last) m' =
+    way_over whole s.work c.loop-round.invariant.way.0 m m' c.stretch_round-round.result.turns c.stretch_round-round.result.last
+    c.loop-round.invariant.way.1 c.stretch_round-round.ensures.made.round (sym c.is_end.ensures ∙ c.if-is_end.true) in
     sym over.looks
 
 pub loop-round-smaller : goal.loop-round-smaller
 loop-round-smaller g c =
     let s : SessionValue = desk_zero c.args.desks.now in
     let m : Machine = machine c.loop-round.climber (desk_zero c.loop-round.desks) in
-    let m' : Machine = machine c.short_round-round.new.climber (desk_zero c.short_round-round.new.self) in
+    let m' : Machine = machine c.stretch_round-round.new.climber (desk_zero c.stretch_round-round.new.self) in
     let whole : Climb = climb s.net 0 c.args.climber.now.budget in
-    let going : is_end c.short_round-round.result.last ≡ false = sym c.is_end.ensures ∙ c.if-is_end.false in
-    let looks : HasLooked m m' c.short_round-round.result.turns =
-    round_looks m m' c.short_round-round.result.turns c.short_round-round.result.last c.short_round-round.ensures.round going in
-    let next = way_round whole s.work c.loop-round.invariant.way.0 m m' c.short_round-round.result.turns
-    c.short_round-round.result.last c.loop-round.invariant.way.1 c.short_round-round.ensures.round going in
-    omega (arith, looks.looked, looks.budget, next.ready.looked, c.short_round-round.ensures.round.some)
+    let going : is_end c.stretch_round-round.result.last ≡ false = sym c.is_end.ensures ∙ c.if-is_end.false in
+    let looks : HasLooked m m' c.stretch_round-round.result.turns =
+    round_looks m m' c.stretch_round-round.result.turns c.stretch_round-round.result.last c.stretch_round-round.ensures.made.round going in
+    let next = way_round whole s.work c.loop-round.invariant.way.0 m m' c.stretch_round-round.result.turns
+    c.stretch_round-round.result.last c.loop-round.invariant.way.1 c.stretch_round-round.ensures.made.round going in
+    omega (arith, looks.looked, looks.budget, next.ready.looked, c.stretch_round-round.ensures.made.round.some)

@@ -17,15 +17,15 @@ loop-round-init g c = record {
 pub loop-round-preserved : goal.loop-round-preserved
 loop-round-preserved g c =
     let so = c.loop-round.invariant.counted in
-    let round = c.short_round-round.ensures in
-    let last = c.short_round-round.result.last in
-    let count = c.short_round-round.result.turns in
+    let round = c.stretch_round-round.ensures in
+    let last = c.stretch_round-round.result.last in
+    let count = c.stretch_round-round.result.turns in
     let going : is_end last ≡ false = sym c.is_end.ensures ∙ c.if-is_end.false in
     let took = c.steps_of-took.ensures.value in
     let few = c.steps_of-took.ensures.few in
     record {
-      counted = step_counted so c.short_round-round.new.self count last round.round _ going (omega (arith, took)) (omega (arith, few))
-          (climb_goes so.climb c.short_round-round.new.self count last round.round going round.alike round.workers round.few);
+      counted = step_counted so c.stretch_round-round.new.self count last round.made.round _ going (omega (arith, took)) (omega (arith, few))
+          (climb_goes so.climb c.stretch_round-round.new.self count last round.made.round going round.alike round.workers round.made.few);
       steps = λ one.
           let before = c.loop-round.invariant.steps one in
           let now = round.steps (so.climb.len ∙ one) in
@@ -35,30 +35,30 @@ loop-round-preserved g c =
 -- fewer places are left
 pub loop-round-smaller : goal.loop-round-smaller
 loop-round-smaller g c =
-    fewer_left c.loop-round.invariant.counted.climb c.short_round-round.new.self c.short_round-round.result.turns c.short_round-round.result.last
-    c.short_round-round.ensures.round (sym c.is_end.ensures ∙ c.if-is_end.false)
+    fewer_left c.loop-round.invariant.counted.climb c.stretch_round-round.new.self c.stretch_round-round.result.turns c.stretch_round-round.result.last
+    c.stretch_round-round.ensures.made.round (sym c.is_end.ensures ∙ c.if-is_end.false)
 
 -- the steps at the end
 pub returns-then-is_end-clause-took : goal.returns-then-is_end-clause-took
 returns-then-is_end-clause-took g c =
-    all_counted c.loop-round.invariant.counted c.short_round-round.new.self c.short_round-round.result.turns c.short_round-round.result.last
-    c.short_round-round.ensures.round (sym c.is_end.ensures ∙ c.if-is_end.true)
+    all_counted c.loop-round.invariant.counted c.stretch_round-round.new.self c.stretch_round-round.result.turns c.stretch_round-round.result.last
+    c.stretch_round-round.ensures.made.round (sym c.is_end.ensures ∙ c.if-is_end.true)
 
 -- how it ended
 pub returns-then-is_end-clause-local : goal.returns-then-is_end-clause-local
 returns-then-is_end-clause-local g c =
     c.is_local.ensures
-    ∙ sym (climb_over c.loop-round.invariant.counted.climb c.short_round-round.new.self c.short_round-round.result.turns c.short_round-round.result.last
-    c.short_round-round.ensures.round (sym c.is_end.ensures ∙ c.if-is_end.true)).local_is
+    ∙ sym (climb_over c.loop-round.invariant.counted.climb c.stretch_round-round.new.self c.stretch_round-round.result.turns c.stretch_round-round.result.last
+    c.stretch_round-round.ensures.made.round (sym c.is_end.ensures ∙ c.if-is_end.true)).local_is
 
 -- the places looked at
 pub returns-then-is_end-clause-looked : goal.returns-then-is_end-clause-looked
 returns-then-is_end-clause-looked g c =
-    sym (climb_over c.loop-round.invariant.counted.climb c.short_round-round.new.self c.short_round-round.result.turns c.short_round-round.result.last
-    c.short_round-round.ensures.round (sym c.is_end.ensures ∙ c.if-is_end.true)).looks
+    sym (climb_over c.loop-round.invariant.counted.climb c.stretch_round-round.new.self c.stretch_round-round.result.turns c.stretch_round-round.result.last
+    c.stretch_round-round.ensures.made.round (sym c.is_end.ensures ∙ c.if-is_end.true)).looks
 
 -- the session
 pub returns-then-is_end-clause-state : goal.returns-then-is_end-clause-state
 returns-then-is_end-clause-state g c =
-    climb_state c.loop-round.invariant.counted.climb c.short_round-round.new.self c.short_round-round.result.turns c.short_round-round.result.last
-    c.short_round-round.ensures.round (sym c.is_end.ensures ∙ c.if-is_end.true)
+    climb_state c.loop-round.invariant.counted.climb c.stretch_round-round.new.self c.stretch_round-round.result.turns c.stretch_round-round.result.last
+    c.stretch_round-round.ensures.made.round (sym c.is_end.ensures ∙ c.if-is_end.true)

@@ -7,6 +7,6 @@ use Rattle.transyt_desks.proofs.desks.Desks.session_mut.Goals as goal
 -- since they speak of the other desks alone
 pub invariant_of-self-lent : goal.invariant_of-self-lent
 invariant_of-self-lent c =
-    λ w. subst (AreDesks c.self.inside.spare)
+    λ w. subst AreDesks
     (sym (lent_sessions c.self.inside.desks.items (record { session = w; tried = c.index_mut-desk.result.now.tried })))
-    (desks_lent c.self.inside.spare (sessions_of c.self.inside.desks.items) w c.self.invariant)
+    (desks_lent (sessions_of c.self.inside.desks.items) w c.self.invariant)

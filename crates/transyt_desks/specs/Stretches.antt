@@ -1,0 +1,59 @@
+-- Stretches: the moves that one desk of a round tries.
+use Rattle.std.specs.Prelude.{◌≡◌, ℕ, zero, suc, ◌+◌, ◌*◌, ◌%◌, ◌^◌, ◌<◌, ◌≤◌, min, true, false, if◌then◌else◌}
+use Rattle.transyt_net.specs.Parts.{Network}
+use Rattle.transyt_moves.specs.Moves.{move}
+use Rattle.transyt_sweep.specs.Climb.{lowers}
+use Rattle.transyt_track.specs.Work.{edit_work}
+use Rattle.transyt_desks.specs.declared.stretch.Reach.{Reach}
+use Rattle.transyt_desks.specs.declared.stretch.Stretch.{Stretch}
+
+-- the place of the move with a number, from a place on, round the list
+abbrev pub place_at : ℕ → ℕ → ℕ → ℕ
+place_at place count number = (place + number) % count
+
+-- the number of the move at which a desk begins, and the desk before it ends
+unfoldable pub bound_at : Reach → ℕ → ℕ
+bound_at reach desk = min (desk * reach.each) reach.room
+
+-- a reach round a list that has its place, with few moves each desk
+pub record IsReach (reach : Reach) : Type 0 where
+  pub place : reach.place < reach.count
+  pub room : reach.room < 2 ^ 32
+  pub each : reach.each ≤ 65536
+
+-- no move was tried
+abbrev pub untried : Stretch
+untried = record { passed = 0; work = 0; lowers = false }
+
+-- one move more with this work doesn't lower the index
+abbrev pub passing : Stretch → ℕ → Stretch
+passing s work = record { passed = s.passed + 1; work = s.work + work; lowers = false }
+
+-- a stretch that ends at a move that lowers the index
+abbrev pub lowering : Stretch → Stretch
+lowering s = record { passed = s.passed; work = s.work; lowers = true }
+
+-- a stretch, and the one after it
+abbrev pub joined : Stretch → Stretch → Stretch
+joined s t = record { passed = s.passed + t.passed; work = s.work + t.work; lowers = t.lowers }
+
+-- a stretch after one try more
+abbrev pub after_try : Network → ℕ → Stretch → Stretch
+after_try net place s = if lowers net place then lowering s else passing s (edit_work net (move net place))
+
+-- the work of the moves before a number
+abbrev pub work_before : Network → ℕ → ℕ → ℕ → ℕ
+work_before net place count zero = 0
+work_before net place count (suc n) =
+    work_before net place count n + edit_work net (move net (place_at place count n))
+
+-- what was found of a network's moves with the numbers from one to before another, in the list's order up to the first that
+-- lowers the index
+pub record IsStretch (net : Network) (place count from to : ℕ) (s : Stretch) : Type 0 where
+  pub inside : from + s.passed ≤ to
+  pub passes : (k : ℕ) → from ≤ k → k < from + s.passed → lowers net (place_at place count k) ≡ false
+  pub work : work_before net place count from + s.work ≡ work_before net place count (from + s.passed)
+  pub few : s.work ≤ 8000 * s.passed
+  pub next : s.lowers ≡ true → from + s.passed < to
+  pub found : s.lowers ≡ true → lowers net (place_at place count (from + s.passed)) ≡ true
+  pub whole : s.lowers ≡ false → from + s.passed ≡ to
