@@ -33,11 +33,13 @@ on_last : {A : Type 0} (f : A → A) (done : List A) (x : A)
 on_last f [] x = refl
 on_last f (y ∷ done) x = ap (λ l. y ∷ l) (on_last f done x)
 
-get_last : {A : Type 0} (done : List A) (x : A) → slice_get (done ++ x ∷ []) (length done) ≡ Some x
+-- it is found there
+pub get_last : {A : Type 0} (done : List A) (x : A) → slice_get (done ++ x ∷ []) (length done) ≡ Some x
 get_last [] x = refl
 get_last (y ∷ done) x = get_last done x
 
-last_is : {A : Type 0} (done : List A) (x : A) → length (done ++ x ∷ []) - 1 ≡ length done
+-- and its place
+pub last_is : {A : Type 0} (done : List A) (x : A) → length (done ++ x ∷ []) - 1 ≡ length done
 last_is done x = omega (arith, length-append done (x ∷ []))
 
 -- a new stage of the last node has no fault

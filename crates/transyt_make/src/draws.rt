@@ -4,9 +4,12 @@ ghost use Rattle.transyt_make.specs.Draws.{draw, further};
 
 use std::marker::Model;
 
-/// Draws one after another: seen as the seed and how many were taken.
+/// Draws one after another by a linear congruence: seen as the seed, and how many of its draws were taken.
+///
+/// The numbers begin with the seed; each is 1,103,515,245 times the one before plus 12,345, modulo 2^31, and a draw
+/// leaves the low 16 bits of its number out.
 #[derive(Drop)]
-pub(crate) struct Draws {
+pub struct Draws {
     seed: u32,
     taken: u64,
     x: u64,
@@ -24,9 +27,9 @@ impl Model for Draws {
 }
 
 impl Draws {
-    /// No draw is taken yet.
+    /// The draws of a seed, at most 999,999,999, of which none is taken yet.
     #[tactic(auto, unfolding(crate::specs::Draws::after_draws))]
-    pub(crate) fn new(seed: u32) -> Draws
+    pub fn new(seed: u32) -> Draws
         requires { seed ≤ 999999999 }
         ensures { result ≡ record { seed = seed; taken = 0 } }
     {
@@ -37,9 +40,9 @@ impl Draws {
         }
     }
 
-    /// The next draw, below `a`.
+    /// The next draw, below `a`, which is at least 1.
     #[tactic(auto, using(crate::proofs::DrawLaws::after_more))]
-    pub(crate) fn draw(&mut self, a: u32) -> u32
+    pub fn draw(&mut self, a: u32) -> u32
         requires some { 0 < a }
         requires few { self.old.taken < 4294967295 }
         ensures value { result ≡ draw self.old.seed self.old.taken a }

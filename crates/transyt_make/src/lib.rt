@@ -4,7 +4,8 @@
 //! four links, fed by its neighbours. Its numbers are draws of a linear congruence, `draw seed k a` of `specs/Draws` for
 //! the k-th of them: first two for each node, then one for each link, then four for each link that has a neighbour. That
 //! the network is valid for every seed and every number of nodes is proved by the calls of the draft, none of which has
-//! a fault. All of it is this project's own; the multiplier is the one of the C standard's example.
+//! a fault. [`Draws`] hands the draws out one after another. All of it is this project's own; the multiplier is the one
+//! of the C standard's example.
 #![tactic(auto)]
 
 mod draws;
@@ -15,5 +16,6 @@ mod links;
 mod making;
 mod nodes;
 
+pub use draws::Draws;
 pub use laws::worked_towns;
 pub use making::make_net;

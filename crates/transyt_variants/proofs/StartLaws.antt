@@ -1,0 +1,119 @@
+-- A start is a valid network, and differs from the first network in its offsets alone.
+use Rattle.std.proofs.Common.{◌≡◌, ℕ, zero, suc, ◌+◌, ◌-◌, ◌*◌, ◌/◌, ◌<◌, List, [], ◌∷◌, ◌++◌, map, length, get_or, refl, sym, ap, ◌∙◌, arith, subst, None, Result, Ok, Err, IfOk}
+use Rattle.std.specs.List.{range_with_len}
+use Rattle.std.proofs.Math.Nat.{mod-lt}
+use Rattle.std.proofs.lemmas.List.{ext_get_or, length-map, get_or-map, get_or_default}
+use Rattle.std.proofs.lemmas.List.FromFn.{length-map-range_with_len, get_or-map-range_with_len, map-range_with_len_more}
+use Rattle.transyt_parts.specs.Parts.{NodeValue}
+use Rattle.transyt_parts.specs.Shape.{bare_node}
+use Rattle.transyt_parts.specs.Plan.{plan_fault}
+use Rattle.transyt_parts.specs.Valid.{IsNode}
+use Rattle.transyt_net.specs.Parts.{Network, node_of, no_node}
+use Rattle.transyt_net.specs.Edits.{set_offset}
+use Rattle.transyt_net.specs.Valid.{IsValid}
+use Rattle.transyt_make.specs.Draws.{draw, after_draws}
+use Rattle.transyt_variants.specs.Starts.{drawn_node, drawn_nodes, start_at}
+use Rattle.transyt_variants.specs.Kept.{KeepsAllButOffsets}
+use Rattle.transyt_variants.specs.Rebuilt.{with_signals}
+use Rattle.transyt_variants.proofs.ValidLaws.{AreSignals, valid_signals}
+
+-- a list made anew place by place, seen by what stays
+pub map_places : {A B : Type 0} (h : A → B) (f : ℕ → A) (xs : List A) (d : A) (e : B)
+    → ((k : ℕ) → k < length xs → h (f k) ≡ h (get_or xs k d))
+    → map h (map f (range_with_len 0 (length xs))) ≡ map h xs
+map_places h f xs d e each =
+    let made = map f (range_with_len 0 (length xs)) in
+    let count : length made ≡ length xs = length-map-range_with_len f 0 (length xs) in
+    ext_get_or e (map h made) (map h xs) (length-map made h ∙ count ∙ sym (length-map xs h)) (
+    λ k below.
+    let inside : k < length xs = omega (arith, length-map made h, count) in
+    get_or-map h made k d e (omega (arith, count))
+    ∙ ap h (get_or-map-range_with_len f 0 (length xs) k k d inside (omega arith))
+    ∙ each k inside
+    ∙ sym (get_or-map h xs k d e inside)
+    )
+
+-- what holds at each place holds of all
+pub all_places : {A : Type 0} (P : A → Type 0) (f : ℕ → A) (n : ℕ) → ((k : ℕ) → k < n → P (f k))
+    → (k : ℕ) (d : A) → k < length (map f (range_with_len 0 n)) → P (get_or (map f (range_with_len 0 n)) k d)
+all_places P f n each k d below =
+    let inside : k < n = omega (arith, length-map-range_with_len f 0 n) in
+    subst P (sym (get_or-map-range_with_len f 0 n k k d inside (omega arith))) (each k inside)
+
+-- a draw is below its limit
+pub draw_below : (seed k a : ℕ) → 0 < a → draw seed k a < a
+draw_below seed k a some = mod-lt (after_draws seed (k + 1) / 65536) some
+
+-- one node more
+pub node_drawn : (net : Network) (seed first place : ℕ) (before after ns : List NodeValue) (n made : NodeValue) (offset : ℕ)
+    → place < length net.nodes → ns ≡ net.nodes → n ≡ get_or ns place n → made ≡ set_offset offset n
+    → offset ≡ draw seed (first + place) net.frame.step_count
+    → before ≡ map (drawn_node net seed first) (range_with_len 0 place) → after ≡ before ++ made ∷ []
+    → after ≡ map (drawn_node net seed first) (range_with_len 0 (place + 1))
+node_drawn net seed first place before after ns n made offset inside are at is drew so_far more =
+    let same : n ≡ node_of net place =
+    at ∙ ap (λ (xs : List NodeValue). get_or xs place n) are ∙ get_or_default net.nodes place n no_node inside in
+    let here : made ≡ drawn_node net seed first place = is ∙ (λ j. set_offset (drew j) (same j)) in
+    more ∙ (λ j. so_far j ++ here j ∷ [])
+    ∙ sym (map-range_with_len_more (drawn_node net seed first) 0 place place (omega arith))
+
+-- the nodes with other offsets, as the signals of the network
+drawn_signals : (net : Network) (seed first : ℕ) → IsValid net → AreSignals net net.frame (drawn_nodes net seed first)
+drawn_signals net seed first valid =
+    let steps = net.frame.step_count in
+    let some : 0 < steps = omega (arith, valid.sound.frame.step_count.0) in
+    let f : ℕ → NodeValue = drawn_node net seed first in
+    record {
+      framed = valid.sound.frame;
+      same = map_places bare_node f net.nodes no_node (bare_node no_node) (λ k inside. refl);
+      each = all_places (IsNode steps) f (length net.nodes) (λ k inside.
+          let old : IsNode steps (node_of net k) = valid.sound.nodes k no_node inside in
+          record {
+            number = old.number;
+            offset = draw_below seed (first + k) steps some;
+            stage_count = old.stage_count;
+            stages = old.stages;
+          });
+      planned = all_places (λ (n : NodeValue). plan_fault steps n.stages ≡ None) f (length net.nodes)
+          (λ k inside. valid.planned k no_node inside);
+      lags = λ i d below.
+          let link = valid.sound.links i d below in
+          record { start_lag = link.start_lag; end_lag = link.end_lag };
+      plan = valid.sound.plan;
+    }
+
+-- the network with other offsets is valid
+pub drawn_valid : (net : Network) (seed first : ℕ) → IsValid net
+    → IsValid (with_signals net net.frame (drawn_nodes net seed first))
+drawn_valid net seed first valid =
+    valid_signals net net.frame (drawn_nodes net seed first) valid (drawn_signals net seed first valid)
+
+-- a start but the first
+pub start_later : (net : Network) (seed place : ℕ) → 0 < place
+    → start_at net seed place ≡ record net { nodes = drawn_nodes net seed ((place - 1) * length net.nodes) }
+unfolding start_at
+start_later net seed zero some = absurd (omega arith)
+start_later net seed (suc i) some =
+    let before : i ≡ suc i - 1 = omega arith in
+    ap (λ j. record net { nodes = drawn_nodes net seed (j * length net.nodes) }) before
+
+-- a start keeps all but the offsets
+pub start_kept : (net : Network) (seed place : ℕ) → IsValid net → KeepsAllButOffsets net (start_at net seed place)
+unfolding start_at
+start_kept net seed zero valid =
+    record { valid = valid; frame = refl; nodes = refl; links = refl; plan = refl }
+start_kept net seed (suc i) valid =
+    let first = i * length net.nodes in
+    record {
+      valid = drawn_valid net seed first valid;
+      frame = refl;
+      nodes = map_places (set_offset 0) (drawn_node net seed first) net.nodes no_node (set_offset 0 no_node) (λ k inside. refl);
+      links = refl;
+      plan = refl;
+    }
+
+-- so does whatever is made as a start
+pub kept_start : {E : Type 0} (net : Network) (seed place : ℕ) (r : Result Network E) → IsValid net
+    → IfOk r (λ made. made ≡ start_at net seed place) → IfOk r (λ made. KeepsAllButOffsets net made)
+kept_start net seed place (Ok made) valid is = subst (KeepsAllButOffsets net) (sym is) (start_kept net seed place valid)
+kept_start net seed place (Err e) valid is = tt

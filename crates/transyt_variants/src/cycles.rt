@@ -1,0 +1,399 @@
+//! Other cycle times of a network.
+ghost use Rattle.std.specs.Prelude.{◌≡◌, ◌<◌, ◌≤◌, ◌+◌, ◌*◌, ◌/◌, ◌-◌, length, map, sum_by, All, IfOk, OnOk, [], IfSome, IfNone, None, true, nat_lt};
+ghost use Rattle.std.specs.List.{list_all};
+ghost use Rattle.std.specs.Option.{option_map};
+ghost use Rattle.transyt_parts.specs.Plan.{stage_of};
+ghost use Rattle.transyt_parts.specs.Valid.{IsNode, IsStage};
+ghost use Rattle.transyt_net.specs.Valid.{IsValid};
+ghost use Rattle.transyt_equisat.specs.Balance.{timed, balance, first_more};
+ghost use Rattle.transyt_variants.specs.Cycles.{is_whole, steps_of, has_short_lags, has_short_sizes, may_have};
+ghost use Rattle.transyt_variants.specs.Cycles.{least_length, first_barred, scaled, scaled_stages, filled_greens, laid};
+ghost use Rattle.transyt_variants.specs.Cycles.{bare_stages, bare_plan, bare_net, balanced_node, balanced_nodes, balanced};
+ghost use Rattle.transyt_variants.specs.Cycles.{at_cycle};
+ghost use Rattle.transyt_variants.specs.Kept.{KeepsSecondsAt};
+ghost use Rattle.transyt_variants.specs.Needs.{HasBarePlan, CanHave};
+
+use crate::rebuilding::rebuild;
+use std::alloc::{AllocError, Global};
+use transyt_equisat::{Greens, Share, balance};
+use transyt_net::{ClimbPlan, Frame, Link, Net, Node, Stage};
+
+/// What a cycle time of a network comes to.
+#[derive(Drop)]
+pub enum AtCycle {
+    /// The cycle time isn't a whole number of the network's steps, or its steps aren't 10 to 120, or a lag or a step
+    /// size of the climb plan isn't shorter than it.
+    NoPlan,
+    /// The stages of a node take longer, with their intergreens and least greens.
+    Barred {
+        /// The card number of the first such node.
+        node: u32,
+    },
+    /// The network at this cycle time.
+    Plan(Net),
+}
+
+/// Whether a link's lags are shorter than so many steps.
+fn has_short_lags(steps: u32, link: &Link) -> bool
+    ensures { result ≡ has_short_lags steps link.now }
+{
+    link.start_lag < steps && link.end_lag < steps
+}
+
+/// Whether these sizes are shorter than so many steps.
+fn are_short(steps: u32, sizes: &[u32]) -> bool
+    ensures { result ≡ list_all (λ h. nat_lt h steps) sizes.now }
+{
+    sizes.iter().all(|size| *size < steps)
+}
+
+/// Whether the lags of all these links are shorter than so many steps.
+fn have_short_lags(steps: u32, links: &[Link]) -> bool
+    ensures { result ≡ list_all (has_short_lags steps) links.now }
+{
+    links.iter().all(|link| has_short_lags(steps, link))
+}
+
+/// Whether the sizes of a climb plan are shorter than so many steps, if there is one.
+fn has_short_sizes(steps: u32, plan: Option<&ClimbPlan>) -> bool
+    ensures { result ≡ has_short_sizes steps (option_map (λ p. p.now) plan.entry) }
+{
+    match plan {
+        None => true,
+        Some(plan) => are_short(steps, &plan.sizes),
+    }
+}
+
+/// Whether the cycle of a network may have so many steps.
+fn may_have(steps: u32, net: &Net) -> bool
+    ensures { result ≡ may_have steps net.now }
+{
+    10 <= steps
+        && steps <= 120
+        && have_short_lags(steps, net.links())
+        && has_short_sizes(steps, net.plan())
+}
+
+/// How many steps stages take at least.
+fn least_length(stages: &[Stage]) -> u32
+    requires few { length stages.now ≤ 8 }
+    requires stages { All (λ s. (s.intergreen ≤ 120) × (s.least ≤ 120)) stages.now }
+    ensures { result ≡ least_length stages.now }
+{
+    let mut all = 0;
+    for stage in stages {
+        all += stage.intergreen + stage.least;
+    }
+    all
+}
+
+/// The card number of the first node whose stages take more than so many steps.
+fn first_barred(steps: u32, nodes: &[Node]) -> Option<u32>
+    requires { All (IsNode 120) nodes.now }
+    ensures { result ≡ first_barred steps nodes.now }
+{
+    for node in nodes {
+        if steps < least_length(&node.stages) {
+            return Some(node.number);
+        }
+    }
+    None
+}
+
+/// A step of a cycle of `before` steps in one of `after` steps, rounded down.
+fn scaled(before: u32, after: u32, step: u32) -> u32
+    requires before { before ≤ 120 }
+    requires some { 0 < after }
+    requires after { after ≤ 120 }
+    requires step { step < before }
+    ensures value { result ≡ scaled before after step }
+    ensures below { result < after }
+{
+    step * after / before
+}
+
+/// These stages, with their changes in a cycle of `after` steps.
+fn scaled_stages(
+    alloc: Global,
+    before: u32,
+    after: u32,
+    stages: &[Stage],
+) -> Result<Vec<Stage>, AllocError>
+    requires before { before ≤ 120 }
+    requires some { 0 < after }
+    requires after { after ≤ 120 }
+    requires stages { All (IsStage before) stages.now }
+    ensures { IfOk result (λ made. made.items ≡ scaled_stages before after stages.now) }
+{
+    let mut made = Vec::with_capacity(alloc, stages.len())?;
+    for stage in stages {
+        made.push(Stage {
+            change: scaled(before, after, stage.change),
+            intergreen: stage.intergreen,
+            least: stage.least,
+        })?;
+    }
+    Ok(made)
+}
+
+/// Adds steps to the first of these greens.
+fn add_first(greens: &mut [u32], left: u32)
+    requires some { 0 < length greens.old }
+    requires small { All (λ e. e ≤ 120) greens.old }
+    requires left { left ≤ 120 }
+    ensures value { greens.new ≡ first_more left greens.old }
+    ensures small { All (λ e. e ≤ 240) greens.new }
+{
+    greens[0] += left;
+}
+
+/// The least greens of these stages.
+fn least_greens(alloc: Global, stages: &[Stage]) -> Result<Vec<u32>, AllocError>
+    ensures { IfOk result (λ greens. greens.items ≡ map (λ s. s.least) stages.now) }
+{
+    let mut greens = Vec::with_capacity(alloc, stages.len())?;
+    for stage in stages {
+        greens.push(stage.least)?;
+    }
+    Ok(greens)
+}
+
+/// The least greens of these stages, with what is left of the cycle added to the first.
+fn filled_greens(alloc: Global, steps: u32, stages: &[Stage]) -> Result<Vec<u32>, AllocError>
+    requires steps { steps ≤ 120 }
+    requires some { 0 < length stages.now }
+    requires few { length stages.now ≤ 8 }
+    requires stages { All (IsStage 120) stages.now }
+    requires room { least_length stages.now ≤ steps }
+    ensures value { IfOk result (λ greens. greens.items ≡ filled_greens steps stages.now) }
+    ensures small { IfOk result (λ greens. All (λ e. e ≤ 240) greens.items) }
+{
+    let mut greens = least_greens(alloc, stages)?;
+    add_first(&mut greens, steps - least_length(stages));
+    Ok(greens)
+}
+
+/// These stages one after another, each as long as its intergreen and its green.
+fn laid(
+    alloc: Global,
+    steps: u32,
+    stages: &[Stage],
+    greens: &[u32],
+) -> Result<Vec<Stage>, AllocError>
+    requires steps { (0 < steps) × (steps ≤ 120) }
+    requires some { 0 < length stages.now }
+    requires change { (stage_of stages.now 0).change < steps }
+    requires count { length greens.now ≡ length stages.now }
+    requires stages { All (λ s. s.intergreen ≤ 120) stages.now }
+    requires greens { All (λ e. e ≤ 240) greens.now }
+    ensures { IfOk result (λ made. made.items ≡ laid steps stages.now greens.now) }
+{
+    let mut made = Vec::with_capacity(alloc, stages.len())?;
+    let mut change = stages[0].change;
+    for place in 0..stages.len() {
+        let intergreen = stages[place].intergreen;
+        made.push(Stage {
+            change,
+            intergreen,
+            least: stages[place].least,
+        })?;
+        change = (change + greens[place] + intergreen) % steps;
+    }
+    Ok(made)
+}
+
+/// The bare plan of these stages in a cycle of `after` steps.
+fn bare_stages(
+    alloc: Global,
+    before: u32,
+    after: u32,
+    stages: &[Stage],
+) -> Result<Vec<Stage>, AllocError>
+    requires before { before ≤ 120 }
+    requires after { (0 < after) × (after ≤ 120) }
+    requires some { 0 < length stages.now }
+    requires few { length stages.now ≤ 8 }
+    requires stages { All (IsStage before) stages.now }
+    requires room { least_length stages.now ≤ after }
+    ensures { IfOk result (λ made. made.items ≡ bare_stages before after stages.now) }
+{
+    let greens = filled_greens(alloc, after, stages)?;
+    let scaled = scaled_stages(alloc, before, after, stages)?;
+    laid(alloc, after, &scaled, &greens)
+}
+
+/// A node with its bare plan in a cycle of `after` steps.
+fn bare_node(alloc: Global, before: u32, after: u32, node: &Node) -> Result<Node, AllocError>
+    requires before { before ≤ 120 }
+    requires after { (0 < after) × (after ≤ 120) }
+    requires node { IsNode before node.now }
+    requires some { 0 < length node.now.stages }
+    requires room { least_length node.now.stages ≤ after }
+    ensures { IfOk result (λ made. made ≡ bare_plan before after node.now) }
+{
+    Ok(Node {
+        number: node.number,
+        offset: scaled(before, after, node.offset),
+        stages: bare_stages(alloc, before, after, &node.stages)?,
+    })
+}
+
+/// Adds the nodes with their bare plans.
+fn add_bare(
+    alloc: Global,
+    before: u32,
+    after: u32,
+    from: &[Node],
+    nodes: &mut Vec<Node>,
+) -> Result<(), AllocError>
+    requires before { before ≤ 120 }
+    requires after { (0 < after) × (after ≤ 120) }
+    requires from { All (HasBarePlan before after) from.now }
+    requires none { nodes.old.items ≡ [] }
+    ensures { OnOk result (nodes.new.items ≡ map (bare_plan before after) from.now) }
+{
+    for node in from {
+        nodes.push(bare_node(alloc, before, after, node)?)?;
+    }
+    Ok(())
+}
+
+/// The number of steps of a cycle time.
+fn steps_of(net: &Net, cycle: u32) -> u32
+    requires { cycle ≤ 240 }
+    ensures { result ≡ steps_of net.now cycle }
+{
+    net.frame().step_count * cycle / net.frame().cycle
+}
+
+/// Whether a cycle time is a whole number of steps.
+fn is_whole(net: &Net, cycle: u32) -> bool
+    requires { cycle ≤ 240 }
+    ensures { result ≡ is_whole net.now cycle }
+{
+    net.frame().step_count * cycle % net.frame().cycle == 0
+}
+
+/// The bare network of a cycle time.
+fn bare_net(alloc: Global, net: &Net, cycle: u32) -> Result<Net, AllocError>
+    requires cycle { CanHave net.now cycle }
+    ensures { IfOk result (λ made. made ≡ bare_net net.now cycle) }
+{
+    let before = net.frame().step_count;
+    let after = steps_of(net, cycle);
+    let mut nodes = Vec::new(alloc);
+    if let Err(e) = add_bare(alloc, before, after, net.nodes(), &mut nodes) {
+        drop(nodes);
+        return Err(e);
+    }
+    let frame = Frame {
+        cycle,
+        step_count: after,
+        ..net.frame()
+    };
+    let made = rebuild(alloc, net, frame, &nodes);
+    drop(nodes);
+    made
+}
+
+/// These stages at the changes of these shares.
+fn timed(alloc: Global, stages: &[Stage], shares: &[Share]) -> Result<Vec<Stage>, AllocError>
+    requires { length shares.now ≡ length stages.now }
+    ensures { IfOk result (λ made. made.items ≡ timed stages.now shares.now) }
+{
+    let mut made = Vec::with_capacity(alloc, stages.len())?;
+    for place in 0..stages.len() {
+        made.push(Stage {
+            change: shares[place].change,
+            intergreen: stages[place].intergreen,
+            least: stages[place].least,
+        })?;
+    }
+    Ok(made)
+}
+
+/// The node at a place with the changes of its balance.
+fn balanced_node(alloc: Global, net: &Net, place: usize) -> Result<Node, AllocError>
+    requires { place < length net.now.nodes }
+    ensures { IfOk result (λ made. made ≡ balanced_node net.now place) }
+{
+    let greens = balance(alloc, net, place)?;
+    let node = &net.nodes()[place];
+    Ok(Node {
+        number: node.number,
+        offset: node.offset,
+        stages: timed(alloc, &node.stages, &greens.stages)?,
+    })
+}
+
+/// Adds the nodes with the changes of their balances.
+fn add_balanced(alloc: Global, net: &Net, nodes: &mut Vec<Node>) -> Result<(), AllocError>
+    requires { nodes.old.items ≡ [] }
+    ensures { OnOk result (nodes.new.items ≡ balanced_nodes net.now) }
+{
+    for place in 0..net.nodes().len() {
+        nodes.push(balanced_node(alloc, net, place)?)?;
+    }
+    Ok(())
+}
+
+/// The network with the changes of the balance of each node.
+fn balanced(alloc: Global, net: &Net) -> Result<Net, AllocError>
+    ensures { IfOk result (λ made. made ≡ balanced net.now) }
+{
+    let mut nodes = Vec::new(alloc);
+    if let Err(e) = add_balanced(alloc, net, &mut nodes) {
+        drop(nodes);
+        return Err(e);
+    }
+    let made = rebuild(alloc, net, net.frame(), &nodes);
+    drop(nodes);
+    made
+}
+
+/// The network at a cycle time that can be had.
+fn plan_at(alloc: Global, net: &Net, cycle: u32) -> Result<Net, AllocError>
+    requires { CanHave net.now cycle }
+    ensures { IfOk result (λ made. made ≡ balanced (bare_net net.now cycle)) }
+{
+    let bare = bare_net(alloc, net, cycle)?;
+    let made = balanced(alloc, &bare);
+    drop(bare);
+    made
+}
+
+/// What a cycle time of a network comes to.
+fn cycle_made(alloc: Global, net: &Net, cycle: u32) -> Result<AtCycle, AllocError>
+    requires low { 30 ≤ cycle }
+    requires high { cycle ≤ 240 }
+    ensures { IfOk result (λ at. at ≡ at_cycle net.now cycle) }
+{
+    if !is_whole(net, cycle) {
+        return Ok(AtCycle::NoPlan);
+    }
+    if !may_have(steps_of(net, cycle), net) {
+        return Ok(AtCycle::NoPlan);
+    }
+    match first_barred(steps_of(net, cycle), net.nodes()) {
+        Some(node) => Ok(AtCycle::Barred { node }),
+        None => Ok(AtCycle::Plan(plan_at(alloc, net, cycle)?)),
+    }
+}
+
+/// The network at another cycle time, in seconds, with steps as many seconds long as before: intergreens, least greens
+/// and lags last as long.
+///
+/// There is none where the cycle time isn't a whole number of steps, or its steps aren't 10 to 120, or a lag or a step
+/// size of the climb plan isn't shorter than it; or where the stages of a node don't fit into it. Else offsets and first
+/// changes keep their part of the cycle, rounded down, and the stages have the lengths of equal saturation. The cycle
+/// time is 30 to 240. It fails only when out of memory.
+pub fn cycle_net(alloc: Global, net: &Net, cycle: u32) -> Result<AtCycle, AllocError>
+    requires low { 30 ≤ cycle }
+    requires high { cycle ≤ 240 }
+    ensures value { IfOk result (λ at. at ≡ at_cycle net.now cycle) }
+    ensures kept { IfOk result (KeepsSecondsAt net.now) }
+{
+    // That a network is valid is told by its accessors.
+    let _ = net.frame();
+    cycle_made(alloc, net, cycle)
+}
