@@ -8,3 +8,4 @@ pub mod MoveLaws
 pub mod OpenedLaws
 pub mod ReadyLaws
 pub mod WorkedBrief
+pub mod RemarkLaws

@@ -26,10 +26,11 @@ use transyt_running::{Ending, Stop};
 use transyt_session::Session;
 use transyt_steps::Steps;
 
-/// What the answers are written with: a line, and how many commands were refused.
+/// What the answers are written with: a line, the number of the line that is answered, and how many commands were refused.
 #[derive(Drop)]
 struct Pen {
     line: LineBuffer,
+    number: u32,
     refused: u32,
 }
 
@@ -92,7 +93,7 @@ fn answer_command<R: Threads + Sync, G: Gate, K: Sink, L: Ledger>(
     rt: &R,
     gate: &G,
     desks: &mut Desks,
-    command: InputLine<'_>,
+    command: &[u8],
     pen: &mut Pen,
     sink: &mut K,
     steps: &mut Steps<L>,
@@ -101,16 +102,20 @@ fn answer_command<R: Threads + Sync, G: Gate, K: Sink, L: Ledger>(
     requires few { length desks.old ≤ 8 }
     requires room { (desk_zero desks.old).work ≤ 2 ^ 59 }
     ensures prints { PrintsOn K.written K.faults sink.old sink.new result
-        (answer_text (desk_zero desks.old) (line_answer (desk_zero desks.old) command.text.now)) }
-    ensures ends { IfOk result (λ end. end ≡ answer_ends (line_answer (desk_zero desks.old) command.text.now)) }
-    ensures state { OnOk result (desk_zero desks.new ≡ session_after (desk_zero desks.old) command.text.now) }
+        (answer_text (desk_zero desks.old) (line_answer (desk_zero desks.old) command.now)) }
+    ensures ends { IfOk result (λ end. end ≡ answer_ends (line_answer (desk_zero desks.old) command.now)) }
+    ensures state { OnOk result (desk_zero desks.new ≡ session_after (desk_zero desks.old) command.now) }
     ensures takes_none { IsErrOf result Stop.Memory → ⊥ }
-    ensures leaves { Leaves 8589934592 (session_after (desk_zero desks.old) command.text.now) desks.old desks.new
+    ensures leaves { Leaves 8589934592 (session_after (desk_zero desks.old) command.now) desks.old desks.new
         steps.old steps.new }
 {
-    let answer = judge(desks.session_mut(), command.text, steps);
+    let answer = judge(desks.session_mut(), command, steps);
     pen.count(answer);
-    remark_command(answer, command, desks.session(), sink);
+    let said = InputLine {
+        number: pen.number,
+        text: command,
+    };
+    remark_command(answer, said, desks.session(), sink);
     match say(rt, gate, answer, desks, &mut pen.line, sink, steps) {
         Ok(()) => Ok(answer.ending()),
         Err(Failed) => Err(Stop::Write),
@@ -131,7 +136,11 @@ impl Reporter {
             lines: 0,
             cards: CardReader::new(alloc),
             desks: None,
-            pen: Pen { line, refused: 0 },
+            pen: Pen {
+                line,
+                number: 0,
+                refused: 0,
+            },
         })
     }
 
@@ -245,9 +254,8 @@ pub(crate) fn answer_line<R: Threads + Sync, G: Gate, K: Sink, L: Ledger>(
 {
     reporter.lines += 1;
     if let Some(desks) = &mut reporter.desks {
-        let number = reporter.lines;
-        let command = InputLine { number, text: line };
-        return answer_command(rt, gate, desks, command, &mut reporter.pen, sink, steps);
+        reporter.pen.number = reporter.lines;
+        return answer_command(rt, gate, desks, line, &mut reporter.pen, sink, steps);
     }
     if !reporter.cards.is_live() {
         return Ok(Some(Ending::Refused));

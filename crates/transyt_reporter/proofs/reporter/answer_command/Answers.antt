@@ -1,10 +1,11 @@
 -- A command is judged, and then said.
-use Rattle.std.proofs.Common.{◌≡◌, ◌≤◌, ℕ, List, Option, sym, ◌∙◌, ap, subst, set}
-use Rattle.transyt_io.specs.Streams.{Adds, AddsFront, Rose}
+use Rattle.std.proofs.Common.{◌≡◌, ℕ, List, sym, ◌∙◌, ap, subst, set}
+use Rattle.transyt_io.specs.Streams.{Adds, AddsFront}
 use Rattle.transyt_session.specs.Session.{SessionValue}
 use Rattle.transyt_desks.specs.Desks.{desk_zero}
 use Rattle.transyt_answers.specs.Commands.{after_answer, answer_text, line_answer, line_judged}
 use Rattle.transyt_reporter.specs.Conditions.{AreReady}
+use Rattle.transyt_reporter.proofs.RemarkLaws.{adds_from, front_from, later_from, rose_from}
 use Rattle.transyt_reporter.proofs.ReadyLaws.{ready_judged, zero_set}
 use Rattle.transyt_answers.proofs.JudgedTexts.{line_said}
 use Rattle.transyt_reporter.proofs.LeavesLaws.{command_leaves}
@@ -14,7 +15,7 @@ use Rattle.transyt_reporter.proofs.reporter.answer_command.Goals as goal
 pub say-requires-clause-ready : goal.say-requires-clause-ready
 say-requires-clause-ready g c κs within =
     let desks = c.args.desks.now in
-    let line = c.args.command.text.now in
+    let line = c.args.command.now in
     let P : SessionValue → Type 0 = λ s. AreReady (set desks 0 s) in
     let state = c.judge-answer.ensures.state ∙ ap (λ (s : SessionValue). line_judged s line) c.session_mut.ensures.value in
     subst P (sym state) (ready_judged desks line c.requires.ready)
@@ -23,7 +24,7 @@ say-requires-clause-ready g c κs within =
 pub returns-in-Ok-clause-prints : goal.returns-in-Ok-clause-prints
 returns-in-Ok-clause-prints g c =
     let zero = desk_zero c.args.desks.now in
-    let line = c.args.command.text.now in
+    let line = c.args.command.now in
     let value = c.session_mut.ensures.value in
     let at : desk_zero (set c.args.desks.now 0 c.judge-answer.new.session) ≡ line_judged zero line =
     zero_set c.args.desks.now c.judge-answer.new.session c.requires.ready.some
@@ -32,21 +33,19 @@ returns-in-Ok-clause-prints g c =
     c.judge-answer.ensures.answer ∙ ap (λ (s : SessionValue). line_answer s line) value in
     let same = (λ i. answer_text (at i) (answer i)) ∙ line_said zero line in
     let told = c.in-Ok.ensures.prints in
-    let remarked = c.remark_command.ensures in
-    let P : List ℕ → Type 0 = λ xs. Adds (g.K.Sink.written c.args.sink.now) (g.K.Sink.written c.say.new.sink) xs in
-    let W : Option (List ℕ) → Type 0 = λ w. Adds w (g.K.Sink.written c.say.new.sink) _ in
-    let F : ℕ → Type 0 = λ n. n ≤ g.K.Sink.faults c.say.new.sink in
+    let remark = c.remark_command.ensures in
+    let P : List ℕ → Type 0 = λ xs. Adds (g.K.Sink.written c.remark_command.new.sink) (g.K.Sink.written c.say.new.sink) xs in
     record {
-      ok = subst P same (subst W remarked.written told.ok);
+      ok = adds_from (answer_text zero (line_answer zero line)) remark.written (subst P same told.ok);
       err = tt;
-      cause = record { later = subst F remarked.faults told.cause.later; failed = tt };
+      cause = record { later = later_from remark.faults told.cause.later; failed = tt };
     }
 
 -- and where it broke off
 pub returns-in-Err-clause-prints : goal.returns-in-Err-clause-prints
 returns-in-Err-clause-prints g c =
     let zero = desk_zero c.args.desks.now in
-    let line = c.args.command.text.now in
+    let line = c.args.command.now in
     let value = c.session_mut.ensures.value in
     let at : desk_zero (set c.args.desks.now 0 c.judge-answer.new.session) ≡ line_judged zero line =
     zero_set c.args.desks.now c.judge-answer.new.session c.requires.ready.some
@@ -55,17 +54,14 @@ returns-in-Err-clause-prints g c =
     c.judge-answer.ensures.answer ∙ ap (λ (s : SessionValue). line_answer s line) value in
     let same = (λ i. answer_text (at i) (answer i)) ∙ line_said zero line in
     let told = c.in-Err.ensures.prints in
-    let remarked = c.remark_command.ensures in
-    let P : List ℕ → Type 0 = λ xs. AddsFront (g.K.Sink.written c.args.sink.now) (g.K.Sink.written c.say.new.sink) xs in
-    let W : Option (List ℕ) → Type 0 = λ w. AddsFront w (g.K.Sink.written c.say.new.sink) _ in
-    let F : ℕ → Type 0 = λ n. n ≤ g.K.Sink.faults c.say.new.sink in
-    let R : ℕ → Type 0 = λ n. Rose n (g.K.Sink.faults c.say.new.sink) in
+    let remark = c.remark_command.ensures in
+    let P : List ℕ → Type 0 = λ xs. AddsFront (g.K.Sink.written c.remark_command.new.sink) (g.K.Sink.written c.say.new.sink) xs in
     record {
       ok = tt;
-      err = subst P same (subst W remarked.written told.err);
+      err = front_from (answer_text zero (line_answer zero line)) remark.written (subst P same told.err);
       cause = record {
-        later = subst F remarked.faults told.cause.later;
-        failed = subst R remarked.faults told.cause.failed;
+        later = later_from remark.faults told.cause.later;
+        failed = rose_from remark.faults told.cause.failed;
       };
     }
 
@@ -73,7 +69,7 @@ returns-in-Err-clause-prints g c =
 pub returns-in-Ok-clause-leaves : goal.returns-in-Ok-clause-leaves
 returns-in-Ok-clause-leaves g c =
     let desks = c.args.desks.now in
-    let line = c.args.command.text.now in
+    let line = c.args.command.now in
     let s = c.judge-answer.new.session in
     let value = c.session_mut.ensures.value in
     let told = c.judge-answer.ensures in
@@ -88,7 +84,7 @@ returns-in-Ok-clause-leaves g c =
 pub returns-in-Err-clause-leaves : goal.returns-in-Err-clause-leaves
 returns-in-Err-clause-leaves g c =
     let desks = c.args.desks.now in
-    let line = c.args.command.text.now in
+    let line = c.args.command.now in
     let s = c.judge-answer.new.session in
     let value = c.session_mut.ensures.value in
     let told = c.judge-answer.ensures in

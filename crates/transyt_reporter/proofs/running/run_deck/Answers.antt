@@ -1,6 +1,8 @@
 -- Without memory nothing is taken or written; the rest is said by the run over the lines.
-use Rattle.std.proofs.Common.{ℕ, nat_eq, inl, arith, [], refl, ap, ◌∙◌}
+use Rattle.std.proofs.Common.{ℕ, List, Option, nat_eq, inl, arith, [], refl, ap, sym, subst, ◌∙◌}
 use Rattle.transyt_io.proofs.Told.{takes_nothing, adds_nothing}
+use Rattle.transyt_running.specs.Outcome.{Outcome}
+use Rattle.transyt_answers.specs.Report.{reporting_run}
 use Rattle.transyt_running.proofs.RunLaws.{outcome_of, steps_of}
 use Rattle.transyt_reporter.specs.Reporter.{ReporterValue}
 use Rattle.transyt_reporter.proofs.running.run_deck.Goals as goal
@@ -25,7 +27,11 @@ returns-in_default-clause-steps g c = λ all. record {
 
 -- what was taken and what was written
 pub returns-clause-outcome : goal.returns-clause-outcome
-returns-clause-outcome g c = outcome_of c.run-status.ensures.ran
+returns-clause-outcome g c =
+    let W : Option (List ℕ) → Type 0 =
+    λ w. Outcome reporting_run (g.S.Source.left c.args.source.now) (g.S.Source.left c.run-status.new.source)
+    (g.S.Source.last c.run-status.new.source) (g.K.Sink.written c.args.sink.now) w c.run-status.result in
+    subst W (sym c.remark_refused.ensures.written) (outcome_of c.run-status.ensures.ran)
 
 -- the steps
 pub returns-clause-steps : goal.returns-clause-steps
