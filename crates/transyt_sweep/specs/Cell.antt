@@ -1,4 +1,4 @@
--- One link worked out from the departures that it reads: what comes, what can go, what stands and what leaves.
+-- One link worked out from the departures that it reads: arrivals, GO, queue, departures and figures.
 use Rattle.std.specs.Prelude.{◌≡◌, ℕ, List, Option, Some, None, fold, sum, length}
 use Rattle.transyt_profile.specs.Profile.{uniform, added, shared}
 use Rattle.transyt_platoon.specs.Platoon.{travel_steps, dispersed}
@@ -19,31 +19,31 @@ use Rattle.transyt_net.specs.Flow.{perstep}
 use Rattle.transyt_stage.specs.Green.{signal}
 use Rattle.transyt_stage.specs.GiveWay.{yielding}
 
--- the part of what leaves its feeder that goes on with a feed; `read` gives the departures that are read of each link
+-- the part of its feeder's departures that goes on with a feed; `read` gives the departures that are read of each link
 abbrev pub taken : Network → (ℕ → List ℕ) → Feed → List ℕ
 taken net read f =
     shared f.flow (total_flow (link_of net (link_place net f.feeder))) (read (link_place net f.feeder))
 
--- what one feed brings: that part, after its travel
+-- the arrivals of one feed: that part, after its travel
 abbrev pub brought : Network → (ℕ → List ℕ) → Feed → List ℕ
 brought net read f =
     dispersed (taken net read f) (travel_steps f.cruise net.frame.step_count net.frame.cycle) net.frame.dispersion
 
--- what these feeds bring, added to what enters
+-- the arrivals of these feeds, added to the entry flow
 abbrev pub inflow_of : Network → (ℕ → List ℕ) → ℕ → List Feed → List ℕ
 inflow_of net read entry feeds =
     fold (λ come f. added come (brought net read f)) (uniform net.frame.step_count (perstep net.frame entry)) feeds
 
--- what comes to the link at a place
+-- the arrivals of the link at a place
 abbrev pub inflow : Network → (ℕ → List ℕ) → ℕ → List ℕ
 inflow net read l = inflow_of net read (link_of net l).entry (link_of net l).feeds
 
--- what is left of a link's green by its rule
+-- a link's green capacity, less the part that its rule takes off
 abbrev pub under_rule : Network → (ℕ → List ℕ) → Option GiveWay → List ℕ → List ℕ
 under_rule net read None green = green
 under_rule net read (Some rule) green = yielding rule.percent (read (link_place net rule.other)) green
 
--- what can go of the link at a place
+-- the GO of the link at a place
 abbrev pub go : Network → (ℕ → List ℕ) → ℕ → List ℕ
 go net read l = under_rule net read (link_of net l).gives_way (signal net l)
 
@@ -56,7 +56,7 @@ terms_frame f = record {
   stop_penalty = f.stop_penalty;
 }
 
--- what the figures of the link at a place are made of
+-- the terms from which the figures of the link at a place are made
 abbrev pub terms_of : Network → ℕ → List ℕ → List ℕ → Terms
 terms_of net l come room = record {
   arrivals = sum come;
@@ -68,7 +68,7 @@ terms_of net l come room = record {
   stop_weight = (link_of net l).stop_weight;
 }
 
--- one link worked out: what comes before any cut, what can go, the queue, what leaves, and the figures
+-- one link worked out: arrivals before any cut, GO, the queue, departures and the figures
 pub record CellValue : Type 0 where
   pub arrivals : List ℕ
   pub go : List ℕ
@@ -76,7 +76,7 @@ pub record CellValue : Type 0 where
   pub out : List ℕ
   pub figures : Figures
 
--- the link at a place, worked out of what comes and what can go
+-- the link at a place, worked out of arrivals and GO
 abbrev pub cell_of : Network → ℕ → List ℕ → List ℕ → CellValue
 cell_of net l come room = record {
   arrivals = come;

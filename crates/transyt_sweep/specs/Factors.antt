@@ -1,4 +1,4 @@
--- What is worked out of a feed's numbers once. No public clause cites it.
+-- The factors of a feed, which are worked out of its numbers once. No public clause cites it.
 use Rattle.std.specs.Prelude.{◌≡◌, ℕ, ◌^◌, ◌≤◌, List}
 use Rattle.transyt_profile.specs.Parts.{IsPart}
 use Rattle.transyt_profile.specs.Profile.{shared}

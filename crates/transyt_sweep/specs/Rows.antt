@@ -29,15 +29,15 @@ pub record RowsValue : Type 0 where
 abbrev pub pair_place : RowsValue → ℕ → ℕ → ℕ
 pair_place rows s l = s * length rows.figures + l
 
--- what leaves link l at sweep s
+-- the departures of link l at sweep s
 abbrev pub out_at : RowsValue → ℕ → ℕ → List ℕ
 out_at rows s l = row rows.step_count rows.outs (pair_place rows s l)
 
--- what stands where there are no figures
+-- the figures that stand for none
 abbrev pub no_figures : Figures
 no_figures = record { uniform = 0; random = 0; stops = 0; index = 0 }
 
--- link l: what leaves at sweep s, and the rest of the last sweep
+-- link l: its departures at sweep s, and the rest of the last sweep
 abbrev pub pair_in : RowsValue → ℕ → ℕ → CellValue
 pair_in rows s l = record {
   arrivals = row rows.step_count rows.arrivals l;
@@ -51,11 +51,11 @@ pair_in rows s l = record {
 abbrev pub shown_at : RowsValue → ℕ → CellValue
 shown_at rows l = pair_in rows rows.sweeps l
 
--- what link l, at sweep s, reads of link j in these rows
+-- the departures that link l, at sweep s, reads of link j in these rows
 abbrev pub read_in : RowsValue → ℕ → ℕ → ℕ → List ℕ
 read_in rows s l j = out_at rows (read_at s l j) j
 
--- the rows with x as what leaves link l at sweep s
+-- the rows with x as the departures of link l at sweep s
 abbrev pub with_out : RowsValue → ℕ → ℕ → List ℕ → RowsValue
 with_out rows s l x = record rows { outs = put_row rows.step_count rows.outs (pair_place rows s l) x }
 
@@ -63,7 +63,7 @@ with_out rows s l x = record rows { outs = put_row rows.step_count rows.outs (pa
 abbrev pub with_figures : RowsValue → ℕ → Figures → RowsValue
 with_figures rows l f = record rows { figures = slice_set rows.figures l f }
 
--- the rows with this of link l at the last sweep, what leaves apart
+-- the rows with this of link l at the last sweep, its departures apart
 abbrev pub with_shown : RowsValue → ℕ → List ℕ → List ℕ → List ℕ → Figures → RowsValue
 with_shown rows l arrivals go queue f = record rows {
   arrivals = put_row rows.step_count rows.arrivals l arrivals;
@@ -82,7 +82,7 @@ placed rows s l c =
     if s == rows.sweeps then with_shown (with_out rows s l c.out) l c.arrivals c.go c.queue c.figures
     else with_out rows s l c.out
 
--- the rows with this as what comes to link l at the last sweep, its queue and its figures
+-- the rows with these arrivals of link l at the last sweep, this queue and these figures
 abbrev pub with_come : RowsValue → ℕ → List ℕ → List ℕ → Figures → RowsValue
 with_come rows l arrivals queue f = record rows {
   arrivals = put_row rows.step_count rows.arrivals l arrivals;
@@ -90,7 +90,7 @@ with_come rows l arrivals queue f = record rows {
   figures = slice_set rows.figures l f;
 }
 
--- the rows with this as what can go of link l at the last sweep
+-- the rows with this GO of link l at the last sweep
 abbrev pub with_go : RowsValue → ℕ → List ℕ → RowsValue
 with_go rows l go = record rows { go = put_row rows.step_count rows.go l go }
 
@@ -127,7 +127,7 @@ pub record AreSmall (f : Figures) : Type 0 where
   pub random : f.random < 2 ^ 63
   pub index : f.index < 2 ^ 89
 
--- what rows keep to
+-- the facts of all rows
 pub record AreRows (rows : RowsValue) : Type 0 where
   pub steps : rows.step_count ≤ 120
   pub sweeps : rows.sweeps ≤ 8

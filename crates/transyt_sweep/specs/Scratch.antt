@@ -1,4 +1,4 @@
--- What room for one link's work keeps to. No public clause cites it.
+-- The facts of the room for one link's work. No public clause cites it.
 use Rattle.std.specs.Prelude.{◌≡◌, ℕ, ◌*◌, ◌^◌, ◌<◌, ◌≤◌, List, length, sum, All}
 use Rattle.transyt_stopline.specs.declared.totals.Totals.{Totals}
 use Rattle.transyt_stopline.specs.Cut.{arrivals_of}
@@ -13,8 +13,8 @@ use Rattle.transyt_sweep.specs.declared.asked.Asked.TheVariants.{Known, Open}
 use Rattle.transyt_sweep.specs.Factors.{AreFactors}
 use Rattle.transyt_sweep.specs.Rows.{AreSmall}
 
--- what figures are made of: what comes and what can go in a cycle, what stops of what reaches the stop line, and the
--- weights
+-- the terms of the figures: the sums of arrivals and of GO over a cycle, the vehicles that stop of the arrivals after the
+-- cut, and the weights
 abbrev pub terms_with : Totals → List ℕ → List ℕ → Weights → Terms
 terms_with totals reaching queue weights = record {
   arrivals = totals.come;
@@ -26,7 +26,7 @@ terms_with totals reaching queue weights = record {
   stop_weight = weights.stop_weight;
 }
 
--- the same of what comes and what can go in each step
+-- the same from arrivals and GO in each step
 abbrev pub terms_in : List ℕ → List ℕ → List ℕ → Weights → Terms
 terms_in come room queue weights =
     terms_with (record { come = sum come; served = sum room }) (arrivals_of come room) queue weights
@@ -45,8 +45,8 @@ pub record AreWeights (w : Weights) : Type 0 where
   pub delay_weight : w.delay_weight ≤ 999
   pub stop_weight : w.stop_weight ≤ 999
 
--- figures can be worked out of these rows: they are within bounds, their sums are right, and what is cut is there where
--- anything is
+-- figures can be worked out of these rows: they are within bounds, their sums are right, and the arrivals after the cut
+-- are there where anything is cut
 pub record CanTell (come room queue reaching : List ℕ) (weights : Weights) (totals : Totals) : Type 0 where
   pub steps : length come ≤ 120
   pub come_small : All (λ v. v < 2 ^ 48) come
@@ -63,7 +63,7 @@ abbrev pub AreTold : List ℕ → List ℕ → List ℕ → List ℕ → Asked �
 AreTold come room queue reaching (Known f) = AreSmall f
 AreTold come room queue reaching (Open weights totals) = CanTell come room queue reaching weights totals
 
--- all of it has a value for each step, what leaves is small, figures can be told, and factors are right
+-- all of it has a value for each step, departures are small, figures can be told, and factors are right
 pub record IsScratch (arrivals go queue out : List ℕ) (asked : Asked) (room reaching : List ℕ)
     (factors : List Factors) : Type 0 where
   pub go_len : length go ≡ length arrivals

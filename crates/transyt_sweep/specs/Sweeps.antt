@@ -11,21 +11,21 @@ use Rattle.transyt_sweep.specs.Cell.{CellValue, worked}
 abbrev pub read_at : ℕ → ℕ → ℕ → ℕ
 read_at s l j = if nat_lt j l then s else s - 1
 
--- what leaves a link before the first sweep: its total flow at each step
+-- the departures of a link before the first sweep: its total flow at each step
 abbrev pub start : Network → ℕ → List ℕ
 start net l = uniform net.frame.step_count (perstep net.frame (total_flow (link_of net l)))
 
--- what leaves link j when the links before l have been worked out in a sweep; `before` is what left in the one before
+-- the departures of link j when the links before l have been worked out in a sweep; `before` are those of the one before
 unfoldable pub seen : Network → (ℕ → List ℕ) → ℕ → ℕ → List ℕ
 seen net before zero j = before j
 seen net before (suc l) j = if j == l then (worked net (seen net before l) l).out else seen net before l j
 
--- what leaves link l at sweep s
+-- the departures of link l at sweep s
 unfoldable pub out_of : Network → ℕ → ℕ → List ℕ
 out_of net zero l = start net l
 out_of net (suc s) l = (worked net (seen net (out_of net s) l) l).out
 
--- what link l, at sweep s, reads of link j
+-- the departures that link l, at sweep s, reads of link j
 abbrev pub read_of : Network → ℕ → ℕ → ℕ → List ℕ
 read_of net s l j = out_of net (read_at s l j) j
 

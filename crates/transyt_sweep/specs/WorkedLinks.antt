@@ -2,7 +2,7 @@
 use Rattle.std.specs.Prelude.{ℕ, List, [], ◌∷◌, ◌++◌, replicate}
 use Rattle.transyt_delay.specs.declared.figures.Figures.{Figures}
 
--- what comes to each link in each step, before any cut
+-- the arrivals of each link in each step, before any cut
 abbrev pub arrivals_of_three : List (List ℕ)
 arrivals_of_three =
     (654004 ∷ 637711 ∷ 626211 ∷ 618093 ∷ 778561 ∷ 891833 ∷ 971607 ∷ 861902 ∷ 784463 ∷ 729800 ∷ 691215 ∷ 663978
@@ -20,7 +20,7 @@ arrivals_of_three =
     ∷ 318473 ∷ 378145 ∷ 433169 ∷ 473811 ∷ 308525 ∷ 258453 ∷ [])
     ∷ []
 
--- what can go of each in each step
+-- the GO of each in each step
 abbrev pub gos_of_three : List (List ℕ)
 gos_of_three =
     (replicate 8 0 ++ replicate 6 2406944 ++ replicate 4 0)
@@ -53,7 +53,7 @@ queues_of_three =
     ∷ 1341339 ∷ 390142 ∷ 0 ∷ [])
     ∷ []
 
--- what leaves each in each step
+-- the departures of each in each step
 abbrev pub outs_of_three : List (List ℕ)
 outs_of_three =
     (replicate 8 0 ++ replicate 5 2406944 ++ replicate 1 1565008 ++ replicate 4 0)

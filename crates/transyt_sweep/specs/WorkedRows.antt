@@ -32,7 +32,7 @@ another = record {
   figures = new_figures 1 2 3 4;
 }
 
--- the rows with it as the second link before the last sweep: only what leaves is kept
+-- the rows with it as the second link before the last sweep: only its departures are kept
 abbrev pub placed_before : RowsValue
 placed_before =
     record rows { outs = 1 ∷ 2 ∷ 3 ∷ 17 ∷ 18 ∷ 19 ∷ 11 ∷ 12 ∷ 13 ∷ 14 ∷ 15 ∷ 16 ∷ [] }
@@ -44,21 +44,21 @@ placed_last =
     (47 ∷ 48 ∷ 49 ∷ 44 ∷ 45 ∷ 46 ∷ []) (57 ∷ 58 ∷ 59 ∷ 54 ∷ 55 ∷ 56 ∷ [])
     (new_figures 1 2 3 4 ∷ new_figures 71 72 73 74 ∷ [])
 
--- the rows with all of it but what leaves as the first link
+-- the rows with all of it but its departures as the first link
 abbrev pub with_another : RowsValue
 with_another =
     rows_of 3 1 (1 ∷ 2 ∷ 3 ∷ 4 ∷ 5 ∷ 6 ∷ 11 ∷ 12 ∷ 13 ∷ 14 ∷ 15 ∷ 16 ∷ []) (37 ∷ 38 ∷ 39 ∷ 34 ∷ 35 ∷ 36 ∷ [])
     (47 ∷ 48 ∷ 49 ∷ 44 ∷ 45 ∷ 46 ∷ []) (57 ∷ 58 ∷ 59 ∷ 54 ∷ 55 ∷ 56 ∷ [])
     (new_figures 1 2 3 4 ∷ new_figures 71 72 73 74 ∷ [])
 
--- the rows with what comes, the queue and the figures of it as those of the second link
+-- the rows with its arrivals, queue and figures as those of the second link
 abbrev pub come_of_another : RowsValue
 come_of_another =
     rows_of 3 1 (1 ∷ 2 ∷ 3 ∷ 4 ∷ 5 ∷ 6 ∷ 11 ∷ 12 ∷ 13 ∷ 14 ∷ 15 ∷ 16 ∷ []) (31 ∷ 32 ∷ 33 ∷ 37 ∷ 38 ∷ 39 ∷ [])
     (41 ∷ 42 ∷ 43 ∷ 44 ∷ 45 ∷ 46 ∷ []) (51 ∷ 52 ∷ 53 ∷ 57 ∷ 58 ∷ 59 ∷ [])
     (new_figures 61 62 63 64 ∷ new_figures 1 2 3 4 ∷ [])
 
--- the rows with what can go of it as that of the second link
+-- the rows with its GO as that of the second link
 abbrev pub go_of_another : RowsValue
 go_of_another =
     record rows { go = 41 ∷ 42 ∷ 43 ∷ 47 ∷ 48 ∷ 49 ∷ [] }

@@ -25,7 +25,7 @@ ring = one_node 3 6 3 (
     ∷ record (new_link 3 1 0 1500 1 1 0 0 (2 ∷ [])) { feeds = new_feed 2 150 20 ∷ [] }
     ∷ [])
 
--- what leaves each link of the ring before the first sweep and at each of three sweeps
+-- the departures of each link of the ring before the first sweep and at each of three sweeps
 abbrev pub outs_of_ring : List (List (List ℕ))
 outs_of_ring =
     (replicate 10 700000
@@ -42,12 +42,12 @@ outs_of_ring =
     ∷ (replicate 1 1662781 ++ replicate 1 477546 ++ replicate 1 359493 ++ replicate 7 0) ∷ [])
     ∷ []
 
--- a link that feeds itself: what comes to it at two sweeps
+-- a link that feeds itself: its arrivals at two sweeps
 abbrev pub fed_by_itself : Network
 fed_by_itself =
     one_node 0 5 2 (record (new_link 1 1 360 180 1 1 0 0 (1 ∷ 2 ∷ [])) { feeds = new_feed 1 180 15 ∷ [] } ∷ [])
 
--- at the first sweep what was there before any, at the second what its green lets go
+-- at the first sweep its departures before any, at the second its green capacity
 abbrev pub arrivals_of_itself : List (List ℕ)
 arrivals_of_itself = replicate 10 900000 ∷ replicate 10 700000 ∷ []
 

@@ -25,7 +25,7 @@ pub(crate) struct Weights {
 pub(crate) enum Asked {
     /// These.
     Known(Figures),
-    /// Those that the rows give with these weights; what comes in a cycle and what can go in it are summed already.
+    /// Those that the rows give with these weights; the sums of arrivals and of GO over a cycle are known already.
     Open(Weights, Totals),
 }
 

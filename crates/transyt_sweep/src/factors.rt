@@ -1,4 +1,4 @@
-//! What is worked out of a feed's numbers once, and kept.
+//! The factors of a feed, which are worked out of its numbers once, and kept.
 
 ghost use Rattle.std.specs.Prelude.{◌≡◌, ◌^◌, ◌≤◌, IsTrue};
 ghost use Rattle.transyt_parts.specs.declared.frame.Frame.{Frame};
@@ -11,7 +11,7 @@ use transyt_net::{Feed, Frame, Net};
 use transyt_platoon::{Travel, travel_of, travel_steps};
 use transyt_profile::{Part, part_of};
 
-/// A feed's part of what leaves its feeder, and how its platoon travels: what is worked out of a feed's numbers once.
+/// A feed's part of its feeder's departures, and how its platoon travels: both are worked out of a feed's numbers once.
 ///
 /// It is right for the numbers that stand in it, whatever the network: the flow and its whole in `part`, the dispersion
 /// in `travel`, the cruise time and the cycle. The feeder's place is only where to look first.
@@ -23,7 +23,7 @@ pub(crate) struct Factors {
     cruise: u32,
     /// The cycle, in seconds.
     cycle: u32,
-    /// The feed's part of what leaves its feeder.
+    /// The feed's part of its feeder's departures.
     pub(crate) part: Part,
     /// How its platoon travels.
     pub(crate) travel: Travel,

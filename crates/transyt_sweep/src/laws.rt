@@ -33,7 +33,7 @@ pub fn rule_of_evaluation()
     ensures { (net : Network) (l : ℕ) → evaluated net l ≡ worked_at net net.frame.sweeps l }
 {}
 
-/// In a valid network what leaves a link is below 2^30 in each step, at each sweep.
+/// In a valid network the departures of a link are below 2^30 in each step, at each sweep.
 #[tactic(auto, using(crate::proofs::SmallLaws::out_small))]
 pub fn rule_of_departures()
     ensures { (net : Network) → IsValid net → (l : ℕ) → l < length net.links → (s : ℕ)

@@ -1,4 +1,4 @@
-//! The rows of an evaluation, and what is read of them and written in them.
+//! The rows of an evaluation, with all that is read of them and written in them.
 
 ghost use Rattle.std.specs.Prelude.{◌≡◌, ◌+◌, ◌*◌, ◌<◌, ◌≤◌, ◌^◌, ℕ, length, All, sum_by, slice_index_or, IfOk};
 ghost use Rattle.transyt_delay.specs.declared.figures.Figures.{Figures};
@@ -71,7 +71,7 @@ fn fill_starts(net: &Net, rows: &mut Rows)
 }
 
 impl Rows {
-    /// What leaves a link at a sweep, in millionths of a vehicle per step.
+    /// The departures of a link at a sweep, in millionths of a vehicle per step.
     pub fn out(&self, sweep: u32, link: usize) -> &[u64]
         requires sweep { sweep ≤ self.now.sweeps }
         requires link { link < length self.now.figures }
@@ -83,8 +83,8 @@ impl Rows {
         self.outs.row(place)
     }
 
-    /// What a link, at a sweep, reads of another: what left that at this sweep where it stands earlier, else at the one
-    /// before.
+    /// The departures that a link, at a sweep, reads of another: those of this sweep where that stands earlier, else those
+    /// of the one before.
     pub(crate) fn read(&self, sweep: u32, link: usize, other: usize) -> &[u64]
         requires sweep { sweep ≤ self.now.sweeps }
         requires other { other < length self.now.figures }
@@ -105,7 +105,7 @@ impl Rows {
         sweep as usize * self.figures.len() + link
     }
 
-    /// What comes to a link at the last sweep, before any cut, in millionths of a vehicle per step.
+    /// The arrivals of a link at the last sweep, before any cut, in millionths of a vehicle per step.
     pub fn arrivals(&self, link: usize) -> &[u64]
         requires { link < length self.now.figures }
         ensures value { result.now ≡ row self.now.step_count self.now.arrivals link }
@@ -114,7 +114,7 @@ impl Rows {
         self.arrivals.row(link)
     }
 
-    /// What can go of a link at the last sweep, in millionths of a vehicle per step.
+    /// The GO of a link at the last sweep, in millionths of a vehicle per step.
     pub fn go(&self, link: usize) -> &[u64]
         requires { link < length self.now.figures }
         ensures value { result.now ≡ row self.now.step_count self.now.go link }
@@ -194,7 +194,7 @@ impl Rows {
         self.outs.fill(link, value);
     }
 
-    /// Keeps a link at a sweep: what leaves it, and at the last sweep all of it.
+    /// Keeps a link at a sweep: its departures, and at the last sweep all of it.
     pub fn place(&mut self, sweep: u32, link: usize, scratch: &Scratch)
         requires last { sweep ≤ self.old.sweeps }
         requires link { link < length self.old.figures }
@@ -214,7 +214,7 @@ impl Rows {
         }
     }
 
-    /// What leaves a link at a sweep becomes what leaves it in `scratch`.
+    /// The departures of a link at a sweep become those in `scratch`.
     pub fn take_out(&mut self, sweep: u32, link: usize, scratch: &Scratch)
         requires last { sweep ≤ self.old.sweeps }
         requires link { link < length self.old.figures }
@@ -225,7 +225,7 @@ impl Rows {
         self.put_out(sweep, link, &scratch.out);
     }
 
-    /// What comes to a link at the last sweep, its queue and its figures change places with those in `scratch`. No row is
+    /// The arrivals of a link at the last sweep, its queue and its figures change places with those in `scratch`. No row is
     /// copied.
     pub fn exchange_come(&mut self, link: usize, scratch: &mut Scratch)
         requires link { link < length self.old.figures }
@@ -247,7 +247,7 @@ impl Rows {
         self.put_figures(link, figures);
     }
 
-    /// What can go of a link at the last sweep changes places with that in `scratch`. Nothing is copied.
+    /// The GO of a link at the last sweep changes places with that in `scratch`. Nothing is copied.
     pub fn exchange_go(&mut self, link: usize, scratch: &mut Scratch)
         requires link { link < length self.old.figures }
         requires steps { length scratch.old.arrivals ≡ self.old.step_count }
@@ -260,7 +260,7 @@ impl Rows {
         self.go.exchange(link, &mut scratch.go);
     }
 
-    /// A link at a sweep becomes that of other rows: what leaves it, and at the last sweep all of it.
+    /// A link at a sweep becomes that of other rows: its departures, and at the last sweep all of it.
     pub fn take_pair(&mut self, sweep: u32, link: usize, from: &Rows)
         requires last { sweep ≤ self.old.sweeps }
         requires link { link < length self.old.figures }
@@ -273,7 +273,7 @@ impl Rows {
         }
     }
 
-    /// What leaves a link at a sweep becomes that of other rows.
+    /// The departures of a link at a sweep become those of other rows.
     pub fn take_departures(&mut self, sweep: u32, link: usize, from: &Rows)
         requires last { sweep ≤ self.old.sweeps }
         requires link { link < length self.old.figures }
@@ -322,7 +322,7 @@ impl Rows {
         self.put_figures(link, Figures { index, ..figures });
     }
 
-    /// Keeps what leaves a link at a sweep.
+    /// Keeps the departures of a link at a sweep.
     fn put_out(&mut self, sweep: u32, link: usize, values: &[u64])
         requires last { sweep ≤ self.old.sweeps }
         requires link { link < length self.old.figures }

@@ -41,7 +41,7 @@ impl Model for SavedRows {
 }
 
 impl SavedRows {
-    /// Places for the rows of the network. What is in them is 0.
+    /// Places for the rows of the network. All values in them are 0.
     pub fn open(alloc: Global, net: &Net) -> Result<SavedRows, AllocError>
         ensures { IfOk result (λ saved. Fits net.now saved) }
     {
@@ -73,7 +73,7 @@ impl SavedRows {
         self.sweeps
     }
 
-    /// Saves what leaves a link at a sweep in these rows.
+    /// Saves the departures of a link at a sweep of these rows.
     pub fn save_out(&mut self, sweep: u32, link: usize, rows: &Rows)
         requires sweep { sweep ≤ rows.now.sweeps }
         requires link { link < length rows.now.figures }
@@ -86,7 +86,7 @@ impl SavedRows {
         self.outs.put(place, rows.outs.row(place));
     }
 
-    /// What leaves a link at a sweep in these rows becomes what was saved of it.
+    /// The departures of a link at a sweep of these rows become those that were saved.
     pub fn give_out(&self, sweep: u32, link: usize, rows: &mut Rows)
         requires sweep { sweep ≤ rows.old.sweeps }
         requires link { link < length rows.old.figures }
@@ -99,7 +99,7 @@ impl SavedRows {
         rows.outs.take_narrow(place, &self.outs);
     }
 
-    /// What comes to a link at the last sweep, its queue and its figures, as they were saved, change places with those in
+    /// The arrivals of a link at the last sweep, its queue and its figures, as they were saved, change places with those in
     /// `scratch`. No row is copied.
     pub fn exchange_come(&mut self, link: usize, scratch: &mut Scratch)
         requires link { link < length self.old.figures }
@@ -121,7 +121,7 @@ impl SavedRows {
         self.figures[link] = figures;
     }
 
-    /// What can go of a link at the last sweep, as it was saved, changes places with that in `scratch`. No row is copied.
+    /// The GO of a link at the last sweep, as it was saved, changes places with that in `scratch`. No row is copied.
     pub fn exchange_go(&mut self, link: usize, scratch: &mut Scratch)
         requires link { link < length self.old.figures }
         requires steps { length scratch.old.arrivals ≡ self.old.step_count }
@@ -134,7 +134,7 @@ impl SavedRows {
         self.go.exchange(link, &mut scratch.go);
     }
 
-    /// What comes to a link at the last sweep, its queue and its figures change places here and in these rows. No row is
+    /// The arrivals of a link at the last sweep, its queue and its figures change places here and in these rows. No row is
     /// copied.
     pub fn give_come(&mut self, link: usize, rows: &mut Rows)
         requires link { link < length rows.old.figures }
@@ -153,7 +153,7 @@ impl SavedRows {
         self.figures[link] = figures;
     }
 
-    /// What can go of a link at the last sweep changes places here and in these rows. No row is copied.
+    /// The GO of a link at the last sweep changes places here and in these rows. No row is copied.
     pub fn give_go(&mut self, link: usize, rows: &mut Rows)
         requires link { link < length rows.old.figures }
         requires size { SameSize self.old rows.old }

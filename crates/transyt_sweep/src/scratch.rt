@@ -15,10 +15,10 @@ use transyt_net::{Feed, Net};
 use transyt_profile::total;
 use transyt_stopline::{Totals, stopped};
 
-/// The bytes of a scratch for each link of its network: eight feeds, and what was worked out last of each one's numbers.
+/// The bytes of a scratch for each link of its network: eight feeds, and the factors that were worked out last of each.
 pub const FACTOR_BYTES: usize = 8 * size_of::<Factors>();
 
-/// Room to work out one link at one sweep, and what was worked out last.
+/// Room to work out one link at one sweep, and the cell that was worked out last.
 ///
 /// Figures are worked out only when they are asked for, since all sweeps but the last need none.
 #[derive(Drop)]
@@ -29,11 +29,11 @@ pub struct Scratch {
     pub(crate) out: Vec<u64>,
     // the figures, or what they take beside the rows
     pub(crate) asked: Asked,
-    // the work on feeds: two turns of what comes, four lanes of products, what one feed shares and what it brings; and
-    // what reaches the stop line
+    // the work on feeds: two turns of arrivals, four lanes of products, the part of one feed before its travel and after;
+    // and the arrivals after the cut
     pub(crate) room: Vec<u64>,
     pub(crate) reaching: Vec<u64>,
-    // what was worked out last of each feed's numbers, eight places a link
+    // the factors that were worked out last of each feed, eight places a link
     pub(crate) factors: Vec<Factors>,
 }
 
@@ -57,7 +57,7 @@ impl Model for Scratch {
 }
 
 impl Scratch {
-    /// Room for the network's steps. What is in it is 0.
+    /// Room for the network's steps. All values in it are 0.
     pub fn open(alloc: Global, net: &Net) -> Result<Scratch, AllocError>
         ensures { IfOk result (λ s. length s.arrivals ≡ net.now.frame.step_count) }
     {
@@ -84,14 +84,14 @@ impl Scratch {
         })
     }
 
-    /// What comes to the link, before any cut, in millionths of a vehicle per step.
+    /// The arrivals of the link, before any cut, in millionths of a vehicle per step.
     pub fn arrivals(&self) -> &[u64]
         ensures { result.now ≡ self.now.arrivals }
     {
         &self.arrivals
     }
 
-    /// What can go of the link, in millionths of a vehicle per step.
+    /// The GO of the link, in millionths of a vehicle per step.
     pub fn go(&self) -> &[u64]
         ensures { result.now ≡ self.now.go }
     {
@@ -105,7 +105,7 @@ impl Scratch {
         &self.queue
     }
 
-    /// What leaves the link, in millionths of a vehicle per step.
+    /// The departures of the link, in millionths of a vehicle per step.
     pub fn out(&self) -> &[u64]
         ensures { result.now ≡ self.now.out }
     {
@@ -132,8 +132,8 @@ impl Scratch {
     }
 }
 
-/// The figures of a link from what comes and what can go in a cycle, from what reaches the stop line in each step and
-/// from the queue that stands there.
+/// The figures of a link from the sums of arrivals and of GO over a cycle, from the arrivals after the cut and from the
+/// queue.
 fn work_out(totals: Totals, reaching: &[u64], queue: &[u64], weights: Weights) -> Figures
     requires come { totals.come < 2 ^ 55 }
     requires served { totals.served < 2 ^ 55 }

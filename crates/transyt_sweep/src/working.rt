@@ -22,8 +22,8 @@ use transyt_stopline::{Totals, cut, queue};
 /// Works out one link at one sweep, from the rows that it reads. It takes no memory.
 ///
 /// Arrivals, GO, the queue, departures and the figures are left in `scratch`, whatever the sweep. It is one step of the
-/// counter. The queue at the stop line is from LR 253; the order of the sweeps, the cut and the rule of
-/// giving way are this project's own.
+/// counter. The queue at the stop line is from LR 253; the order of the sweeps, the cut and the rule of giving way are
+/// this project's own.
 pub fn cell<L: Ledger>(
     net: &Net,
     link: usize,
@@ -100,7 +100,7 @@ fn stand(
     totals
 }
 
-/// Fills `out` with the GO of a link: its green capacity, and what its rule leaves of it.
+/// Fills `out` with the GO of a link: its green capacity, less the part that its rule takes off.
 fn fill_go_under_rule(inputs: &Inputs<'_>, out: &mut [u64])
     requires out_len { length out.old ≡ inputs.now.step_count }
     ensures value { out.new ≡ go inputs.now.net.now (read_by inputs.now) inputs.now.link }
