@@ -7,6 +7,7 @@
 mod brief;
 mod climbing;
 mod laws;
+mod opening;
 mod remarks;
 mod reporter;
 mod running;
