@@ -45,9 +45,9 @@ turns_of workers m = if is_end (answer_of m) then 1 else turns_up_to (room_of wo
 abbrev pub goes_alone : ℕ → Counters → Bool
 goes_alone desks c = (desks == 1) || (nat_lt 0 c.looked && nat_lt c.since 8)
 
--- how many places each desk tries: an eighth of the places since the last step, but at least one and at most 32
+-- how many places each desk tries: a quarter of the places since the last step, but at least one and at most 32
 abbrev pub each_of : Counters → ℕ
-each_of c = min 32 (max 1 (c.since / 8))
+each_of c = min 32 (max 1 (c.since / 4))
 
 -- how many places so many desks try in a round of stretches
 abbrev pub places_of : ℕ → Counters → ℕ

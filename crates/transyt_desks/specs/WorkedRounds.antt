@@ -33,12 +33,12 @@ worked_places =
     ∷ (3, has_passed 0 1, 1)
     ∷ (8, has_passed 7 20, 1)
     ∷ (8, has_passed 7 7, 1)
-    ∷ (2, has_passed 8 20, 2)
-    ∷ (8, has_passed 15 20, 8)
-    ∷ (3, has_passed 16 20, 6)
-    ∷ (3, has_passed 71 90, 24)
-    ∷ (2, has_passed 255 300, 62)
-    ∷ (2, has_passed 256 300, 64)
+    ∷ (2, has_passed 8 20, 4)
+    ∷ (8, has_passed 15 20, 24)
+    ∷ (3, has_passed 16 20, 12)
+    ∷ (3, has_passed 71 90, 51)
+    ∷ (2, has_passed 127 300, 62)
+    ∷ (2, has_passed 128 300, 64)
     ∷ (8, has_passed 1000 1100, 256)
     ∷ []
 

@@ -180,7 +180,7 @@ fn goes_alone(desks: usize, climber: &Climber) -> bool
 fn each(climber: &Climber) -> u32
     ensures { result ≡ each_of climber.now }
 {
-    (climber.since() / 8).clamp(1, 32)
+    (climber.since() / 4).clamp(1, 32)
 }
 
 /// Whether a climber's next turn ends its climb, so that a round is this turn alone.
