@@ -16,8 +16,7 @@ def read_deck(cards):
     return frame, nodes, links, numbers
 
 def edited(numbers, *command):
-    name = command[:2] if command[:2] in numbers else command[:3]
-    return {**numbers, name: command[len(name):]}
+    return next({**numbers, command[:n]: command[n:]} for n in (2, 3) if command[:n] in numbers)
 
 def dispersed(x, t, k):
     N, z = len(x), [sum(x) // len(x)]
@@ -29,9 +28,8 @@ def green(N, offset, changes, intergreens, link):
     for k, change in enumerate(changes):
         for p in range((changes[(k + 1) % len(changes)] - change) % N):
             shown[(offset + change + p) % N] = runs[k] and (p >= intergreens[k] or runs[k - 1])
-    opens = [shown[i] and not shown[i - 1] for i in range(N)]
-    return [any(shown[i - n] for n in range(link['end'] + 1)) and not any(opens[i - n] for n in range(link['start']))
-            for i in range(N)]
+    return [any(shown[i - n] for n in range(link['end'] + 1))
+            and not any(shown[i - n] and not shown[i - n - 1] for n in range(link['start'])) for i in range(N)]
 
 def evaluated(frame, nodes, links, numbers):
     (C, N, S, T, K, k), of, shown = frame, lambda *name: numbers[name][0], {}
@@ -73,8 +71,10 @@ def compared(deck, report):
             elif line[-2:-1] == ['INDEX']: yield line[-1], index
             if line[0] not in 'LINK TOOK MOVE IN GO NODE STAGE CHART FORM CYCLE FEED YIELD STEPS'.split(): break
 
-lines = ([line.split() for line in open(path) if line.strip()[:1] > '9'] for path in sys.argv[1:])
-deck, report = ([[int(word) if word.isdigit() else word for word in line] for line in file] for file in lines)
-pairs = list(compared(deck, iter(report[1:])))
-wrong = [f'the report has {answer}, docs/MODEL.md gives {right}' for answer, right in pairs if answer != right]
-sys.exit('\n'.join(wrong) if wrong else print(f'{len(pairs)} lines of figures agree'))
+def words(text):
+    return [[int(word) if word.isdigit() else word for word in line.split()] for line in text if line.strip()[:1] > '9']
+
+if __name__ == '__main__':
+    pairs = list(compared(words(open(sys.argv[1])), iter(words(open(sys.argv[2]))[1:])))
+    wrong = [f'the report has {answer}, docs/MODEL.md gives {right}' for answer, right in pairs if answer != right]
+    sys.exit('\n'.join(wrong) if wrong else print(f'{len(pairs)} lines of figures agree'))
