@@ -1,25 +1,39 @@
-"""all.py [PROGRAM [DECKS [SEED]]]: check.py over each example, and over random decks that PROGRAM answers anew.
+"""all.py [PROGRAM [DECKS [SEED]]]: check.py and twin.py over the examples, and over random decks that PROGRAM answers.
 
-PROGRAM is the built program, crates/transyt_cli/out/transyt_cli where none is named; without one the examples alone
-are checked, by their stored reports. DECKS (20) towns are made from SEED (1): the links and feeds are those of `make`,
-every other number is drawn, and edits, trials, a climb and a certificate follow. The exit number is 0 where all agree."""
-import os, random, subprocess, sys, tempfile
+PROGRAM is the built program, crates/transyt_cli/out/transyt_cli where none is named. Without one the examples alone are
+checked, by their stored reports. DECKS (20) towns are made from SEED (1): the links and feeds are those of `make`, and
+every other number is drawn. Each is run with edits, trials, a climb and a certificate, and then by the other words that
+read a deck. The exit number is 0 where all agree."""
+import math, os, random, subprocess, sys
+from check import compared, words
+from twin import answer
 
 here = os.path.dirname(os.path.abspath(__file__))
 examples = os.path.dirname(here)
 usual = [os.path.join(examples, '../crates/transyt_cli/out/transyt_cli'), '20', '1']
 program, decks, seed = sys.argv[1:] + usual[len(sys.argv) - 1:]
+agreed = []
 
 
-def check(deck, report):
-    """Whether the report of a deck agrees; deck and report are texts."""
-    with tempfile.TemporaryDirectory() as folder:
-        paths = [os.path.join(folder, name) for name in ('deck', 'report')]
-        for path, text in zip(paths, (deck, report)):
-            with open(path, 'w') as file: file.write(text)
-        result = subprocess.run([sys.executable, os.path.join(here, 'check.py'), *paths], capture_output=True, text=True)
-    print((result.stdout + result.stderr).strip(), flush=True)
-    return result.returncode == 0
+def tell(name, wrong, right):
+    """Tells how many lines agree, or each that doesn't."""
+    agreed.append(not wrong)
+    print(name + ': ' + ('\n'.join(wrong) if wrong else f'{right} lines agree'), flush=True)
+
+
+def check(name, deck, report):
+    """Compares the figures of a report of `run`, as check.py does."""
+    pairs = list(compared(words(deck.splitlines()), iter(words(report.splitlines())[1:])))
+    wrong = [f'the report has {told}, check.py gives {right}' for told, right in pairs if told != right]
+    tell(name, wrong, len(pairs))
+
+
+def twin(name, asked, deck, report):
+    """Compares every line of an output with that of twin.py."""
+    right, told = list(answer(asked, deck.splitlines())), report.splitlines()
+    wrong = [f'the program wrote {a!r}, twin.py gives {b!r}' for a, b in zip(told, right) if a != b]
+    if len(told) != len(right): wrong.append(f'the program wrote {len(told)} lines, twin.py {len(right)}')
+    tell(f'{name}, {" ".join(asked)}', wrong, len(told))
 
 
 def read(name):
@@ -33,7 +47,7 @@ def stages(n):
     cuts = sorted(random.randint(0, n - sum(map(sum, needs))) for _ in range(count - 1))
     lengths = [sum(need) + high - low for need, low, high in zip(needs, [0, *cuts], [*cuts, n - sum(map(sum, needs))])]
     first = random.randrange(n)
-    return [f'STAGE {(first + sum(lengths[:k])) % n} {intergreen} {least}' for k, (intergreen, least) in enumerate(needs)]
+    return [f'STAGE {(first + sum(lengths[:k])) % n} {need[0]} {need[1]}' for k, need in enumerate(needs)]
 
 
 def number(usual, most):
@@ -82,26 +96,44 @@ def random_deck(made):
     return '\n'.join(cards + commands) + '\n'
 
 
-def run(words, text=''):
-    return subprocess.run([program, *words], input=text, capture_output=True, text=True, check=True).stdout
+def run(asked, text=''):
+    """What the program writes, or none where it has no such words."""
+    done = subprocess.run([program, *asked], input=text, capture_output=True, text=True)
+    return None if done.returncode == 1 else done.stdout
 
 
-agreed = []
+def try_words(name, cards):
+    """Compares what every word makes of a deck; words and commands that the program hasn't are left out."""
+    (C, N), = [map(int, card.split()[1:3]) for card in cards if card.startswith('CYCLE')]
+    whole = C // math.gcd(C, N)  # a cycle that differs by this has a whole number of steps of the same length
+    low = C - whole * ((C - 30) // whole)
+    for asked in (['equisat'], ['scan', '2', str(C), str(min(240, C + 20)), '20'],
+                  ['starts', '2', str(random.randrange(100)), '3'],
+                  ['cycles', '2', str(max(low, C - whole)), str(min(240, C + whole)), str(min(210, whole))]):
+        text = '\n'.join(cards) + '\n'
+        told = run(asked, text)
+        if told is not None: twin(name, asked, text, told)
+    commands = ['TIMING', 'DECK', 'CLIMB', 'CERT', 'LINKS']
+    if 'REFUSED' not in run(['run'], '\n'.join([*cards, 'FIGURES', 'CHART', ''])): commands += ['FIGURES', 'CHART']
+    text = '\n'.join([*cards, *commands, ''])
+    twin(name, ['run'], text, run(['run', '3'], text))
+
+
 for name in sorted(os.listdir(examples)):
     if name.endswith('.deck') and read(name[:-5] + '.report').startswith('ACCEPTED'):
-        print(end=f'{name}: ')
-        agreed.append(check(read(name), read(name[:-5] + '.report')))
+        check(name, read(name), read(name[:-5] + '.report'))
 # the certificate stands in its deck, after END, as the answer to CERT
 cards, end, certificate = read('certificate.deck').partition('\nEND\n')
-print(end='certificate.deck: ')
-agreed.append(check(cards + end + 'CERT\n', 'ACCEPTED\n' + certificate))
+check('certificate.deck', cards + end + 'CERT\n', 'ACCEPTED\n' + certificate)
+twin('equisat.deck', ['equisat'], read('equisat.deck'), read('equisat.report'))
 if os.path.exists(program):
     random.seed(int(seed))
     for place in range(int(decks)):
         deck = random_deck(run(['make', str(random.randrange(10 ** 9)), str(random.randint(1, 4))]))
-        print(end=f'random deck {place + 1} of seed {seed}: ')
-        agreed.append(check(deck, run(['run', str(random.randint(1, 8))], deck)))
-        if not agreed[-1]: print(deck)
+        name, before = f'random deck {place + 1} of seed {seed}', len(agreed)
+        check(name, deck, run(['run', str(random.randint(1, 8))], deck))
+        try_words(name, deck[:deck.index('\nEND\n') + 4].splitlines())
+        if not all(agreed[before:]): print(deck)
 else:
     print(f'{program} is not built: no random decks')
 sys.exit(0 if all(agreed) else 1)
