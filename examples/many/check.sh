@@ -1,5 +1,5 @@
 #!/bin/sh
-# What to look for in the answers of a folder: check.sh FOLDER. It ends with 1 where there is something.
+# Lists what wants a look in the answers of a folder: check.sh FOLDER. It ends with 1 where there is something.
 cd "$1" || exit 1
 {
     for deck in *.deck; do [ -e "${deck%.deck}.out" ] || echo "$deck: no answer"; done
