@@ -3,6 +3,7 @@
 # PROGRAM is the built program, crates/transyt_cli/out/transyt_cli where none is named.
 here=$(CDPATH='' cd "$(dirname "$0")" && pwd)
 program=${1:-$here/../../crates/transyt_cli/out/transyt_cli}
+[ -x "$program" ] || { echo "$program is not built" >&2; exit 1; }
 work=$(mktemp -d) || exit 1
 trap 'rm -rf "$work"' EXIT
 deck=$here/two-junctions.deck
@@ -59,6 +60,7 @@ echo '== join'
 for plan in "$deck" "$best"; do ask "$plan" FIGURES | grep '^LINK' | sort -k 2 >"$work/$(basename "$plan").figures"; done
 join -1 2 -2 2 "$work/two-junctions.deck.figures" "$work/best.deck.figures" | awk '{ print $1, $10 / 10, $23 / 10 }'
 echo '== after';    ask "$best" FIGURES CHART TIMING
-echo '== counts';   cat "$deck" "$here/counts.csv" | "$program" counts
+echo '== feeds';    python3 "$here/feeds.py" "$here/sheet.csv" "$here/movements.csv" >"$work/counts.csv"; cat "$work/counts.csv"
+echo '== counts';   cat "$deck" "$work/counts.csv" | "$program" counts
 echo '== trial';    ask "$deck" INDEX TRIAL 'OFFSET 2 20' INDEX BACK INDEX
 echo '== file';     { echo '* Bridge Street and Market Street, counted 2026-03-12, plan of 2026-04-02, A. Engineer'; ask "$best" DECK CERT; }
