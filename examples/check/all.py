@@ -2,8 +2,8 @@
 
 PROGRAM is the built program, crates/transyt_cli/out/transyt_cli where none is named. Without one the examples alone are
 checked, by their stored reports. DECKS (20) towns are made from SEED (1): the links and feeds are those of `make`, and
-every other number is drawn. Each is run with edits, trials, a climb and a certificate, and then by the other words that
-read a deck. The exit number is 0 where all agree."""
+every other number is drawn. Each is run with edits, some of them refused, trials, climbs and a certificate, and then by
+the other words. The exit number is 0 where all agree."""
 import math, os, random, subprocess, sys
 from check import compared, words
 from twin import answer
@@ -82,24 +82,42 @@ def random_deck(made):
         cards.append(f'YIELD {link} {random.choice(links)} {number(150, 400)}')
     sizes = ' '.join(str(random.randint(1, n - 1)) for _ in range(random.randint(1, 2)))
     cards += [f'STEPS {random.randint(1, 60)} {sizes}', 'END']
-    edits = [lambda: f'OFFSET {random.choice(nodes)} {random.randrange(n)}',
-             lambda: f'CHANGE {random.choice(nodes)} {random.randint(1, 4)} {random.randrange(n)}',
-             lambda: f'ENTRY {random.choice(links)} {number(700, 9999)}',
-             lambda: f'SATURATION {random.choice(links)} {100 + number(3500, 9899)}',
-             lambda: f'WEIGHT {random.choice(links)} {number(5, 999)} {number(5, 999)}',
-             lambda: 'TRIAL', lambda: 'BACK', lambda: 'KEEP',
-             lambda: f'PROFILE {random.choice(links)}', lambda: f'QUEUE {random.choice(links)}', lambda: 'LINKS']
-    if feeds:
-        edits += [lambda: 'PART {} {} {}'.format(*random.choice(feeds), number(600, 9999)),
-                  lambda: 'CRUISE {} {} {}'.format(*random.choice(feeds), 1 + number(60, 299))]
-    commands = ['LINKS', *(random.choice(edits)() for _ in range(20)), 'KEEP', 'INDEX', 'CLIMB', 'LINKS', 'CERT']
-    return '\n'.join(cards + commands) + '\n'
+    node = lambda: random.choice(nodes) if random.random() < 0.9 else '7'
+    link = lambda: random.choice(links) if random.random() < 0.9 else '5'
+    feed = lambda: ' '.join(random.choice(feeds)) if feeds and random.random() < 0.8 else f'{link()} {link()}'
+    edits = [lambda: f'OFFSET {node()} {random.randrange(n + 2)}', lambda: f'ENTRY {link()} {number(700, 12000)}',
+             lambda: f'CHANGE {node()} {random.randint(0, 4)} {random.randrange(n + 2)}',
+             lambda: f'SATURATION {link()} {number(3500, 12000)}',
+             lambda: f'WEIGHT {link()} {number(5, 999)} {number(5, 1100)}',
+             lambda: f'PART {feed()} {number(600, 12000)}', lambda: f'CRUISE {feed()} {number(60, 330)}',
+             lambda: 'TRIAL', lambda: 'BACK', lambda: 'KEEP', lambda: 'CLIMB', lambda: 'WORK', lambda: 'LINKS',
+             lambda: f'PROFILE {link()}', lambda: f'QUEUE {link()}', lambda: f'PLOT {link()}']
+    commands = [random.choice(edits)() for _ in range(25)]
+    return '\n'.join([*cards, 'LINKS', *commands, 'KEEP', 'CLIMB', 'LINKS', 'CERT', 'WORK', 'TIMING', 'DECK', ''])
 
 
 def run(asked, text=''):
     """What the program writes, or none where it has no such words."""
     done = subprocess.run([program, *asked], input=text, capture_output=True, text=True)
     return None if done.returncode == 1 else done.stdout
+
+
+def certificate_of(cards):
+    """The lines of a deck's certificate as the program writes them, mostly with a line gone, doubled or changed."""
+    lines = run(['run'], '\n'.join([*cards, 'CERT', ''])).splitlines()[1:]
+    place = random.randrange(len(lines))
+    return random.choice([lines, lines[:place] + lines[place + 1:], [*lines[:place], lines[place], *lines[place:]],
+                          [*lines[:place], '* a comment', lines[place] + '0', *lines[place + 1:]]])
+
+
+def table_of(cards):
+    """A table of counts; some rows have a code."""
+    links = [card.split()[1] for card in cards if card.startswith('LINK')]
+    keys = [card.split()[1:3] for card in cards if card.startswith('FEED')] + [[link, ''] for link in links]
+    rows = [[*random.choice(keys), str(number(900, 999999)), str(number(60, 1500))] for _ in range(random.randrange(10))]
+    for row in rows:
+        if random.random() < 0.1: row[random.randrange(4)] = random.choice(['', '7', 'x', '1,2', links[0]])
+    return [','.join(row) for row in rows]
 
 
 def try_words(name, cards):
@@ -113,25 +131,33 @@ def try_words(name, cards):
         text = '\n'.join(cards) + '\n'
         told = run(asked, text)
         if told is not None: twin(name, asked, text, told)
-    commands = ['TIMING', 'DECK', 'CLIMB', 'CERT', 'LINKS']
-    if 'REFUSED' not in run(['run'], '\n'.join([*cards, 'FIGURES', 'CHART', ''])): commands += ['FIGURES', 'CHART']
-    text = '\n'.join([*cards, *commands, ''])
-    twin(name, ['run'], text, run(['run', '3'], text))
+    for asked, lines in (('audit', certificate_of(cards)), ('counts', table_of(cards))):
+        text = '\n'.join([*cards, *lines, ''])
+        twin(name, [asked], text, run([asked], text))
+    new = '\n'.join([*cards, 'FIGURES', 'CHART', ''])
+    if 'REFUSED' not in run(['run'], new): twin(name, ['run'], new, run(['run'], new))
 
 
 for name in sorted(os.listdir(examples)):
     if name.endswith('.deck') and read(name[:-5] + '.report').startswith('ACCEPTED'):
         check(name, read(name), read(name[:-5] + '.report'))
+        twin(name, ['run'], read(name), read(name[:-5] + '.report'))
 # the certificate stands in its deck, after END, as the answer to CERT
 cards, end, certificate = read('certificate.deck').partition('\nEND\n')
 check('certificate.deck', cards + end + 'CERT\n', 'ACCEPTED\n' + certificate)
-twin('equisat.deck', ['equisat'], read('equisat.deck'), read('equisat.report'))
+for name, word in (('equisat', 'equisat'), ('counts', 'counts'), ('certificate', 'audit'), ('changed', 'audit')):
+    twin(f'{name}.deck', [word], read(f'{name}.deck'), read(f'{name}.report'))
 if os.path.exists(program):
     random.seed(int(seed))
+    for word, most in (('make', 200), ('brief', 2)):
+        asked = [word, str(random.randrange(10 ** 9)), str(random.randint(1, most))]
+        twin('a made town', asked, '', run(asked))
     for place in range(int(decks)):
         deck = random_deck(run(['make', str(random.randrange(10 ** 9)), str(random.randint(1, 4))]))
         name, before = f'random deck {place + 1} of seed {seed}', len(agreed)
-        check(name, deck, run(['run', str(random.randint(1, 8))], deck))
+        report = run(['run', str(random.randint(1, 8))], deck)
+        check(name, deck, report)
+        twin(name, ['run'], deck, report)
         try_words(name, deck[:deck.index('\nEND\n') + 4].splitlines())
         if not all(agreed[before:]): print(deck)
 else:

@@ -31,11 +31,11 @@ def green(N, offset, changes, intergreens, link):
     return [any(shown[i - n] for n in range(link['end'] + 1))
             and not any(shown[i - n] and not shown[i - n - 1] for n in range(link['start'])) for i in range(N)]
 
-def evaluated(frame, nodes, links, numbers):
-    (C, N, S, T, K, k), of, shown = frame, lambda *name: numbers[name][0], {}
+def evaluated(frame, nodes, links, numbers, before=None):
+    (C, N, S, T, K, k), of = frame, lambda *name: numbers[name][0]
     units = lambda flow: flow * C * 1000000 // (3600 * N)
     total = {l: of('ENTRY', l) + sum(of('PART', l, f) for f, *_ in link['FEED']) for l, link in links.items()}
-    OUT = {l: [units(total[l])] * N for l in links}
+    OUT, shown = dict(before or {l: [units(total[l])] * N for l in links}), {}
     for l, link in list(links.items()) * S:
         IN, node = [units(of('ENTRY', l))] * N, link['node']
         for f, *_ in link['FEED']:
