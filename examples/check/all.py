@@ -114,7 +114,8 @@ def table_of(cards):
     """A table of counts; some rows have a code."""
     links = [card.split()[1] for card in cards if card.startswith('LINK')]
     keys = [card.split()[1:3] for card in cards if card.startswith('FEED')] + [[link, ''] for link in links]
-    rows = [[*random.choice(keys), str(number(900, 999999)), str(number(60, 1500))] for _ in range(random.randrange(10))]
+    counted = lambda: [str(number(900, 999999)), str(number(60, 1500))]
+    rows = [[*random.choice(keys), *counted()] for _ in range(random.randrange(10))]
     for row in rows:
         if random.random() < 0.1: row[random.randrange(4)] = random.choice(['', '7', 'x', '1,2', links[0]])
     return [','.join(row) for row in rows]
