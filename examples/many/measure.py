@@ -1,0 +1,101 @@
+"""measure.py [PROGRAM]: how the program's time grows with links, sweeps, places and workers, and what memory it takes.
+
+PROGRAM is the built program, crates/transyt_cli/out/transyt_cli where none is named. Each run is made RUNS times and the
+least time counts. It prints the tables and the plots of docs/MANY.md."""
+import os, subprocess, sys, tempfile, time
+
+here = os.path.dirname(os.path.abspath(__file__))
+program = sys.argv[1] if sys.argv[1:] else os.path.join(here, '../../crates/transyt_cli/out/transyt_cli')
+RUNS = 3
+
+
+class Run:
+    """One run of the program: seconds by the clock and of processors, memory in millions of bytes, exit number, output."""
+
+    def __init__(self, clock, used, code, output):
+        user, system, kilobytes = map(float, used.split()[-3:])
+        self.clock, self.processor, self.memory = clock, user + system, kilobytes * 1024 / 1e6
+        self.code, self.output = code, output
+
+
+def run(words, text, limit='true'):
+    """One run, under a limit that the shell sets. `time` is GNU's: its child's memory isn't counted with this script's."""
+    with tempfile.NamedTemporaryFile('w+') as used:
+        shell = f'{limit}; exec /usr/bin/time -q -f "%U %S %M" -o {used.name} "$@"'
+        before = time.monotonic()
+        done = subprocess.run(['sh', '-c', shell, 'sh', program, *words], input=text, text=True, capture_output=True)
+        return Run(time.monotonic() - before, used.read() or '0 0 0', done.returncode, done.stdout)
+
+
+def town(nodes, seed=1):
+    """The deck that `make` writes."""
+    return run(['make', str(seed), str(nodes)], '').output
+
+
+def with_frame(deck, steps=50, sweeps=3, sizes=None):
+    """The deck with other sweeps, and with another climb plan if one is given; `steps` is 50 or 100."""
+    cards = []
+    for card in deck.splitlines():
+        word, *numbers = card.split()
+        if word == 'CYCLE': card = f'CYCLE 100 {steps} {sweeps} 60 100 35'
+        if word == 'NODE': card = f'NODE {numbers[0]} {int(numbers[1]) * steps // 50}'
+        if word == 'STAGE': card = 'STAGE ' + ' '.join(str(int(n) * steps // 50) for n in numbers)
+        if word == 'STEPS' and sizes: card = f'STEPS {sizes}'
+        cards.append(card)
+    return '\n'.join(cards) + '\n'
+
+
+def best(words, text):
+    """Of several runs the least seconds by the clock, the least processor seconds and the greatest memory."""
+    runs = [run(words, text) for _ in range(RUNS)]
+    assert all(r.code == 0 for r in runs), words
+    return min(r.clock for r in runs), min(r.processor for r in runs), max(r.memory for r in runs)
+
+
+def table(title, unit, rows, plotted=1):
+    """A table of rows, each with a name and what `best` gives, and a plot of one column: 0 the clock, 1 the processors."""
+    most = max(row[1 + plotted] for row in rows)
+    print(f'\n{title}\n{unit:>8}   clock  processor    MB   plot of the {("clock", "processor")[plotted]}')
+    for name, clock, processor, memory in rows:
+        bar = '#' * max(1, round(40 * (clock, processor)[plotted] / most))
+        print(f'{name:>8} {clock:7.3f} {processor:10.3f} {memory:5.1f}   {bar}')
+
+
+def links_of(deck):
+    return sum(card.startswith('LINK') for card in deck.splitlines())
+
+
+CERT = 'CERT\n'
+table('CERT by links: each of 3 sizes, so places grow with the links too', 'links',
+      [(links_of(town(n)), *best(['run'], town(n) + CERT)) for n in (25, 50, 100, 200)])
+table('CERT by places: 200 links', 'places',
+      [(sizes * 300, *best(['run'], with_frame(town(50), sizes='1000000 ' + ' '.join(map(str, range(1, sizes + 1)))) + CERT))
+       for sizes in (2, 4, 8, 16)])
+table('CERT by sweeps: 200 links, 900 places', 'sweeps',
+      [(s, *best(['run'], with_frame(town(50), sweeps=s) + CERT)) for s in (1, 2, 4, 8)])
+table('CERT by steps of the cycle: 200 links, 900 places', 'steps',
+      [(n, *best(['run'], with_frame(town(50), steps=n) + CERT)) for n in (50, 100)])
+climbing = with_frame(town(64), sizes='1000000 1 8 20') + 'CLIMB\n'
+table('CLIMB until LOCAL by workers: 256 links', 'workers',
+      [(w, *best(['run', str(w)], climbing)) for w in (1, 2, 4, 8)], plotted=0)
+outputs = {run(['run', str(w)], climbing).output for w in (1, 2, 4, 8)}
+print(f'different outputs among them: {len(outputs)}')
+
+# a deck at the limits: 1000 links, 120 steps, 8 sweeps
+numbers = range(1, 201)
+limits = ['FORM 2', 'CYCLE 120 120 8 60 100 35']
+limits += [f'NODE {n} {n % 120}\nSTAGE 0 5 7\nSTAGE 60 5 7' for n in numbers]
+limits += [f'LINK {10 * n + d} {n} 200 1800 1 1 2 3 {1 + d % 2}' for n in numbers for d in range(5)]
+limits += [f'FEED {10 * n + d} {10 * (n % 200 + 1) + f} 50 20' for n in numbers for d in range(5) for f in range(3)]
+largest = '\n'.join([*limits, 'STEPS 100 1', 'END', 'INDEX', 'CLIMB', 'INDEX', ''])
+table('a deck of 1000 links, 120 steps and 8 sweeps: INDEX, CLIMB of 100 places, INDEX', 'workers',
+      [(w, *best(['run', str(w)], largest)) for w in (1, 2, 4, 8)], plotted=0)
+sys.stdout.flush()
+for workers in (1, 8):
+    for name, option, sizes in (('address space', '-v', range(10, 2000, 10)), ('stack', '-s', (0.03, 0.06, 0.1, 0.2, 0.5, 1, 8))):
+        failed = None
+        for size in sizes:
+            code = run(['run', str(workers)], largest, f'ulimit {option} {int(size * 1000)}').code
+            if code == 0: break
+            failed = code
+        print(f'{workers} workers: least {name} that was enough: {size} MB; below it exit {failed}')
