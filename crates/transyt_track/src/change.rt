@@ -6,7 +6,7 @@ use transyt_net::Net;
 use transyt_saved::Saved;
 use transyt_sweep::{Rows, Scratch};
 
-/// A change that a tracker follows: two networks of one shape, and for each link where it reads and what reads it.
+/// A change that a tracker follows: two networks of one shape, with the places that each link reads and its readers.
 #[derive(Clone, Copy)]
 pub(crate) struct Change<'a> {
     /// The network before the change.
