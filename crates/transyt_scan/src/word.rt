@@ -27,7 +27,7 @@ fn told(row: ScanRow) -> Climbed
     ensures { result ≡ told row }
 {
     Climbed {
-        cycle: row.cycle,
+        number: row.cycle,
         from: row.from,
         took: row.took,
         local: row.local,
