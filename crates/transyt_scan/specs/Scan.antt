@@ -14,7 +14,7 @@ use Rattle.transyt_scan.specs.Best.{best}
 -- a row as its line tells it
 abbrev pub told : ScanRow → Climbed
 told row = record {
-  cycle = row.cycle;
+  number = row.cycle;
   from = row.from;
   took = row.took;
   local = row.local;

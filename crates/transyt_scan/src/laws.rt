@@ -24,7 +24,7 @@ pub fn worked_scan()
     ensures budget { row_at (idle_with (Some (new_plan 4 (2 ∷ [])))) 44 ≡ stayed 44 false 4 }
     ensures unplanned { row_at (idle_with None) 44 ≡ stayed 44 true 0 }
     ensures told { told (climbed_at 58 8 2 false 20 3)
-        ≡ record { cycle = 58; from = 8; took = 2; local = false; looked = 20; to = 3 } }
+        ≡ record { number = 58; from = 8; took = 2; local = false; looked = 20; to = 3 } }
     ensures lines { table_lines three_rows ≡ row_line (climbed_at 50 9 1 true 11 7) ∷ row_line (climbed_at 58 8 2 false 20 3)
         ∷ row_line (climbed_at 66 5 4 true 13 3) ∷ line.Scan (said.Best 58 3) ∷ [] }
     ensures answer { scan_answer from_44 idle 17 (5 ∷ [])

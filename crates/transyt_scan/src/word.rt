@@ -27,7 +27,7 @@ fn told(row: ScanRow) -> Climbed
     ensures { result ≡ told row }
 {
     Climbed {
-        cycle: row.cycle,
+        number: row.cycle,
         from: row.from,
         took: row.took,
         local: row.local,
@@ -127,5 +127,7 @@ pub fn answer_scan<R: Threads + Sync, B: Bench, S: Source, K: Sink>(
     let Ok(found) = scan_deck(rt, alloc, asked, bench, intake.bytes()) else {
         return Status::NoMemory;
     };
-    say(&found, &mut line, sink)
+    let status = say(&found, &mut line, sink);
+    drop(found);
+    status
 }

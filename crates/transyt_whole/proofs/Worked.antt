@@ -7,8 +7,8 @@ use Rattle.transyt_text.specs.Forms.{filled, form_line}
 use Rattle.transyt_running.specs.Outcome.{IsFront}
 use Rattle.transyt_running.specs.WorkedOutcomes.{Each}
 use Rattle.transyt_running.specs.declared.status.Status.TheVariants.{Done}
-use Rattle.transyt_whole.specs.Answer.{of_whole, done, refusal}
-use Rattle.transyt_whole.specs.Texts.{line_text, lines_text}
+use Rattle.transyt_whole.specs.Answer.{of_whole, answer_text, done, refusal}
+use Rattle.transyt_whole.specs.Texts.{line_text}
 use Rattle.transyt_whole.specs.Whole.{StepsWithin, Told, ToldRow}
 use Rattle.transyt_whole.specs.WorkedTexts.{worked_lines}
 use Rattle.transyt_whole.specs.WorkedTold.{two_lines, first_text, both_texts, told_rows, untold_rows}
@@ -39,12 +39,12 @@ one_step_more h =
     omega (arith, same, size, within)
 
 -- lines are written one after another
-pub both_are : lines_text two_lines ≡ both_texts
+pub both_are : answer_text (done two_lines) ≡ both_texts
 unfolding form_line filled digits
 both_are = refl
 
 -- some first bytes of both
-front : (bytes back : List ℕ) → bytes ++ back ≡ both_texts → IsFront bytes (lines_text two_lines)
+front : (bytes back : List ℕ) → bytes ++ back ≡ both_texts → IsFront bytes (answer_text (done two_lines))
 front bytes back parts = record { back = back; parts = parts ∙ sym both_are }
 
 pub rows_told : Each (λ row. ToldRow row.0 row.1 row.2) told_rows
@@ -57,11 +57,11 @@ rows_told = (
 )
 
 -- the first text is shorter than both
-short : first_text ≡ lines_text two_lines → ⊥
+short : first_text ≡ answer_text (done two_lines) → ⊥
 short is = let told : first_text ≡ both_texts = is ∙ both_are in grind arith
 
 -- other bytes are no first bytes of both
-other : ¬ IsFront (codes "ENTRY 3") (lines_text two_lines)
+other : ¬ IsFront (codes "ENTRY 3") (answer_text (done two_lines))
 other h = let told : codes "ENTRY 3" ++ h.back ≡ both_texts = h.parts ∙ both_are in grind arith
 
 pub rows_untold : Each (λ row. ¬ ToldRow row.0 row.1 row.2) untold_rows

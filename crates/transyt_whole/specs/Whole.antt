@@ -1,8 +1,7 @@
 -- What a run does that takes its input whole.
 use Rattle.std.specs.Prelude.{◌≡◌, ◌≤◌, ◌+◌, ℕ, List, [], true, false, Option}
 use Rattle.transyt_io.specs.Streams.{Takes, Adds}
-use Rattle.transyt_whole.specs.Answer.{AnswerValue}
-use Rattle.transyt_whole.specs.Texts.{lines_text}
+use Rattle.transyt_whole.specs.Answer.{AnswerValue, answer_text}
 use Rattle.transyt_running.specs.Outcome.{IsFront}
 use Rattle.transyt_running.specs.declared.status.Status.{Status}
 use Rattle.transyt_running.specs.declared.status.Status.TheVariants.{Done, DeckRefused, ReadFault, TooLong, WriteFault}
@@ -10,9 +9,9 @@ use Rattle.transyt_running.specs.declared.status.Status.TheVariants.{NoMemory}
 
 -- what a status says of the answer to an input and of the bytes written
 abbrev pub ToldRow : AnswerValue → List ℕ → Status → Type 0
-ToldRow answer out Done = (out ≡ lines_text answer.lines) × (answer.refused ≡ false)
-ToldRow answer out DeckRefused = (out ≡ lines_text answer.lines) × (answer.refused ≡ true)
-ToldRow answer out WriteFault = IsFront out (lines_text answer.lines)
+ToldRow answer out Done = (out ≡ answer_text answer) × (answer.refused ≡ false)
+ToldRow answer out DeckRefused = (out ≡ answer_text answer) × (answer.refused ≡ true)
+ToldRow answer out WriteFault = IsFront out (answer_text answer)
 ToldRow answer out NoMemory = out ≡ []
 ToldRow answer out _ = ⊥
 

@@ -7,11 +7,12 @@ use Rattle.transyt_whole.specs.declared.line.CountsLine.TheVariants as counts
 use Rattle.transyt_whole.specs.declared.line.BalanceLine.TheVariants as balance
 use Rattle.transyt_whole.specs.declared.line.ScanLine.TheVariants as scan
 use Rattle.transyt_whole.specs.declared.line.AuditLine.TheVariants as audit
+use Rattle.transyt_whole.specs.declared.line.PlanLine.TheVariants as plan
 use Rattle.transyt_whole.specs.declared.line.Climbed.{Climbed}
 
--- a climb at one cycle time
+-- a climb
 abbrev pub a_climb : Climbed
-a_climb = record { cycle = 66; «from» = 1948618; took = 5; «local» = true; looked = 192; «to» = 1352922 }
+a_climb = record { number = 66; «from» = 1948618; took = 5; «local» = true; looked = 192; «to» = 1352922 }
 
 -- each kind of line, with its text
 abbrev pub worked_lines : List (AnswerLine × List ℕ)
@@ -32,4 +33,18 @@ worked_lines =
     ∷ (line.Scan (scan.Best 66 1352922), codes "BEST 66 1352922" ++ 10 ∷ [])
     ∷ (line.Audit (audit.Yes 24 1352922), codes "AUDIT YES 24 INDEX 1352922" ++ 10 ∷ [])
     ∷ (line.Audit (audit.No 31 code.Unknown), codes "AUDIT NO 31 17" ++ 10 ∷ [])
+    ∷ (line.Plan (plan.Start a_climb), codes "* START 66 FROM 1948618 TOOK 5 LOCAL 192 TO 1352922" ++ 10 ∷ [])
+    ∷ (
+      line.Plan (plan.Start (record a_climb { «local» = false })),
+      codes "* START 66 FROM 1948618 TOOK 5 BUDGET 192 TO 1352922" ++ 10 ∷ [],
+    )
+    ∷ (line.Plan (plan.Cycle a_climb), codes "* CYCLE 66 FROM 1948618 TOOK 5 LOCAL 192 TO 1352922" ++ 10 ∷ [])
+    ∷ (
+      line.Plan (plan.Cycle (record a_climb { «local» = false })),
+      codes "* CYCLE 66 FROM 1948618 TOOK 5 BUDGET 192 TO 1352922" ++ 10 ∷ [],
+    )
+    ∷ (line.Plan (plan.Barred 66 21), codes "* CYCLE 66 BARRED 21" ++ 10 ∷ [])
+    ∷ (line.Plan (plan.NoPlan 66), codes "* CYCLE 66 NONE" ++ 10 ∷ [])
+    ∷ (line.Plan (plan.Best 66 1352922), codes "* BEST 66 1352922" ++ 10 ∷ [])
+    ∷ (line.Plan plan.NoBest, codes "* NONE" ++ 10 ∷ [])
     ∷ []

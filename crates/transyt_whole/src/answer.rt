@@ -1,15 +1,18 @@
 //! The answer to a whole input.
-ghost use Rattle.std.specs.Prelude.{◌≡◌, true, false};
+ghost use Rattle.std.specs.Prelude.{◌≡◌, true, false, None, Some};
+ghost use Rattle.std.specs.Option.{option_map};
 
 use crate::line::AnswerLine;
 use std::marker::Model;
+use transyt_net::Net;
 use transyt_sentences::Sentence;
 
-/// The answer to a whole input: the lines that are written, and whether the input is refused; and a sentence for
-/// standard error, which a contract doesn't see.
+/// The answer to a whole input: the lines that are written, the network whose deck text is written after them, if there
+/// is one, and whether the input is refused; and a sentence for standard error, which a contract doesn't see.
 #[derive(Drop)]
 pub struct Answer {
     lines: Vec<AnswerLine>,
+    deck: Option<Net>,
     refused: bool,
     remark: Option<Sentence>,
 }
@@ -19,18 +22,26 @@ impl Model for Answer {
 
     ghost Value = { AnswerValue };
 
-    ghost view = { λ answer. record { lines = answer.lines.items; refused = answer.refused } };
+    ghost view = { λ answer. record { lines = answer.lines.items; deck = answer.deck; refused = answer.refused } };
 }
 
 impl Answer {
-    ghost use Rattle.transyt_whole.specs.Answer.{done, refusal};
+    ghost use Rattle.transyt_whole.specs.Answer.{done, refusal, with_deck};
 
     /// Lines of an input that is not refused.
     pub fn done(lines: Vec<AnswerLine>) -> Answer
         ensures { result ≡ done lines.items }
     {
+        Answer::with_deck(lines, None)
+    }
+
+    /// Lines of an input that is not refused, and the deck text of a network after them, if there is one.
+    pub fn with_deck(lines: Vec<AnswerLine>, deck: Option<Net>) -> Answer
+        ensures { result ≡ with_deck lines.items deck }
+    {
         Answer {
             lines,
+            deck,
             refused: false,
             remark: None,
         }
@@ -42,6 +53,7 @@ impl Answer {
     {
         Answer {
             lines,
+            deck: None,
             refused: true,
             remark: None,
         }
@@ -67,6 +79,13 @@ impl Answer {
         ensures { result.now ≡ self.now.lines }
     {
         &self.lines
+    }
+
+    /// The network whose deck text is written after the lines, if there is one.
+    pub fn deck(&self) -> Option<&Net>
+        ensures { option_map (λ net. net.now) result ≡ self.now.deck }
+    {
+        self.deck.as_ref()
     }
 
     /// Whether the input is refused.

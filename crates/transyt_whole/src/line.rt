@@ -2,7 +2,7 @@
 ghost use Rattle.std.specs.Prelude.{◌≡◌, ◌≤◌, ◌∷◌, [], length};
 ghost use Rattle.transyt_text.specs.Forms.{form_line};
 ghost use Rattle.transyt_text.specs.Prints.{PrintsOn};
-ghost use Rattle.transyt_whole.specs.Texts.{counts_text, balance_text, scan_text, audit_text, line_text, lines_text};
+ghost use Rattle.transyt_whole.specs.Texts.{counts_text, balance_text, scan_text, audit_text, plan_text, line_text, lines_text};
 
 use transyt_io::{Failed, LineBuffer, Sink};
 use transyt_syntax::Code;
@@ -21,6 +21,8 @@ pub enum AnswerLine {
     Scan(ScanLine),
     /// The line of an audit.
     Audit(AuditLine),
+    /// A line of a table of plans.
+    Plan(PlanLine),
 }
 
 /// A line of what a table of counts comes to. Flows are in vehicles per hour.
@@ -57,11 +59,11 @@ pub enum BalanceLine {
     End,
 }
 
-/// A climb at one cycle time.
+/// A climb at one cycle time, or from one start.
 #[derive(Clone, Copy, Debug, PartialEq, Eq, Drop)]
 pub struct Climbed {
-    /// The cycle time, in seconds.
-    pub cycle: u32,
+    /// The cycle time in seconds, or the number of the start from 0.
+    pub number: u32,
     /// The index before the climb.
     pub from: u128,
     /// How many steps were taken.
@@ -90,6 +92,23 @@ pub enum AuditLine {
     Yes { places: u32, index: u128 },
     /// It doesn't: the line that shows it, and the code.
     No { line: u32, code: Code },
+}
+
+/// A line of a table of plans: starts, or cycle times in seconds. Each is a comment of a deck.
+#[derive(Clone, Copy, Debug, PartialEq, Eq, Drop)]
+pub enum PlanLine {
+    /// A climb from a start.
+    Start(Climbed),
+    /// A climb at a cycle time.
+    Cycle(Climbed),
+    /// A cycle time that the stages of a node don't fit into: the number of the node.
+    Barred { number: u32, node: u32 },
+    /// A cycle time at which there is no plan.
+    NoPlan { number: u32 },
+    /// The number of the plan with the least index after the climb, and that index.
+    Best { number: u32, to: u128 },
+    /// There is no plan.
+    NoBest,
 }
 
 /// Writes the line of a form with two numbers.
@@ -179,24 +198,37 @@ fn print_balance<K: Sink>(
     }
 }
 
+/// Writes the line of a climb, by a form with its five numbers.
+fn print_climbed<K: Sink>(
+    form: &[u8],
+    row: Climbed,
+    line: &mut LineBuffer,
+    sink: &mut K,
+) -> Result<(), Failed>
+    requires { length form.now ≤ 100 }
+    ensures { PrintsOn K.written K.faults sink.old sink.new result
+        (form_line form.now (row.number ∷ row.from ∷ row.took ∷ row.looked ∷ row.to ∷ [])) }
+{
+    let numbers = [
+        u128::from(row.number),
+        row.from,
+        u128::from(row.took),
+        u128::from(row.looked),
+        row.to,
+    ];
+    print_form(form, &numbers, line, sink)
+}
+
 /// Writes a line of climbs over cycle times.
 fn print_scan<K: Sink>(said: ScanLine, line: &mut LineBuffer, sink: &mut K) -> Result<(), Failed>
     ensures { PrintsOn K.written K.faults sink.old sink.new result (scan_text said) }
 {
     match said {
+        ScanLine::Cycle(row) if row.local => {
+            print_climbed(b"CYCLE # FROM # TOOK # LOCAL # TO #", row, line, sink)
+        }
         ScanLine::Cycle(row) => {
-            let numbers = [
-                u128::from(row.cycle),
-                row.from,
-                u128::from(row.took),
-                u128::from(row.looked),
-                row.to,
-            ];
-            if row.local {
-                print_form(b"CYCLE # FROM # TOOK # LOCAL # TO #", &numbers, line, sink)
-            } else {
-                print_form(b"CYCLE # FROM # TOOK # BUDGET # TO #", &numbers, line, sink)
-            }
+            print_climbed(b"CYCLE # FROM # TOOK # BUDGET # TO #", row, line, sink)
         }
         ScanLine::Best { cycle, to } => print_two(b"BEST # #", u128::from(cycle), to, line, sink),
     }
@@ -228,6 +260,42 @@ fn print_audit<K: Sink>(said: AuditLine, line: &mut LineBuffer, sink: &mut K) ->
     }
 }
 
+/// Writes a line of a table of plans.
+fn print_plan<K: Sink>(said: PlanLine, line: &mut LineBuffer, sink: &mut K) -> Result<(), Failed>
+    ensures { PrintsOn K.written K.faults sink.old sink.new result (plan_text said) }
+{
+    match said {
+        PlanLine::Start(row) if row.local => {
+            print_climbed(b"* START # FROM # TOOK # LOCAL # TO #", row, line, sink)
+        }
+        PlanLine::Start(row) => {
+            print_climbed(b"* START # FROM # TOOK # BUDGET # TO #", row, line, sink)
+        }
+        PlanLine::Cycle(row) if row.local => {
+            print_climbed(b"* CYCLE # FROM # TOOK # LOCAL # TO #", row, line, sink)
+        }
+        PlanLine::Cycle(row) => {
+            print_climbed(b"* CYCLE # FROM # TOOK # BUDGET # TO #", row, line, sink)
+        }
+        PlanLine::Barred { number, node } => {
+            print_two(
+                b"* CYCLE # BARRED #",
+                u128::from(number),
+                u128::from(node),
+                line,
+                sink,
+            )
+        }
+        PlanLine::NoPlan { number } => {
+            print_form(b"* CYCLE # NONE", &[u128::from(number)], line, sink)
+        }
+        PlanLine::Best { number, to } => {
+            print_two(b"* BEST # #", u128::from(number), to, line, sink)
+        }
+        PlanLine::NoBest => print_form(b"* NONE", &[], line, sink),
+    }
+}
+
 /// Writes a line.
 fn print_line<K: Sink>(said: AnswerLine, line: &mut LineBuffer, sink: &mut K) -> Result<(), Failed>
     ensures { PrintsOn K.written K.faults sink.old sink.new result (line_text said) }
@@ -246,6 +314,7 @@ fn print_line<K: Sink>(said: AnswerLine, line: &mut LineBuffer, sink: &mut K) ->
         AnswerLine::Balance(said) => print_balance(said, line, sink),
         AnswerLine::Scan(said) => print_scan(said, line, sink),
         AnswerLine::Audit(said) => print_audit(said, line, sink),
+        AnswerLine::Plan(said) => print_plan(said, line, sink),
     }
 }
 

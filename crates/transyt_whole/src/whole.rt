@@ -1,15 +1,19 @@
 //! The run over an input that is taken whole: it is judged, and then its lines are written.
 ghost use Rattle.std.specs.Prelude.{◌≡◌, ◌≢◌, ◌≤◌, ◌+◌, ℕ, List, length, IfOk};
+ghost use Rattle.std.specs.Option.{option_map};
 ghost use Rattle.transyt_io.specs.Streams.{Rose};
 ghost use Rattle.transyt_running.specs.Outcome.{Outcome};
-ghost use Rattle.transyt_whole.specs.Answer.{AnswerValue, of_whole};
+ghost use Rattle.transyt_text.specs.Prints.{PrintsOn};
+ghost use Rattle.transyt_whole.specs.Answer.{AnswerValue, answer_text, deck_after, of_whole};
 ghost use Rattle.transyt_whole.specs.Whole.{Told, IsSilent, StepsWithin};
 
 use crate::answer::Answer;
 use crate::line::print_lines;
 use std::alloc::{AllocError, Global};
 use std::sync::ledger::Ledger;
+use transyt_cards::print_deck;
 use transyt_io::{Failed, Intake, LineBuffer, ReadStop, Sink, Source};
+use transyt_net::Net;
 use transyt_running::{Status, ended, stopped_reading};
 use transyt_steps::Steps;
 
@@ -34,7 +38,26 @@ pub trait Whole {
         ensures more_steps { steps.old ≤ steps.new };
 }
 
-/// Tells the sink the remark of an answer, and writes the answer's lines, one after another.
+/// Writes the deck text of a network, if there is one.
+fn print_net<K: Sink>(net: Option<&Net>, line: &mut LineBuffer, sink: &mut K) -> Result<(), Failed>
+    ensures { PrintsOn K.written K.faults sink.old sink.new result
+        (deck_after (option_map (λ n. n.now) net.entry)) }
+{
+    let Some(net) = net else {
+        return Ok(());
+    };
+    print_deck(net, line, sink)
+}
+
+/// Writes the lines of an answer, one after another, and its deck text.
+fn print_answer<K: Sink>(found: &Answer, line: &mut LineBuffer, sink: &mut K) -> Result<(), Failed>
+    ensures { PrintsOn K.written K.faults sink.old sink.new result (answer_text found.now) }
+{
+    print_lines(found.lines(), line, sink)?;
+    print_net(found.deck(), line, sink)
+}
+
+/// Tells the sink the remark of an answer, and writes the answer: its lines, one after another, and then its deck text.
 pub fn say<K: Sink>(found: &Answer, line: &mut LineBuffer, sink: &mut K) -> Status
     ensures told { Told found.now (K.written sink.old) (K.written sink.new) result }
     ensures later { K.faults sink.old ≤ K.faults sink.new }
@@ -44,7 +67,7 @@ pub fn say<K: Sink>(found: &Answer, line: &mut LineBuffer, sink: &mut K) -> Stat
     if let Some(sentence) = found.remark() {
         sink.remark(sentence.bytes());
     }
-    if let Err(Failed) = print_lines(found.lines(), line, sink) {
+    if let Err(Failed) = print_answer(found, line, sink) {
         return Status::WriteFault;
     }
     ended(found.is_refused())
@@ -71,7 +94,9 @@ fn answer<T: Whole, K: Sink, L: Ledger>(
     let Ok(found) = word.judge(alloc, input, steps) else {
         return Status::NoMemory;
     };
-    say(&found, line, sink)
+    let status = say(&found, line, sink);
+    drop(found);
+    status
 }
 
 /// Takes a source whole, and answers what it gave. The memory for reading and writing is taken before the first read,

@@ -1,0 +1,5 @@
+pub mod Asked
+pub mod Lines
+pub mod Plans
+pub mod ReadBack
+pub mod WorkedPlans
