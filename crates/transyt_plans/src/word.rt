@@ -20,6 +20,7 @@ use transyt_deck::{CardStop, cut_deck};
 use transyt_io::{Intake, LineBuffer, Sink, Source};
 use transyt_running::{Status, stopped_reading};
 use transyt_whole::{Answer, AnswerLine, say};
+use transyt_words::on_refused_card;
 
 /// The answer to a deck, whose lines after END aren't looked at. A refused deck is answered by the line of its card.
 ///
@@ -40,7 +41,9 @@ fn plans_deck<R: Threads + Sync, W: TableWord>(
         Ok(cut) => cut,
         Err(CardStop::Refused { card, code }) => {
             let lines = vec![in alloc; AnswerLine::CardRefused { card, code }]?;
-            return Ok(Answer::refusal(lines));
+            return Ok(Answer::refusal(lines).with_remark(on_refused_card(
+                alloc, input, card, code,
+            )));
         }
         Err(CardStop::Memory) => return Err(AllocError),
     };

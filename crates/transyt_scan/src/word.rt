@@ -20,7 +20,9 @@ use transyt_deck::{CardStop, cut_deck};
 use transyt_io::{Intake, LineBuffer, Sink, Source};
 use transyt_net::Net;
 use transyt_running::{Status, stopped_reading};
+use transyt_sentences::on_cycle_times;
 use transyt_whole::{Answer, AnswerLine, Climbed, ScanLine, say};
+use transyt_words::on_refused_card;
 
 /// A row as its line tells it.
 fn told(row: ScanRow) -> Climbed
@@ -66,7 +68,7 @@ fn answer_net<R: Threads + Sync, B: Bench>(
 {
     let CycleTimes { low, high, by } = asked.times;
     let rows = scan(rt, alloc, net, low, high, by, asked.workers, bench)?;
-    Ok(Answer::done(table_lines(alloc, &rows)?))
+    Ok(Answer::done(table_lines(alloc, &rows)?).with_remark(on_cycle_times()))
 }
 
 /// The answer to a deck, whose lines after END aren't looked at. A refused deck is answered by the line of its card.
@@ -87,7 +89,9 @@ pub fn scan_deck<R: Threads + Sync, B: Bench>(
         Ok(cut) => cut,
         Err(CardStop::Refused { card, code }) => {
             let lines = vec![in alloc; AnswerLine::CardRefused { card, code }]?;
-            return Ok(Answer::refusal(lines));
+            return Ok(Answer::refusal(lines).with_remark(on_refused_card(
+                alloc, input, card, code,
+            )));
         }
         Err(CardStop::Memory) => return Err(AllocError),
     };
