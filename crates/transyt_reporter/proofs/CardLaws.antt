@@ -1,5 +1,5 @@
 -- What a line of the deck did where there was no memory.
-use Rattle.std.proofs.Common.{◌≡◌, ℕ, ◌+◌, ◌≤◌, List, [], Option, Err, refl, arith}
+use Rattle.std.proofs.Common.{ℕ, ◌+◌, ◌≤◌, List, [], Option, Err, refl, arith}
 use Rattle.transyt_io.proofs.Told.{adds_nothing}
 use Rattle.transyt_deck.specs.Deck.{Deck}
 use Rattle.transyt_running.specs.declared.ending.Stop.TheVariants as stop
