@@ -1,6 +1,7 @@
 -- The lemmas of the crate.
 pub mod Answered
 pub mod BriefLaws
+pub mod CardLaws
 pub mod ClimbTexts
 pub mod CountLaws
 pub mod LeavesLaws

@@ -1,5 +1,12 @@
 -- What the desks keep to between two lines and during a climb. No clause of the top call cites it.
 use Rattle.std.specs.Prelude.{ℕ, ◌+◌, ◌*◌, ◌≡◌, ◌<◌, ◌≤◌, true, length, Option, IfSome, List}
+use Rattle.std.specs.Prelude.{Result, OnOk, OnErr, IfOk, IsErrOf}
+use Rattle.transyt_io.specs.Streams.{Adds, AddsFront, Rose}
+use Rattle.transyt_deck.specs.Deck.{Deck}
+use Rattle.transyt_running.specs.declared.ending.Ending.{Ending}
+use Rattle.transyt_running.specs.declared.ending.Stop.{Stop}
+use Rattle.transyt_running.specs.declared.ending.Stop.TheVariants.{Write}
+use Rattle.transyt_answers.specs.Report.{deck_said, deck_ends, deck_steps}
 use Rattle.transyt_net.specs.Shape.{SameShape}
 use Rattle.transyt_sweep.specs.Climb.{Step, climb}
 use Rattle.transyt_session.specs.Session.{SessionValue}
@@ -60,3 +67,15 @@ pub record Leaves (most : ℕ) (answered : SessionValue) (old new : List Session
   pub few : (desk_zero new).work ≤ (desk_zero old).work + most
   pub work : (desk_zero new).work ≤ answered.work
   pub made : length old ≡ 1 → steps_new + (desk_zero old).work ≡ steps + (desk_zero new).work
+
+-- what a line before END or END did, where this is the deck with it: its text was written whole, or a front of it; its
+-- steps were taken, or no more than they; and it ends the run where the deck does
+pub record AnswersDeck (deck : Deck) (result : Result (Option Ending) Stop) (written written_new : Option (List ℕ))
+    (faults faults_new steps steps_new : ℕ) : Type 0 where
+  pub ok : OnOk result (Adds written written_new (deck_said deck))
+  pub err : OnErr result (AddsFront written written_new (deck_said deck))
+  pub later : faults ≤ faults_new
+  pub fault : IsErrOf result Write → Rose faults faults_new
+  pub ends : IfOk result (λ end. end ≡ deck_ends deck)
+  pub steps_ok : OnOk result (steps_new ≡ steps + deck_steps deck)
+  pub steps_err : OnErr result (steps_new ≤ steps + deck_steps deck)

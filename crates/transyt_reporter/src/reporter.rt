@@ -6,7 +6,7 @@ ghost use Rattle.transyt_text.specs.Prints.{PrintsOn};
 ghost use Rattle.transyt_deck.specs.Deck.{next, is_complete, line_count};
 ghost use Rattle.transyt_desks.specs.Desks.{desk_zero};
 ghost use Rattle.transyt_answers.specs.Commands.{line_answer, answer_text, session_after};
-ghost use Rattle.transyt_reporter.specs.Conditions.{AreReady, Leaves};
+ghost use Rattle.transyt_reporter.specs.Conditions.{AnswersDeck, AreReady, Leaves};
 ghost use Rattle.transyt_answers.specs.Report.{InSession, text, ends, closing, refused_at_end, cost, answer_ends, deck_said};
 ghost use Rattle.transyt_answers.specs.Report.{deck_ends, deck_steps, run_of};
 ghost use Rattle.transyt_reporter.specs.Reporter.{HasAnswered, state_of, AreKept, new_reporter};
@@ -154,19 +154,12 @@ impl Reporter {
         requires live { self.old.cards.live ≡ true }
         requires room { line_count self.old.cards.deck < 4294967294 }
         requires counted { line_count self.old.cards.deck < self.old.lines }
-        ensures ok { OnOk result (Adds (K.written sink.old) (K.written sink.new)
-            (deck_said (next self.old.cards.deck line.now))) }
-        ensures err { OnErr result (AddsFront (K.written sink.old) (K.written sink.new)
-            (deck_said (next self.old.cards.deck line.now))) }
-        ensures later { K.faults sink.old ≤ K.faults sink.new }
-        ensures fault { IsErrOf result Stop.Write → Rose (K.faults sink.old) (K.faults sink.new) }
+        ensures answers { AnswersDeck (next self.old.cards.deck line.now) result (K.written sink.old)
+            (K.written sink.new) (K.faults sink.old) (K.faults sink.new) steps.old steps.new }
         ensures silent { IsErrOf result Stop.Memory → sink.new ≡ sink.old }
-        ensures ends { IfOk result (λ end. end ≡ deck_ends (next self.old.cards.deck line.now)) }
         ensures state { result ≡ Ok None
             → state_of self.new.cards self.new.desks ≡ run_of (next self.old.cards.deck line.now) }
         ensures live { result ≡ Ok None → IfNone self.new.desks (self.new.cards.live ≡ true) }
-        ensures steps_ok { OnOk result (steps.new ≡ steps.old + deck_steps (next self.old.cards.deck line.now)) }
-        ensures steps_err { OnErr result (steps.new ≤ steps.old + deck_steps (next self.old.cards.deck line.now)) }
         ensures lines { self.new.lines ≡ self.old.lines }
         ensures workers { self.new.workers ≡ self.old.workers }
     {
@@ -196,17 +189,11 @@ impl Reporter {
     ) -> Result<Option<Ending>, Stop>
         requires closed { self.old.desks ≡ None }
         requires complete { IsTrue (is_complete self.old.cards.deck) }
-        ensures ok { OnOk result (Adds (K.written sink.old) (K.written sink.new) (deck_said self.old.cards.deck)) }
-        ensures err { OnErr result (AddsFront (K.written sink.old) (K.written sink.new)
-            (deck_said self.old.cards.deck)) }
-        ensures later { K.faults sink.old ≤ K.faults sink.new }
-        ensures fault { IsErrOf result Stop.Write → Rose (K.faults sink.old) (K.faults sink.new) }
+        ensures answers { AnswersDeck self.old.cards.deck result (K.written sink.old) (K.written sink.new)
+            (K.faults sink.old) (K.faults sink.new) steps.old steps.new }
         ensures silent { IsErrOf result Stop.Memory → sink.new ≡ sink.old }
-        ensures goes_on { IfOk result (λ end. end ≡ None) }
         ensures state { OnOk result (state_of self.new.cards self.new.desks ≡ run_of self.old.cards.deck) }
         ensures live { OnOk result (IfNone self.new.desks ⊥) }
-        ensures steps_ok { OnOk result (steps.new ≡ steps.old + deck_steps self.old.cards.deck) }
-        ensures steps_err { OnErr result (steps.new ≤ steps.old + deck_steps self.old.cards.deck) }
         ensures lines { self.new.lines ≡ self.old.lines }
         ensures workers { self.new.workers ≡ self.old.workers }
     {

@@ -59,9 +59,9 @@ returns-clause-whole g c before h =
     let told = c.answer_card.ensures in
     let F : Option Ending → Type 0 = λ end. end ≡ deck_ends (next old.cards.deck line) in
     told_whole c.answer_card.result _ _ _ before line _ _ (ap (λ (s : RunState). line_text s line) is)
-    (ap (λ (s : RunState). line_ends s line) is) told.ok told.ends
+    (ap (λ (s : RunState). line_ends s line) is) told.answers.ok told.answers.ends
     (λ goes. answered_card r before k c.answer_card.new.self line none (told.state goes)
-    (sym (at_value F c.answer_card.result None goes told.ends)) (told.live goes))
+    (sym (at_value F c.answer_card.result None goes told.answers.ends)) (told.live goes))
 
 -- without memory nothing was written
 pub returns-clause-silent : goal.returns-clause-silent
