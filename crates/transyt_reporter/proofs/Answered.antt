@@ -1,8 +1,8 @@
 -- What a line adds to what its lines have come to.
-use Rattle.std.proofs.Common.{◌≡◌, ℕ, ◌+◌, ◌++◌, true, List, [], ◌∷◌, Option, None, Some, IfNone, Result, Ok, Err, IfOk, OnOk, OnErr, refl, sym, ◌∙◌, ap, subst, arith}
+use Rattle.std.proofs.Common.{◌≡◌, ℕ, ◌+◌, ◌++◌, true, List, [], ◌∷◌, Option, None, Some, IfNone, Result, Ok, Err, IfOk, OnOk, refl, sym, ◌∙◌, ap, subst, arith}
 use Rattle.std.proofs.Common.{append_assoc}
 use Rattle.std.proofs.lemmas.List.{append-nil}
-use Rattle.transyt_io.specs.Streams.{Adds, AddsFront}
+use Rattle.transyt_io.specs.Streams.{Adds}
 use Rattle.transyt_deck.specs.Deck.{Deck, Open, Complete, Refused, next, is_open}
 use Rattle.transyt_session.specs.Session.{SessionValue}
 use Rattle.transyt_desks.specs.Desks.{desk_zero}
@@ -119,14 +119,6 @@ told_whole (Ok e) said end has_answered before line old new said_is end_is adds 
   goes_on = λ none. goes_on (ap Ok none);
 }
 told_whole (Err stop) said end has_answered before line old new said_is end_is adds is goes_on = tt
-
--- and what was said of it in part, in part
-pub told_part : (result : Result (Option Ending) Stop) (said : List ℕ) (before : List (List ℕ)) (line : List ℕ)
-    (old new : Option (List ℕ)) → said ≡ text before line → OnErr result (AddsFront old new said)
-    → OnErr result (AddsFront old new (text before line))
-told_part (Ok e) said before line old new said_is adds = tt
-told_part (Err stop) said before line old new said_is adds =
-    let P : List ℕ → Type 0 = λ xs. AddsFront old new xs in subst P said_is adds
 
 -- the steps of a command
 pub command_cost : (result : Result (Option Ending) Stop) (s after : SessionValue) (before : List (List ℕ)) (line : List ℕ)

@@ -1,5 +1,5 @@
 -- What a complete deck opens: its session, desks that are kept to, and its steps.
-use Rattle.std.proofs.Common.{◌≡◌, ℕ, ◌+◌, ◌-◌, ◌*◌, ◌≤◌, length, None, Result, Ok, Err, IfOk, OnOk, sym, ap, ◌∙◌, arith}
+use Rattle.std.proofs.Common.{◌≡◌, ℕ, ◌+◌, ◌-◌, ◌*◌, ◌≤◌, length, None, Result, Ok, Err, IfOk, OnOk, OnErr, sym, ap, subst, ◌∙◌, arith}
 use Rattle.std.proofs.lemmas.List.{length-replicate}
 use Rattle.transyt_net.specs.Parts.{Network}
 use Rattle.transyt_deck.specs.Deck.{Deck, Refused, Complete, Open}
@@ -25,11 +25,19 @@ steps_are (Refused number code) net is = absurd (cc)
 
 -- so many steps were made where the call went well
 pub opened_cost : {T E : Type 0} (result : Result T E) (deck : Deck) (net : Network) (steps steps_new : ℕ)
-    → finished deck ≡ Ok net → steps_new ≡ steps + net.frame.sweeps * length net.links
+    → finished deck ≡ Ok net → OnOk result (steps_new ≡ steps + net.frame.sweeps * length net.links)
     → OnOk result (steps_new ≡ steps + deck_steps deck)
 opened_cost (Ok v) deck net steps steps_new is made =
     made ∙ ap (λ (n : ℕ). steps + n) (sym (steps_are deck net is))
 opened_cost (Err e) deck net steps steps_new is made = tt
+
+-- and no more where it didn't
+pub opened_most : {T E : Type 0} (result : Result T E) (deck : Deck) (net : Network) (steps steps_new : ℕ)
+    → finished deck ≡ Ok net → OnErr result (steps_new ≤ steps + net.frame.sweeps * length net.links)
+    → OnErr result (steps_new ≤ steps + deck_steps deck)
+opened_most (Ok v) deck net steps steps_new is made = tt
+opened_most (Err e) deck net steps steps_new is made =
+    subst (λ (n : ℕ). steps_new ≤ steps + n) (sym (steps_are deck net is)) made
 
 -- desks of a session that was opened
 pub opened_kept : (s : SessionValue) (workers : ℕ) → 1 ≤ workers → s.before ≡ None → s.work ≡ 0

@@ -15,6 +15,7 @@ ghost use Rattle.transyt_answers.specs.Commands.{climb_of};
 ghost use Rattle.transyt_reporter.specs.Conditions.{AreReady};
 
 use crate::climbing::{start_climber, steps_of};
+use crate::opening::desks_of;
 use std::alloc::Global;
 use std::sync::ledger::Ledger;
 use std::thread::Threads;
@@ -27,11 +28,34 @@ use transyt_session::Session;
 use transyt_steps::Steps;
 use transyt_text::print_form;
 
-/// What a climb came to: how many steps it took, and whether it ended since no move lowers the index.
-#[derive(Clone, Copy, Debug, PartialEq, Eq, Drop)]
+/// A network before the climb: how many nodes and links it has, and its index.
+#[derive(Clone, Copy, Drop)]
+struct Before {
+    nodes: usize,
+    links: usize,
+    index: u128,
+}
+
+/// A climb that ended: how many steps it took, how many places it looked at, and whether no move lowers the index.
+#[derive(Clone, Copy, Drop)]
 struct Climbed {
     took: u32,
+    looked: u32,
     local: bool,
+}
+
+/// The network now, as the line tells it.
+fn before_climb(session: &Session) -> Before
+    ensures nodes { result.nodes ≡ length session.now.net.nodes }
+    ensures links { result.links ≡ length session.now.net.links }
+    ensures index { result.index ≡ index session.now.net }
+{
+    let net = session.net();
+    Before {
+        nodes: net.nodes().len(),
+        links: net.links().len(),
+        index: session.index(),
+    }
 }
 
 /// Climbs by rounds of the desks, from a climber at its start to its end, and counts the steps.
@@ -50,7 +74,7 @@ fn count_steps<R: Threads + Sync, G: Gate, L: Ledger>(
     requires room { (desk_zero desks.old).work ≤ 2 ^ 60 }
     ensures took { result.took ≡ length (climb (desk_zero desks.old).net 0 climber.old.budget).steps }
     ensures local { result.local ≡ (climb (desk_zero desks.old).net 0 climber.old.budget).local }
-    ensures looked { climber.new.looked ≡ length (climb (desk_zero desks.old).net 0 climber.old.budget).looks }
+    ensures looked { result.looked ≡ length (climb (desk_zero desks.old).net 0 climber.old.budget).looks }
     ensures state { desk_zero desks.new ≡ climbed climber.old.budget (desk_zero desks.old) }
     ensures steps { length desks.old ≡ 1
         → steps.new + (desk_zero desks.old).work ≡ steps.old + (desk_zero desks.new).work }
@@ -61,10 +85,71 @@ fn count_steps<R: Threads + Sync, G: Gate, L: Ledger>(
         if round.last.is_end() {
             return Climbed {
                 took,
+                looked: climber.looked(),
                 local: round.last.is_local(),
             };
         }
         took += steps_of(round.last);
+    }
+}
+
+/// Climbs by the network's plan.
+fn climb_counted<R: Threads + Sync, G: Gate, L: Ledger>(
+    rt: &R,
+    gate: &G,
+    desks: &mut Desks,
+    steps: &mut Steps<L>,
+) -> Climbed
+    requires ready { AreReady desks.old }
+    requires plan { IsSome (desk_zero desks.old).net.plan }
+    requires closed { (desk_zero desks.old).before ≡ None }
+    requires few { length desks.old ≤ 8 }
+    requires room { (desk_zero desks.old).work ≤ 2 ^ 60 }
+    ensures took { result.took ≡ length (climb_of (desk_zero desks.old).net).steps }
+    ensures looked { result.looked ≡ length (climb_of (desk_zero desks.old).net).looks }
+    ensures local { result.local ≡ (climb_of (desk_zero desks.old).net).local }
+    ensures net { (desk_zero desks.new).net ≡ (climb_of (desk_zero desks.old).net).net }
+    ensures steps { length desks.old ≡ 1
+        → steps.new ≡ steps.old + work_of (climb_of (desk_zero desks.old).net).looks }
+{
+    let mut climber = start_climber(desks.session().net());
+    count_steps(rt, gate, desks, &mut climber, steps)
+}
+
+/// Writes the line of a climb, which led to this index.
+fn print_brief<K: Sink>(
+    before: Before,
+    climbed: Climbed,
+    to: u128,
+    line: &mut LineBuffer,
+    sink: &mut K,
+) -> Result<(), Failed>
+    ensures { PrintsOn K.written K.faults sink.old sink.new result
+        (form_line (brief_form climbed.local) (before.nodes ∷ before.links ∷ before.index ∷ climbed.took
+        ∷ climbed.looked ∷ to ∷ [])) }
+{
+    let numbers = [
+        before.nodes as u128,
+        before.links as u128,
+        before.index,
+        u128::from(climbed.took),
+        u128::from(climbed.looked),
+        to,
+    ];
+    if climbed.local {
+        print_form(
+            b"BRIEF # # FROM # TOOK # LOCAL # TO #",
+            &numbers,
+            line,
+            sink,
+        )
+    } else {
+        print_form(
+            b"BRIEF # # FROM # TOOK # BUDGET # TO #",
+            &numbers,
+            line,
+            sink,
+        )
     }
 }
 
@@ -87,65 +172,10 @@ fn tell_climb<R: Threads + Sync, G: Gate, K: Sink, L: Ledger>(
     ensures steps { length desks.old ≡ 1
         → steps.new ≡ steps.old + work_of (climb_of (desk_zero desks.old).net).looks }
 {
-    let net = desks.session().net();
-    let (nodes, links) = (net.nodes().len(), net.links().len());
-    let from = desks.session().index();
-    let mut climber = start_climber(desks.session().net());
-    let climbed = count_steps(rt, gate, desks, &mut climber, steps);
-    let numbers = numbers_of(
-        nodes,
-        links,
-        from,
-        climbed,
-        climber.looked(),
-        desks.session(),
-    );
-    print_brief(climbed.local, &numbers, line, sink)
-}
-
-/// The numbers of the line, in its order: of nodes and links, the index before the climb, the steps and the looks, and
-/// the index now.
-fn numbers_of(
-    nodes: usize,
-    links: usize,
-    from: u128,
-    climbed: Climbed,
-    looked: u32,
-    session: &Session,
-) -> [u128; 6]
-    ensures { result ≡ nodes ∷ links ∷ from ∷ climbed.took ∷ looked ∷ index session.now.net ∷ [] }
-{
-    [
-        nodes as u128,
-        links as u128,
-        from,
-        u128::from(climbed.took),
-        u128::from(looked),
-        session.index(),
-    ]
-}
-
-/// Writes the line with these numbers.
-fn print_brief<K: Sink>(
-    local: bool,
-    numbers: &[u128],
-    line: &mut LineBuffer,
-    sink: &mut K,
-) -> Result<(), Failed>
-    requires { length numbers.now ≤ 6 }
-    ensures { PrintsOn K.written K.faults sink.old sink.new result
-        (form_line (brief_form local) numbers.now) }
-{
-    if local {
-        print_form(b"BRIEF # # FROM # TOOK # LOCAL # TO #", numbers, line, sink)
-    } else {
-        print_form(
-            b"BRIEF # # FROM # TOOK # BUDGET # TO #",
-            numbers,
-            line,
-            sink,
-        )
-    }
+    let before = before_climb(desks.session());
+    let climbed = climb_counted(rt, gate, desks, steps);
+    let to = desks.session().index();
+    print_brief(before, climbed, to, line, sink)
 }
 
 /// Climbs once on a network by its plan, with so many workers, and writes the line of it.
@@ -171,20 +201,16 @@ pub fn write_brief<R: Threads + Sync, G: Gate, K: Sink, L: Ledger>(
     ensures steps { workers ≡ 1 → OnOk result (steps.new ≡ steps.old + brief_steps net) }
     ensures some_steps { workers ≡ 1 → OnErr result (steps.new ≤ steps.old + brief_steps net) }
 {
+    let Ok(mut desks) = desks_of(alloc, net, workers, steps) else {
+        return Err(Stop::Memory);
+    };
     let Ok(mut line) = LineBuffer::open(alloc) else {
-        return Err(Stop::Memory);
-    };
-    let Ok(session) = Session::open(alloc, net, steps) else {
-        drop(line);
-        return Err(Stop::Memory);
-    };
-    let Ok(mut desks) = Desks::open(alloc, session, workers) else {
-        drop(line);
+        drop(desks);
         return Err(Stop::Memory);
     };
     let told = tell_climb(rt, gate, &mut desks, &mut line, sink, steps);
-    drop(desks);
     drop(line);
+    drop(desks);
     match told {
         Ok(()) => Ok(()),
         Err(Failed) => Err(Stop::Write),

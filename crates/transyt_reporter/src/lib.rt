@@ -7,6 +7,7 @@
 mod brief;
 mod climbing;
 mod laws;
+mod opening;
 mod reporter;
 mod running;
 mod saying;

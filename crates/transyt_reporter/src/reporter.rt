@@ -11,6 +11,7 @@ ghost use Rattle.transyt_answers.specs.Report.{InSession, text, ends, closing, r
 ghost use Rattle.transyt_answers.specs.Report.{deck_ends, deck_steps, run_of};
 ghost use Rattle.transyt_reporter.specs.Reporter.{HasAnswered, state_of, AreKept, new_reporter};
 
+use crate::opening::desks_of;
 use crate::saying::say;
 use std::alloc::{AllocError, Global};
 use std::marker::Model;
@@ -22,7 +23,6 @@ use transyt_cards::{CardReader, CardStop, Code, Progress};
 use transyt_desks::{Desks, Gate};
 use transyt_io::{Failed, LineBuffer, Sink};
 use transyt_running::{Ending, Stop};
-use transyt_session::Session;
 use transyt_steps::Steps;
 
 /// Answers the lines of a deck and, from END on, the commands over desks for so many workers.
@@ -66,8 +66,7 @@ fn open_desks<L: Ledger>(
     let Ok(net) = cards.finish() else {
         unreachable!()
     };
-    let session = Session::open(alloc, net, steps)?;
-    Desks::open(alloc, session, workers)
+    desks_of(alloc, net, workers, steps)
 }
 
 /// Answers a command: it is judged, and then said.

@@ -1,6 +1,6 @@
 -- Desks that were opened are ready.
-use Rattle.std.proofs.Common.{List, sym, ap, subst}
-use Rattle.transyt_session.specs.Session.{SessionValue}
+use Rattle.std.proofs.Common.{List, refl, sym, subst}
+use Rattle.transyt_session.specs.Session.{SessionValue, opened}
 use Rattle.transyt_reporter.specs.Conditions.{AreReady}
 use Rattle.transyt_reporter.proofs.ReadyLaws.{ready_opened}
 use Rattle.transyt_reporter.proofs.brief.write_brief.Goals as goal
@@ -9,6 +9,4 @@ use Rattle.transyt_reporter.proofs.brief.write_brief.Goals as goal
 pub tell_climb-told-requires-clause-ready : goal.tell_climb-told-requires-clause-ready
 tell_climb-told-requires-clause-ready g c κs within =
     let P : List SessionValue → Type 0 = λ desks. AreReady desks in
-    subst P (sym c.in-Ok-open-2.ensures)
-    (ready_opened c.in-Ok-open.session c.args.workers
-    (ap (λ (s : SessionValue). s.before) c.in-Ok-open.ensures.value))
+    subst P (sym c.in-Ok.ensures.value) (ready_opened (opened c.args.net) c.args.workers refl)
