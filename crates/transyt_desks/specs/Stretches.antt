@@ -47,8 +47,8 @@ work_before net place count zero = 0
 work_before net place count (suc n) =
     work_before net place count n + edit_work net (move net (place_at place count n))
 
--- what was found of a network's moves with the numbers from one to before another, in the list's order up to the first that
--- lowers the index
+-- the moves of a network with the numbers from one to before another, tried in the list's order up to the first that lowers
+-- the index
 pub record IsStretch (net : Network) (place count from to : ℕ) (s : Stretch) : Type 0 where
   pub inside : from + s.passed ≤ to
   pub passes : (k : ℕ) → from ≤ k → k < from + s.passed → lowers net (place_at place count k) ≡ false

@@ -13,7 +13,7 @@ use crate::stretch::{Reach, Stretch, bound, joined, try_stretch, untried};
 use std::thread::{self, Threads};
 use transyt_session::Session;
 
-/// A session, and what was found on the last stretch that was tried on it.
+/// A session, and the last stretch that was tried on it.
 #[derive(Drop)]
 pub(crate) struct Desk {
     pub(crate) session: Session,
@@ -56,7 +56,7 @@ fn try_all<R: Threads + Sync, G: Gate>(rt: &R, gate: &G, desks: &mut [Desk], rea
     );
 }
 
-/// What all desks found, as one stretch: up to the first move in the list's order that lowers the index.
+/// The stretches of all desks as one, up to the first move in the list's order that lowers the index.
 fn join(desks: &[Desk], reach: Reach) -> Stretch
     requires reach { IsReach reach }
     requires tried { AreTried reach desks.now }
@@ -73,7 +73,8 @@ fn join(desks: &[Desk], reach: Reach) -> Stretch
     whole
 }
 
-/// What the desks, which stand for one network, find of the moves of a reach. Each tries a stretch, all at once.
+/// Tries the moves of a reach at desks that stand for one network, a stretch at each and all at once, up to the first
+/// move that lowers the index.
 pub(crate) fn try_reach<R: Threads + Sync, G: Gate>(
     rt: &R,
     gate: &G,
