@@ -6,7 +6,7 @@ use Rattle.transyt_whole.specs.declared.line.ScanLine.TheVariants as said
 use Rattle.transyt_whole.specs.declared.line.Climbed.{Climbed}
 use Rattle.transyt_whole.specs.Answer.{AnswerValue, done}
 use Rattle.transyt_net.specs.Parts.{Network}
-use Rattle.transyt_scan.specs.declared.asked.CycleTimes.{CycleTimes}
+use Rattle.transyt_climbs.specs.declared.times.CycleTimes.{CycleTimes}
 use Rattle.transyt_scan.specs.declared.row.ScanRow.{ScanRow}
 use Rattle.transyt_scan.specs.Rows.{table}
 use Rattle.transyt_scan.specs.Best.{best}

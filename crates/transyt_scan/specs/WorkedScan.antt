@@ -1,13 +1,14 @@
 -- Worked climbs over cycle times.
-use Rattle.std.specs.Prelude.{ℕ, Bool, true, false, List, [], ◌∷◌, Option, Some}
+use Rattle.std.specs.Prelude.{ℕ, Bool, true, false, List, [], ◌∷◌, Option}
 use Rattle.transyt_parts.specs.Parts.{PlanValue}
-use Rattle.transyt_parts.specs.Made.{new_stage, new_link, new_plan}
-use Rattle.transyt_net.specs.Parts.{Network}
+use Rattle.transyt_net.specs.Parts.{Network, with_cycle}
 use Rattle.transyt_climb.specs.WorkedTurns.{idle}
-use Rattle.transyt_scan.specs.declared.asked.CycleTimes.{CycleTimes}
+use Rattle.transyt_climbs.specs.declared.times.CycleTimes.{CycleTimes}
+use Rattle.transyt_climbs.specs.Times.{times_of}
+use Rattle.transyt_climbs.specs.WorkedClimbs.{junction}
 use Rattle.transyt_scan.specs.declared.asked.ScanWord.{ScanWord}
 use Rattle.transyt_scan.specs.declared.row.ScanRow.{ScanRow}
-use Rattle.transyt_scan.specs.Rows.{asking, times_of}
+use Rattle.transyt_scan.specs.Rows.{asking}
 
 -- from 44 to 51 seconds by 7, which meets the highest
 abbrev pub from_44 : CycleTimes
@@ -21,15 +22,9 @@ idle_with plan = record idle { plan = plan }
 abbrev pub stayed : ℕ → Bool → ℕ → ScanRow
 stayed cycle local looked = record { cycle = cycle; from = 0; took = 0; local = local; looked = looked; to = 0 }
 
--- a junction with one link, which runs in its second stage, by its cycle time, its offset and its first change; its
--- climb plan has three looks, of which the third lowers the index
-abbrev pub junction : ℕ → ℕ → ℕ → Network
-junction cycle offset change = record {
-  frame = record { cycle = cycle; step_count = 18; sweeps = 3; period = 45; stop_penalty = 37; dispersion = 40 };
-  nodes = record { number = 7; offset = offset; stages = new_stage change 1 3 ∷ new_stage 9 2 4 ∷ [] } ∷ [];
-  links = new_link 8 7 431 1733 3 2 1 2 (2 ∷ []) ∷ [];
-  plan = Some (new_plan 3 (2 ∷ []));
-}
+-- a junction with one link at 61 seconds; of the three looks of its climb plan the third lowers the index
+abbrev pub junction_at_61 : Network
+junction_at_61 = with_cycle (junction 16) 61
 
 -- a climb at a cycle time
 abbrev pub climbed_at : ℕ → ℕ → ℕ → Bool → ℕ → ℕ → ScanRow

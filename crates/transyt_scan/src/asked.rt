@@ -1,18 +1,11 @@
 //! The cycle times and workers that the word asks for.
 
-ghost use Rattle.std.specs.Prelude.{◌≡◌, ◌≤◌, IfSome};
+ghost use Rattle.std.specs.Prelude.{◌≡◌, IfSome};
 ghost use Rattle.transyt_scan.specs.Rows.{IsScan, scan_of};
 
-/// Cycle times from `low` to `high` by the step `by`, all in seconds.
-#[derive(Clone, Copy, Debug, PartialEq, Eq, Drop)]
-pub struct CycleTimes {
-    /// The lowest, at least 30.
-    pub low: u32,
-    /// The highest that there may be, at most 240.
-    pub high: u32,
-    /// From each to the next, 1 to 210.
-    pub by: u32,
-}
+use std::alloc::{AllocError, Global};
+use transyt_climbs::{CycleTimes, Planned, Plans};
+use transyt_net::Net;
 
 /// Climbs over cycle times, with so many workers.
 #[derive(Clone, Copy, Debug, PartialEq, Eq, Drop)]
@@ -30,19 +23,35 @@ impl ScanWord {
         ensures value { result ≡ scan_of workers low high by }
         ensures within { IfSome result IsScan }
     {
-        let fits = 1 <= workers
-            && workers <= 8
-            && 30 <= low
-            && low <= high
-            && high <= 240
-            && 1 <= by
-            && by <= 210;
-        if !fits {
+        if workers < 1 || workers > 8 {
             return None;
         }
-        Some(ScanWord {
-            workers,
-            times: CycleTimes { low, high, by },
-        })
+        let times = CycleTimes::new(low, high, by)?;
+        Some(ScanWord { workers, times })
+    }
+}
+
+impl Plans for ScanWord {
+    ghost use Rattle.transyt_scan.specs.Rows.{IsScan, listed};
+
+    ghost fits = { IsScan };
+
+    ghost list = { λ self. listed self.times };
+
+    fn workers(&self) -> usize {
+        self.workers as usize
+    }
+
+    fn count(&self) -> usize {
+        self.times.count()
+    }
+
+    fn number(&self, place: usize) -> u32 {
+        self.times.at(place)
+    }
+
+    fn plan(&self, alloc: Global, net: &Net, place: usize) -> Result<Planned, AllocError> {
+        let net = net.with_cycle(alloc, self.times.at(place))?;
+        Ok(Planned::Plan(net))
     }
 }

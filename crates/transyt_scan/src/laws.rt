@@ -6,17 +6,15 @@ ghost use Rattle.transyt_climb.specs.WorkedTurns.{idle};
 ghost use Rattle.transyt_whole.specs.declared.line.AnswerLine.TheVariants as line;
 ghost use Rattle.transyt_whole.specs.declared.line.ScanLine.TheVariants as said;
 ghost use Rattle.transyt_whole.specs.Answer.{done};
-ghost use Rattle.transyt_scan.specs.Rows.{cycles, row_at, scan_of, table, times_of};
+ghost use Rattle.transyt_scan.specs.Rows.{row_at, scan_of, table};
 ghost use Rattle.transyt_scan.specs.Best.{IsLeast, best};
 ghost use Rattle.transyt_scan.specs.Scan.{row_line, scan_answer, table_lines, told};
-ghost use Rattle.transyt_scan.specs.WorkedScan.{from_44, idle_with, in_range, junction, out_of_range, stayed};
+ghost use Rattle.transyt_scan.specs.WorkedScan.{from_44, idle_with, in_range, junction_at_61, out_of_range, stayed};
 ghost use Rattle.transyt_scan.specs.WorkedScan.{climbed_at, three_rows};
 
-/// Worked cycle times, what may be asked for (each number at its limits, and one past them), rows where no move lowers
+/// What may be asked for (each number at its limits, and one past them), rows where no move lowers
 /// the index, the lines of a table and an answer.
 pub fn worked_scan()
-    ensures missed { cycles (times_of 60 120 17) ≡ 60 ∷ 77 ∷ 94 ∷ 111 ∷ [] }
-    ensures met { cycles from_44 ≡ 44 ∷ 51 ∷ [] }
     ensures within { map (λ a. scan_of a.workers a.times.low a.times.high a.times.by) in_range ≡ map Some in_range }
     ensures beyond { map (λ a. scan_of a.workers a.times.low a.times.high a.times.by) out_of_range
         ≡ map (λ _. None) out_of_range }
@@ -33,9 +31,8 @@ pub fn worked_scan()
 
 /// The row of a junction with a link at another cycle time than its own: its third move lowers the index, by what it is
 /// at that cycle time.
-#[tactic(auto, using(crate::proofs::WorkedRow::row_at_90))]
 pub fn worked_row()
-    ensures { row_at (junction 61 5 16) 90 ≡ climbed_at 90 13935199 1 false 3 8632377 }
+    ensures { row_at junction_at_61 90 ≡ climbed_at 90 13935199 1 false 3 8632377 }
 {}
 
 /// The best of the worked rows stands at place 1; the row at place 2 is as good, and comes after it.

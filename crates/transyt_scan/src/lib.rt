@@ -2,9 +2,7 @@
 //!
 //! For each cycle time from a lowest to a highest by a step, the deck's network with that cycle is climbed once by its
 //! own climb plan, and all else of it stays: offsets and changes are in steps. [`scan`] makes the table of the climbs, a
-//! row each, and [`least`] finds the best. The cycle times are parted among workers by std's fork and join; each has a
-//! network, a session and a counter of steps of its own, which its branch makes between entering and leaving a
-//! [`Bench`]. All of this is this project's own.
+//! row each, by the climbs at once of `transyt_climbs`, and [`least`] finds the best. All of this is this project's own.
 //!
 //! `table` of `specs/Rows` is the table of a network. It names no number of workers, so it is the same for all of them.
 //! [`answer_scan`] is the run of the word over a whole input, by `scan_answer` of `specs/Scan`. That two climbs are under
@@ -12,20 +10,18 @@
 #![tactic(auto)]
 
 mod asked;
-mod bench;
 mod best;
-mod climbing;
 mod laws;
 mod row;
 mod scanning;
 mod word;
 
-pub use asked::{CycleTimes, ScanWord};
-pub use bench::{Bench, IdleBench};
+pub use asked::ScanWord;
 pub use best::least;
 pub use laws::{worked_best, worked_row, worked_scan};
 pub use row::ScanRow;
 pub use scanning::scan;
+pub use transyt_climbs::{Bench, CycleTimes, IdleBench};
 pub use word::{answer_scan, scan_deck};
 
 #[cfg(test)]

@@ -9,13 +9,13 @@ ghost use Rattle.transyt_words.specs.AfterDeck.{answer_after};
 ghost use Rattle.transyt_scan.specs.Rows.{IsScan, table};
 ghost use Rattle.transyt_scan.specs.Scan.{told, table_lines, scan_answer};
 
-use crate::asked::{CycleTimes, ScanWord};
-use crate::bench::Bench;
+use crate::asked::ScanWord;
 use crate::best::least;
 use crate::row::ScanRow;
 use crate::scanning::scan;
 use std::alloc::{AllocError, Global};
 use std::thread::Threads;
+use transyt_climbs::{Bench, CycleTimes};
 use transyt_deck::{CardStop, cut_deck};
 use transyt_io::{Intake, LineBuffer, Sink, Source};
 use transyt_net::Net;
