@@ -146,8 +146,10 @@ for name in sorted(os.listdir(examples)):
 # the certificate stands in its deck, after END, as the answer to CERT
 cards, end, certificate = read('certificate.deck').partition('\nEND\n')
 check('certificate.deck', cards + end + 'CERT\n', 'ACCEPTED\n' + certificate)
-for name, word in (('equisat', 'equisat'), ('counts', 'counts'), ('certificate', 'audit'), ('changed', 'audit')):
-    twin(f'{name}.deck', [word], read(f'{name}.deck'), read(f'{name}.report'))
+for name, asked in (('equisat', 'equisat'), ('counts', 'counts'), ('certificate', 'audit'), ('changed', 'audit'),
+                    ('cycles', 'cycles 4 60 120 10')):
+    if os.path.exists(os.path.join(examples, name + '.report')):
+        twin(f'{name}.deck', asked.split(), read(f'{name}.deck'), read(f'{name}.report'))
 if os.path.exists(program):
     random.seed(int(seed))
     for word, most in (('make', 200), ('brief', 2)):

@@ -56,7 +56,7 @@ class Town:
 
 def own(town, l):
     """The own data of a link: [Due]."""
-    link, number = town.links[l], lambda *name: town.numbers[name]
+    link, number = town.links[l], lambda *name: list(town.numbers[name])
     feeds = [(number('PART', l, f), number('CRUISE', l, f), town.flow(f)) for f, *_ in link['FEED']]
     node = link['node']
     return number('ENTRY', l), number('SATURATION', l), town.offset(node), town.changes(node), feeds
