@@ -18,6 +18,7 @@ use Rattle.transyt_words.specs.Audit.{audit_answer}
 use Rattle.transyt_words.specs.Counts.{counts_answer}
 use Rattle.transyt_words.specs.Equisat.{equisat_answer}
 use Rattle.transyt_scan.specs.Scan.{scan_answer}
+use Rattle.transyt_plans.specs.Plans.{cycles_answer, starts_answer}
 use Rattle.transyt.specs.declared.word.Word.{Word}
 use Rattle.transyt.specs.declared.word.Word.TheVariants as w
 use Rattle.transyt.specs.Tasks.{Task, Reads, Writes, task, TextRow, TaskOutcome, TaskHeadline, TaskComplete}
@@ -37,6 +38,8 @@ word_settled w.Counts = whole_settled (answer_after counts_answer)
 word_settled w.Equisat = whole_settled (answer_after equisat_answer)
 word_settled w.Audit = whole_settled (answer_after audit_answer)
 word_settled (w.Scan asked) = whole_settled (answer_after (scan_answer asked.times))
+word_settled (w.Cycles asked) = whole_settled (answer_after (cycles_answer asked.times))
+word_settled (w.Starts asked) = whole_settled (answer_after (starts_answer asked.seed asked.count))
 
 -- a text with no fault and no want of memory was written
 text_done : (text out : List ℕ) (status : Status) → TextRow text out status → status ≢ NoMemory
@@ -86,6 +89,8 @@ run_headline w.Counts run told = absurd run
 run_headline w.Equisat run told = absurd run
 run_headline w.Audit run told = absurd run
 run_headline (w.Scan asked) run told = absurd run
+run_headline (w.Cycles asked) run told = absurd run
+run_headline (w.Starts asked) run told = absurd run
 
 -- what takes no step by its cut takes none
 most_none : (input : List ℕ) (cut : Result Cut CardStop) → most_of_cut (λ net line table. 0) input cut ≡ 0

@@ -18,6 +18,7 @@ use Rattle.transyt_words.specs.Audit.{audit_answer, audit_most}
 use Rattle.transyt_words.specs.Counts.{counts_answer}
 use Rattle.transyt_words.specs.Equisat.{equisat_answer}
 use Rattle.transyt_scan.specs.Scan.{scan_answer}
+use Rattle.transyt_plans.specs.Plans.{cycles_answer, starts_answer}
 use Rattle.transyt.specs.declared.word.Word.{Word}
 use Rattle.transyt.specs.declared.word.Word.TheVariants as w
 use Rattle.transyt.specs.Words.{word_of}
@@ -36,6 +37,8 @@ task w.Counts = Reads (of_whole (answer_after counts_answer))
 task w.Equisat = Reads (of_whole (answer_after equisat_answer))
 task w.Audit = Reads (of_whole (answer_after audit_answer))
 task (w.Scan asked) = Reads (of_whole (answer_after (scan_answer asked.times)))
+task (w.Cycles asked) = Reads (of_whole (answer_after (cycles_answer asked.times)))
+task (w.Starts asked) = Reads (of_whole (answer_after (starts_answer asked.seed asked.count)))
 
 -- what words ask for; none where they are none that the program takes
 abbrev pub task_of : List (List ℕ) → Option Task
@@ -96,8 +99,8 @@ abbrev pub TextSteps : ℕ → ℕ → ℕ → Status → Type 0
 TextSteps cost steps steps_new Done = steps_new ≡ steps + cost
 TextSteps cost steps steps_new status = steps_new ≤ steps + cost
 
--- the steps of a word, where all are counted: with one worker; of `audit` at most; of `scan` none, since each climb
--- counts on a counter of its own
+-- the steps of a word, where all are counted: with one worker; of `audit` at most; of `scan`, `cycles` and `starts`
+-- none, since each climb counts on a counter of its own
 abbrev pub WordSteps : Word → Option (List ℕ) → Option (List ℕ) → ℕ → ℕ → Status → Type 0
 WordSteps (w.Run workers) left left_new steps steps_new status =
     workers ≡ 1 → StepsTaken deck_answering left left_new steps steps_new status
@@ -109,3 +112,5 @@ WordSteps w.Equisat left left_new steps steps_new status = steps_new ≡ steps
 WordSteps w.Audit left left_new steps steps_new status =
     StepsWithin (most_after audit_most) left left_new steps steps_new
 WordSteps (w.Scan asked) left left_new steps steps_new status = steps_new ≡ steps
+WordSteps (w.Cycles asked) left left_new steps steps_new status = steps_new ≡ steps
+WordSteps (w.Starts asked) left left_new steps steps_new status = steps_new ≡ steps

@@ -4,6 +4,7 @@ use Rattle.std.specs.Option.{option_map, option_and_then}
 use Rattle.std.specs.Str.{bytes_eq}
 use Rattle.transyt_num.specs.Number.{number_of}
 use Rattle.transyt_scan.specs.Rows.{IsScan, scan_of}
+use Rattle.transyt_plans.specs.Asked.{IsCycles, IsStarts, cycles_of, starts_of}
 use Rattle.transyt.specs.declared.word.Word.{Word}
 use Rattle.transyt.specs.declared.word.Word.TheVariants as w
 
@@ -32,6 +33,8 @@ IsWord w.Counts = Unit {0}
 IsWord w.Equisat = Unit {0}
 IsWord w.Audit = Unit {0}
 IsWord (w.Scan asked) = IsScan asked
+IsWord (w.Cycles asked) = IsCycles asked
+IsWord (w.Starts asked) = IsStarts asked
 
 -- a word that stands alone
 abbrev pub alone : Word → List (List ℕ) → Option Word
@@ -73,6 +76,27 @@ scan_word (workers ∷ low ∷ high ∷ by ∷ []) =
     scan_by (workers_of workers) (number_of low) (number_of high) (number_of by)
 scan_word _ = None
 
+-- what these numbers ask `cycles` for
+abbrev pub cycles_by : Option ℕ → Option ℕ → Option ℕ → Option ℕ → Option Word
+cycles_by (Some workers) (Some low) (Some high) (Some by) = option_map w.Cycles (cycles_of workers low high by)
+cycles_by _ _ _ _ = None
+
+-- `cycles w low high by`
+abbrev pub cycles_word : List (List ℕ) → Option Word
+cycles_word (workers ∷ low ∷ high ∷ by ∷ []) =
+    cycles_by (workers_of workers) (number_of low) (number_of high) (number_of by)
+cycles_word _ = None
+
+-- what these numbers ask `starts` for
+abbrev pub starts_by : Option ℕ → Option ℕ → Option ℕ → Option Word
+starts_by (Some workers) (Some seed) (Some count) = option_map w.Starts (starts_of workers seed count)
+starts_by _ _ _ = None
+
+-- `starts w seed count`
+abbrev pub starts_word : List (List ℕ) → Option Word
+starts_word (workers ∷ seed ∷ count ∷ []) = starts_by (workers_of workers) (number_of seed) (number_of count)
+starts_word _ = None
+
 -- what words ask for; none where they are none that the program takes
 abbrev pub word_of : List (List ℕ) → Option Word
 word_of [] = None
@@ -83,5 +107,7 @@ word_of (name ∷ rest) =
     else if bytes_eq name (codes "counts") then alone w.Counts rest
     else if bytes_eq name (codes "equisat") then alone w.Equisat rest
     else if bytes_eq name (codes "scan") then scan_word rest
+    else if bytes_eq name (codes "cycles") then cycles_word rest
+    else if bytes_eq name (codes "starts") then starts_word rest
     else if bytes_eq name (codes "audit") then alone w.Audit rest
     else None

@@ -47,7 +47,12 @@ These words are none that the program takes. It takes:
   make SEED NODES        writes the deck of a network of so many nodes
   counts                 reads a deck and a table of counts, and writes commands for run
   equisat                reads a deck, and writes for each node the greens that its links saturate alike
-  scan W LOW HIGH BY     reads a deck, climbs at each cycle time from LOW to HIGH seconds, and tells the best
+  cycles W LOW HIGH BY   reads a deck, climbs at each cycle time from LOW to HIGH seconds, and writes the best as a deck
+  starts W SEED COUNT    reads a deck, climbs from COUNT starts with drawn offsets, and writes the best as a deck
+  scan W LOW HIGH BY     reads a deck, climbs at each cycle time with the deck's own steps, and tells the best
   audit                  reads a deck and its certificate, and tells whether it holds
 
-  W workers, 1 to 8, climb at once (1 if left out); SEED is at most 999999999, NODES 1 to 200.";
+  cycles keeps seconds: intergreens and least greens last as long in every cycle, and so there are more steps in a longer
+  one. scan keeps steps: they are as many in every cycle, so intergreens last longer in a longer one.
+
+  W workers, 1 to 8, climb at once (1 if left out); SEED is at most 999999999, NODES 1 to 200, COUNT 1 to 1000.";

@@ -14,6 +14,7 @@ use std::sync::ledger::Ledger;
 use std::thread::Threads;
 use transyt_desks::Gate;
 use transyt_io::{Sink, Source};
+use transyt_plans::{answer_cycles, answer_starts};
 use transyt_reporter::run_deck;
 use transyt_running::Status;
 use transyt_scan::{IdleBench, answer_scan};
@@ -51,6 +52,8 @@ fn answer_word<R: Threads + Sync, S: Source, K: Sink, G: Gate, L: Ledger>(
         Word::Equisat => answer_whole(alloc, &AfterDeck { word: EquisatWord }, source, sink, steps),
         Word::Audit => answer_whole(alloc, &AfterDeck { word: AuditWord }, source, sink, steps),
         Word::Scan { asked } => answer_scan(rt, alloc, asked, &IdleBench, source, sink),
+        Word::Cycles { asked } => answer_cycles(rt, alloc, asked, source, sink),
+        Word::Starts { asked } => answer_starts(rt, alloc, asked, source, sink),
     }
 }
 
@@ -62,11 +65,14 @@ fn answer_word<R: Threads + Sync, S: Source, K: Sink, G: Gate, L: Ledger>(
 /// - `counts` turns a table of counts after a deck into commands;
 /// - `equisat` writes greens of equal saturation for each node of a deck;
 /// - `audit` tells whether the lines after a deck prove that no listed move lowers its index;
-/// - `scan w low high by` climbs on a deck at the cycle times low, low + by and so on up to high, with w workers.
+/// - `scan w low high by` climbs on a deck at the cycle times low, low + by and so on up to high, with w workers;
+/// - `cycles w low high by` does so with steps as many seconds long as the deck's, and writes the deck of the best;
+/// - `starts w seed count` climbs on a deck from so many starts, whose offsets are drawn from the seed, with w workers, and
+///   writes the deck of the best.
 ///
 /// What is written is the same for every number of workers. `run` answers each line of the input before the next is
-/// read, and each step of a climb is written before the next look; `counts`, `equisat`, `audit` and `scan` take their
-/// input whole. All memory is taken before the first line is written.
+/// read, and each step of a climb is written before the next look; the words after it that read an input take
+/// it whole. All memory is taken before the first line is written.
 pub fn transyt<R: Threads + Sync, S: Source, K: Sink, G: Gate, L: Ledger>(
     rt: &R,
     alloc: Global,

@@ -2,9 +2,10 @@
 ghost use Rattle.std.specs.Prelude.{◌≡◌, ◌≤◌, ◌<◌, IfSome, map, string_bytes};
 ghost use Rattle.transyt_num.specs.Number.{number_of};
 ghost use Rattle.transyt.specs.Words.{within, workers_of, nodes_of, alone, run_word, make_word, brief_by, brief_word};
-ghost use Rattle.transyt.specs.Words.{scan_word, word_of, IsWord};
+ghost use Rattle.transyt.specs.Words.{scan_word, cycles_word, starts_word, word_of, IsWord};
 
 use transyt_num::read_number;
+use transyt_plans::{CyclesWord, StartsWord};
 use transyt_scan::ScanWord;
 
 /// What words ask for.
@@ -37,10 +38,20 @@ pub(crate) enum Word {
     Equisat,
     /// Whether the lines after a deck prove that no listed move lowers its index.
     Audit,
-    /// Climbs of a deck over cycle times.
+    /// Climbs of a deck over cycle times, with as many steps as the deck has.
     Scan {
         /// The cycle times, and how many workers climb.
         asked: ScanWord,
+    },
+    /// Climbs of a deck over cycle times, with steps as long as the deck's.
+    Cycles {
+        /// The cycle times, and how many workers climb.
+        asked: CyclesWord,
+    },
+    /// Climbs of a deck from starts with drawn offsets.
+    Starts {
+        /// The seed, how many starts there are, and how many workers climb.
+        asked: StartsWord,
     },
 }
 
@@ -161,6 +172,37 @@ fn scan_word(rest: &[String]) -> Option<Word>
     Some(Word::Scan { asked })
 }
 
+/// `cycles w low high by`.
+fn cycles_word(rest: &[String]) -> Option<Word>
+    ensures word { result ≡ cycles_word (map string_bytes rest.now) }
+    ensures within { IfSome result IsWord }
+{
+    let [workers, low, high, by] = rest else {
+        return None;
+    };
+    let workers = workers_of(workers.as_bytes())?;
+    let low = read_number(low.as_bytes())?;
+    let high = read_number(high.as_bytes())?;
+    let by = read_number(by.as_bytes())?;
+    let asked = CyclesWord::new(workers, low, high, by)?;
+    Some(Word::Cycles { asked })
+}
+
+/// `starts w seed count`.
+fn starts_word(rest: &[String]) -> Option<Word>
+    ensures word { result ≡ starts_word (map string_bytes rest.now) }
+    ensures within { IfSome result IsWord }
+{
+    let [workers, seed, count] = rest else {
+        return None;
+    };
+    let workers = workers_of(workers.as_bytes())?;
+    let seed = read_number(seed.as_bytes())?;
+    let count = read_number(count.as_bytes())?;
+    let asked = StartsWord::new(workers, seed, count)?;
+    Some(Word::Starts { asked })
+}
+
 /// What words ask for; none where they are none that the program takes. It takes no memory.
 pub(crate) fn word_of(words: &[String]) -> Option<Word>
     ensures word { result ≡ word_of (map string_bytes words.now) }
@@ -176,6 +218,8 @@ pub(crate) fn word_of(words: &[String]) -> Option<Word>
         b"counts" => alone(Word::Counts, rest),
         b"equisat" => alone(Word::Equisat, rest),
         b"scan" => scan_word(rest),
+        b"cycles" => cycles_word(rest),
+        b"starts" => starts_word(rest),
         b"audit" => alone(Word::Audit, rest),
         _ => None,
     }
