@@ -63,16 +63,25 @@ def check_same_demand(one, other):
         raise Refusal("the two decks differ in links, flows, saturation flows or feeds, and so can't share their cars")
 
 
+def write_all_cars(deck, headway, folder, seeds):
+    """Writes the cars of each seed, and tells how many they are together."""
+    count = 0
+    for seed in seeds:
+        cars = draw_cars(deck, seed, SECONDS)
+        count += len(cars)
+        write_cars(deck, cars, headway, os.path.join(folder, f"cars-{seed}.rou.xml"))
+    return count
+
+
 def drive_plans(plans, folder, seeds, jobs):
-    """Drives each plan with each seed's cars, some runs at once, and adds the measures to the plans."""
+    """Drives each plan with each seed's cars, some runs at once; adds the measures to the plans, and tells of the cars.
+
+    What is told is how many seconds a car stays behind the one ahead, and how many cars all seeds have.
+    """
     first = plans[0].deck
     net = build(first, folder)
     headway = calibrate(first, os.path.join(folder, "calibration"))
-    counts = []
-    for seed in seeds:
-        cars = draw_cars(first, seed, SECONDS)
-        counts.append(len(cars))
-        write_cars(first, cars, headway, os.path.join(folder, f"cars-{seed}.rou.xml"))
+    count = write_all_cars(first, headway, folder, seeds)
     runs = []
     for place, plan in enumerate(plans):
         signals = f"plan{place}.add.xml"
@@ -82,7 +91,7 @@ def drive_plans(plans, folder, seeds, jobs):
     with ThreadPoolExecutor(jobs) as pool:
         for (plan, _), measures in zip(runs, pool.map(lambda asked: drive(asked[0].deck, net, asked[1]), runs)):
             plan.runs.append(measures)
-    return headway, sum(counts)
+    return headway, count
 
 
 def correlation(pairs):
@@ -162,6 +171,7 @@ def make_plans(program, words):
         deck, other = deck.without_rules(), other and other.without_rules()
     check_carried(deck)
     if other:
+        check_carried(other)
         check_same_demand(deck, other)
         names = [os.path.splitext(os.path.basename(path))[0] for path in (words.deck, words.against)]
     else:
@@ -188,13 +198,20 @@ def compare(words):
     return total_table(plans) + [""] + link_table(plans) + ["", end]
 
 
+def some(word):
+    """The number that a word tells, which is 1 or more."""
+    if not word.isdecimal() or int(word) == 0:
+        raise argparse.ArgumentTypeError(f"{word} is no number from 1 on")
+    return int(word)
+
+
 def read_words():
     """The words of the call."""
     words = argparse.ArgumentParser(description=__doc__.split("\n\n")[0])
     words.add_argument("deck", metavar="DECK")
     words.add_argument("--against", metavar="DECK", help="drive the plan of this deck instead of the climbed one")
-    words.add_argument("--seeds", type=int, default=3, choices=range(1, 101), metavar="N", help="how many seeds (3)")
-    words.add_argument("--jobs", type=int, default=2, choices=range(1, 65), metavar="N", help="runs at once (2)")
+    words.add_argument("--seeds", type=some, default=3, metavar="N", help="how many seeds (3)")
+    words.add_argument("--jobs", type=some, default=2, metavar="N", help="runs at once (2)")
     words.add_argument("--keep", metavar="DIR", help="leave the files of SUMO there")
     words.add_argument("--without-yield", action="store_true", help="leave the decks' give-way rules out")
     words.add_argument("--program", help="the built program, or the script transyt")

@@ -156,7 +156,7 @@ def read_roads(path, net):
 
 
 def read_waits(path):
-    """For each link's number the seconds of the hour that cars waited to enter on it, also of those that never could."""
+    """For each link's number the seconds of the hour that cars waited to enter on it, those that never could too."""
     waited = {}
     for trip in ElementTree.parse(path).getroot().iter("tripinfo"):
         number, depart = int(trip.get("id").split(".")[0]), float(trip.get("depart"))
