@@ -89,8 +89,10 @@ def drive_plans(plans, folder, seeds, jobs):
         cycle = plan.deck.frame.cycle
         runs += [(plan, Run(folder, cycle, signals, f"cars-{seed}.rou.xml", seed)) for seed in seeds]
     with ThreadPoolExecutor(jobs) as pool:
-        for (plan, _), measures in zip(runs, pool.map(lambda asked: drive(asked[0].deck, net, asked[1]), runs)):
+        driven = pool.map(lambda asked: drive(asked[0].deck, net, asked[1]), runs)
+        for done, ((plan, _), measures) in enumerate(zip(runs, driven), 1):
             plan.runs.append(measures)
+            print(f"{done} of {len(runs)} runs", file=sys.stderr)
     return headway, count
 
 
@@ -222,7 +224,7 @@ def main():
     """Reads the words and writes the table; 2 where that can't be done."""
     try:
         print("\n".join(compare(read_words())))
-    except Refusal as refusal:
+    except (Refusal, OSError) as refusal:
         print(f"compare.py: {refusal}", file=sys.stderr)
         return 2
     return 0

@@ -64,7 +64,7 @@ def main():
         deck = deck.with_plan(read_plan(words.plan)) if words.plan else deck
         deck = deck.without_rules() if words.without_yield else deck
         headway = write_town(program, deck, words.folder, words.seed)
-    except Refusal as refusal:
+    except (Refusal, OSError) as refusal:
         print(f"deck_to_sumo.py: {refusal}", file=sys.stderr)
         return 2
     print(f"the greens of all {len(deck.links)} links are the program's; cars stay {headway:.2f} s behind one another\n"

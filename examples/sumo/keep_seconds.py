@@ -44,7 +44,7 @@ def main():
         program = Program(words.program)
         deck = program.climb(program.balance(at_cycle(program.read(words.deck), words.cycle)))
         print(f"* CYCLE {words.cycle} INDEX {program.index(deck)}\n{print_deck(deck)}", end="")
-    except Refusal as refusal:
+    except (Refusal, OSError) as refusal:
         print(f"keep_seconds.py: {refusal}", file=sys.stderr)
         return 2
     return 0

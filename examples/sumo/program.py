@@ -37,15 +37,14 @@ class Program:
         self.path = path or (built if os.access(built, os.X_OK) else os.path.join(ROOT, "transyt"))
 
     def answer(self, words, text):
-        """What the program writes to an input, where it accepts all of it."""
+        """What the program writes to an input that it accepts whole; its standard error is passed on."""
         try:
-            done = subprocess.run([self.path, *words], input=text, capture_output=True, encoding="latin-1")
+            done = subprocess.run([self.path, *words], input=text, stdout=subprocess.PIPE, encoding="latin-1")
         except OSError as error:
             raise Refusal(f"the program {self.path} can't be started: {error.strerror}") from error
         refused = [line for line in done.stdout.splitlines() if "REFUSED" in line.split()]
         if done.returncode or refused:
-            said = " ".join(refused + done.stderr.splitlines()[-1:])
-            raise Refusal(f"the program ended with {done.returncode} and said: {said}")
+            raise Refusal(f"the program ended with {done.returncode}{''.join(': ' + line for line in refused[:1])}")
         return done.stdout
 
     def read(self, path):
