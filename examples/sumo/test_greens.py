@@ -64,6 +64,11 @@ class Go(unittest.TestCase):
         expected = tuple(1_000_000 if 3 <= step < 7 else 0 for step in range(20))
         self.assertEqual(expected_go(deck, deck.links[1]), expected)
 
+    def test_go_reckons_with_both_lags(self):
+        # shown at 8 to 20, which is 0: opened at 8, closed at 1
+        deck = read_deck(THREE_STAGES)
+        self.assertEqual(steps_of(expected_go(deck, deck.links[2])), [0, 1] + list(range(10, 20)))
+
     def test_go_of_the_stored_report(self):
         with open(os.path.join(ROOT, "examples", "arterial.deck")) as file:
             deck = read_deck(file.read())
