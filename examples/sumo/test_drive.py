@@ -1,0 +1,159 @@
+"""What SUMO wrote as it is read here, the saturation flow that is wanted, the table, and the seconds kept."""
+
+import functools
+import os
+import tempfile
+import unittest
+
+from calibrate import Green, headway_of, one_stop_line, usual_green
+from compare import Plan, check_same_demand, correlation, link_table, total_table
+from deck import Refusal, read_deck
+from drive import LinkMeasures, Measures, read_measures
+from keep_seconds import at_cycle
+from program import LinkFigures
+
+DECK = """CYCLE 60 30 1 60 0 0
+NODE 1 7
+STAGE 5 1 3
+STAGE 15 2 4
+LINK 11 1 600 3600 1 1 1 2 1
+LINK 12 1 300 1500 1 1 0 0 2
+LINK 13 1 300 1800 1 1 0 0 1 2
+STEPS 100 1 4
+END
+"""
+FILES = {
+    "roads.xml": """<meandata><interval begin="900" end="4500">
+        <edge id=":node1_0" timeLoss="100.0" left="590"/>
+        <edge id="link11" timeLoss="7000.0" left="600"/>
+        <edge id="out11" timeLoss="9.0" left="600"/>
+        <edge id="link12"/></interval></meandata>""",
+    "trips.xml": """<tripinfos>
+        <tripinfo id="11.0" depart="899.50" departDelay="50.0"/>
+        <tripinfo id="11.1" depart="910.00" departDelay="70.0"/>
+        <tripinfo id="11.2" depart="4530.00" departDelay="90.0"/>
+        <tripinfo id="11.3" depart="-1" departDelay="930.0"/>
+        <tripinfo id="12.7" depart="-1" departDelay="8.0"/></tripinfos>""",
+    "queues.xml": """<detector>
+        <interval begin="840" end="900" id="link11_0" maxJamLengthInVehicles="9"/>
+        <interval begin="900" end="960" id="link11_0" maxJamLengthInVehicles="4"/>
+        <interval begin="900" end="960" id="link11_1" maxJamLengthInVehicles="3"/>
+        <interval begin="960" end="1020" id="link11_0" maxJamLengthInVehicles="2"/>
+        <interval begin="960" end="1020" id="link11_1" maxJamLengthInVehicles="0"/></detector>""",
+    "statistics.xml": """<statistics><teleports total="0"/><safety collisions="3"/></statistics>""",
+}
+
+
+class Inside:
+    """A network with one way through a junction, from link 11."""
+
+    inside = {":node1_0": "link11"}
+
+
+class ReadMeasures(unittest.TestCase):
+    def setUp(self):
+        with tempfile.TemporaryDirectory() as folder:
+            for name, text in FILES.items():
+                with open(os.path.join(folder, name), "w") as file:
+                    file.write(text)
+            self.measures = read_measures(read_deck(DECK), Inside, folder)
+
+    def test_delay_is_lost_on_the_link_in_the_junction_and_before_entering(self):
+        self.assertEqual(self.measures.links[11].delay, 2)
+        self.assertEqual((self.measures.links[11].vehicles, self.measures.links[11].seconds), (600, 12))
+
+    def test_queue_is_the_mean_over_the_cycles(self):
+        self.assertEqual(self.measures.links[11].queue, 4.5)
+
+    def test_link_without_cars_has_nothing(self):
+        self.assertEqual(self.measures.links[12], LinkMeasures(0, 0, 0))
+        self.assertEqual(self.measures.links[12].seconds, 0)
+
+    def test_collisions_and_teleports(self):
+        self.assertEqual((self.measures.collisions, self.measures.teleports), (3, 0))
+
+
+class Calibration(unittest.TestCase):
+    def test_usual_green_is_weighed_by_flow(self):
+        # link 11 is shown for 9 steps and gains one, link 12 for 18; link 13 is never red
+        green = usual_green(read_deck(DECK))
+        self.assertEqual(green.shown, 12)
+        self.assertAlmostEqual(green.added, 2 / 3)
+        self.assertAlmostEqual(green.saturation, (600 * 1800 + 300 * 1500 + 300 * 1800) / 1200)
+
+    def test_cars_in_a_green(self):
+        self.assertAlmostEqual(Green(read_deck(DECK).frame, 21, 1, 1800).cars, 22)
+
+    def test_stop_line_has_the_green(self):
+        deck = one_stop_line(Green(read_deck(DECK).frame, 12, 0, 1750))
+        self.assertEqual(usual_green(deck).shown, 12)
+
+    def test_headway_lies_between_two_that_were_tried(self):
+        tried = []
+
+        def cars(headway):
+            tried.append(headway)
+            return 30 - 5 * headway
+
+        self.assertAlmostEqual(headway_of(functools.cache(cars), 21.5), 1.7)
+        self.assertEqual(tried, [1.4, 1.6, 1.8])
+        self.assertAlmostEqual(headway_of(cars, 23), 1.4)
+        self.assertAlmostEqual(headway_of(cars, 23.5), 1.3)
+
+    def test_out_of_reach_is_refused(self):
+        for wanted in (27, 10):
+            with self.assertRaisesRegex(Refusal, f"{wanted}.0 cars"):
+                headway_of(lambda headway: 30 - 5 * headway, wanted)
+
+
+class Tables(unittest.TestCase):
+    def plan(self, name, delay, driven):
+        deck = read_deck(DECK)
+        figures = {number: LinkFigures(deck.links[number].total_flow, delay * share, 2.0, ())
+                   for number, share in ((11, 0.5), (12, 0.25), (13, 0.25))}
+        runs = [Measures({11: LinkMeasures(600, part, 3), 12: LinkMeasures(300, part / 2, 4),
+                          13: LinkMeasures(0, 0, 0)}, 0, 0) for part in driven]
+        return Plan(name, deck, figures, 5_000_000, runs)
+
+    def test_totals(self):
+        lines = total_table([self.plan("before", 8, [4, 6]), self.plan("after", 6, [3, 3])])
+        self.assertIn("| delay by the program, vehicle-hours an hour | 8.00 | 6.00 | 0.750 |", lines)
+        ratio = "0.600, from 0.500 to 0.750 by seed"
+        self.assertIn(f"| delay in SUMO, vehicle-hours an hour | 7.50 | 4.50 | {ratio} |", lines)
+        self.assertIn("| SUMO / program | 0.94 | 0.75 |  |", lines)
+
+    def test_links(self):
+        lines = link_table([self.plan("before", 8, [4, 6]), self.plan("after", 6, [3, 3])])
+        self.assertIn("| 11 | 600 | 24.0 | 30.0 | 2.0 | 3.0 | 18.0 | 18.0 | 2.0 | 3.0 |", lines)
+        self.assertIn("| 13 | 300 | 24.0 | 0.0 | 2.0 | 0.0 | 18.0 | 0.0 | 2.0 | 0.0 |", lines)
+
+    def test_correlation(self):
+        self.assertAlmostEqual(correlation([(1, 2), (2, 4), (4, 8)]), 1)
+        self.assertIsNone(correlation([(1, 2), (1, 3)]))
+        self.assertIsNone(correlation([]))
+
+    def test_decks_of_other_flows_are_refused(self):
+        with self.assertRaisesRegex(Refusal, "differ"):
+            check_same_demand(read_deck(DECK), read_deck(DECK.replace("600 3600", "601 3600")))
+        check_same_demand(read_deck(DECK), read_deck(DECK.replace("CYCLE 60 30", "CYCLE 80 40")))
+
+
+class KeepSeconds(unittest.TestCase):
+    def test_stages_are_as_short_as_they_may_be(self):
+        # 40 steps of two seconds; the stages take at least 4 and 6, and stage 1 the 30 that are left over
+        deck = at_cycle(read_deck(DECK), 80)
+        self.assertEqual((deck.frame.cycle, deck.frame.step_count, deck.nodes[1].offset), (80, 40, 9))
+        self.assertEqual([stage.change for stage in deck.nodes[1].stages], [6, 0])
+        self.assertEqual([deck.nodes[1].length(place, 40) for place in (0, 1)], [34, 6])
+
+    def test_cycle_of_no_whole_steps_is_refused(self):
+        with self.assertRaisesRegex(Refusal, "whole number of steps"):
+            at_cycle(read_deck(DECK), 61)
+
+    def test_cycle_shorter_than_the_stages_is_refused(self):
+        with self.assertRaisesRegex(Refusal, "too short for .* node 1"):
+            at_cycle(read_deck(DECK.replace("STAGE 5 1 3", "STAGE 5 1 9")), 30)
+
+
+if __name__ == "__main__":
+    unittest.main()

@@ -1,0 +1,118 @@
+"""The map of a deck: refusals, lengths, lanes, places."""
+
+import math
+import unittest
+
+import layout
+from deck import Refusal, read_deck
+from roads import check_carried, draw_map, free_direction, lane_count, lane_pairs, mean_cruise, shape, Map, Road
+
+DECK = """CYCLE 60 30 1 60 0 0
+NODE 1 0
+STAGE 0 1 3
+STAGE 10 2 4
+NODE 2 0
+STAGE 0 1 3
+STAGE 10 2 4
+LINK 11 1 600 3600 1 1 0 0 1
+LINK 12 1 300 1500 1 1 0 0 2
+LINK 21 2 0 1800 1 1 0 0 1
+FEED 21 11 450 20
+FEED 21 12 150 24
+END
+"""
+
+
+class CheckCarried(unittest.TestCase):
+    def refused(self, old, new, sentence):
+        with self.assertRaisesRegex(Refusal, sentence):
+            check_carried(read_deck(DECK.replace(old, new)))
+
+    def test_plain_deck_is_carried_over(self):
+        self.assertIsNone(check_carried(read_deck(DECK)))
+
+    def test_give_way_rule(self):
+        self.refused("END\n", "YIELD 12 11 90\nEND\n", "link 12 gives way to link 11")
+
+    def test_feeders_at_two_nodes(self):
+        deck = DECK.replace("NODE 2 0", "NODE 3 0\nSTAGE 0 1 3\nSTAGE 10 2 4\nNODE 2 0")
+        deck = deck.replace("LINK 12 1", "LINK 12 3")
+        with self.assertRaisesRegex(Refusal, "link 21 is fed from the nodes 1, 3"):
+            check_carried(read_deck(deck))
+
+    def test_feeder_at_its_own_node(self):
+        self.refused("FEED 21 12", "FEED 21 21", "nodes 1, 2")
+        self.refused("FEED 21 11 450 20\nFEED 21 12", "FEED 21 21", "its own node 2")
+
+    def test_link_that_holds_no_queue(self):
+        self.refused("450 20\nFEED 21 12 150 24", "450 1\nFEED 21 12 150 2", "link 21 would be shorter")
+
+    def test_deck_without_traffic(self):
+        with self.assertRaisesRegex(Refusal, "no vehicle"):
+            check_carried(read_deck("CYCLE 60 30 1 60 0 0\nEND\n"))
+
+    def test_feed_without_flow_is_no_matter(self):
+        self.assertIsNone(check_carried(read_deck(DECK.replace("END\n", "FEED 12 21 0 20\nEND\n"))))
+
+
+class DrawMap(unittest.TestCase):
+    def setUp(self):
+        self.drawn = draw_map(read_deck(DECK))
+
+    def test_links_are_as_long_as_their_cruise_time(self):
+        self.assertEqual(mean_cruise(read_deck(DECK).links[21]), 21)
+        self.assertAlmostEqual(self.drawn.roads["link21"].length, 21 * 13.9)
+        self.assertEqual(self.drawn.roads["link11"].length, 500)
+
+    def test_nodes_are_as_far_apart_as_the_link_is_long(self):
+        self.assertAlmostEqual(math.dist(self.drawn.places["node1"], self.drawn.places["node2"]), 21 * 13.9, 3)
+
+    def test_turns(self):
+        self.assertEqual(sorted(self.drawn.turns), [("link11", "link21"), ("link11", "out11"), ("link12", "link21"),
+                                                    ("link12", "out12"), ("link21", "out21")])
+
+    def test_cars_leave_by_another_road_than_they_came(self):
+        self.assertNotEqual(self.drawn.roads["out11"].end, self.drawn.roads["link11"].start)
+        self.assertEqual((self.drawn.roads["out12"].start, self.drawn.roads["out12"].lanes), ("node1", 1))
+
+
+class Lanes(unittest.TestCase):
+    def test_a_lane_for_each_1800(self):
+        links = read_deck(DECK).links
+        self.assertEqual([lane_count(links[number]) for number in (11, 12, 21)], [2, 1, 1])
+
+    def test_lanes_side_by_side(self):
+        self.assertEqual(lane_pairs(2, 2), [(0, 0), (1, 1)])
+        self.assertEqual(lane_pairs(1, 2), [(0, 0), (0, 1)])
+        self.assertEqual(lane_pairs(3, 1), [(0, 0)])
+
+    def test_second_road_lies_to_the_right(self):
+        drawn = Map({"node1": (0, 0), "node2": (100, 0)})
+        self.assertEqual(shape(Road("link1", "node1", "node2", 1), drawn, 2), "0.0,-6.4 100.0,-6.4")
+
+
+class Directions(unittest.TestCase):
+    def test_first_road_comes_from_the_west(self):
+        self.assertEqual(free_direction([]), math.pi)
+
+    def test_straight_on_where_that_is_free(self):
+        self.assertAlmostEqual(free_direction([0.5]), 0.5 + math.pi)
+
+    def test_across_where_it_is_not(self):
+        self.assertAlmostEqual(free_direction([0, math.pi]), math.pi / 2)
+
+
+class Layout(unittest.TestCase):
+    def test_chain_is_a_straight_line(self):
+        at = layout.places({1: {2: 300}, 2: {1: 300, 3: 200}, 3: {2: 200}})
+        for node, x in ((1, 0), (2, 300), (3, 500)):
+            self.assertAlmostEqual(at[node][0], x, 3)
+            self.assertAlmostEqual(at[node][1], at[1][1], 3)
+
+    def test_parts_stand_apart(self):
+        at = layout.places({1: {2: 300}, 2: {1: 300}, 3: {}})
+        self.assertGreaterEqual(at[3][0] - max(at[1][0], at[2][0]), 999)
+
+
+if __name__ == "__main__":
+    unittest.main()
