@@ -1,20 +1,19 @@
 //! A program of one's own over these crates: it reads a deck, tries a thousand offsets, and prints the lowest index.
 //!
-//! It is here to be copied: a deck becomes a network and a session (`best_of`), and what each try tells is kept
+//! It is here to be copied: a deck becomes a network and a session (`Search`), and what each try tells is kept
 //! (`try_offsets`). docs/ARCHITECTURE.md, "To use a crate from a program of your own", goes through it.
 #![tactic(auto)]
 
-ghost use Rattle.std.specs.Prelude.{◌≡◌, ◌<◌, ◌≤◌, IfOk, None};
+ghost use Rattle.std.specs.Prelude.{◌≡◌, ◌≤◌, ⊤, IfOk, None};
 ghost use Rattle.transyt_sweep.specs.Sweeps.{index};
 
 use std::alloc::{AllocError, Global};
 use std::io;
-use std::marker::Brand;
-use std::sync::ledger::{Blank, Ledger};
+use std::sync::ledger::Ledger;
 use transyt_deck::{CardStop, cut_deck};
 use transyt_net::{Edit, Net};
 use transyt_session::{Session, Tried};
-use transyt_steps::Steps;
+use transyt_steps::{Counting, Steps, uncounted};
 
 /// How many bytes a deck may have.
 const MOST_BYTES: usize = 4_194_304;
@@ -35,25 +34,34 @@ fn main(rt: HostRuntime) -> io::Result<()> {
         }
         Err(CardStop::Memory) => return println!(rt; "There is not enough memory."),
     };
-    // the counter of steps is for those who count: here any will do, and `proofs/main` names it
-    match best_of::<Brand>(rt.alloc(), net, Blank::new(1)) {
+    let alloc = rt.alloc();
+    match uncounted(Search { alloc, net }) {
         Ok(best) => println!(rt; "BEST {best}"),
         Err(AllocError) => println!(rt; "There is not enough memory."),
     }
 }
 
-/// The lowest index that one offset of the network brings, of a thousand tried; its own where none brings a lower one.
-fn best_of<L: Ledger>(alloc: Global, net: Net, blank: Blank) -> Result<u128, AllocError>
-    requires name { blank.name ≡ L.name }
-    requires parts { blank.parts ≡ L.parts }
-    requires some { 0 < L.parts }
-    ensures { IfOk result (λ best. best ≤ index net) }
-{
-    let mut steps = Steps::<L>::begin(blank);
-    let mut session = Session::open(alloc, net, &mut steps)?;
-    let best = try_offsets(&mut session, &mut steps);
-    drop(session);
-    Ok(best)
+/// A search for the offset of a network that brings the lowest index, with the memory for its session.
+#[derive(Drop)]
+struct Search {
+    alloc: Global,
+    net: Net,
+}
+
+impl Counting for Search {
+    /// The lowest index that one offset brings, of a thousand tried; the network's own where none brings a lower one.
+    type Answer = Result<u128, AllocError>;
+
+    ghost needs = { λ search. ⊤ };
+
+    ghost gives = { λ search result. IfOk result (λ best. best ≤ index search.net) };
+
+    fn count_on<L: Ledger>(self, steps: &mut Steps<L>) -> Result<u128, AllocError> {
+        let mut session = Session::open(self.alloc, self.net, steps)?;
+        let best = try_offsets(&mut session, steps);
+        drop(session);
+        Ok(best)
+    }
 }
 
 /// Tries a thousand offsets, one at a time, and gives the lowest index seen. The session is as it was.
