@@ -1,3 +1,4 @@
+-- The search gives the first line end, so no byte before it is one: the cut is there.
 use Rattle.std.proofs.Common.{◌≡◌, ℕ, ◌+◌, ◌∷◌, List, [], true, false, length, take, slice_index, sym, ap, ◌∙◌, arith}
 use Rattle.std.proofs.lemmas.Slice.{between_to_end}
 use Rattle.std.proofs.lemmas.List.{drop_all}

@@ -1,3 +1,4 @@
+-- A piece without a line end only lengthens the line; one with it ends the line at the first.
 use Rattle.std.proofs.Common.{◌≡◌, ◌∙◌, ◌+◌, sym, arith, ap, List, ℕ, false, take, drop, slice_index, ◌++◌, ◌∷◌}
 use Rattle.std.proofs.lemmas.Bool.{eqb-true}
 use Rattle.transyt_io.specs.Lines.{line_of, lines_by, has_end}

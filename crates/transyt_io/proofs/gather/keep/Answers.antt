@@ -1,3 +1,5 @@
+-- What fits of the piece is added, and the first 4,098 bytes of both are the first 4,098 of what was kept and the
+-- piece.
 use Rattle.std.proofs.Common.{◌≡◌, ◌∙◌, ◌++◌, ◌-◌, ◌≤◌, sym, arith, rules, ap, ℕ, true, length, take, min, vec_len}
 use Rattle.std.proofs.Common.{refl, is_ok}
 use Rattle.transyt_io.proofs.Lines.{take_onto}

@@ -1,3 +1,4 @@
+-- The line is all bytes, or all but a carriage return at the end, cut at 4,097.
 use Rattle.std.proofs.Common.{◌≡◌, ◌∙◌, ◌==◌, ◌-◌, sym, ap, ℕ, Bool, true, false, length, take, slice_index}
 use Rattle.std.proofs.Common.{if◌then◌else◌}
 use Rattle.transyt_io.proofs.Lines.{take_min, take_min_length}

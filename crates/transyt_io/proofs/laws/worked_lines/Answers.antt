@@ -1,3 +1,4 @@
+-- Each clause is a table of worked inputs, proved beside the definitions.
 use Rattle.transyt_io.proofs.Worked.{inputs, lengths, skips}
 use Rattle.transyt_io.proofs.laws.worked_lines.Goals as goal
 

@@ -1,3 +1,4 @@
+-- The worked reader is computed; each wrong one contradicts one field of what a reader is.
 use Rattle.std.proofs.Common.{true, [], refl, arith, codes}
 use Rattle.transyt_io.proofs.laws.worked_reading.Goals as goal
 

@@ -1,3 +1,5 @@
+-- Each call of the sink takes a front of what is left, so the fronts taken so far are a front of the line, and at
+-- the end all of it.
 use Rattle.std.proofs.Common.{◌≡◌, ◌++◌, List, ℕ, length, take, drop, sym, ◌∙◌, ap, subst, arith, length-drop}
 use Rattle.std.proofs.lemmas.List.{take-append-drop, take_all}
 use Rattle.std.proofs.lemmas.Slice.{between_to_end}

@@ -1,3 +1,4 @@
+-- The bytes before `at` are written; what is left gets shorter.
 use Rattle.std.proofs.Common.{◌≤◌, ◌-◌, length, take}
 use Rattle.transyt_io.specs.Streams.{Adds}
 use Rattle.transyt_io.proofs.line_buffer.write_line.Given as goal

@@ -1,3 +1,4 @@
+-- The pieces read so far have no line end, so they belong to one line; the piece that has one ends it.
 use Rattle.std.proofs.Common.{◌≡◌, ◌∙◌, ◌<◌, ◌+◌, ◌++◌, ℕ, List, [], length, take, drop, sym, ap, subst, arith, rules}
 use Rattle.std.proofs.Common.{append_assoc, refl, IfSome}
 use Rattle.std.proofs.lemmas.Slice.{between_is}

@@ -1,3 +1,4 @@
+-- All bytes taken so far belong to the line, and no more may come than the limit leaves.
 use Rattle.std.proofs.Common.{◌≡◌, ◌≤◌, ◌+◌, ◌-◌, ◌++◌, List, ℕ, length, vec_capacity}
 use Rattle.transyt_io.specs.Streams.{Takes}
 use Rattle.transyt_io.specs.Gather.{Gathers}

@@ -1,3 +1,4 @@
+-- No byte before the first blank is a blank, so they are the first word.
 use Rattle.std.proofs.Common.{ℕ, ◌∷◌, List, length, take, sym, ap, ◌∙◌, arith}
 use Rattle.std.proofs.lemmas.Slice.{between_to_end}
 use Rattle.std.proofs.lemmas.List.{drop_all}

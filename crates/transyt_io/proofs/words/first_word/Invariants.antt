@@ -1,3 +1,4 @@
+-- The bytes passed are no blanks.
 use Rattle.std.proofs.Common.{◌≡◌, ℕ, ◌<◌, get_or, false}
 use Rattle.transyt_io.specs.Lines.{is_blank}
 use Rattle.transyt_io.proofs.words.first_word.Given as goal

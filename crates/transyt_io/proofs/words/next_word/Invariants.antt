@@ -1,3 +1,4 @@
+-- Blanks before a word change no words.
 use Rattle.std.proofs.Common.{◌≡◌, ◌≤◌, length}
 use Rattle.transyt_io.specs.Lines.{words}
 use Rattle.transyt_io.proofs.words.next_word.Given as goal

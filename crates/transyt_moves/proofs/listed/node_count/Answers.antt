@@ -1,3 +1,4 @@
+-- A node has two moves, and two for each stage.
 use Rattle.std.proofs.Common.{length}
 use Rattle.std.proofs.Common.{ap, ◌∙◌, arith}
 use Rattle.transyt_parts.specs.Parts.{NodeValue}

@@ -1,3 +1,4 @@
+-- A place from 2 on is a stage's: half of it is the stage, its last bit the way.
 use Rattle.std.proofs.Common.{◌≡◌, ◌+◌, ◌-◌, ◌/◌, ◌%◌, ◌<◌, length, get_or}
 use Rattle.std.proofs.Common.{List, refl, sym, ap, ◌∙◌, arith, ◌==◌}
 use Rattle.transyt_parts.specs.Parts.{NodeValue}

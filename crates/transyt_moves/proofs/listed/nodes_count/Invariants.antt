@@ -1,3 +1,4 @@
+-- The moves counted and those of the nodes to come are all.
 use Rattle.std.proofs.Common.{◌≡◌, ℕ, ◌+◌, ◌*◌, ◌≤◌, length, drop}
 use Rattle.transyt_moves.specs.Moves.{size_moves}
 use Rattle.transyt_moves.proofs.listed.nodes_count.Given as goal

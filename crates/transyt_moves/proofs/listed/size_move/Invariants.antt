@@ -1,3 +1,4 @@
+-- The move sought is the one at the place left among the nodes to come.
 use Rattle.std.proofs.Common.{◌≡◌, ◌<◌, length, drop, get_or}
 use Rattle.transyt_moves.specs.Moves.{size_moves, no_move}
 use Rattle.transyt_moves.proofs.listed.size_move.Given as goal

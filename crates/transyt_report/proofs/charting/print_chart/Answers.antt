@@ -1,3 +1,4 @@
+-- The lines of the links and the last line are printed one after the other.
 use Rattle.transyt_text.proofs.PrintLaws.{prints_both}
 use Rattle.transyt_report.proofs.charting.print_chart.Goals as goal
 

@@ -1,3 +1,4 @@
+-- The line is made of the network's link and of its GO and queue in the evaluation.
 use Rattle.std.proofs.Common.{ap, ◌∙◌}
 use Rattle.transyt_net.specs.Parts.{Network, link_of}
 use Rattle.transyt_text.proofs.PrintLaws.{prints_same}

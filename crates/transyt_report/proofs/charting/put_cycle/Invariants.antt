@@ -1,3 +1,4 @@
+-- The characters of the steps before this one stand.
 use Rattle.std.proofs.Common.{◌≡◌, ◌+◌, ◌++◌, length, map}
 use Rattle.std.specs.List.{range_with_len}
 use Rattle.transyt_report.specs.Chart.{mark_at}

@@ -1,3 +1,4 @@
+-- The lines of the links before one, then its own, are those up to it; a text that broke off is a front of all.
 use Rattle.std.proofs.Common.{length, arith, ap}
 use Rattle.transyt_text.proofs.LoopLaws.{place_printed, place_broken, places_printed}
 use Rattle.transyt_net.specs.Parts.{Network}

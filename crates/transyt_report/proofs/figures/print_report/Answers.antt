@@ -1,3 +1,4 @@
+-- The lines of the links and the line of the network are printed one after the other.
 use Rattle.transyt_text.proofs.PrintLaws.{prints_both}
 use Rattle.transyt_report.proofs.figures.print_report.Goals as goal
 

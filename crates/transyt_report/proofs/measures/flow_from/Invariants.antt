@@ -1,3 +1,4 @@
+-- The flow of the feeds so far is a part of the sum.
 use Rattle.std.proofs.Common.{◌≡◌, ◌*◌, ◌^◌, ◌≤◌, take, sum_by}
 use Rattle.transyt_report.specs.Measures.{feed_flow}
 use Rattle.transyt_report.proofs.measures.flow_from.Given as goal

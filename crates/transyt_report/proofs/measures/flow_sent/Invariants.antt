@@ -1,3 +1,4 @@
+-- The flow of the links so far is a part of the sum.
 use Rattle.std.proofs.Common.{◌≡◌, ◌*◌, ◌^◌, ◌≤◌, take, sum_by}
 use Rattle.transyt_report.specs.Measures.{flow_from}
 use Rattle.transyt_report.proofs.measures.flow_sent.Given as goal

@@ -1,3 +1,4 @@
+-- The greatest of the values so far, and the next, is that of all up to it.
 use Rattle.std.proofs.Common.{◌≡◌, take}
 use Rattle.transyt_report.specs.Measures.{greatest}
 use Rattle.transyt_report.proofs.measures.greatest.Given as goal

@@ -1,3 +1,4 @@
+-- The sum of the values so far is a part of the whole.
 use Rattle.std.proofs.Common.{◌≡◌, ◌*◌, ◌^◌, ◌≤◌, take, sum}
 use Rattle.transyt_report.proofs.measures.total.Given as goal
 

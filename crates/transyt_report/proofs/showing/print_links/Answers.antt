@@ -1,3 +1,4 @@
+-- The lines of the links and the index are printed one after the other.
 use Rattle.transyt_text.proofs.PrintLaws.{prints_both}
 use Rattle.transyt_report.proofs.showing.print_links.Goals as goal
 

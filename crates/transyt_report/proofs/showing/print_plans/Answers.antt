@@ -1,3 +1,4 @@
+-- TIMING reads the network alone, and the network is the one shown.
 use Rattle.std.proofs.Common.{ap}
 use Rattle.transyt_text.proofs.PrintLaws.{prints_same}
 use Rattle.transyt_report.specs.Texts.{timing_text}

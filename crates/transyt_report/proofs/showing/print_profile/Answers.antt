@@ -1,3 +1,4 @@
+-- Three rows of one link are printed one after the other.
 use Rattle.transyt_text.proofs.PrintLaws.{prints_both}
 use Rattle.transyt_report.proofs.showing.print_profile.Goals as goal
 

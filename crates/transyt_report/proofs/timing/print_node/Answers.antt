@@ -1,3 +1,4 @@
+-- The line of the node and those of its stages are printed one after the other.
 use Rattle.transyt_text.proofs.PrintLaws.{prints_both}
 use Rattle.transyt_report.proofs.timing.print_node.Goals as goal
 

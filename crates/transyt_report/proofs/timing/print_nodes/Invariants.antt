@@ -1,3 +1,4 @@
+-- The part before this place is written, or added, and no more.
 use Rattle.std.proofs.Common.{take, length, flat_map}
 use Rattle.std.specs.List.{range_with_len}
 use Rattle.transyt_text.specs.Prints.{Printed}

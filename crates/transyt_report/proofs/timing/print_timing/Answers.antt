@@ -1,3 +1,4 @@
+-- The lines of the nodes and the last line are printed one after the other.
 use Rattle.transyt_text.proofs.PrintLaws.{prints_both}
 use Rattle.transyt_report.proofs.timing.print_timing.Goals as goal
 

@@ -1,3 +1,4 @@
+-- The part before this place is written, or added, and no more.
 use Rattle.std.proofs.Common.{◌≡◌, ◌*◌, ◌^◌, ◌≤◌, map, sum}
 use Rattle.std.specs.List.{range_with_len}
 use Rattle.transyt_report.specs.Measures.{waiting_at}

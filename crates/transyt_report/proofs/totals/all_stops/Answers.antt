@@ -1,3 +1,4 @@
+-- The sum with one link more is the sum up to it.
 use Rattle.std.proofs.Common.{◌≡◌, ℕ, ◌+◌, arith}
 use Rattle.std.proofs.lemmas.List.FromFn.{sum_by-map-range_with_len_more}
 use Rattle.transyt_report.specs.Measures.{stops_at}

@@ -1,3 +1,4 @@
+-- The first of the greatest so far, or the next where it is greater, is that up to it.
 use Rattle.std.specs.List.{IsFirstMaxByKey}
 use Rattle.transyt_report.specs.Measures.{degree, all_link_figures}
 use Rattle.transyt_report.proofs.totals.worst_place.Given as goal

@@ -1,3 +1,5 @@
+-- A byte of the form puts itself, or the next number where it is `#`; so the line with the filled rest stays the
+-- whole.
 use Rattle.std.proofs.Common.{drop, arith}
 use Rattle.transyt_text.proofs.FormLaws.{form_more, form_end}
 use Rattle.transyt_text.proofs.forms.put_form.Goals as goal

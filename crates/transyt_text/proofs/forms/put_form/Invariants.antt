@@ -1,3 +1,4 @@
+-- The line with the rest of the form filled in is the whole.
 use Rattle.std.proofs.Common.{◌≡◌, ◌+◌, ◌*◌, ◌≤◌, ◌++◌, length, drop}
 use Rattle.transyt_text.specs.Forms.{filled}
 use Rattle.transyt_text.proofs.forms.put_form.Given as goal

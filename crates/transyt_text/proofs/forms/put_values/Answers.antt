@@ -1,3 +1,4 @@
+-- Each value puts a blank and its digits; so the line with the values to come stays the whole.
 use Rattle.std.proofs.Common.{ℕ, ◌∷◌, [], ◌++◌, length, ap, ◌∙◌, arith, length-append}
 use Rattle.std.specs.Fmt.{decimal}
 use Rattle.transyt_text.proofs.FormLaws.{values_more, values_end}

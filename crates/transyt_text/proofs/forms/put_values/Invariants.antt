@@ -1,3 +1,4 @@
+-- The line with the values to come is the whole.
 use Rattle.std.proofs.Common.{◌≡◌, ◌+◌, ◌*◌, ◌≤◌, ◌++◌, length, drop}
 use Rattle.transyt_text.specs.Forms.{values_text}
 use Rattle.transyt_text.proofs.forms.put_values.Given as goal

@@ -1,3 +1,4 @@
+-- Reading writes into the block and keeps its length.
 use Rattle.std.proofs.Common.{◌∙◌, length, ap, arith}
 use Rattle.std.proofs.lemmas.List.{with_items_is}
 use Rattle.transyt_io.proofs.intake.Intake.take_all.Goals as goal

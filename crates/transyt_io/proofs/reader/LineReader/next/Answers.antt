@@ -1,3 +1,5 @@
+-- A line ends in what the block holds, or in what is read after it, or with the source; each way is one law of
+-- readers.
 use Rattle.std.proofs.Common.{◌∙◌, refl, arith, sym}
 use Rattle.std.proofs.lemmas.List.{with_items_is}
 use Rattle.transyt_io.proofs.Pulled.{begun, not_due, reads_held, reads_pulled_line, reads_pulled_last, less_at_last}

@@ -1,3 +1,4 @@
+-- The bytes copied are those from the place on, so what stays is what comes after them.
 use Rattle.std.proofs.Common.{◌≡◌, ◌≤◌, ◌+◌, ◌-◌, List, ℕ, Some, length, drop, ◌∙◌, sym, ap, arith, length-drop}
 use Rattle.std.proofs.lemmas.List.{drop_all, drop-drop}
 use Rattle.std.specs.List.{between}
