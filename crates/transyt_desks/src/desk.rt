@@ -11,13 +11,14 @@ use crate::equal::same_net;
 use crate::gate::Gate;
 use crate::stretch::{Reach, Stretch, bound, joined, try_stretch, untried};
 use std::thread::{self, Threads};
-use transyt_session::Session;
+use transyt_session::{Session, Tried};
 
-/// A session, and the last stretch that was tried on it.
+/// A session, the last stretch that was tried on it, and the last finds of consecutive moves.
 #[derive(Drop)]
 pub(crate) struct Desk {
     pub(crate) session: Session,
     pub(crate) tried: Stretch,
+    pub(crate) finds: [Tried; 32],
 }
 
 /// Tries a desk's stretch, between entering and leaving the gate.

@@ -4,12 +4,15 @@ ghost use Rattle.std.specs.Prelude.{◌≡◌, ℕ, ◌+◌, ◌*◌, ◌^◌, �
 ghost use Rattle.std.specs.Borrow.{sem};
 ghost use Rattle.transyt_climb.specs.Turns.{machine};
 ghost use Rattle.transyt_desks.specs.Desks.{desk_zero, new_desk, opened_desks, sessions_of, AreAligned, AreAlike, AreDesks};
+ghost use Rattle.transyt_desks.specs.Finds.{AreTriesOf};
 ghost use Rattle.transyt_desks.specs.Lends.{LendsZero};
+ghost use Rattle.transyt_moves.specs.Moves.{move_count};
 ghost use Rattle.transyt_session.specs.Session.{SessionValue};
 ghost use Rattle.transyt_desks.specs.Rounds.{each_of, goes_alone, places_of, turns_of, CanRound, IsReachOf, MakesRound, RoundsDesks};
 
 use crate::desk::{Desk, follow_zero, try_reach};
 use crate::equal::same_net;
+use crate::finding::find_moves;
 use crate::gate::Gate;
 use crate::settling::{Round, settle, take_turn};
 use crate::stretch::{Reach, untried};
@@ -18,7 +21,7 @@ use std::marker::Model;
 use std::sync::ledger::Ledger;
 use std::thread::Threads;
 use transyt_climb::Climber;
-use transyt_session::Session;
+use transyt_session::{Session, Tried};
 use transyt_steps::Steps;
 
 /// One to eight desks. Desk 0's session is the one that counts; the others follow it.
@@ -91,6 +94,31 @@ impl Desks {
         all_same(&self.desks)
     }
 
+    /// Tries consecutive moves of the list from a place on, all desks at once, and writes what each comes to: at most 32
+    /// moves for each desk.
+    ///
+    /// No session changes, but that the other desks stand for the network of desk 0 afterwards. No work is added: whoever
+    /// wants it counted credits it. A desk tries its part between entering and leaving the gate. It takes no memory.
+    pub fn try_moves<R: Threads + Sync, G: Gate>(
+        &mut self,
+        rt: &R,
+        gate: &G,
+        from: u32,
+        tries: &mut [Tried],
+    )
+        requires alike { AreAlike self.old }
+        requires closed { (desk_zero self.old).before ≡ None }
+        requires places { from + length tries.old ≤ move_count (desk_zero self.old).net }
+        requires few { length tries.old ≤ 32 * length self.old }
+        ensures tried { AreTriesOf (desk_zero self.old).net from (length tries.old) tries.new }
+        ensures len { length tries.new ≡ length tries.old }
+        ensures zero { desk_zero self.new ≡ desk_zero self.old }
+        ensures alike { AreAlike self.new }
+        ensures workers { length self.new ≡ length self.old }
+    {
+        try_alike(rt, gate, self.desks.as_mut_slice(), from, tries);
+    }
+
     /// A round: the next moves of the list are tried at once, one at each desk, and the first of them that lowers the
     /// index is made at every desk.
     ///
@@ -143,6 +171,30 @@ impl Desks {
     }
 }
 
+/// Tries consecutive moves from a place on at desks whose networks have one shape, all at once.
+fn try_alike<R: Threads + Sync, G: Gate>(
+    rt: &R,
+    gate: &G,
+    desks: &mut [Desk],
+    from: u32,
+    tries: &mut [Tried],
+)
+    requires desks { AreDesks (sessions_of desks.old) }
+    requires alike { AreAlike (sessions_of desks.old) }
+    requires closed { (desk_zero (sessions_of desks.old)).before ≡ None }
+    requires places { from + length tries.old ≤ move_count (desk_zero (sessions_of desks.old)).net }
+    requires few { length tries.old ≤ 32 * length desks.old }
+    ensures tried { AreTriesOf (desk_zero (sessions_of desks.old)).net from (length tries.old) tries.new }
+    ensures count { length tries.new ≡ length tries.old }
+    ensures zero { desk_zero (sessions_of desks.new) ≡ desk_zero (sessions_of desks.old) }
+    ensures desks { AreDesks (sessions_of desks.new) }
+    ensures alike { AreAlike (sessions_of desks.new) }
+    ensures len { length desks.new ≡ length desks.old }
+{
+    follow_zero(desks);
+    find_moves(rt, gate, desks, from, tries);
+}
+
 /// Adds a desk with this session.
 fn add_desk(desks: &mut Vec<Desk>, session: Session) -> Result<(), AllocError>
     ensures { OnOk result (desks.new.items ≡ desks.old.items ++ new_desk session ∷ []) }
@@ -150,6 +202,7 @@ fn add_desk(desks: &mut Vec<Desk>, session: Session) -> Result<(), AllocError>
     let desk = Desk {
         session,
         tried: untried(),
+        finds: [Tried::Barred; 32],
     };
     desks.push(desk)?;
     Ok(())

@@ -16,6 +16,7 @@ mod climbing;
 mod desk;
 mod desks;
 mod equal;
+mod finding;
 mod gate;
 mod laws;
 mod settling;
