@@ -10,8 +10,8 @@ ghost use Rattle.transyt_moves.specs.Moves.{move_count};
 ghost use Rattle.transyt_session.specs.Session.{SessionValue};
 ghost use Rattle.transyt_desks.specs.Rounds.{each_of, goes_alone, places_of, turns_of, CanRound, IsReachOf, MakesRound, RoundsDesks};
 
-use crate::desk::{Desk, follow_zero, try_reach};
-use crate::equal::same_net;
+use crate::crew::Crew;
+use crate::desk::{Desk, all_same, follow_zero, try_reach};
 use crate::finding::find_moves;
 use crate::gate::Gate;
 use crate::settling::{Round, settle, take_turn};
@@ -77,14 +77,14 @@ impl Desks {
     }
 
     /// Lets every other desk stand for the network of desk 0. It takes no memory, and does nothing with one desk.
-    pub fn align<L: Ledger>(&mut self, steps: &mut Steps<L>)
+    pub fn align<R: Threads + Sync, L: Ledger>(&mut self, rt: &R, steps: &mut Steps<L>)
         requires shape { AreAlike self.old }
         ensures aligned { AreAligned self.new }
         ensures zero { desk_zero self.new ≡ desk_zero self.old }
         ensures workers { length self.new ≡ length self.old }
         ensures alone { length self.old ≡ 1 → steps.new ≡ steps.old }
     {
-        follow_zero(self.desks.as_mut_slice());
+        follow_zero(rt, self.desks.as_mut_slice());
     }
 
     /// Whether every desk stands for the network of desk 0.
@@ -116,7 +116,7 @@ impl Desks {
         ensures alike { AreAlike self.new }
         ensures workers { length self.new ≡ length self.old }
     {
-        try_alike(rt, gate, self.desks.as_mut_slice(), from, tries);
+        try_alike(&Crew { rt, gate }, self.desks.as_mut_slice(), from, tries);
     }
 
     /// A round: the next moves of the list are tried at once, one at each desk, and the first of them that lowers the
@@ -141,7 +141,12 @@ impl Desks {
         ensures steps { length self.old ≡ 1
             → steps.new + (desk_zero self.old).work ≡ steps.old + (desk_zero self.new).work }
     {
-        aligned_round(rt, gate, self.desks.as_mut_slice(), climber, steps)
+        aligned_round(
+            &Crew { rt, gate },
+            self.desks.as_mut_slice(),
+            climber,
+            steps,
+        )
     }
 
     /// A round in which desk 0 goes on alone for a while after a step, and then every desk tries a stretch of the next
@@ -167,14 +172,18 @@ impl Desks {
         ensures steps { length self.old ≡ 1
             → steps.new + (desk_zero self.old).work ≡ steps.old + (desk_zero self.new).work }
     {
-        alike_round(rt, gate, self.desks.as_mut_slice(), climber, steps)
+        alike_round(
+            &Crew { rt, gate },
+            self.desks.as_mut_slice(),
+            climber,
+            steps,
+        )
     }
 }
 
 /// Tries consecutive moves from a place on at desks whose networks have one shape, all at once.
 fn try_alike<R: Threads + Sync, G: Gate>(
-    rt: &R,
-    gate: &G,
+    crew: &Crew<'_, R, G>,
     desks: &mut [Desk],
     from: u32,
     tries: &mut [Tried],
@@ -191,8 +200,8 @@ fn try_alike<R: Threads + Sync, G: Gate>(
     ensures alike { AreAlike (sessions_of desks.new) }
     ensures len { length desks.new ≡ length desks.old }
 {
-    follow_zero(desks);
-    find_moves(rt, gate, desks, from, tries);
+    follow_zero(crew.rt, desks);
+    find_moves(crew, desks, from, tries);
 }
 
 /// Adds a desk with this session.
@@ -206,20 +215,6 @@ fn add_desk(desks: &mut Vec<Desk>, session: Session) -> Result<(), AllocError>
     };
     desks.push(desk)?;
     Ok(())
-}
-
-/// Whether all desks stand for the network of the first.
-fn all_same(desks: &[Desk]) -> bool
-    requires some { 0 < length desks.now }
-    ensures { IsTrue result ↔ AreAligned (sessions_of desks.now) }
-{
-    let zero = desks[0].session.net();
-    for i in 0..desks.len() {
-        if !same_net(zero, desks[i].session.net()) {
-            return false;
-        }
-    }
-    true
 }
 
 /// Whether desk 0 of so many goes on alone.
@@ -304,8 +299,7 @@ fn reach_of(climber: &Climber, each: u32) -> Reach
 
 /// A round in which every desk tries a stretch.
 fn together<R: Threads + Sync, G: Gate, L: Ledger>(
-    rt: &R,
-    gate: &G,
+    crew: &Crew<'_, R, G>,
     desks: &mut [Desk],
     each: u32,
     climber: &mut Climber,
@@ -323,15 +317,14 @@ fn together<R: Threads + Sync, G: Gate, L: Ledger>(
     ensures len { length desks.new ≡ length desks.old }
 {
     let reach = reach_of(climber, each);
-    let tried = try_reach(rt, gate, desks, reach);
+    let tried = try_reach(crew, desks, reach);
     let places = desks.len() as u32 * each;
     settle(climber, &mut desks[0].session, tried, places, steps)
 }
 
 /// A round in which every desk tries a stretch, or the end of the climb.
 fn round_on<R: Threads + Sync, G: Gate, L: Ledger>(
-    rt: &R,
-    gate: &G,
+    crew: &Crew<'_, R, G>,
     desks: &mut [Desk],
     each: u32,
     climber: &mut Climber,
@@ -350,13 +343,12 @@ fn round_on<R: Threads + Sync, G: Gate, L: Ledger>(
         let places = desks.len() as u32 * each;
         return turn_zero(desks, climber, places, steps);
     }
-    together(rt, gate, desks, each, climber, steps)
+    together(crew, desks, each, climber, steps)
 }
 
 /// A round of desks that stand for one network, before it and after it, in which each tries one move.
 fn aligned_round<R: Threads + Sync, G: Gate, L: Ledger>(
-    rt: &R,
-    gate: &G,
+    crew: &Crew<'_, R, G>,
     desks: &mut [Desk],
     climber: &mut Climber,
     steps: &mut Steps<L>,
@@ -373,17 +365,16 @@ fn aligned_round<R: Threads + Sync, G: Gate, L: Ledger>(
         ≡ steps.old + (desk_zero (sessions_of desks.new)).work }
 {
     if desks.len() == 1 {
-        return alone(gate, desks, climber, steps);
+        return alone(crew.gate, desks, climber, steps);
     }
-    let round = round_on(rt, gate, desks, 1, climber, steps);
-    follow_zero(desks);
+    let round = round_on(crew, desks, 1, climber, steps);
+    follow_zero(crew.rt, desks);
     round
 }
 
 /// A round of desks whose networks have one shape, in which desk 0 goes on alone, or every desk tries a stretch.
 fn alike_round<R: Threads + Sync, G: Gate, L: Ledger>(
-    rt: &R,
-    gate: &G,
+    crew: &Crew<'_, R, G>,
     desks: &mut [Desk],
     climber: &mut Climber,
     steps: &mut Steps<L>,
@@ -401,8 +392,8 @@ fn alike_round<R: Threads + Sync, G: Gate, L: Ledger>(
         ≡ steps.old + (desk_zero (sessions_of desks.new)).work }
 {
     if goes_alone(desks.len(), climber) {
-        return alone(gate, desks, climber, steps);
+        return alone(crew.gate, desks, climber, steps);
     }
-    follow_zero(desks);
-    round_on(rt, gate, desks, each(climber), climber, steps)
+    follow_zero(crew.rt, desks);
+    round_on(crew, desks, each(climber), climber, steps)
 }

@@ -6,6 +6,7 @@ ghost use Rattle.transyt_desks.specs.Desks.{AreAligned, OthersClosed, desk_zero,
 ghost use Rattle.transyt_desks.specs.Finds.{AreFound, AreTriesOf, HasFound, IsListReach};
 ghost use Rattle.transyt_desks.specs.declared.desk.Desk.{Desk};
 
+use crate::crew::Crew;
 use crate::desk::Desk;
 use crate::gate::Gate;
 use crate::stretch::{Reach, bound, try_at};
@@ -45,7 +46,7 @@ fn find_part<G: Gate>(gate: &G, desk: &mut Desk, number: usize, reach: Reach)
 }
 
 /// Tries the moves of a reach, a part at each desk and all at once.
-fn find_parts<R: Threads + Sync, G: Gate>(rt: &R, gate: &G, desks: &mut [Desk], reach: Reach)
+fn find_parts<R: Threads + Sync, G: Gate>(crew: &Crew<'_, R, G>, desks: &mut [Desk], reach: Reach)
     requires few { length desks.old ≤ 8 }
     requires reach { IsListReach reach }
     requires moves { All (λ d. move_count d.session.net ≡ reach.count) desks.old }
@@ -54,8 +55,9 @@ fn find_parts<R: Threads + Sync, G: Gate>(rt: &R, gate: &G, desks: &mut [Desk], 
     ensures found { (k : ℕ) (d : Desk) → k < length desks.old
         → HasFound reach k (slice_index_or desks.old k d) (slice_index_or desks.new k d) }
 {
+    let gate = crew.gate;
     thread::for_each_mut(
-        rt,
+        crew.rt,
         desks,
         8,
         &|i: usize, desk: &mut Desk|
@@ -105,8 +107,7 @@ fn list_reach(place: u32, count: u32, tries: usize, desks: usize) -> Reach
 
 /// Tries consecutive moves from a place on at desks that stand for one network, a part at each and all at once.
 pub(crate) fn find_moves<R: Threads + Sync, G: Gate>(
-    rt: &R,
-    gate: &G,
+    crew: &Crew<'_, R, G>,
     desks: &mut [Desk],
     from: u32,
     tries: &mut [Tried],
@@ -128,6 +129,6 @@ pub(crate) fn find_moves<R: Threads + Sync, G: Gate>(
     }
     let count = move_count(desks[0].session.net());
     let reach = list_reach(from, count, tries.len(), desks.len());
-    find_parts(rt, gate, desks, reach);
+    find_parts(crew, desks, reach);
     hand_on(desks, reach, tries);
 }

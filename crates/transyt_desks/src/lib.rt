@@ -13,6 +13,7 @@
 #![tactic(auto)]
 
 mod climbing;
+mod crew;
 mod desk;
 mod desks;
 mod equal;
