@@ -20,6 +20,8 @@ mod equal;
 mod finding;
 mod gate;
 mod laws;
+mod policy;
+mod rounds;
 mod settling;
 mod stretch;
 

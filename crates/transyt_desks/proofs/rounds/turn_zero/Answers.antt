@@ -6,7 +6,7 @@ use Rattle.transyt_desks.specs.declared.desk.Desk.{Desk}
 use Rattle.transyt_desks.specs.Rounds.{turns_of, CanRound}
 use Rattle.transyt_desks.proofs.DeskLaws.{lent_zero, session_read}
 use Rattle.transyt_desks.proofs.RoundLaws.{rounds_zero}
-use Rattle.transyt_desks.proofs.desks.turn_zero.Goals as goal
+use Rattle.transyt_desks.proofs.rounds.turn_zero.Goals as goal
 
 pub take_turn-requires-clause-ready : goal.take_turn-requires-clause-ready
 take_turn-requires-clause-ready g c =
