@@ -3,5 +3,5 @@ use Rattle.std.proofs.Common.{ap}
 use Rattle.transyt_net.specs.Shape.{shape}
 use Rattle.transyt_desks.proofs.tests.align.Goals as goal
 
-pub align-requires : goal.align-requires
-align-requires g c = record { shape = record { shape = λ k less. ap shape (c.requires.same k less) } }
+pub align-requires-clause-shape : goal.align-requires-clause-shape
+align-requires-clause-shape g c κs within = record { shape = λ k less. ap shape (c.requires.same k less) }
