@@ -15,6 +15,7 @@ use Rattle.transyt_equisat.specs.Fractions.{is_above}
 use Rattle.transyt_equisat.specs.Degrees.{counted_in, degree}
 use Rattle.transyt_equisat.specs.Demands.{degree_of, demand_in, demands_of, no_demand}
 use Rattle.transyt_equisat.specs.Balance.{first_from, least_green, least_greens, need_at, share_at, change_at}
+use Rattle.transyt_equisat.specs.Asked.{asked_of}
 use Rattle.transyt_equisat.specs.Sharing.{IsSetting, green_by, need_by, green_there, share_there}
 use Rattle.transyt_equisat.proofs.DemandLaws.{stage_tested, below_lower, no_demand_below}
 use Rattle.transyt_equisat.proofs.SearchLaws.{first_same}
@@ -30,7 +31,7 @@ range_same d f g n agree =
 -- the least green of a stage is that of what it asks
 pub green_asked : (net : Network) (n : NodeValue) (v : Fraction) (k : ℕ) → IsSetting net n → k < length n.stages
     → least_green net n v k
-    ≡ green_there net.frame.step_count n.stages (demands_of net n.number (length n.stages)) v k
+    ≡ green_there (asked_of net n) v k
 green_asked net n v k setting inside =
     let steps = net.frame.step_count in
     first_same (λ e. list_all (λ l. not (is_above (degree steps l e) v)) (counted_in net n.number (k + 1)))
@@ -68,15 +69,15 @@ need_asked net n v k setting inside =
 
 -- the least greens of the stages are those of what they ask
 pub greens_asked : (net : Network) (n : NodeValue) (v : Fraction) → IsSetting net n
-    → map (green_there net.frame.step_count n.stages (demands_of net n.number (length n.stages)) v) (range_with_len 0 (length n.stages))
+    → map (green_there (asked_of net n) v) (range_with_len 0 (length n.stages))
     ≡ least_greens net n v
 greens_asked net n v setting =
-    range_same 0 (green_there net.frame.step_count n.stages (demands_of net n.number (length n.stages)) v) (least_green net n v)
+    range_same 0 (green_there (asked_of net n) v) (least_green net n v)
     (length n.stages) (λ k below. sym (green_asked net n v k setting below))
 
 -- and so are their shares
 pub shares_asked : (net : Network) (n : NodeValue) (v : Fraction) (gs : List ℕ) → IsSetting net n
-    → map (share_there net.frame.step_count n.stages (demands_of net n.number (length n.stages)) v gs) (range_with_len 0 (length n.stages))
+    → map (share_there (asked_of net n) v gs) (range_with_len 0 (length n.stages))
     ≡ map (share_at net n v gs) (range_with_len 0 (length n.stages))
 shares_asked net n v gs setting =
     let made : ℕ → ℕ → Share = λ (k m : ℕ). record {
@@ -85,5 +86,5 @@ shares_asked net n v gs setting =
       need = m;
     } in
     range_same (record { change = 0; green = 0; need = 0 })
-    (share_there net.frame.step_count n.stages (demands_of net n.number (length n.stages)) v gs) (share_at net n v gs)
+    (share_there (asked_of net n) v gs) (share_at net n v gs)
     (length n.stages) (λ k below. sym (ap (made k) (need_asked net n v k setting below)))

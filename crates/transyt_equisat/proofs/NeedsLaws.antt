@@ -16,6 +16,7 @@ use Rattle.transyt_equisat.specs.Degrees.{is_counted, counts_in, counted, degree
 use Rattle.transyt_equisat.specs.Demands.{degree_of, demand_in, demands_of, no_demand}
 use Rattle.transyt_equisat.specs.Peaks.{Fits, green_of, peak, lost}
 use Rattle.transyt_equisat.specs.Balance.{first_from, first_more, need_at}
+use Rattle.transyt_equisat.specs.Asked.{asked_of}
 use Rattle.transyt_equisat.specs.Sharing.{degree_at, IsUnder, IsSetting, IsLeastPeak}
 use Rattle.transyt_equisat.proofs.FractionLaws.{at_most, at_most-trans}
 use Rattle.transyt_equisat.proofs.DemandLaws.{positive, stage_tested, below_lower, no_demand_below}
@@ -23,7 +24,7 @@ use Rattle.transyt_equisat.proofs.ExtremeLaws.{greatest_from}
 use Rattle.transyt_equisat.proofs.FilterLaws.{all_picked, all_mapped}
 use Rattle.transyt_equisat.proofs.SearchLaws.{first_bounds, first_least}
 use Rattle.transyt_equisat.proofs.SharingLaws.{le_or_lt}
-use Rattle.transyt_equisat.proofs.PeakLaws.{counts_there, demand_there, demand_count, green_alive, peak_base, under_peak}
+use Rattle.transyt_equisat.proofs.PeakLaws.{counts_there, demand_there, green_alive, peak_base, under_peak}
 use Rattle.transyt_equisat.proofs.PlanFits.{one_shorter}
 use Rattle.transyt_equisat.proofs.AskedLaws.{need_asked}
 use Rattle.transyt_equisat.proofs.FilledLaws.{filled, more_passes, demand_live}
@@ -33,7 +34,7 @@ use Rattle.transyt_equisat.proofs.ReachedLaws.{above_nothing}
 abbrev pub AreBelow : Network → NodeValue → Fraction → List ℕ → Type 0
 AreBelow net n v es =
     (k : ℕ) → k < length n.stages
-    → is_above v (degree_at net.frame.step_count (demands_of net n.number (length n.stages)) es k) ≡ true
+    → is_above v (degree_at (asked_of net n) es k) ≡ true
 
 -- then the peak is below v too
 pub peak_below : (net : Network) (n : NodeValue) (v : Fraction) (es : List ℕ) → IsSetting net n
@@ -67,7 +68,7 @@ zero_or_more (suc k) = inr (omega arith)
 -- at the whole cycle each stage is below a peak above 0 that greens stay under
 whole_below : (net : Network) (n : NodeValue) (v : Fraction) (es : List ℕ) (k : ℕ) → IsSetting net n → 0 < v.base → 0 < v.top
     → Fits net.frame.step_count n.stages es
-    → IsUnder net.frame.step_count (demands_of net n.number (length n.stages)) es v → k < length n.stages
+    → IsUnder (asked_of net n) es v → k < length n.stages
     → is_above v (degree_of net.frame.step_count (get_or (demands_of net n.number (length n.stages)) k no_demand) net.frame.step_count)
     ≡ true
 whole_below net n v es k setting base above fits under inside =
@@ -81,7 +82,7 @@ whole_below net n v es k setting base above fits under inside =
       | inr fails ↦ absurd (
           let up : AtMost v (degree_of steps d steps) = at_most v (degree_of steps d steps) fails in
           let down : AtMost (degree_of steps d e) v =
-          at_most (degree_of steps d e) v (under k (omega (arith, demand_count net n.number (length n.stages)))) in
+          at_most (degree_of steps d e) v (under k inside) in
           let all : AtMost (degree_of steps d e) (degree_of steps d steps) =
           at_most-trans (degree_of steps d e) v (degree_of steps d steps) base down up in
           let short = one_shorter steps n.stages es k fits setting.stages.0 setting.least inside in
@@ -105,9 +106,9 @@ needs_of net n v = map (need_at net n v) (range_with_len 0 (length n.stages))
 -- the need of a stage: no less than its least, and the stage is below the peak there
 need_parts : (net : Network) (n : NodeValue) (v : Fraction) (es : List ℕ) (k : ℕ) → IsSetting net n → 0 < v.base → 0 < v.top
     → Fits net.frame.step_count n.stages es
-    → IsUnder net.frame.step_count (demands_of net n.number (length n.stages)) es v → k < length n.stages
+    → IsUnder (asked_of net n) es v → k < length n.stages
     → ((stage_of n.stages k).least ≤ get_or (needs_of net n v) k 0)
-    × (is_above v (degree_at net.frame.step_count (demands_of net n.number (length n.stages)) (needs_of net n v) k) ≡ true)
+    × (is_above v (degree_at (asked_of net n) (needs_of net n v) k) ≡ true)
 need_parts net n v es k setting base above fits under inside =
     let steps = net.frame.step_count in
     let asks : Demand = get_or (demands_of net n.number (length n.stages)) k no_demand in
@@ -126,7 +127,7 @@ need_parts net n v es k setting base above fits under inside =
 
 -- needs and intergreens don't fit into the cycle
 pub needs_exceed : (net : Network) (n : NodeValue) (v : Fraction) → IsSetting net n
-    → IsLeastPeak net.frame.step_count n.stages (demands_of net n.number (length n.stages)) v → 0 < v.top
+    → IsLeastPeak (asked_of net n) v → 0 < v.top
     → net.frame.step_count < sum (needs_of net n v) + lost n.stages
 needs_exceed net n v setting peak_is above =
     let steps = net.frame.step_count in

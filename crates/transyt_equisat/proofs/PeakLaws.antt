@@ -13,6 +13,7 @@ use Rattle.transyt_equisat.specs.Fractions.{is_above, nothing}
 use Rattle.transyt_equisat.specs.Degrees.{is_counted, counts_in, counted, counted_in, degree, first_stage}
 use Rattle.transyt_equisat.specs.Demands.{degree_of, demand_in, demands_of, no_demand}
 use Rattle.transyt_equisat.specs.Peaks.{Fits, green_of, peak}
+use Rattle.transyt_equisat.specs.Asked.{asked_of}
 use Rattle.transyt_equisat.specs.Sharing.{IsUnder, IsSetting}
 use Rattle.transyt_equisat.proofs.FractionLaws.{not_above}
 use Rattle.transyt_equisat.proofs.DemandLaws.{positive, stage_tested, not_above_lower, no_demand_passes, not_true}
@@ -52,7 +53,7 @@ stage_under net n v e k setting some =
 -- where no stage is above v, no counted link is
 pub links_under : (net : Network) (n : NodeValue) (es : List ℕ) (v : Fraction) → IsSetting net n
     → Fits net.frame.step_count n.stages es
-    → IsUnder net.frame.step_count (demands_of net n.number (length n.stages)) es v
+    → IsUnder (asked_of net n) es v
     → All (λ l. is_counted n.number l ≡ true → is_above (degree net.frame.step_count l (green_of es l)) v ≡ false) net.links
 links_under net n es v setting fits under = λ i d below.
     let l : LinkValue = get_or net.links i d in
@@ -60,10 +61,9 @@ links_under net n es v setting fits under = λ i d below.
     let stage = setting.within i d below counts in
     let k : ℕ = first_stage l - 1 in
     let inside : k < length n.stages = omega (arith, stage.0, stage.1) in
-    let asks = under k (omega (arith, demand_count net n.number (length n.stages))) in
     let asked : is_above (degree_of net.frame.step_count (demand_in net n.number (k + 1)) (get_or es k 0)) v ≡ false =
     ap (λ (d : Demand). is_above (degree_of net.frame.step_count d (get_or es k 0)) v)
-    (sym (demand_there net n.number (length n.stages) k inside)) ∙ asks in
+    (sym (demand_there net n.number (length n.stages) k inside)) ∙ under k inside in
     let all = stage_under net n v (get_or es k 0) k setting (green_alive net n es setting fits k inside) ∙ ap not asked in
     not_true (is_above (degree net.frame.step_count l (get_or es k 0)) v) (
     all_picked (λ l. not (is_above (degree net.frame.step_count l (get_or es k 0)) v)) (counts_in n.number (k + 1)) net.links all
@@ -81,9 +81,8 @@ counts_parts number stage l counts =
 pub stages_under : (net : Network) (n : NodeValue) (es : List ℕ) (v : Fraction) → IsSetting net n
     → Fits net.frame.step_count n.stages es
     → All (λ l. is_counted n.number l ≡ true → is_above (degree net.frame.step_count l (green_of es l)) v ≡ false) net.links
-    → IsUnder net.frame.step_count (demands_of net n.number (length n.stages)) es v
-stages_under net n es v setting fits under k below =
-    let inside : k < length n.stages = omega (arith, demand_count net n.number (length n.stages)) in
+    → IsUnder (asked_of net n) es v
+stages_under net n es v setting fits under k inside =
     let e : ℕ = get_or es k 0 in
     let each : All (λ l. counts_in n.number (k + 1) l ≡ true → not (is_above (degree net.frame.step_count l e) v) ≡ true) net.links =
     λ i d there. λ counts.
@@ -117,7 +116,7 @@ peak_base net n es setting fits =
 
 -- no stage is above the peak
 pub under_peak : (net : Network) (n : NodeValue) (es : List ℕ) → IsSetting net n → Fits net.frame.step_count n.stages es
-    → IsUnder net.frame.step_count (demands_of net n.number (length n.stages)) es (peak net n.number es)
+    → IsUnder (asked_of net n) es (peak net n.number es)
 under_peak net n es setting fits =
     stages_under net n es (peak net n.number es) setting fits (
     mapped_all (λ d. is_above d (peak net n.number es) ≡ false) (λ l. degree net.frame.step_count l (green_of es l))
@@ -129,7 +128,7 @@ under_peak net n es setting fits =
 -- where no stage is above v, the peak isn't
 pub peak_under : (net : Network) (n : NodeValue) (es : List ℕ) (v : Fraction) → IsSetting net n
     → Fits net.frame.step_count n.stages es
-    → IsUnder net.frame.step_count (demands_of net n.number (length n.stages)) es v
+    → IsUnder (asked_of net n) es v
     → is_above (peak net n.number es) v ≡ false
 peak_under net n es v setting fits under =
     greatest_from (λ d. is_above d v ≡ false) (map (λ l. degree net.frame.step_count l (green_of es l)) (counted net n.number)) nothing

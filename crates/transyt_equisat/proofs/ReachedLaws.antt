@@ -1,5 +1,5 @@
 -- A counted link reaches a peak above 0, and the answer tells it.
-use Rattle.std.proofs.Common.{◌≡◌, ℕ, ◌*◌, ◌<◌, Bool, true, false, not, ◌&&◌, nat_eq, List, [], ◌∷◌, All, map, length}
+use Rattle.std.proofs.Common.{◌≡◌, ℕ, ◌*◌, ◌<◌, Bool, true, false, not, ◌&&◌, nat_eq, List, [], ◌∷◌, All, map}
 use Rattle.std.proofs.Common.{sym, ◌∙◌, ap, refl, subst, arith, get_or, inl, inr, ◌⊎◌, cond, Option, Some, None}
 use Rattle.std.specs.List.{find}
 use Rattle.std.proofs.lemmas.Bool.{cases_Bool}
@@ -10,9 +10,9 @@ use Rattle.transyt_net.specs.Parts.{Network}
 use Rattle.transyt_equisat.specs.declared.fraction.Fraction.{Fraction}
 use Rattle.transyt_equisat.specs.Fractions.{is_above, nothing, IsSame}
 use Rattle.transyt_equisat.specs.Degrees.{is_counted, counted, degree}
-use Rattle.transyt_equisat.specs.Demands.{demands_of}
 use Rattle.transyt_equisat.specs.Peaks.{green_of, peak}
 use Rattle.transyt_equisat.specs.Balance.{greens_at, is_same, degree_found, balance_at, peak_told}
+use Rattle.transyt_equisat.specs.Asked.{asked_of}
 use Rattle.transyt_equisat.specs.Sharing.{IsSetting, IsLeastPeak}
 use Rattle.transyt_equisat.proofs.FractionLaws.{at_most, at_most-trans}
 use Rattle.transyt_equisat.proofs.ExtremeLaws.{greatest_from}
@@ -61,7 +61,7 @@ above_nothing v above =
 
 -- a counted link reaches a peak above 0
 pub reached_by : (net : Network) (n : NodeValue) (v : Fraction) (gs : List ℕ) → IsSetting net n
-    → IsLeastPeak net.frame.step_count n.stages (demands_of net n.number (length n.stages)) v
+    → IsLeastPeak (asked_of net n) v
     → AreGreens net n v gs → 0 < v.top
     → (l : LinkValue) × (find (λ l. is_same (degree net.frame.step_count l (green_of gs l)) v) (counted net n.number) ≡ Some l)
     × (is_same (degree net.frame.step_count l (green_of gs l)) v ≡ true)
@@ -100,7 +100,7 @@ same-trans a b c pos ab bc =
 
 -- the peak that the answer tells is the peak
 pub told : (net : Network) (n : NodeValue) (v : Fraction) → IsSetting net n
-    → IsLeastPeak net.frame.step_count n.stages (demands_of net n.number (length n.stages)) v
+    → IsLeastPeak (asked_of net n) v
     → IsSame (peak_told (balance_at net n v)) v
 told net n v setting peak_is =
     let steps = net.frame.step_count in

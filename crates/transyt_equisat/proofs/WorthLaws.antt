@@ -13,9 +13,9 @@ use Rattle.transyt_net.specs.Valid.{IsValid}
 use Rattle.transyt_equisat.specs.declared.fraction.Fraction.{Fraction}
 use Rattle.transyt_equisat.specs.declared.greens.Share.{Share}
 use Rattle.transyt_equisat.specs.Fractions.{AtMost, IsSame}
-use Rattle.transyt_equisat.specs.Demands.{demands_of}
 use Rattle.transyt_equisat.specs.Peaks.{peak, greens_of}
 use Rattle.transyt_equisat.specs.Balance.{greens_at, share_at, need_at, balance_at, balance, least_peak, timed, no_share, peak_told, IsBalanced}
+use Rattle.transyt_equisat.specs.Asked.{asked_of}
 use Rattle.transyt_equisat.specs.Sharing.{IsSetting, IsLeastPeak}
 use Rattle.transyt_equisat.proofs.FractionLaws.{at_most, at_most-trans}
 use Rattle.transyt_equisat.proofs.DemandLaws.{positive}
@@ -96,7 +96,7 @@ top_above a b same base above =
 
 -- the answer for a least peak is worth what is said
 pub balanced_at : (net : Network) (n : NodeValue) (v : Fraction) → IsSetting net n
-    → IsLeastPeak net.frame.step_count n.stages (demands_of net n.number (length n.stages)) v
+    → IsLeastPeak (asked_of net n) v
     → IsBalanced net n (balance_at net n v)
 balanced_at net n v setting peak_is =
     let steps = net.frame.step_count in
@@ -134,12 +134,10 @@ balanced net p valid inside =
 
 -- and any least peak has this answer
 pub balance_by : (net : Network) (p : ℕ) (v : Fraction) → IsValid net → p < length net.nodes
-    → IsLeastPeak net.frame.step_count (node_of net p).stages
-    (demands_of net (node_of net p).number (length (node_of net p).stages)) v
-    → balance_at net (node_of net p) v ≡ balance net p
+    → IsLeastPeak (asked_of net (node_of net p)) v → balance_at net (node_of net p) v ≡ balance net p
 balance_by net p v valid inside peak_is =
     let n : NodeValue = node_of net p in
     let least = least_is_least net n (setting_of net p valid inside) in
     one_answer net n v (least_peak net n)
-    (least_same net.frame.step_count n.stages (demands_of net n.number (length n.stages)) v (least_peak net n) peak_is least)
+    (least_same (asked_of net n) v (least_peak net n) peak_is least)
     peak_is.base least.base
