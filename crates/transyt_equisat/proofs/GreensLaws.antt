@@ -90,6 +90,6 @@ pub greens_peak : (net : Network) (n : NodeValue) (v : Fraction) (gs : List ℕ)
     → AreGreens net n v gs → IsSame v (peak net n.number gs)
 greens_peak net n v gs setting peak_is hold =
     let p : Fraction = peak net n.number gs in
-    let down = at_most v p (peak_is.least p gs (peak_base net n gs setting hold.fits) hold.fits (under_peak net n gs setting hold.fits)) in
-    let up = at_most p v (peak_under net n gs v setting hold.fits hold.under) in
+    let down = at_most v p (peak_is.least p gs (peak_base net n setting gs hold.fits) hold.fits (under_peak net n setting gs hold.fits)) in
+    let up = at_most p v (peak_under net n setting gs v hold.fits hold.under) in
     omega arith

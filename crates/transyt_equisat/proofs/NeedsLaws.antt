@@ -1,69 +1,30 @@
 -- The needs of the stages with the intergreens do not fit into the cycle.
-use Rattle.std.proofs.Common.{◌≡◌, ℕ, zero, suc, ◌+◌, ◌-◌, ◌*◌, ◌<◌, ◌≤◌, Bool, true, false, nat_eq, List, map, length, sum}
-use Rattle.std.proofs.Common.{sym, ◌∙◌, ap, refl, arith, get_or, inl, inr, ◌⊎◌, cond}
+use Rattle.std.proofs.Common.{◌≡◌, ℕ, ◌+◌, ◌-◌, ◌*◌, ◌<◌, ◌≤◌, Bool, true, false, nat_eq, List, map, length, sum}
+use Rattle.std.proofs.Common.{◌∙◌, ap, arith, get_or, inl, inr, cond}
 use Rattle.std.specs.List.{range_with_len}
 use Rattle.std.proofs.Math.Nat.{mul-le-mul_left}
 use Rattle.std.proofs.lemmas.Bool.{cases_Bool}
 use Rattle.std.proofs.lemmas.Bool.Decides.{nat_tests}
 use Rattle.std.proofs.lemmas.List.FromFn.{length-map-range_with_len, get_or-map-range_with_len}
-use Rattle.transyt_parts.specs.Parts.{NodeValue, LinkValue}
+use Rattle.transyt_parts.specs.Parts.{NodeValue}
 use Rattle.transyt_parts.specs.Plan.{stage_of}
 use Rattle.transyt_net.specs.Parts.{Network}
 use Rattle.transyt_equisat.specs.declared.fraction.Fraction.{Fraction}
 use Rattle.transyt_equisat.specs.declared.demand.Demand.{Demand}
-use Rattle.transyt_equisat.specs.Fractions.{is_above, nothing, AtMost}
-use Rattle.transyt_equisat.specs.Degrees.{is_counted, counts_in, counted, degree, first_stage}
-use Rattle.transyt_equisat.specs.Demands.{degree_of, demand_in, demands_of, no_demand}
-use Rattle.transyt_equisat.specs.Peaks.{Fits, green_of, peak, lost}
+use Rattle.transyt_equisat.specs.Fractions.{is_above, AtMost}
+use Rattle.transyt_equisat.specs.Demands.{degree_of, demands_of, no_demand}
+use Rattle.transyt_equisat.specs.Peaks.{Fits, peak, lost}
 use Rattle.transyt_equisat.specs.Balance.{first_from, first_more, need_at}
 use Rattle.transyt_equisat.specs.Asked.{asked_of}
 use Rattle.transyt_equisat.specs.Sharing.{degree_at, IsUnder, IsSetting, IsLeastPeak}
 use Rattle.transyt_equisat.proofs.FractionLaws.{at_most, at_most-trans}
-use Rattle.transyt_equisat.proofs.DemandLaws.{positive, stage_tested, below_lower, no_demand_below}
-use Rattle.transyt_equisat.proofs.ExtremeLaws.{greatest_from}
-use Rattle.transyt_equisat.proofs.FilterLaws.{all_picked, all_mapped}
+use Rattle.transyt_equisat.proofs.DemandLaws.{positive, below_lower}
 use Rattle.transyt_equisat.proofs.SearchLaws.{first_bounds, first_least}
 use Rattle.transyt_equisat.proofs.SharingLaws.{le_or_lt}
-use Rattle.transyt_equisat.proofs.PeakLaws.{counts_there, demand_there, green_alive, peak_base, under_peak}
-use Rattle.transyt_equisat.proofs.PlanFits.{one_shorter}
+use Rattle.transyt_equisat.proofs.PeakLaws.{StagesPass, green_alive, peak_passes, peak_base, under_peak}
+use Rattle.transyt_equisat.proofs.PlanFits.{zero_or_more, one_shorter}
 use Rattle.transyt_equisat.proofs.AskedLaws.{need_asked}
 use Rattle.transyt_equisat.proofs.FilledLaws.{filled, more_passes, demand_live}
-use Rattle.transyt_equisat.proofs.ReachedLaws.{above_nothing}
-
--- greens at which each stage is strictly below v
-abbrev pub AreBelow : Network → NodeValue → Fraction → List ℕ → Type 0
-AreBelow net n v es =
-    (k : ℕ) → k < length n.stages
-    → is_above v (degree_at (asked_of net n) es k) ≡ true
-
--- then the peak is below v too
-pub peak_below : (net : Network) (n : NodeValue) (v : Fraction) (es : List ℕ) → IsSetting net n
-    → Fits net.frame.step_count n.stages es → 0 < v.top → AreBelow net n v es → is_above v (peak net n.number es) ≡ true
-peak_below net n v es setting fits above below =
-    let steps = net.frame.step_count in
-    let deg : LinkValue → Fraction = λ l. degree steps l (green_of es l) in
-    greatest_from (λ d. is_above v d ≡ true) (map deg (counted net n.number)) nothing (above_nothing v above)
-    (all_mapped (λ d. is_above v d ≡ true) deg (is_counted n.number) net.links (
-    λ i d there.
-    let l : LinkValue = get_or net.links i d in
-    λ counts.
-    let stage = setting.within i d there counts in
-    let k : ℕ = first_stage l - 1 in
-    let inside : k < length n.stages = omega (arith, stage.0, stage.1) in
-    let alive = green_alive net n es setting fits k inside in
-    let asked : is_above v (degree_of steps (demand_in net n.number (k + 1)) (get_or es k 0)) ≡ true =
-    ap (λ (d : Demand). is_above v (degree_of steps d (get_or es k 0))) (sym (demand_there net n.number (length n.stages) k inside))
-    ∙ below k inside in
-    let all = stage_tested (λ d. is_above v d) (below_lower v) net n.number (k + 1) (get_or es k 0) alive setting.live
-    (no_demand_below steps (get_or es k 0) v alive above) ∙ asked in
-    all_picked (λ l. is_above v (degree steps l (get_or es k 0))) (counts_in n.number (k + 1)) net.links all i d there
-    (counts_there n.number l counts stage.0)
-    ))
-
--- a number is 0 or positive
-pub zero_or_more : (k : ℕ) → (k ≡ 0) ⊎ (0 < k)
-zero_or_more zero = inl refl
-zero_or_more (suc k) = inr (omega arith)
 
 -- at the whole cycle each stage is below a peak above 0 that greens stay under
 whole_below : (net : Network) (n : NodeValue) (v : Fraction) (es : List ℕ) (k : ℕ) → IsSetting net n → 0 < v.base → 0 < v.top
@@ -75,7 +36,7 @@ whole_below net n v es k setting base above fits under inside =
     let steps = net.frame.step_count in
     let d : Demand = get_or (demands_of net n.number (length n.stages)) k no_demand in
     let e : ℕ = get_or es k 0 in
-    let alive = green_alive net n es setting fits k inside in
+    let alive = green_alive net n setting es fits k inside in
     let live = demand_live net n k setting inside in
     elim (cases_Bool (is_above v (degree_of steps d steps))) [
       | inl is ↦ is
@@ -141,14 +102,14 @@ needs_exceed net n v setting peak_is above =
           let full : Fits steps n.stages (first_more (steps - (sum ms + lost n.stages)) ms) =
           filled steps n.stages ms count (omega (arith, setting.stages.0)) (λ k below. (parts k below).0) room in
           let gs : List ℕ = first_more (steps - (sum ms + lost n.stages)) ms in
-          let below : AreBelow net n v gs =
+          let below : StagesPass (λ d. is_above v d) net n gs =
           λ k inside.
           let here = parts k inside in
-          more_passes (λ d. is_above v d) (below_lower v) steps (get_or (demands_of net n.number (length n.stages)) k no_demand)
+          more_passes (λ d. is_above v d) (below_lower v above) steps (get_or (demands_of net n.number (length n.stages)) k no_demand)
           ms (steps - (sum ms + lost n.stages)) k (demand_live net n k setting inside) (omega (arith, setting.stages.0))
           (omega (arith, here.0, setting.least k inside)) here.1 in
-          let low = peak_below net n v gs setting full above below in
-          let high = peak_is.least (peak net n.number gs) gs (peak_base net n gs setting full) full (under_peak net n gs setting full) in
+          let low = peak_passes net n setting (λ d. is_above v d) (below_lower v above) gs full below in
+          let high = peak_is.least (peak net n.number gs) gs (peak_base net n setting gs full) full (under_peak net n setting gs full) in
           cc (low, high)
           )
     ]

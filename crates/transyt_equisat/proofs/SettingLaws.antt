@@ -1,5 +1,5 @@
 -- What the balance of a node stands on holds in a valid network.
-use Rattle.std.proofs.Common.{◌≡◌, ℕ, zero, suc, ◌<◌, Bool, true, false, not, nat_eq, List, [], ◌∷◌, length, get_or, cond}
+use Rattle.std.proofs.Common.{◌≡◌, ℕ, zero, suc, ◌<◌, true, false, not, nat_eq, List, [], ◌∷◌, length, get_or, cond}
 use Rattle.std.proofs.Common.{◌∙◌, ap, refl, arith, Some, None}
 use Rattle.std.specs.List.{list_any}
 use Rattle.std.proofs.lemmas.Bool.{and_parts, or_parts}
@@ -12,11 +12,8 @@ use Rattle.transyt_net.specs.Valid.{IsValid, IsLink, numbered, stages_at, stage_
 use Rattle.transyt_net.proofs.PlaceLaws.{eq_swapped}
 use Rattle.transyt_equisat.specs.Degrees.{is_counted}
 use Rattle.transyt_equisat.specs.Sharing.{IsSetting}
+use Rattle.transyt_equisat.proofs.DemandLaws.{not_true}
 use Rattle.transyt_equisat.proofs.PlanFits.{plan_fits, plan_parts}
-
-not_true : (b : Bool) → not b ≡ true → b ≡ false
-not_true true h = absurd (cc)
-not_true false h = refl
 
 -- a number that is none of these differs from each
 differs : (nodes : List NodeValue) (k p : ℕ) (d : NodeValue) → list_any (nat_eq k) (node_numbers nodes) ≡ false → p < length nodes

@@ -72,7 +72,7 @@ over_more a greens best next place is enough inside before over here k below =
     ]
 
 -- a stage that gets more steps has so many more
-more_same : (greens : List ℕ) (p x k : ℕ) → p < length greens → k ≡ p
+pub more_same : (greens : List ℕ) (p x k : ℕ) → p < length greens → k ≡ p
     → get_or (set greens p (get_or greens p 0 + x)) k 0 ≡ get_or greens k 0 + x
 more_same greens p x k inside same =
     ap (λ n. get_or (set greens p (get_or greens p 0 + x)) n 0) same
