@@ -5,7 +5,7 @@ use Rattle.std.specs.List.{find, filter, fold, list_any}
 use Rattle.std.specs.Option.{option_map}
 use Rattle.std.specs.Prelude.{sum_by}
 use Rattle.std.proofs.lemmas.Bool.{cases_Bool, or_cases}
-use Rattle.std.proofs.lemmas.List.Folds.{list_any-append}
+use Rattle.std.proofs.lemmas.Simd.{map-map}
 use Rattle.std.proofs.lemmas.List.Sums.{sum_by-cons}
 use Rattle.std.proofs.lemmas.List.Elements.{All-map, All-head, All-tail}
 use Rattle.transyt_net.specs.Parts.{Network}
@@ -17,7 +17,7 @@ use Rattle.transyt_counts.specs.Tally.{is_of, minutes_of, keys_of, with_key, tot
 use Rattle.transyt_counts.specs.Counts.{answer_of, answer_for, is_too_great}
 use Rattle.transyt_counts.specs.Entries.{AreCounted, entry_edit, is_great, entries_for, entries_answer}
 use Rattle.transyt_counts.proofs.RowLaws.{IsGood}
-use Rattle.transyt_counts.proofs.KeyLaws.{key_self, or_true}
+use Rattle.transyt_counts.proofs.KeyLaws.{key_self, or_true, any_more}
 use Rattle.transyt_counts.proofs.TallyLaws.{rows_bounded}
 
 -- the search goes on behind what fails
@@ -65,16 +65,12 @@ find_map test f (x ∷ xs) =
           ∙ sym (ap (λ b. option_map f (cond b (Some x) (find (λ x. test (f x)) xs))) fails)
     ]
 
-map_twice : {A B C : Type 0} (g : B → C) (f : A → B) (xs : List A) → map g (map f xs) ≡ map (λ x. g (f x)) xs
-map_twice g f [] = refl
-map_twice g f (x ∷ xs) = ap (λ ys. g (f x) ∷ ys) (map_twice g f xs)
-
 -- the answer from a tally is that for its rows
 entries_are : (cs : List Count) (o : Option Key)
     → entries_for (length cs) (tally_of cs) (option_map (λ k. (k, totals_of cs k)) o) ≡ answer_for cs o
 entries_are cs (Some k) = refl
 entries_are cs None =
-    ap (λ es. Ok (record { rows = length cs; edits = es })) (map_twice entry_edit (λ k. (k, totals_of cs k)) (keys_of cs))
+    ap (λ es. Ok (record { rows = length cs; edits = es })) (map-map entry_edit (λ k. (k, totals_of cs k)) (keys_of cs))
 
 -- the answer from the tally of rows is that of the rows
 pub tally_answer : (cs : List Count) → entries_answer (length cs) (tally_of cs) ≡ answer_of (Ok cs)
@@ -85,16 +81,7 @@ tally_answer cs =
 -- a key that is there was there before, or is that of a row
 any_cases : (ks : List Key) (k j : Key) → list_any (same_key j) (with_key ks k) ≡ true
     → (list_any (same_key j) ks ≡ true) ⊎ (same_key j k ≡ true)
-any_cases ks k j there =
-    elim (cases_Bool (list_any (same_key k) ks)) [
-      | inl known ↦ inl (sym (ap (λ b. list_any (same_key j) (cond b ks (ks ++ k ∷ []))) known) ∙ there)
-      | inr new ↦
-          elim (or_cases (list_any (same_key j) ks) (same_key j k || false)
-          (sym (ap (λ b. list_any (same_key j) (cond b ks (ks ++ k ∷ []))) new ∙ list_any-append (same_key j) ks (k ∷ [])) ∙ there)) [
-            | inl before ↦ inl before
-            | inr now ↦ elim (or_cases (same_key j k) false now) [ inl same ↦ inr same | inr never ↦ absurd (cc never) ]
-          ]
-    ]
+any_cases ks k j there = or_cases (list_any (same_key j) ks) (same_key j k) (sym (any_more ks k j) ∙ there)
 
 -- a key of rows has a row, and so minutes
 minutes_some : (net : Network) (cs : List Count) (ks : List Key) (k : Key) → All (IsGood net) cs

@@ -3,7 +3,7 @@ use Rattle.std.proofs.Common.{◌≡◌, ℕ, ◌*◌, ◌<◌, ◌≤◌, Bool,
 use Rattle.std.proofs.Common.{sym, ◌∙◌, ap, refl, inl, inr}
 use Rattle.std.specs.List.{list_all, filter, fold}
 use Rattle.std.proofs.Math.Nat.{mul-le-mul_left}
-use Rattle.std.proofs.lemmas.Bool.{cases_Bool, ltb-true, ltb-false}
+use Rattle.std.proofs.lemmas.Bool.{cases_Bool, ltb-true, ltb-false, not-true}
 use Rattle.std.proofs.lemmas.List.Elements.{All-head, All-tail}
 use Rattle.transyt_parts.specs.Parts.{LinkValue}
 use Rattle.transyt_net.specs.Parts.{Network}
@@ -94,15 +94,10 @@ stage_tested test lower net number stage e some live =
     (test (degree_of net.frame.step_count no_demand e)) (lower.none net.frame.step_count e some))
     ∙ all_tested test lower net.frame.step_count number stage e some net.links live no_demand (omega arith)
 
--- what isn't true is false
-pub not_true : (b : Bool) → not b ≡ true → b ≡ false
-not_true true h = absurd (cc)
-not_true false h = refl
-
 -- not to be above v is such a test
 pub not_above_lower : (v : Fraction) → IsLower (λ d. not (is_above d v))
 not_above_lower v = record {
-  lesser = λ a b a_base b_base less passes. ap not (not_above-trans a b v b_base less (not_true (is_above b v) passes));
+  lesser = λ a b a_base b_base less passes. ap not (not_above-trans a b v b_base less (not-true (is_above b v) passes));
   none = λ steps e some. ap not (not_above (degree_of steps no_demand e) v (omega arith));
 }
 

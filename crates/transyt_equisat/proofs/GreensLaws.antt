@@ -2,6 +2,7 @@
 use Rattle.std.proofs.Common.{◌≡◌, ℕ, ◌+◌, ◌-◌, ◌<◌, ◌≤◌, Bool, true, false, not, List, length, sum}
 use Rattle.std.proofs.Common.{◌∙◌, ap, arith, get_or}
 use Rattle.std.proofs.lemmas.List.FromFn.{length-map-range_with_len, get_or-map-range_with_len}
+use Rattle.std.proofs.lemmas.Bool.{not-true}
 use Rattle.transyt_parts.specs.Parts.{NodeValue}
 use Rattle.transyt_parts.specs.Plan.{stage_of}
 use Rattle.transyt_net.specs.Parts.{Network}
@@ -14,7 +15,7 @@ use Rattle.transyt_equisat.specs.Balance.{first_from, least_green, least_greens,
 use Rattle.transyt_equisat.specs.Asked.{asked_of}
 use Rattle.transyt_equisat.specs.Sharing.{degree_at, IsUnder, IsSetting, IsLeastPeak}
 use Rattle.transyt_equisat.proofs.FractionLaws.{at_most}
-use Rattle.transyt_equisat.proofs.DemandLaws.{not_above_lower, not_true}
+use Rattle.transyt_equisat.proofs.DemandLaws.{not_above_lower}
 use Rattle.transyt_equisat.proofs.SearchLaws.{first_bounds, first_least}
 use Rattle.transyt_equisat.proofs.SharingLaws.{sum_pointwise}
 use Rattle.transyt_equisat.proofs.PeakLaws.{peak_base, under_peak, peak_under}
@@ -47,7 +48,7 @@ least_parts net n v es k setting fits under inside =
     let low = first_bounds test least (steps - least) in (
       omega (arith, at, low.0),
       omega (arith, at, first.0),
-      not_true (is_above (degree_of steps asks (get_or (least_greens net n v) k 0)) v) (ap test at ∙ first.1),
+      not-true (is_above (degree_of steps asks (get_or (least_greens net n v) k 0)) v) (ap test at ∙ first.1),
     )
 
 -- the least greens leave room in the cycle
@@ -78,7 +79,7 @@ greens_hold net n v setting peak_is =
       fits = filled steps n.stages gs count (omega (arith, setting.stages.0)) (λ k below. (parts k below).0) room;
       under = λ k inside.
           let here = parts k inside in
-          not_true (is_above (degree_at (asked_of net n) (greens_at net n v) k) v)
+          not-true (is_above (degree_at (asked_of net n) (greens_at net n v) k) v)
           (more_passes (λ d. not (is_above d v)) (not_above_lower v) steps (get_or (demands_of net n.number (length n.stages)) k no_demand)
           gs (steps - (sum gs + lost n.stages)) k (demand_live net n k setting inside)
           (omega (arith, setting.stages.0)) (omega (arith, here.0, setting.least k inside)) (ap not here.2));

@@ -1,7 +1,7 @@
 -- The peak over the counted links is that over what the stages ask.
 use Rattle.std.proofs.Common.{◌≡◌, ℕ, ◌+◌, ◌-◌, ◌<◌, ◌≤◌, Bool, true, false, not, nat_eq, List, All, map, length}
 use Rattle.std.proofs.Common.{sym, ◌∙◌, ap, arith, get_or}
-use Rattle.std.proofs.lemmas.Bool.{and_parts, and_from}
+use Rattle.std.proofs.lemmas.Bool.{not-true, and_parts, and_from}
 use Rattle.std.proofs.lemmas.List.Elements.{All-weaker}
 use Rattle.std.proofs.lemmas.List.FromFn.{get_or-map-range_with_len, length-map-range_with_len}
 use Rattle.std.proofs.lemmas.Bool.Decides.{nat_tests}
@@ -15,7 +15,7 @@ use Rattle.transyt_equisat.specs.Demands.{degree_of, demand_in, demands_of, no_d
 use Rattle.transyt_equisat.specs.Peaks.{Fits, green_of, peak}
 use Rattle.transyt_equisat.specs.Asked.{asked_of}
 use Rattle.transyt_equisat.specs.Sharing.{degree_at, IsUnder, IsSetting}
-use Rattle.transyt_equisat.proofs.DemandLaws.{IsLower, positive, stage_tested, not_above_lower, not_true}
+use Rattle.transyt_equisat.proofs.DemandLaws.{IsLower, positive, stage_tested, not_above_lower}
 use Rattle.transyt_equisat.proofs.ExtremeLaws.{greatest_from, all_under}
 use Rattle.transyt_equisat.proofs.FilterLaws.{all_picked, picked_all, all_mapped, mapped_all}
 
@@ -120,7 +120,7 @@ module _ (net : Network) (n : NodeValue) (setting : IsSetting net n) where
   under_peak es fits k inside =
       let top : Fraction = peak net n.number es in
       let deg : LinkValue → Fraction = λ l. degree net.frame.step_count l (green_of es l) in
-      not_true (is_above (degree_at (asked_of net n) es k) top)
+      not-true (is_above (degree_at (asked_of net n) es k) top)
       (stages_pass (λ d. not (is_above d top)) (not_above_lower top) es fits
       (mapped_all (λ d. not (is_above d top) ≡ true) deg (is_counted n.number) net.links
       (All-weaker (λ d. is_above d top ≡ false) (λ d. not (is_above d top) ≡ true) (λ d is. ap not is)
@@ -131,6 +131,6 @@ module _ (net : Network) (n : NodeValue) (setting : IsSetting net n) where
   pub peak_under : (es : List ℕ) (v : Fraction) → Fits net.frame.step_count n.stages es → IsUnder (asked_of net n) es v
       → is_above (peak net n.number es) v ≡ false
   peak_under es v fits under =
-      not_true (is_above (peak net n.number es) v)
+      not-true (is_above (peak net n.number es) v)
       (peak_passes (λ d. not (is_above d v)) (not_above_lower v) es fits
       (λ k inside. ap not (under k inside)))

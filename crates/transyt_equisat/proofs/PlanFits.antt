@@ -1,8 +1,8 @@
 -- The greens of an allowed plan fill the cycle.
-use Rattle.std.proofs.Common.{◌≡◌, ◌≢◌, ℕ, zero, suc, ◌+◌, ◌<◌, ◌≤◌, Bool, true, false, not, List, [], ◌∷◌, map, length, sum, get_or}
+use Rattle.std.proofs.Common.{◌≡◌, ◌≢◌, ℕ, zero, suc, ◌+◌, ◌<◌, ◌≤◌, Bool, true, not, List, [], ◌∷◌, map, length, sum, get_or}
 use Rattle.std.proofs.Common.{sym, ◌∙◌, ap, refl, arith, inl, inr, ◌⊎◌, take, set, None, nat_le, ◌==◌}
 use Rattle.std.specs.List.{list_all, range_with_len}
-use Rattle.std.proofs.lemmas.Bool.{leb-true}
+use Rattle.std.proofs.lemmas.Bool.{leb-true, not-false}
 use Rattle.std.proofs.lemmas.Bool.Decides.{nat_tests}
 use Rattle.std.proofs.lemmas.List.{get_or-map, length-map, take_all, length-set, get_or-set_other}
 use Rattle.std.proofs.lemmas.List.Sums.{AllPass-from_list_all, list_all-from_AllPass, sum_by-cons, sum_by_more, sum_by-set, get_or-le-sum_by}
@@ -13,11 +13,6 @@ use Rattle.transyt_parts.specs.Plan.{stage_of, no_stage, length_at, stage_length
 use Rattle.transyt_net.proofs.WriteLaws.{no_fault}
 use Rattle.transyt_equisat.specs.Peaks.{Fits, lost, green_at, greens_of, IsPlanOf}
 
--- what isn't false by its negation is true
-not_false : (b : Bool) → not b ≡ false → b ≡ true
-not_false true h = refl
-not_false false h = absurd (cc)
-
 -- what no fault of a plan says
 pub plan_parts : (steps : ℕ) (plan : List Stage) → plan_fault steps plan ≡ None
     → (2 ≤ length plan) × (sum (stage_lengths steps plan) ≡ steps) × (have_greens steps plan ≡ true)
@@ -25,11 +20,11 @@ plan_parts steps plan none =
     let few = no_fault (not (nat_le 2 (length plan))) _ _ none in
     let order = no_fault (not (in_order steps plan)) _ _ few.1 in
     let short = no_fault (not (have_greens steps plan)) _ _ order.1 in
-    let many : nat_le 2 (length plan) ≡ true = not_false (nat_le 2 (length plan)) few.0 in
-    let sums : (sum (stage_lengths steps plan) == steps) ≡ true = not_false (in_order steps plan) order.0 in (
+    let many : nat_le 2 (length plan) ≡ true = not-false (nat_le 2 (length plan)) few.0 in
+    let sums : (sum (stage_lengths steps plan) == steps) ≡ true = not-false (in_order steps plan) order.0 in (
       leb-true 2 (length plan) many,
       grind (arith, nat_tests, sums),
-      not_false (have_greens steps plan) short.0,
+      not-false (have_greens steps plan) short.0,
     )
 
 -- the room of the stage at a place

@@ -2,7 +2,7 @@
 use Rattle.std.proofs.Common.{◌≡◌, ℕ, ◌*◌, ◌<◌, Bool, true, false, not, ◌&&◌, nat_eq, List, [], ◌∷◌, All, map}
 use Rattle.std.proofs.Common.{sym, ◌∙◌, ap, refl, subst, arith, get_or, inl, inr, ◌⊎◌, cond, Option, Some, None}
 use Rattle.std.specs.List.{find}
-use Rattle.std.proofs.lemmas.Bool.{cases_Bool}
+use Rattle.std.proofs.lemmas.Bool.{not-true, cases_Bool}
 use Rattle.std.proofs.lemmas.Bool.Decides.{nat_tests}
 use Rattle.std.proofs.lemmas.List.Elements.{All-map, All-nil, All-cons}
 use Rattle.transyt_parts.specs.Parts.{NodeValue, LinkValue}
@@ -15,7 +15,7 @@ use Rattle.transyt_equisat.specs.Balance.{greens_at, is_same, degree_found, bala
 use Rattle.transyt_equisat.specs.Asked.{asked_of}
 use Rattle.transyt_equisat.specs.Sharing.{IsSetting, IsLeastPeak}
 use Rattle.transyt_equisat.proofs.FractionLaws.{at_most-trans}
-use Rattle.transyt_equisat.proofs.DemandLaws.{not_true, not_above_lower, below_lower}
+use Rattle.transyt_equisat.proofs.DemandLaws.{not_above_lower, below_lower}
 use Rattle.transyt_equisat.proofs.FilterLaws.{each_picked}
 use Rattle.transyt_equisat.proofs.ExtremeLaws.{greatest_from}
 use Rattle.transyt_equisat.proofs.AlikeLaws.{equal_by}
@@ -72,7 +72,7 @@ reached_by net n v gs setting peak_is hold above =
           let both : All (λ l. is_above v (deg l) ≡ true) (counted net n.number) =
           λ i d below.
           let l : LinkValue = get_or (counted net n.number) i d in
-          below_by (deg l) v (nowhere.1 i d below) (not_true (is_above (deg l) v) (unders i d below)) in
+          below_by (deg l) v (nowhere.1 i d below) (not-true (is_above (deg l) v) (unders i d below)) in
           let low : is_above v p ≡ true =
           greatest_from (λ d. is_above v d ≡ true) (map deg (counted net n.number)) nothing ((below_lower v above).none 0 1 (omega arith))
           (All-map (λ d. is_above v d ≡ true) deg (counted net n.number) both) in
