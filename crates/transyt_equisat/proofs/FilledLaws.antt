@@ -15,11 +15,12 @@ use Rattle.transyt_equisat.specs.Degrees.{counts_in}
 use Rattle.transyt_equisat.specs.Demands.{heavier, heavier_of, demand_of, degree_of, demands_of, no_demand}
 use Rattle.transyt_equisat.specs.Peaks.{Fits, lost}
 use Rattle.transyt_equisat.specs.Balance.{first_more}
+use Rattle.transyt_equisat.specs.Asked.{asked_of}
 use Rattle.transyt_equisat.specs.Sharing.{IsSetting}
 use Rattle.transyt_equisat.proofs.DegreeLaws.{degree_falls}
 use Rattle.transyt_equisat.proofs.DemandLaws.{IsLower, positive}
 use Rattle.transyt_equisat.proofs.SharingLaws.{least_more, more_same, same_or_not}
-use Rattle.transyt_equisat.proofs.PeakLaws.{demand_there}
+use Rattle.transyt_equisat.proofs.PeakLaws.{demand_there, StagesPass}
 
 -- greens with what is left of the cycle given to the first fill it
 pub filled : (steps : ℕ) (stages : List Stage) (es : List ℕ) → length es ≡ length stages → 0 < length stages
@@ -69,3 +70,18 @@ pub demand_live : (net : Network) (n : NodeValue) (k : ℕ) → IsSetting net n 
 demand_live net n k setting inside =
     subst (λ (d : Demand). 0 < d.saturation) (sym (demand_there net n.number (length n.stages) k inside))
     (fold_live n.number (k + 1) net.links no_demand setting.live (omega arith))
+
+-- greens at which each stage passes a lower test: with what is left of the cycle for the first they fill it, and each
+-- stage still passes
+pub filled_passes : (net : Network) (n : NodeValue) → IsSetting net n → (test : Fraction → Bool) → IsLower test → (es : List ℕ)
+    → length es ≡ length n.stages → ((k : ℕ) → k < length n.stages → (stage_of n.stages k).least ≤ get_or es k 0)
+    → StagesPass test net n es → sum es + lost n.stages ≤ net.frame.step_count
+    → Fits net.frame.step_count n.stages (first_more (net.frame.step_count - (sum es + lost n.stages)) es)
+    × StagesPass test net n (first_more (net.frame.step_count - (sum es + lost n.stages)) es)
+filled_passes net n setting test lower es count least pass room = (
+  filled net.frame.step_count n.stages es count (omega (arith, setting.stages.0)) least room,
+  λ k inside.
+      more_passes test lower net.frame.step_count (get_or (asked_of net n).demands k no_demand) es
+      (net.frame.step_count - (sum es + lost n.stages)) k (demand_live net n k setting inside) (omega (arith, setting.stages.0))
+      (omega (arith, least k inside, setting.least k inside)) (pass k inside),
+)

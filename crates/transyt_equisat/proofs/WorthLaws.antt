@@ -101,7 +101,7 @@ balanced_at net n v setting peak_is =
       greens = greens ∙ sym (greens_told net n v hold.fits.count);
       attained = subst (λ (es : List ℕ). IsSame (peak_told (balance_at net n v)) (peak net n.number es)) (sym greens)
           (same-trans (peak_told (balance_at net n v)) v (peak net n.number gs) peak_is.base said
-          (greens_peak net n v gs setting peak_is hold));
+          (greens_peak net n v setting peak_is gs hold));
       least = λ other allowed.
           let fits = plan_fits steps n.stages other allowed in
           let es : List ℕ = greens_of steps other in
