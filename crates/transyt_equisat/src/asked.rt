@@ -25,7 +25,8 @@ impl<'a> Model for Asked<'a> {
 
     ghost view = { λ a. record { steps = a.steps; stages = a.stages.now; demands = a.demands.now } };
 
-    ghost invariant = { λ a. IsAsked (record { steps = a.steps; stages = a.stages.now; demands = a.demands.now }) };
+    ghost invariant = { λ a. IsAsked
+        (record { steps = a.steps; stages = a.stages.now; demands = a.demands.now }) };
 }
 
 impl<'a> Asked<'a> {

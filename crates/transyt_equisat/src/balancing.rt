@@ -231,7 +231,8 @@ fn greens_at(
     requires node { node < length net.now.nodes }
     requires asked { asked.now ≡ asked_of net.now (node_of net.now node) }
     requires least { IsLeastPeak asked.now peak }
-    ensures value { IfOk result (λ greens. greens.items ≡ greens_at net.now (node_of net.now node) peak) }
+    ensures value { IfOk result (λ greens. greens.items
+        ≡ greens_at net.now (node_of net.now node) peak) }
     ensures small { IfOk result (λ greens. All (λ e. e ≤ 120) greens.items) }
 {
     let _nodes = net.nodes();

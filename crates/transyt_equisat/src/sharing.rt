@@ -28,8 +28,10 @@ fn busier(asked: &Asked, greens: &[u32], a: usize, b: usize) -> usize
     requires b { b < length asked.now.stages }
     requires count { length greens.now ≡ length asked.now.stages }
     ensures inside { result < length asked.now.stages }
-    ensures over_a { is_above (degree_at asked.now greens.now a) (degree_at asked.now greens.now result) ≡ false }
-    ensures over_b { is_above (degree_at asked.now greens.now b) (degree_at asked.now greens.now result) ≡ false }
+    ensures over_a { is_above (degree_at asked.now greens.now a)
+        (degree_at asked.now greens.now result) ≡ false }
+    ensures over_b { is_above (degree_at asked.now greens.now b)
+        (degree_at asked.now greens.now result) ≡ false }
 {
     if is_above(degree_at(asked, greens, b), degree_at(asked, greens, a)) {
         return b;

@@ -57,7 +57,8 @@ fn put_step(step: u32, line: &mut LineBuffer)
 #[tactic(auto, unfolding(crate::specs::Plot::step_line))]
 pub(crate) fn set_step(scale: u64, step: usize, profiles: &Profiles, line: &mut LineBuffer)
     requires { step < length profiles.now.arrivals.now }
-    ensures text { line.new ≡ step_lines scale profiles.now.arrivals.now profiles.now.go.now profiles.now.out.now step }
+    ensures text { line.new
+        ≡ step_lines scale profiles.now.arrivals.now profiles.now.go.now profiles.now.out.now step }
     ensures some { 0 < length line.new }
     ensures room { length line.new ≤ 67 }
 {
