@@ -42,10 +42,10 @@ same_equal (u ∷ us) (v ∷ vs) h =
     let both = and_parts (bytes_eq u v) (same_words us vs) h in
     λ j. (bytes_eq-Decides u v).0 both.0 j ∷ same_equal us vs both.1 j
 
--- where no given line is wrong and no true one missing, they agree line by line
+-- where no given line is wrong and no true one missing, they agree line by line, and none is too long
 all_right : (gs : List Given) (truths : List (List ℕ)) (next : ℕ) → first_wrong gs truths ≡ None
-    → first_missing gs truths next ≡ None → map (λ g. words g.line) gs ≡ map words truths
-all_right [] [] next right there = refl
+    → first_missing gs truths next ≡ None → (map (λ g. words g.line) gs ≡ map words truths) × All IsShort gs
+all_right [] [] next right there = (refl, All-nil IsShort)
 all_right [] (t ∷ ts) next right there =
     let more : nat_lt 0 (length (t ∷ ts)) ≡ true = grind (arith, nat_tests) in
     let never : Some next ≡ None = sym (ap (λ b. cond b (Some next) None) more) ∙ there in
@@ -55,26 +55,24 @@ all_right (g ∷ gs) (t ∷ ts) next right there =
     by (agrees g.line t) (λ right there. all_right gs ts next right there) refl right
   where
     by : (b : Bool) → (first_wrong gs ts ≡ None → first_missing gs ts next ≡ None
-        → map (λ g. words g.line) gs ≡ map words ts)
+        → (map (λ g. words g.line) gs ≡ map words ts) × All IsShort gs)
         → agrees g.line t ≡ b → (if b then first_wrong gs ts else Some g.number) ≡ None
-        → map (λ g. words g.line) (g ∷ gs) ≡ map words (t ∷ ts)
+        → (map (λ g. words g.line) (g ∷ gs) ≡ map words (t ∷ ts)) × All IsShort (g ∷ gs)
     by false more is h = absurd (cc)
     by true more is h =
         let same = and_parts (nat_le (length g.line) 4096) (same_words (words g.line) (words t)) is in
+        let few : length g.line ≤ 4096 = grind (arith, nat_tests, same.0) in
         let shorter : nat_lt (length gs) (length ts)
         ≡ nat_lt (length (g ∷ gs)) (length (t ∷ ts)) = grind (arith, nat_tests) in
         let rest = more h (ap (λ t. cond t (Some next) None) shorter ∙ there) in
-        λ j. same_equal (words g.line) (words t) same.1 j ∷ rest j
+        let here : map (λ g. words g.line) (g ∷ gs) ≡ map words (t ∷ ts) =
+        λ j. same_equal (words g.line) (words t) same.1 j ∷ rest.0 j in
+        (here, All-cons IsShort g gs few rest.1)
 
--- as many given lines as true ones
-right_length : (gs : List Given) (truths : List (List ℕ)) (next : ℕ) → first_wrong gs truths ≡ None
-    → first_missing gs truths next ≡ None → length truths ≤ length gs
-right_length gs truths next right there = by (nat_lt (length gs) (length truths)) refl there
-  where
-    by : (b : Bool) → nat_lt (length gs) (length truths) ≡ b → cond b (Some next) None ≡ None
-        → length truths ≤ length gs
-    by true is h = absurd (cc)
-    by false is h = grind (arith, nat_tests)
+-- then there are as many given lines as true ones
+as_many : (gs : List Given) (truths : List (List ℕ)) → map (λ g. words g.line) gs ≡ map words truths
+    → length gs ≡ length truths
+as_many gs truths same = sym (length-map gs (λ g. words g.line)) ∙ ap length same ∙ length-map truths words
 
 -- where none was found to be lower, none is
 none_below : (x : ℕ) (gs : List Given) (ls : List CertLine) (i : ℕ) (d : CertLine) → first_lower x gs ls ≡ None
@@ -93,20 +91,6 @@ none_below x (g ∷ gs) (l ∷ ls) i d none enough inside =
     by false zero more is h inside = is
     by false (suc i) more is h inside = more i h (omega (arith, inside))
 
--- where no given line is wrong none is too long
-all_short : (gs : List Given) (truths : List (List ℕ)) → first_wrong gs truths ≡ None → All IsShort gs
-all_short [] truths right = All-nil IsShort
-all_short (g ∷ gs) [] right = absurd (cc)
-all_short (g ∷ gs) (t ∷ ts) right = by (agrees g.line t) (λ right. all_short gs ts right) refl right
-  where
-    by : (b : Bool) → (first_wrong gs ts ≡ None → All IsShort gs) → agrees g.line t ≡ b
-        → (if b then first_wrong gs ts else Some g.number) ≡ None → All IsShort (g ∷ gs)
-    by false more is h = absurd (cc)
-    by true more is h =
-        let both = and_parts (nat_le (length g.line) 4096) (same_words (words g.line) (words t)) is in
-        let few : length g.line ≤ 4096 = grind (arith, nat_tests, both.0) in
-        All-cons IsShort g gs few (more h)
-
 -- a test of a plan that passed
 planned_is : (plan : Option PlanValue) (line : ℕ) → without_plan plan line ≡ None → is_some plan ≡ true
 planned_is None line h = absurd (cc)
@@ -124,17 +108,18 @@ yes_certifies net table line places x is =
     let there = none_found (first_missing given truths next) code.OtherLine _ places x right.1 in
     let higher = none_found (first_lower (index net) given (cert_lines net)) code.LowerIndex
     (Yes (move_count net) (index net)) places x there.1 in
+    let agree = all_right given truths next right.0 there.0 in
     record {
       planned = planned_is net.plan line planned.0;
-      short = all_short given truths right.0;
-      same = all_right given truths next right.0 there.0;
+      short = agree.1;
+      same = agree.0;
       local = λ place inside.
           sym (lowers_is net place)
           ∙ ap (λ l. is_below (index net) l.tried) (sym (line_at net place (cert_line net 0) inside))
           ∙ none_below (index net) given (cert_lines net) place (cert_line net 0) higher.0
           (omega (
             arith,
-            right_length given truths next right.0 there.0,
+            as_many given truths agree.0,
             ap length (lines_certificate net),
             length-cert_texts net,
             length-cert_lines net,
@@ -198,8 +183,6 @@ certified_yes net table line places x c =
     let next = line + 1 + length (lines table) in
     let yes = Yes (move_count net) (index net) in
     let lower = first_lower (index net) given (cert_lines net) in
-    let as_many : length given ≡ length truths =
-    sym (length-map given (λ g. words g.line)) ∙ ap length c.same ∙ length-map truths words in
     let higher = higher_from (index net) given (cert_lines net) (cert_line net 0) (λ i inside.
     let here : i < move_count net = omega (arith, inside, length-cert_lines net) in
     ap (λ l. is_below (index net) l.tried) (line_at net i (cert_line net 0) here) ∙ lowers_is net i
@@ -209,6 +192,6 @@ certified_yes net table line places x c =
     ap (λ o. no_or o code.NoPlan (judged net given next)) (without_none net.plan line c.planned)
     ∙ ap (λ o. no_or o code.OtherLine (no_or (first_missing given truths next) code.OtherLine (no_or lower code.LowerIndex yes)))
     (right_from given truths c.short c.same)
-    ∙ ap (λ o. no_or o code.OtherLine (no_or lower code.LowerIndex yes)) (there_from given truths next as_many)
+    ∙ ap (λ o. no_or o code.OtherLine (no_or lower code.LowerIndex yes)) (there_from given truths next (as_many given truths c.same))
     ∙ ap (λ o. no_or o code.LowerIndex yes) higher
     ∙ (λ j. Yes (count j) (present j))

@@ -1,8 +1,9 @@
 -- The code of a key hangs on nothing that an edit sets, and a key without one can be set.
 use Rattle.std.proofs.Common.{◌≡◌, ℕ, ◌≤◌, Bool, true, false, cond, not, ◌&&◌, ◌||◌, nat_eq, nat_le, List, [], ◌∷◌, map, Option, Some, None}
 use Rattle.std.proofs.Common.{refl, sym, ◌∙◌, ap, arith}
-use Rattle.std.proofs.lemmas.Bool.{and_parts}
+use Rattle.std.proofs.lemmas.Bool.{and_parts, not-false}
 use Rattle.std.proofs.lemmas.Bool.Decides.{nat_tests}
+use Rattle.transyt_syntax.specs.declared.code.Code.{Code}
 use Rattle.transyt_syntax.specs.declared.code.Code.TheVariants as code
 use Rattle.transyt_parts.specs.declared.link.Feed.{Feed}
 use Rattle.transyt_parts.specs.Parts.{LinkValue}
@@ -52,26 +53,24 @@ fed_by_shape a b link (Some f) same = fed_shape a b link f same
 -- networks of one shape have the same codes of keys
 pub code_shape : (a b : Network) (k : Key) → shape a ≡ shape b → key_code a k ≡ key_code b k
 code_shape a b k same =
-    ap (λ x. cond (not (x && is_known a k.feeder)) (Some code.Unknown) (cond (not (is_fed_by a k.link k.feeder)) (Some code.NoFeeder) None)) (link_shape a b k.link same)
-    ∙ ap (λ x. cond (not (is_link b k.link && x)) (Some code.Unknown) (cond (not (is_fed_by a k.link k.feeder)) (Some code.NoFeeder) None)) (known_shape a b k.feeder same)
-    ∙ ap (λ x. cond (not (is_link b k.link && is_known b k.feeder)) (Some code.Unknown) (cond (not x) (Some code.NoFeeder) None)) (fed_by_shape a b k.link k.feeder same)
-
-not_false : (b : Bool) → not b ≡ false → b ≡ true
-not_false true h = refl
-not_false false h = absurd (cc)
+    let code_by : Bool → Bool → Bool → Option Code = λ (link known fed : Bool).
+    cond (not (link && known)) (Some code.Unknown) (cond (not fed) (Some code.NoFeeder) None) in
+    ap (λ x. code_by x (is_known a k.feeder) (is_fed_by a k.link k.feeder)) (link_shape a b k.link same)
+    ∙ ap (λ x. code_by (is_link b k.link) x (is_fed_by a k.link k.feeder)) (known_shape a b k.feeder same)
+    ∙ ap (code_by (is_link b k.link) (is_known b k.feeder)) (fed_by_shape a b k.link k.feeder same)
 
 -- a key without a code can be set to a flow in its range
 edit_by : (net : Network) (link : ℕ) (o : Option ℕ) (flow : ℕ) → key_code net (record { link = link; feeder = o }) ≡ None → flow ≤ 9999
     → edit_fault net (edit_of (record { link = link; feeder = o }) flow) ≡ None
 edit_by net link None flow none small =
-    let known = and_parts (is_link net link) true (not_false (is_link net link && true) (no_fault (not (is_link net link && true)) code.Unknown _ none).0) in
+    let known = and_parts (is_link net link) true (not-false (is_link net link && true) (no_fault (not (is_link net link && true)) code.Unknown _ none).0) in
     let fits : nat_le flow 9999 ≡ true = grind (arith, nat_tests, small) in
     ap (λ b. range_fault b (nat_le flow 9999)) known.0 ∙ ap (range_fault true) fits
 edit_by net link (Some f) flow none small =
     let first = no_fault (not (is_link net link && is_link net f)) code.Unknown _ none in
     let second = no_fault (not (is_fed (feeds_at net.links link) f)) code.NoFeeder None first.1 in
-    let known = not_false (is_link net link && is_link net f) first.0 in
-    let fed = not_false (is_fed (feeds_at net.links link) f) second.0 in
+    let known = not-false (is_link net link && is_link net f) first.0 in
+    let fed = not-false (is_fed (feeds_at net.links link) f) second.0 in
     let fits : nat_le flow 9999 ≡ true = grind (arith, nat_tests, small) in
     ap (λ b. feed_fault b (is_fed (feeds_at net.links link) f) (nat_le flow 9999)) known
     ∙ ap (λ b. feed_fault true b (nat_le flow 9999)) fed ∙ ap (feed_fault true true) fits

@@ -3,7 +3,7 @@ use Rattle.std.proofs.Common.{◌≡◌, ℕ, Bool, true, false, cond, not, ◌&
 use Rattle.std.proofs.Common.{inl, inr, if◌then◌else◌}
 use Rattle.std.specs.List.{list_any, fold}
 use Rattle.std.specs.Map.{lookup}
-use Rattle.std.proofs.lemmas.Bool.{cases_Bool, and_parts, and_from, or_parts, or_from}
+use Rattle.std.proofs.lemmas.Bool.{cases_Bool, not-true, and_parts, and_from, or_parts, or_from}
 use Rattle.std.proofs.lemmas.Bool.Decides.{nat_tests}
 use Rattle.std.proofs.lemmas.List.Folds.{list_any-append}
 use Rattle.indexmap.specs.IndexMap.{insert_entry}
@@ -52,15 +52,11 @@ abbrev pub keys_differ : List Key → Bool
 keys_differ [] = true
 keys_differ (k ∷ ks) = not (list_any (same_key k) ks) && keys_differ ks
 
-not_true : (b : Bool) → not b ≡ true → b ≡ false
-not_true true h = absurd (cc)
-not_true false h = refl
-
 -- the first key stands nowhere else, and the others differ
 pub differ_parts : (k : Key) (ks : List Key) → keys_differ (k ∷ ks) ≡ true → (list_any (same_key k) ks ≡ false) × (keys_differ ks ≡ true)
 differ_parts k ks h =
     let both = and_parts (not (list_any (same_key k) ks)) (keys_differ ks) h in
-    (not_true (list_any (same_key k) ks) both.0, both.1)
+    (not-true (list_any (same_key k) ks) both.0, both.1)
 
 -- a key that isn't there yet goes last
 differ_push : (ks : List Key) (k : Key) → keys_differ ks ≡ true → list_any (same_key k) ks ≡ false → keys_differ (ks ++ k ∷ []) ≡ true
@@ -95,25 +91,35 @@ pub or_true : (b : Bool) → (b || true) ≡ true
 or_true true = refl
 or_true false = refl
 
--- a key that is there stays
-pub any_with : (ks : List Key) (k j : Key) → list_any (same_key j) ks ≡ true → list_any (same_key j) (with_key ks k) ≡ true
-any_with ks k j there =
+or_false : (b : Bool) → (b || false) ≡ b
+or_false true = refl
+or_false false = refl
+
+or_known : (a b : Bool) → (b ≡ true → a ≡ true) → a ≡ (a || b)
+or_known true b known = refl
+or_known false true known = known refl
+or_known false false known = refl
+
+-- the keys that are there with one more
+pub any_more : (ks : List Key) (k j : Key) → list_any (same_key j) (with_key ks k) ≡ (list_any (same_key j) ks || same_key j k)
+any_more ks k j =
     elim (cases_Bool (list_any (same_key k) ks)) [
-      | inl known ↦ ap (λ b. list_any (same_key j) (cond b ks (ks ++ k ∷ []))) known ∙ there
+      | inl known ↦
+          ap (λ b. list_any (same_key j) (cond b ks (ks ++ k ∷ []))) known
+          ∙ or_known (list_any (same_key j) ks) (same_key j k)
+          (λ same. ap (λ x. list_any (same_key x) ks) (key_same j k same) ∙ known)
       | inr new ↦
           ap (λ b. list_any (same_key j) (cond b ks (ks ++ k ∷ []))) new ∙ list_any-append (same_key j) ks (k ∷ [])
-          ∙ ap (λ b. b || (same_key j k || false)) there
+          ∙ ap (λ b. list_any (same_key j) ks || b) (or_false (same_key j k))
     ]
+
+-- a key that is there stays
+pub any_with : (ks : List Key) (k j : Key) → list_any (same_key j) ks ≡ true → list_any (same_key j) (with_key ks k) ≡ true
+any_with ks k j there = any_more ks k j ∙ ap (λ b. b || same_key j k) there
 
 -- and the new one is there
 pub any_itself : (ks : List Key) (k : Key) → list_any (same_key k) (with_key ks k) ≡ true
-any_itself ks k =
-    elim (cases_Bool (list_any (same_key k) ks)) [
-      | inl known ↦ ap (λ b. list_any (same_key k) (cond b ks (ks ++ k ∷ []))) known ∙ known
-      | inr new ↦
-          ap (λ b. list_any (same_key k) (cond b ks (ks ++ k ∷ []))) new ∙ list_any-append (same_key k) ks (k ∷ [])
-          ∙ ap (λ b. list_any (same_key k) ks || (b || false)) (key_self k) ∙ or_true (list_any (same_key k) ks)
-    ]
+any_itself ks k = any_more ks k k ∙ ap (λ b. list_any (same_key k) ks || b) (key_self k) ∙ or_true (list_any (same_key k) ks)
 
 -- functions that agree at the keys that are there
 pub map_same : {A : Type 0} (f g : Key → A) (ks : List Key) → ((j : Key) → list_any (same_key j) ks ≡ true → f j ≡ g j) → map f ks ≡ map g ks

@@ -2,7 +2,7 @@
 use Rattle.std.proofs.Common.{◌≡◌, ℕ, ◌+◌, ◌-◌, ◌≤◌, Bool, true, false, cond, List, [], ◌∷◌, ◌++◌, length, All, Option, Some, Ok, Err}
 use Rattle.std.proofs.Common.{refl, sym, ◌∙◌, ap, arith}
 use Rattle.std.proofs.lemmas.List.{append-nil, append_assoc, length-append}
-use Rattle.std.proofs.lemmas.List.Elements.{All-same}
+use Rattle.std.proofs.lemmas.List.Elements.{All-nil, All-same, All-weaker}
 use Rattle.std.specs.Map.{lookup}
 use Rattle.indexmap.specs.IndexMap.{insert_entry}
 use Rattle.csv.specs.declared.reader.Reader.{Reader}
@@ -18,82 +18,14 @@ use Rattle.transyt_counts.specs.declared.counts.CountStop.TheVariants as stop
 use Rattle.transyt_counts.specs.Keys.{same_key}
 use Rattle.transyt_counts.specs.Records.{records_of}
 use Rattle.transyt_counts.specs.Rows.{read_row}
-use Rattle.transyt_counts.specs.Tally.{more_totals, tally_of, HasRoom}
+use Rattle.transyt_counts.specs.Tally.{more_totals, tally_of, AreFew, HasRoom}
+use Rattle.transyt_counts.specs.Entries.{AreCounted}
 use Rattle.transyt_counts.specs.Counts.{read_rows, answer_of, RefusesTable}
 use Rattle.transyt_counts.specs.Progress.{IsReading, HasRead, RefusesRow}
 use Rattle.transyt_counts.proofs.TextLaws.{records_reached, reached_few}
-use Rattle.transyt_counts.proofs.TallyLaws.{tally_push, tally_bounded}
+use Rattle.transyt_counts.proofs.TallyLaws.{tally_push, entries_few}
+use Rattle.transyt_counts.proofs.RowLaws.{good_row}
 use Rattle.transyt_counts.proofs.ReadLaws.{push_ok, push_err, rows_good}
-
--- nothing was read yet
-pub read_start : {R : Type 0} (rem : R → Option (List ℕ)) (net : Network) (table : List ℕ) (reader : Reader R) (entries : List (Key × Totals))
-    → reader_state reader ≡ st.StartRecord → source_of rem reader ≡ Some (strip_bom table) → entries ≡ []
-    → HasRead rem net table reader entries 1
-unfolding Reached
-read_start rem net table reader entries state source empty = record {
-  rows = [];
-  left = strip_bom table;
-  counts = [];
-  source = source;
-  reached = (sym state, refl);
-  number = refl;
-  counted = refl;
-  tally = empty;
-}
-
--- a row more
-pub read_more : {R : Type 0} (rem : R → Option (List ℕ)) (net : Network) (table : List ℕ) (a b : Reader R) (before after : List (Key × Totals))
-    (row : ℕ) (fields : List (List ℕ)) (c : Count)
-    → IsReading a → HasRead rem net table a before row → ReadRecord rem a b true fields → read_row net row fields ≡ Ok c
-    → after ≡ insert_entry same_key before c.key (more_totals c (lookup (same_key c.key) before))
-    → HasRead rem net table b after (row + 1)
-read_more rem net table a b before after row fields c reading has read counts made =
-    let (left, source, reached) = rows-more rem a b fields default_config st.StartRecord (strip_bom table) has.left has.rows
-    reading.config has.source has.reached read in
-    let number : 1 + length has.rows ≡ row = omega (arith, has.number) in
-    record {
-      rows = has.rows ++ fields ∷ [];
-      left = left;
-      counts = has.counts ++ c ∷ [];
-      source = source;
-      reached = reached;
-      number = omega (arith, length-append has.rows (fields ∷ []), has.number);
-      counted = push_ok net 1 has.rows has.counts fields c has.counted (ap (λ m. read_row net m fields) number ∙ counts);
-      tally = made ∙ ap (λ es. insert_entry same_key es c.key (more_totals c (lookup (same_key c.key) es))) has.tally
-          ∙ tally_push has.counts c;
-    }
-
--- the end of the table
-pub read_end : {R : Type 0} (rem : R → Option (List ℕ)) (net : Network) (table : List ℕ) (a b : Reader R) (entries : List (Key × Totals))
-    (row : ℕ) (fields : List (List ℕ))
-    → IsReading a → HasRead rem net table a entries row → ReadRecord rem a b false fields
-    → (counts : List Count) × (read_rows net 1 (records_of table) ≡ Ok counts) × (length counts ≡ row - 1) × (entries ≡ tally_of counts)
-read_end rem net table a b entries row fields reading has read =
-    let none = rows-end rem a b fields default_config has.left reading.config has.source read in
-    let (rest, split, nothing) = records_reached default_config (strip_bom table) has.rows (reader_state a) has.left has.reached in
-    let all : records_of table ≡ has.rows = split ∙ ap (λ rs. has.rows ++ rs) (nothing none) ∙ append-nil has.rows in
-    let good = rows_good net 1 has.rows has.counts has.counted in (
-      has.counts,
-      ap (read_rows net 1) all ∙ has.counted,
-      omega (arith, good.1, has.number),
-      has.tally,
-    )
-
--- a row with a code
-pub read_refused : {R : Type 0} (rem : R → Option (List ℕ)) (net : Network) (table : List ℕ) (a b : Reader R) (entries : List (Key × Totals))
-    (row : ℕ) (fields : List (List ℕ)) (halt : CountStop)
-    → IsReading a → HasRead rem net table a entries row → ReadRecord rem a b true fields → RefusesRow net row fields halt
-    → RefusesTable net table halt
-read_refused rem net table a b entries row fields stop.Memory reading has read refused = tt
-read_refused rem net table a b entries row fields (stop.Refused number code) reading has read refused =
-    let (left, source, reached) = rows-more rem a b fields default_config st.StartRecord (strip_bom table) has.left has.rows
-    reading.config has.source has.reached read in
-    let (rest, split, nothing) = records_reached default_config (strip_bom table) (has.rows ++ fields ∷ []) (reader_state b) left reached in
-    let all : records_of table ≡ has.rows ++ fields ∷ rest = split ∙ append_assoc has.rows (fields ∷ []) rest in
-    let at : 1 + length has.rows ≡ row = omega (arith, has.number) in
-    ap (λ rs. answer_of (read_rows net 1 rs)) all
-    ∙ ap answer_of (push_err net 1 has.rows has.counts fields code rest has.counted (ap (λ m. read_row net m fields) at ∙ refused.1))
-    ∙ ap (λ m. Err (stop.Refused m code)) (at ∙ sym refused.0)
 
 either_way : (m : Bool) (a b c : ℕ) (rest : List ℕ) → length (cond m rest (a ∷ b ∷ c ∷ rest)) ≤ length (a ∷ b ∷ c ∷ rest)
 either_way true a b c rest = omega arith
@@ -107,18 +39,100 @@ strip_short (a ∷ []) = omega arith
 strip_short (a ∷ b ∷ []) = omega arith
 strip_short (a ∷ b ∷ c ∷ rest) = either_way (is_bom a b c) a b c rest
 
--- rows are no more than bytes
-pub read_few : {R : Type 0} (rem : R → Option (List ℕ)) (net : Network) (table : List ℕ) (a : Reader R) (entries : List (Key × Totals)) (row : ℕ)
-    → HasRead rem net table a entries row → row ≤ length table + 1
-read_few rem net table a entries row has =
-    let few = reached_few default_config st.StartRecord (strip_bom table) has.rows (reader_state a) has.left refl has.reached in
-    omega (arith, few, strip_short table, has.number)
+module _ {R : Type 0} (rem : R → Option (List ℕ)) (net : Network) (table : List ℕ) where
+  -- nothing was read yet
+  pub read_start : (reader : Reader R) (entries : List (Key × Totals))
+      → reader_state reader ≡ st.StartRecord → source_of rem reader ≡ Some (strip_bom table) → entries ≡ []
+      → HasRead rem net table reader entries 1
+  unfolding Reached
+  read_start reader entries state source empty = record {
+    rows = [];
+    left = strip_bom table;
+    counts = [];
+    source = source;
+    reached = (sym state, refl);
+    number = refl;
+    counted = refl;
+    tally = empty;
+    few = All-same (λ (e : Key × Totals). AreFew 1 e.1) entries [] empty (All-nil (λ (e : Key × Totals). AreFew 1 e.1));
+  }
 
--- so there is room for a row more
-pub read_room : {R : Type 0} (rem : R → Option (List ℕ)) (net : Network) (table : List ℕ) (a : Reader R) (entries : List (Key × Totals)) (row : ℕ)
-    → length table ≤ 4194304 → HasRead rem net table a entries row → All (λ e. HasRoom e.1) entries
-read_room rem net table a entries row fits has =
-    let good = rows_good net 1 has.rows has.counts has.counted in
-    let few = read_few rem net table a entries row has in
-    All-same (λ (e : Key × Totals). HasRoom e.1) entries (tally_of has.counts) has.tally
-    (tally_bounded net has.counts good.0 (omega (arith, good.1, has.number)))
+  -- a row more
+  pub read_more : (a b : Reader R) (before after : List (Key × Totals))
+      (row : ℕ) (fields : List (List ℕ)) (c : Count)
+      → IsReading a → HasRead rem net table a before row → ReadRecord rem a b true fields → read_row net row fields ≡ Ok c
+      → after ≡ insert_entry same_key before c.key (more_totals c (lookup (same_key c.key) before))
+      → HasRead rem net table b after (row + 1)
+  read_more a b before after row fields c reading has read counts made =
+      let (left, source, reached) = rows-more rem a b fields default_config st.StartRecord (strip_bom table) has.left has.rows
+      reading.config has.source has.reached read in
+      let number : 1 + length has.rows ≡ row = omega (arith, has.number) in
+      record {
+        rows = has.rows ++ fields ∷ [];
+        left = left;
+        counts = has.counts ++ c ∷ [];
+        source = source;
+        reached = reached;
+        number = omega (arith, length-append has.rows (fields ∷ []), has.number);
+        counted = push_ok net 1 has.rows has.counts fields c has.counted (ap (λ m. read_row net m fields) number ∙ counts);
+        tally = made ∙ ap (λ es. insert_entry same_key es c.key (more_totals c (lookup (same_key c.key) es))) has.tally
+            ∙ tally_push has.counts c;
+        few = All-same (λ (e : Key × Totals). AreFew (row + 1) e.1) after
+            (insert_entry same_key before c.key (more_totals c (lookup (same_key c.key) before))) made
+            (entries_few net row c before (good_row net row fields c counts) has.few);
+      }
+
+  -- the end of the table
+  pub read_end : (a b : Reader R) (entries : List (Key × Totals))
+      (row : ℕ) (fields : List (List ℕ))
+      → IsReading a → HasRead rem net table a entries row → ReadRecord rem a b false fields
+      → (counts : List Count) × (read_rows net 1 (records_of table) ≡ Ok counts) × (length counts ≡ row - 1) × (entries ≡ tally_of counts)
+  read_end a b entries row fields reading has read =
+      let none = rows-end rem a b fields default_config has.left reading.config has.source read in
+      let (rest, split, nothing) = records_reached default_config (strip_bom table) has.rows (reader_state a) has.left has.reached in
+      let all : records_of table ≡ has.rows = split ∙ ap (λ rs. has.rows ++ rs) (nothing none) ∙ append-nil has.rows in
+      let good = rows_good net 1 has.rows has.counts has.counted in (
+        has.counts,
+        ap (read_rows net 1) all ∙ has.counted,
+        omega (arith, good.1, has.number),
+        has.tally,
+      )
+
+  -- a row with a code
+  pub read_refused : (a b : Reader R) (entries : List (Key × Totals))
+      (row : ℕ) (fields : List (List ℕ)) (halt : CountStop)
+      → IsReading a → HasRead rem net table a entries row → ReadRecord rem a b true fields → RefusesRow net row fields halt
+      → RefusesTable net table halt
+  read_refused a b entries row fields stop.Memory reading has read refused = tt
+  read_refused a b entries row fields (stop.Refused number code) reading has read refused =
+      let (left, source, reached) = rows-more rem a b fields default_config st.StartRecord (strip_bom table) has.left has.rows
+      reading.config has.source has.reached read in
+      let (rest, split, nothing) = records_reached default_config (strip_bom table) (has.rows ++ fields ∷ []) (reader_state b) left reached in
+      let all : records_of table ≡ has.rows ++ fields ∷ rest = split ∙ append_assoc has.rows (fields ∷ []) rest in
+      let at : 1 + length has.rows ≡ row = omega (arith, has.number) in
+      ap (λ rs. answer_of (read_rows net 1 rs)) all
+      ∙ ap answer_of (push_err net 1 has.rows has.counts fields code rest has.counted (ap (λ m. read_row net m fields) at ∙ refused.1))
+      ∙ ap (λ m. Err (stop.Refused m code)) (at ∙ sym refused.0)
+
+  -- rows are no more than bytes
+  pub read_few : (a : Reader R) (entries : List (Key × Totals)) (row : ℕ)
+      → HasRead rem net table a entries row → row ≤ length table + 1
+  read_few a entries row has =
+      let few = reached_few default_config st.StartRecord (strip_bom table) has.rows (reader_state a) has.left refl has.reached in
+      omega (arith, few, strip_short table, has.number)
+
+  -- so there is room for a row more
+  pub read_room : (a : Reader R) (entries : List (Key × Totals)) (row : ℕ)
+      → length table ≤ 4194304 → HasRead rem net table a entries row → All (λ e. HasRoom e.1) entries
+  read_room a entries row fits has =
+      let rows = read_few a entries row has in
+      All-weaker (λ (e : Key × Totals). AreFew row e.1) (λ (e : Key × Totals). HasRoom e.1)
+      (λ e few. (omega (arith, few.vehicles, rows), omega (arith, few.minutes.1, rows))) entries has.few
+
+  -- and each entry comes from rows
+  pub read_counted : (a : Reader R) (entries : List (Key × Totals)) (row : ℕ)
+      → length table ≤ 4194304 → HasRead rem net table a entries row → All (λ e. AreCounted e.1) entries
+  read_counted a entries row fits has =
+      let rows = read_few a entries row has in
+      All-weaker (λ (e : Key × Totals). AreFew row e.1) (λ (e : Key × Totals). AreCounted e.1)
+      (λ e few. (few.minutes.0, omega (arith, few.vehicles, rows))) entries has.few

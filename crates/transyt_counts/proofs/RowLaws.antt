@@ -1,6 +1,6 @@
 -- A row by its fields one by one, and what a row without a code keeps to.
-use Rattle.std.proofs.Common.{◌≡◌, ℕ, ◌≤◌, Bool, true, false, not, ◌&&◌, nat_le, List, [], ◌∷◌, Option, Some, None, Ok, Err, refl, sym, ◌∙◌, ap}
-use Rattle.std.proofs.lemmas.Bool.{and_parts, leb-true}
+use Rattle.std.proofs.Common.{◌≡◌, ℕ, zero, suc, ◌<◌, ◌≤◌, arith, not, ◌&&◌, nat_le, List, [], ◌∷◌, Option, Some, None, Ok, Err, refl, sym, ◌∙◌, ap}
+use Rattle.std.proofs.lemmas.Bool.{and_parts, leb-true, not-false}
 use Rattle.csv.specs.Records.{field_at}
 use Rattle.transyt_syntax.specs.declared.code.Code.{Code}
 use Rattle.transyt_syntax.specs.declared.code.Code.TheVariants as code
@@ -10,35 +10,19 @@ use Rattle.transyt_net.proofs.WriteLaws.{no_fault, in_range}
 use Rattle.transyt_counts.specs.declared.row.Count.{Count}
 use Rattle.transyt_counts.specs.Rows.{count_of, count_code, key_code, first_code, unless, judged, read_row}
 
--- where a field is wanting a row hasn't four
-pub no_first : (net : Network) (row : ℕ) (fs : List (List ℕ)) → field_at fs 0 ≡ None → read_row net row fs ≡ Err code.WrongCount
+-- where one of the first four fields is wanting a row hasn't four
+pub no_field : (net : Network) (row k : ℕ) (fs : List (List ℕ)) → k < 4 → field_at fs k ≡ None → read_row net row fs ≡ Err code.WrongCount
 unfolding field_at
-no_first net row [] none = refl
-no_first net row (a ∷ fs) none = absurd (cc)
-
--- nor where the second is wanting
-pub no_second : (net : Network) (row : ℕ) (fs : List (List ℕ)) → field_at fs 1 ≡ None → read_row net row fs ≡ Err code.WrongCount
-unfolding field_at
-no_second net row [] none = refl
-no_second net row (a ∷ []) none = refl
-no_second net row (a ∷ b ∷ fs) none = absurd (cc)
-
--- or the third
-pub no_third : (net : Network) (row : ℕ) (fs : List (List ℕ)) → field_at fs 2 ≡ None → read_row net row fs ≡ Err code.WrongCount
-unfolding field_at
-no_third net row [] none = refl
-no_third net row (a ∷ []) none = refl
-no_third net row (a ∷ b ∷ []) none = refl
-no_third net row (a ∷ b ∷ c ∷ fs) none = absurd (cc)
-
--- or the fourth
-pub no_fourth : (net : Network) (row : ℕ) (fs : List (List ℕ)) → field_at fs 3 ≡ None → read_row net row fs ≡ Err code.WrongCount
-unfolding field_at
-no_fourth net row [] none = refl
-no_fourth net row (a ∷ []) none = refl
-no_fourth net row (a ∷ b ∷ []) none = refl
-no_fourth net row (a ∷ b ∷ c ∷ []) none = refl
-no_fourth net row (a ∷ b ∷ c ∷ d ∷ fs) none = absurd (cc)
+no_field net row k [] low none = refl
+no_field net row k (a ∷ []) low none = refl
+no_field net row k (a ∷ b ∷ []) low none = refl
+no_field net row k (a ∷ b ∷ c ∷ []) low none = refl
+no_field net row zero (a ∷ b ∷ c ∷ d ∷ []) low none = absurd (cc)
+no_field net row (suc zero) (a ∷ b ∷ c ∷ d ∷ []) low none = absurd (cc)
+no_field net row (suc (suc zero)) (a ∷ b ∷ c ∷ d ∷ []) low none = absurd (cc)
+no_field net row (suc (suc (suc zero))) (a ∷ b ∷ c ∷ d ∷ []) low none = absurd (cc)
+no_field net row (suc (suc (suc (suc k)))) (a ∷ b ∷ c ∷ d ∷ []) low none = absurd (omega arith)
+no_field net row k (a ∷ b ∷ c ∷ d ∷ e ∷ fs) low none = refl
 
 -- and where there is a fifth
 pub a_fifth : (net : Network) (row : ℕ) (fs : List (List ℕ)) (e : List ℕ) → field_at fs 4 ≡ Some e → read_row net row fs ≡ Err code.WrongCount
@@ -78,10 +62,6 @@ first_none : (a b : Option Code) → first_code a b ≡ None → (a ≡ None) ×
 first_none None b h = (refl, h)
 first_none (Some code) b h = absurd (cc)
 
-not_false : (b : Bool) → not b ≡ false → b ≡ true
-not_false true h = refl
-not_false false h = absurd (cc)
-
 unless_ok : (o : Option Code) (c d : Count) → unless o c ≡ Ok d → (o ≡ None) × (c ≡ d)
 unless_ok None c d h = (refl, cc)
 unless_ok (Some code) c d h = absurd (cc)
@@ -93,7 +73,7 @@ judged_ok net (Some c) d h = let both = unless_ok (count_code net c) c d h in ap
 good_count : (net : Network) (c : Count) → count_code net c ≡ None → IsGood net c
 good_count net c none =
     let both = first_none (key_code net c.key) _ none in
-    let fits = not_false (nat_le c.vehicles 999999 && within 1 1440 c.minutes)
+    let fits = not-false (nat_le c.vehicles 999999 && within 1 1440 c.minutes)
     (no_fault (not (nat_le c.vehicles 999999 && within 1 1440 c.minutes)) code.Range None both.1).0 in
     let parts = and_parts (nat_le c.vehicles 999999) (within 1 1440 c.minutes) fits in
     record {

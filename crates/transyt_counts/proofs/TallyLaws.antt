@@ -1,19 +1,19 @@
 -- One row more in the tally.
-use Rattle.std.proofs.Common.{◌≡◌, ℕ, ◌+◌, ◌*◌, ◌<◌, ◌≤◌, ◌^◌, Bool, true, false, cond, List, [], ◌∷◌, ◌++◌, map, length, All, Some, None, refl, sym, ◌∙◌, ap}
-use Rattle.std.proofs.Common.{arith, inl, inr, IfSome, get_or, subst}
+use Rattle.std.proofs.Common.{◌≡◌, ℕ, ◌+◌, Bool, true, false, cond, List, [], ◌∷◌, ◌++◌, map, All, Some, None, refl, sym, ◌∙◌, ap}
+use Rattle.std.proofs.Common.{arith, inl, inr, IfSome, Option, subst}
 use Rattle.std.specs.List.{list_any, fold, filter}
 use Rattle.std.specs.Prelude.{sum_by}
 use Rattle.std.specs.Map.{lookup}
 use Rattle.std.proofs.lemmas.Bool.{cases_Bool}
-use Rattle.std.proofs.lemmas.List.Sums.{fold_push, sum_by_push, sum_by-le, length-filter, count_by-le-length}
-use Rattle.std.proofs.lemmas.List.Elements.{All-head, All-tail, All-map, All-filter, All-weaker, filter-append}
+use Rattle.std.proofs.lemmas.List.Sums.{fold_push, sum_by_push}
+use Rattle.std.proofs.lemmas.List.Elements.{All-nil, All-cons, All-head, All-tail, All-weaker, filter-append}
 use Rattle.std.proofs.lemmas.List.{append-nil}
 use Rattle.indexmap.specs.IndexMap.{insert_entry}
 use Rattle.transyt_counts.specs.declared.key.Key.{Key}
 use Rattle.transyt_counts.specs.declared.row.Count.{Count}
 use Rattle.transyt_counts.specs.declared.tally.Totals.{Totals}
 use Rattle.transyt_counts.specs.Keys.{same_key}
-use Rattle.transyt_counts.specs.Tally.{is_of, rows_of, vehicles_of, minutes_of, keys_of, with_key, more_totals, totals_of, tally_of, HasRoom}
+use Rattle.transyt_counts.specs.Tally.{is_of, rows_of, keys_of, with_key, more_totals, totals_of, tally_of, AreFew}
 use Rattle.transyt_net.specs.Parts.{Network}
 use Rattle.transyt_counts.proofs.RowLaws.{IsGood}
 use Rattle.transyt_counts.proofs.KeyLaws.{key_same, key_self, key_swapped, keys_of_differ, insert_over, lookup_over, any_with, any_itself}
@@ -107,44 +107,53 @@ tally_push cs c =
     (totals_new cs c)
     ∙ sym (ap (map (λ k. (k, totals_of (cs ++ c ∷ []) k))) (fold_push (λ keys c. with_key keys c.key) [] cs c))
 
--- what the totals of good rows keep to
-pub record AreFew (n : ℕ) (t : Totals) : Type 0 where
-  pub vehicles : t.vehicles ≤ 999999 * n
-  pub minutes : t.minutes ≤ 1440 * n
+-- what each of the entries has, and the totals written over one of them have, all have
+insert_has : (P : Totals → Type 0) (es : List (Key × Totals)) (k : Key) (v : Totals) → All (λ e. P e.1) es → P v
+    → All (λ e. P e.1) (insert_entry same_key es k v)
+insert_has P [] k v all here = All-cons (λ (e : Key × Totals). P e.1) (k, v) [] here (All-nil (λ (e : Key × Totals). P e.1))
+insert_has P (e ∷ es) k v all here =
+    let Q : Key × Totals → Type 0 = λ e. P e.1 in
+    let rest = All-tail Q e es all in
+    elim (cases_Bool (same_key k e.0)) [
+      | inl same ↦
+          subst (λ (b : Bool). All Q (cond b ((e.0, v) ∷ es) (e ∷ insert_entry same_key es k v))) (sym same)
+          (All-cons Q (e.0, v) es here rest)
+      | inr other ↦
+          subst (λ (b : Bool). All Q (cond b ((e.0, v) ∷ es) (e ∷ insert_entry same_key es k v))) (sym other)
+          (All-cons Q e (insert_entry same_key es k v) (All-head Q e es all) (insert_has P es k v rest here))
+    ]
 
--- what the rows of a key sum to is bounded by how many rows there are
-pub rows_bounded : (net : Network) (rows : List Count) (k : Key) → All (IsGood net) rows
-    → (vehicles_of rows k ≤ 999999 * length rows) × (minutes_of rows k ≤ 1440 * length rows)
-rows_bounded net rows k good =
-    let kept : All (IsGood net) (rows_of rows k) = All-filter (is_of k) (IsGood net) rows good in
-    let vehicles = sum_by-le (λ (c : Count). c.vehicles) 999999 (rows_of rows k)
-    (All-weaker (IsGood net) (λ c. c.vehicles ≤ 999999) (λ c is. is.vehicles) (rows_of rows k) kept) in
-    let minutes = sum_by-le (λ (c : Count). c.minutes) 1440 (rows_of rows k)
-    (All-weaker (IsGood net) (λ c. c.minutes ≤ 1440) (λ c is. is.minutes.1) (rows_of rows k) kept) in
-    let fewer = count_by-le-length (is_of k) rows in
-    let count = length-filter (is_of k) rows in
-    (omega (arith, vehicles, fewer, count), omega (arith, minutes, fewer, count))
-
--- so the totals have room for a row more
-pub tally_bounded : (net : Network) (cs : List Count) → All (IsGood net) cs → length cs < 2 ^ 32
-    → All (λ e. HasRoom e.1) (tally_of cs)
-tally_bounded net cs good few =
-    All-map (λ (e : Key × Totals). HasRoom e.1) (λ (k : Key). (k, totals_of cs k)) (keys_of cs) (
-    λ i d below.
-    let k : Key = get_or (keys_of cs) i d in
-    let bounds = rows_bounded net cs k good in
-    (omega (arith, bounds.0), omega (arith, bounds.1))
-    )
-
--- what is looked up among entries with room has room
-pub room_there : (test : Key → Bool) (es : List (Key × Totals)) → All (λ e. HasRoom e.1) es → IfSome (lookup test es) HasRoom
-room_there test [] all = tt
-room_there test (e ∷ es) all =
+-- and what is looked up among them has it
+pub lookup_has : (P : Totals → Type 0) (test : Key → Bool) (es : List (Key × Totals)) → All (λ e. P e.1) es
+    → IfSome (lookup test es) P
+lookup_has P test [] all = tt
+lookup_has P test (e ∷ es) all =
     elim (cases_Bool (test e.0)) [
       | inl passes ↦
-          subst (λ (b : Bool). IfSome (cond b (Some e.1) (lookup test es)) HasRoom) (sym passes)
-          (All-head (λ (e : Key × Totals). HasRoom e.1) e es all)
+          subst (λ (b : Bool). IfSome (cond b (Some e.1) (lookup test es)) P) (sym passes)
+          (All-head (λ (e : Key × Totals). P e.1) e es all)
       | inr fails ↦
-          subst (λ (b : Bool). IfSome (cond b (Some e.1) (lookup test es)) HasRoom) (sym fails)
-          (room_there test es (All-tail (λ (e : Key × Totals). HasRoom e.1) e es all))
+          subst (λ (b : Bool). IfSome (cond b (Some e.1) (lookup test es)) P) (sym fails)
+          (lookup_has P test es (All-tail (λ (e : Key × Totals). P e.1) e es all))
     ]
+
+-- totals of a row more
+totals_few : (net : Network) (n : ℕ) (c : Count) (o : Option Totals) → IsGood net c → IfSome o (AreFew n)
+    → AreFew (n + 1) (more_totals c o)
+totals_few net n c None good before = record {
+  vehicles = omega (arith, good.vehicles);
+  minutes = (omega (arith, good.minutes.0), omega (arith, good.minutes.1));
+}
+totals_few net n c (Some t) good before = record {
+  vehicles = omega (arith, good.vehicles, before.vehicles);
+  minutes = (omega (arith, good.minutes.0), omega (arith, good.minutes.1, before.minutes.1));
+}
+
+-- the entries with a row more
+pub entries_few : (net : Network) (n : ℕ) (c : Count) (es : List (Key × Totals)) → IsGood net c → All (λ e. AreFew n e.1) es
+    → All (λ e. AreFew (n + 1) e.1) (insert_entry same_key es c.key (more_totals c (lookup (same_key c.key) es)))
+entries_few net n c es good few =
+    insert_has (AreFew (n + 1)) es c.key (more_totals c (lookup (same_key c.key) es))
+    (All-weaker (λ (e : Key × Totals). AreFew n e.1) (λ (e : Key × Totals). AreFew (n + 1) e.1)
+    (λ e is. record { vehicles = omega (arith, is.vehicles); minutes = (is.minutes.0, omega (arith, is.minutes.1)) }) es few)
+    (totals_few net n c (lookup (same_key c.key) es) good (lookup_has (AreFew n) (same_key c.key) es few))

@@ -60,50 +60,38 @@ step_quiet cfg st.AfterCr c =
 some_same : {A : Type 0} (a b : A) → Some a ≡ Some b → a ≡ b
 some_same a b h = cc
 
--- a record leaves a state at which the text may end, and no more of the text than there was
-pub record_quiet : (cfg : Config) (s : State) (fields : List (List ℕ)) (field xs : List ℕ) (r : Read)
-    → next_record cfg s fields field xs ≡ Some r → (ends_at_end r.1 ≡ false) × (length r.2 ≤ length xs)
+-- a record leaves a state at which the text may end, and no more of the text than there was; from such a state it takes
+-- a byte at least
+pub record_parts : (cfg : Config) (s : State) (fields : List (List ℕ)) (field xs : List ℕ) (r : Read)
+    → next_record cfg s fields field xs ≡ Some r
+    → (ends_at_end r.1 ≡ false) × (length r.2 ≤ length xs) × (ends_at_end s ≡ false → length r.2 < length xs)
 unfolding next_record
-record_quiet cfg s fields field [] r h =
+record_parts cfg s fields field [] r h =
+    let last : Read = (fields ++ (field ∷ []), st.StartRecord, []) in
     elim (cases_Bool (ends_at_end s)) [
       | inl ends ↦
-          let is : (fields ++ (field ∷ []), st.StartRecord, []) ≡ r =
-          some_same _ r (ap (λ b. cond b (Some (fields ++ (field ∷ []), st.StartRecord, [])) None) (sym ends) ∙ h) in
-          (ap (λ (q : Read). ends_at_end q.1) (sym is), omega (arith, ap (λ (q : Read). length q.2) is))
-      | inr goes ↦ absurd (let none = ap (λ b. cond b (Some (fields ++ (field ∷ []), st.StartRecord, [])) None) (sym goes) ∙ h in cc none)
-    ]
-record_quiet cfg s fields field (c ∷ rest) r h =
-    let here : Read = (fields_after (step cfg s c).1 fields field, (step cfg s c).0, rest) in
-    let later : Option Read = next_record cfg (step cfg s c).0 (fields_after (step cfg s c).1 fields field) (field_after (step cfg s c).1 c field) rest in
-    elim (cases_Bool (is_end (step cfg s c).1)) [
-      | inl ends ↦
-          let is : here ≡ r = some_same here r (ap (λ b. cond b (Some here) later) (sym ends) ∙ h) in (
-            ap (λ (q : Read). ends_at_end q.1) (sym is) ∙ step_quiet cfg s c ends,
+          let is : last ≡ r = some_same last r (ap (λ b. cond b (Some last) None) (sym ends) ∙ h) in (
+            ap (λ (q : Read). ends_at_end q.1) (sym is),
             omega (arith, ap (λ (q : Read). length q.2) is),
+            λ quiet. absurd (cc (ends, quiet)),
           )
-      | inr goes ↦
-          let rec = record_quiet cfg (step cfg s c).0 (fields_after (step cfg s c).1 fields field) (field_after (step cfg s c).1 c field) rest r
-          (ap (λ b. cond b (Some here) later) (sym goes) ∙ h) in
-          (rec.0, omega (arith, rec.1))
+      | inr goes ↦ absurd (let none = ap (λ b. cond b (Some last) None) (sym goes) ∙ h in cc none)
     ]
-
--- from such a state a record takes a byte at least
-pub record_shorter : (cfg : Config) (s : State) (fields : List (List ℕ)) (field xs : List ℕ) (r : Read)
-    → ends_at_end s ≡ false → next_record cfg s fields field xs ≡ Some r → length r.2 < length xs
-unfolding next_record
-record_shorter cfg s fields field [] r quiet h =
-    absurd (let none = ap (λ b. cond b (Some (fields ++ (field ∷ []), st.StartRecord, [])) None) (sym quiet) ∙ h in cc none)
-record_shorter cfg s fields field (c ∷ rest) r quiet h =
+record_parts cfg s fields field (c ∷ rest) r h =
     let here : Read = (fields_after (step cfg s c).1 fields field, (step cfg s c).0, rest) in
     let later : Option Read = next_record cfg (step cfg s c).0 (fields_after (step cfg s c).1 fields field) (field_after (step cfg s c).1 c field) rest in
     elim (cases_Bool (is_end (step cfg s c).1)) [
       | inl ends ↦
           let is : here ≡ r = some_same here r (ap (λ b. cond b (Some here) later) (sym ends) ∙ h) in
-          omega (arith, ap (λ (q : Read). length q.2) is)
+          let left = ap (λ (q : Read). length q.2) is in (
+            ap (λ (q : Read). ends_at_end q.1) (sym is) ∙ step_quiet cfg s c ends,
+            omega (arith, left),
+            λ quiet. omega (arith, left),
+          )
       | inr goes ↦
-          let rec = record_quiet cfg (step cfg s c).0 (fields_after (step cfg s c).1 fields field) (field_after (step cfg s c).1 c field) rest r
+          let rec = record_parts cfg (step cfg s c).0 (fields_after (step cfg s c).1 fields field) (field_after (step cfg s c).1 c field) rest r
           (ap (λ b. cond b (Some here) later) (sym goes) ∙ h) in
-          omega (arith, rec.1)
+          (rec.0, omega (arith, rec.1), λ quiet. omega (arith, rec.1))
     ]
 
 -- so records that were reached are no more than the bytes taken
@@ -113,8 +101,8 @@ unfolding Reached
 reached_few cfg s xs [] s2 ys quiet h = omega (arith, ap length h.1)
 reached_few cfg s xs (r ∷ rs) s2 ys quiet h =
     let (p, at, same, rest) = h in
-    let one = record_quiet cfg s [] [] xs p at in
-    omega (arith, record_shorter cfg s [] [] xs p quiet at, reached_few cfg p.1 p.2 rs s2 ys one.0 rest)
+    let one = record_parts cfg s [] [] xs p at in
+    omega (arith, one.2 quiet, reached_few cfg p.1 p.2 rs s2 ys one.0 rest)
 
 -- the records of a text are those reached and those of what is left
 pub records_split : (cfg : Config) (s : State) (xs : List ℕ) (rows : List (List (List ℕ))) (s2 : State) (ys : List ℕ) (n : ℕ)

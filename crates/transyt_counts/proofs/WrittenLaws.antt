@@ -1,16 +1,12 @@
 -- A write to the first of a number, and then a change of each, is one change of each.
-use Rattle.std.proofs.Common.{◌≡◌, ℕ, Bool, true, false, cond, not, nat_eq, List, [], ◌∷◌, map, All}
+use Rattle.std.proofs.Common.{◌≡◌, ℕ, true, false, cond, not, nat_eq, List, [], ◌∷◌, map, All}
 use Rattle.std.proofs.Common.{refl, ◌∙◌, ap, arith, inl, inr}
 use Rattle.std.specs.List.{list_any}
-use Rattle.std.proofs.lemmas.Bool.{cases_Bool, and_parts, or_parts}
+use Rattle.std.proofs.lemmas.Bool.{cases_Bool, not-true, and_parts, or_parts}
 use Rattle.std.proofs.lemmas.Bool.Decides.{nat_tests}
 use Rattle.std.proofs.lemmas.List.Elements.{All-head, All-tail}
 use Rattle.transyt_parts.specs.Valid.{all_differ}
 use Rattle.transyt_net.specs.Valid.{on_numbered}
-
-not_true : (b : Bool) → not b ≡ true → b ≡ false
-not_true true h = absurd (cc)
-not_true false h = refl
 
 -- what isn't among numbers
 number_gone : {A : Type 0} (key : A → ℕ) (xs : List A) (k j : ℕ) → k ≡ j → list_any (nat_eq j) (map key xs) ≡ false
@@ -40,7 +36,7 @@ written_all {A} key f g h (x ∷ xs) k differ here others =
       | inl same ↦
           ap (λ b. map g (cond b (f x ∷ xs) (x ∷ on_numbered key f xs k))) same
           ∙ ap (λ y. y ∷ map g xs) (All-head Here x xs here same)
-          ∙ ap (λ ys. h x ∷ ys) (rest_same key g h xs k (number_gone key xs k (key x) (grind (arith, nat_tests, same)) (not_true _ parts.0))
+          ∙ ap (λ ys. h x ∷ ys) (rest_same key g h xs k (number_gone key xs k (key x) (grind (arith, nat_tests, same)) (not-true _ parts.0))
           (All-tail Other x xs others))
       | inr other ↦
           ap (λ b. map g (cond b (f x ∷ xs) (x ∷ on_numbered key f xs k))) other

@@ -1,5 +1,5 @@
 -- How far a table was read. No public clause cites these.
-use Rattle.std.specs.Prelude.{ℕ, ◌+◌, ◌≡◌, true, Option, List, length, Some, Ok, Err}
+use Rattle.std.specs.Prelude.{ℕ, ◌+◌, ◌≡◌, true, Option, List, length, All, Some, Ok, Err}
 use Rattle.csv.specs.declared.reader.Reader.{Reader}
 use Rattle.csv.specs.declared.reader.Trim.TheVariants as trim
 use Rattle.csv.specs.declared.parser.State.TheVariants as st
@@ -12,7 +12,7 @@ use Rattle.transyt_counts.specs.declared.counts.CountStop.{CountStop}
 use Rattle.transyt_counts.specs.declared.counts.CountStop.TheVariants as stop
 use Rattle.transyt_counts.specs.Rows.{read_row}
 use Rattle.transyt_counts.specs.Counts.{read_rows}
-use Rattle.transyt_counts.specs.Tally.{tally_of}
+use Rattle.transyt_counts.specs.Tally.{tally_of, AreFew}
 
 -- a reader that reads records of any length, with commas, no header row and no trimming
 pub record IsReading {R : Type 0} (reader : Reader R) : Type 0 where
@@ -32,6 +32,7 @@ pub record HasRead {R : Type 0} (rem : R → Option (List ℕ)) (net : Network) 
   pub number : length rows + 1 ≡ row
   pub counted : read_rows net 1 rows ≡ Ok counts
   pub tally : entries ≡ tally_of counts
+  pub few : All (λ e. AreFew row e.1) entries
 
 -- a row is refused by its code; want of memory may come at any time
 abbrev pub RefusesRow : Network → ℕ → List (List ℕ) → CountStop → Type 0

@@ -1,5 +1,5 @@
 -- What the rows of each key sum to.
-use Rattle.std.specs.Prelude.{ℕ, ◌+◌, ◌*◌, ◌/◌, ◌<◌, ◌^◌, Bool, List, [], ◌∷◌, ◌++◌, map, sum_by, Option, Some, None, if◌then◌else◌}
+use Rattle.std.specs.Prelude.{ℕ, ◌+◌, ◌*◌, ◌/◌, ◌<◌, ◌≤◌, ◌^◌, Bool, List, [], ◌∷◌, ◌++◌, map, sum_by, Option, Some, None, if◌then◌else◌}
 use Rattle.std.specs.List.{filter, fold, list_any}
 use Rattle.transyt_counts.specs.declared.key.Key.{Key}
 use Rattle.transyt_counts.specs.declared.row.Count.{Count}
@@ -50,6 +50,11 @@ totals_of counts k =
 -- each key with its totals. No public clause cites them.
 abbrev pub tally_of : List Count → List (Key × Totals)
 tally_of counts = map (λ k. (k, totals_of counts k)) (keys_of counts)
+
+-- totals of a row or more, and of no more than so many. No public clause cites them.
+pub record AreFew (n : ℕ) (t : Totals) : Type 0 where
+  pub vehicles : t.vehicles ≤ 999999 * n
+  pub minutes : (0 < t.minutes) × (t.minutes ≤ 1440 * n)
 
 -- totals to which a row can be added. No public clause cites them.
 abbrev pub HasRoom : Totals → Type 0

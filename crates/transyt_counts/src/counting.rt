@@ -84,6 +84,7 @@ fn tally_rows(
     ensures ok { IfOk result (λ rows. (counts : List Count)
         × (read_rows net.now 1 (records_of table.now) ≡ Ok counts)
         × (length counts ≡ rows) × (tally.new.entries ≡ tally_of counts)) }
+    ensures counted { IfOk result (λ _. All (λ e. AreCounted e.1) tally.new.entries) }
     ensures err { IfErr result (RefusesTable net.now table.now) }
 {
     for row in 1..table.len() as u32 + 2 {

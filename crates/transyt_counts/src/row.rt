@@ -19,6 +19,15 @@ pub struct Count {
     pub minutes: u32,
 }
 
+/// The four fields of a row.
+#[derive(Clone, Copy)]
+struct Fields<'a> {
+    link: &'a [u8],
+    feeder: &'a [u8],
+    vehicles: &'a [u8],
+    minutes: &'a [u8],
+}
+
 /// The feeder that a field names, none where it is empty.
 fn read_feeder(field: &[u8]) -> Option<Option<u32>>
     ensures { result ≡ feeder_of field.now }
@@ -30,19 +39,14 @@ fn read_feeder(field: &[u8]) -> Option<Option<u32>>
 }
 
 /// What a row of these four fields counts, if each is a number.
-fn read_count(
-    row: u32,
-    link: &[u8],
-    feeder: &[u8],
-    vehicles: &[u8],
-    minutes: &[u8],
-) -> Option<Count>
-    ensures { result ≡ count_of row link.now feeder.now vehicles.now minutes.now }
+fn read_count(row: u32, fields: &Fields) -> Option<Count>
+    ensures { result ≡ count_of row fields.now.link.now fields.now.feeder.now
+        fields.now.vehicles.now fields.now.minutes.now }
 {
-    let link = read_number(link)?;
-    let feeder = read_feeder(feeder)?;
-    let vehicles = read_number(vehicles)?;
-    let minutes = read_number(minutes)?;
+    let link = read_number(fields.link)?;
+    let feeder = read_feeder(fields.feeder)?;
+    let vehicles = read_number(fields.vehicles)?;
+    let minutes = read_number(fields.minutes)?;
     Some(Count {
         row,
         key: Key { link, feeder },
@@ -76,17 +80,11 @@ fn count_code(net: &Net, count: Count) -> Option<Code>
 }
 
 /// What a row of these four fields counts, or its code.
-fn judge(
-    net: &Net,
-    row: u32,
-    link: &[u8],
-    feeder: &[u8],
-    vehicles: &[u8],
-    minutes: &[u8],
-) -> Result<Count, Code>
-    ensures { result ≡ judged net.now (count_of row link.now feeder.now vehicles.now minutes.now) }
+fn judge(net: &Net, row: u32, fields: &Fields) -> Result<Count, Code>
+    ensures { result ≡ judged net.now (count_of row fields.now.link.now fields.now.feeder.now
+        fields.now.vehicles.now fields.now.minutes.now) }
 {
-    let Some(count) = read_count(row, link, feeder, vehicles, minutes) else {
+    let Some(count) = read_count(row, fields) else {
         return Err(Code::NoNumber);
     };
     match count_code(net, count) {
@@ -108,5 +106,11 @@ pub fn read_row(net: &Net, row: u32, fields: &ByteRecord) -> Result<Count, Code>
     ) else {
         return Err(Code::WrongCount);
     };
-    judge(net, row, link, feeder, vehicles, minutes)
+    let fields = Fields {
+        link,
+        feeder,
+        vehicles,
+        minutes,
+    };
+    judge(net, row, &fields)
 }

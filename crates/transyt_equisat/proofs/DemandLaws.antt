@@ -3,7 +3,7 @@ use Rattle.std.proofs.Common.{◌≡◌, ℕ, ◌*◌, ◌<◌, ◌≤◌, Bool,
 use Rattle.std.proofs.Common.{sym, ◌∙◌, ap, refl, inl, inr}
 use Rattle.std.specs.List.{list_all, filter, fold}
 use Rattle.std.proofs.Math.Nat.{mul-le-mul_left}
-use Rattle.std.proofs.lemmas.Bool.{cases_Bool, ltb-true, ltb-false}
+use Rattle.std.proofs.lemmas.Bool.{cases_Bool, ltb-true, ltb-false, not-true}
 use Rattle.std.proofs.lemmas.List.Elements.{All-head, All-tail}
 use Rattle.transyt_parts.specs.Parts.{LinkValue}
 use Rattle.transyt_net.specs.Parts.{Network}
@@ -14,10 +14,10 @@ use Rattle.transyt_equisat.specs.Degrees.{counts_in, counted_in, degree}
 use Rattle.transyt_equisat.specs.Demands.{demand_of, degree_of, heavier, heavier_of, demand_in, no_demand}
 use Rattle.transyt_equisat.proofs.FractionLaws.{not_above, not_above-trans}
 
--- a test that lesser fractions pass too
-abbrev pub IsLower : (Fraction → Bool) → Type 0
-IsLower test =
-    (a b : Fraction) → 0 < a.base → 0 < b.base → is_above a b ≡ false → test b ≡ true → test a ≡ true
+-- a test that lesser fractions pass too, and what nothing asks of a green
+pub record IsLower (test : Fraction → Bool) : Type 0 where
+  pub lesser : (a b : Fraction) → 0 < a.base → 0 < b.base → is_above a b ≡ false → test b ≡ true → test a ≡ true
+  pub none : (steps e : ℕ) → 0 < e → test (degree_of steps no_demand e) ≡ true
 
 -- a product of positive numbers
 pub positive : (a b : ℕ) → 0 < a → 0 < b → 0 < a * b
@@ -73,9 +73,9 @@ all_tested test lower steps number stage e some (l ∷ ls) live d alive =
     let l_base : 0 < (degree steps l e).base = positive l.saturation e here some in
     let d_base : 0 < (degree_of steps d e).base = positive d.saturation e alive some in
     link_more test steps number stage e l ls d (counts_in number stage l) (heavier (demand_of l) d)
-    (λ h. lower (degree_of steps d e) (degree steps l e) d_base l_base
+    (λ h. lower.lesser (degree_of steps d e) (degree steps l e) d_base l_base
     (degree_orders steps e d (demand_of l) (let more = ltb-true (d.flow * (demand_of l).saturation) ((demand_of l).flow * d.saturation) h in omega arith)))
-    (λ h. lower (degree steps l e) (degree_of steps d e) l_base d_base
+    (λ h. lower.lesser (degree steps l e) (degree_of steps d e) l_base d_base
     (degree_orders steps e (demand_of l) d (ltb-false (d.flow * (demand_of l).saturation) ((demand_of l).flow * d.saturation) h)))
     (λ f f_alive. all_tested test lower steps number stage e some ls (All-tail (λ l. 0 < l.saturation) l ls live) f f_alive)
     here alive
@@ -86,44 +86,34 @@ and_true false b h = refl
 
 -- the counted links of a stage pass where the one that asks most does
 pub stage_tested : (test : Fraction → Bool) → IsLower test → (net : Network) (number stage e : ℕ) → 0 < e
-    → All (λ l. 0 < l.saturation) net.links → test (degree_of net.frame.step_count no_demand e) ≡ true
+    → All (λ l. 0 < l.saturation) net.links
     → list_all (λ l. test (degree net.frame.step_count l e)) (counted_in net number stage)
     ≡ test (degree_of net.frame.step_count (demand_in net number stage) e)
-stage_tested test lower net number stage e some live none =
+stage_tested test lower net number stage e some live =
     sym (and_true (list_all (λ l. test (degree net.frame.step_count l e)) (counted_in net number stage))
-    (test (degree_of net.frame.step_count no_demand e)) none)
+    (test (degree_of net.frame.step_count no_demand e)) (lower.none net.frame.step_count e some))
     ∙ all_tested test lower net.frame.step_count number stage e some net.links live no_demand (omega arith)
-
--- what isn't true is false
-pub not_true : (b : Bool) → not b ≡ true → b ≡ false
-not_true true h = absurd (cc)
-not_true false h = refl
 
 -- not to be above v is such a test
 pub not_above_lower : (v : Fraction) → IsLower (λ d. not (is_above d v))
-not_above_lower v a b a_base b_base less passes =
-    ap not (not_above-trans a b v b_base less (not_true (is_above b v) passes))
+not_above_lower v = record {
+  lesser = λ a b a_base b_base less passes. ap not (not_above-trans a b v b_base less (not-true (is_above b v) passes));
+  none = λ steps e some. ap not (not_above (degree_of steps no_demand e) v (omega arith));
+}
 
--- to be below v is one too
-pub below_lower : (v : Fraction) → IsLower (λ d. is_above v d)
-below_lower v a b a_base b_base less passes =
-    elim (cases_Bool (is_above v a)) [
-      | inl above ↦ above
-      | inr fails ↦ absurd (let wrong = not_above-trans v a b a_base fails less in cc (wrong, passes))
-    ]
-
--- no demand is above nothing, and below whatever is above 0
-pub no_demand_passes : (steps e : ℕ) (v : Fraction) → not (is_above (degree_of steps no_demand e) v) ≡ true
-no_demand_passes steps e v = ap not (not_above (degree_of steps no_demand e) v (omega arith))
-
--- and it is below whatever is above 0
-pub no_demand_below : (steps e : ℕ) (v : Fraction) → 0 < e → 0 < v.top → is_above v (degree_of steps no_demand e) ≡ true
-no_demand_below steps e v some above =
-    elim (cases_Bool (is_above v (degree_of steps no_demand e))) [
-      | inl passes ↦ passes
-      | inr fails ↦ absurd (
-          let less = ltb-false ((degree_of steps no_demand e).top * v.base) (v.top * (degree_of steps no_demand e).base) fails in
-          let more = positive v.top e above some in
-          omega arith
-          )
-    ]
+-- to be below v is one too, where v is above 0
+pub below_lower : (v : Fraction) → 0 < v.top → IsLower (λ d. is_above v d)
+below_lower v above = record {
+  lesser = λ a b a_base b_base less passes. elim (cases_Bool (is_above v a)) [
+    | inl is ↦ is
+    | inr fails ↦ absurd (let wrong = not_above-trans v a b a_base fails less in cc (wrong, passes))
+  ];
+  none = λ steps e some. elim (cases_Bool (is_above v (degree_of steps no_demand e))) [
+    | inl is ↦ is
+    | inr fails ↦ absurd (
+        let less = ltb-false ((degree_of steps no_demand e).top * v.base) (v.top * (degree_of steps no_demand e).base) fails in
+        let more = positive v.top e above some in
+        omega arith
+        )
+  ];
+}

@@ -41,10 +41,6 @@ fits_cons s ss left e es least room rest = record {
   fills = omega (arith, sum_by-cons (λ n. n) e es, sum_by-cons (λ (s : Stage). s.intergreen) s ss, rest.fills);
 }
 
--- the least of an empty range and of one more
-pub range_at : (a n k d : ℕ) → k < n → get_or (range_with_len a n) k d ≡ a + k
-range_at a n k d inside = get_or-range_with_len a n k d inside
-
 -- each list of greens in it fits
 pub all_fit : (ss : List Stage) (left : ℕ) → All (λ es. Fits left ss es) (all_greens ss left)
 all_fit [] zero = All-cons (λ (es : List ℕ). Fits 0 [] es) [] [] (record { count = refl; least = λ k below. absurd (omega arith); fills = refl })

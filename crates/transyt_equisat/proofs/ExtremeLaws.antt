@@ -1,117 +1,102 @@
 -- Laws of the greatest and of the least of fractions.
-use Rattle.std.proofs.Common.{◌≡◌, ◌<◌, Bool, true, false, cond, List, [], ◌∷◌, All, arith, ◌∙◌, ap}
+use Rattle.std.proofs.Common.{◌≡◌, ◌<◌, Bool, true, false, cond, List, [], ◌∷◌, All, arith, ◌∙◌, ap, length, if◌then◌else◌}
 use Rattle.std.proofs.Common.{inl, inr}
 use Rattle.std.specs.List.{fold}
 use Rattle.std.proofs.lemmas.Bool.{cases_Bool}
 use Rattle.std.proofs.lemmas.List.Elements.{All-head, All-tail, All-nil, All-cons}
 use Rattle.transyt_equisat.specs.declared.fraction.Fraction.{Fraction}
 use Rattle.transyt_equisat.specs.Fractions.{is_above, greater, nothing}
-use Rattle.transyt_equisat.specs.Balance.{lesser, least_of}
+use Rattle.transyt_equisat.specs.Balance.{least_of}
 use Rattle.transyt_equisat.proofs.FractionLaws.{not_above, not_above-trans, above_not}
-
--- a choice of two has what both have
-pub chosen : (P : Fraction → Type 0) (b : Bool) (x y : Fraction) → P x → P y → P (cond b x y)
-chosen P true x y px py = px
-chosen P false x y px py = py
-
--- what all and the first have, the greatest has
-pub greatest_from : (P : Fraction → Type 0) (ds : List Fraction) (a : Fraction) → P a → All P ds → P (fold greater a ds)
-greatest_from P [] a pa all = pa
-greatest_from P (d ∷ ds) a pa all =
-    greatest_from P ds (greater a d) (chosen P (is_above d a) d a (All-head P d ds all) pa) (All-tail P d ds all)
-
--- and the least has
-pub least_from : (P : Fraction → Type 0) (ds : List Fraction) (a : Fraction) → P a → All P ds → P (fold lesser a ds)
-least_from P [] a pa all = pa
-least_from P (d ∷ ds) a pa all =
-    least_from P ds (lesser a d) (chosen P (is_above a d) d a (All-head P d ds all) pa) (All-tail P d ds all)
 
 -- a fraction isn't above itself
 pub not_above-self : (a : Fraction) → is_above a a ≡ false
 not_above-self a = not_above a a (omega arith)
 
--- neither is above the greater
-greater_first : (a d : Fraction) → is_above a (greater a d) ≡ false
-greater_first a d =
-    elim (cases_Bool (is_above d a)) [
-      | inl above ↦ ap (λ b. is_above a (cond b d a)) above ∙ above_not d a above
-      | inr below ↦ ap (λ b. is_above a (cond b d a)) below ∙ not_above-self a
+-- a test of two fractions that orders them
+pub record IsOrder (over : Fraction → Fraction → Bool) : Type 0 where
+  pub self : (a : Fraction) → over a a ≡ false
+  pub trans : (a b c : Fraction) → 0 < b.base → over a b ≡ false → over b c ≡ false → over a c ≡ false
+  pub one_way : (a b : Fraction) → over a b ≡ true → over b a ≡ false
+
+-- to be above is one
+above : IsOrder is_above
+above = record { self = not_above-self; trans = not_above-trans; one_way = above_not }
+
+-- and so is to be below
+below : IsOrder (λ a b. is_above b a)
+below = record {
+  self = not_above-self;
+  trans = λ a b c base ab bc. not_above-trans c b a base bc ab;
+  one_way = λ a b is. above_not b a is;
+}
+
+-- of two the one that is over the other, the first where neither is
+abbrev over_of : (Fraction → Fraction → Bool) → Fraction → Fraction → Fraction
+over_of over a d = if over d a then d else a
+
+-- a choice of two has what both have
+chosen : (P : Fraction → Type 0) (b : Bool) (x y : Fraction) → P x → P y → P (cond b x y)
+chosen P true x y px py = px
+chosen P false x y px py = py
+
+-- what all and the first have, the one over them has
+pub extreme_has : (over : Fraction → Fraction → Bool) (P : Fraction → Type 0) (ds : List Fraction) (a : Fraction) → P a → All P ds
+    → P (fold (over_of over) a ds)
+extreme_has over P [] a pa all = pa
+extreme_has over P (d ∷ ds) a pa all =
+    extreme_has over P ds (over_of over a d) (chosen P (over d a) d a (All-head P d ds all) pa) (All-tail P d ds all)
+
+-- neither is over the one chosen
+first_under : (over : Fraction → Fraction → Bool) → IsOrder over → (a d : Fraction) → over a (over_of over a d) ≡ false
+first_under over order a d =
+    elim (cases_Bool (over d a)) [
+      | inl is ↦ ap (λ b. over a (cond b d a)) is ∙ order.one_way d a is
+      | inr not_so ↦ ap (λ b. over a (cond b d a)) not_so ∙ order.self a
     ]
 
-greater_second : (a d : Fraction) → is_above d (greater a d) ≡ false
-greater_second a d =
-    elim (cases_Bool (is_above d a)) [
-      | inl above ↦ ap (λ b. is_above d (cond b d a)) above ∙ not_above-self d
-      | inr below ↦ ap (λ b. is_above d (cond b d a)) below ∙ below
-    ]
-
--- the lesser is above neither
-lesser_first : (a d : Fraction) → is_above (lesser a d) a ≡ false
-lesser_first a d =
-    elim (cases_Bool (is_above a d)) [
-      | inl above ↦ ap (λ b. is_above (cond b d a) a) above ∙ above_not a d above
-      | inr below ↦ ap (λ b. is_above (cond b d a) a) below ∙ not_above-self a
-    ]
-
-lesser_second : (a d : Fraction) → is_above (lesser a d) d ≡ false
-lesser_second a d =
-    elim (cases_Bool (is_above a d)) [
-      | inl above ↦ ap (λ b. is_above (cond b d a) d) above ∙ not_above-self d
-      | inr below ↦ ap (λ b. is_above (cond b d a) d) below ∙ below
+second_under : (over : Fraction → Fraction → Bool) → IsOrder over → (a d : Fraction) → over d (over_of over a d) ≡ false
+second_under over order a d =
+    elim (cases_Bool (over d a)) [
+      | inl is ↦ ap (λ b. over d (cond b d a)) is ∙ order.self d
+      | inr not_so ↦ ap (λ b. over d (cond b d a)) not_so ∙ not_so
     ]
 
 abbrev HasBase : Fraction → Type 0
 HasBase d = 0 < d.base
 
--- what came first isn't above the greatest
-pub start_under : (ds : List Fraction) (a : Fraction) → 0 < a.base → All (λ d. 0 < d.base) ds
-    → is_above a (fold greater a ds) ≡ false
-start_under [] a base bases = not_above-self a
-start_under (d ∷ ds) a base bases =
-    let next : 0 < (greater a d).base = chosen HasBase (is_above d a) d a (All-head HasBase d ds bases) base in
-    not_above-trans a (greater a d) (fold greater a (d ∷ ds)) next (greater_first a d)
-    (start_under ds (greater a d) next (All-tail HasBase d ds bases))
+-- neither the first nor any of the others is over the one that is over them
+pub none_over : (over : Fraction → Fraction → Bool) → IsOrder over → (ds : List Fraction) (a : Fraction) → 0 < a.base
+    → All (λ d. 0 < d.base) ds
+    → (over a (fold (over_of over) a ds) ≡ false) × All (λ d. over d (fold (over_of over) a ds) ≡ false) ds
+none_over over order [] a base bases = (order.self a, All-nil (λ d. over d a ≡ false))
+none_over over order (d ∷ ds) a base bases =
+    let next : Fraction = over_of over a d in
+    let end : Fraction = fold (over_of over) a (d ∷ ds) in
+    let next_base : 0 < next.base = chosen HasBase (over d a) d a (All-head HasBase d ds bases) base in
+    let rest = none_over over order ds next next_base (All-tail HasBase d ds bases) in (
+      order.trans a next end next_base (first_under over order a d) rest.0,
+      All-cons (λ x. over x end ≡ false) d ds
+          (order.trans d next end next_base (second_under over order a d) rest.0) rest.1,
+    )
+
+-- what all and the first have, the greatest has
+pub greatest_from : (P : Fraction → Type 0) (ds : List Fraction) (a : Fraction) → P a → All P ds → P (fold greater a ds)
+greatest_from P ds a pa all = extreme_has is_above P ds a pa all
 
 -- none is above the greatest
 pub all_under : (ds : List Fraction) (a : Fraction) → 0 < a.base → All (λ d. 0 < d.base) ds
     → All (λ d. is_above d (fold greater a ds) ≡ false) ds
-all_under [] a base bases = All-nil (λ d. is_above d a ≡ false)
-all_under (d ∷ ds) a base bases =
-    let next : 0 < (greater a d).base = chosen HasBase (is_above d a) d a (All-head HasBase d ds bases) base in
-    All-cons (λ x. is_above x (fold greater (greater a d) ds) ≡ false) d ds
-    (not_above-trans d (greater a d) (fold greater a (d ∷ ds)) next (greater_second a d)
-    (start_under ds (greater a d) next (All-tail HasBase d ds bases)))
-    (all_under ds (greater a d) next (All-tail HasBase d ds bases))
+all_under ds a base bases = (none_over is_above above ds a base bases).1
 
--- the least isn't above what came first
-pub start_over : (ds : List Fraction) (a : Fraction) → 0 < a.base → All (λ d. 0 < d.base) ds
-    → is_above (fold lesser a ds) a ≡ false
-start_over [] a base bases = not_above-self a
-start_over (d ∷ ds) a base bases =
-    let next : 0 < (lesser a d).base = chosen HasBase (is_above a d) d a (All-head HasBase d ds bases) base in
-    not_above-trans (fold lesser a (d ∷ ds)) (lesser a d) a next
-    (start_over ds (lesser a d) next (All-tail HasBase d ds bases)) (lesser_first a d)
-
--- and is above none
-pub all_over : (ds : List Fraction) (a : Fraction) → 0 < a.base → All (λ d. 0 < d.base) ds
-    → All (λ d. is_above (fold lesser a ds) d ≡ false) ds
-all_over [] a base bases = All-nil (λ d. is_above a d ≡ false)
-all_over (d ∷ ds) a base bases =
-    let next : 0 < (lesser a d).base = chosen HasBase (is_above a d) d a (All-head HasBase d ds bases) base in
-    All-cons (λ x. is_above (fold lesser (lesser a d) ds) x ≡ false) d ds
-    (not_above-trans (fold lesser a (d ∷ ds)) (lesser a d) d next
-    (start_over ds (lesser a d) next (All-tail HasBase d ds bases)) (lesser_second a d))
-    (all_over ds (lesser a d) next (All-tail HasBase d ds bases))
+-- the least of some has what all have
+pub least_of_some : (P : Fraction → Type 0) (ds : List Fraction) → 0 < length ds → All P ds → P (least_of ds)
+least_of_some P [] some all = absurd (omega arith)
+least_of_some P (d ∷ ds) some all = extreme_has (λ a b. is_above b a) P ds d (All-head P d ds all) (All-tail P d ds all)
 
 -- the least of fractions is above none of them
 pub least_under : (ds : List Fraction) → All (λ d. 0 < d.base) ds → All (λ d. is_above (least_of ds) d ≡ false) ds
 least_under [] bases = All-nil (λ d. is_above nothing d ≡ false)
 least_under (d ∷ ds) bases =
-    let base = All-head HasBase d ds bases in
-    All-cons (λ x. is_above (least_of (d ∷ ds)) x ≡ false) d ds
-    (start_over ds d base (All-tail HasBase d ds bases)) (all_over ds d base (All-tail HasBase d ds bases))
-
--- the least has what all have
-pub least_has : (P : Fraction → Type 0) (ds : List Fraction) → P nothing → All P ds → P (least_of ds)
-least_has P [] none all = none
-least_has P (d ∷ ds) none all = least_from P ds d (All-head P d ds all) (All-tail P d ds all)
+    let both = none_over (λ a b. is_above b a) below ds d (All-head HasBase d ds bases) (All-tail HasBase d ds bases) in
+    All-cons (λ x. is_above (least_of (d ∷ ds)) x ≡ false) d ds both.0 both.1

@@ -1,8 +1,8 @@
 -- Greens with what is left of the cycle given to the first stage.
 use Rattle.std.proofs.Common.{◌≡◌, ℕ, ◌+◌, ◌-◌, ◌<◌, ◌≤◌, Bool, true, false, ◌&&◌, List, [], ◌∷◌, All, length, sum}
-use Rattle.std.proofs.Common.{sym, ◌∙◌, ap, subst, arith, get_or, inl, inr, cond}
+use Rattle.std.proofs.Common.{sym, subst, arith, get_or, inl, inr, cond}
 use Rattle.std.specs.List.{fold}
-use Rattle.std.proofs.lemmas.List.{get_or-set_same, get_or-set_other, length-set}
+use Rattle.std.proofs.lemmas.List.{get_or-set_other, length-set}
 use Rattle.std.proofs.lemmas.List.Sums.{sum_by-set}
 use Rattle.std.proofs.lemmas.List.Elements.{All-head, All-tail}
 use Rattle.transyt_parts.specs.Parts.{NodeValue, LinkValue}
@@ -11,16 +11,16 @@ use Rattle.transyt_parts.specs.Plan.{stage_of}
 use Rattle.transyt_net.specs.Parts.{Network}
 use Rattle.transyt_equisat.specs.declared.fraction.Fraction.{Fraction}
 use Rattle.transyt_equisat.specs.declared.demand.Demand.{Demand}
-use Rattle.transyt_equisat.specs.Fractions.{is_above}
 use Rattle.transyt_equisat.specs.Degrees.{counts_in}
 use Rattle.transyt_equisat.specs.Demands.{heavier, heavier_of, demand_of, degree_of, demands_of, no_demand}
 use Rattle.transyt_equisat.specs.Peaks.{Fits, lost}
 use Rattle.transyt_equisat.specs.Balance.{first_more}
+use Rattle.transyt_equisat.specs.Asked.{asked_of}
 use Rattle.transyt_equisat.specs.Sharing.{IsSetting}
 use Rattle.transyt_equisat.proofs.DegreeLaws.{degree_falls}
-use Rattle.transyt_equisat.proofs.DemandLaws.{positive}
-use Rattle.transyt_equisat.proofs.SharingLaws.{least_more, same_or_not}
-use Rattle.transyt_equisat.proofs.PeakLaws.{demand_there}
+use Rattle.transyt_equisat.proofs.DemandLaws.{IsLower, positive}
+use Rattle.transyt_equisat.proofs.SharingLaws.{least_more, more_same, same_or_not}
+use Rattle.transyt_equisat.proofs.PeakLaws.{demand_there, StagesPass}
 
 -- greens with what is left of the cycle given to the first fill it
 pub filled : (steps : ℕ) (stages : List Stage) (es : List ℕ) → length es ≡ length stages → 0 < length stages
@@ -36,17 +36,15 @@ filled steps stages es count some least room =
     }
 
 -- a lower test that a stage's degree passes, it passes with more steps for the first stage too
-pub more_passes : (test : Fraction → Bool) → ((a b : Fraction) → 0 < a.base → 0 < b.base → is_above a b ≡ false → test b ≡ true → test a ≡ true)
-    → (steps : ℕ) (d : Demand) (es : List ℕ) (x k : ℕ) → 0 < d.saturation → 0 < length es → 0 < get_or es k 0
+pub more_passes : (test : Fraction → Bool) → IsLower test → (steps : ℕ) (d : Demand) (es : List ℕ) (x k : ℕ)
+    → 0 < d.saturation → 0 < length es → 0 < get_or es k 0
     → test (degree_of steps d (get_or es k 0)) ≡ true → test (degree_of steps d (get_or (first_more x es) k 0)) ≡ true
 more_passes test lower steps d es x k live some alive passes =
     elim (same_or_not k 0) [
       | inl same ↦
-          let now : get_or (first_more x es) k 0 ≡ get_or es k 0 + x =
-          ap (λ n. get_or (first_more x es) n 0) same ∙ get_or-set_same es 0 (get_or es 0 0 + x) 0 some
-          ∙ ap (λ n. get_or es n 0 + x) (sym same) in
+          let now = more_same es 0 x k some same in
           subst (λ (e : ℕ). test (degree_of steps d e) ≡ true) (sym now)
-          (lower (degree_of steps d (get_or es k 0 + x)) (degree_of steps d (get_or es k 0))
+          (lower.lesser (degree_of steps d (get_or es k 0 + x)) (degree_of steps d (get_or es k 0))
           (positive d.saturation (get_or es k 0 + x) live (omega arith)) (positive d.saturation (get_or es k 0) live alive)
           (degree_falls steps d (get_or es k 0) (get_or es k 0 + x) (omega arith)) passes)
       | inr other ↦
@@ -72,3 +70,18 @@ pub demand_live : (net : Network) (n : NodeValue) (k : ℕ) → IsSetting net n 
 demand_live net n k setting inside =
     subst (λ (d : Demand). 0 < d.saturation) (sym (demand_there net n.number (length n.stages) k inside))
     (fold_live n.number (k + 1) net.links no_demand setting.live (omega arith))
+
+-- greens at which each stage passes a lower test: with what is left of the cycle for the first they fill it, and each
+-- stage still passes
+pub filled_passes : (net : Network) (n : NodeValue) → IsSetting net n → (test : Fraction → Bool) → IsLower test → (es : List ℕ)
+    → length es ≡ length n.stages → ((k : ℕ) → k < length n.stages → (stage_of n.stages k).least ≤ get_or es k 0)
+    → StagesPass test net n es → sum es + lost n.stages ≤ net.frame.step_count
+    → Fits net.frame.step_count n.stages (first_more (net.frame.step_count - (sum es + lost n.stages)) es)
+    × StagesPass test net n (first_more (net.frame.step_count - (sum es + lost n.stages)) es)
+filled_passes net n setting test lower es count least pass room = (
+  filled net.frame.step_count n.stages es count (omega (arith, setting.stages.0)) least room,
+  λ k inside.
+      more_passes test lower net.frame.step_count (get_or (asked_of net n).demands k no_demand) es
+      (net.frame.step_count - (sum es + lost n.stages)) k (demand_live net n k setting inside) (omega (arith, setting.stages.0))
+      (omega (arith, least k inside, setting.least k inside)) (pass k inside),
+)

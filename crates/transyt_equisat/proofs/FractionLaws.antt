@@ -1,5 +1,5 @@
 -- Laws of fractions compared by cross-multiplication.
-use Rattle.std.proofs.Common.{◌≡◌, ◌*◌, ◌<◌, true, false, arith, inl, inr, ◌⊎◌}
+use Rattle.std.proofs.Common.{◌≡◌, ◌*◌, ◌<◌, true, false, arith, inl, inr}
 use Rattle.std.proofs.Math.Nat.{mul-le-mul_left, le_of_mul-le-mul_right}
 use Rattle.std.proofs.lemmas.Bool.{ltb-true, ltb-false, cases_Bool}
 use Rattle.transyt_equisat.specs.declared.fraction.Fraction.{Fraction}
@@ -27,14 +27,6 @@ at_most-trans a b c pos ab bc =
 -- a fraction that is at most one that isn't above a third isn't above it either
 pub not_above-trans : (a b c : Fraction) → 0 < b.base → is_above a b ≡ false → is_above b c ≡ false → is_above a c ≡ false
 not_above-trans a b c pos ab bc = not_above a c (at_most-trans a b c pos (at_most a b ab) (at_most b c bc))
-
--- of two one isn't above the other
-pub either : (a b : Fraction) → (is_above a b ≡ false) ⊎ (is_above b a ≡ false)
-either a b =
-    elim (cases_Bool (is_above a b)) [
-      | inl above ↦ inr (not_above b a (let more = ltb-true (b.top * a.base) (a.top * b.base) above in omega arith))
-      | inr below ↦ inl below
-    ]
 
 -- what is above isn't at most
 pub above_not : (a b : Fraction) → is_above a b ≡ true → is_above b a ≡ false

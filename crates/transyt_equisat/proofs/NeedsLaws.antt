@@ -1,153 +1,99 @@
 -- The needs of the stages with the intergreens do not fit into the cycle.
-use Rattle.std.proofs.Common.{◌≡◌, ℕ, zero, suc, ◌+◌, ◌-◌, ◌*◌, ◌<◌, ◌≤◌, Bool, true, false, nat_eq, List, map, length, sum}
-use Rattle.std.proofs.Common.{sym, ◌∙◌, ap, refl, arith, get_or, inl, inr, ◌⊎◌, cond}
+use Rattle.std.proofs.Common.{◌≡◌, ℕ, ◌+◌, ◌-◌, ◌*◌, ◌<◌, ◌≤◌, Bool, true, false, nat_eq, List, map, length, sum}
+use Rattle.std.proofs.Common.{◌∙◌, ap, arith, get_or, inl, inr, cond}
 use Rattle.std.specs.List.{range_with_len}
 use Rattle.std.proofs.Math.Nat.{mul-le-mul_left}
 use Rattle.std.proofs.lemmas.Bool.{cases_Bool}
 use Rattle.std.proofs.lemmas.Bool.Decides.{nat_tests}
 use Rattle.std.proofs.lemmas.List.FromFn.{length-map-range_with_len, get_or-map-range_with_len}
-use Rattle.transyt_parts.specs.Parts.{NodeValue, LinkValue}
+use Rattle.transyt_parts.specs.Parts.{NodeValue}
 use Rattle.transyt_parts.specs.Plan.{stage_of}
 use Rattle.transyt_net.specs.Parts.{Network}
 use Rattle.transyt_equisat.specs.declared.fraction.Fraction.{Fraction}
 use Rattle.transyt_equisat.specs.declared.demand.Demand.{Demand}
-use Rattle.transyt_equisat.specs.Fractions.{is_above, nothing, AtMost}
-use Rattle.transyt_equisat.specs.Degrees.{is_counted, counts_in, counted, degree, first_stage}
-use Rattle.transyt_equisat.specs.Demands.{degree_of, demand_in, demands_of, no_demand}
-use Rattle.transyt_equisat.specs.Peaks.{Fits, green_of, peak, lost}
+use Rattle.transyt_equisat.specs.Fractions.{is_above, AtMost}
+use Rattle.transyt_equisat.specs.Demands.{degree_of, no_demand}
+use Rattle.transyt_equisat.specs.Peaks.{Fits, peak, lost}
 use Rattle.transyt_equisat.specs.Balance.{first_from, first_more, need_at}
+use Rattle.transyt_equisat.specs.Asked.{asked_of}
 use Rattle.transyt_equisat.specs.Sharing.{degree_at, IsUnder, IsSetting, IsLeastPeak}
 use Rattle.transyt_equisat.proofs.FractionLaws.{at_most, at_most-trans}
-use Rattle.transyt_equisat.proofs.DemandLaws.{positive, stage_tested, below_lower, no_demand_below}
-use Rattle.transyt_equisat.proofs.ExtremeLaws.{greatest_from}
-use Rattle.transyt_equisat.proofs.FilterLaws.{all_picked, all_mapped}
+use Rattle.transyt_equisat.proofs.DemandLaws.{positive, below_lower}
 use Rattle.transyt_equisat.proofs.SearchLaws.{first_bounds, first_least}
 use Rattle.transyt_equisat.proofs.SharingLaws.{le_or_lt}
-use Rattle.transyt_equisat.proofs.PeakLaws.{counts_there, demand_there, demand_count, green_alive, peak_base, under_peak}
-use Rattle.transyt_equisat.proofs.PlanFits.{one_shorter}
+use Rattle.transyt_equisat.proofs.PeakLaws.{peak_passes, peak_base, under_peak}
+use Rattle.transyt_equisat.proofs.PlanFits.{zero_or_more, one_shorter}
 use Rattle.transyt_equisat.proofs.AskedLaws.{need_asked}
-use Rattle.transyt_equisat.proofs.FilledLaws.{filled, more_passes, demand_live}
-use Rattle.transyt_equisat.proofs.ReachedLaws.{above_nothing}
-
--- greens at which each stage is strictly below v
-abbrev pub AreBelow : Network → NodeValue → Fraction → List ℕ → Type 0
-AreBelow net n v es =
-    (k : ℕ) → k < length n.stages
-    → is_above v (degree_at net.frame.step_count (demands_of net n.number (length n.stages)) es k) ≡ true
-
--- then the peak is below v too
-pub peak_below : (net : Network) (n : NodeValue) (v : Fraction) (es : List ℕ) → IsSetting net n
-    → Fits net.frame.step_count n.stages es → 0 < v.top → AreBelow net n v es → is_above v (peak net n.number es) ≡ true
-peak_below net n v es setting fits above below =
-    let steps = net.frame.step_count in
-    let deg : LinkValue → Fraction = λ l. degree steps l (green_of es l) in
-    greatest_from (λ d. is_above v d ≡ true) (map deg (counted net n.number)) nothing (above_nothing v above)
-    (all_mapped (λ d. is_above v d ≡ true) deg (is_counted n.number) net.links (
-    λ i d there.
-    let l : LinkValue = get_or net.links i d in
-    λ counts.
-    let stage = setting.within i d there counts in
-    let k : ℕ = first_stage l - 1 in
-    let inside : k < length n.stages = omega (arith, stage.0, stage.1) in
-    let alive = green_alive net n es setting fits k inside in
-    let asked : is_above v (degree_of steps (demand_in net n.number (k + 1)) (get_or es k 0)) ≡ true =
-    ap (λ (d : Demand). is_above v (degree_of steps d (get_or es k 0))) (sym (demand_there net n.number (length n.stages) k inside))
-    ∙ below k inside in
-    let all = stage_tested (λ d. is_above v d) (below_lower v) net n.number (k + 1) (get_or es k 0) alive setting.live
-    (no_demand_below steps (get_or es k 0) v alive above) ∙ asked in
-    all_picked (λ l. is_above v (degree steps l (get_or es k 0))) (counts_in n.number (k + 1)) net.links all i d there
-    (counts_there n.number l counts stage.0)
-    ))
-
--- a number is 0 or positive
-pub zero_or_more : (k : ℕ) → (k ≡ 0) ⊎ (0 < k)
-zero_or_more zero = inl refl
-zero_or_more (suc k) = inr (omega arith)
-
--- at the whole cycle each stage is below a peak above 0 that greens stay under
-whole_below : (net : Network) (n : NodeValue) (v : Fraction) (es : List ℕ) (k : ℕ) → IsSetting net n → 0 < v.base → 0 < v.top
-    → Fits net.frame.step_count n.stages es
-    → IsUnder net.frame.step_count (demands_of net n.number (length n.stages)) es v → k < length n.stages
-    → is_above v (degree_of net.frame.step_count (get_or (demands_of net n.number (length n.stages)) k no_demand) net.frame.step_count)
-    ≡ true
-whole_below net n v es k setting base above fits under inside =
-    let steps = net.frame.step_count in
-    let d : Demand = get_or (demands_of net n.number (length n.stages)) k no_demand in
-    let e : ℕ = get_or es k 0 in
-    let alive = green_alive net n es setting fits k inside in
-    let live = demand_live net n k setting inside in
-    elim (cases_Bool (is_above v (degree_of steps d steps))) [
-      | inl is ↦ is
-      | inr fails ↦ absurd (
-          let up : AtMost v (degree_of steps d steps) = at_most v (degree_of steps d steps) fails in
-          let down : AtMost (degree_of steps d e) v =
-          at_most (degree_of steps d e) v (under k (omega (arith, demand_count net n.number (length n.stages)))) in
-          let all : AtMost (degree_of steps d e) (degree_of steps d steps) =
-          at_most-trans (degree_of steps d e) v (degree_of steps d steps) base down up in
-          let short = one_shorter steps n.stages es k fits setting.stages.0 setting.least inside in
-          let longer : e + 1 ≤ steps = omega (arith, short) in
-          let more = mul-le-mul_left (d.flow * steps * d.saturation) longer in
-          let none : d.flow * steps * d.saturation ≡ 0 = omega (arith, all, more) in
-          let top : v.top * (d.saturation * steps) ≤ d.flow * steps * v.base = up in
-          let some = positive v.top (d.saturation * steps) above (positive d.saturation steps live setting.steps.0) in
-          let flow : 0 < d.flow * steps * v.base = omega (arith, top, some) in
-          elim (zero_or_more (d.flow * steps)) [
-            | inl no_flow ↦ let product = ap (λ m. m * v.base) no_flow in omega arith
-            | inr some_flow ↦ let product = positive (d.flow * steps) d.saturation some_flow live in omega arith
-          ]
-          )
-    ]
+use Rattle.transyt_equisat.proofs.FilledLaws.{filled_passes, demand_live}
 
 -- the needs of the stages
 abbrev pub needs_of : Network → NodeValue → Fraction → List ℕ
 needs_of net n v = map (need_at net n v) (range_with_len 0 (length n.stages))
 
--- the need of a stage: no less than its least, and the stage is below the peak there
-need_parts : (net : Network) (n : NodeValue) (v : Fraction) (es : List ℕ) (k : ℕ) → IsSetting net n → 0 < v.base → 0 < v.top
-    → Fits net.frame.step_count n.stages es
-    → IsUnder net.frame.step_count (demands_of net n.number (length n.stages)) es v → k < length n.stages
-    → ((stage_of n.stages k).least ≤ get_or (needs_of net n v) k 0)
-    × (is_above v (degree_at net.frame.step_count (demands_of net n.number (length n.stages)) (needs_of net n v) k) ≡ true)
-need_parts net n v es k setting base above fits under inside =
-    let steps = net.frame.step_count in
-    let asks : Demand = get_or (demands_of net n.number (length n.stages)) k no_demand in
-    let least : ℕ = (stage_of n.stages k).least in
-    let test : ℕ → Bool = λ e. is_above v (degree_of steps asks e) in
-    let some : nat_eq v.top 0 ≡ false = grind (arith, nat_tests, above) in
-    let at : get_or (needs_of net n v) k 0 ≡ first_from test least (steps - least) =
-    get_or-map-range_with_len (need_at net n v) 0 (length n.stages) k k 0 inside (omega arith)
-    ∙ need_asked net n v k setting inside ∙ ap (λ b. cond b 0 (first_from test least (steps - least))) some in
-    let short = one_shorter steps n.stages es k fits setting.stages.0 setting.least inside in
-    let passes : test steps ≡ true = whole_below net n v es k setting base above fits under inside in
-    let low : least ≤ steps = omega (arith, fits.least k inside, short) in
-    let first = first_least test least (steps - least) steps low (omega arith) passes in
-    let bounds = first_bounds test least (steps - least) in
-    (omega (arith, at, bounds.0), ap test at ∙ first.1)
+module _ (net : Network) (n : NodeValue) (v : Fraction) (setting : IsSetting net n) (peak_is : IsLeastPeak (asked_of net n) v)
+    (above : 0 < v.top) where
+  -- at the whole cycle each stage is below the peak
+  whole_below : (es : List ℕ) (k : ℕ) → Fits net.frame.step_count n.stages es → IsUnder (asked_of net n) es v → k < length n.stages
+      → is_above v (degree_of net.frame.step_count (get_or (asked_of net n).demands k no_demand) net.frame.step_count) ≡ true
+  whole_below es k fits under inside =
+      let steps = net.frame.step_count in
+      let d : Demand = get_or (asked_of net n).demands k no_demand in
+      let e : ℕ = get_or es k 0 in
+      let live = demand_live net n k setting inside in
+      elim (cases_Bool (is_above v (degree_of steps d steps))) [
+        | inl is ↦ is
+        | inr fails ↦ absurd (
+            let up : AtMost v (degree_of steps d steps) = at_most v (degree_of steps d steps) fails in
+            let down : AtMost (degree_of steps d e) v = at_most (degree_of steps d e) v (under k inside) in
+            let all : AtMost (degree_of steps d e) (degree_of steps d steps) =
+            at_most-trans (degree_of steps d e) v (degree_of steps d steps) peak_is.base down up in
+            let short = one_shorter steps n.stages es k fits setting.stages.0 setting.least inside in
+            let longer : e + 1 ≤ steps = omega (arith, short) in
+            let more = mul-le-mul_left (d.flow * steps * d.saturation) longer in
+            let none : d.flow * steps * d.saturation ≡ 0 = omega (arith, all, more) in
+            let top : v.top * (d.saturation * steps) ≤ d.flow * steps * v.base = up in
+            let some = positive v.top (d.saturation * steps) above (positive d.saturation steps live setting.steps.0) in
+            let flow : 0 < d.flow * steps * v.base = omega (arith, top, some) in
+            elim (zero_or_more (d.flow * steps)) [
+              | inl no_flow ↦ let product = ap (λ m. m * v.base) no_flow in omega arith
+              | inr some_flow ↦ let product = positive (d.flow * steps) d.saturation some_flow live in omega arith
+            ]
+            )
+      ]
 
--- needs and intergreens don't fit into the cycle
-pub needs_exceed : (net : Network) (n : NodeValue) (v : Fraction) → IsSetting net n
-    → IsLeastPeak net.frame.step_count n.stages (demands_of net n.number (length n.stages)) v → 0 < v.top
-    → net.frame.step_count < sum (needs_of net n v) + lost n.stages
-needs_exceed net n v setting peak_is above =
-    let steps = net.frame.step_count in
-    let (es, fits, under) = peak_is.reached in
-    let ms : List ℕ = needs_of net n v in
-    elim (le_or_lt (sum ms + lost n.stages) steps) [
-      | inr more ↦ more
-      | inl room ↦ absurd (
-          let count : length ms ≡ length n.stages = length-map-range_with_len (need_at net n v) 0 (length n.stages) in
-          let parts = λ (k : ℕ) (inside : k < length n.stages). need_parts net n v es k setting peak_is.base above fits under inside in
-          let full : Fits steps n.stages (first_more (steps - (sum ms + lost n.stages)) ms) =
-          filled steps n.stages ms count (omega (arith, setting.stages.0)) (λ k below. (parts k below).0) room in
-          let gs : List ℕ = first_more (steps - (sum ms + lost n.stages)) ms in
-          let below : AreBelow net n v gs =
-          λ k inside.
-          let here = parts k inside in
-          more_passes (λ d. is_above v d) (below_lower v) steps (get_or (demands_of net n.number (length n.stages)) k no_demand)
-          ms (steps - (sum ms + lost n.stages)) k (demand_live net n k setting inside) (omega (arith, setting.stages.0))
-          (omega (arith, here.0, setting.least k inside)) here.1 in
-          let low = peak_below net n v gs setting full above below in
-          let high = peak_is.least (peak net n.number gs) gs (peak_base net n gs setting full) full (under_peak net n gs setting full) in
-          cc (low, high)
-          )
-    ]
+  -- the need of a stage: no less than its least, and the stage is below the peak there
+  need_parts : (es : List ℕ) (k : ℕ) → Fits net.frame.step_count n.stages es → IsUnder (asked_of net n) es v → k < length n.stages
+      → ((stage_of n.stages k).least ≤ get_or (needs_of net n v) k 0)
+      × (is_above v (degree_at (asked_of net n) (needs_of net n v) k) ≡ true)
+  need_parts es k fits under inside =
+      let steps = net.frame.step_count in
+      let asks : Demand = get_or (asked_of net n).demands k no_demand in
+      let least : ℕ = (stage_of n.stages k).least in
+      let test : ℕ → Bool = λ e. is_above v (degree_of steps asks e) in
+      let some : nat_eq v.top 0 ≡ false = grind (arith, nat_tests, above) in
+      let at : get_or (needs_of net n v) k 0 ≡ first_from test least (steps - least) =
+      get_or-map-range_with_len (need_at net n v) 0 (length n.stages) k k 0 inside (omega arith)
+      ∙ need_asked net n v k setting inside ∙ ap (λ b. cond b 0 (first_from test least (steps - least))) some in
+      let short = one_shorter steps n.stages es k fits setting.stages.0 setting.least inside in
+      let low : least ≤ steps = omega (arith, fits.least k inside, short) in
+      let first = first_least test least (steps - least) steps low (omega arith) (whole_below es k fits under inside) in
+      let bounds = first_bounds test least (steps - least) in
+      (omega (arith, at, bounds.0), ap test at ∙ first.1)
+
+  -- needs and intergreens don't fit into the cycle
+  pub needs_exceed : net.frame.step_count < sum (needs_of net n v) + lost n.stages
+  needs_exceed =
+      let (es, fits, under) = peak_is.reached in
+      let ms : List ℕ = needs_of net n v in
+      elim (le_or_lt (sum ms + lost n.stages) net.frame.step_count) [
+        | inr more ↦ more
+        | inl room ↦ absurd (
+            let gs : List ℕ = first_more (net.frame.step_count - (sum ms + lost n.stages)) ms in
+            let (full, below) = filled_passes net n setting (λ d. is_above v d) (below_lower v above) ms
+            (length-map-range_with_len (need_at net n v) 0 (length n.stages))
+            (λ k inside. (need_parts es k fits under inside).0) (λ k inside. (need_parts es k fits under inside).1) room in
+            let low = peak_passes net n setting (λ d. is_above v d) (below_lower v above) gs full below in
+            let high = peak_is.least (peak net n.number gs) gs (peak_base net n setting gs full) full (under_peak net n setting gs full) in
+            cc (low, high)
+            )
+      ]

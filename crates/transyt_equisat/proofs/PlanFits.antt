@@ -1,24 +1,17 @@
 -- The greens of an allowed plan fill the cycle.
-use Rattle.std.proofs.Common.{◌≡◌, ◌≢◌, ℕ, zero, suc, ◌+◌, ◌<◌, ◌≤◌, Bool, true, false, not, List, [], ◌∷◌, map, length, sum, get_or}
+use Rattle.std.proofs.Common.{◌≡◌, ◌≢◌, ℕ, zero, suc, ◌+◌, ◌<◌, ◌≤◌, Bool, true, not, List, [], ◌∷◌, map, length, sum, get_or}
 use Rattle.std.proofs.Common.{sym, ◌∙◌, ap, refl, arith, inl, inr, ◌⊎◌, take, set, None, nat_le, ◌==◌}
 use Rattle.std.specs.List.{list_all, range_with_len}
-use Rattle.std.proofs.lemmas.Bool.{cases_Bool, leb-true}
+use Rattle.std.proofs.lemmas.Bool.{leb-true, not-false}
 use Rattle.std.proofs.lemmas.Bool.Decides.{nat_tests}
 use Rattle.std.proofs.lemmas.List.{get_or-map, length-map, take_all, length-set, get_or-set_other}
-use Rattle.std.proofs.lemmas.List.Folds.{list_all_at}
-use Rattle.std.proofs.lemmas.List.Sums.{sum_by-cons, sum_by_more, sum_by-set, get_or-le-sum_by}
+use Rattle.std.proofs.lemmas.List.Sums.{AllPass-from_list_all, list_all-from_AllPass, sum_by-cons, sum_by_more, sum_by-set, get_or-le-sum_by}
 use Rattle.std.proofs.lemmas.List.FromFn.{length-range_with_len, get_or-range_with_len, sum_by-map-range_with_len_more, get_or-map-range_with_len, length-map-range_with_len}
 use Rattle.transyt_parts.specs.declared.node.Stage.{Stage}
 use Rattle.transyt_parts.specs.Shape.{bare_stage}
 use Rattle.transyt_parts.specs.Plan.{stage_of, no_stage, length_at, stage_lengths, in_order, has_green, have_greens, plan_fault}
-use Rattle.transyt_parts.proofs.BelowLaws.{all_places_more}
 use Rattle.transyt_net.proofs.WriteLaws.{no_fault}
 use Rattle.transyt_equisat.specs.Peaks.{Fits, lost, green_at, greens_of, IsPlanOf}
-
--- what isn't false by its negation is true
-not_false : (b : Bool) → not b ≡ false → b ≡ true
-not_false true h = refl
-not_false false h = absurd (cc)
 
 -- what no fault of a plan says
 pub plan_parts : (steps : ℕ) (plan : List Stage) → plan_fault steps plan ≡ None
@@ -27,27 +20,22 @@ plan_parts steps plan none =
     let few = no_fault (not (nat_le 2 (length plan))) _ _ none in
     let order = no_fault (not (in_order steps plan)) _ _ few.1 in
     let short = no_fault (not (have_greens steps plan)) _ _ order.1 in
-    let many : nat_le 2 (length plan) ≡ true = not_false (nat_le 2 (length plan)) few.0 in
-    let sums : (sum (stage_lengths steps plan) == steps) ≡ true = not_false (in_order steps plan) order.0 in (
+    let many : nat_le 2 (length plan) ≡ true = not-false (nat_le 2 (length plan)) few.0 in
+    let sums : (sum (stage_lengths steps plan) == steps) ≡ true = not-false (in_order steps plan) order.0 in (
       leb-true 2 (length plan) many,
       grind (arith, nat_tests, sums),
-      not_false (have_greens steps plan) short.0,
+      not-false (have_greens steps plan) short.0,
     )
 
 -- the room of the stage at a place
 pub green_room : (steps : ℕ) (plan : List Stage) (k : ℕ) → have_greens steps plan ≡ true → k < length plan
     → (stage_of plan k).intergreen + (stage_of plan k).least ≤ length_at steps plan k
 green_room steps plan k all inside =
-    elim (cases_Bool (has_green steps plan k)) [
-      | inl has ↦ leb-true ((stage_of plan k).intergreen + (stage_of plan k).least) (length_at steps plan k) has
-      | inr hasnt ↦ absurd (
-          let same : 0 + k ≡ k = omega arith in
-          let none = list_all_at (has_green steps plan) (range_with_len 0 (length plan)) k 0
-          (omega (arith, length-range_with_len 0 (length plan)))
-          (ap (has_green steps plan) (get_or-range_with_len 0 (length plan) k 0 inside ∙ same) ∙ hasnt) in
-          cc (none, all)
-          )
-    ]
+    let place = get_or-range_with_len 0 (length plan) k 0 inside in
+    leb-true ((stage_of plan k).intergreen + (stage_of plan k).least) (length_at steps plan k)
+    (ap (has_green steps plan) (sym (place ∙ omega arith))
+    ∙ AllPass-from_list_all (has_green steps plan) (range_with_len 0 (length plan)) all k 0
+    (omega (arith, length-range_with_len 0 (length plan))))
 
 -- greens and intergreens make up the lengths
 sum_parts : (steps : ℕ) (plan : List Stage) (n : ℕ) → n ≤ length plan
@@ -111,51 +99,41 @@ plan_fits steps stages plan is =
 
 -- a test that passes at each place
 pub all_places : (test : ℕ → Bool) (n : ℕ) → ((k : ℕ) → k < n → test k ≡ true) → list_all test (range_with_len 0 n) ≡ true
-all_places test zero each = refl
-all_places test (suc n) each =
-    let next : suc n ≡ n + 1 = omega arith in
-    ap (λ m. list_all test (range_with_len 0 m)) next
-    ∙ all_places_more test n (all_places test n (λ k below. each k (omega arith))) (each n (omega arith))
+all_places test n each =
+    list_all-from_AllPass test (range_with_len 0 n) (
+    λ k d below.
+    let inside : k < n = omega (arith, length-range_with_len 0 n) in
+    ap test (get_or-range_with_len 0 n k d inside ∙ omega arith) ∙ each k inside
+    )
 
--- a place is the first or a later one
-other_place : (k : ℕ) → (k ≡ 0) ⊎ (0 < k)
-other_place zero = inl refl
-other_place (suc k) = inr (omega arith)
+-- a number is 0 or positive
+pub zero_or_more : (k : ℕ) → (k ≡ 0) ⊎ (0 < k)
+zero_or_more zero = inl refl
+zero_or_more (suc k) = inr (omega arith)
+
+-- a green leaves room for another one
+one_beside : (steps : ℕ) (stages : List Stage) (gs : List ℕ) (k j : ℕ) → Fits steps stages gs → j ≢ k → k < length stages
+    → j < length stages → 0 < (stage_of stages j).least → get_or gs k 0 + (stage_of stages k).intergreen < steps
+one_beside steps stages gs k j fits other inside beside some =
+    let count = fits.count in
+    omega (
+      arith,
+      sum_by-set (λ n. n) gs k 0 0 (omega arith),
+      get_or-le-sum_by (λ (s : Stage). s.intergreen) stages k no_stage inside,
+      get_or-set_other gs k j 0 0 other,
+      get_or-le-sum_by (λ n. n) (set gs k 0) j 0 (omega (arith, length-set gs k 0)),
+      fits.least j beside,
+      fits.fills,
+    )
 
 -- of two greens or more one takes less than the cycle with its intergreen
 pub one_shorter : (steps : ℕ) (stages : List Stage) (gs : List ℕ) (k : ℕ) → Fits steps stages gs → 2 ≤ length stages
     → ((j : ℕ) → j < length stages → 0 < (stage_of stages j).least) → k < length stages
     → get_or gs k 0 + (stage_of stages k).intergreen < steps
 one_shorter steps stages gs k fits two some inside =
-    let count = fits.count in
-    let without = sum_by-set (λ n. n) gs k 0 0 (omega arith) in
-    let gap = get_or-le-sum_by (λ (s : Stage). s.intergreen) stages k no_stage inside in
-    let len = length-set gs k 0 in
-    elim (other_place k) [
+    elim (zero_or_more k) [
       | inl first ↦
-          let other : 1 ≢ k = λ same. omega arith in
-          let left = get_or-set_other gs k 1 0 0 other in
-          omega (
-            arith,
-            without,
-            gap,
-            left,
-            get_or-le-sum_by (λ n. n) (set gs k 0) 1 0 (omega arith),
-            fits.least 1 (omega arith),
-            some 1 (omega arith),
-            fits.fills,
-          )
+          one_beside steps stages gs k 1 fits (λ same. omega arith) inside (omega arith) (some 1 (omega arith))
       | inr later ↦
-          let other : 0 ≢ k = λ same. omega arith in
-          let left = get_or-set_other gs k 0 0 0 other in
-          omega (
-            arith,
-            without,
-            gap,
-            left,
-            get_or-le-sum_by (λ n. n) (set gs k 0) 0 0 (omega arith),
-            fits.least 0 (omega arith),
-            some 0 (omega arith),
-            fits.fills,
-          )
+          one_beside steps stages gs k 0 fits (λ same. omega arith) inside (omega arith) (some 0 (omega arith))
     ]

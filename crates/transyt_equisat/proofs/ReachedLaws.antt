@@ -1,23 +1,25 @@
 -- A counted link reaches a peak above 0, and the answer tells it.
-use Rattle.std.proofs.Common.{◌≡◌, ℕ, ◌*◌, ◌<◌, Bool, true, false, not, ◌&&◌, nat_eq, List, [], ◌∷◌, All, map, length}
+use Rattle.std.proofs.Common.{◌≡◌, ℕ, ◌*◌, ◌<◌, Bool, true, false, not, ◌&&◌, nat_eq, List, [], ◌∷◌, All, map}
 use Rattle.std.proofs.Common.{sym, ◌∙◌, ap, refl, subst, arith, get_or, inl, inr, ◌⊎◌, cond, Option, Some, None}
 use Rattle.std.specs.List.{find}
-use Rattle.std.proofs.lemmas.Bool.{cases_Bool}
+use Rattle.std.proofs.lemmas.Bool.{not-true, cases_Bool}
 use Rattle.std.proofs.lemmas.Bool.Decides.{nat_tests}
-use Rattle.std.proofs.lemmas.List.Elements.{All-filter, filter_passes, All-map, All-nil, All-cons}
+use Rattle.std.proofs.lemmas.List.Elements.{All-map, All-nil, All-cons}
 use Rattle.transyt_parts.specs.Parts.{NodeValue, LinkValue}
 use Rattle.transyt_net.specs.Parts.{Network}
 use Rattle.transyt_equisat.specs.declared.fraction.Fraction.{Fraction}
 use Rattle.transyt_equisat.specs.Fractions.{is_above, nothing, IsSame}
 use Rattle.transyt_equisat.specs.Degrees.{is_counted, counted, degree}
-use Rattle.transyt_equisat.specs.Demands.{demands_of}
 use Rattle.transyt_equisat.specs.Peaks.{green_of, peak}
 use Rattle.transyt_equisat.specs.Balance.{greens_at, is_same, degree_found, balance_at, peak_told}
+use Rattle.transyt_equisat.specs.Asked.{asked_of}
 use Rattle.transyt_equisat.specs.Sharing.{IsSetting, IsLeastPeak}
-use Rattle.transyt_equisat.proofs.FractionLaws.{at_most, at_most-trans}
+use Rattle.transyt_equisat.proofs.FractionLaws.{at_most-trans}
+use Rattle.transyt_equisat.proofs.DemandLaws.{not_above_lower, below_lower}
+use Rattle.transyt_equisat.proofs.FilterLaws.{each_picked}
 use Rattle.transyt_equisat.proofs.ExtremeLaws.{greatest_from}
 use Rattle.transyt_equisat.proofs.AlikeLaws.{equal_by}
-use Rattle.transyt_equisat.proofs.PeakLaws.{links_under, peak_base, under_peak}
+use Rattle.transyt_equisat.proofs.PeakLaws.{links_pass, peak_base, under_peak}
 use Rattle.transyt_equisat.proofs.GreensLaws.{AreGreens, greens_hold}
 
 -- a search finds one that passes, or none does
@@ -51,17 +53,9 @@ below_by d v other under =
           )
     ]
 
--- what has a positive top is above 0
-pub above_nothing : (v : Fraction) → 0 < v.top → is_above v nothing ≡ true
-above_nothing v above =
-    elim (cases_Bool (is_above v nothing)) [
-      | inl is ↦ is
-      | inr fails ↦ absurd (let less = at_most v nothing fails in omega arith)
-    ]
-
 -- a counted link reaches a peak above 0
 pub reached_by : (net : Network) (n : NodeValue) (v : Fraction) (gs : List ℕ) → IsSetting net n
-    → IsLeastPeak net.frame.step_count n.stages (demands_of net n.number (length n.stages)) v
+    → IsLeastPeak (asked_of net n) v
     → AreGreens net n v gs → 0 < v.top
     → (l : LinkValue) × (find (λ l. is_same (degree net.frame.step_count l (green_of gs l)) v) (counted net n.number) ≡ Some l)
     × (is_same (degree net.frame.step_count l (green_of gs l)) v ≡ true)
@@ -72,17 +66,17 @@ reached_by net n v gs setting peak_is hold above =
     elim (find_cases (λ l. is_same (deg l) v) (counted net n.number)) [
       | inr somewhere ↦ somewhere
       | inl nowhere ↦ absurd (
-          let unders = links_under net n gs v setting hold.fits hold.under in
+          let unders = each_picked (λ l. not (is_above (deg l) v) ≡ true) (is_counted n.number) net.links
+          (links_pass net n setting (λ d. not (is_above d v)) (not_above_lower v) gs hold.fits
+          (λ k inside. ap not (hold.under k inside))) in
           let both : All (λ l. is_above v (deg l) ≡ true) (counted net n.number) =
           λ i d below.
           let l : LinkValue = get_or (counted net n.number) i d in
-          below_by (deg l) v (nowhere.1 i d below)
-          (All-filter (is_counted n.number) (λ l. is_counted n.number l ≡ true → is_above (deg l) v ≡ false) net.links unders i d below
-          (filter_passes (is_counted n.number) net.links i d below)) in
+          below_by (deg l) v (nowhere.1 i d below) (not-true (is_above (deg l) v) (unders i d below)) in
           let low : is_above v p ≡ true =
-          greatest_from (λ d. is_above v d ≡ true) (map deg (counted net n.number)) nothing (above_nothing v above)
+          greatest_from (λ d. is_above v d ≡ true) (map deg (counted net n.number)) nothing ((below_lower v above).none 0 1 (omega arith))
           (All-map (λ d. is_above v d ≡ true) deg (counted net n.number) both) in
-          let high = peak_is.least p gs (peak_base net n gs setting hold.fits) hold.fits (under_peak net n gs setting hold.fits) in
+          let high = peak_is.least p gs (peak_base net n setting gs hold.fits) hold.fits (under_peak net n setting gs hold.fits) in
           cc (low, high)
           )
     ]
@@ -100,7 +94,7 @@ same-trans a b c pos ab bc =
 
 -- the peak that the answer tells is the peak
 pub told : (net : Network) (n : NodeValue) (v : Fraction) → IsSetting net n
-    → IsLeastPeak net.frame.step_count n.stages (demands_of net n.number (length n.stages)) v
+    → IsLeastPeak (asked_of net n) v
     → IsSame (peak_told (balance_at net n v)) v
 told net n v setting peak_is =
     let steps = net.frame.step_count in

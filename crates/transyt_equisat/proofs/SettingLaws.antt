@@ -1,8 +1,8 @@
 -- What the balance of a node stands on holds in a valid network.
-use Rattle.std.proofs.Common.{◌≡◌, ℕ, zero, suc, ◌<◌, Bool, true, false, not, nat_eq, List, [], ◌∷◌, length, get_or, cond}
+use Rattle.std.proofs.Common.{◌≡◌, ℕ, zero, suc, ◌<◌, true, false, not, nat_eq, List, [], ◌∷◌, length, get_or, cond}
 use Rattle.std.proofs.Common.{◌∙◌, ap, refl, arith, Some, None}
 use Rattle.std.specs.List.{list_any}
-use Rattle.std.proofs.lemmas.Bool.{and_parts, or_parts}
+use Rattle.std.proofs.lemmas.Bool.{not-true, and_parts, or_parts}
 use Rattle.std.proofs.lemmas.Bool.Decides.{nat_tests}
 use Rattle.transyt_parts.specs.Parts.{NodeValue, LinkValue}
 use Rattle.transyt_parts.specs.Plan.{plan_fault, no_stage}
@@ -13,10 +13,6 @@ use Rattle.transyt_net.proofs.PlaceLaws.{eq_swapped}
 use Rattle.transyt_equisat.specs.Degrees.{is_counted}
 use Rattle.transyt_equisat.specs.Sharing.{IsSetting}
 use Rattle.transyt_equisat.proofs.PlanFits.{plan_fits, plan_parts}
-
-not_true : (b : Bool) → not b ≡ true → b ≡ false
-not_true true h = absurd (cc)
-not_true false h = refl
 
 -- a number that is none of these differs from each
 differs : (nodes : List NodeValue) (k p : ℕ) (d : NodeValue) → list_any (nat_eq k) (node_numbers nodes) ≡ false → p < length nodes
@@ -36,7 +32,7 @@ numbered_self (n ∷ ns) zero d differ inside =
 numbered_self (n ∷ ns) (suc p) d differ inside =
     let both = and_parts (not (list_any (nat_eq n.number) (node_numbers ns))) (all_differ (node_numbers ns)) differ in
     let other = eq_swapped n.number (get_or ns p d).number
-    (differs ns n.number p d (not_true (list_any (nat_eq n.number) (node_numbers ns)) both.0) (omega arith)) in
+    (differs ns n.number p d (not-true (list_any (nat_eq n.number) (node_numbers ns)) both.0) (omega arith)) in
     ap (λ b. cond b (Some n) (numbered node_number ns (get_or ns p d).number)) other
     ∙ numbered_self ns p d both.1 (omega arith)
 

@@ -1,20 +1,22 @@
 -- Laws of sharing steps out one by one: each goes to the stage with the greatest degree.
-use Rattle.std.proofs.Common.{◌≡◌, ◌≢◌, ℕ, zero, suc, ◌+◌, ◌<◌, ◌≤◌, true, false, List, [], ◌∷◌, length, All, arith, sym}
+use Rattle.std.proofs.Common.{◌≡◌, ◌≢◌, ℕ, zero, suc, ◌+◌, ◌<◌, ◌≤◌, true, false, List, [], ◌∷◌, length, map, All, arith, sym}
 use Rattle.std.proofs.Common.{◌∙◌, ap, refl, inl, inr, ◌⊎◌, get_or, set, subst, sum}
-use Rattle.std.proofs.Math.Nat.{mul-le-mul_left}
 use Rattle.std.proofs.lemmas.Bool.{cases_Bool}
-use Rattle.std.proofs.lemmas.List.{get_or-set_same, get_or-set_other, get_or_default}
-use Rattle.std.proofs.lemmas.List.Sums.{sum_by-cons, get_or-le-sum_by}
+use Rattle.std.proofs.lemmas.List.{get_or-set_same, get_or-set_other, length-set}
+use Rattle.std.proofs.lemmas.List.Sums.{sum_by-cons}
+use Rattle.std.proofs.lemmas.List.Elements.{All-map, All-weaker}
 use Rattle.transyt_parts.specs.declared.node.Stage.{Stage}
-use Rattle.transyt_parts.specs.Plan.{stage_of}
+use Rattle.transyt_parts.specs.Valid.{IsStage}
+use Rattle.transyt_parts.specs.Plan.{stage_of, no_stage}
 use Rattle.transyt_equisat.specs.declared.fraction.Fraction.{Fraction}
-use Rattle.transyt_equisat.specs.declared.demand.Demand.{Demand}
 use Rattle.transyt_equisat.specs.Fractions.{is_above}
-use Rattle.transyt_equisat.specs.Demands.{degree_of, IsDemand, no_demand}
+use Rattle.transyt_equisat.specs.Demands.{degree_of, no_demand}
 use Rattle.transyt_equisat.specs.Peaks.{Fits}
-use Rattle.transyt_equisat.specs.Sharing.{degree_at, IsUnder, IsGreen, IsBest}
+use Rattle.transyt_equisat.specs.Asked.{AskedValue, IsAsked, AreEnough}
+use Rattle.transyt_equisat.specs.Sharing.{degree_at, IsUnder, IsBest, IsLeastPeak}
 use Rattle.transyt_equisat.proofs.FractionLaws.{not_above-trans}
 use Rattle.transyt_equisat.proofs.DegreeLaws.{degree_falls}
+use Rattle.transyt_equisat.proofs.DemandLaws.{positive}
 
 -- a number is the same as another or not
 pub same_or_not : (a b : ℕ) → (a ≡ b) ⊎ (a ≢ b)
@@ -37,102 +39,99 @@ le_or_lt (suc a) (suc b) =
       | inr more ↦ inr (omega arith)
     ]
 
+-- greens that fill the cycle are enough
+pub enough_of : (a : AskedValue) (greens : List ℕ) → Fits a.steps a.stages greens → AreEnough a greens
+enough_of a greens fits = record { count = fits.count; least = fits.least }
+
+-- the least greens are short
+pub least_short : (a : AskedValue) → IsAsked a → All (λ e. e ≤ 120) (map (λ (s : Stage). s.least) a.stages)
+least_short a is =
+    All-map (λ e. e ≤ 120) (λ (s : Stage). s.least) a.stages
+    (All-weaker (IsStage a.steps) (λ s. s.least ≤ 120) (λ s h. omega (arith, h.least.1, is.short)) a.stages is.stages)
+
 -- the base of a degree is positive
-pub degree_base : (steps : ℕ) (demands : List Demand) (greens : List ℕ) (k : ℕ) → length greens ≡ length demands
-    → All (λ d. IsDemand d) demands → All (λ e. IsGreen e) greens → k < length demands
-    → 0 < (degree_at steps demands greens k).base
-degree_base steps demands greens k count asks alive inside =
-    let d : IsDemand (get_or demands k no_demand) = asks k no_demand inside in
-    let e : IsGreen (get_or greens k 0) = alive k 0 (omega arith) in
-    let one : 1 ≤ get_or greens k 0 = e.0 in
-    omega (arith, mul-le-mul_left (get_or demands k no_demand).saturation one, d.saturation)
+pub degree_base : (a : AskedValue) (greens : List ℕ) (k : ℕ) → IsAsked a → AreEnough a greens → k < length a.stages
+    → 0 < (degree_at a greens k).base
+degree_base a greens k is enough inside =
+    positive (get_or a.demands k no_demand).saturation (get_or greens k 0) (is.live k no_demand (omega (arith, is.count)))
+    (omega (arith, (is.stages k no_stage inside).least.0, enough.least k inside))
 
 -- no stage before the next place has a degree above the best of both
-pub over_more : (steps : ℕ) (demands : List Demand) (greens : List ℕ) (best next place : ℕ)
-    → length greens ≡ length demands → All (λ d. IsDemand d) demands → All (λ e. IsGreen e) greens → best < length demands
-    → ((k : ℕ) → k < place → is_above (degree_at steps demands greens k) (degree_at steps demands greens best) ≡ false)
-    → is_above (degree_at steps demands greens best) (degree_at steps demands greens next) ≡ false
-    → is_above (degree_at steps demands greens place) (degree_at steps demands greens next) ≡ false
-    → (k : ℕ) → k < place + 1 → is_above (degree_at steps demands greens k) (degree_at steps demands greens next) ≡ false
-over_more steps demands greens best next place count asks alive inside before over here k below =
+pub over_more : (a : AskedValue) (greens : List ℕ) (best next place : ℕ) → IsAsked a → AreEnough a greens
+    → best < length a.stages
+    → ((k : ℕ) → k < place → is_above (degree_at a greens k) (degree_at a greens best) ≡ false)
+    → is_above (degree_at a greens best) (degree_at a greens next) ≡ false
+    → is_above (degree_at a greens place) (degree_at a greens next) ≡ false
+    → (k : ℕ) → k < place + 1 → is_above (degree_at a greens k) (degree_at a greens next) ≡ false
+over_more a greens best next place is enough inside before over here k below =
     elim (same_or_not k place) [
-      | inl same ↦
-          subst (λ (n : ℕ). is_above (degree_at steps demands greens n) (degree_at steps demands greens next) ≡ false)
-          (sym same) here
+      | inl same ↦ subst (λ (n : ℕ). is_above (degree_at a greens n) (degree_at a greens next) ≡ false) (sym same) here
       | inr other ↦
-          not_above-trans (degree_at steps demands greens k) (degree_at steps demands greens best)
-          (degree_at steps demands greens next) (degree_base steps demands greens best count asks alive inside)
-          (before k (omega arith)) over
+          not_above-trans (degree_at a greens k) (degree_at a greens best) (degree_at a greens next)
+          (degree_base a greens best is enough inside) (before k (omega arith)) over
     ]
 
+-- a stage that gets more steps has so many more
+pub more_same : (greens : List ℕ) (p x k : ℕ) → p < length greens → k ≡ p
+    → get_or (set greens p (get_or greens p 0 + x)) k 0 ≡ get_or greens k 0 + x
+more_same greens p x k inside same =
+    ap (λ n. get_or (set greens p (get_or greens p 0 + x)) n 0) same
+    ∙ get_or-set_same greens p (get_or greens p 0 + x) 0 inside
+    ∙ ap (λ n. get_or greens n 0 + x) (sym same)
+
 -- more steps for a stage raise no degree
-pub under_more : (steps : ℕ) (demands : List Demand) (greens : List ℕ) (p x : ℕ) (w : Fraction)
-    → length greens ≡ length demands → All (λ d. IsDemand d) demands → All (λ e. IsGreen e) greens → p < length demands
-    → IsUnder steps demands greens w → IsUnder steps demands (set greens p (get_or greens p 0 + x)) w
-under_more steps demands greens p x w count asks alive inside under k below =
+pub under_more : (a : AskedValue) (greens : List ℕ) (p x : ℕ) (w : Fraction) → IsAsked a → AreEnough a greens
+    → p < length a.stages → IsUnder a greens w → IsUnder a (set greens p (get_or greens p 0 + x)) w
+under_more a greens p x w is enough inside under k below =
     elim (same_or_not k p) [
       | inl same ↦
-          let now : get_or (set greens p (get_or greens p 0 + x)) k 0 ≡ get_or greens k 0 + x =
-          ap (λ n. get_or (set greens p (get_or greens p 0 + x)) n 0) same
-          ∙ get_or-set_same greens p (get_or greens p 0 + x) 0 (omega arith)
-          ∙ ap (λ n. get_or greens n 0 + x) (sym same) in
-          not_above-trans (degree_at steps demands (set greens p (get_or greens p 0 + x)) k)
-          (degree_at steps demands greens k) w
-          (degree_base steps demands greens k count asks alive below)
-          (degree_falls steps (get_or demands k no_demand) (get_or greens k 0)
-          (get_or (set greens p (get_or greens p 0 + x)) k 0) (omega arith))
+          let now = more_same greens p x k (omega (arith, enough.count)) same in
+          not_above-trans (degree_at a (set greens p (get_or greens p 0 + x)) k) (degree_at a greens k) w
+          (degree_base a greens k is enough below)
+          (degree_falls a.steps (get_or a.demands k no_demand) (get_or greens k 0)
+          (get_or (set greens p (get_or greens p 0 + x)) k 0) (omega (arith, now)))
           (under k below)
       | inr other ↦
-          subst (λ (e : ℕ). is_above (degree_of steps (get_or demands k no_demand) e) w ≡ false)
+          subst (λ (e : ℕ). is_above (degree_of a.steps (get_or a.demands k no_demand) e) w ≡ false)
           (sym (get_or-set_other greens p k (get_or greens p 0 + x) 0 other)) (under k below)
     ]
 
 -- where a stage has a degree above w, greens under w give it more steps
-pub more_there : (steps : ℕ) (demands : List Demand) (greens es : List ℕ) (p : ℕ) (w : Fraction)
-    → 0 < (degree_at steps demands es p).base
-    → is_above (degree_at steps demands greens p) w ≡ true → is_above (degree_at steps demands es p) w ≡ false
-    → get_or greens p 0 < get_or es p 0
-more_there steps demands greens es p w pos above under =
+pub more_there : (a : AskedValue) (greens es : List ℕ) (p : ℕ) (w : Fraction) → 0 < (degree_at a es p).base
+    → is_above (degree_at a greens p) w ≡ true → is_above (degree_at a es p) w ≡ false → get_or greens p 0 < get_or es p 0
+more_there a greens es p w pos above under =
     elim (le_or_lt (get_or es p 0) (get_or greens p 0)) [
       | inl less ↦ absurd (
-          let falls = degree_falls steps (get_or demands p no_demand) (get_or es p 0) (get_or greens p 0) less in
-          let under_w = not_above-trans (degree_at steps demands greens p) (degree_at steps demands es p) w pos falls under in
+          let falls = degree_falls a.steps (get_or a.demands p no_demand) (get_or es p 0) (get_or greens p 0) less in
+          let under_w = not_above-trans (degree_at a greens p) (degree_at a es p) w pos falls under in
           cc (above, under_w)
           )
       | inr more ↦ more
     ]
 
 -- a step for the stage with the greatest degree: no greens do better
-pub best_more : (steps : ℕ) (stages : List Stage) (demands : List Demand) (greens : List ℕ) (p : ℕ)
-    → length greens ≡ length demands → length demands ≡ length stages
-    → All (λ d. IsDemand d) demands → All (λ e. IsGreen e) greens → ((k : ℕ) → k < length stages → 0 < (stage_of stages k).least)
-    → p < length demands → IsUnder steps demands greens (degree_at steps demands greens p)
-    → IsBest steps stages demands greens → IsBest steps stages demands (set greens p (get_or greens p 0 + 1))
-best_more steps stages demands greens p count counts asks alive least inside most best w es pos fits under =
-    let base : 0 < (degree_at steps demands greens p).base = degree_base steps demands greens p count asks alive inside in
-    let more = under_more steps demands greens p 1 w count asks alive inside in
+pub best_more : (a : AskedValue) (greens : List ℕ) (p : ℕ) → IsAsked a → AreEnough a greens → p < length a.stages
+    → IsUnder a greens (degree_at a greens p) → IsBest a greens → IsBest a (set greens p (get_or greens p 0 + 1))
+best_more a greens p is enough inside most best w es pos fits under =
+    let more = under_more a greens p 1 w is enough inside in
     elim (best w es pos fits under) [
-      | inl few ↦ elim (cases_Bool (is_above (degree_at steps demands greens p) w)) [
+      | inl few ↦ elim (cases_Bool (is_above (degree_at a greens p) w)) [
         | inl above ↦
-            let d : IsDemand (get_or demands p no_demand) = asks p no_demand inside in
-            let one : 1 ≤ get_or es p 0 = omega (arith, least p (omega arith), fits.least p (omega arith)) in
-            let es_base : 0 < (degree_at steps demands es p).base =
-            omega (arith, mul-le-mul_left (get_or demands p no_demand).saturation one, d.saturation) in
-            let there = more_there steps demands greens es p w es_base above (under p inside) in
+            let es_base = degree_base a es p is (enough_of a es fits) inside in
+            let there = more_there a greens es p w es_base above (under p inside) in
             inl (λ k below. elim (same_or_not k p) [
               | inl same ↦
-                  let now : get_or (set greens p (get_or greens p 0 + 1)) k 0 ≡ get_or greens p 0 + 1 =
-                  ap (λ n. get_or (set greens p (get_or greens p 0 + 1)) n 0) same
-                  ∙ get_or-set_same greens p (get_or greens p 0 + 1) 0 (omega arith) in
+                  let now = more_same greens p 1 k (omega (arith, enough.count)) same in
+                  let here : get_or greens k 0 ≡ get_or greens p 0 = ap (λ n. get_or greens n 0) same in
                   let at : get_or es k 0 ≡ get_or es p 0 = ap (λ n. get_or es n 0) same in
-                  omega arith
+                  omega (arith, now, here, at, there)
               | inr other ↦
                   let now = get_or-set_other greens p k (get_or greens p 0 + 1) 0 other in
                   omega (arith, few k below, now)
             ])
         | inr not_so ↦
-            inr (more (λ k below. not_above-trans (degree_at steps demands greens k) (degree_at steps demands greens p) w
-            base (most k below) not_so))
+            inr (more (λ k below. not_above-trans (degree_at a greens k) (degree_at a greens p) w
+            (degree_base a greens p is enough inside) (most k below) not_so))
       ]
       | inr already ↦ inr (more already)
     ]
@@ -170,32 +169,20 @@ equal_where (x ∷ xs) (y ∷ ys) same less sums (suc k) below =
     equal_where xs ys (omega arith) (λ j inside. less (suc j) (omega arith))
     (omega (arith, sum_by-cons (λ n. n) x xs, sum_by-cons (λ n. n) y ys, less 0 (omega arith))) k (omega arith)
 
--- greens that are no less than the least ones and no more than the cycle
-pub all_green : (stages : List Stage) (greens : List ℕ) → length greens ≡ length stages
-    → ((k : ℕ) → k < length stages → 0 < (stage_of stages k).least)
-    → ((k : ℕ) → k < length stages → (stage_of stages k).least ≤ get_or greens k 0) → sum greens ≤ 120
-    → All (λ e. IsGreen e) greens
-all_green stages greens count some least few = λ k d below.
-    let here = get_or_default greens k d 0 below in (
-      omega (arith, some k (omega arith), least k (omega arith), here),
-      omega (arith, get_or-le-sum_by (λ n. n) greens k d below, few),
-    )
-
 -- once the cycle is full the greatest degree is the least peak
-pub peak_is_least : (steps : ℕ) (stages : List Stage) (demands : List Demand) (greens : List ℕ) (p : ℕ)
-    → length demands ≡ length stages → All (λ d. IsDemand d) demands → All (λ e. IsGreen e) greens → p < length demands
-    → Fits steps stages greens → IsBest steps stages demands greens
-    → IsUnder steps demands greens (degree_at steps demands greens p)
-    → (w : Fraction) (es : List ℕ) → 0 < w.base → Fits steps stages es → IsUnder steps demands es w
-    → is_above (degree_at steps demands greens p) w ≡ false
-peak_is_least steps stages demands greens p counts asks alive inside full best most w es pos fits under =
-    elim (best w es pos fits under) [
-      | inl few ↦
-          let same = equal_where greens es (omega (arith, full.count, fits.count))
-          (λ k below. few k (omega (arith, full.count))) (omega (arith, full.fills, fits.fills)) p (omega (arith, full.count)) in
-          subst (λ (e : ℕ). is_above (degree_of steps (get_or demands p no_demand) e) w ≡ false) (sym same) (under p inside)
-      | inr already ↦ already p inside
-    ]
+pub peak_is_least : (a : AskedValue) (greens : List ℕ) (p : ℕ) → IsAsked a → Fits a.steps a.stages greens → IsBest a greens
+    → p < length a.stages → IsUnder a greens (degree_at a greens p) → IsLeastPeak a (degree_at a greens p)
+peak_is_least a greens p is full best inside most = record {
+  base = degree_base a greens p is (enough_of a greens full) inside;
+  reached = (greens, full, most);
+  least = λ w es pos fits under. elim (best w es pos fits under) [
+    | inl few ↦
+        let same = equal_where greens es (omega (arith, full.count, fits.count))
+        (λ k below. few k (omega (arith, full.count))) (omega (arith, full.fills, fits.fills)) p (omega (arith, full.count)) in
+        subst (λ (e : ℕ). is_above (degree_of a.steps (get_or a.demands p no_demand) e) w ≡ false) (sym same) (under p inside)
+    | inr already ↦ already p inside
+  ];
+}
 
 -- more steps for a stage leave no green below its least
 pub least_more : (stages : List Stage) (greens : List ℕ) (p x : ℕ) → length greens ≡ length stages
@@ -204,10 +191,15 @@ pub least_more : (stages : List Stage) (greens : List ℕ) (p x : ℕ) → lengt
 least_more stages greens p x count least k below =
     elim (same_or_not k p) [
       | inl same ↦
-          let now : get_or (set greens p (get_or greens p 0 + x)) k 0 ≡ get_or greens p 0 + x =
-          ap (λ n. get_or (set greens p (get_or greens p 0 + x)) n 0) same
-          ∙ get_or-set_same greens p (get_or greens p 0 + x) 0 (omega arith) in
-          let at : get_or greens k 0 ≡ get_or greens p 0 = ap (λ n. get_or greens n 0) same in
-          omega (arith, least k below)
+          let now = more_same greens p x k (omega arith) same in
+          omega (arith, least k below, now)
       | inr other ↦ omega (arith, least k below, get_or-set_other greens p k (get_or greens p 0 + x) 0 other)
     ]
+
+-- and they stay enough
+pub enough_more : (a : AskedValue) (greens : List ℕ) (p x : ℕ) → AreEnough a greens
+    → AreEnough a (set greens p (get_or greens p 0 + x))
+enough_more a greens p x enough = record {
+  count = omega (arith, length-set greens p (get_or greens p 0 + x), enough.count);
+  least = least_more a.stages greens p x enough.count enough.least;
+}

@@ -1,9 +1,10 @@
 -- What the balance of a node is worth, and the answer for any least peak.
 use Rattle.std.proofs.Common.{◌≡◌, ℕ, ◌*◌, ◌<◌, List, map, length, sum}
-use Rattle.std.proofs.Common.{sym, ◌∙◌, ap, subst, arith, get_or, inl, inr}
+use Rattle.std.proofs.Common.{sym, ◌∙◌, ap, refl, subst, arith, get_or, inl, inr}
 use Rattle.std.specs.List.{range_with_len}
 use Rattle.std.proofs.lemmas.List.{ext_get_or, length-map, get_or-map}
-use Rattle.std.proofs.lemmas.List.FromFn.{length-map-range_with_len, get_or-map-range_with_len}
+use Rattle.std.proofs.lemmas.Simd.{map-map}
+use Rattle.std.proofs.lemmas.List.FromFn.{fill_by_all, length-map-range_with_len, get_or-map-range_with_len}
 use Rattle.transyt_parts.specs.Parts.{NodeValue}
 use Rattle.transyt_parts.specs.declared.node.Stage.{Stage}
 use Rattle.transyt_parts.specs.Plan.{stage_of, no_stage}
@@ -13,21 +14,21 @@ use Rattle.transyt_net.specs.Valid.{IsValid}
 use Rattle.transyt_equisat.specs.declared.fraction.Fraction.{Fraction}
 use Rattle.transyt_equisat.specs.declared.greens.Share.{Share}
 use Rattle.transyt_equisat.specs.Fractions.{AtMost, IsSame}
-use Rattle.transyt_equisat.specs.Demands.{demands_of}
 use Rattle.transyt_equisat.specs.Peaks.{peak, greens_of}
-use Rattle.transyt_equisat.specs.Balance.{greens_at, share_at, need_at, balance_at, balance, least_peak, timed, no_share, peak_told, IsBalanced}
+use Rattle.transyt_equisat.specs.Balance.{greens_at, share_at, balance_at, balance, least_peak, timed, no_share, peak_told, IsBalanced}
+use Rattle.transyt_equisat.specs.Asked.{asked_of}
 use Rattle.transyt_equisat.specs.Sharing.{IsSetting, IsLeastPeak}
 use Rattle.transyt_equisat.proofs.FractionLaws.{at_most, at_most-trans}
 use Rattle.transyt_equisat.proofs.DemandLaws.{positive}
 use Rattle.transyt_equisat.proofs.PeakLaws.{peak_base, under_peak}
-use Rattle.transyt_equisat.proofs.PlanFits.{plan_fits}
+use Rattle.transyt_equisat.proofs.PlanFits.{plan_fits, zero_or_more}
 use Rattle.transyt_equisat.proofs.TimedPlans.{AreTimed, timed_greens, timed_allowed}
 use Rattle.transyt_equisat.proofs.LeastLaws.{least_is_least, least_same}
 use Rattle.transyt_equisat.proofs.AlikeLaws.{one_answer}
 use Rattle.transyt_equisat.proofs.SettingLaws.{setting_of}
 use Rattle.transyt_equisat.proofs.GreensLaws.{greens_hold, greens_peak, AreGreens}
 use Rattle.transyt_equisat.proofs.ReachedLaws.{told, same-trans}
-use Rattle.transyt_equisat.proofs.NeedsLaws.{needs_exceed, needs_of, zero_or_more}
+use Rattle.transyt_equisat.proofs.NeedsLaws.{needs_exceed, needs_of}
 
 -- the shares of the answer
 abbrev shares : Network → NodeValue → Fraction → List Share
@@ -65,27 +66,12 @@ timed_same steps stages plan gs is =
 greens_told : (net : Network) (n : NodeValue) (v : Fraction) → length (greens_at net n v) ≡ length n.stages
     → map (λ (h : Share). h.green) (shares net n v) ≡ greens_at net n v
 greens_told net n v count =
-    let len = length-map-range_with_len (share_at net n v (greens_at net n v)) 0 (length n.stages) in
-    ext_get_or 0 (map (λ (h : Share). h.green) (shares net n v)) (greens_at net n v)
-    (omega (arith, length-map (shares net n v) (λ (h : Share). h.green), len, count)) (
-    λ k below.
-    let inside : k < length n.stages = omega (arith, length-map (shares net n v) (λ (h : Share). h.green), len) in
-    get_or-map (λ (h : Share). h.green) (shares net n v) k no_share 0 (omega (arith, len))
-    ∙ ap (λ (h : Share). h.green) (share_there net n v k inside)
-    )
+    map-map (λ (h : Share). h.green) (share_at net n v (greens_at net n v)) (range_with_len 0 (length n.stages))
+    ∙ sym (fill_by_all (λ k. get_or (greens_at net n v) k 0) (greens_at net n v) (length n.stages) 0 count (λ k below. refl))
 
 needs_told : (net : Network) (n : NodeValue) (v : Fraction) → map (λ (h : Share). h.need) (shares net n v) ≡ needs_of net n v
 needs_told net n v =
-    let len = length-map-range_with_len (share_at net n v (greens_at net n v)) 0 (length n.stages) in
-    let needs = length-map-range_with_len (need_at net n v) 0 (length n.stages) in
-    ext_get_or 0 (map (λ (h : Share). h.need) (shares net n v)) (needs_of net n v)
-    (omega (arith, length-map (shares net n v) (λ (h : Share). h.need), len, needs)) (
-    λ k below.
-    let inside : k < length n.stages = omega (arith, length-map (shares net n v) (λ (h : Share). h.need), len) in
-    get_or-map (λ (h : Share). h.need) (shares net n v) k no_share 0 (omega (arith, len))
-    ∙ ap (λ (h : Share). h.need) (share_there net n v k inside)
-    ∙ sym (get_or-map-range_with_len (need_at net n v) 0 (length n.stages) k k 0 inside (omega arith))
-    )
+    map-map (λ (h : Share). h.need) (share_at net n v (greens_at net n v)) (range_with_len 0 (length n.stages))
 
 top_above : (a b : Fraction) → IsSame a b → 0 < b.base → 0 < a.top → 0 < b.top
 top_above a b same base above =
@@ -96,7 +82,7 @@ top_above a b same base above =
 
 -- the answer for a least peak is worth what is said
 pub balanced_at : (net : Network) (n : NodeValue) (v : Fraction) → IsSetting net n
-    → IsLeastPeak net.frame.step_count n.stages (demands_of net n.number (length n.stages)) v
+    → IsLeastPeak (asked_of net n) v
     → IsBalanced net n (balance_at net n v)
 balanced_at net n v setting peak_is =
     let steps = net.frame.step_count in
@@ -115,12 +101,12 @@ balanced_at net n v setting peak_is =
       greens = greens ∙ sym (greens_told net n v hold.fits.count);
       attained = subst (λ (es : List ℕ). IsSame (peak_told (balance_at net n v)) (peak net n.number es)) (sym greens)
           (same-trans (peak_told (balance_at net n v)) v (peak net n.number gs) peak_is.base said
-          (greens_peak net n v gs setting peak_is hold));
+          (greens_peak net n v setting peak_is gs hold));
       least = λ other allowed.
           let fits = plan_fits steps n.stages other allowed in
           let es : List ℕ = greens_of steps other in
           least (peak net n.number es) (at_most v (peak net n.number es)
-          (peak_is.least (peak net n.number es) es (peak_base net n es setting fits) fits (under_peak net n es setting fits)));
+          (peak_is.least (peak net n.number es) es (peak_base net n setting es fits) fits (under_peak net n setting es fits)));
       certificate = λ above.
           let exceed = needs_exceed net n v setting peak_is (top_above (peak_told (balance_at net n v)) v said peak_is.base above) in
           omega (arith, exceed, ap sum (needs_told net n v));
@@ -134,12 +120,10 @@ balanced net p valid inside =
 
 -- and any least peak has this answer
 pub balance_by : (net : Network) (p : ℕ) (v : Fraction) → IsValid net → p < length net.nodes
-    → IsLeastPeak net.frame.step_count (node_of net p).stages
-    (demands_of net (node_of net p).number (length (node_of net p).stages)) v
-    → balance_at net (node_of net p) v ≡ balance net p
+    → IsLeastPeak (asked_of net (node_of net p)) v → balance_at net (node_of net p) v ≡ balance net p
 balance_by net p v valid inside peak_is =
     let n : NodeValue = node_of net p in
     let least = least_is_least net n (setting_of net p valid inside) in
     one_answer net n v (least_peak net n)
-    (least_same net.frame.step_count n.stages (demands_of net n.number (length n.stages)) v (least_peak net n) peak_is least)
+    (least_same (asked_of net n) v (least_peak net n) peak_is least)
     peak_is.base least.base

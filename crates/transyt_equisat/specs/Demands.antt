@@ -1,5 +1,5 @@
 -- What the counted links of a stage ask of its green, as the one that asks most. No public clause cites these.
-use Rattle.std.specs.Prelude.{ℕ, ◌+◌, ◌*◌, ◌<◌, ◌≤◌, Bool, ◌&&◌, nat_lt, List, map, if◌then◌else◌}
+use Rattle.std.specs.Prelude.{ℕ, ◌+◌, ◌*◌, Bool, ◌&&◌, nat_lt, List, map, if◌then◌else◌}
 use Rattle.std.specs.List.{fold, range_with_len}
 use Rattle.transyt_parts.specs.Parts.{LinkValue}
 use Rattle.transyt_parts.specs.Flow.{total_flow}
@@ -35,8 +35,3 @@ demand_in net number stage = fold (heavier_of number stage) no_demand net.links
 -- the demands of the first stages of a node
 abbrev pub demands_of : Network → ℕ → ℕ → List Demand
 demands_of net number count = map (λ k. demand_in net number (k + 1)) (range_with_len 0 count)
-
--- what a demand keeps to
-pub record IsDemand (d : Demand) : Type 0 where
-  pub flow : d.flow ≤ 89991
-  pub saturation : (0 < d.saturation) × (d.saturation ≤ 9999)

@@ -2,6 +2,7 @@ pub mod Fractions
 pub mod Degrees
 pub mod Demands
 pub mod Peaks
+pub mod Asked
 pub mod Sharing
 pub mod Answer
 pub mod Balance

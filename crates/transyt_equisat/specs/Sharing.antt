@@ -9,37 +9,32 @@ use Rattle.transyt_parts.specs.Plan.{stage_of}
 use Rattle.transyt_equisat.specs.declared.greens.Share.{Share}
 use Rattle.transyt_equisat.specs.Degrees.{is_counted, first_stage, degree}
 use Rattle.transyt_equisat.specs.Balance.{first_from, change_at, is_same, degree_found, number_found}
-use Rattle.transyt_parts.specs.declared.node.Stage.{Stage}
 use Rattle.transyt_equisat.specs.declared.fraction.Fraction.{Fraction}
 use Rattle.transyt_equisat.specs.declared.demand.Demand.{Demand}
 use Rattle.transyt_equisat.specs.Fractions.{is_above}
 use Rattle.transyt_equisat.specs.Demands.{degree_of, no_demand}
 use Rattle.transyt_equisat.specs.Peaks.{Fits, green_of, greens_of}
+use Rattle.transyt_equisat.specs.Asked.{AskedValue}
 
 -- the degree of the stage at a place
-abbrev pub degree_at : ℕ → List Demand → List ℕ → ℕ → Fraction
-degree_at steps demands greens k = degree_of steps (slice_index_or demands k no_demand) (slice_index greens k)
+abbrev pub degree_at : AskedValue → List ℕ → ℕ → Fraction
+degree_at a greens k = degree_of a.steps (slice_index_or a.demands k no_demand) (slice_index greens k)
 
 -- no stage has a degree above v
-abbrev pub IsUnder : ℕ → List Demand → List ℕ → Fraction → Type 0
-IsUnder steps demands greens v =
-    (k : ℕ) → k < length demands → is_above (degree_at steps demands greens k) v ≡ false
-
--- a green that a stage can have
-abbrev pub IsGreen : ℕ → Type 0
-IsGreen e = (0 < e) × (e ≤ 120)
+abbrev pub IsUnder : AskedValue → List ℕ → Fraction → Type 0
+IsUnder a greens v = (k : ℕ) → k < length a.stages → is_above (degree_at a greens k) v ≡ false
 
 -- no greens that fill the cycle do better: they have no fewer steps anywhere, or no lower degrees
-abbrev pub IsBest : ℕ → List Stage → List Demand → List ℕ → Type 0
-IsBest steps stages demands greens =
-    (w : Fraction) (es : List ℕ) → 0 < w.base → Fits steps stages es → IsUnder steps demands es w
-    → ((k : ℕ) → k < length demands → slice_index greens k ≤ slice_index es k) ⊎ IsUnder steps demands greens w
+abbrev pub IsBest : AskedValue → List ℕ → Type 0
+IsBest a greens =
+    (w : Fraction) (es : List ℕ) → 0 < w.base → Fits a.steps a.stages es → IsUnder a es w
+    → ((k : ℕ) → k < length a.stages → slice_index greens k ≤ slice_index es k) ⊎ IsUnder a greens w
 
 -- the least peak of all greens that fill the cycle
-pub record IsLeastPeak (steps : ℕ) (stages : List Stage) (demands : List Demand) (v : Fraction) : Type 0 where
+pub record IsLeastPeak (a : AskedValue) (v : Fraction) : Type 0 where
   pub base : 0 < v.base
-  pub reached : (es : List ℕ) × Fits steps stages es × IsUnder steps demands es v
-  pub least : (w : Fraction) (es : List ℕ) → 0 < w.base → Fits steps stages es → IsUnder steps demands es w
+  pub reached : (es : List ℕ) × Fits a.steps a.stages es × IsUnder a es v
+  pub least : (w : Fraction) (es : List ℕ) → 0 < w.base → Fits a.steps a.stages es → IsUnder a es w
       → is_above v w ≡ false
 
 -- the least green at which a demand isn't above v
@@ -52,15 +47,15 @@ need_by steps v least d =
     if nat_eq v.top 0 then 0 else first_from (λ e. is_above v (degree_of steps d e)) least (steps - least)
 
 -- the green of the stage at a place
-abbrev pub green_there : ℕ → List Stage → List Demand → Fraction → ℕ → ℕ
-green_there steps stages demands v k = green_by steps v (stage_of stages k).least (slice_index_or demands k no_demand)
+abbrev pub green_there : AskedValue → Fraction → ℕ → ℕ
+green_there a v k = green_by a.steps v (stage_of a.stages k).least (slice_index_or a.demands k no_demand)
 
 -- the share of the stage at a place
-abbrev pub share_there : ℕ → List Stage → List Demand → Fraction → List ℕ → ℕ → Share
-share_there steps stages demands v greens k = record {
-  change = change_at steps stages greens k;
+abbrev pub share_there : AskedValue → Fraction → List ℕ → ℕ → Share
+share_there a v greens k = record {
+  change = change_at a.steps a.stages greens k;
   green = slice_index greens k;
-  need = need_by steps v (stage_of stages k).least (slice_index_or demands k no_demand);
+  need = need_by a.steps v (stage_of a.stages k).least (slice_index_or a.demands k no_demand);
 }
 
 -- the counted links run in one of so many stages

@@ -1,34 +1,27 @@
 //! The balance of a node.
 
-ghost use Rattle.std.specs.Prelude.{◌≡◌, ℕ, ◌+◌, ◌-◌, ◌<◌, ◌≤◌, ◌^◌, length, map, sum, All, IfOk, IfSome, false, true, slice_index, slice_index_or, option_map, Some};
+ghost use Rattle.std.specs.Prelude.{◌≡◌, ℕ, ◌+◌, ◌-◌, ◌<◌, ◌≤◌, length, map, sum, All, IfOk, IfSome, true, option_map, Some};
 ghost use Rattle.std.specs.List.{range_with_len, find};
-ghost use Rattle.transyt_parts.specs.Plan.{stage_of};
-ghost use Rattle.transyt_parts.specs.Valid.{IsStage};
 ghost use Rattle.transyt_net.specs.Parts.{node_of, link_of};
-ghost use Rattle.transyt_equisat.specs.Fractions.{is_above};
-ghost use Rattle.transyt_equisat.specs.Degrees.{is_counted, first_stage, counted, degree};
-ghost use Rattle.transyt_equisat.specs.Demands.{IsDemand, degree_of, demands_of};
-ghost use Rattle.transyt_equisat.specs.Peaks.{lost, green_of};
-ghost use Rattle.transyt_equisat.specs.Sharing.{IsGreen, green_by, need_by, green_there, share_there, AreWithin, IsLeastPeak, reaches, reaching_by, told_of};
-ghost use Rattle.transyt_equisat.specs.Balance.{balance, balance_at, least_greens, is_same, first_more, IsBalanced};
+ghost use Rattle.transyt_equisat.specs.Degrees.{is_counted, degree};
+ghost use Rattle.transyt_equisat.specs.Peaks.{lost};
+ghost use Rattle.transyt_equisat.specs.Asked.{asked_of};
+ghost use Rattle.transyt_equisat.specs.Sharing.{green_by, need_by, green_there, share_there, AreWithin, IsLeastPeak, reaches, reaching_by, told_of};
+ghost use Rattle.transyt_equisat.specs.Balance.{balance, balance_at, greens_at, is_same, first_more, IsBalanced};
 
+use crate::asked::Asked;
 use crate::demand::{Demand, degree_of, demands_of};
 use crate::fraction::{Fraction, is_above};
 use crate::greens::{Greens, Share};
 use crate::sharing::{least_peak, taken};
 use std::alloc::{AllocError, Global};
 use transyt_net::{Link, Net};
-use transyt_parts::Stage;
 
 /// Whether two fractions are equal.
 fn is_same(a: Fraction, b: Fraction) -> bool
-    requires a_top { a.top < 2 ^ 32 }
-    requires a_base { a.base < 2 ^ 32 }
-    requires b_top { b.top < 2 ^ 32 }
-    requires b_base { b.base < 2 ^ 32 }
     ensures { result ≡ is_same a b }
 {
-    a.top * b.base == b.top * a.base
+    u128::from(a.top) * u128::from(b.base) == u128::from(b.top) * u128::from(a.base)
 }
 
 /// Whether a link counts at a node: it runs there, in exactly one stage.
@@ -55,11 +48,7 @@ fn degree(net: &Net, place: usize, green: u32) -> Fraction
 
 /// The least green at which a demand isn't above the peak.
 fn green_by(steps: u32, peak: Fraction, least: u32, demand: Demand) -> u32
-    requires steps { steps ≤ 120 }
-    requires top { peak.top < 2 ^ 32 }
-    requires base { peak.base < 2 ^ 32 }
-    requires least { least ≤ steps }
-    requires demand { IsDemand demand }
+    requires { least ≤ steps }
     ensures value { result ≡ green_by steps peak least demand }
     ensures low { least ≤ result }
     ensures small { result ≤ steps }
@@ -74,11 +63,7 @@ fn green_by(steps: u32, peak: Fraction, least: u32, demand: Demand) -> u32
 
 /// The least green at which a demand is below the peak; 0 where the peak is 0.
 fn need_by(steps: u32, peak: Fraction, least: u32, demand: Demand) -> u32
-    requires steps { steps ≤ 120 }
-    requires top { peak.top < 2 ^ 32 }
-    requires base { peak.base < 2 ^ 32 }
-    requires least { least ≤ steps }
-    requires demand { IsDemand demand }
+    requires { least ≤ steps }
     ensures { result ≡ need_by steps peak least demand }
 {
     if peak.top == 0 {
@@ -93,23 +78,14 @@ fn need_by(steps: u32, peak: Fraction, least: u32, demand: Demand) -> u32
 }
 
 /// The least greens of the stages for a peak.
-fn greens_for(
-    alloc: Global,
-    steps: u32,
-    stages: &[Stage],
-    demands: &[Demand],
-    peak: Fraction,
-) -> Result<Vec<u32>, AllocError>
-    requires steps { steps ≤ 120 }
-    requires top { peak.top < 2 ^ 32 }
-    requires base { peak.base < 2 ^ 32 }
-    requires count { length demands.now ≡ length stages.now }
-    requires stages { All (λ s. IsStage steps s) stages.now }
-    requires demands { All (λ d. IsDemand d) demands.now }
+fn greens_for(alloc: Global, asked: &Asked, peak: Fraction) -> Result<Vec<u32>, AllocError>
     ensures value { IfOk result (λ greens. greens.items ≡
-        map (green_there steps stages.now demands.now peak) (range_with_len 0 (length stages.now))) }
+        map (green_there asked.now peak) (range_with_len 0 (length asked.now.stages))) }
     ensures small { IfOk result (λ greens. All (λ e. e ≤ 120) greens.items) }
 {
+    let steps = asked.steps();
+    let stages = asked.stages();
+    let demands = asked.demands();
     let mut greens = Vec::with_capacity(alloc, stages.len())?;
     for place in 0..stages.len() {
         greens.push(green_by(steps, peak, stages[place].least, demands[place]))?;
@@ -120,24 +96,18 @@ fn greens_for(
 /// The shares of the stages for a peak and greens.
 fn shares_for(
     alloc: Global,
-    steps: u32,
-    stages: &[Stage],
-    demands: &[Demand],
+    asked: &Asked,
     peak: Fraction,
     greens: &[u32],
 ) -> Result<Vec<Share>, AllocError>
-    requires steps { steps ≤ 120 }
-    requires some { 0 < length stages.now }
-    requires top { peak.top < 2 ^ 32 }
-    requires base { peak.base < 2 ^ 32 }
-    requires count { length demands.now ≡ length stages.now }
-    requires greens_count { length greens.now ≡ length stages.now }
-    requires stages { All (λ s. IsStage steps s) stages.now }
-    requires demands { All (λ d. IsDemand d) demands.now }
+    requires count { length greens.now ≡ length asked.now.stages }
     requires greens { All (λ e. e ≤ 120) greens.now }
     ensures { IfOk result (λ shares. shares.items ≡
-        map (share_there steps stages.now demands.now peak greens.now) (range_with_len 0 (length stages.now))) }
+        map (share_there asked.now peak greens.now) (range_with_len 0 (length asked.now.stages))) }
 {
+    let steps = asked.steps();
+    let stages = asked.stages();
+    let demands = asked.demands();
     let mut shares = Vec::with_capacity(alloc, stages.len())?;
     let mut change = stages[0].change;
     for place in 0..stages.len() {
@@ -153,19 +123,19 @@ fn shares_for(
     Ok(shares)
 }
 
-/// Gives what is left of the cycle to the first stage.
-fn fill(steps: u32, stages: &[Stage], greens: &mut [u32])
-    requires steps { steps ≤ 120 }
-    requires some { 0 < length stages.now }
-    requires few { length stages.now ≤ 8 }
-    requires count { length greens.old ≡ length stages.now }
-    requires stages { All (λ s. IsStage steps s) stages.now }
-    requires greens { All (λ e. e ≤ 120) greens.old }
-    requires room { sum greens.old + lost stages.now ≤ steps }
-    ensures { greens.new ≡ first_more (steps - (sum greens.old + lost stages.now)) greens.old }
+/// Greens with what is left of the cycle given to the first stage.
+fn filled(asked: &Asked, greens: Vec<u32>) -> Vec<u32>
+    requires count { length greens.items ≡ length asked.now.stages }
+    requires greens { All (λ e. e ≤ 120) greens.items }
+    requires room { sum greens.items + lost asked.now.stages ≤ asked.now.steps }
+    ensures value { result.items
+        ≡ first_more (asked.now.steps - (sum greens.items + lost asked.now.stages)) greens.items }
+    ensures small { All (λ e. e ≤ 120) result.items }
 {
-    let left = steps - taken(stages, greens);
-    greens[0] += left;
+    let left = asked.steps() - taken(asked, &greens);
+    let mut filled = greens;
+    filled[0] += left;
+    filled
 }
 
 /// Whether the link at a place counts at a node, and reaches the peak.
@@ -173,8 +143,6 @@ fn reaches(net: &Net, place: usize, number: u32, peak: Fraction, greens: &[u32])
     requires place { place < length net.now.links }
     requires within { AreWithin number (length greens.now) net.now.links }
     requires greens { All (λ e. e ≤ 120) greens.now }
-    requires top { peak.top < 2 ^ 32 }
-    requires base { peak.base < 2 ^ 32 }
     ensures { result ≡ reaches net.now number peak greens.now (link_of net.now place) }
 {
     let link = &net.links()[place];
@@ -191,8 +159,6 @@ fn reaches(net: &Net, place: usize, number: u32, peak: Fraction, greens: &[u32])
 fn reaching(net: &Net, number: u32, peak: Fraction, greens: &[u32]) -> Option<usize>
     requires within { AreWithin number (length greens.now) net.now.links }
     requires greens { All (λ e. e ≤ 120) greens.now }
-    requires top { peak.top < 2 ^ 32 }
-    requires base { peak.base < 2 ^ 32 }
     ensures value { option_map (link_of net.now) result ≡
         find (reaches net.now number peak greens.now) net.now.links }
     ensures inside { IfSome result (λ p.
@@ -234,8 +200,6 @@ fn told_by(net: &Net, place: usize, number: u32, greens: &[u32]) -> Told
 fn peak_told(net: &Net, number: u32, peak: Fraction, greens: &[u32]) -> Told
     requires within { AreWithin number (length greens.now) net.now.links }
     requires greens { All (λ e. e ≤ 120) greens.now }
-    requires top { peak.top < 2 ^ 32 }
-    requires base { peak.base < 2 ^ 32 }
     ensures { result ≡ told_of net.now.frame.step_count greens.now
         (reaching_by net.now number peak greens.now) }
 {
@@ -256,31 +220,43 @@ fn peak_told(net: &Net, number: u32, peak: Fraction, greens: &[u32]) -> Told
     }
 }
 
-/// The answer for a least peak and the least greens for it.
+/// The greens of the stages for a least peak: the least ones, and what is left of the cycle for the first.
+fn greens_at(
+    alloc: Global,
+    net: &Net,
+    node: usize,
+    asked: &Asked,
+    peak: Fraction,
+) -> Result<Vec<u32>, AllocError>
+    requires node { node < length net.now.nodes }
+    requires asked { asked.now ≡ asked_of net.now (node_of net.now node) }
+    requires least { IsLeastPeak asked.now peak }
+    ensures value { IfOk result (λ greens. greens.items
+        ≡ greens_at net.now (node_of net.now node) peak) }
+    ensures small { IfOk result (λ greens. All (λ e. e ≤ 120) greens.items) }
+{
+    let _nodes = net.nodes();
+    let least = greens_for(alloc, asked, peak)?;
+    Ok(filled(asked, least))
+}
+
+/// The answer for a least peak.
 fn answer_for(
     alloc: Global,
     net: &Net,
     node: usize,
-    stages: &[Stage],
-    demands: &[Demand],
+    asked: &Asked,
     peak: Fraction,
-    greens: &mut [u32],
 ) -> Result<Greens, AllocError>
     requires node { node < length net.now.nodes }
-    requires stages { stages.now ≡ (node_of net.now node).stages }
-    requires asked { demands.now ≡ demands_of net.now (node_of net.now node).number (length stages.now) }
-    requires demands { All (λ d. IsDemand d) demands.now }
-    requires least { IsLeastPeak net.now.frame.step_count stages.now demands.now peak }
-    requires top { peak.top < 2 ^ 32 }
-    requires base { peak.base < 2 ^ 32 }
-    requires greens { greens.old ≡ least_greens net.now (node_of net.now node) peak }
-    requires small { All (λ e. e ≤ 120) greens.old }
+    requires asked { asked.now ≡ asked_of net.now (node_of net.now node) }
+    requires least { IsLeastPeak asked.now peak }
     ensures { IfOk result (λ g. g ≡ balance_at net.now (node_of net.now node) peak) }
 {
-    let steps = net.frame().step_count;
     let here = &net.nodes()[node];
-    fill(steps, stages, greens);
-    let shares = shares_for(alloc, steps, stages, demands, peak, greens)?;
+    let filled = greens_at(alloc, net, node, asked, peak)?;
+    let greens: &[u32] = &filled;
+    let shares = shares_for(alloc, asked, peak, greens)?;
     let Told { top, base, link } = peak_told(net, here.number, peak, greens);
     Ok(Greens {
         top,
@@ -288,26 +264,6 @@ fn answer_for(
         link,
         stages: shares,
     })
-}
-
-/// The answer for what the stages ask.
-fn answer(
-    alloc: Global,
-    net: &Net,
-    node: usize,
-    stages: &[Stage],
-    demands: &[Demand],
-) -> Result<Greens, AllocError>
-    requires node { node < length net.now.nodes }
-    requires stages { stages.now ≡ (node_of net.now node).stages }
-    requires asked { demands.now ≡ demands_of net.now (node_of net.now node).number (length stages.now) }
-    requires demands { All (λ d. IsDemand d) demands.now }
-    ensures { IfOk result (λ g. g ≡ balance net.now node) }
-{
-    let steps = net.frame().step_count;
-    let peak = least_peak(alloc, steps, stages, demands)?;
-    let mut greens = greens_for(alloc, steps, stages, demands, peak)?;
-    answer_for(alloc, net, node, stages, demands, peak, &mut greens)
 }
 
 /// The stage lengths of equal saturation of the node at a place.
@@ -321,7 +277,8 @@ pub fn balance(alloc: Global, net: &Net, node: usize) -> Result<Greens, AllocErr
     ensures worth { IfOk result (λ g. IsBalanced net.now (node_of net.now node) g) }
 {
     let here = &net.nodes()[node];
-    let stages: &[Stage] = &here.stages;
-    let demands = demands_of(alloc, net, here.number, stages.len())?;
-    answer(alloc, net, node, stages, &demands)
+    let demands = demands_of(alloc, net, here.number, here.stages.len())?;
+    let asked = Asked::new(net, node, &demands);
+    let peak = least_peak(alloc, &asked)?;
+    answer_for(alloc, net, node, &asked, peak)
 }

@@ -1,10 +1,10 @@
 //! What a stage's counted links ask of its green.
 
-ghost use Rattle.std.specs.Prelude.{◌≡◌, ℕ, ◌+◌, ◌*◌, ◌<◌, ◌≤◌, ◌^◌, length, map, All, IfOk, if◌then◌else◌, slice_index_or};
+ghost use Rattle.std.specs.Prelude.{◌≡◌, ℕ, ◌+◌, ◌*◌, ◌<◌, ◌≤◌, length, map, All, IfOk, if◌then◌else◌, slice_index_or};
 ghost use Rattle.std.specs.List.{range_with_len};
 ghost use Rattle.transyt_net.specs.Parts.{link_of};
 ghost use Rattle.transyt_equisat.specs.Degrees.{counts_in};
-ghost use Rattle.transyt_equisat.specs.Demands.{degree_of, demand_of, heavier, heavier_of, demand_in, demands_of, IsDemand, no_demand};
+ghost use Rattle.transyt_equisat.specs.Demands.{degree_of, demand_of, heavier, heavier_of, demand_in, demands_of, no_demand};
 
 use crate::fraction::Fraction;
 use std::alloc::{AllocError, Global};
@@ -19,12 +19,7 @@ pub struct Demand {
 
 /// The degree of a demand at a green, in a cycle of `steps` steps.
 pub fn degree_of(steps: u32, demand: Demand, green: u32) -> Fraction
-    requires steps { steps ≤ 120 }
-    requires demand { IsDemand demand }
-    requires green { green ≤ 120 }
-    ensures value { result ≡ degree_of steps demand green }
-    ensures top { result.top < 2 ^ 32 }
-    ensures base { result.base < 2 ^ 32 }
+    ensures { result ≡ degree_of steps demand green }
 {
     Fraction {
         top: u64::from(demand.flow) * u64::from(steps),
@@ -49,9 +44,9 @@ fn heavier(a: Demand, b: Demand) -> bool
 /// The demand of the link at a place, where it counts in the stage and asks for more; else `so_far`.
 fn heavier_of(net: &Net, place: usize, number: u32, stage: u32, so_far: Demand) -> Demand
     requires place { place < length net.now.links }
-    requires demand { IsDemand so_far }
+    requires live { 0 < so_far.saturation }
     ensures value { result ≡ heavier_of number stage so_far (link_of net.now place) }
-    ensures demand { IsDemand result }
+    ensures live { 0 < result.saturation }
 {
     let link = &net.links()[place];
     let demand = Demand {
@@ -67,7 +62,7 @@ fn heavier_of(net: &Net, place: usize, number: u32, stage: u32, so_far: Demand) 
 /// The demand of the link that asks most of a stage, of those that count in it.
 fn demand_in(net: &Net, number: u32, stage: u32) -> Demand
     ensures value { result ≡ demand_in net.now number stage }
-    ensures demand { IsDemand result }
+    ensures live { 0 < result.saturation }
 {
     let mut demand = Demand {
         flow: 0,
@@ -88,7 +83,7 @@ pub fn demands_of(
 ) -> Result<Vec<Demand>, AllocError>
     requires { count ≤ 8 }
     ensures value { IfOk result (λ demands. demands.items ≡ demands_of net.now number count) }
-    ensures demand { IfOk result (λ demands. All (λ d. IsDemand d) demands.items) }
+    ensures live { IfOk result (λ demands. All (λ d. 0 < d.saturation) demands.items) }
 {
     let mut demands = Vec::with_capacity(alloc, count)?;
     for place in 0..count {

@@ -6,6 +6,7 @@
 //! answer. Everything here is this project's own.
 #![tactic(auto)]
 
+mod asked;
 mod balancing;
 mod demand;
 mod fraction;

@@ -1,80 +1,64 @@
 //! How the steps of the cycle are shared out among the stages.
 
-ghost use Rattle.std.specs.Prelude.{◌≡◌, ℕ, ◌+◌, ◌*◌, ◌<◌, ◌≤◌, ◌^◌, length, map, sum, sum_by, All, IfOk, false, slice_index_or, slice_index};
-ghost use Rattle.transyt_parts.specs.Valid.{IsStage};
+ghost use Rattle.std.specs.Prelude.{◌≡◌, ℕ, ◌+◌, ◌<◌, ◌≤◌, length, map, sum, sum_by, All, IfOk, false};
 ghost use Rattle.transyt_equisat.specs.Fractions.{is_above};
-ghost use Rattle.transyt_equisat.specs.Demands.{IsDemand};
 ghost use Rattle.transyt_equisat.specs.Peaks.{lost, Fits};
-ghost use Rattle.transyt_equisat.specs.Sharing.{degree_at, IsUnder, IsGreen, IsBest, IsLeastPeak};
+ghost use Rattle.transyt_equisat.specs.Asked.{IsAsked, AreEnough};
+ghost use Rattle.transyt_equisat.specs.Sharing.{degree_at, IsUnder, IsBest, IsLeastPeak};
 
-use crate::demand::{Demand, degree_of};
+use crate::asked::Asked;
+use crate::demand::degree_of;
 use crate::fraction::{Fraction, is_above};
 use std::alloc::{AllocError, Global};
 use transyt_parts::Stage;
 
 /// The degree of the stage at a place.
-fn degree_at(steps: u32, demands: &[Demand], greens: &[u32], place: usize) -> Fraction
-    requires steps { steps ≤ 120 }
-    requires place { place < length demands.now }
-    requires count { length greens.now ≡ length demands.now }
-    requires demands { All (λ d. IsDemand d) demands.now }
-    requires greens { All (λ e. IsGreen e) greens.now }
-    ensures value { result ≡ degree_at steps demands.now greens.now place }
-    ensures top { result.top < 2 ^ 32 }
-    ensures base { result.base < 2 ^ 32 }
+fn degree_at(asked: &Asked, greens: &[u32], place: usize) -> Fraction
+    requires place { place < length asked.now.stages }
+    requires count { length greens.now ≡ length asked.now.stages }
+    ensures value { result ≡ degree_at asked.now greens.now place }
+    ensures asked { IsAsked asked.now }
 {
-    degree_of(steps, demands[place], greens[place])
+    degree_of(asked.steps(), asked.demands()[place], greens[place])
 }
 
 /// Of two places that of the stage with the greater degree, the first where they are equal.
-fn busier(steps: u32, demands: &[Demand], greens: &[u32], a: usize, b: usize) -> usize
-    requires steps { steps ≤ 120 }
-    requires a { a < length demands.now }
-    requires b { b < length demands.now }
-    requires count { length greens.now ≡ length demands.now }
-    requires demands { All (λ d. IsDemand d) demands.now }
-    requires greens { All (λ e. IsGreen e) greens.now }
-    ensures inside { result < length demands.now }
-    ensures over_a { is_above (degree_at steps demands.now greens.now a)
-        (degree_at steps demands.now greens.now result) ≡ false }
-    ensures over_b { is_above (degree_at steps demands.now greens.now b)
-        (degree_at steps demands.now greens.now result) ≡ false }
+fn busier(asked: &Asked, greens: &[u32], a: usize, b: usize) -> usize
+    requires a { a < length asked.now.stages }
+    requires b { b < length asked.now.stages }
+    requires count { length greens.now ≡ length asked.now.stages }
+    ensures inside { result < length asked.now.stages }
+    ensures over_a { is_above (degree_at asked.now greens.now a)
+        (degree_at asked.now greens.now result) ≡ false }
+    ensures over_b { is_above (degree_at asked.now greens.now b)
+        (degree_at asked.now greens.now result) ≡ false }
 {
-    if is_above(
-        degree_at(steps, demands, greens, b),
-        degree_at(steps, demands, greens, a),
-    ) {
+    if is_above(degree_at(asked, greens, b), degree_at(asked, greens, a)) {
         return b;
     }
     a
 }
 
 /// The place of the stage with the greatest degree.
-fn busiest(steps: u32, demands: &[Demand], greens: &[u32]) -> usize
-    requires steps { steps ≤ 120 }
-    requires some { 0 < length demands.now }
-    requires count { length greens.now ≡ length demands.now }
-    requires demands { All (λ d. IsDemand d) demands.now }
-    requires greens { All (λ e. IsGreen e) greens.now }
-    ensures inside { result < length demands.now }
-    ensures greatest { IsUnder steps demands.now greens.now
-        (degree_at steps demands.now greens.now result) }
+fn busiest(asked: &Asked, greens: &[u32]) -> usize
+    requires enough { AreEnough asked.now greens.now }
+    ensures inside { result < length asked.now.stages }
+    ensures greatest { IsUnder asked.now greens.now (degree_at asked.now greens.now result) }
 {
     let mut best = 0;
-    for place in 1..demands.len() {
-        best = busier(steps, demands, greens, best, place);
+    for place in 1..asked.stages().len() {
+        best = busier(asked, greens, best, place);
     }
     best
 }
 
 /// The steps that these greens and the intergreens take.
-pub fn taken(stages: &[Stage], greens: &[u32]) -> u32
-    requires few { length stages.now ≤ 8 }
-    requires count { length greens.now ≡ length stages.now }
-    requires stages { All (λ s. s.intergreen ≤ 120) stages.now }
+pub fn taken(asked: &Asked, greens: &[u32]) -> u32
+    requires count { length greens.now ≡ length asked.now.stages }
     requires greens { All (λ e. e ≤ 120) greens.now }
-    ensures { result ≡ sum greens.now + lost stages.now }
+    ensures { result ≡ sum greens.now + lost asked.now.stages }
 {
+    let stages = asked.stages();
     let mut all = 0;
     for place in 0..stages.len() {
         all += greens[place] + stages[place].intergreen;
@@ -94,62 +78,33 @@ fn least_greens(alloc: Global, stages: &[Stage]) -> Result<Vec<u32>, AllocError>
 }
 
 /// Gives the steps that are left one by one, each to the stage with the greatest degree.
-fn share_out(steps: u32, stages: &[Stage], demands: &[Demand], greens: &mut [u32])
-    requires steps { steps ≤ 120 }
-    requires some { 0 < length stages.now }
-    requires few { length stages.now ≤ 8 }
-    requires count { length demands.now ≡ length stages.now }
-    requires stages { All (λ s. IsStage steps s) stages.now }
-    requires demands { All (λ d. IsDemand d) demands.now }
-    requires least { greens.old ≡ map (λ s. s.least) stages.now }
-    requires room { sum greens.old + lost stages.now ≤ steps }
-    ensures fits { Fits steps stages.now greens.new }
-    ensures greens { All (λ e. IsGreen e) greens.new }
-    ensures best { IsBest steps stages.now demands.now greens.new }
+fn share_out(asked: &Asked, greens: &mut [u32])
+    requires { greens.old ≡ map (λ s. s.least) asked.now.stages }
+    ensures fits { Fits asked.now.steps asked.now.stages greens.new }
+    ensures best { IsBest asked.now greens.new }
 {
-    let used = taken(stages, greens);
+    let steps = asked.steps();
+    let used = taken(asked, greens);
     for turn in used..steps {
-        let place = busiest(steps, demands, greens);
+        let place = busiest(asked, greens);
         greens[place] += 1;
     }
 }
 
 /// The least peak of all greens that fill the cycle; `greens` are the least ones.
-fn peak_of(steps: u32, stages: &[Stage], demands: &[Demand], greens: &mut [u32]) -> Fraction
-    requires steps { steps ≤ 120 }
-    requires some { 0 < length stages.now }
-    requires few { length stages.now ≤ 8 }
-    requires count { length demands.now ≡ length stages.now }
-    requires stages { All (λ s. IsStage steps s) stages.now }
-    requires demands { All (λ d. IsDemand d) demands.now }
-    requires least { greens.old ≡ map (λ s. s.least) stages.now }
-    requires room { sum greens.old + lost stages.now ≤ steps }
-    ensures peak { IsLeastPeak steps stages.now demands.now result }
-    ensures top { result.top < 2 ^ 32 }
-    ensures base { result.base < 2 ^ 32 }
+fn peak_of(asked: &Asked, greens: &mut [u32]) -> Fraction
+    requires { greens.old ≡ map (λ s. s.least) asked.now.stages }
+    ensures { IsLeastPeak asked.now result }
 {
-    share_out(steps, stages, demands, greens);
-    let place = busiest(steps, demands, greens);
-    degree_at(steps, demands, greens, place)
+    share_out(asked, greens);
+    let place = busiest(asked, greens);
+    degree_at(asked, greens, place)
 }
 
 /// The least peak of all greens that fill the cycle.
-pub fn least_peak(
-    alloc: Global,
-    steps: u32,
-    stages: &[Stage],
-    demands: &[Demand],
-) -> Result<Fraction, AllocError>
-    requires steps { steps ≤ 120 }
-    requires some { 0 < length stages.now }
-    requires few { length stages.now ≤ 8 }
-    requires count { length demands.now ≡ length stages.now }
-    requires stages { All (λ s. IsStage steps s) stages.now }
-    requires demands { All (λ d. IsDemand d) demands.now }
-    requires room { sum (map (λ s. s.least) stages.now) + lost stages.now ≤ steps }
-    ensures peak { IfOk result (λ v. IsLeastPeak steps stages.now demands.now v) }
-    ensures small { IfOk result (λ v. (v.top < 2 ^ 32) × (v.base < 2 ^ 32)) }
+pub fn least_peak(alloc: Global, asked: &Asked) -> Result<Fraction, AllocError>
+    ensures { IfOk result (λ v. IsLeastPeak asked.now v) }
 {
-    let mut greens = least_greens(alloc, stages)?;
-    Ok(peak_of(steps, stages, demands, &mut greens))
+    let mut greens = least_greens(alloc, asked.stages())?;
+    Ok(peak_of(asked, &mut greens))
 }

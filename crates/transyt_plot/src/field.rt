@@ -1,7 +1,8 @@
 //! Fields of a plot.
 ghost use Rattle.std.specs.Prelude.{◌≡◌, ◌≤◌, ◌<◌, ◌+◌, ◌++◌, length};
-ghost use Rattle.transyt_plot.specs.Plot.{letters, mark, field, three_digits, step_line};
+ghost use Rattle.transyt_plot.specs.Plot.{letters, mark, field, three_digits, step_lines};
 
+use crate::profiles::Profiles;
 use transyt_io::LineBuffer;
 
 /// How many letters stand for a value, of 20 for the scale, rounded down; none where the scale is 0.
@@ -52,28 +53,22 @@ fn put_step(step: u32, line: &mut LineBuffer)
     line.put(&digits);
 }
 
-/// The line becomes that of a step: what comes, what can go and what leaves, as bars.
+/// The line becomes that of a step of three profiles: what comes, what can go and what leaves, as bars.
 #[tactic(auto, unfolding(crate::specs::Plot::step_line))]
-pub(crate) fn set_step(
-    scale: u64,
-    step: u32,
-    arrivals: u64,
-    go: u64,
-    out: u64,
-    line: &mut LineBuffer,
-)
-    requires { step < 1000 }
-    ensures text { line.new ≡ step_line scale step arrivals go out }
+pub(crate) fn set_step(scale: u64, step: usize, profiles: &Profiles, line: &mut LineBuffer)
+    requires { step < length profiles.now.arrivals.now }
+    ensures text { line.new
+        ≡ step_lines scale profiles.now.arrivals.now profiles.now.go.now profiles.now.out.now step }
     ensures some { 0 < length line.new }
     ensures room { length line.new ≤ 67 }
 {
     line.clear();
-    put_step(step, line);
+    put_step(step as u32, line);
     line.put(b" ");
-    put_field(b'I', letters(scale, arrivals), line);
+    put_field(b'I', letters(scale, profiles.arrivals[step]), line);
     line.put(b"|");
-    put_field(b'G', letters(scale, go), line);
+    put_field(b'G', letters(scale, profiles.go[step]), line);
     line.put(b"|");
-    put_field(b'O', letters(scale, out), line);
+    put_field(b'O', letters(scale, profiles.out[step]), line);
     line.put(b"\n");
 }

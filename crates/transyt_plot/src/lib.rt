@@ -8,6 +8,7 @@
 mod field;
 mod laws;
 mod plotting;
+mod profiles;
 
 pub use laws::{worked_link, worked_plots};
 pub use plotting::plot;

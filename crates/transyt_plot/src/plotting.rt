@@ -1,12 +1,13 @@
 //! The plot.
-ghost use Rattle.std.specs.Prelude.{◌≡◌, ◌≤◌, ◌<◌, length, flat_map, slice_index};
+ghost use Rattle.std.specs.Prelude.{◌≡◌, ◌≤◌, ◌<◌, length, flat_map};
 ghost use Rattle.std.specs.List.{range_with_len};
 ghost use Rattle.transyt_net.specs.Parts.{link_of};
 ghost use Rattle.transyt_sweep.specs.Sweeps.{evaluated};
 ghost use Rattle.transyt_text.specs.Prints.{PrintsOn};
-ghost use Rattle.transyt_plot.specs.Plot.{step_line, scale_line, step_lines, plot_of, plot_text};
+ghost use Rattle.transyt_plot.specs.Plot.{scale_line, step_lines, plot_of, plot_text};
 
 use crate::field::set_step;
+use crate::profiles::Profiles;
 use transyt_io::{Failed, LineBuffer, Sink, write_line};
 use transyt_net::Net;
 use transyt_report::{arrivals, go, greatest, out};
@@ -26,47 +27,31 @@ pub(crate) fn number_at(net: &Net, link: usize) -> u32
 fn print_step<K: Sink>(
     scale: u64,
     step: usize,
-    arrivals: &[u64],
-    go: &[u64],
-    out: &[u64],
+    profiles: &Profiles,
     line: &mut LineBuffer,
     sink: &mut K,
 ) -> Result<(), Failed>
-    requires step { step < 1000 }
-    requires arrivals { step < length arrivals.now }
-    requires go { step < length go.now }
-    requires out { step < length out.now }
+    requires { step < length profiles.now.arrivals.now }
     ensures { PrintsOn K.written K.faults sink.old sink.new result
-        (step_line scale step (slice_index arrivals.now step) (slice_index go.now step) (slice_index out.now step)) }
+        (step_lines scale profiles.now.arrivals.now profiles.now.go.now profiles.now.out.now step) }
 {
-    set_step(
-        scale,
-        step as u32,
-        arrivals[step],
-        go[step],
-        out[step],
-        line,
-    );
+    set_step(scale, step, profiles, line);
     write_line(line, sink)
 }
 
 /// Writes the lines of all steps.
 fn print_steps<K: Sink>(
     scale: u64,
-    arrivals: &[u64],
-    go: &[u64],
-    out: &[u64],
+    profiles: &Profiles,
     line: &mut LineBuffer,
     sink: &mut K,
 ) -> Result<(), Failed>
-    requires few { length arrivals.now < 1000 }
-    requires go { length go.now ≡ length arrivals.now }
-    requires out { length out.now ≡ length arrivals.now }
     ensures { PrintsOn K.written K.faults sink.old sink.new result
-        (flat_map (step_lines scale arrivals.now go.now out.now) (range_with_len 0 (length arrivals.now))) }
+        (flat_map (step_lines scale profiles.now.arrivals.now profiles.now.go.now profiles.now.out.now)
+        (range_with_len 0 (length profiles.now.arrivals.now))) }
 {
-    for step in 0..arrivals.len() {
-        print_step(scale, step, arrivals, go, out, line, sink)?;
+    for step in 0..profiles.arrivals.len() {
+        print_step(scale, step, profiles, line, sink)?;
     }
     Ok(())
 }
@@ -89,21 +74,17 @@ fn print_scale<K: Sink>(
 #[tactic(auto, using(transyt_text::proofs::PrintLaws::prints_front))]
 fn print_plot<K: Sink>(
     number: u32,
-    arrivals: &[u64],
-    go: &[u64],
-    out: &[u64],
+    profiles: &Profiles,
     line: &mut LineBuffer,
     sink: &mut K,
 ) -> Result<(), Failed>
-    requires few { length arrivals.now < 1000 }
-    requires go { length go.now ≡ length arrivals.now }
-    requires out { length out.now ≡ length arrivals.now }
     ensures { PrintsOn K.written K.faults sink.old sink.new result
-        (plot_of number arrivals.now go.now out.now) }
+        (plot_of number profiles.now.arrivals.now profiles.now.go.now profiles.now.out.now) }
 {
-    let scale = greatest(greatest(greatest(0, arrivals), go), out);
+    let comes = greatest(0, profiles.arrivals);
+    let scale = greatest(greatest(comes, profiles.go), profiles.out);
     print_scale(number, scale, line, sink)?;
-    print_steps(scale, arrivals, go, out, line, sink)
+    print_steps(scale, profiles, line, sink)
 }
 
 /// Appends the plot of the link at a place, each line handed to `write` in one piece: the step in three digits, then
@@ -121,12 +102,10 @@ pub fn plot<K: Sink>(
     ensures { PrintsOn K.written K.faults sink.old sink.new result
         (plot_text session.now.net link) }
 {
-    print_plot(
-        number_at(session.net(), link),
-        arrivals(session, link),
-        go(session, link),
-        out(session, link),
-        line,
-        sink,
-    )
+    let profiles = Profiles {
+        arrivals: arrivals(session, link),
+        go: go(session, link),
+        out: out(session, link),
+    };
+    print_plot(number_at(session.net(), link), &profiles, line, sink)
 }

@@ -1,5 +1,5 @@
 -- Each line leaves as much to tell as was left before it.
-use Rattle.std.proofs.Common.{◌+◌, ◌-◌, ◌*◌, ◌≤◌, length}
+use Rattle.std.proofs.Common.{◌≡◌, ◌+◌, ◌-◌, ◌*◌, ◌≤◌, length}
 use Rattle.std.proofs.Common.{Some, sym, ap, ◌∙◌, arith, subst}
 use Rattle.transyt_io.specs.Lines.{lines}
 use Rattle.transyt_net.specs.Parts.{Network}
@@ -46,45 +46,36 @@ loop-line-preserved g c =
           (sym c.is_skipped.ensures ∙ w.if-not-is_skipped.true) in
           let found = ap (λ (n : Network). finding_at n place c.in-Some.line.now) (sym i.truth)
           ∙ sym w.in_ok-judge.ensures.finding in
+          let told : onward net c.if-not-is_skipped.place c.if-not-is_skipped.lower (number + 1) rest
+          ≡ after_line net place lower number rest (finding_at net place c.in-Some.line.now) =
+          elim w.match-branch-2.branch [
+            | in-Right v ↦
+                (λ j. onward net (w.place-is j) ((w.lower-is ∙ v.lower-is) j) (number + 1) rest)
+                ∙ sym (ap (after_line net place lower number rest) (found ∙ v.in-Right.is))
+            | in-Lower v ↦
+                (λ j. onward net (w.place-is j)
+                ((w.lower-is ∙ v.lower-is ∙ ap Some v.unwrap_or.ensures ∙ first_found lower number) j)
+                (number + 1) rest)
+                ∙ sym (ap (after_line net place lower number rest) (found ∙ v.in-Lower.is))
+          ] in
           let spent = subst
           (λ (n : Network). w.judge.new.steps + n.frame.sweeps * length n.links * (move_count n - (place + 1))
           ≤ c.loop-line.steps + n.frame.sweeps * length n.links * (move_count n - place))
           i.truth w.judge.ensures.steps in
-          let steps : c.if-not-is_skipped.steps + net.frame.sweeps * length net.links *
-          (move_count net - c.if-not-is_skipped.place)
-          ≤ c.args.steps.now + net.frame.sweeps * length net.links * move_count net = omega (
-            arith,
-            spent,
-            w.steps-is,
-            i.steps,
-            ap (λ p. net.frame.sweeps * length net.links * (move_count net - p)) w.place-is,
-          ) in
-          let more : c.args.steps.now ≤ c.if-not-is_skipped.steps =
-          omega (arith, w.steps-is, w.judge.ensures.more_steps, i.more_steps) in
-          let truth = w.truth-is ∙ w.in_ok-judge.ensures.same ∙ i.truth in
-          let next : c.if-not-is_skipped.place ≤ number + 1 = omega (arith, w.place-is, i.place) in
-          elim w.match-branch-2.branch [
-            | in-Right v ↦ record {
-              same = (λ j. onward net (w.place-is j) ((w.lower-is ∙ v.lower-is) j) (number + 1) rest)
-                  ∙ sym (ap (after_line net place lower number rest) (found ∙ v.in-Right.is)) ∙ sym line ∙ before;
-              truth = truth;
-              place = next;
-              number = fewer;
-              steps = steps;
-              more_steps = more;
-            }
-            | in-Lower v ↦ record {
-              same = (λ j. onward net (w.place-is j)
-                  ((w.lower-is ∙ v.lower-is ∙ ap Some v.unwrap_or.ensures ∙ first_found lower number) j)
-                  (number + 1) rest)
-                  ∙ sym (ap (after_line net place lower number rest) (found ∙ v.in-Lower.is)) ∙ sym line ∙ before;
-              truth = truth;
-              place = next;
-              number = fewer;
-              steps = steps;
-              more_steps = more;
-            }
-          ]
+          record {
+            same = told ∙ sym line ∙ before;
+            truth = w.truth-is ∙ w.in_ok-judge.ensures.same ∙ i.truth;
+            place = omega (arith, w.place-is, i.place);
+            number = fewer;
+            steps = omega (
+              arith,
+              spent,
+              w.steps-is,
+              i.steps,
+              ap (λ p. net.frame.sweeps * length net.links * (move_count net - p)) w.place-is,
+            );
+            more_steps = omega (arith, w.steps-is, w.judge.ensures.more_steps, i.more_steps);
+          }
       | else-not-is_skipped w ↦ record {
         same = (λ j. onward net (w.place-is j) (w.lower-is j) (number + 1) rest)
             ∙ sym (onward_skipped net place lower number c.in-Some.line.now rest

@@ -1,6 +1,5 @@
 -- The answer from the entries is that of the table.
-use Rattle.std.proofs.Common.{◌≡◌, ◌∙◌, ℕ, List, All, Result, Ok, Err, IfOk, IfErr, sym, ap, subst, arith, length}
-use Rattle.std.proofs.lemmas.List.Elements.{All-same}
+use Rattle.std.proofs.Common.{◌≡◌, ◌∙◌, ℕ, List, All, Result, Ok, Err, IfOk, IfErr, sym, ap, subst, length}
 use Rattle.transyt_net.specs.Parts.{Network}
 use Rattle.transyt_counts.specs.declared.key.Key.{Key}
 use Rattle.transyt_counts.specs.declared.row.Count.{Count}
@@ -11,13 +10,13 @@ use Rattle.transyt_counts.specs.Answer.{CountsValue}
 use Rattle.transyt_counts.specs.Records.{records_of}
 use Rattle.transyt_counts.specs.Counts.{read_rows, answer_of, counts_of, RefusesTable}
 use Rattle.transyt_counts.specs.Tally.{tally_of}
-use Rattle.transyt_counts.specs.Entries.{AreCounted, entries_answer, RefusesEntries}
+use Rattle.transyt_counts.specs.Entries.{entries_answer, RefusesEntries}
 use Rattle.transyt_net.specs.Valid.{IsValid}
 use Rattle.transyt_counts.specs.Exact.{AreExact}
 use Rattle.transyt_counts.proofs.RowLaws.{IsGood}
 use Rattle.transyt_counts.proofs.ExactLaws.{table_exact}
 use Rattle.transyt_counts.proofs.ReadLaws.{rows_good}
-use Rattle.transyt_counts.proofs.EntryLaws.{tally_counted, tally_answer}
+use Rattle.transyt_counts.proofs.EntryLaws.{tally_answer}
 use Rattle.transyt_counts.proofs.counting.read_counts.Goals as goal
 
 -- one answer, from the entries and from the table
@@ -49,13 +48,6 @@ returns-clause-exact c =
     let good = rows_good c.args.net.now 1 (records_of c.args.table.now) counts read in
     let answer = subst (λ (a : Result CountsValue CountStop). IfOk c.edits_by.result (λ v. a ≡ Ok v)) same c.edits_by.ensures.counts in
     exact_where c.args.net.now c.args.table.now counts c.edits_by.result c.frame.ensures.valid read good.0 answer
-
-pub edits_by-requires : goal.edits_by-requires
-edits_by-requires c =
-    let (counts, read, count, tally) = c.in-Ok.ensures.ok in
-    let good = rows_good c.args.net.now 1 (records_of c.args.table.now) counts read in
-    All-same (λ (e : Key × Totals). AreCounted e.1) c.tally_rows.new.tally.entries (tally_of counts) tally
-    (tally_counted c.args.net.now counts good.0 (omega (arith, count)))
 
 pub returns-clause-counts : goal.returns-clause-counts
 returns-clause-counts c =

@@ -3,7 +3,7 @@ use Rattle.std.proofs.Common.{◌≡◌, ℕ, Bool, true, false, Bor, List, Some
 use Rattle.csv.specs.Reading.{ReadRecord}
 use Rattle.csv.specs.declared.reader.Reader.{Reader}
 use Rattle.csv.specs.Records.{fields_of}
-use Rattle.transyt_counts.proofs.ProgressLaws.{read_start, read_more, read_end, read_refused, read_few, read_room}
+use Rattle.transyt_counts.proofs.ProgressLaws.{read_start, read_more, read_end, read_refused, read_few, read_room, read_counted}
 use Rattle.transyt_counts.proofs.counting.tally_rows.Goals as goal
 
 -- what was read, by whether a record was found
@@ -29,6 +29,11 @@ returns-then-not-branch-clause-ok c =
     c.loop-row.tally.entries c.loop-row.row (fields_of c.next_record.new.fields) c.loop-row.invariant.reading c.loop-row.invariant.read
     (found_is (λ (s : Bor (List ℕ)). Some s.now) c.loop-row.reader c.next_record.new.reader (fields_of c.next_record.new.fields)
     c.in_ok-next_record.field-0 false c.if-not-branch.true c.in_ok-next_record.ensures.reads)
+
+pub returns-then-not-branch-clause-counted : goal.returns-then-not-branch-clause-counted
+returns-then-not-branch-clause-counted c =
+    read_counted (λ (s : Bor (List ℕ)). Some s.now) c.args.net.now c.args.table.now c.loop-row.reader c.loop-row.tally.entries
+    c.loop-row.row c.requires.fits c.loop-row.invariant.read
 
 pub loop-row-preserved : goal.loop-row-preserved
 loop-row-preserved c =

@@ -1,7 +1,7 @@
 -- A row by its first five fields.
-use Rattle.std.proofs.Common.{◌≡◌, ◌∙◌, ℕ, List, Option, Some, None, Bor, sym, ap, option_map}
+use Rattle.std.proofs.Common.{◌≡◌, ◌∙◌, ℕ, List, Option, Some, None, Bor, sym, ap, arith, option_map}
 use Rattle.csv.specs.Records.{fields_of}
-use Rattle.transyt_counts.proofs.RowLaws.{no_first, no_second, no_third, no_fourth, a_fifth, just_four}
+use Rattle.transyt_counts.proofs.RowLaws.{no_field, a_fifth, just_four}
 use Rattle.transyt_counts.proofs.row.read_row.Goals as goal
 
 -- what a look-up says of the field
@@ -16,19 +16,23 @@ returns-in_default c =
 
 pub returns-in_default-2 : goal.returns-in_default-2
 returns-in_default-2 c =
-    sym (no_fourth c.args.net.now c.args.row (fields_of c.args.fields.now) (found c.get-4.result _ None c.get-4.ensures.value c.in_default.is-3))
+    sym (no_field c.args.net.now c.args.row 3 (fields_of c.args.fields.now) (omega arith)
+    (found c.get-4.result _ None c.get-4.ensures.value c.in_default.is-3))
 
 pub returns-in_default-3 : goal.returns-in_default-3
 returns-in_default-3 c =
-    sym (no_third c.args.net.now c.args.row (fields_of c.args.fields.now) (found c.get-3.result _ None c.get-3.ensures.value c.in_default.is-2))
+    sym (no_field c.args.net.now c.args.row 2 (fields_of c.args.fields.now) (omega arith)
+    (found c.get-3.result _ None c.get-3.ensures.value c.in_default.is-2))
 
 pub returns-in_default-4 : goal.returns-in_default-4
 returns-in_default-4 c =
-    sym (no_second c.args.net.now c.args.row (fields_of c.args.fields.now) (found c.get-2.result _ None c.get-2.ensures.value c.in_default.is-1))
+    sym (no_field c.args.net.now c.args.row 1 (fields_of c.args.fields.now) (omega arith)
+    (found c.get-2.result _ None c.get-2.ensures.value c.in_default.is-1))
 
 pub returns-in_default-5 : goal.returns-in_default-5
 returns-in_default-5 c =
-    sym (no_first c.args.net.now c.args.row (fields_of c.args.fields.now) (found c.get.result _ None c.get.ensures.value c.in_default.is-0))
+    sym (no_field c.args.net.now c.args.row 0 (fields_of c.args.fields.now) (omega arith)
+    (found c.get.result _ None c.get.ensures.value c.in_default.is-0))
 
 -- four fields and no fifth
 pub returns : goal.returns

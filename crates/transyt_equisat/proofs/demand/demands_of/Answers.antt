@@ -1,10 +1,10 @@
 -- One stage more.
-use Rattle.std.proofs.Common.{◌≡◌, ◌∙◌, ℕ, ◌+◌, ap, sym, rules, arith, true, ◌++◌, ◌∷◌, []}
+use Rattle.std.proofs.Common.{◌≡◌, ◌∙◌, ℕ, ◌+◌, ◌<◌, ap, sym, rules, arith, true, ◌++◌, ◌∷◌, []}
 use Rattle.std.specs.Result.{is_ok}
 use Rattle.std.proofs.lemmas.List.FromFn.{map-range_with_len_more}
 use Rattle.std.proofs.lemmas.List.Elements.{All-push}
 use Rattle.transyt_equisat.specs.declared.demand.Demand.{Demand}
-use Rattle.transyt_equisat.specs.Demands.{demands_of, demand_in, IsDemand}
+use Rattle.transyt_equisat.specs.Demands.{demands_of, demand_in}
 use Rattle.transyt_equisat.proofs.demand.demands_of.Goals as goal
 
 pub loop-place-preserved : goal.loop-place-preserved
@@ -18,6 +18,6 @@ loop-place-preserved c =
     record {
       so_far = items ∙ ap (λ ds. ds ++ c.demand_in.result ∷ []) c.loop-place.invariant.so_far
           ∙ ap (λ d. demands_of c.args.net.now c.args.number p ++ d ∷ []) c.demand_in.ensures.value ∙ sym more;
-      demand = rw items (All-push (λ d. IsDemand d) c.loop-place.demands.items c.demand_in.result
-          c.loop-place.invariant.demand c.demand_in.ensures.demand);
+      live = rw items (All-push (λ d. 0 < d.saturation) c.loop-place.demands.items c.demand_in.result
+          c.loop-place.invariant.live c.demand_in.ensures.live);
     }

@@ -5,7 +5,7 @@ use Rattle.transyt_equisat.proofs.sharing.busiest.Goals as goal
 pub loop-place-preserved : goal.loop-place-preserved
 loop-place-preserved c = record {
   inside = c.busier-best.ensures.inside;
-  greatest = over_more c.args.steps c.args.demands.now c.args.greens.now c.loop-place.best c.busier-best.result c.loop-place.place
-      c.requires.count c.requires.demands c.requires.greens c.loop-place.invariant.inside c.loop-place.invariant.greatest
+  greatest = over_more c.args.asked.now c.args.greens.now c.loop-place.best c.busier-best.result c.loop-place.place
+      c.stages-place-end.ensures.asked c.requires.enough c.loop-place.invariant.inside c.loop-place.invariant.greatest
       c.busier-best.ensures.over_a c.busier-best.ensures.over_b;
 }

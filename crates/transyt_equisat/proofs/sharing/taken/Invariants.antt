@@ -6,5 +6,5 @@ use Rattle.transyt_equisat.proofs.sharing.taken.Given as goal
 abbrev pub invariant-loop-place : goal.invariant-loop-place
 invariant-loop-place l = record {
   small : l.all ≤ l.place * 240;
-  so_far : l.all ≡ sum (take l.place l.greens) + lost (take l.place l.stages);
+  so_far : l.all ≡ sum (take l.place l.greens) + lost (take l.place l.asked.stages);
 }

@@ -1,10 +1,10 @@
+-- A field gets one character more, and one more is in the line.
 use Rattle.std.proofs.Common.{ℕ, List, [], ◌∷◌, ◌++◌, length, map, ap, sym, ◌∙◌, arith, append_assoc, length-append}
 use Rattle.std.proofs.lemmas.List.FromFn.{map-range_with_len_more}
 use Rattle.std.specs.List.{range_with_len}
 use Rattle.transyt_plot.specs.Plot.{mark}
 use Rattle.transyt_plot.proofs.field.put_field.Goals as goal
 
--- one character more stands
 pub loop-place-preserved : goal.loop-place-preserved
 loop-place-preserved c =
     let l = c.loop-place in

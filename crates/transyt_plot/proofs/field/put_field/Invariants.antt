@@ -1,9 +1,9 @@
+-- The characters of the places passed stand behind what the line held.
 use Rattle.std.proofs.Common.{◌≡◌, ◌+◌, ◌++◌, length, map}
 use Rattle.std.specs.List.{range_with_len}
 use Rattle.transyt_plot.specs.Plot.{mark}
 use Rattle.transyt_plot.proofs.field.put_field.Given as goal
 
--- the characters before this place stand
 abbrev pub invariant-loop-place : goal.invariant-loop-place
 invariant-loop-place l = record {
   text : l.line ≡ l.fn.line ++ map (mark l.letter l.count) (range_with_len 0 l.place);

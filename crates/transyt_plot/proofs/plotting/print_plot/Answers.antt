@@ -1,3 +1,4 @@
+-- The first line, and the steps after it, by the greatest of all values.
 use Rattle.std.proofs.Common.{ℕ, ◌++◌, length, flat_map, ap, ◌∙◌}
 use Rattle.std.specs.List.{range_with_len}
 use Rattle.transyt_text.proofs.PrintLaws.{prints_both, prints_same}
@@ -5,15 +6,14 @@ use Rattle.transyt_report.specs.Measures.{greatest}
 use Rattle.transyt_plot.specs.Plot.{scale_line, step_lines}
 use Rattle.transyt_plot.proofs.plotting.print_plot.Goals as goal
 
--- the first line, and the steps after it, by the greatest of all values
 pub returns : goal.returns
 returns g c =
-    let arrivals = c.args.arrivals.now in
-    let go = c.args.go.now in
-    let out = c.args.out.now in
+    let arrivals = c.args.profiles.now.arrivals.now in
+    let go = c.args.profiles.now.go.now in
+    let out = c.args.profiles.now.out.now in
     let scale =
     c.greatest-scale.ensures
-    ∙ ap (λ (s : ℕ). greatest s out) (c.greatest-2.ensures ∙ ap (λ (s : ℕ). greatest s go) c.greatest.ensures) in
+    ∙ ap (λ (s : ℕ). greatest s out) (c.greatest.ensures ∙ ap (λ (s : ℕ). greatest s go) c.greatest-comes.ensures) in
     prints_same _ _ _ _ _ (prints_both _ _ _ c.in_ok-print_scale.ensures c.print_steps.ensures)
     (λ j. scale_line c.args.number (scale j)
     ++ flat_map (step_lines (scale j) arrivals go out) (range_with_len 0 (length arrivals)))
