@@ -147,8 +147,8 @@ fn print_link<K: Sink>(link: &Link, line: &mut LineBuffer, sink: &mut K) -> Resu
         u128::from(link.node),
         u128::from(link.entry),
         u128::from(link.saturation),
-        u128::from(link.delay_weight),
-        u128::from(link.stop_weight),
+        u128::from(link.weights.delay),
+        u128::from(link.weights.stop),
         u128::from(link.start_lag),
         u128::from(link.end_lag),
     ];

@@ -2,6 +2,7 @@
 use Rattle.std.specs.Prelude.{ℕ, List, [], Option, None, slice_index_or}
 use Rattle.transyt_parts.specs.declared.frame.Frame.{Frame}
 use Rattle.transyt_parts.specs.Parts.{NodeValue, LinkValue, PlanValue}
+use Rattle.transyt_parts.specs.Made.{new_weights}
 
 -- a network: its nodes and links in card order, and its climb plan if there is one
 pub record Network : Type 0 where
@@ -29,8 +30,7 @@ no_link = record {
   node = 0;
   entry = 0;
   saturation = 0;
-  delay_weight = 0;
-  stop_weight = 0;
+  weights = new_weights 0 0;
   start_lag = 0;
   end_lag = 0;
   stages = [];

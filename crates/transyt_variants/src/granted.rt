@@ -44,8 +44,7 @@ pub(crate) fn grant_link(draft: &mut Draft, link: &Link) -> Result<(), AllocErro
         node: link.node,
         entry: link.entry,
         saturation: link.saturation,
-        delay_weight: link.delay_weight,
-        stop_weight: link.stop_weight,
+        weights: link.weights,
         start_lag: link.start_lag,
         end_lag: link.end_lag,
     };
