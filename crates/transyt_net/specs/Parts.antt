@@ -19,6 +19,10 @@ network_of frame nodes links plan = record { frame = frame; nodes = nodes; links
 abbrev pub with_cycle : Network → ℕ → Network
 with_cycle net cycle = record net { frame = record net.frame { cycle = cycle } }
 
+-- a network with this frame and these nodes
+abbrev pub with_signals : Network → Frame → List NodeValue → Network
+with_signals net frame nodes = record net { frame = frame; nodes = nodes }
+
 -- what stands at a place where there is no node
 abbrev pub no_node : NodeValue
 no_node = record { number = 0; offset = 0; stages = [] }

@@ -3,7 +3,7 @@ use Rattle.std.specs.Prelude.{ℕ, List, [], ◌∷◌, Some, None}
 use Rattle.transyt_parts.specs.declared.frame.Frame.{Frame}
 use Rattle.transyt_parts.specs.Parts.{NodeValue, LinkValue}
 use Rattle.transyt_parts.specs.Made.{new_stage, new_feed, new_rule, new_plan, new_link, new_weights}
-use Rattle.transyt_net.specs.Parts.{Network, with_cycle}
+use Rattle.transyt_net.specs.Parts.{Network, with_cycle, with_signals}
 use Rattle.transyt_net.specs.declared.edit.Edit.{Edit}
 use Rattle.transyt_net.specs.declared.edit.Edit.TheVariants.{Offset, Change, Entry, Part, Cruise, Saturation, Weight}
 use Rattle.transyt_net.specs.Edits.{with_edit, inverse}
@@ -100,6 +100,10 @@ networks =
     ∷ (with_edit town (Cruise 4 5 29), of (signals 4 8) (streets 151 1451 4 6 311 29))
     ∷ (with_edit town (Offset 22 9), town)
     ∷ (with_cycle town 91, record town { frame = record frame { cycle = 91 } })
+    ∷ (
+      with_signals town (record frame { cycle = 85; step_count = 17 }) (signals 9 7),
+      record (of (signals 9 7) (streets 151 1451 4 6 311 23)) { frame = record frame { cycle = 85; step_count = 17 } },
+    )
     ∷ (shape town, shape (of (signals 9 7) (streets 153 1457 12 13 313 29)))
     ∷ []
 
