@@ -324,6 +324,14 @@ impl Draft {
             node_places,
             link_places,
         } = self;
-        Net::of_parts(frame, nodes, links, totals, plan, node_places, link_places)
+        Net {
+            frame,
+            nodes,
+            links,
+            totals,
+            plan,
+            node_places,
+            link_places,
+        }
     }
 }
