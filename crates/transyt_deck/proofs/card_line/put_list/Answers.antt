@@ -1,3 +1,4 @@
+-- Each turn puts a blank and a number of at most 39 digits.
 use Rattle.std.proofs.Common.{ℕ, ◌∷◌, [], ◌++◌, length, ap, ◌∙◌, arith, length-append}
 use Rattle.std.specs.Fmt.{decimal}
 use Rattle.transyt_text.proofs.FormLaws.{values_more, values_end}

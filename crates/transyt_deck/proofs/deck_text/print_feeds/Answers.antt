@@ -1,3 +1,4 @@
+-- A link more has its FEED cards written after those of the links before it.
 use Rattle.std.proofs.Common.{◌≡◌, map, arith, ap, ◌∙◌}
 use Rattle.transyt_text.proofs.LoopLaws.{item_printed, item_broken, items_printed}
 use Rattle.transyt_text.proofs.PrintLaws.{prints_same}

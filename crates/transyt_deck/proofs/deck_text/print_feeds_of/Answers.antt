@@ -1,3 +1,4 @@
+-- A feed more has its card written after those of the feeds before it.
 use Rattle.std.proofs.Common.{arith, refl}
 use Rattle.transyt_text.proofs.LoopLaws.{item_printed, item_broken, items_printed}
 use Rattle.transyt_text.proofs.PrintLaws.{prints_same}

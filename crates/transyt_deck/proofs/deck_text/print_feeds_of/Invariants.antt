@@ -1,3 +1,4 @@
+-- The feeds before this one have their cards written.
 use Rattle.std.proofs.Common.{take, flat_map}
 use Rattle.transyt_text.specs.Prints.{Printed}
 use Rattle.transyt_deck.specs.Cards.{card_line}

@@ -1,3 +1,4 @@
+-- The FORM card is written, and then the CYCLE card.
 use Rattle.transyt_text.proofs.PrintLaws.{prints_both, prints_front}
 use Rattle.transyt_deck.specs.declared.card.Card.TheVariants as card
 use Rattle.transyt_deck.proofs.CardLines.{one_printed}

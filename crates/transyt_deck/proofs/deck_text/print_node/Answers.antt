@@ -1,3 +1,4 @@
+-- The NODE card is written, and then the STAGE cards.
 use Rattle.std.proofs.Common.{ap, ◌∙◌}
 use Rattle.transyt_text.proofs.PrintLaws.{prints_both, prints_same}
 use Rattle.transyt_parts.specs.Parts.{NodeValue}

@@ -1,3 +1,4 @@
+-- A node more has its cards written after those of the nodes before it.
 use Rattle.std.proofs.Common.{arith}
 use Rattle.transyt_text.proofs.LoopLaws.{item_printed, item_broken, items_printed}
 use Rattle.transyt_text.proofs.PrintLaws.{prints_same}

@@ -1,3 +1,4 @@
+-- A link more has its YIELD card written, if it has a rule, after those of the links before it.
 use Rattle.std.proofs.Common.{arith}
 use Rattle.transyt_text.proofs.LoopLaws.{item_printed, item_broken, items_printed}
 use Rattle.transyt_text.proofs.PrintLaws.{prints_same}

@@ -1,3 +1,4 @@
+-- The links before this one have their YIELD cards written.
 use Rattle.std.proofs.Common.{take, flat_map}
 use Rattle.transyt_text.specs.Prints.{Printed}
 use Rattle.transyt_deck.specs.Cards.{cards_text, rule_cards}
