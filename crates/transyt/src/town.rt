@@ -9,7 +9,7 @@ ghost use Rattle.transyt.specs.Tasks.{TextOutcome, TextSteps};
 use std::alloc::Global;
 use std::sync::ledger::Ledger;
 use std::thread::Threads;
-use transyt_cards::print_deck;
+use transyt_deck::print_deck;
 use transyt_desks::Gate;
 use transyt_io::{LineBuffer, Sink};
 use transyt_make::make_net;

@@ -2,9 +2,9 @@
 ghost use Rattle.std.specs.Prelude.{◌≡◌};
 ghost use Rattle.transyt_answers.specs.Report.{answer_ends};
 
-use transyt_cards::Code;
 use transyt_report::Report;
 use transyt_running::Ending;
+use transyt_syntax::Code;
 
 /// What is answered to a line after END.
 #[derive(Clone, Copy, Debug, PartialEq, Eq, Drop)]

@@ -9,11 +9,12 @@ ghost use Rattle.transyt_answers.specs.Conditions.{IsOf};
 
 use crate::answer::Answer;
 use std::sync::ledger::Ledger;
-use transyt_cards::{Code, Command, Request, read_command};
+use transyt_commands::{Command, Request, read_command};
 use transyt_net::{Edit, EditFault};
 use transyt_report::Report;
 use transyt_session::{Reply, Session};
 use transyt_steps::Steps;
+use transyt_syntax::Code;
 
 /// The code of an edit's fault.
 fn edit_code(fault: EditFault) -> Code

@@ -7,12 +7,13 @@ ghost use Rattle.transyt_answers.specs.Conditions.{IsOf, is_told};
 ghost use Rattle.transyt_answers.specs.Report.{card_refused, accepted};
 
 use crate::answer::Answer;
-use transyt_cards::{Code, print_deck};
+use transyt_deck::print_deck;
 use transyt_io::{Failed, LineBuffer, Sink};
 use transyt_net::Net;
 use transyt_plot::plot;
 use transyt_report::{Report, show};
 use transyt_session::Session;
+use transyt_syntax::Code;
 use transyt_text::print_form;
 
 /// Writes the line of a refused card, `CARD number REFUSED code`. On Failed some first bytes of it were written.

@@ -3,7 +3,7 @@
 ghost use Rattle.std.specs.Prelude.{◌≡◌, ◌+◌, ◌*◌, ◌<◌, ◌≤◌, length};
 
 use std::alloc::Global;
-use transyt_net::{Draft, DraftFault, Frame, Net, NewLink};
+use transyt_net::{Draft, DraftFault, Frame, Net, NewLink, Weights};
 
 /// The steps in a cycle.
 const STEPS: u32 = 120;
@@ -64,8 +64,10 @@ fn put_link(draft: &mut Draft, link: u32) -> Result<(), DraftFault>
         node: link % NODES + 1,
         entry: 100 + link % 90,
         saturation: 1500 + link % 500,
-        delay_weight: 1 + link % 9,
-        stop_weight: 1 + link % 7,
+        weights: Weights {
+            delay: 1 + link % 9,
+            stop: 1 + link % 7,
+        },
         start_lag: link % 3,
         end_lag: link % 4,
     };

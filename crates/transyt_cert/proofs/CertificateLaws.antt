@@ -46,7 +46,7 @@ edit_are (Entry link flow) = (tt, omega arith)
 edit_are (Part link feeder flow) = (tt, omega arith)
 edit_are (Cruise link feeder seconds) = (tt, omega arith)
 edit_are (Saturation link flow) = (tt, omega arith)
-edit_are (Weight link delay stop) = (tt, omega arith)
+edit_are (Weight link weights) = (tt, omega arith)
 
 tried_are : (tried : Option ℕ) → AreWords (tried_words tried) × (length (tried_words tried) ≤ 2)
 tried_are None = ((record { some = omega arith; few = omega arith; plain = refl }, tt), omega arith)

@@ -7,6 +7,7 @@ use Rattle.transyt_platoon.specs.Platoon.{smoothed}
 use Rattle.transyt_stopline.specs.LastSteps.{sum_back, greatest}
 use Rattle.transyt_net.specs.declared.edit.Edit.TheVariants.{Offset, Change}
 use Rattle.transyt_net.specs.Edits.{with_edit}
+use Rattle.transyt_parts.specs.Made.{new_weights}
 use Rattle.transyt_net.specs.Parts.{Network}
 use Rattle.transyt_moves.specs.Moves.{move, move_count}
 use Rattle.transyt_stage.specs.ThreeJunctions.{three_junctions}
@@ -81,8 +82,7 @@ its_terms arrivals room queued stopped = record {
   queued = queued;
   stopped = stopped;
   frame = terms_frame by_last.frame;
-  delay_weight = 3;
-  stop_weight = 2;
+  weights = new_weights 3 2;
 }
 
 -- the network after its last move

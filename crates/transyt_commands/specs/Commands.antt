@@ -16,7 +16,7 @@ edits =
     ∷ entry (codes "PART") 3 (λ ns. c.Edit (e.Part (at ns 0) (at ns 1) (at ns 2)))
     ∷ entry (codes "CRUISE") 3 (λ ns. c.Edit (e.Cruise (at ns 0) (at ns 1) (at ns 2)))
     ∷ entry (codes "SATURATION") 2 (λ ns. c.Edit (e.Saturation (at ns 0) (at ns 1)))
-    ∷ entry (codes "WEIGHT") 3 (λ ns. c.Edit (e.Weight (at ns 0) (at ns 1) (at ns 2)))
+    ∷ entry (codes "WEIGHT") 3 (λ ns. c.Edit (e.Weight (at ns 0) (record { delay = at ns 1; stop = at ns 2 })))
     ∷ []
 
 -- the same of all commands

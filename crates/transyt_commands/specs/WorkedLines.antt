@@ -17,7 +17,7 @@ worked =
     ∷ (codes "PART 21 3 17", Ok (Some (c.Edit (e.Part 21 3 17))))
     ∷ (codes "CRUISE 21 3 17", Ok (Some (c.Edit (e.Cruise 21 3 17))))
     ∷ (codes "SATURATION 21 3", Ok (Some (c.Edit (e.Saturation 21 3))))
-    ∷ (codes "WEIGHT 21 3 17", Ok (Some (c.Edit (e.Weight 21 3 17))))
+    ∷ (codes "WEIGHT 21 3 17", Ok (Some (c.Edit (e.Weight 21 (record { delay = 3; stop = 17 })))))
     ∷ (codes "TRIAL", Ok (Some c.Trial)) ∷ (codes "BACK", Ok (Some c.Back)) ∷ (codes "KEEP", Ok (Some c.Keep))
     ∷ (codes "CLIMB", Ok (Some (c.Request r.Climb))) ∷ (codes "CERT", Ok (Some (c.Request r.Cert)))
     ∷ (codes "INDEX", Ok (Some (c.Request r.Index))) ∷ (codes "LINKS", Ok (Some (c.Request r.Links)))

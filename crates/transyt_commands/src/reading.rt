@@ -8,7 +8,7 @@ ghost use Rattle.transyt_net.specs.declared.edit.Edit.TheVariants as edit;
 
 use crate::command::{Command, Request};
 use transyt_io::is_skipped;
-use transyt_net::Edit;
+use transyt_net::{Edit, Weights};
 use transyt_syntax::{Code, Numbers, first_of, further_of, is_word, say};
 
 /// Reads the command of a line; `None` for a comment or a blank line.
@@ -125,7 +125,13 @@ fn cruise_of(link: u32, feeder: u32, seconds: u32) -> Option<((usize, usize), Co
 
 /// The WEIGHT command of these numbers.
 fn weight_of(link: u32, delay: u32, stop: u32) -> Option<((usize, usize), Command)>
-    ensures { result ≡ Some ((3, 3), command.Edit (edit.Weight link delay stop)) }
+    ensures { result ≡ Some ((3, 3), command.Edit (edit.Weight link (record { delay = delay; stop = stop }))) }
 {
-    edit(3, Edit::Weight { link, delay, stop })
+    edit(
+        3,
+        Edit::Weight {
+            link,
+            weights: Weights { delay, stop },
+        },
+    )
 }

@@ -40,7 +40,7 @@ numbers_in (c.Cycle f) = f.cycle ∷ f.step_count ∷ f.sweeps ∷ f.period ∷ 
 numbers_in (c.Node number offset) = number ∷ offset ∷ []
 numbers_in (c.Stage s) = s.change ∷ s.intergreen ∷ s.least ∷ []
 numbers_in (c.Link l stages) =
-    l.number ∷ l.node ∷ l.entry ∷ l.saturation ∷ l.delay_weight ∷ l.stop_weight ∷ l.start_lag ∷ l.end_lag ∷ stages
+    l.number ∷ l.node ∷ l.entry ∷ l.saturation ∷ l.weights.delay ∷ l.weights.stop ∷ l.start_lag ∷ l.end_lag ∷ stages
 numbers_in (c.Feed link f) = link ∷ f.feeder ∷ f.flow ∷ f.cruise ∷ []
 numbers_in (c.Yield link rule) = link ∷ rule.other ∷ rule.percent ∷ []
 numbers_in (c.Steps budget sizes) = budget ∷ sizes

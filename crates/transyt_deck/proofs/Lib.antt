@@ -1,4 +1,5 @@
 pub mod Adding
+mod CardLines
 pub mod CardTexts
 pub mod Cutting
 pub mod FeedBlocks

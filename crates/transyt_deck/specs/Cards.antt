@@ -17,7 +17,7 @@ card_line (c.Node number offset) = form_line (codes "NODE # #") (number ∷ offs
 card_line (c.Stage s) = form_line (codes "STAGE # # #") (s.change ∷ s.intergreen ∷ s.least ∷ [])
 card_line (c.Link l stages) =
     values_line (codes "LINK # # # # # # # #")
-    (l.number ∷ l.node ∷ l.entry ∷ l.saturation ∷ l.delay_weight ∷ l.stop_weight ∷ l.start_lag ∷ l.end_lag ∷ [])
+    (l.number ∷ l.node ∷ l.entry ∷ l.saturation ∷ l.weights.delay ∷ l.weights.stop ∷ l.start_lag ∷ l.end_lag ∷ [])
     stages
 card_line (c.Feed link f) = form_line (codes "FEED # # # #") (link ∷ f.feeder ∷ f.flow ∷ f.cruise ∷ [])
 card_line (c.Yield link rule) = form_line (codes "YIELD # # #") (link ∷ rule.other ∷ rule.percent ∷ [])
@@ -39,8 +39,7 @@ new_link_in l = record {
   node = l.node;
   entry = l.entry;
   saturation = l.saturation;
-  delay_weight = l.delay_weight;
-  stop_weight = l.stop_weight;
+  weights = l.weights;
   start_lag = l.start_lag;
   end_lag = l.end_lag;
 }

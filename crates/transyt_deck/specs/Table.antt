@@ -2,7 +2,7 @@
 use Rattle.std.specs.Prelude.{ℕ, ◌==◌, if◌then◌else◌, List, [], ◌∷◌, drop, get_or, codes}
 use Rattle.transyt_syntax.specs.Syntax.{Entry, entry, ranged, at}
 use Rattle.transyt_parts.specs.declared.frame.Frame.{Frame}
-use Rattle.transyt_parts.specs.Made.{new_stage, new_feed, new_rule}
+use Rattle.transyt_parts.specs.Made.{new_stage, new_feed, new_rule, new_weights}
 use Rattle.transyt_deck.specs.declared.card.Card.{Card}
 use Rattle.transyt_deck.specs.declared.card.Card.TheVariants as c
 use Rattle.transyt_parts.specs.declared.link.NewLink.{NewLink}
@@ -25,8 +25,7 @@ new_link_of ns start end = record {
   node = at ns 1;
   entry = at ns 2;
   saturation = at ns 3;
-  delay_weight = at ns 4;
-  stop_weight = at ns 5;
+  weights = new_weights (at ns 4) (at ns 5);
   start_lag = start;
   end_lag = end;
 }

@@ -7,7 +7,7 @@ ghost use Rattle.transyt_deck.specs.Adds.{CanAdd};
 ghost use Rattle.transyt_deck.specs.declared.card.Card.TheVariants as card;
 
 use transyt_io::is_skipped;
-use transyt_net::{Feed, Frame, GiveWay, NewLink, Stage};
+use transyt_net::{Feed, Frame, GiveWay, NewLink, Stage, Weights};
 use transyt_syntax::{Code, Numbers, first_of, further_of, is_word, say};
 
 /// What a card says, whether or not it is in its place and its numbers are in their ranges.
@@ -120,8 +120,10 @@ fn link_of(ns: &Numbers, start_lag: u32, end_lag: u32, front: usize) -> Card
         node: ns.at(1),
         entry: ns.at(2),
         saturation: ns.at(3),
-        delay_weight: ns.at(4),
-        stop_weight: ns.at(5),
+        weights: Weights {
+            delay: ns.at(4),
+            stop: ns.at(5),
+        },
         start_lag,
         end_lag,
     };

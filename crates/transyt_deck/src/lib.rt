@@ -4,20 +4,25 @@
 //! an accepted END with the network of the cards before it, or open. It is the fold of one step, `next`, over what the
 //! cards have come to (`State` of `specs/State`, with each card's place, faults and effect in one table, `added`); what
 //! a line says is read by the table of cards (`specs/Table`). `CardReader` is that step: a contract sees the deck of the
-//! lines that it has taken. `cut_deck` reads a deck from the front of bytes (`cut_of` of `specs/Cut`), and
-//! `text_reads_back` says that the deck text of a valid network reads back (`deck_text` of `specs/Cards`).
+//! lines that it has taken. `cut_deck` reads a deck from the front of bytes (`cut_of` of `specs/Cut`).
+//!
+//! The other way round, `print_deck` writes a network as its deck text (`deck_text` of `specs/Cards`), which reads back as
+//! the same network (`text_reads_back`). That it wrote it is said by `Prints` of `transyt_text`, whose forms put its lines.
 //!
 //! Cards, their places and all codes are this project's own.
 #![tactic(auto)]
 
 mod card;
+mod card_line;
 mod cut;
+mod deck_text;
 mod laws;
 mod reader;
 mod state;
 
 pub use card::Card;
 pub use cut::{Cut, cut_deck};
+pub use deck_text::print_deck;
 pub use laws::{line_by_line, text_reads_back, worked_decks};
 pub use reader::{CardReader, CardStop, Progress};
 pub use state::{Part, State};

@@ -23,8 +23,7 @@ with_root terms root =
       uniform = uniform_of terms;
       random = random;
       stops = stops_of terms;
-      index = index_of (uniform_of terms) random (stops_of terms) terms.frame.stop_penalty terms.delay_weight
-          terms.stop_weight;
+      index = index_of (uniform_of terms) random (stops_of terms) terms.frame.stop_penalty terms.weights;
     }
 
 -- the number between whose squares they lie is the root

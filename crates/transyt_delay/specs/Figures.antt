@@ -2,6 +2,7 @@
 use Rattle.std.specs.Prelude.{ℕ, ◌+◌, ◌-◌, ◌*◌, ◌/◌, ◌^◌, ◌<◌, ◌≤◌}
 use Rattle.std.specs.Int.{abs_diff}
 use Rattle.transyt_num.specs.Root.{root}
+use Rattle.transyt_parts.specs.Valid.{AreWeights}
 use Rattle.transyt_delay.specs.Index.{index_of}
 use Rattle.transyt_delay.specs.declared.terms.Terms.{Terms}
 use Rattle.transyt_delay.specs.declared.terms.TermsFrame.{TermsFrame}
@@ -17,8 +18,7 @@ pub record InLimits (terms : Terms) : Type 0 where
   pub step_count : 0 < terms.frame.step_count
   pub period : terms.frame.period ≤ 120
   pub stop_penalty : terms.frame.stop_penalty ≤ 9999
-  pub delay_weight : terms.delay_weight ≤ 999
-  pub stop_weight : terms.stop_weight ≤ 999
+  pub weights : AreWeights terms.weights
 
 -- what a cycle's total comes to in the period, rounded down
 abbrev pub in_period : TermsFrame → ℕ → ℕ
@@ -48,8 +48,7 @@ stops_of terms = terms.stopped / terms.frame.cycle
 -- the index of a link from its terms
 abbrev pub link_index : Terms → ℕ
 link_index terms =
-    index_of (uniform_of terms) (random_of terms) (stops_of terms) terms.frame.stop_penalty terms.delay_weight
-    terms.stop_weight
+    index_of (uniform_of terms) (random_of terms) (stops_of terms) terms.frame.stop_penalty terms.weights
 
 -- the figures of a link from its terms
 abbrev pub figures : Terms → Figures

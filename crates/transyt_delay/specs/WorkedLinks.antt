@@ -1,5 +1,6 @@
 -- Worked links, with their figures. No number is neutral.
 use Rattle.std.specs.Prelude.{List, [], ◌∷◌}
+use Rattle.transyt_parts.specs.Made.{new_weights}
 use Rattle.transyt_delay.specs.declared.terms.Terms.{Terms}
 use Rattle.transyt_delay.specs.declared.figures.Figures.{Figures}
 
@@ -11,8 +12,7 @@ usual = record {
   queued = 97000013;
   stopped = 1619003;
   frame = record { cycle = 90; step_count = 18; period = 45; stop_penalty = 37 };
-  delay_weight = 3;
-  stop_weight = 2;
+  weights = new_weights 3 2;
 }
 
 -- the same where a stop weighs most
@@ -26,7 +26,7 @@ short_period = record usual { frame = record usual.frame { period = 15 } }
 -- a link with more vehicles than can go
 abbrev pub oversaturated : Terms
 oversaturated =
-    record usual { arrivals = 4310007; room = 1733021; stopped = 1733019; delay_weight = 5; stop_weight = 7 }
+    record usual { arrivals = 4310007; room = 1733021; stopped = 1733019; weights = new_weights 5 7 }
 
 -- these links, each with its figures
 abbrev pub worked : List (Terms × Figures)

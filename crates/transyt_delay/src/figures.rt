@@ -51,8 +51,7 @@ pub fn figures_of(terms: &Terms) -> Figures
         random,
         stops,
         terms.frame.stop_penalty,
-        terms.delay_weight,
-        terms.stop_weight,
+        terms.weights,
     );
     Figures {
         uniform,

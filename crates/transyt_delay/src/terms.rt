@@ -1,5 +1,7 @@
 //! What the figures of a link are made of.
 
+use transyt_parts::Weights;
+
 /// The numbers of a network's frame that the figures of a link take, all of them whole.
 #[derive(Clone, Copy, PartialEq, Eq, Debug)]
 pub struct TermsFrame {
@@ -26,8 +28,6 @@ pub struct Terms {
     pub stopped: u64,
     /// The numbers of the network's frame.
     pub frame: TermsFrame,
-    /// The link's weight of delay, a whole number.
-    pub delay_weight: u32,
-    /// The link's weight of stops, a whole number.
-    pub stop_weight: u32,
+    /// The link's weights.
+    pub weights: Weights,
 }

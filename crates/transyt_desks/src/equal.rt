@@ -52,8 +52,7 @@ fn same_link(a: &Link, b: &Link) -> bool
         && a.node == b.node
         && a.entry == b.entry
         && a.saturation == b.saturation
-        && a.delay_weight == b.delay_weight
-        && a.stop_weight == b.stop_weight
+        && a.weights == b.weights
         && a.start_lag == b.start_lag
         && a.end_lag == b.end_lag
         && a.stages == b.stages

@@ -6,7 +6,7 @@ ghost use Rattle.transyt_net.specs.Faults.{feed_fault, with_feed, climb_fault, w
 ghost use Rattle.transyt_make.specs.Made.{made_plan};
 
 use std::alloc::AllocError;
-use transyt_net::{Draft, DraftFault, NewLink};
+use transyt_net::{Draft, DraftFault, NewLink, Weights};
 
 /// Adds a node.
 pub(crate) fn grant_node(draft: &mut Draft, number: u32, offset: u32) -> Result<(), AllocError>
@@ -54,8 +54,7 @@ pub(crate) fn grant_link(
         node,
         entry,
         saturation: 1800,
-        delay_weight: 1,
-        stop_weight: 1,
+        weights: Weights { delay: 1, stop: 1 },
         start_lag: 0,
         end_lag: 0,
     };

@@ -8,7 +8,7 @@ use Rattle.transyt_net.specs.declared.edit.Edit.TheVariants.{Offset, Change, Ent
 use Rattle.transyt_net.specs.declared.edit.EditFault.TheVariants.{Unknown, Range}
 use Rattle.transyt_parts.specs.Parts.{NodeValue, LinkValue}
 use Rattle.transyt_net.specs.Parts.{Network}
-use Rattle.transyt_parts.specs.Valid.{within, is_fed, feeders, node_number, link_number, IsNode}
+use Rattle.transyt_parts.specs.Valid.{within, is_fed, feeders, node_number, link_number, weights_in_range, IsNode}
 use Rattle.transyt_net.specs.Valid.{is_among, numbered, on_numbered, on_place, node_numbers, link_numbers, stages_at}
 use Rattle.transyt_net.specs.Valid.{stage_total, feeds_at, IsFeed, IsValid}
 use Rattle.transyt_parts.specs.Plan.{plan_fault, no_stage}
@@ -56,9 +56,9 @@ there net (Cruise link feeder seconds) none =
     let all = cruise_allowed net link feeder seconds none in fed_there net link feeder all.0 all.1
 there net (Saturation link flow) none =
     there_among (link_numbers net.links) link (ranged (is_link net link) (within 100 9999 flow) none).0
-there net (Weight link delay stop) none =
+there net (Weight link weights) none =
     there_among (link_numbers net.links) link
-    (ranged (is_link net link) (nat_le delay 999 && nat_le stop 999) none).0
+    (ranged (is_link net link) (weights_in_range weights) none).0
 
 -- what the names of a feed give in a valid network
 record IsFound (net : Network) (link feeder : ℕ) : Type 0 where
@@ -159,13 +159,13 @@ allowed net (Saturation link flow) h there valid =
     let after = numbered_after link_number (set_saturation flow) (λ l. refl) net.links link at.0 at.1 in
     let good = good_link (with_edit net (Saturation link flow)) link (set_saturation flow at.0) valid after in
     range_none _ _ known (within_true 100 9999 flow good.saturation)
-allowed net (Weight link delay stop) h there valid =
+allowed net (Weight link weights) h there valid =
     let known : is_link net link ≡ true = among_there (link_numbers net.links) link there in
     let at = some_numbered link_number net.links link known in
-    let after = numbered_after link_number (set_weights delay stop) (λ l. refl) net.links link at.0 at.1 in
-    let good = good_link (with_edit net (Weight link delay stop)) link (set_weights delay stop at.0) valid after in
+    let after = numbered_after link_number (set_weights weights) (λ l. refl) net.links link at.0 at.1 in
+    let good = good_link (with_edit net (Weight link weights)) link (set_weights weights at.0) valid after in
     range_none _ _ known
-    (and_from _ _ (le-leb delay 999 good.delay_weight) (le-leb stop 999 good.stop_weight))
+    (and_from _ _ (le-leb weights.delay 999 good.weights.delay) (le-leb weights.stop 999 good.weights.stop))
 
 -- an edit is allowed exactly there
 pub allowed_exactly : (net : Network) (e : Edit) → IsValid net

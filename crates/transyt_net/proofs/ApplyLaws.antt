@@ -12,7 +12,7 @@ use Rattle.transyt_net.specs.declared.edit.EditFault.TheVariants.{Unknown, NoFee
 use Rattle.transyt_parts.specs.declared.stage_plan.PlanFault.TheVariants as plan
 use Rattle.transyt_parts.specs.Parts.{NodeValue, LinkValue}
 use Rattle.transyt_net.specs.Parts.{Network}
-use Rattle.transyt_parts.specs.Valid.{within, is_fed, node_number, link_number, all_differ, IsStage}
+use Rattle.transyt_parts.specs.Valid.{within, is_fed, node_number, link_number, all_differ, weights_in_range, IsStage}
 use Rattle.transyt_net.specs.Valid.{is_among, on_numbered, on_place, node_numbers, link_numbers}
 use Rattle.transyt_net.specs.Valid.{feeds_at, IsLink, IsFeed, IsValid}
 use Rattle.transyt_parts.specs.Plan.{plan_fault, in_order, have_greens}
@@ -164,7 +164,7 @@ valid_edit net (Cruise link feeder seconds) h none =
 valid_edit net (Saturation link flow) h none =
     let both = ranged (is_link net link) (within 100 9999 flow) none in
     link_valid net (set_saturation flow) (λ l. refl) link h (λ l at old. grind (arith, nat_tests))
-valid_edit net (Weight link delay stop) h none =
-    let both = ranged (is_link net link) (nat_le delay 999 && nat_le stop 999) none in
-    let weights = and_parts (nat_le delay 999) (nat_le stop 999) both.1 in
-    link_valid net (set_weights delay stop) (λ l. refl) link h (λ l at old. grind (arith, nat_tests))
+valid_edit net (Weight link weights) h none =
+    let both = ranged (is_link net link) (weights_in_range weights) none in
+    let each = and_parts (nat_le weights.delay 999) (nat_le weights.stop 999) both.1 in
+    link_valid net (set_weights weights) (λ l. refl) link h (λ l at old. grind (arith, nat_tests))

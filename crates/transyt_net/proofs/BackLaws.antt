@@ -67,7 +67,7 @@ there_after net (Entry link flow) h = link_still net (set_entry flow) (λ l. ref
 there_after net (Part link feeder flow) h = feed_still net link feeder (flow_to flow) (λ f. refl) h
 there_after net (Cruise link feeder seconds) h = feed_still net link feeder (cruise_to seconds) (λ f. refl) h
 there_after net (Saturation link flow) h = link_still net (set_saturation flow) (λ l. refl) link h
-there_after net (Weight link delay stop) h = link_still net (set_weights delay stop) (λ l. refl) link h
+there_after net (Weight link weights) h = link_still net (set_weights weights) (λ l. refl) link h
 
 -- the inverse of an allowed edit is allowed after it
 pub back_allowed : (net : Network) (e : Edit) → IsValid net → edit_fault net e ≡ None

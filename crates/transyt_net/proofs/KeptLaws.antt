@@ -61,4 +61,4 @@ shape_kept net (Cruise link feeder seconds) =
     (map_kept feeder_of (cruise_to seconds) bare_feed (λ f. refl) l.feeds feeder) in
     link_shape net (set_cruise feeder seconds) same link
 shape_kept net (Saturation link flow) = link_shape net (set_saturation flow) (λ l. refl) link
-shape_kept net (Weight link delay stop) = link_shape net (set_weights delay stop) (λ l. refl) link
+shape_kept net (Weight link weights) = link_shape net (set_weights weights) (λ l. refl) link

@@ -1,5 +1,5 @@
 -- What an allowed edit names is there and takes it, and the edit is what it does to that.
-use Rattle.std.proofs.Common.{◌≡◌, ℕ, true, not, ◌&&◌, length, Some, None, refl, sym, ap, subst, ◌∙◌, arith, nat_le}
+use Rattle.std.proofs.Common.{◌≡◌, ℕ, true, not, length, Some, None, refl, sym, ap, subst, ◌∙◌, arith, nat_le}
 use Rattle.std.proofs.Common.{nat_lt}
 use Rattle.std.proofs.lemmas.Bool.{and_parts, not-false}
 use Rattle.transyt_net.specs.declared.edit.Edit.{Edit}
@@ -7,7 +7,7 @@ use Rattle.transyt_net.specs.declared.edit.Edit.TheVariants.{Offset, Change, Ent
 use Rattle.transyt_net.specs.declared.edit.EditFault.TheVariants.{Unknown}
 use Rattle.transyt_parts.specs.Parts.{NodeValue, LinkValue}
 use Rattle.transyt_net.specs.Parts.{Network}
-use Rattle.transyt_parts.specs.Valid.{within, is_fed, node_number, link_number}
+use Rattle.transyt_parts.specs.Valid.{within, is_fed, node_number, link_number, weights_in_range}
 use Rattle.transyt_net.specs.Valid.{is_among, numbered, on_numbered, node_numbers, link_numbers, stages_at}
 use Rattle.transyt_net.specs.Valid.{stage_total, feeds_at, feeds_in}
 use Rattle.transyt_net.specs.Edits.{with_edit, inverse, node_in, link_in, named, NamesNode, NamesLink, edited, back_to}
@@ -49,9 +49,9 @@ link_named net (Cruise link feeder seconds) k same none =
 link_named net (Saturation link flow) k same none =
     let one : link ≡ k = cc in
     subst (λ n. is_link net n ≡ true) one (ranged (is_link net link) (within 100 9999 flow) none).0
-link_named net (Weight link delay stop) k same none =
+link_named net (Weight link weights) k same none =
     let one : link ≡ k = cc in
-    subst (λ n. is_link net n ≡ true) one (ranged (is_link net link) (nat_le delay 999 && nat_le stop 999) none).0
+    subst (λ n. is_link net n ≡ true) one (ranged (is_link net link) (weights_in_range weights) none).0
 link_named net e k same none = absurd (cc)
 
 -- the node takes it
@@ -84,7 +84,7 @@ link_takes net (Cruise link feeder seconds) k l same none at =
     ∙ ap (λ n. is_fed (feeds_at net.links n) feeder) (sym one)
     ∙ (cruise_allowed net link feeder seconds none).1
 link_takes net (Saturation link flow) k l same none at = tt
-link_takes net (Weight link delay stop) k l same none at = tt
+link_takes net (Weight link weights) k l same none at = tt
 link_takes net e k l same none at = absurd (cc)
 
 -- an edit is what it does to the node that it names
@@ -121,5 +121,5 @@ link_numbers_kept (Entry link flow) l = refl
 link_numbers_kept (Part link feeder flow) l = refl
 link_numbers_kept (Cruise link feeder seconds) l = refl
 link_numbers_kept (Saturation link flow) l = refl
-link_numbers_kept (Weight link delay stop) l = refl
+link_numbers_kept (Weight link weights) l = refl
 link_numbers_kept e l = refl

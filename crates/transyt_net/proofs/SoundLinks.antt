@@ -13,7 +13,7 @@ use Rattle.transyt_net.specs.Parts.{Network}
 use Rattle.transyt_net.specs.Valid.{is_among, node_numbers, link_numbers, stages_at, feeds_at}
 use Rattle.transyt_net.specs.Valid.{feeds_in, rule_at, IsSound, IsLink, IsFeed, IsRule}
 use Rattle.transyt_parts.specs.Valid.{all_differ, within, link_number, is_fed, feeders}
-use Rattle.transyt_parts.specs.Valid.{link_in_range, feed_in_range}
+use Rattle.transyt_parts.specs.Valid.{link_in_range, feed_in_range, AreWeights}
 use Rattle.transyt_net.specs.Faults.{link_fault, with_link}
 use Rattle.transyt_net.specs.Faults.{are_links, feed_fault, with_feed, rule_fault, with_rule}
 use Rattle.transyt_parts.specs.Made.{add_feed, set_rule}
@@ -26,7 +26,7 @@ use Rattle.transyt_net.proofs.WriteLaws.{link_with_more_numbers, links_written}
 -- what the test of a link's numbers tells
 range_facts : (steps : ℕ) (l : LinkValue) → link_in_range steps l ≡ true
     → ((1 ≤ l.number) × (l.number ≤ 99999)) × (l.entry ≤ 9999) × ((100 ≤ l.saturation) × (l.saturation ≤ 9999))
-    × (l.delay_weight ≤ 999) × (l.stop_weight ≤ 999) × (l.start_lag < steps) × (l.end_lag < steps)
+    × AreWeights l.weights × (l.start_lag < steps) × (l.end_lag < steps)
 range_facts steps l h = grind (arith, nat_tests)
 
 -- a draft with a new link is sound

@@ -106,7 +106,7 @@ undone net (Cruise link feeder seconds) =
 undone net (Saturation link flow) =
     ap (λ ls. record net { links = ls })
     (link_back_is net link (set_saturation flow) (λ old. set_saturation old.saturation) (λ l. refl) (λ l. refl))
-undone net (Weight link delay stop) =
+undone net (Weight link weights) =
     ap (λ ls. record net { links = ls })
-    (link_back_is net link (set_weights delay stop) (λ old. set_weights old.delay_weight old.stop_weight)
+    (link_back_is net link (set_weights weights) (λ old. set_weights old.weights)
     (λ l. refl) (λ l. refl))

@@ -6,8 +6,8 @@ use Rattle.transyt_net.specs.declared.edit.Edit.TheVariants.{Offset, Change, Ent
 use Rattle.transyt_net.specs.declared.edit.EditFault.{EditFault}
 use Rattle.transyt_net.specs.declared.edit.EditFault.TheVariants.{Unknown, NoFeeder, Range, StageOrder, LeastGreen}
 use Rattle.transyt_net.specs.Parts.{Network}
-use Rattle.transyt_parts.specs.Valid.{within, is_fed}
-use Rattle.transyt_parts.specs.Ranges.{is_in, most_flow, most_weight, cruise_range, saturation_range}
+use Rattle.transyt_parts.specs.Valid.{within, is_fed, weights_in_range}
+use Rattle.transyt_parts.specs.Ranges.{is_in, most_flow, cruise_range, saturation_range}
 use Rattle.transyt_net.specs.Valid.{is_among, node_numbers, link_numbers, stages_at, feeds_at}
 use Rattle.transyt_parts.specs.Plan.{in_order, have_greens}
 use Rattle.transyt_net.specs.Edits.{set_change, the_node}
@@ -63,4 +63,4 @@ edit_fault net (Cruise link feeder seconds) =
     feed_fault (is_link net link && is_link net feeder) (is_fed (feeds_at net.links link) feeder)
     (is_in cruise_range seconds)
 edit_fault net (Saturation link flow) = range_fault (is_link net link) (is_in saturation_range flow)
-edit_fault net (Weight link delay stop) = range_fault (is_link net link) (nat_le delay most_weight && nat_le stop most_weight)
+edit_fault net (Weight link weights) = range_fault (is_link net link) (weights_in_range weights)

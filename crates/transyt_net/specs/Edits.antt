@@ -2,6 +2,7 @@
 use Rattle.std.specs.Prelude.{ℕ, ◌-◌}
 use Rattle.transyt_parts.specs.declared.node.Stage.{Stage}
 use Rattle.transyt_parts.specs.declared.link.Feed.{Feed}
+use Rattle.transyt_parts.specs.declared.link.Weights.{Weights}
 use Rattle.transyt_net.specs.declared.edit.Edit.{Edit}
 use Rattle.transyt_net.specs.declared.edit.Edit.TheVariants.{Offset, Change, Entry, Part, Cruise, Saturation, Weight}
 use Rattle.transyt_parts.specs.Parts.{NodeValue, LinkValue}
@@ -32,8 +33,8 @@ abbrev pub set_saturation : ℕ → LinkValue → LinkValue
 set_saturation flow l = record l { saturation = flow }
 
 -- the link with these weights
-abbrev pub set_weights : ℕ → ℕ → LinkValue → LinkValue
-set_weights delay stop l = record l { delay_weight = delay; stop_weight = stop }
+abbrev pub set_weights : Weights → LinkValue → LinkValue
+set_weights weights l = record l { weights = weights }
 
 -- the feed with this flow
 abbrev pub flow_to : ℕ → Feed → Feed
@@ -64,7 +65,7 @@ named (Entry link flow) = NamesLink link
 named (Part link feeder flow) = NamesLink link
 named (Cruise link feeder seconds) = NamesLink link
 named (Saturation link flow) = NamesLink link
-named (Weight link delay stop) = NamesLink link
+named (Weight link weights) = NamesLink link
 
 -- what an edit does to the node that it names
 abbrev pub node_edit : Edit → NodeValue → NodeValue
@@ -78,7 +79,7 @@ link_edit (Entry link flow) l = set_entry flow l
 link_edit (Part link feeder flow) l = set_part feeder flow l
 link_edit (Cruise link feeder seconds) l = set_cruise feeder seconds l
 link_edit (Saturation link flow) l = set_saturation flow l
-link_edit (Weight link delay stop) l = set_weights delay stop l
+link_edit (Weight link weights) l = set_weights weights l
 link_edit e l = l
 
 -- the network with an edit of what it names made
@@ -102,7 +103,7 @@ link_back (Entry link flow) l = Entry link l.entry
 link_back (Part link feeder flow) l = Part link feeder (the_feed l feeder).flow
 link_back (Cruise link feeder seconds) l = Cruise link feeder (the_feed l feeder).cruise
 link_back (Saturation link flow) l = Saturation link l.saturation
-link_back (Weight link delay stop) l = Weight link l.delay_weight l.stop_weight
+link_back (Weight link weights) l = Weight link l.weights
 link_back e l = e
 
 -- the same edit of what it names, with the present numbers of that

@@ -2,6 +2,7 @@
 use Rattle.std.specs.Prelude.{ℕ, List, [], Option, None, slice_index_or}
 use Rattle.transyt_parts.specs.declared.frame.Frame.{Frame}
 use Rattle.transyt_parts.specs.Parts.{NodeValue, LinkValue, PlanValue}
+use Rattle.transyt_parts.specs.Made.{new_weights}
 
 -- a network: its nodes and links in card order, and its climb plan if there is one
 pub record Network : Type 0 where
@@ -18,6 +19,10 @@ network_of frame nodes links plan = record { frame = frame; nodes = nodes; links
 abbrev pub with_cycle : Network → ℕ → Network
 with_cycle net cycle = record net { frame = record net.frame { cycle = cycle } }
 
+-- a network with this frame and these nodes
+abbrev pub with_signals : Network → Frame → List NodeValue → Network
+with_signals net frame nodes = record net { frame = frame; nodes = nodes }
+
 -- what stands at a place where there is no node
 abbrev pub no_node : NodeValue
 no_node = record { number = 0; offset = 0; stages = [] }
@@ -29,8 +34,7 @@ no_link = record {
   node = 0;
   entry = 0;
   saturation = 0;
-  delay_weight = 0;
-  stop_weight = 0;
+  weights = new_weights 0 0;
   start_lag = 0;
   end_lag = 0;
   stages = [];

@@ -32,4 +32,4 @@ IsThere net (Entry link flow) = HasLink net link
 IsThere net (Part link feeder flow) = HasFeed net link feeder
 IsThere net (Cruise link feeder seconds) = HasFeed net link feeder
 IsThere net (Saturation link flow) = HasLink net link
-IsThere net (Weight link delay stop) = HasLink net link
+IsThere net (Weight link weights) = HasLink net link

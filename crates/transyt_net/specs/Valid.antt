@@ -7,9 +7,9 @@ use Rattle.transyt_parts.specs.declared.link.GiveWay.{GiveWay}
 use Rattle.transyt_parts.specs.Parts.{NodeValue, LinkValue}
 use Rattle.transyt_net.specs.Parts.{Network}
 use Rattle.transyt_parts.specs.Plan.{plan_fault}
-use Rattle.transyt_parts.specs.Ranges.{IsIn, IsWithin, number_range, most_flow, saturation_range, most_weight}
+use Rattle.transyt_parts.specs.Ranges.{IsIn, IsWithin, number_range, most_flow, saturation_range}
 use Rattle.transyt_parts.specs.Ranges.{cruise_range, most_percent, most_stages}
-use Rattle.transyt_parts.specs.Valid.{node_number, link_number, all_differ, feeders, IsNode, IsPlan, IsFrame}
+use Rattle.transyt_parts.specs.Valid.{node_number, link_number, all_differ, feeders, AreWeights, IsNode, IsPlan, IsFrame}
 
 -- the nodes' card numbers in order
 abbrev pub node_numbers : List NodeValue → List ℕ
@@ -96,8 +96,7 @@ pub record IsLink (steps : ℕ) (nodes : List NodeValue) (numbers : List ℕ) (l
   pub node : IsTrue (is_among (node_numbers nodes) l.node)
   pub entry : l.entry ≤ most_flow
   pub saturation : IsIn saturation_range l.saturation
-  pub delay_weight : l.delay_weight ≤ most_weight
-  pub stop_weight : l.stop_weight ≤ most_weight
+  pub weights : AreWeights l.weights
   pub start_lag : l.start_lag < steps
   pub end_lag : l.end_lag < steps
   pub stage_count : IsWithin 1 most_stages (length l.stages)

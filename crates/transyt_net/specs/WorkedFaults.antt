@@ -3,7 +3,7 @@ use Rattle.std.specs.Prelude.{ℕ, List, [], ◌∷◌, Option, Some, None, repl
 use Rattle.transyt_parts.specs.declared.link.Feed.{Feed}
 use Rattle.transyt_parts.specs.declared.link.GiveWay.{GiveWay}
 use Rattle.transyt_parts.specs.Parts.{NodeValue, LinkValue}
-use Rattle.transyt_parts.specs.Made.{new_stage, new_feed, new_rule, new_plan, new_link}
+use Rattle.transyt_parts.specs.Made.{new_stage, new_feed, new_rule, new_plan, new_link, new_weights}
 use Rattle.transyt_net.specs.Parts.{Network, node_of, link_of}
 use Rattle.transyt_net.specs.Valid.{place_of, link_place, link_numbers, stages_at, feeds_at, rule_at}
 use Rattle.transyt_net.specs.Flow.{perstep}
@@ -34,8 +34,8 @@ edits =
     ∷ (Cruise 21 5 9, Some edit.Unknown)
     ∷ (Saturation 9 100, None) ∷ (Saturation 9 99, Some edit.Range) ∷ (Saturation 9 9999, None)
     ∷ (Saturation 9 10000, Some edit.Range) ∷ (Saturation 7 10000, Some edit.Unknown)
-    ∷ (Weight 5 999 999, None) ∷ (Weight 5 1000 0, Some edit.Range) ∷ (Weight 5 0 1000, Some edit.Range)
-    ∷ (Weight 7 0 0, Some edit.Unknown) ∷ []
+    ∷ (Weight 5 (new_weights 999 999), None) ∷ (Weight 5 (new_weights 1000 0), Some edit.Range) ∷ (Weight 5 (new_weights 0 1000), Some edit.Range)
+    ∷ (Weight 7 (new_weights 0 0), Some edit.Unknown) ∷ []
 
 -- the worked network with these nodes
 abbrev pub with_nodes : List NodeValue → Network
@@ -84,8 +84,8 @@ links =
     ∷ (link_fault town (record (new 6) { saturation = 10000 }), Some draft.Range)
     ∷ (link_fault town (record (new 6) { saturation = 99 }), Some draft.Range)
     ∷ (link_fault town (record (new 6) { saturation = 100 }), None)
-    ∷ (link_fault town (record (new 6) { delay_weight = 1000 }), Some draft.Range)
-    ∷ (link_fault town (record (new 6) { stop_weight = 1000 }), Some draft.Range)
+    ∷ (link_fault town (record (new 6) { weights = new_weights 1000 999 }), Some draft.Range)
+    ∷ (link_fault town (record (new 6) { weights = new_weights 999 1000 }), Some draft.Range)
     ∷ (link_fault town (record (new 6) { start_lag = 18 }), Some draft.Range)
     ∷ (link_fault town (record (new 6) { end_lag = 18 }), Some draft.Range)
     ∷ (link_fault (with_links (replicate 999 (new 5))) (new 6), None)

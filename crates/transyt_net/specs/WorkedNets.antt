@@ -2,8 +2,8 @@
 use Rattle.std.specs.Prelude.{ℕ, List, [], ◌∷◌, Some, None}
 use Rattle.transyt_parts.specs.declared.frame.Frame.{Frame}
 use Rattle.transyt_parts.specs.Parts.{NodeValue, LinkValue}
-use Rattle.transyt_parts.specs.Made.{new_stage, new_feed, new_rule, new_plan, new_link}
-use Rattle.transyt_net.specs.Parts.{Network, with_cycle}
+use Rattle.transyt_parts.specs.Made.{new_stage, new_feed, new_rule, new_plan, new_link, new_weights}
+use Rattle.transyt_net.specs.Parts.{Network, with_cycle, with_signals}
 use Rattle.transyt_net.specs.declared.edit.Edit.{Edit}
 use Rattle.transyt_net.specs.declared.edit.Edit.TheVariants.{Offset, Change, Entry, Part, Cruise, Saturation, Weight}
 use Rattle.transyt_net.specs.Edits.{with_edit, inverse}
@@ -29,13 +29,12 @@ signals offset change = record {
 
 -- three links: the last with these flows and weights, and fed by the first with this flow in this time
 abbrev pub streets : ℕ → ℕ → ℕ → ℕ → ℕ → ℕ → List LinkValue
-streets entry saturation delay_weight stop_weight flow cruise = record {
+streets entry saturation delay stop flow cruise = record {
   number = 5;
   node = 21;
   entry = 431;
   saturation = 1733;
-  delay_weight = 3;
-  stop_weight = 2;
+  weights = new_weights 3 2;
   start_lag = 1;
   end_lag = 2;
   stages = 1 ∷ [];
@@ -46,8 +45,7 @@ streets entry saturation delay_weight stop_weight flow cruise = record {
   node = 7;
   entry = 613;
   saturation = 1877;
-  delay_weight = 2;
-  stop_weight = 11;
+  weights = new_weights 2 11;
   start_lag = 2;
   end_lag = 0;
   stages = 2 ∷ [];
@@ -58,8 +56,7 @@ streets entry saturation delay_weight stop_weight flow cruise = record {
   node = 7;
   entry = entry;
   saturation = saturation;
-  delay_weight = delay_weight;
-  stop_weight = stop_weight;
+  weights = new_weights delay stop;
   start_lag = 3;
   end_lag = 1;
   stages = 2 ∷ 1 ∷ [];
@@ -98,11 +95,15 @@ networks =
     ∷ (with_edit town (Change 21 2 7), of (signals 4 7) (streets 151 1451 4 6 311 23))
     ∷ (with_edit town (Entry 4 153), of (signals 4 8) (streets 153 1451 4 6 311 23))
     ∷ (with_edit town (Saturation 4 1457), of (signals 4 8) (streets 151 1457 4 6 311 23))
-    ∷ (with_edit town (Weight 4 12 13), of (signals 4 8) (streets 151 1451 12 13 311 23))
+    ∷ (with_edit town (Weight 4 (new_weights 12 13)), of (signals 4 8) (streets 151 1451 12 13 311 23))
     ∷ (with_edit town (Part 4 5 313), of (signals 4 8) (streets 151 1451 4 6 313 23))
     ∷ (with_edit town (Cruise 4 5 29), of (signals 4 8) (streets 151 1451 4 6 311 29))
     ∷ (with_edit town (Offset 22 9), town)
     ∷ (with_cycle town 91, record town { frame = record frame { cycle = 91 } })
+    ∷ (
+      with_signals town (record frame { cycle = 85; step_count = 17 }) (signals 9 7),
+      record (of (signals 9 7) (streets 151 1451 4 6 311 23)) { frame = record frame { cycle = 85; step_count = 17 } },
+    )
     ∷ (shape town, shape (of (signals 9 7) (streets 153 1457 12 13 313 29)))
     ∷ []
 
@@ -113,7 +114,7 @@ inverses =
     ∷ (inverse town (Change 21 2 7), Change 21 2 8)
     ∷ (inverse town (Entry 4 153), Entry 4 151)
     ∷ (inverse town (Saturation 4 1457), Saturation 4 1451)
-    ∷ (inverse town (Weight 4 12 13), Weight 4 4 6)
+    ∷ (inverse town (Weight 4 (new_weights 12 13)), Weight 4 (new_weights 4 6))
     ∷ (inverse town (Part 4 5 313), Part 4 5 311)
     ∷ (inverse town (Cruise 4 5 29), Cruise 4 5 23)
     ∷ (inverse town (Offset 22 9), Offset 22 0)
@@ -121,5 +122,5 @@ inverses =
     ∷ (inverse town (Cruise 4 7 9), Cruise 4 7 0)
     ∷ (inverse town (Entry 6 9), Entry 6 0)
     ∷ (inverse town (Saturation 6 9), Saturation 6 0)
-    ∷ (inverse town (Weight 6 9 8), Weight 6 0 0)
+    ∷ (inverse town (Weight 6 (new_weights 9 8)), Weight 6 (new_weights 0 0))
     ∷ []

@@ -195,8 +195,7 @@ impl Draft {
             node: link.node,
             entry: link.entry,
             saturation: link.saturation,
-            delay_weight: link.delay_weight,
-            stop_weight: link.stop_weight,
+            weights: link.weights,
             start_lag: link.start_lag,
             end_lag: link.end_lag,
             stages,
@@ -325,6 +324,14 @@ impl Draft {
             node_places,
             link_places,
         } = self;
-        Net::of_parts(frame, nodes, links, totals, plan, node_places, link_places)
+        Net {
+            frame,
+            nodes,
+            links,
+            totals,
+            plan,
+            node_places,
+            link_places,
+        }
     }
 }

@@ -7,7 +7,7 @@ ghost use Rattle.transyt_parts.specs.Plan.{stage_of};
 ghost use Rattle.transyt_net.specs.Edits.{feeder_of, node_edit, link_edit, node_back, link_back, set_offset, set_change, set_entry, set_saturation, set_weights, set_part, set_cruise, the_feed};
 ghost use Rattle.transyt_net.specs.Named.{NodeTakes, LinkTakes};
 
-use transyt_parts::{Feed, Link, Node};
+use transyt_parts::{Feed, Link, Node, Weights};
 
 /// An edit of one number, or of the two weights of a link. This project's own.
 ///
@@ -51,8 +51,7 @@ pub enum Edit {
     /// The weights of a link's delay and stops.
     Weight {
         link: u32,
-        delay: u32,
-        stop: u32,
+        weights: Weights,
     },
 }
 
@@ -114,18 +113,13 @@ fn set_saturation(link: &mut Link, flow: u32) -> u32
     before
 }
 
-/// Sets the weights of the link `number`, and gives the edit that takes them back.
-fn set_weights(link: &mut Link, number: u32, delay: u32, stop: u32) -> Edit
-    ensures value { link.new ≡ set_weights delay stop link.old }
-    ensures before { result ≡ Edit.Weight number link.old.delay_weight link.old.stop_weight }
+/// Sets the weights, and gives those before.
+fn set_weights(link: &mut Link, weights: Weights) -> Weights
+    ensures value { link.new ≡ set_weights weights link.old }
+    ensures before { result ≡ link.old.weights }
 {
-    let before = Edit::Weight {
-        link: number,
-        delay: link.delay_weight,
-        stop: link.stop_weight,
-    };
-    link.delay_weight = delay;
-    link.stop_weight = stop;
+    let before = link.weights;
+    link.weights = weights;
     before
 }
 
@@ -228,9 +222,11 @@ pub(crate) fn edit_link(link: &mut Link, e: &Edit) -> Edit
         },
         Edit::Weight {
             link: number,
-            delay,
-            stop,
-        } => set_weights(link, number, delay, stop),
+            weights,
+        } => Edit::Weight {
+            link: number,
+            weights: set_weights(link, weights),
+        },
         other => other,
     }
 }

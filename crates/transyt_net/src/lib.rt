@@ -24,5 +24,5 @@ pub use edit::{Edit, EditFault};
 pub use laws::{drafts_are_judged, edits_are_judged, worked_networks};
 pub use net::Net;
 pub use transyt_parts::{
-    ClimbPlan, Feed, Frame, GiveWay, Link, NewLink, Node, PlanFault, Stage, stage_length,
+    ClimbPlan, Feed, Frame, GiveWay, Link, NewLink, Node, PlanFault, Stage, Weights, stage_length,
 };

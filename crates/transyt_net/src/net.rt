@@ -6,7 +6,7 @@ ghost use Rattle.transyt_net.specs.Valid.{node_numbers, link_numbers, place_of, 
 ghost use Rattle.transyt_net.specs.Shape.{SameShape};
 ghost use Rattle.transyt_net.specs.Flow.{perstep};
 ghost use Rattle.transyt_parts.specs.Flow.{total_flow};
-ghost use Rattle.transyt_net.specs.Parts.{network_of, with_cycle, node_of, link_of};
+ghost use Rattle.transyt_net.specs.Parts.{with_cycle, with_signals, node_of, link_of};
 ghost use Rattle.transyt_net.specs.Edits.{the_node};
 ghost use Rattle.transyt_parts.specs.Valid.{IsNode};
 
@@ -28,14 +28,14 @@ use transyt_parts::{
 /// it is valid is told by the clause `valid` of the accessors.
 #[derive(Drop)]
 pub struct Net {
-    frame: Frame,
-    nodes: Vec<Node>,
-    links: Vec<Link>,
+    pub(crate) frame: Frame,
+    pub(crate) nodes: Vec<Node>,
+    pub(crate) links: Vec<Link>,
     /// The total flow of each link, in card order, in vehicles per hour.
-    totals: Vec<u32>,
-    plan: Option<ClimbPlan>,
-    node_places: IndexSet<u32>,
-    link_places: IndexSet<u32>,
+    pub(crate) totals: Vec<u32>,
+    pub(crate) plan: Option<ClimbPlan>,
+    pub(crate) node_places: IndexSet<u32>,
+    pub(crate) link_places: IndexSet<u32>,
 }
 
 impl Model for Net {
@@ -57,33 +57,6 @@ impl Model for Net {
 }
 
 impl Net {
-    /// The network of these parts.
-    pub(crate) fn of_parts(
-        frame: Frame,
-        nodes: Vec<Node>,
-        links: Vec<Link>,
-        totals: Vec<u32>,
-        plan: Option<ClimbPlan>,
-        node_places: IndexSet<u32>,
-        link_places: IndexSet<u32>,
-    ) -> Net
-        requires valid { IsValid (network_of frame nodes.items links.items plan) }
-        requires node_places { node_places.keys ≡ node_numbers nodes.items }
-        requires link_places { link_places.keys ≡ link_numbers links.items }
-        requires totals { totals.items ≡ map total_flow links.items }
-        ensures { result ≡ network_of frame nodes.items links.items plan }
-    {
-        Net {
-            frame,
-            nodes,
-            links,
-            totals,
-            plan,
-            node_places,
-            link_places,
-        }
-    }
-
     /// What holds for the whole network.
     pub fn frame(&self) -> Frame
         ensures value { result ≡ self.now.frame }
@@ -211,15 +184,31 @@ impl Net {
     pub fn copy(&self, alloc: Global) -> Result<Net, AllocError>
         ensures { IfOk result (λ net. net ≡ self.now) }
     {
+        self.with_signals(alloc, self.frame, &self.nodes)
+    }
+
+    /// A network with this frame and these nodes, and with the links and the climb plan that are here.
+    ///
+    /// The nodes have the card numbers of those here, in the same order. It fails only when out of memory.
+    pub fn with_signals(
+        &self,
+        alloc: Global,
+        frame: Frame,
+        nodes: &[Node],
+    ) -> Result<Net, AllocError>
+        requires numbers { node_numbers nodes.now ≡ node_numbers self.now.nodes }
+        requires valid { IsValid (with_signals self.now frame nodes.now) }
+        ensures { IfOk result (λ net. net ≡ with_signals self.now frame nodes.now) }
+    {
         // The deepest parts come last: without memory each part before is taken apart at each `?` after it.
         let node_places = copy_numbers(&self.node_places)?;
         let link_places = copy_numbers(&self.link_places)?;
         let totals = Vec::from_slice(alloc, &self.totals)?;
         let plan = copy_plan(alloc, &self.plan)?;
-        let nodes = copy_nodes(alloc, &self.nodes)?;
+        let nodes = copy_nodes(alloc, nodes)?;
         let links = copy_links(alloc, &self.links)?;
         Ok(Net {
-            frame: self.frame,
+            frame,
             nodes,
             links,
             totals,

@@ -5,6 +5,7 @@ use Rattle.transyt_parts.specs.declared.node.Stage.{Stage}
 use Rattle.transyt_parts.specs.declared.link.Feed.{Feed}
 use Rattle.transyt_parts.specs.declared.link.GiveWay.{GiveWay}
 use Rattle.transyt_parts.specs.declared.link.NewLink.{NewLink}
+use Rattle.transyt_parts.specs.declared.link.Weights.{Weights}
 
 -- a node with no stage yet
 abbrev pub new_node : ℕ → ℕ → NodeValue
@@ -18,16 +19,19 @@ new_stage change intergreen least = record { change = change; intergreen = inter
 abbrev pub add_stage : Stage → NodeValue → NodeValue
 add_stage stage n = record n { stages = n.stages ++ stage ∷ [] }
 
+-- weights of these numbers
+abbrev pub new_weights : ℕ → ℕ → Weights
+new_weights delay stop = record { delay = delay; stop = stop }
+
 -- a link with neither feeds nor a rule yet
 abbrev pub new_link : ℕ → ℕ → ℕ → ℕ → ℕ → ℕ → ℕ → ℕ → List ℕ → LinkValue
-new_link number node entry saturation delay_weight stop_weight start_lag end_lag stages =
+new_link number node entry saturation delay stop start_lag end_lag stages =
     record {
       number = number;
       node = node;
       entry = entry;
       saturation = saturation;
-      delay_weight = delay_weight;
-      stop_weight = stop_weight;
+      weights = new_weights delay stop;
       start_lag = start_lag;
       end_lag = end_lag;
       stages = stages;
@@ -38,7 +42,18 @@ new_link number node entry saturation delay_weight stop_weight start_lag end_lag
 -- the link of a new link's numbers and these stages, with neither feeds nor a rule yet
 abbrev pub link_from : NewLink → List ℕ → LinkValue
 link_from l stages =
-    new_link l.number l.node l.entry l.saturation l.delay_weight l.stop_weight l.start_lag l.end_lag stages
+    record {
+      number = l.number;
+      node = l.node;
+      entry = l.entry;
+      saturation = l.saturation;
+      weights = l.weights;
+      start_lag = l.start_lag;
+      end_lag = l.end_lag;
+      stages = stages;
+      feeds = [];
+      gives_way = None;
+    }
 
 -- a feed of these numbers
 abbrev pub new_feed : ℕ → ℕ → ℕ → Feed

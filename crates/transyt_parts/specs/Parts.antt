@@ -3,6 +3,7 @@ use Rattle.std.specs.Prelude.{ℕ, List, Option}
 use Rattle.transyt_parts.specs.declared.node.Stage.{Stage}
 use Rattle.transyt_parts.specs.declared.link.Feed.{Feed}
 use Rattle.transyt_parts.specs.declared.link.GiveWay.{GiveWay}
+use Rattle.transyt_parts.specs.declared.link.Weights.{Weights}
 
 -- a node, with a list in place of its vector
 pub record NodeValue : Type 0 where
@@ -16,8 +17,7 @@ pub record LinkValue : Type 0 where
   pub node : ℕ
   pub entry : ℕ
   pub saturation : ℕ
-  pub delay_weight : ℕ
-  pub stop_weight : ℕ
+  pub weights : Weights
   pub start_lag : ℕ
   pub end_lag : ℕ
   pub stages : List ℕ

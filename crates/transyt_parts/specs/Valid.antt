@@ -5,6 +5,7 @@ use Rattle.std.specs.List.{list_any}
 use Rattle.transyt_parts.specs.declared.frame.Frame.{Frame}
 use Rattle.transyt_parts.specs.declared.node.Stage.{Stage}
 use Rattle.transyt_parts.specs.declared.link.Feed.{Feed}
+use Rattle.transyt_parts.specs.declared.link.Weights.{Weights}
 use Rattle.transyt_parts.specs.Parts.{NodeValue, LinkValue, PlanValue}
 use Rattle.transyt_parts.specs.Ranges.{is_in, IsIn, IsWithin, cycle_range, step_count_range, sweeps_range, period_range}
 use Rattle.transyt_parts.specs.Ranges.{most_penalty, most_dispersion, number_range, most_flow, saturation_range}
@@ -46,12 +47,15 @@ node_in_range steps number offset = is_in number_range number && nat_lt offset s
 abbrev pub stage_in_range : ℕ → Stage → Bool
 stage_in_range steps s = nat_lt s.change steps && nat_lt s.intergreen steps && within 1 steps s.least
 
+-- whether the weights of a link are in their range
+abbrev pub weights_in_range : Weights → Bool
+weights_in_range w = nat_le w.delay most_weight && nat_le w.stop most_weight
+
 -- whether the numbers of a link are in their ranges, its names apart
 abbrev pub link_in_range : ℕ → LinkValue → Bool
 link_in_range steps l =
     is_in number_range l.number && nat_le l.entry most_flow && is_in saturation_range l.saturation
-    && nat_le l.delay_weight most_weight && nat_le l.stop_weight most_weight
-    && nat_lt l.start_lag steps && nat_lt l.end_lag steps
+    && weights_in_range l.weights && nat_lt l.start_lag steps && nat_lt l.end_lag steps
 
 -- whether the numbers of a feed are in their ranges, its name apart
 abbrev pub feed_in_range : Feed → Bool
@@ -70,13 +74,17 @@ pub record IsNode (steps : ℕ) (n : NodeValue) : Type 0 where
   pub stage_count : length n.stages ≤ most_stages
   pub stages : All (IsStage steps) n.stages
 
+-- what the weights of a link keep to
+pub record AreWeights (w : Weights) : Type 0 where
+  pub delay : w.delay ≤ most_weight
+  pub stop : w.stop ≤ most_weight
+
 -- what the numbers of a link keep to, its names apart
 pub record HasRanges (steps : ℕ) (l : LinkValue) : Type 0 where
   pub number : IsIn number_range l.number
   pub entry : l.entry ≤ most_flow
   pub saturation : IsIn saturation_range l.saturation
-  pub delay_weight : l.delay_weight ≤ most_weight
-  pub stop_weight : l.stop_weight ≤ most_weight
+  pub weights : AreWeights l.weights
   pub start_lag : l.start_lag < steps
   pub end_lag : l.end_lag < steps
 

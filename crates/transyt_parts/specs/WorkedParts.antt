@@ -37,8 +37,7 @@ numbers = record {
   node = 7;
   entry = 151;
   saturation = 1451;
-  delay_weight = 5;
-  stop_weight = 3;
+  weights = record { delay = 5; stop = 3 };
   start_lag = 1;
   end_lag = 2;
 }
@@ -55,8 +54,7 @@ link_written = record {
   node = 7;
   entry = 151;
   saturation = 1451;
-  delay_weight = 5;
-  stop_weight = 3;
+  weights = record { delay = 5; stop = 3 };
   start_lag = 1;
   end_lag = 2;
   stages = 2 ∷ 1 ∷ [];
@@ -74,8 +72,7 @@ links =
       record link_written {
         entry = 0;
         saturation = 0;
-        delay_weight = 0;
-        stop_weight = 0;
+        weights = record { delay = 0; stop = 0 };
         feeds = record { feeder = 5; flow = 0; cruise = 0 } ∷ record { feeder = 2; flow = 0; cruise = 0 } ∷ [];
       },
     )

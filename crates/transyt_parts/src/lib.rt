@@ -25,12 +25,12 @@ pub use climb_plan::ClimbPlan;
 pub use copy::{copy_links, copy_nodes, copy_plan};
 pub use frame::Frame;
 pub use laws::{plans_are_judged, tests_tell, worked_parts};
-pub use link::{Feed, GiveWay, Link, NewLink, add_feed, all_flow, has_feeder, set_rule};
+pub use link::{Feed, GiveWay, Link, NewLink, Weights, add_feed, all_flow, has_feeder, set_rule};
 pub use node::{Node, Stage, add_stage};
 pub use range::{
-    all_differ, all_within, is_budget, is_cruise, is_feed_in_range, is_flow, is_frame_in_range,
-    is_link_in_range, is_node_in_range, is_number, is_percent, is_saturation, is_stage_in_range,
-    is_weight, is_within,
+    all_differ, all_within, are_weights, is_budget, is_cruise, is_feed_in_range, is_flow,
+    is_frame_in_range, is_link_in_range, is_node_in_range, is_number, is_percent, is_saturation,
+    is_stage_in_range, is_weight, is_within,
 };
 pub use shape::{same_frame, same_links, same_nodes, same_plan, take_links, take_nodes};
 pub use stage_plan::{PlanFault, first_fault, have_greens, in_order, plan_fault, stage_length};

@@ -28,6 +28,15 @@ pub struct GiveWay {
     pub percent: u32,
 }
 
+/// What the delay and the stops of a link weigh in the performance index. LR 253.
+#[derive(Clone, Copy, Debug, PartialEq, Eq)]
+pub struct Weights {
+    /// The weight of its delay, a whole number, at most 999.
+    pub delay: u32,
+    /// The weight of its stops, a whole number, at most 999.
+    pub stop: u32,
+}
+
 /// The numbers of a new link: all of it but its stages, its feeds and its rule.
 #[derive(Clone, Copy, Debug, PartialEq, Eq)]
 pub struct NewLink {
@@ -39,10 +48,8 @@ pub struct NewLink {
     pub entry: u32,
     /// The saturation flow in vehicles per hour, 100 to 9,999.
     pub saturation: u32,
-    /// The weight of its delay, at most 999.
-    pub delay_weight: u32,
-    /// The weight of its stops, at most 999.
-    pub stop_weight: u32,
+    /// The weights of its delay and of its stops.
+    pub weights: Weights,
     /// The steps that are lost when it is opened.
     pub start_lag: u32,
     /// The steps that are won when it is closed.
@@ -60,10 +67,8 @@ pub struct Link {
     pub entry: u32,
     /// The saturation flow in vehicles per hour, 100 to 9,999.
     pub saturation: u32,
-    /// The weight of its delay, at most 999.
-    pub delay_weight: u32,
-    /// The weight of its stops, at most 999.
-    pub stop_weight: u32,
+    /// The weights of its delay and of its stops.
+    pub weights: Weights,
     /// The steps that are lost when it is opened.
     pub start_lag: u32,
     /// The steps that are won when it is closed.
@@ -86,8 +91,7 @@ impl Model for Link {
       node = l.node;
       entry = l.entry;
       saturation = l.saturation;
-      delay_weight = l.delay_weight;
-      stop_weight = l.stop_weight;
+      weights = l.weights;
       start_lag = l.start_lag;
       end_lag = l.end_lag;
       stages = l.stages.items;

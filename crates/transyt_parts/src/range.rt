@@ -2,12 +2,12 @@
 
 ghost use Rattle.std.specs.Prelude.{◌≡◌, ◌↔◌, ◌<◌, ◌≤◌, [], All, IsTrue, nat_le};
 ghost use Rattle.std.specs.List.{list_all};
-ghost use Rattle.transyt_parts.specs.Valid.{is_frame, all_differ, node_in_range, stage_in_range, link_in_range, feed_in_range, IsFrame, IsStage, HasRanges};
+ghost use Rattle.transyt_parts.specs.Valid.{is_frame, all_differ, node_in_range, stage_in_range, link_in_range, feed_in_range, weights_in_range, AreWeights, IsFrame, IsStage, HasRanges};
 ghost use Rattle.transyt_parts.specs.Ranges.{within, is_in, most_flow, most_weight, most_percent, number_range, saturation_range, cruise_range, budget_range, IsWithin, IsIn};
 ghost use Rattle.transyt_parts.specs.Made.{link_from};
 
 use crate::frame::Frame;
-use crate::link::{Feed, NewLink};
+use crate::link::{Feed, NewLink, Weights};
 use crate::node::Stage;
 
 /// Whether a number is one of `low..=high`.
@@ -56,6 +56,14 @@ pub fn is_weight(weight: u32) -> bool
     ensures tells { IsTrue result ↔ weight ≤ most_weight }
 {
     weight <= 999
+}
+
+/// Whether a link can have these weights.
+pub fn are_weights(weights: Weights) -> bool
+    ensures test { result ≡ weights_in_range weights }
+    ensures tells { IsTrue result ↔ AreWeights weights }
+{
+    is_weight(weights.delay) && is_weight(weights.stop)
 }
 
 /// Whether this is a cruise time, in seconds.
@@ -132,8 +140,7 @@ pub fn is_link_in_range(steps: u32, link: NewLink) -> bool
     is_number(link.number)
         && is_flow(link.entry)
         && is_saturation(link.saturation)
-        && is_weight(link.delay_weight)
-        && is_weight(link.stop_weight)
+        && are_weights(link.weights)
         && link.start_lag < steps
         && link.end_lag < steps
 }

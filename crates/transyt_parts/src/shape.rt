@@ -127,8 +127,7 @@ fn take_link(link: &mut Link, from: &Link)
 {
     link.entry = from.entry;
     link.saturation = from.saturation;
-    link.delay_weight = from.delay_weight;
-    link.stop_weight = from.stop_weight;
+    link.weights = from.weights;
     link.feeds.copy_from_slice(&from.feeds);
 }
 

@@ -2,10 +2,11 @@
 ghost use Rattle.std.specs.Prelude.{◌≡◌};
 
 use transyt_answers::Answer;
-use transyt_cards::{CardReader, Code};
+use transyt_deck::CardReader;
 use transyt_io::Sink;
 use transyt_sentences::{Site, on_budget, on_card, on_command, on_refused_commands};
 use transyt_session::Session;
+use transyt_syntax::Code;
 
 /// A line of the input with its number, from 1.
 #[derive(Clone, Copy)]

@@ -20,11 +20,12 @@ use std::mem;
 use std::sync::ledger::Ledger;
 use std::thread::Threads;
 use transyt_answers::{Answer, judge, print_accepted, print_card_refused};
-use transyt_cards::{CardReader, CardStop, Code, Progress};
+use transyt_deck::{CardReader, CardStop, Progress};
 use transyt_desks::{Desks, Gate};
 use transyt_io::{Failed, LineBuffer, Sink};
 use transyt_running::{Ending, Stop};
 use transyt_steps::Steps;
+use transyt_syntax::Code;
 
 /// What the answers are written with: a line, the number of the line that is answered, and how many commands were refused.
 #[derive(Drop)]

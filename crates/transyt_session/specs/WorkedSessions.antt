@@ -1,5 +1,6 @@
 -- A worked session: a trial with an allowed edit of work 6, on a network of which no number is neutral.
 use Rattle.std.specs.Prelude.{List, [], ◌∷◌, Some, None}
+use Rattle.transyt_parts.specs.Made.{new_weights}
 use Rattle.transyt_net.specs.declared.edit.Edit.{Edit}
 use Rattle.transyt_net.specs.declared.edit.Edit.TheVariants.{Offset, Change, Part, Cruise, Weight}
 use Rattle.transyt_net.specs.declared.edit.EditFault.TheVariants.{Unknown, NoFeeder, Range, LeastGreen}
@@ -39,6 +40,6 @@ worked_replies =
     ∷ (Change 21 2 4, Refused LeastGreen)
     ∷ (Cruise 9 5 22, Done 2)
     ∷ (Part 4 5 300, Refused NoFeeder)
-    ∷ (Weight 8 1 99, Refused Unknown)
-    ∷ (Weight 9 1 99, Done 0)
+    ∷ (Weight 8 (new_weights 1 99), Refused Unknown)
+    ∷ (Weight 9 (new_weights 1 99), Done 0)
     ∷ []

@@ -84,9 +84,9 @@ all_arrives come room less = grind (arith, nat_tests)
 pub seen_is : (net : Network) (l : ℕ) (come room arrivals go queue out : List ℕ) (w : Weights)
     → arrivals ≡ come → go ≡ room → queue ≡ queues (arrivals_of come room) room
     → out ≡ outs (arrivals_of come room) room → w.frame ≡ terms_frame net.frame
-    → w.delay_weight ≡ (link_of net l).delay_weight → w.stop_weight ≡ (link_of net l).stop_weight
+    → w.link ≡ (link_of net l).weights
     → seen arrivals go queue out w ≡ cell_of net l come room
-seen_is net l come room arrivals go queue out w comes goes stands leaves frame delay stop = λ j. record {
+seen_is net l come room arrivals go queue out w comes goes stands leaves frame link = λ j. record {
   arrivals = comes j;
   go = goes j;
   queue = stands j;
@@ -97,7 +97,6 @@ seen_is net l come room arrivals go queue out w comes goes stands leaves frame d
     queued = sum (stands j);
     stopped = stopped_of (arrivals_of (comes j) (goes j)) (stands j);
     frame = frame j;
-    delay_weight = delay j;
-    stop_weight = stop j;
+    weights = link j;
   };
 }

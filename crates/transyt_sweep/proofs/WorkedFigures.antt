@@ -3,6 +3,7 @@ use Rattle.std.proofs.Common.{◌≡◌, ℕ, ◌+◌, ◌-◌, ◌*◌, ◌/◌
 use Rattle.std.specs.List.{range_with_len}
 use Rattle.transyt_num.specs.Root.{root}
 use Rattle.transyt_num.proofs.RootLaws.{root_is}
+use Rattle.transyt_parts.specs.Made.{new_weights}
 use Rattle.transyt_delay.specs.declared.terms.Terms.{Terms}
 use Rattle.transyt_delay.specs.declared.figures.Figures.{Figures}
 use Rattle.transyt_delay.specs.Figures.{figures, in_period, under_root, uniform_of, stops_of}
@@ -19,7 +20,7 @@ abbrev pub figures_with : Terms → ℕ → Figures
 figures_with t r =
     let random : ℕ = (r + in_period t.frame t.arrivals - in_period t.frame t.room) / 4 in
     new_figures (uniform_of t) random (stops_of t)
-    (index_of (uniform_of t) random (stops_of t) t.frame.stop_penalty t.delay_weight t.stop_weight)
+    (index_of (uniform_of t) random (stops_of t) t.frame.stop_penalty t.weights)
 
 -- a root is the number between whose squares, its own and the next, it lies
 pub figures_by_root : (t : Terms) (r : ℕ)
@@ -33,14 +34,13 @@ figures_by_root t r least most =
 
 -- terms of these sums and weights
 abbrev pub its_terms : ℕ → ℕ → ℕ → ℕ → ℕ → ℕ → Terms
-its_terms arrivals room queued stopped delay_weight stop_weight = record {
+its_terms arrivals room queued stopped delay stop = record {
   arrivals = arrivals;
   room = room;
   queued = queued;
   stopped = stopped;
   frame = terms_frame its_frame;
-  delay_weight = delay_weight;
-  stop_weight = stop_weight;
+  weights = new_weights delay stop;
 }
 
 -- link by link

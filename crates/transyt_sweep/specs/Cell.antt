@@ -64,8 +64,7 @@ terms_of net l come room = record {
   queued = sum (queues (arrivals_of come room) room);
   stopped = stopped_of (arrivals_of come room) (queues (arrivals_of come room) room);
   frame = terms_frame net.frame;
-  delay_weight = (link_of net l).delay_weight;
-  stop_weight = (link_of net l).stop_weight;
+  weights = (link_of net l).weights;
 }
 
 -- one link worked out: arrivals before any cut, GO, the queue, departures and the figures

@@ -97,8 +97,7 @@ with_go rows l go = record rows { go = put_row rows.step_count rows.go l go }
 -- the figures with the index that these weights give
 abbrev pub reweighed : Network → ℕ → Figures → Figures
 reweighed net l f = record f {
-  index = index_of f.uniform f.random f.stops net.frame.stop_penalty (link_of net l).delay_weight
-      (link_of net l).stop_weight;
+  index = index_of f.uniform f.random f.stops net.frame.stop_penalty (link_of net l).weights;
 }
 
 -- the rows with link l weighed anew

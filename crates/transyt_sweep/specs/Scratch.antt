@@ -1,5 +1,6 @@
 -- The facts of the room for one link's work. No public clause cites it.
 use Rattle.std.specs.Prelude.{◌≡◌, ℕ, ◌*◌, ◌^◌, ◌<◌, ◌≤◌, List, length, sum, All}
+use Rattle.transyt_parts.specs.Valid as parts
 use Rattle.transyt_stopline.specs.declared.totals.Totals.{Totals}
 use Rattle.transyt_stopline.specs.Cut.{arrivals_of}
 use Rattle.transyt_stopline.specs.Stops.{stopped_of}
@@ -22,8 +23,7 @@ terms_with totals reaching queue weights = record {
   queued = sum queue;
   stopped = stopped_of reaching queue;
   frame = weights.frame;
-  delay_weight = weights.delay_weight;
-  stop_weight = weights.stop_weight;
+  weights = weights.link;
 }
 
 -- the same from arrivals and GO in each step
@@ -42,8 +42,7 @@ pub record AreWeights (w : Weights) : Type 0 where
   pub step_count : 0 < w.frame.step_count
   pub period : w.frame.period ≤ 120
   pub stop_penalty : w.frame.stop_penalty ≤ 9999
-  pub delay_weight : w.delay_weight ≤ 999
-  pub stop_weight : w.stop_weight ≤ 999
+  pub link : parts.AreWeights w.link
 
 -- figures can be worked out of these rows: they are within bounds, their sums are right, and the arrivals after the cut
 -- are there where anything is cut

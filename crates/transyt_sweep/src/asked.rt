@@ -14,10 +14,8 @@ use transyt_stopline::Totals;
 pub(crate) struct Weights {
     /// The numbers of the network's frame.
     pub(crate) frame: TermsFrame,
-    /// The link's weight of delay, a whole number.
-    pub(crate) delay_weight: u32,
-    /// The link's weight of stops, a whole number.
-    pub(crate) stop_weight: u32,
+    /// The link's weights.
+    pub(crate) link: transyt_parts::Weights,
 }
 
 /// The figures of a link, known or still open.
@@ -33,8 +31,7 @@ pub(crate) enum Asked {
 pub(crate) fn weights_of(net: &Net, link: usize) -> Weights
     requires link { link < length net.now.links }
     ensures frame { result.frame ≡ terms_frame net.now.frame }
-    ensures delay_weight { result.delay_weight ≡ (link_of net.now link).delay_weight }
-    ensures stop_weight { result.stop_weight ≡ (link_of net.now link).stop_weight }
+    ensures link { result.link ≡ (link_of net.now link).weights }
     ensures are { AreWeights result }
 {
     let frame = net.frame();
@@ -46,7 +43,6 @@ pub(crate) fn weights_of(net: &Net, link: usize) -> Weights
             period: frame.period,
             stop_penalty: frame.stop_penalty,
         },
-        delay_weight: at.delay_weight,
-        stop_weight: at.stop_weight,
+        link: at.weights,
     }
 }

@@ -316,8 +316,7 @@ impl Rows {
             figures.random,
             figures.stops,
             net.frame().stop_penalty,
-            at.delay_weight,
-            at.stop_weight,
+            at.weights,
         );
         self.put_figures(link, Figures { index, ..figures });
     }

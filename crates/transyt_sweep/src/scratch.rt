@@ -151,8 +151,7 @@ fn work_out(totals: Totals, reaching: &[u64], queue: &[u64], weights: Weights) -
         queued: total(queue),
         stopped: stopped(reaching, queue),
         frame: weights.frame,
-        delay_weight: weights.delay_weight,
-        stop_weight: weights.stop_weight,
+        weights: weights.link,
     };
     figures_of(&terms)
 }

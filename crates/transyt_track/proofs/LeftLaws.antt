@@ -9,6 +9,7 @@ use Rattle.transyt_stopline.specs.Cut.{arrivals_of}
 use Rattle.transyt_stopline.specs.Queue.{queues}
 use Rattle.transyt_stopline.specs.Stops.{stopped_of}
 use Rattle.transyt_parts.specs.declared.frame.Frame.{Frame}
+use Rattle.transyt_parts.specs.declared.link.Weights.{Weights}
 use Rattle.transyt_net.specs.Parts.{Network, link_of}
 use Rattle.transyt_net.specs.Shape.{SameShape}
 use Rattle.transyt_sweep.specs.Cell.{CellValue, inflow, go, terms_frame, terms_of, cell_of}
@@ -22,22 +23,21 @@ use Rattle.transyt_track.proofs.OwnLaws.{same_data}
 use Rattle.transyt_track.proofs.ShapeLaws.{shape_frame}
 use Rattle.transyt_track.proofs.DueLaws.{own_equal, reads_equal}
 
-abbrev figures_by : Frame → ℕ → ℕ → List ℕ → List ℕ → Figures
-figures_by frame delay_weight stop_weight come room = figures (record {
+abbrev figures_by : Frame → Weights → List ℕ → List ℕ → Figures
+figures_by frame weights come room = figures (record {
   arrivals = sum come;
   room = sum room;
   queued = sum (queues (arrivals_of come room) room);
   stopped = stopped_of (arrivals_of come room) (queues (arrivals_of come room) room);
   frame = terms_frame frame;
-  delay_weight = delay_weight;
-  stop_weight = stop_weight;
+  weights = weights;
 })
 
 -- by the same frame, weights alone make a difference
 figures_weighed : (a b : Network) (l : ℕ) → a.frame ≡ b.frame → (come room : List ℕ)
     → reweighed b l (figures (terms_of a l come room)) ≡ figures (terms_of b l come room)
 figures_weighed a b l frame come room =
-    ap (λ (f : Frame). reweighed b l (figures_by f (link_of a l).delay_weight (link_of a l).stop_weight come room))
+    ap (λ (f : Frame). reweighed b l (figures_by f (link_of a l).weights come room))
     frame
 
 -- an evaluation weighed anew stays
@@ -47,9 +47,8 @@ weighed_self net l =
     ap (λ (c : CellValue). record c { figures = reweighed net l c.figures }) (evaluated_is net l)
     ∙ sym (evaluated_is net l)
 
-abbrev by_weights : ℕ → ℕ → ℕ → Figures → Figures
-by_weights stop_penalty delay_weight stop_weight f =
-    record f { index = index_of f.uniform f.random f.stops stop_penalty delay_weight stop_weight }
+abbrev by_weights : ℕ → Weights → Figures → Figures
+by_weights stop_penalty weights f = record f { index = index_of f.uniform f.random f.stops stop_penalty weights }
 
 -- so rows stay where the weights are equal
 pub weights_stay : (a b : Network) (l : ℕ) (rows : RowsValue) → SameShape a b
@@ -58,7 +57,7 @@ weights_stay a b l rows same weights figures_are =
     let f : Figures = slice_index_or rows.figures l no_figures in
     let frame : b.frame ≡ a.frame = sym (shape_frame a b same) in
     let by_before : reweighed b l f ≡ reweighed a l f =
-    (λ j. by_weights (frame j).stop_penalty (sym weights.delay j) (sym weights.stop j) f) in
+    (λ j. by_weights (frame j).stop_penalty (sym weights.weights j) f) in
     let stays : reweighed b l f ≡ f =
     by_before ∙ ap (reweighed a l) figures_are ∙ ap (λ (c : CellValue). c.figures) (weighed_self a l)
     ∙ sym figures_are in

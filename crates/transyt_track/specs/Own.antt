@@ -115,8 +115,7 @@ pub record LinksStay (stay : Bool) (before after : Network) : Type 0 where
 
 -- a link has equal weights in two networks
 pub record HaveWeights (before after : Network) (link : ℕ) : Type 0 where
-  pub delay : (link_of before link).delay_weight ≡ (link_of after link).delay_weight
-  pub stop : (link_of before link).stop_weight ≡ (link_of after link).stop_weight
+  pub weights : (link_of before link).weights ≡ (link_of after link).weights
 
 -- the place of the link to which a rule gives way
 abbrev pub rule_place : Network → Option GiveWay → Option ℕ

@@ -2,7 +2,7 @@
 use Rattle.std.specs.Prelude.{ℕ, List, [], ◌∷◌, Bool, true, false, Some, None}
 use Rattle.transyt_parts.specs.declared.link.Feed.{Feed}
 use Rattle.transyt_parts.specs.Parts.{LinkValue}
-use Rattle.transyt_parts.specs.Made.{new_stage, new_feed, new_rule}
+use Rattle.transyt_parts.specs.Made.{new_stage, new_feed, new_rule, new_weights}
 use Rattle.transyt_net.specs.declared.edit.Edit.{Edit}
 use Rattle.transyt_net.specs.declared.edit.Edit.TheVariants.{Offset, Change, Entry, Part, Cruise, Saturation, Weight}
 use Rattle.transyt_net.specs.Parts.{Network}
@@ -22,8 +22,7 @@ junctions = record {
     node = 21;
     entry = 431;
     saturation = 1733;
-    delay_weight = 3;
-    stop_weight = 2;
+    weights = new_weights 3 2;
     start_lag = 1;
     end_lag = 2;
     stages = 1 ∷ [];
@@ -34,8 +33,7 @@ junctions = record {
     node = 7;
     entry = 97;
     saturation = 1619;
-    delay_weight = 5;
-    stop_weight = 7;
+    weights = new_weights 5 7;
     start_lag = 0;
     end_lag = 1;
     stages = 2 ∷ [];
@@ -46,8 +44,7 @@ junctions = record {
     node = 7;
     entry = 151;
     saturation = 907;
-    delay_weight = 4;
-    stop_weight = 1;
+    weights = new_weights 4 1;
     start_lag = 2;
     end_lag = 0;
     stages = 1 ∷ 2 ∷ [];
@@ -86,7 +83,7 @@ worked_edits =
     ∷ (Offset 7 3, 5)
     ∷ (Offset 21 15, 0)
     ∷ (Change 21 2 8, 6)
-    ∷ (Weight 9 1 99, 0)
+    ∷ (Weight 9 (new_weights 1 99), 0)
     ∷ (Cruise 9 5 22, 2)
     ∷ (Cruise 4 9 64, 2)
     ∷ (Part 5 9 0, 6)
@@ -111,8 +108,7 @@ green_link number entry feeds = record {
   node = 1;
   entry = entry;
   saturation = 1800;
-  delay_weight = 1;
-  stop_weight = 1;
+  weights = new_weights 1 1;
   start_lag = 0;
   end_lag = 0;
   stages = 1 ∷ 2 ∷ [];

@@ -135,7 +135,7 @@ pub(crate) fn same_weights(before: &Net, after: &Net, link: usize, links_stay: b
 {
     let old = link_at(before, link);
     let new = link_at(after, link);
-    links_stay || (old.delay_weight == new.delay_weight && old.stop_weight == new.stop_weight)
+    links_stay || old.weights == new.weights
 }
 
 /// The place of a link's number; the first where there is no such link.

@@ -16,8 +16,8 @@ use Rattle.transyt_parts.specs.Parts.{NodeValue, PlanValue}
 use Rattle.transyt_parts.specs.Plan.{stage_of, no_stage, plan_fault}
 use Rattle.transyt_parts.specs.Shape.{bare_node, bare_stage}
 use Rattle.transyt_parts.specs.Valid.{IsNode, IsStage, IsPlan}
-use Rattle.transyt_net.specs.Parts.{Network, node_of, no_node}
-use Rattle.transyt_net.specs.Valid.{IsValid}
+use Rattle.transyt_net.specs.Parts.{Network, node_of, no_node, with_signals}
+use Rattle.transyt_net.specs.Valid.{IsValid, node_numbers}
 use Rattle.transyt_equisat.specs.declared.greens.Share.{Share}
 use Rattle.transyt_equisat.specs.Peaks.{Fits, lost, IsPlanOf}
 use Rattle.transyt_equisat.specs.Balance.{balance, change_at, first_more, no_share, greens_at, least_peak, share_at}
@@ -30,8 +30,7 @@ use Rattle.transyt_variants.specs.Cycles.{scaled, scaled_stage, scaled_stages, f
 use Rattle.transyt_variants.specs.Cycles.{balanced_node, balanced_nodes, balanced}
 use Rattle.transyt_variants.specs.Needs.{HasBarePlan, CanHave}
 use Rattle.transyt_variants.specs.Kept.{KeepsSeconds}
-use Rattle.transyt_variants.specs.Rebuilt.{with_signals}
-use Rattle.transyt_variants.proofs.ValidLaws.{HasShortLags, valid_signals}
+use Rattle.transyt_variants.proofs.ValidLaws.{HasShortLags, same_numbers, valid_signals}
 use Rattle.transyt_variants.proofs.StartLaws.{map_places, all_places}
 
 -- a step in a cycle of others is one of its steps
@@ -63,6 +62,12 @@ plans_same : (before after : ℕ) (ns : List NodeValue)
     → map bare_node (map (bare_plan before after) ns) ≡ map bare_node ns
 plans_same before after [] = refl
 plans_same before after (n ∷ ns) = λ j. plan_same before after n j ∷ plans_same before after ns j
+
+-- so nodes with their bare plans have their numbers
+pub bare_numbers : (before after : ℕ) (ns made : List NodeValue) → made ≡ map (bare_plan before after) ns
+    → node_numbers made ≡ node_numbers ns
+bare_numbers before after ns made is =
+    ap node_numbers is ∙ same_numbers (map (bare_plan before after) ns) ns (plans_same before after ns)
 
 -- stages one after another are timed by their greens
 laid_timed : (steps : ℕ) (ss : List Stage) (gs : List ℕ) → AreTimed steps ss gs (laid steps ss gs)
@@ -358,6 +363,10 @@ pub balanced_same : (net : Network) → IsValid net → map bare_node (balanced_
 balanced_same net valid =
     map_places bare_node (balanced_node net) net.nodes no_node (bare_node no_node) (λ k inside.
     ap (λ (ss : List Stage). record (node_of net k) { offset = 0; stages = ss }) (balanced_plan net k valid inside).same)
+
+-- and have their numbers
+pub balanced_numbers : (net : Network) → IsValid net → node_numbers (balanced_nodes net) ≡ node_numbers net.nodes
+balanced_numbers net valid = same_numbers (balanced_nodes net) net.nodes (balanced_same net valid)
 
 -- the balanced network is valid
 pub balanced_valid : (net : Network) → IsValid net → IsValid (with_signals net net.frame (balanced_nodes net))

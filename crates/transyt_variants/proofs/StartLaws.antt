@@ -8,14 +8,13 @@ use Rattle.transyt_parts.specs.Parts.{NodeValue}
 use Rattle.transyt_parts.specs.Shape.{bare_node}
 use Rattle.transyt_parts.specs.Plan.{plan_fault}
 use Rattle.transyt_parts.specs.Valid.{IsNode}
-use Rattle.transyt_net.specs.Parts.{Network, node_of, no_node}
+use Rattle.transyt_net.specs.Parts.{Network, with_signals, node_of, no_node}
 use Rattle.transyt_net.specs.Edits.{set_offset}
-use Rattle.transyt_net.specs.Valid.{IsValid}
+use Rattle.transyt_net.specs.Valid.{IsValid, node_numbers}
 use Rattle.transyt_make.specs.Draws.{draw, after_draws}
 use Rattle.transyt_variants.specs.Starts.{drawn_node, drawn_nodes, start_at}
 use Rattle.transyt_variants.specs.Kept.{KeepsAllButOffsets}
-use Rattle.transyt_variants.specs.Rebuilt.{with_signals}
-use Rattle.transyt_variants.proofs.ValidLaws.{AreSignals, valid_signals}
+use Rattle.transyt_variants.proofs.ValidLaws.{AreSignals, same_numbers, valid_signals}
 
 -- a list made anew place by place, seen by what stays
 pub map_places : {A B : Type 0} (h : A → B) (f : ℕ → A) (xs : List A) (d : A) (e : B)
@@ -81,6 +80,12 @@ drawn_signals net seed first valid =
           record { start_lag = link.start_lag; end_lag = link.end_lag };
       plan = valid.sound.plan;
     }
+
+-- its nodes with other offsets have their numbers
+pub drawn_numbers : (net : Network) (seed first : ℕ) → IsValid net
+    → node_numbers (drawn_nodes net seed first) ≡ node_numbers net.nodes
+drawn_numbers net seed first valid =
+    same_numbers (drawn_nodes net seed first) net.nodes (drawn_signals net seed first valid).same
 
 -- the network with other offsets is valid
 pub drawn_valid : (net : Network) (seed first : ℕ) → IsValid net

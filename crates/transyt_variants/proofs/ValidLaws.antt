@@ -7,9 +7,8 @@ use Rattle.transyt_parts.specs.Parts.{NodeValue, LinkValue}
 use Rattle.transyt_parts.specs.Plan.{plan_fault}
 use Rattle.transyt_parts.specs.Shape.{bare_node, bare_stage}
 use Rattle.transyt_parts.specs.Valid.{IsFrame, IsNode, IsPlan, node_number, all_differ}
-use Rattle.transyt_net.specs.Parts.{Network}
+use Rattle.transyt_net.specs.Parts.{Network, with_signals}
 use Rattle.transyt_net.specs.Valid.{IsValid, IsLink, node_numbers, link_numbers, numbered, stage_total, stages_at, is_among}
-use Rattle.transyt_variants.specs.Rebuilt.{with_signals}
 
 bare_numbers : (ns : List NodeValue) → node_numbers (map bare_node ns) ≡ node_numbers ns
 bare_numbers [] = refl
@@ -63,8 +62,7 @@ link_again net frame nodes l same short is =
       node = among;
       entry = is.entry;
       saturation = is.saturation;
-      delay_weight = is.delay_weight;
-      stop_weight = is.stop_weight;
+      weights = is.weights;
       start_lag = short.start_lag;
       end_lag = short.end_lag;
       stage_count = is.stage_count;

@@ -2,5 +2,4 @@ pub mod Starts
 pub mod Cycles
 pub mod Kept
 pub mod Needs
-pub mod Rebuilt
 pub mod WorkedVariants

@@ -13,7 +13,6 @@ ghost use Rattle.transyt_variants.specs.Cycles.{at_cycle};
 ghost use Rattle.transyt_variants.specs.Kept.{KeepsSecondsAt};
 ghost use Rattle.transyt_variants.specs.Needs.{HasBarePlan, CanHave};
 
-use crate::rebuilding::rebuild;
 use std::alloc::{AllocError, Global};
 use transyt_equisat::{Greens, Share, balance};
 use transyt_net::{ClimbPlan, Frame, Link, Net, Node, Stage};
@@ -291,7 +290,7 @@ fn bare_net(alloc: Global, net: &Net, cycle: u32) -> Result<Net, AllocError>
         step_count: after,
         ..net.frame()
     };
-    let made = rebuild(alloc, net, frame, &nodes);
+    let made = net.with_signals(alloc, frame, &nodes);
     drop(nodes);
     made
 }
@@ -346,7 +345,7 @@ fn balanced(alloc: Global, net: &Net) -> Result<Net, AllocError>
         drop(nodes);
         return Err(e);
     }
-    let made = rebuild(alloc, net, net.frame(), &nodes);
+    let made = net.with_signals(alloc, net.frame(), &nodes);
     drop(nodes);
     made
 }

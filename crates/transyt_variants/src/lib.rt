@@ -6,9 +6,7 @@
 #![tactic(auto)]
 
 mod cycles;
-mod granted;
 mod laws;
-mod rebuilding;
 mod starts;
 
 pub use cycles::{AtCycle, cycle_net};

@@ -6,7 +6,6 @@ ghost use Rattle.transyt_make.specs.Draws.{further};
 ghost use Rattle.transyt_variants.specs.Starts.{drawn_nodes, start_at};
 ghost use Rattle.transyt_variants.specs.Kept.{KeepsAllButOffsets};
 
-use crate::rebuilding::rebuild;
 use std::alloc::{AllocError, Global};
 use transyt_make::Draws;
 use transyt_net::{Net, Node};
@@ -61,7 +60,7 @@ fn drawn(alloc: Global, net: &Net, draws: &mut Draws) -> Result<Net, AllocError>
         drop(nodes);
         return Err(e);
     }
-    let made = rebuild(alloc, net, net.frame(), &nodes);
+    let made = net.with_signals(alloc, net.frame(), &nodes);
     drop(nodes);
     made
 }

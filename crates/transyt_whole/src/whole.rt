@@ -11,7 +11,7 @@ use crate::answer::Answer;
 use crate::line::print_lines;
 use std::alloc::{AllocError, Global};
 use std::sync::ledger::Ledger;
-use transyt_cards::print_deck;
+use transyt_deck::print_deck;
 use transyt_io::{Failed, Intake, LineBuffer, ReadStop, Sink, Source};
 use transyt_net::Net;
 use transyt_running::{Status, ended, stopped_reading};

@@ -4,7 +4,7 @@ ghost use Rattle.std.specs.Prelude.{◌≡◌, ◌<◌, ◌≤◌, length, None,
 
 use std::alloc::Global;
 use std::test::Fail;
-use transyt_net::{Draft, DraftFault, Frame, Net, NewLink};
+use transyt_net::{Draft, DraftFault, Frame, Net, NewLink, Weights};
 
 const FRAME: Frame = Frame {
     cycle: 60,
@@ -20,8 +20,7 @@ const FIRST: NewLink = NewLink {
     node: 1,
     entry: 360,
     saturation: 1800,
-    delay_weight: 1,
-    stop_weight: 1,
+    weights: Weights { delay: 1, stop: 1 },
     start_lag: 0,
     end_lag: 0,
 };

@@ -9,7 +9,7 @@ ghost use Rattle.transyt_net.specs.Edits.{change_to};
 use super::Net;
 use crate::edit::{Edit, EditFault};
 use crate::places::{is_fed, node_at, stages_at};
-use transyt_parts::{Stage, have_greens, in_order, is_cruise, is_flow, is_saturation, is_weight};
+use transyt_parts::{Stage, are_weights, have_greens, in_order, is_cruise, is_flow, is_saturation};
 
 /// Unknown, or else Range.
 fn range_fault(known: bool, fits: bool) -> Option<EditFault>
@@ -99,8 +99,8 @@ impl Net {
             Edit::Saturation { link, flow } => {
                 range_fault(self.is_link(link), is_saturation(flow))
             }
-            Edit::Weight { link, delay, stop } => {
-                range_fault(self.is_link(link), is_weight(delay) && is_weight(stop))
+            Edit::Weight { link, weights } => {
+                range_fault(self.is_link(link), are_weights(weights))
             }
         }
     }

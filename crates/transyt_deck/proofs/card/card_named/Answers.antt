@@ -1,3 +1,4 @@
+-- A keyword and as many numbers as its row of the table takes: the card is that of the row.
 use Rattle.std.proofs.Common.{◌≡◌, ℕ, ◌+◌, ◌≤◌, nat_le, List, drop, length, true, sym, subst, arith, length-drop}
 use Rattle.std.proofs.lemmas.Bool.{and_parts, leb-true}
 use Rattle.transyt_syntax.specs.Syntax.{is_count}

@@ -1,3 +1,4 @@
+-- The keyword finds its row of the table, and the tests in order find the first code of that row.
 use Rattle.std.proofs.Common.{◌≡◌, sym, ◌∙◌, false}
 use Rattle.transyt_io.specs.Lines.{is_skipped}
 use Rattle.transyt_syntax.proofs.Says.{found_of, kept_says}

@@ -1,3 +1,4 @@
+-- The reader takes line by line, so the deck of its lines and of the rest is the deck of all.
 use Rattle.std.proofs.Common.{◌≡◌, ◌≤◌, ℕ, ◌+◌, ◌-◌, length, Result, Ok, sym, ◌∙◌, ap, subst, IfOk, arith}
 use Rattle.std.specs.List.{fold}
 use Rattle.transyt_io.specs.Lines.{lines}

@@ -1,3 +1,4 @@
+-- The lines that the reader has taken and those of the rest are the lines of the input.
 use Rattle.std.proofs.Common.{◌≡◌, ◌+◌, ◌≤◌, length, true}
 use Rattle.std.specs.List.{fold}
 use Rattle.transyt_io.specs.Lines.{lines}

@@ -1,3 +1,4 @@
+-- The draft refuses a feed by the fault that the card is refused by, else it has the feed.
 use Rattle.std.proofs.Common.{sym, ◌∙◌}
 use Rattle.transyt_net.specs.Faults.{feed_fault, with_feed}
 use Rattle.transyt_deck.specs.declared.state.Part.TheVariants as p

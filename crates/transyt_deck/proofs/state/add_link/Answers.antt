@@ -1,3 +1,4 @@
+-- The draft refuses a link by the fault that the card is refused by, else it has the link.
 use Rattle.std.proofs.Common.{ℕ, List, Some, Err, sym, subst, ◌∙◌}
 use Rattle.transyt_net.specs.declared.draft.DraftFault.TheVariants.{Memory}
 use Rattle.transyt_net.specs.Refuses.{Refuses}

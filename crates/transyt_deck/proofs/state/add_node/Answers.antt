@@ -1,3 +1,4 @@
+-- The draft refuses a node by the fault that the card is refused by, else it has the node.
 use Rattle.std.proofs.Common.{sym, ◌∙◌}
 use Rattle.transyt_net.specs.Faults.{node_fault, with_node}
 use Rattle.transyt_deck.specs.declared.state.Part.TheVariants as p

@@ -1,3 +1,4 @@
+-- The draft refuses a climb plan by the fault that the card is refused by, else it has the plan.
 use Rattle.std.proofs.Common.{ℕ, List, sym, subst, ◌∙◌, Some}
 use Rattle.transyt_parts.specs.Made.{new_plan}
 use Rattle.transyt_net.specs.declared.draft.DraftFault.TheVariants.{Memory}

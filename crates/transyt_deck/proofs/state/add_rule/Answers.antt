@@ -1,3 +1,4 @@
+-- The draft refuses a rule by the fault that the card is refused by, else the link has the rule.
 use Rattle.std.proofs.Common.{sym, ◌∙◌}
 use Rattle.transyt_net.specs.Faults.{rule_fault, with_rule}
 use Rattle.transyt_deck.specs.declared.state.Part.TheVariants as p

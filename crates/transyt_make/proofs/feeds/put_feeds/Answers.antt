@@ -1,3 +1,4 @@
+-- The feeds of a link more are those of the next draws.
 use Rattle.std.proofs.Common.{◌≡◌, ℕ, ◌+◌, ◌*◌, ap, sym, ◌∙◌, arith}
 use Rattle.transyt_net.specs.Parts.{Network}
 use Rattle.transyt_net.specs.Valid.{link_numbers}

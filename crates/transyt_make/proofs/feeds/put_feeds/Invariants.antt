@@ -1,3 +1,4 @@
+-- The links before this one have their feeds.
 use Rattle.std.proofs.Common.{◌≡◌, ◌*◌, ◌≤◌}
 use Rattle.transyt_net.specs.Valid.{link_numbers}
 use Rattle.transyt_make.specs.Made.{with_feeds, draws_by, all_names}

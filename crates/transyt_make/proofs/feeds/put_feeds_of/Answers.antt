@@ -1,3 +1,4 @@
+-- A link without a neighbour has no feeds.
 use Rattle.std.proofs.Common.{sym, ◌∙◌}
 use Rattle.transyt_make.proofs.FedLaws.{unfed_draft}
 use Rattle.transyt_make.proofs.feeds.put_feeds_of.Goals as goal

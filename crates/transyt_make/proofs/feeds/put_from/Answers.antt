@@ -1,3 +1,4 @@
+-- The three feeders are links of the neighbour, and the link has no feed yet.
 use Rattle.std.proofs.Common.{ℕ, ◌+◌, ◌*◌, ap, sym, ◌∙◌, arith}
 use Rattle.transyt_parts.specs.Valid.{link_number}
 use Rattle.transyt_net.specs.Parts.{Network}

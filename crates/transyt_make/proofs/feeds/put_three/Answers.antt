@@ -1,3 +1,4 @@
+-- The three feeders differ, so none of them feeds the link already.
 use Rattle.transyt_make.proofs.FeedLaws.{second_free, third_free}
 use Rattle.transyt_make.proofs.feeds.put_three.Goals as goal
 

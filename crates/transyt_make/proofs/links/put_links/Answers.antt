@@ -1,3 +1,4 @@
+-- The entry flow of a link more is the next draw, and its number is above those before.
 use Rattle.std.proofs.Common.{◌+◌, length, ap, ◌∙◌, arith}
 use Rattle.std.proofs.lemmas.List.FromFn.{length-map-range_with_len}
 use Rattle.transyt_parts.specs.Valid.{link_number}

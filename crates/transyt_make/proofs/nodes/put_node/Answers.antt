@@ -1,3 +1,4 @@
+-- The draft ends in the new node, which takes its two stages.
 use Rattle.std.proofs.Common.{length, ap, ◌∙◌, ◌+◌, arith, length-append, ◌∷◌, []}
 use Rattle.transyt_parts.specs.Made.{new_node, new_stage, add_stage}
 use Rattle.transyt_net.specs.Parts.{Network}

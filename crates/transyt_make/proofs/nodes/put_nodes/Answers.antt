@@ -1,3 +1,4 @@
+-- The number of a node more is above those before, and its offset and change are the next two draws.
 use Rattle.std.proofs.Common.{◌+◌, ◌*◌, length, ap, ◌∙◌, arith}
 use Rattle.std.proofs.lemmas.List.FromFn.{length-map-range_with_len}
 use Rattle.transyt_parts.specs.Valid.{node_number}

@@ -1,3 +1,4 @@
+-- The nodes before this one are there.
 use Rattle.std.proofs.Common.{◌≡◌, ◌*◌, ◌≤◌}
 use Rattle.transyt_make.specs.Draws.{further}
 use Rattle.transyt_make.specs.Made.{with_nodes}

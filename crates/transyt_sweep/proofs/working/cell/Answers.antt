@@ -141,4 +141,4 @@ returns-clause-value g c =
     ∙ stood.ensures.departures
     ∙ ap (λ x. outs (arrivals_of x green_before) green_before) come_is
     ∙ ap (λ y. outs (arrivals_of (inflow net read l) y) y) going_is)
-    weights.frame weights.delay_weight weights.stop_weight
+    weights.frame weights.link

@@ -1,3 +1,4 @@
+-- Each code comes where the tests before it fail.
 use Rattle.std.proofs.Common.{rules}
 use Rattle.transyt_syntax.proofs.line.syntax_code.Goals as goal
 

@@ -1,3 +1,4 @@
+-- The numbers that were read and those of the rest are the numbers of the line.
 use Rattle.std.proofs.Common.{◌≡◌, ◌≤◌, length, ◌+◌, ◌++◌, take}
 use Rattle.std.specs.Option.{option_map}
 use Rattle.transyt_io.specs.Lines.{words}

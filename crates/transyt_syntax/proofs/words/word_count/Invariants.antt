@@ -1,3 +1,4 @@
+-- The words that were counted and those of the rest are the words of the line.
 use Rattle.std.proofs.Common.{◌≡◌, ◌≤◌, length, ◌+◌}
 use Rattle.transyt_io.specs.Lines.{words}
 use Rattle.transyt_syntax.proofs.words.word_count.Given as goal

@@ -1,3 +1,4 @@
+-- A line is one step of the deck, so what it answers is what the deck with the line says.
 use Rattle.std.proofs.Common.{◌≡◌, true, sym, subst, ◌∙◌, ap, not, is_some, Err}
 use Rattle.transyt_deck.specs.declared.state.Stop.{Stop}
 use Rattle.transyt_deck.specs.Adds.{Adds}

@@ -5,10 +5,12 @@ use Rattle.transyt_parts.proofs.PlanLaws.{all_planned}
 use Rattle.transyt_net.proofs.draft.Draft.close.Goals as goal
 
 -- no fault of the plans is left
-pub of_parts-requires-clause-valid : goal.of_parts-requires-clause-valid
-of_parts-requires-clause-valid c =
+pub invariant_of-result : goal.invariant_of-result
+invariant_of-result c =
     let none : first_fault c.self.inside.frame.step_count c.self.inside.nodes.items ≡ None = search rules in
-    record {
-      sound = c.self.invariant.0;
-      planned = all_planned c.self.inside.frame.step_count c.self.inside.nodes.items none;
-    }
+    let at = c.self.invariant in (
+      record { sound = at.0; planned = all_planned c.self.inside.frame.step_count c.self.inside.nodes.items none },
+      at.1,
+      at.2,
+      at.3,
+    )

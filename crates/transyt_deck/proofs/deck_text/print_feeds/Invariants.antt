@@ -1,0 +1,11 @@
+-- The links before this one have their FEED cards written.
+use Rattle.std.proofs.Common.{take, flat_map}
+use Rattle.transyt_text.specs.Prints.{Printed}
+use Rattle.transyt_deck.specs.Cards.{cards_text, feed_cards}
+use Rattle.transyt_deck.proofs.deck_text.print_feeds.Given as goal
+
+-- the cards of the links before this one are written
+abbrev pub invariant-loop-link : goal.invariant-loop-link
+invariant-loop-link g l =
+    Printed (g.K.Sink.written l.fn.sink) (g.K.Sink.written l.sink) (g.K.Sink.faults l.fn.sink) (g.K.Sink.faults l.sink)
+    (flat_map (λ k. cards_text (feed_cards k)) (take l.link-index l.links))
