@@ -6,15 +6,6 @@ use Rattle.std.proofs.lemmas.List.{get_or-set_other}
 use Rattle.std.proofs.lemmas.Grind.{get_or-set_at}
 use Rattle.transyt_sweep.proofs.PairLaws.{pair_room}
 
--- two pairs are one, or apart
-pub pair_cases : (t k s l : ℕ) → ((t ≡ s) × (k ≡ l)) ⊎ (t ≡ s → k ≡ l → ⊥)
-pair_cases t k s l = by (cases_eq t s) (cases_eq k l)
-  where
-    by : (t ≡ s) ⊎ (t ≡ s → ⊥) → (k ≡ l) ⊎ (k ≡ l → ⊥) → ((t ≡ s) × (k ≡ l)) ⊎ (t ≡ s → k ≡ l → ⊥)
-    by (inl sweep) (inl link) = inl (sweep, link)
-    by (inl sweep) (inr other) = inr (λ _ e. other e)
-    by (inr other) _ = inr (λ e _. other e)
-
 -- the flag of a pair
 pub flag_room : (sweeps links s l : ℕ) → s ≤ sweeps → l < links → s * links + l < (sweeps + 1) * links
 flag_room sweeps links s l swept inside = omega (arith, pair_room sweeps links 1 s l swept inside)

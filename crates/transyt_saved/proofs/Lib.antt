@@ -4,3 +4,5 @@ pub mod CarryLaws
 pub mod BackLaws
 pub mod GivenLaws
 pub mod CopyLaws
+pub mod DrawnLaws
+pub mod KeptLaws

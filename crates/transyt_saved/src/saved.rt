@@ -1,9 +1,9 @@
-//! Saved rows and their calls.
+//! Saved rows: flags, and the rows that were there before they were written over.
 
 ghost use Rattle.std.specs.Prelude.{◌≡◌, ◌+◌, ◌*◌, ◌<◌, ◌≤◌, ◌||◌, ℕ, false, length, IfOk, if◌then◌else◌};
 ghost use Rattle.transyt_sweep.specs.Cell.{HasSteps};
 ghost use Rattle.transyt_sweep.specs.Rows.{Fits, SameSize, AreRows, out_at, shown_at};
-ghost use Rattle.transyt_sweep.specs.Rows.{with_out, with_come, with_go, with_rest};
+ghost use Rattle.transyt_sweep.specs.Rows.{with_out, with_come, with_go, with_rest, with_weights};
 ghost use Rattle.transyt_sweep.specs.Front.{AreMixed};
 ghost use Rattle.transyt_sweep.specs.Sweeps.{start};
 ghost use Rattle.transyt_saved.specs.Saved.{is_out_saved, is_come_saved, is_go_saved, is_shown_saved};
@@ -20,7 +20,7 @@ use transyt_sweep::{Rows, SavedRows, Scratch};
 
 /// The rows that were there when a mark was set, as far as they were written over since.
 #[derive(Drop)]
-pub struct Saved {
+pub(crate) struct Saved {
     live: bool,
     link_count: usize,
     // a flag for each pair of a sweep and a link: its departures are saved
@@ -51,7 +51,7 @@ impl Model for Saved {
 
 impl Saved {
     /// Room to save the rows of a network. No mark is open. On an error nothing is left of it.
-    pub fn open(alloc: Global, net: &Net) -> Result<Saved, AllocError>
+    pub(crate) fn open(alloc: Global, net: &Net) -> Result<Saved, AllocError>
         ensures live { IfOk result (λ saved. saved.live ≡ false) }
         ensures fits { IfOk result (λ saved. Fits net.now saved.rows) }
         ensures links { IfOk result (λ saved. saved.link_count ≡ length net.now.links) }
@@ -73,14 +73,14 @@ impl Saved {
     }
 
     /// Whether a mark is open.
-    pub fn is_live(&self) -> bool
+    pub(crate) fn is_live(&self) -> bool
         ensures { result ≡ self.now.live }
     {
         self.live
     }
 
     /// Whether a link's arrivals, GO, queue or figures of the last sweep are saved.
-    pub fn is_shown_saved(&self, link: usize) -> bool
+    pub(crate) fn is_shown_saved(&self, link: usize) -> bool
         requires { link < self.now.link_count }
         ensures { result ≡ is_shown_saved self.now link }
     {
@@ -88,7 +88,7 @@ impl Saved {
     }
 
     /// Sets a mark: none of the rows is saved.
-    pub fn begin(&mut self)
+    pub(crate) fn begin(&mut self)
         ensures { self.new ≡ begun self.old }
     {
         clear(&mut self.out_flags);
@@ -98,7 +98,7 @@ impl Saved {
     }
 
     /// The mark is gone.
-    pub fn settle(&mut self)
+    pub(crate) fn settle(&mut self)
         ensures { self.new ≡ settled self.old }
     {
         self.live = false;
@@ -106,7 +106,7 @@ impl Saved {
 
     /// Writes a link's departures at a sweep from a scratch. While a mark is open, the first write saves the row before
     /// it.
-    pub fn take_out(&mut self, sweep: u32, link: usize, scratch: &Scratch, rows: &mut Rows)
+    pub(crate) fn take_out(&mut self, sweep: u32, link: usize, scratch: &Scratch, rows: &mut Rows)
         requires fits { FitsRows rows.old self.old }
         requires sweep { sweep ≤ rows.old.sweeps }
         requires link { link < length rows.old.figures }
@@ -121,7 +121,7 @@ impl Saved {
 
     /// Writes a link's arrivals at the last sweep, its queue and its figures from a scratch, which is left with other
     /// rows. While a mark is open, the first write saves those that were there. Nothing is copied.
-    pub fn take_come(&mut self, link: usize, scratch: &mut Scratch, rows: &mut Rows)
+    pub(crate) fn take_come(&mut self, link: usize, scratch: &mut Scratch, rows: &mut Rows)
         requires fits { FitsRows rows.old self.old }
         requires link { link < length rows.old.figures }
         requires steps { HasSteps rows.old.step_count scratch.old }
@@ -138,7 +138,7 @@ impl Saved {
 
     /// Writes a link's GO at the last sweep from a scratch, which is left with another row. While a mark is open, the
     /// first write saves the row that was there. Nothing is copied.
-    pub fn take_go(&mut self, link: usize, scratch: &mut Scratch, rows: &mut Rows)
+    pub(crate) fn take_go(&mut self, link: usize, scratch: &mut Scratch, rows: &mut Rows)
         requires fits { FitsRows rows.old self.old }
         requires link { link < length rows.old.figures }
         requires steps { length scratch.old.arrivals ≡ rows.old.step_count }
@@ -154,7 +154,7 @@ impl Saved {
 
     /// Writes a link's departures before the first sweep by its total flow. While a mark is open, the first write saves
     /// the row that was there.
-    pub fn start(&mut self, net: &Net, link: usize, rows: &mut Rows)
+    pub(crate) fn start(&mut self, net: &Net, link: usize, rows: &mut Rows)
         requires fits { Fits net.now rows.old }
         requires fits_saved { FitsRows rows.old self.old }
         requires link { link < length net.now.links }
@@ -166,8 +166,21 @@ impl Saved {
         rows.start(net, link);
     }
 
+    /// Weighs a link anew. While a mark is open, its arrivals at the last sweep, its queue and its figures are saved before
+    /// the first such write.
+    pub(crate) fn reweigh(&mut self, net: &Net, link: usize, rows: &mut Rows)
+        requires fits { Fits net.now rows.old }
+        requires fits_saved { FitsRows rows.old self.old }
+        requires link { link < length net.now.links }
+        ensures value { rows.new ≡ with_weights rows.old net.now link }
+        ensures carries { Carries rows.old self.old rows.new self.new }
+    {
+        self.save_come(link, rows);
+        rows.reweigh(net, link);
+    }
+
     /// Each saved row is given back. The flags stay.
-    pub fn restore(&mut self, net: &Net, rows: &mut Rows)
+    pub(crate) fn restore(&mut self, net: &Net, rows: &mut Rows)
         requires fits { Fits net.now rows.old }
         requires fits_saved { FitsRows rows.old self.old }
         ensures rows { AreRestored self.old rows.old rows.new }
@@ -178,7 +191,7 @@ impl Saved {
     }
 
     /// Rows become those of others where any is saved.
-    pub fn copy_changes(&self, net: &Net, from: &Rows, rows: &mut Rows)
+    pub(crate) fn copy_changes(&self, net: &Net, from: &Rows, rows: &mut Rows)
         requires fits { Fits net.now rows.old }
         requires fits_from { Fits net.now from.now }
         requires fits_saved { FitsRows from.now self.now }
@@ -238,6 +251,24 @@ impl Saved {
             let place = self.place(sweep, link);
             self.out_flags[place] = true;
             self.rows.save_out(sweep, link, rows);
+        }
+    }
+
+    /// Saves a link's arrivals at the last sweep, its queue and its figures, if a mark is open and none are saved.
+    fn save_come(&mut self, link: usize, rows: &Rows)
+        requires fits { FitsRows rows.now self.old }
+        requires link { link < length rows.now.figures }
+        ensures value { self.new ≡ come_kept self.old link (shown_at rows.now link) }
+        ensures rows { AreRows self.old.rows }
+        ensures kept { AreRows rows.now }
+        ensures room { AreSaved self.old.link_count self.old.out_flags self.old.come_flags self.old.go_flags
+            self.old.rows }
+    {
+        rows.index();
+        self.rows.sweeps();
+        if self.live && !self.is_come_saved(link) {
+            self.come_flags[link] = true;
+            self.rows.save_come(link, rows);
         }
     }
 
