@@ -9,9 +9,9 @@ use Rattle.transyt_sweep.specs.Rows.{AreRows}
 use Rattle.transyt_sweep.proofs.RowLaws.{row_elsewhere, row_again}
 use Rattle.transyt_sweep.proofs.PairLaws.{out_here, out_steps, pair_room}
 use Rattle.transyt_saved.specs.Saved.{SavedValue, is_out_saved, is_come_saved, is_go_saved, out_kept, come_kept, go_kept}
-use Rattle.transyt_saved.specs.Saved.{old_out, old_shown, part_by, with_come_of, FitsRows, Carries}
+use Rattle.transyt_saved.specs.Saved.{old_out, old_shown, part_by, with_come_of, FitsRows, Carries, GivesBack}
 use Rattle.transyt_saved.specs.Saved.{AreSaved, rows_by, old_rows, marked_by, kept_of}
-use Rattle.transyt_saved.proofs.FlagLaws.{flag_room, old_stays, not_twice}
+use Rattle.transyt_saved.proofs.FlagLaws.{flag_room, old_stays, given_stays, stays_down, not_twice}
 use Rattle.transyt_sweep.proofs.ComeLaws.{come_out, come_size, come_here, come_elsewhere, go_here, go_elsewhere}
 use Rattle.transyt_saved.proofs.WrittenLaws.{shown_steps}
 
@@ -162,6 +162,52 @@ module _ (rows : RowsValue) (saved : SavedValue) (fits : FitsRows rows saved) (k
             ap (λ v. old_out (out_by (v && not (is_out_saved saved s l))) (with_out rows s l x) t k) live
             ∙ out_stays (not (is_out_saved saved s l)) (not_twice (is_out_saved saved s l)) t k
 
+    abbrev out_lowered : SavedValue
+    out_lowered = record saved { out_flags = set saved.out_flags (pair_number s l) false }
+
+    -- saved departures are given back
+    pub given_out : is_out_saved saved s l ≡ true → x ≡ out_at saved.rows s l
+        → GivesBack rows saved (with_out rows s l x) out_lowered
+    given_out up is = record {
+      size = record { step_count = refl; sweeps = refl; link_count = refl };
+      carries = record {
+        fits = record { size = (out_fits false).size; links = fits.links };
+        marked = marked_stays rows saved (with_out rows s l x) out_lowered
+            (record { step_count = refl; sweeps = refl; link_count = refl }) refl (λ live t k. stays t k)
+            (λ live k. (λ j. record {
+              arrivals = (old_shown saved rows k).arrivals;
+              go = (old_shown saved rows k).go;
+              queue = (old_shown saved rows k).queue;
+              out = stays rows.sweeps k j;
+              figures = (old_shown saved rows k).figures;
+            }));
+      };
+      outs = λ t k down. stays_down saved.out_flags (pair_number s l) (pair_number t k) down;
+      come = λ k down. down;
+      go = λ k down. down;
+    }
+      where
+        flag_inside : pair_number s l < length saved.out_flags
+        flag_inside =
+            omega (
+              arith,
+              room.outs,
+              flag_room saved.rows.sweeps saved.link_count s l (omega (arith, fits.size.sweeps))
+                  (omega (arith, fits.links)),
+            )
+
+        stays : (t k : ℕ) → old_out out_lowered (with_out rows s l x) t k ≡ old_out saved rows t k
+        stays t k =
+            given_stays saved.out_flags (pair_number s l) (pair_number t k) flag_inside up (out_at rows t k)
+            (out_at (with_out rows s l x) t k) (out_at saved.rows t k) (out_at saved.rows t k)
+            (λ other. row_elsewhere rows.step_count rows.outs (pair_place rows s l) x (pair_place rows t k) long
+            (omega (arith, kept.outs, pair_room rows.sweeps (length rows.figures) rows.step_count s l swept inside))
+            (λ one. other (sym (now_number t k) ∙ one ∙ now_number s l)))
+            (λ one. out_at_place (with_out rows s l x) t k s l (now_number t k ∙ one ∙ sym (now_number s l))
+            ∙ out_here rows kept s l x swept inside long ∙ is
+            ∙ sym (out_at_place saved.rows t k s l (saved_number t k ∙ one ∙ sym (saved_number s l))))
+            (λ _. refl)
+
   module _ (l : ℕ) (inside : l < length rows.figures) (c : CellValue) (a_long : length c.arrivals ≡ rows.step_count)
       (q_long : length c.queue ≡ rows.step_count) (was_a_long : length (shown_at rows l).arrivals ≡ rows.step_count)
       (was_q_long : length (shown_at rows l).queue ≡ rows.step_count) where
@@ -277,6 +323,54 @@ module _ (rows : RowsValue) (saved : SavedValue) (fits : FitsRows rows saved) (k
           ∙ come_shown_by (not (is_come_saved saved l)) (not_twice (is_come_saved saved l)) k);
     }
 
+    abbrev come_lowered : SavedValue
+    come_lowered = record come_flagged { come_flags = set saved.come_flags l false }
+
+    part_given : {A : Type 0} (part : CellValue → A) → is_come_saved saved l ≡ true
+        → part (shown_at (with_come_of rows l c) l) ≡ part (shown_at saved.rows l) → (k : ℕ)
+        → part_by (is_come_saved come_lowered k) part come_lowered (with_come_of rows l c) k
+        ≡ part_by (is_come_saved saved k) part saved rows k
+    part_given {A} part up here k =
+        given_stays saved.come_flags l k (omega (arith, room.comes, fits.links)) up (part (shown_at rows k))
+        (part (shown_at (with_come_of rows l c) k)) (part (shown_at saved.rows k)) (part (shown_at come_flagged.rows k))
+        (λ other. ap part (come_elsewhere rows l c.arrivals c.queue c.figures kept inside a_long q_long rows.sweeps
+        k other))
+        (λ same. ap (λ m. part (shown_at (with_come_of rows l c) m)) same ∙ here
+        ∙ sym (ap (λ m. part (shown_at saved.rows m)) same))
+        (λ other. ap part (saved_elsewhere k other))
+
+    -- saved arrivals, queue and figures are given back
+    pub given_come : is_come_saved saved l ≡ true → c ≡ shown_at saved.rows l
+        → GivesBack rows saved (with_come_of rows l c) come_lowered
+    given_come up is = record {
+      size = come_size rows l c.arrivals c.queue c.figures;
+      carries = record {
+        fits = record { size = (come_fits true).size; links = (come_fits true).links };
+        marked = marked_stays rows saved (with_come_of rows l c) come_lowered
+            (come_size rows l c.arrivals c.queue c.figures) refl (λ live t k. come_outs true t k)
+            (λ live k. shown k);
+      };
+      outs = λ t k down. down;
+      come = λ k down. stays_down saved.come_flags l k down;
+      go = λ k down. down;
+    }
+      where
+        here : shown_at (with_come_of rows l c) l
+            ≡ record (shown_at rows l) { arrivals = c.arrivals; queue = c.queue; figures = c.figures }
+        here = come_here rows l c.arrivals c.queue c.figures kept inside a_long q_long rows.sweeps
+
+        shown : (k : ℕ) → old_shown come_lowered (with_come_of rows l c) k ≡ old_shown saved rows k
+        shown k =
+            let come = part_given (λ v. v.arrivals) up (ap (λ (v : CellValue). v.arrivals) here
+            ∙ ap (λ (v : CellValue). v.arrivals) is) k in
+            let standing = part_given (λ v. v.queue) up (ap (λ (v : CellValue). v.queue) here
+            ∙ ap (λ (v : CellValue). v.queue) is) k in
+            let told = part_given (λ v. v.figures) up (ap (λ (v : CellValue). v.figures) here
+            ∙ ap (λ (v : CellValue). v.figures) is) k in
+            let going = come_go true k in
+            let leaving = come_outs true rows.sweeps k in
+            (λ j. record { arrivals = come j; go = going j; queue = standing j; out = leaving j; figures = told j })
+
   module _ (l : ℕ) (inside : l < length rows.figures) (g : List ℕ) (long : length g ≡ rows.step_count)
       (was_long : length (shown_at rows l).go ≡ rows.step_count) where
     abbrev go_flagged : SavedValue
@@ -372,6 +466,51 @@ module _ (rows : RowsValue) (saved : SavedValue) (fits : FitsRows rows saved) (k
           ∙ go_shown_by (not (is_go_saved saved l)) (not_twice (is_go_saved saved l)) k);
     }
 
+    abbrev go_lowered : SavedValue
+    go_lowered = record go_flagged { go_flags = set saved.go_flags l false }
+
+    -- saved GO is given back
+    pub given_go : is_go_saved saved l ≡ true → g ≡ (shown_at saved.rows l).go
+        → GivesBack rows saved (with_go rows l g) go_lowered
+    given_go up is = record {
+      size = record { step_count = refl; sweeps = refl; link_count = refl };
+      carries = record {
+        fits = record { size = (go_fits true).size; links = (go_fits true).links };
+        marked = marked_stays rows saved (with_go rows l g) go_lowered
+            (record { step_count = refl; sweeps = refl; link_count = refl }) refl (λ live t k. refl)
+            (λ live k. shown k);
+      };
+      outs = λ t k down. down;
+      come = λ k down. down;
+      go = λ k down. stays_down saved.go_flags l k down;
+    }
+      where
+        green : (k : ℕ) → part_by (is_go_saved go_lowered k) (λ v. v.go) go_lowered (with_go rows l g) k
+            ≡ part_by (is_go_saved saved k) (λ v. v.go) saved rows k
+        green k =
+            given_stays saved.go_flags l k (omega (arith, room.goes, fits.links)) up (shown_at rows k).go
+            (shown_at (with_go rows l g) k).go (shown_at saved.rows k).go (shown_at go_flagged.rows k).go
+            (λ other. ap (λ (v : CellValue). v.go) (go_elsewhere rows l g kept inside long rows.sweeps k other))
+            (λ same. ap (λ m. (shown_at (with_go rows l g) m).go) same
+            ∙ ap (λ (v : CellValue). v.go) (go_here rows l g kept inside long rows.sweeps) ∙ is
+            ∙ sym (ap (λ m. (shown_at saved.rows m).go) same))
+            (λ other. ap (λ (v : CellValue). v.go) (go_elsewhere saved.rows l (shown_at rows l).go saved_kept go_inside
+            (was_long ∙ sym fits.size.step_count) saved.rows.sweeps k other))
+
+        shown : (k : ℕ) → old_shown go_lowered (with_go rows l g) k ≡ old_shown saved rows k
+        shown k =
+            let come = go_come true (λ v. v.arrivals) k (λ _ _. refl) in
+            let standing = go_come true (λ v. v.queue) k (λ _ _. refl) in
+            let told = go_come true (λ v. v.figures) k (λ _ _. refl) in
+            let going = green k in
+            (λ j. record {
+              arrivals = come j;
+              go = going j;
+              queue = standing j;
+              out = old_out saved rows rows.sweeps k;
+              figures = told j;
+            })
+
   -- figures of a link are saved with its arrivals and queue, and then written over
   pub carries_weighed : (net : Network) (l : ℕ) → l < length rows.figures
       → Carries rows saved (with_weights rows net l) (come_kept saved l (shown_at rows l))
@@ -384,3 +523,28 @@ module _ (rows : RowsValue) (saved : SavedValue) (fits : FitsRows rows saved) (k
       (λ j. record (with_weights rows net l) { arrivals = come j; queue = standing j }) in
       subst (λ new. Carries rows saved new (come_kept saved l (shown_at rows l))) written
       (carries_come l inside (record (shown_at rows l) { figures = f }) was.arrivals was.queue was.arrivals was.queue)
+
+-- nothing is given back
+pub gives_same : (rows : RowsValue) (saved : SavedValue) → FitsRows rows saved → GivesBack rows saved rows saved
+gives_same rows saved fits = record {
+  size = record { step_count = refl; sweeps = refl; link_count = refl };
+  carries = record { fits = fits; marked = refl };
+  outs = λ t k down. down;
+  come = λ k down. down;
+  go = λ k down. down;
+}
+
+-- one after another is
+pub gives_more : (x : RowsValue) (d : SavedValue) (y : RowsValue) (e : SavedValue) (z : RowsValue) (f : SavedValue)
+    → GivesBack x d y e → GivesBack y e z f → GivesBack x d z f
+gives_more x d y e z f one two = record {
+  size = record {
+    step_count = two.size.step_count ∙ one.size.step_count;
+    sweeps = two.size.sweeps ∙ one.size.sweeps;
+    link_count = two.size.link_count ∙ one.size.link_count;
+  };
+  carries = record { fits = two.carries.fits; marked = two.carries.marked ∙ one.carries.marked };
+  outs = λ t k down. two.outs t k (one.outs t k down);
+  come = λ k down. two.come k (one.come k down);
+  go = λ k down. two.go k (one.go k down);
+}

@@ -1,6 +1,6 @@
 -- Rows with a mark: right after it was set its rows are those now; and they are what is given back, or copied.
 use Rattle.std.proofs.Common.{◌≡◌, ℕ, ◌+◌, ◌*◌, ◌<◌, ◌≤◌, Bool, true, false, List, length, replicate, get_or, Some, None}
-use Rattle.std.proofs.Common.{IsSome, refl, ap, sym, ◌∙◌, arith, ◌⊎◌, inl, inr, if◌then◌else◌}
+use Rattle.std.proofs.Common.{IsSome, refl, ap, sym, subst, ◌∙◌, arith, ◌⊎◌, inl, inr, if◌then◌else◌}
 use Rattle.std.proofs.lemmas.Bool.{cases_lt, or_parts}
 use Rattle.std.proofs.lemmas.List.{get_or-replicate, length-replicate}
 use Rattle.std.proofs.lemmas.Option.{same_Some}
@@ -9,7 +9,7 @@ use Rattle.transyt_sweep.specs.Cell.{CellValue}
 use Rattle.transyt_sweep.specs.Rows.{RowsValue, SameSize, out_at, shown_at}
 use Rattle.transyt_saved.specs.Saved.{SavedValue, is_out_saved, is_come_saved, is_go_saved, is_shown_saved, part_by}
 use Rattle.transyt_saved.specs.Saved.{old_out, old_shown, old_rows, marked_by, kept_of, rows_by, by_link, begun}
-use Rattle.transyt_saved.specs.Saved.{copied_out, copied_shown, AreRestored, AreCopied}
+use Rattle.transyt_saved.specs.Saved.{copied_out, copied_shown, GivesBack, AreDown, AreCopied}
 use Rattle.transyt_saved.proofs.DrawnLaws.{rows_ext, outs_at, shown_of}
 
 no_flag : (n p : ℕ) → get_or (replicate n false) p false ≡ false
@@ -51,22 +51,25 @@ begun_now rows saved =
       marked = Some (rows_by rows.sweeps (length rows.figures) (λ t k. outs t k j) (λ k. shown k j));
     })
 
--- a mark is open where there are rows of it
-pub live_of : (rows : RowsValue) (saved : SavedValue) → IsSome (kept_of rows saved).marked → saved.live ≡ true
-live_of rows saved = by saved.live refl
+-- where no row is saved those of an open mark are those now
+down_rows : (rows : RowsValue) (saved : SavedValue) → AreDown rows saved → IsSome (kept_of rows saved).marked
+    → (kept_of rows saved).marked ≡ Some (by_link rows)
+down_rows rows saved down = by saved.live
   where
-    by : (b : Bool) → saved.live ≡ b → IsSome (marked_by b (old_rows saved rows)) → saved.live ≡ true
-    by true open_now some = open_now
-    by false closed some = absurd (cc)
+    by : (b : Bool) → IsSome (marked_by b (old_rows saved rows)) → marked_by b (old_rows saved rows) ≡ Some (by_link rows)
+    by true some =
+        ap Some (rows_ext rows.sweeps (length rows.figures) (old_out saved rows) (out_at rows) (old_shown saved rows)
+        (shown_at rows)
+        (λ t k within there. ap (λ b. if b then out_at saved.rows t k else out_at rows t k) (down.outs t k within there))
+        (λ k there. shown_unsaved saved rows k (down.outs rows.sweeps k (omega arith) there) (down.come k there)
+        (down.go k there)))
+    by false none = absurd (cc)
 
 -- the rows that went back are those of the mark
-pub went_back : (saved : SavedValue) (old rows : RowsValue) → saved.live ≡ true → AreRestored saved old rows
-    → (kept_of old saved).marked ≡ Some (by_link rows)
-went_back saved old rows live went =
-    ap (λ b. marked_by b (old_rows saved old)) live
-    ∙ ap Some (sym ((λ j. rows_by (went.size.sweeps j) (went.size.link_count j) (out_at rows) (shown_at rows))
-    ∙ rows_ext old.sweeps (length old.figures) (out_at rows) (old_out saved old) (shown_at rows) (old_shown saved old)
-    went.outs went.shown))
+pub went_back : (saved new : SavedValue) (old rows : RowsValue) → IsSome (kept_of old saved).marked
+    → GivesBack old saved rows new → AreDown rows new → (kept_of old saved).marked ≡ Some (by_link rows)
+went_back saved new old rows some back down =
+    sym back.carries.marked ∙ down_rows rows new down (subst IsSome (sym back.carries.marked) some)
 
 -- the rows of an open mark
 pub marked_rows : (rows other : RowsValue) (saved : SavedValue) → (kept_of rows saved).marked ≡ Some (by_link other)

@@ -163,21 +163,20 @@ begun saved = record saved {
 abbrev pub settled : SavedValue → SavedValue
 settled saved = record saved { live = false }
 
--- two have the rows of the same places, as large
-pub record SaveAlike (a b : SavedValue) : Type 0 where
-  pub live : a.live ≡ b.live
-  pub link_count : a.link_count ≡ b.link_count
-  pub out_flags : a.out_flags ≡ b.out_flags
-  pub come_flags : a.come_flags ≡ b.come_flags
-  pub go_flags : a.go_flags ≡ b.go_flags
-  pub size : SameSize a.rows b.rows
+-- saved rows were given back: the size and the rows of the mark stay, and where none was saved none is
+pub record GivesBack (rows : RowsValue) (saved : SavedValue) (new_rows : RowsValue) (new_saved : SavedValue) : Type 0
+  where
+    pub size : SameSize new_rows rows
+    pub carries : Carries rows saved new_rows new_saved
+    pub outs : (sweep link : ℕ) → is_out_saved saved sweep link ≡ false → is_out_saved new_saved sweep link ≡ false
+    pub come : (link : ℕ) → is_come_saved saved link ≡ false → is_come_saved new_saved link ≡ false
+    pub go : (link : ℕ) → is_go_saved saved link ≡ false → is_go_saved new_saved link ≡ false
 
--- the rows went back to those that were saved
-pub record AreRestored (saved : SavedValue) (old rows : RowsValue) : Type 0 where
-  pub size : SameSize rows old
-  pub outs : (sweep link : ℕ) → sweep ≤ old.sweeps → link < length old.figures
-      → out_at rows sweep link ≡ old_out saved old sweep link
-  pub shown : (link : ℕ) → link < length old.figures → shown_at rows link ≡ old_shown saved old link
+-- no row is saved
+pub record AreDown (rows : RowsValue) (saved : SavedValue) : Type 0 where
+  pub outs : (sweep link : ℕ) → sweep ≤ rows.sweeps → link < length rows.figures → is_out_saved saved sweep link ≡ false
+  pub come : (link : ℕ) → link < length rows.figures → is_come_saved saved link ≡ false
+  pub go : (link : ℕ) → link < length rows.figures → is_go_saved saved link ≡ false
 
 -- a link's departures at a sweep by other rows, if they are saved, else by these
 abbrev pub copied_out : SavedValue → RowsValue → RowsValue → ℕ → ℕ → List ℕ

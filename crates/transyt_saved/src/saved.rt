@@ -9,8 +9,8 @@ ghost use Rattle.transyt_sweep.specs.Sweeps.{start};
 ghost use Rattle.transyt_saved.specs.Saved.{is_out_saved, is_come_saved, is_go_saved, is_shown_saved};
 ghost use Rattle.transyt_saved.specs.Saved.{out_kept, come_kept, go_kept};
 ghost use Rattle.transyt_saved.specs.Saved.{old_out, old_shown, copied_out, copied_shown, with_come_of};
-ghost use Rattle.transyt_saved.specs.Saved.{begun, settled, FitsRows, Carries, AreSaved, SaveAlike};
-ghost use Rattle.transyt_saved.specs.Saved.{AreRestored, AreCopied};
+ghost use Rattle.transyt_saved.specs.Saved.{begun, settled, FitsRows, Carries, AreSaved};
+ghost use Rattle.transyt_saved.specs.Saved.{AreDown, AreCopied, GivesBack};
 
 use crate::flags::{clear, no_flags};
 use std::alloc::{AllocError, Global};
@@ -179,12 +179,12 @@ impl Saved {
         rows.reweigh(net, link);
     }
 
-    /// Each saved row is given back. The flags stay.
+    /// Each saved row is given back, and none is saved then.
     pub(crate) fn restore(&mut self, net: &Net, rows: &mut Rows)
         requires fits { Fits net.now rows.old }
         requires fits_saved { FitsRows rows.old self.old }
-        ensures rows { AreRestored self.old rows.old rows.new }
-        ensures saved { SaveAlike self.new self.old }
+        ensures back { GivesBack rows.old self.old rows.new self.new }
+        ensures down { AreDown rows.new self.new }
     {
         self.give_outs(net, rows);
         self.give_shown(net, rows);
@@ -308,12 +308,12 @@ impl Saved {
     }
 
     /// All saved departures are given back.
-    fn give_outs(&self, net: &Net, rows: &mut Rows)
+    fn give_outs(&mut self, net: &Net, rows: &mut Rows)
         requires fits { Fits net.now rows.old }
-        requires fits_saved { FitsRows rows.old self.now }
-        ensures outs { AreMixed net.now (old_out self.now rows.old) (out_at rows.old) (net.now.frame.sweeps + 1) 0
-            rows.new }
-        ensures rest { rows.new ≡ record rows.old { outs = rows.new.outs } }
+        requires fits_saved { FitsRows rows.old self.old }
+        ensures back { GivesBack rows.old self.old rows.new self.new }
+        ensures down { (sweep link : ℕ) → sweep ≤ net.now.frame.sweeps → link < length net.now.links
+            → is_out_saved self.new sweep link ≡ false }
     {
         for sweep in 0..net.frame().sweeps + 1 {
             for link in 0..net.links().len() {
@@ -323,19 +323,19 @@ impl Saved {
     }
 
     /// A link's departures at a sweep are given back, if they are saved.
-    fn give_out(&self, sweep: u32, link: usize, rows: &mut Rows)
-        requires fits { FitsRows rows.old self.now }
+    fn give_out(&mut self, sweep: u32, link: usize, rows: &mut Rows)
+        requires fits { FitsRows rows.old self.old }
         requires sweep { sweep ≤ rows.old.sweeps }
         requires link { link < length rows.old.figures }
-        ensures value { rows.new ≡ (if is_out_saved self.now sweep link
-            then with_out rows.old sweep link (out_at self.now.rows sweep link) else rows.old) }
-        ensures kept { AreRows rows.old }
-        ensures kept_saved { AreRows self.now.rows }
+        ensures back { GivesBack rows.old self.old rows.new self.new }
+        ensures down { is_out_saved self.new sweep link ≡ false }
     {
         rows.index();
         self.rows.sweeps();
         if self.is_out_saved(sweep, link) {
             self.rows.give_out(sweep, link, rows);
+            let place = self.place(sweep, link);
+            self.out_flags[place] = false;
         }
     }
 
@@ -343,11 +343,9 @@ impl Saved {
     fn give_shown(&mut self, net: &Net, rows: &mut Rows)
         requires fits { Fits net.now rows.old }
         requires fits_saved { FitsRows rows.old self.old }
-        ensures size { SameSize rows.new rows.old }
-        ensures outs { rows.new.outs ≡ rows.old.outs }
-        ensures shown { (link : ℕ) → link < length rows.old.figures → shown_at rows.new link
-            ≡ record (old_shown self.old rows.old link) { out = out_at rows.old rows.old.sweeps link } }
-        ensures saved { SaveAlike self.new self.old }
+        ensures back { GivesBack rows.old self.old rows.new self.new }
+        ensures come { (link : ℕ) → link < length net.now.links → is_come_saved self.new link ≡ false }
+        ensures go { (link : ℕ) → link < length net.now.links → is_go_saved self.new link ≡ false }
     {
         for link in 0..net.links().len() {
             self.give_come(link, rows);
@@ -360,17 +358,14 @@ impl Saved {
     fn give_come(&mut self, link: usize, rows: &mut Rows)
         requires fits { FitsRows rows.old self.old }
         requires link { link < length rows.old.figures }
-        ensures rows { rows.new ≡ (if is_come_saved self.old link
-            then with_come_of rows.old link (shown_at self.old.rows link) else rows.old) }
-        ensures saved { self.new ≡ (if is_come_saved self.old link
-            then record self.old { rows = with_come_of self.old.rows link (shown_at rows.old link) } else self.old) }
-        ensures kept { AreRows rows.old }
-        ensures kept_saved { AreRows self.old.rows }
+        ensures back { GivesBack rows.old self.old rows.new self.new }
+        ensures down { is_come_saved self.new link ≡ false }
     {
         rows.index();
         self.rows.sweeps();
         if self.is_come_saved(link) {
             self.rows.give_come(link, rows);
+            self.come_flags[link] = false;
         }
     }
 
@@ -378,17 +373,14 @@ impl Saved {
     fn give_go(&mut self, link: usize, rows: &mut Rows)
         requires fits { FitsRows rows.old self.old }
         requires link { link < length rows.old.figures }
-        ensures rows { rows.new ≡ (if is_go_saved self.old link
-            then with_go rows.old link (shown_at self.old.rows link).go else rows.old) }
-        ensures saved { self.new ≡ (if is_go_saved self.old link
-            then record self.old { rows = with_go self.old.rows link (shown_at rows.old link).go } else self.old) }
-        ensures kept { AreRows rows.old }
-        ensures kept_saved { AreRows self.old.rows }
+        ensures back { GivesBack rows.old self.old rows.new self.new }
+        ensures down { is_go_saved self.new link ≡ false }
     {
         rows.index();
         self.rows.sweeps();
         if self.is_go_saved(link) {
             self.rows.give_go(link, rows);
+            self.go_flags[link] = false;
         }
     }
 
