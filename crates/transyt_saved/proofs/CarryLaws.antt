@@ -1,46 +1,37 @@
--- Rows that are saved and written over, or weighed: what the saved rows lead back to stays.
+-- Rows that are saved and written over, or weighed: the rows of the mark stay.
 use Rattle.std.proofs.Common.{◌≡◌, ◌≢◌, ℕ, ◌+◌, ◌*◌, ◌<◌, ◌≤◌, Bool, true, false, not, ◌&&◌, List, length, set, get_or}
-use Rattle.std.proofs.Common.{refl, ap, sym, ◌∙◌, arith, ◌⊎◌, inl, inr, if◌then◌else◌}
-use Rattle.std.proofs.lemmas.Bool.{cases_eq}
-use Rattle.std.proofs.lemmas.List.{length-set}
+use Rattle.std.proofs.Common.{refl, ap, sym, subst, ◌∙◌, arith, if◌then◌else◌, Some}
 use Rattle.transyt_net.specs.Parts.{Network}
 use Rattle.transyt_sweep.specs.Cell.{CellValue}
-use Rattle.transyt_sweep.specs.Rows.{RowsValue, out_at, shown_at, with_out, with_go, with_weights, reweighed}
+use Rattle.transyt_sweep.specs.Rows.{RowsValue, row, out_at, shown_at, pair_place, with_out, with_go, with_weights}
+use Rattle.transyt_sweep.specs.Rows.{reweighed, SameSize}
 use Rattle.transyt_sweep.specs.Rows.{AreRows}
-use Rattle.transyt_sweep.proofs.PairLaws.{out_here, out_elsewhere, out_steps, pairs_apart}
+use Rattle.transyt_sweep.proofs.RowLaws.{row_elsewhere, row_again}
+use Rattle.transyt_sweep.proofs.PairLaws.{out_here, out_steps, pair_room}
 use Rattle.transyt_saved.specs.Saved.{SavedValue, is_out_saved, is_come_saved, is_go_saved, out_kept, come_kept, go_kept}
-use Rattle.transyt_saved.specs.Saved.{old_out, old_shown, part_by, with_come_of, unweighed, FitsRows, Carries}
-use Rattle.transyt_saved.specs.Saved.{AreSaved}
-use Rattle.transyt_saved.proofs.FlagLaws.{pair_cases, flag_room, old_stays, not_twice}
+use Rattle.transyt_saved.specs.Saved.{old_out, old_shown, part_by, with_come_of, FitsRows, Carries, GivesBack}
+use Rattle.transyt_saved.specs.Saved.{AreSaved, rows_by, old_rows, marked_by, kept_of}
+use Rattle.transyt_saved.proofs.FlagLaws.{flag_room, old_stays, given_stays, stays_down, not_twice}
 use Rattle.transyt_sweep.proofs.ComeLaws.{come_out, come_size, come_here, come_elsewhere, go_here, go_elsewhere}
-use Rattle.transyt_saved.proofs.WrittenLaws.{figures_out, figures_size, figures_here, figures_elsewhere}
+use Rattle.transyt_saved.proofs.WrittenLaws.{shown_steps}
 
--- nothing is written
-pub carries_same : (rows : RowsValue) (saved : SavedValue) → FitsRows rows saved → Carries rows saved rows saved
-carries_same rows saved fits = record {
-  size = record { step_count = refl; sweeps = refl; link_count = refl };
-  fits = fits;
-  live = refl;
-  outs = λ live t k within there. refl;
-  shown = λ live k there. refl;
-}
+-- the rows of the mark stay where each of them does
+marked_stays : (x : RowsValue) (d : SavedValue) (y : RowsValue) (e : SavedValue) → SameSize y x → e.live ≡ d.live
+    → (d.live ≡ true → (t k : ℕ) → old_out e y t k ≡ old_out d x t k)
+    → (d.live ≡ true → (k : ℕ) → old_shown e y k ≡ old_shown d x k)
+    → (kept_of y e).marked ≡ (kept_of x d).marked
+marked_stays x d y e size live outs shown = ap (λ b. marked_by b (old_rows e y)) live ∙ by d.live refl
+  where
+    by : (b : Bool) → d.live ≡ b → marked_by b (old_rows e y) ≡ marked_by b (old_rows d x)
+    by false closed = refl
+    by true open_now =
+        (λ j. Some (rows_by (size.sweeps j) (size.link_count j) (λ t k. outs open_now t k j)
+        (λ k. shown open_now k j)))
 
--- one write after another
-pub carries_more : (x : RowsValue) (d : SavedValue) (y : RowsValue) (e : SavedValue) (z : RowsValue) (f : SavedValue)
-    → Carries x d y e → Carries y e z f → Carries x d z f
-carries_more x d y e z f one two = record {
-  size = record {
-    step_count = two.size.step_count ∙ one.size.step_count;
-    sweeps = two.size.sweeps ∙ one.size.sweeps;
-    link_count = two.size.link_count ∙ one.size.link_count;
-  };
-  fits = two.fits;
-  live = two.live ∙ one.live;
-  outs = λ live t k within there.
-      two.outs (one.live ∙ live) t k (omega (arith, one.size.sweeps)) (omega (arith, one.size.link_count))
-      ∙ one.outs live t k within there;
-  shown = λ live k there. two.shown (one.live ∙ live) k (omega (arith, one.size.link_count)) ∙ one.shown live k there;
-}
+-- two pairs of one place leave the same
+out_at_place : (rows : RowsValue) (t k s l : ℕ) → pair_place rows t k ≡ pair_place rows s l
+    → out_at rows t k ≡ out_at rows s l
+out_at_place rows t k s l same = ap (row rows.step_count rows.outs) same
 
 module _ (rows : RowsValue) (saved : SavedValue) (fits : FitsRows rows saved) (kept : AreRows rows)
     (saved_kept : AreRows saved.rows)
@@ -69,9 +60,34 @@ module _ (rows : RowsValue) (saved : SavedValue) (fits : FitsRows rows saved) (k
         then (if b then out_put t k else out_at saved.rows t k)
         else out_at (with_out rows s l x) t k
 
-    out_stays : (b : Bool) → is_out_saved saved s l ≡ not b → (t k : ℕ) → t ≤ rows.sweeps → k < length rows.figures
+    now_number : (t k : ℕ) → pair_place rows t k ≡ pair_number t k
+    now_number t k = ap (λ n. t * n + k) (sym fits.links)
+
+    saved_number : (t k : ℕ) → pair_place saved.rows t k ≡ pair_number t k
+    saved_number t k = ap (λ n. t * n + k) (fits.size.link_count ∙ sym fits.links)
+
+    out_stays : (b : Bool) → is_out_saved saved s l ≡ not b → (t k : ℕ)
         → old_out (out_by b) (with_out rows s l x) t k ≡ old_out saved rows t k
-    out_stays b was t k within there = form b ∙ by (pair_cases t k s l)
+    out_stays b was t k =
+        form b
+        ∙ old_stays saved.out_flags (pair_number s l) (pair_number t k) flag_inside b was (out_at rows t k)
+        (out_at (with_out rows s l x) t k) (out_at saved.rows t k) (out_put t k)
+        (λ other. row_elsewhere rows.step_count rows.outs (pair_place rows s l) x (pair_place rows t k) long
+        (omega (arith, kept.outs, pair_room rows.sweeps (length rows.figures) rows.step_count s l swept inside))
+        (λ one. other (sym (now_number t k) ∙ one ∙ now_number s l)))
+        (λ one. out_at_place (with_out saved.rows s l (out_at rows s l)) t k s l
+        (saved_number t k ∙ one ∙ sym (saved_number s l))
+        ∙ out_here saved.rows saved_kept s l (out_at rows s l) swept_in inside_in long_in
+        ∙ sym (out_at_place rows t k s l (now_number t k ∙ one ∙ sym (now_number s l))))
+        (λ other. row_elsewhere saved.rows.step_count saved.rows.outs (pair_place saved.rows s l) (out_at rows s l)
+        (pair_place saved.rows t k) long_in
+        (omega (
+          arith,
+          saved_kept.outs,
+          pair_room saved.rows.sweeps (length saved.rows.figures) saved.rows.step_count s l
+              swept_in inside_in,
+        ))
+        (λ one. other (sym (saved_number t k) ∙ one ∙ saved_number s l)))
       where
         form : (b : Bool) → old_out (out_by b) (with_out rows s l x) t k ≡ by_flag b t k
         form true = refl
@@ -90,33 +106,6 @@ module _ (rows : RowsValue) (saved : SavedValue) (fits : FitsRows rows saved) (k
         flag_inside =
             omega
             (arith, room.outs, flag_room saved.rows.sweeps saved.link_count s l swept_in (omega (arith, fits.links)))
-
-        stays : (pair_number t k ≢ pair_number s l → out_at (with_out rows s l x) t k ≡ out_at rows t k)
-            → (pair_number t k ≡ pair_number s l → out_put t k ≡ out_at rows t k)
-            → (pair_number t k ≢ pair_number s l → out_put t k ≡ out_at saved.rows t k)
-            → by_flag b t k ≡ old_out saved rows t k
-        stays elsewhere here others =
-            old_stays saved.out_flags (pair_number s l) (pair_number t k) flag_inside b was (out_at rows t k)
-            (out_at (with_out rows s l x) t k) (out_at saved.rows t k) (out_put t k) elsewhere here others
-
-        by : ((t ≡ s) × (k ≡ l)) ⊎ (t ≡ s → k ≡ l → ⊥) → by_flag b t k ≡ old_out saved rows t k
-        by (inl same) =
-            let one : pair_number t k ≡ pair_number s l =
-            ap (λ u. u * saved.link_count + k) same.0 ∙ ap (λ m. s * saved.link_count + m) same.1 in
-            stays (λ other. absurd (other one))
-            (λ _. ap (λ u. out_at (with_out saved.rows s l (out_at rows s l)) u k) same.0
-            ∙ ap (out_at (with_out saved.rows s l (out_at rows s l)) s) same.1
-            ∙ out_here saved.rows saved_kept s l (out_at rows s l) swept_in inside_in long_in
-            ∙ sym (ap (out_at rows s) same.1)
-            ∙ sym (ap (λ u. out_at rows u k) same.0))
-            (λ other. absurd (other one))
-        by (inr apart) =
-            let other : pair_number t k ≢ pair_number s l =
-            pairs_apart saved.link_count t k s l (omega (arith, fits.links)) (omega (arith, fits.links)) apart in
-            stays (λ _. out_elsewhere rows kept s l x swept inside long t k there apart)
-            (λ one. absurd (other one))
-            (λ _. out_elsewhere saved.rows saved_kept s l (out_at rows s l) swept_in inside_in long_in t k
-            (omega (arith, fits.size.link_count)) apart)
 
     out_shown_by : (b : Bool) (k : ℕ)
         → old_out (out_by b) (with_out rows s l x) rows.sweeps k ≡ old_out saved rows rows.sweeps k
@@ -158,23 +147,66 @@ module _ (rows : RowsValue) (saved : SavedValue) (fits : FitsRows rows saved) (k
     out_live true = refl
     out_live false = refl
 
-    -- what leaves a link at a sweep is saved, and then written over
+    -- departures are saved, and then written over
     pub carries_out : Carries rows saved (with_out rows s l x) (out_kept saved rows s l)
     carries_out = record {
-      size = record { step_count = refl; sweeps = refl; link_count = refl };
       fits = out_fits (saved.live && not (is_out_saved saved s l));
-      live = out_live (saved.live && not (is_out_saved saved s l));
-      outs = λ live t k within there. stays live t k within there;
-      shown = λ live k there.
-          ap unweighed (out_shown_by (saved.live && not (is_out_saved saved s l)) k
-          (stays live rows.sweeps k (omega arith) there));
+      marked = marked_stays rows saved (with_out rows s l x) (out_kept saved rows s l)
+          (record { step_count = refl; sweeps = refl; link_count = refl }) (out_live (saved.live && not (is_out_saved saved s l))) (λ live t k. stays live t k)
+          (λ live k. out_shown_by (saved.live && not (is_out_saved saved s l)) k (stays live rows.sweeps k));
     }
       where
-        stays : saved.live ≡ true → (t k : ℕ) → t ≤ rows.sweeps → k < length rows.figures
+        stays : saved.live ≡ true → (t k : ℕ)
             → old_out (out_kept saved rows s l) (with_out rows s l x) t k ≡ old_out saved rows t k
-        stays live t k within there =
+        stays live t k =
             ap (λ v. old_out (out_by (v && not (is_out_saved saved s l))) (with_out rows s l x) t k) live
-            ∙ out_stays (not (is_out_saved saved s l)) (not_twice (is_out_saved saved s l)) t k within there
+            ∙ out_stays (not (is_out_saved saved s l)) (not_twice (is_out_saved saved s l)) t k
+
+    abbrev out_lowered : SavedValue
+    out_lowered = record saved { out_flags = set saved.out_flags (pair_number s l) false }
+
+    -- saved departures are given back
+    pub given_out : is_out_saved saved s l ≡ true → x ≡ out_at saved.rows s l
+        → GivesBack rows saved (with_out rows s l x) out_lowered
+    given_out up is = record {
+      size = record { step_count = refl; sweeps = refl; link_count = refl };
+      carries = record {
+        fits = record { size = (out_fits false).size; links = fits.links };
+        marked = marked_stays rows saved (with_out rows s l x) out_lowered
+            (record { step_count = refl; sweeps = refl; link_count = refl }) refl (λ live t k. stays t k)
+            (λ live k. (λ j. record {
+              arrivals = (old_shown saved rows k).arrivals;
+              go = (old_shown saved rows k).go;
+              queue = (old_shown saved rows k).queue;
+              out = stays rows.sweeps k j;
+              figures = (old_shown saved rows k).figures;
+            }));
+      };
+      outs = λ t k down. stays_down saved.out_flags (pair_number s l) (pair_number t k) down;
+      come = λ k down. down;
+      go = λ k down. down;
+    }
+      where
+        flag_inside : pair_number s l < length saved.out_flags
+        flag_inside =
+            omega (
+              arith,
+              room.outs,
+              flag_room saved.rows.sweeps saved.link_count s l (omega (arith, fits.size.sweeps))
+                  (omega (arith, fits.links)),
+            )
+
+        stays : (t k : ℕ) → old_out out_lowered (with_out rows s l x) t k ≡ old_out saved rows t k
+        stays t k =
+            given_stays saved.out_flags (pair_number s l) (pair_number t k) flag_inside up (out_at rows t k)
+            (out_at (with_out rows s l x) t k) (out_at saved.rows t k) (out_at saved.rows t k)
+            (λ other. row_elsewhere rows.step_count rows.outs (pair_place rows s l) x (pair_place rows t k) long
+            (omega (arith, kept.outs, pair_room rows.sweeps (length rows.figures) rows.step_count s l swept inside))
+            (λ one. other (sym (now_number t k) ∙ one ∙ now_number s l)))
+            (λ one. out_at_place (with_out rows s l x) t k s l (now_number t k ∙ one ∙ sym (now_number s l))
+            ∙ out_here rows kept s l x swept inside long ∙ is
+            ∙ sym (out_at_place saved.rows t k s l (saved_number t k ∙ one ∙ sym (saved_number s l))))
+            (λ _. refl)
 
   module _ (l : ℕ) (inside : l < length rows.figures) (c : CellValue) (a_long : length c.arrivals ≡ rows.step_count)
       (q_long : length c.queue ≡ rows.step_count) (was_a_long : length (shown_at rows l).arrivals ≡ rows.step_count)
@@ -280,17 +312,64 @@ module _ (rows : RowsValue) (saved : SavedValue) (fits : FitsRows rows saved) (k
     come_live true = refl
     come_live false = refl
 
-    -- what comes to a link at the last sweep, its queue and its figures are saved, and then written over
+    -- arrivals, queue and figures of a link are saved, and then written over
     pub carries_come : Carries rows saved (with_come_of rows l c) (come_kept saved l (shown_at rows l))
     carries_come = record {
-      size = come_size rows l c.arrivals c.queue c.figures;
       fits = come_fits (saved.live && not (is_come_saved saved l));
-      live = come_live (saved.live && not (is_come_saved saved l));
-      outs = λ live t k within there. come_outs (saved.live && not (is_come_saved saved l)) t k;
-      shown = λ live k there.
-          ap unweighed (ap (λ v. old_shown (come_by (v && not (is_come_saved saved l))) (with_come_of rows l c) k) live
+      marked = marked_stays rows saved (with_come_of rows l c) (come_kept saved l (shown_at rows l))
+          (come_size rows l c.arrivals c.queue c.figures) (come_live (saved.live && not (is_come_saved saved l)))
+          (λ live t k. come_outs (saved.live && not (is_come_saved saved l)) t k)
+          (λ live k. ap (λ v. old_shown (come_by (v && not (is_come_saved saved l))) (with_come_of rows l c) k) live
           ∙ come_shown_by (not (is_come_saved saved l)) (not_twice (is_come_saved saved l)) k);
     }
+
+    abbrev come_lowered : SavedValue
+    come_lowered = record come_flagged { come_flags = set saved.come_flags l false }
+
+    part_given : {A : Type 0} (part : CellValue → A) → is_come_saved saved l ≡ true
+        → part (shown_at (with_come_of rows l c) l) ≡ part (shown_at saved.rows l) → (k : ℕ)
+        → part_by (is_come_saved come_lowered k) part come_lowered (with_come_of rows l c) k
+        ≡ part_by (is_come_saved saved k) part saved rows k
+    part_given {A} part up here k =
+        given_stays saved.come_flags l k (omega (arith, room.comes, fits.links)) up (part (shown_at rows k))
+        (part (shown_at (with_come_of rows l c) k)) (part (shown_at saved.rows k)) (part (shown_at come_flagged.rows k))
+        (λ other. ap part (come_elsewhere rows l c.arrivals c.queue c.figures kept inside a_long q_long rows.sweeps
+        k other))
+        (λ same. ap (λ m. part (shown_at (with_come_of rows l c) m)) same ∙ here
+        ∙ sym (ap (λ m. part (shown_at saved.rows m)) same))
+        (λ other. ap part (saved_elsewhere k other))
+
+    -- saved arrivals, queue and figures are given back
+    pub given_come : is_come_saved saved l ≡ true → c ≡ shown_at saved.rows l
+        → GivesBack rows saved (with_come_of rows l c) come_lowered
+    given_come up is = record {
+      size = come_size rows l c.arrivals c.queue c.figures;
+      carries = record {
+        fits = record { size = (come_fits true).size; links = (come_fits true).links };
+        marked = marked_stays rows saved (with_come_of rows l c) come_lowered
+            (come_size rows l c.arrivals c.queue c.figures) refl (λ live t k. come_outs true t k)
+            (λ live k. shown k);
+      };
+      outs = λ t k down. down;
+      come = λ k down. stays_down saved.come_flags l k down;
+      go = λ k down. down;
+    }
+      where
+        here : shown_at (with_come_of rows l c) l
+            ≡ record (shown_at rows l) { arrivals = c.arrivals; queue = c.queue; figures = c.figures }
+        here = come_here rows l c.arrivals c.queue c.figures kept inside a_long q_long rows.sweeps
+
+        shown : (k : ℕ) → old_shown come_lowered (with_come_of rows l c) k ≡ old_shown saved rows k
+        shown k =
+            let come = part_given (λ v. v.arrivals) up (ap (λ (v : CellValue). v.arrivals) here
+            ∙ ap (λ (v : CellValue). v.arrivals) is) k in
+            let standing = part_given (λ v. v.queue) up (ap (λ (v : CellValue). v.queue) here
+            ∙ ap (λ (v : CellValue). v.queue) is) k in
+            let told = part_given (λ v. v.figures) up (ap (λ (v : CellValue). v.figures) here
+            ∙ ap (λ (v : CellValue). v.figures) is) k in
+            let going = come_go true k in
+            let leaving = come_outs true rows.sweeps k in
+            (λ j. record { arrivals = come j; go = going j; queue = standing j; out = leaving j; figures = told j })
 
   module _ (l : ℕ) (inside : l < length rows.figures) (g : List ℕ) (long : length g ≡ rows.step_count)
       (was_long : length (shown_at rows l).go ≡ rows.step_count) where
@@ -376,86 +455,96 @@ module _ (rows : RowsValue) (saved : SavedValue) (fits : FitsRows rows saved) (k
     go_live true = refl
     go_live false = refl
 
-    -- what can go of a link is saved, and then written over
+    -- GO of a link is saved, and then written over
     pub carries_go : Carries rows saved (with_go rows l g) (go_kept saved l (shown_at rows l).go)
     carries_go = record {
-      size = record { step_count = refl; sweeps = refl; link_count = refl };
       fits = go_fits (saved.live && not (is_go_saved saved l));
-      live = go_live (saved.live && not (is_go_saved saved l));
-      outs = λ live t k within there. go_outs (saved.live && not (is_go_saved saved l)) t k;
-      shown = λ live k there.
-          ap unweighed (ap (λ v. old_shown (go_by (v && not (is_go_saved saved l))) (with_go rows l g) k) live
+      marked = marked_stays rows saved (with_go rows l g) (go_kept saved l (shown_at rows l).go)
+          (record { step_count = refl; sweeps = refl; link_count = refl }) (go_live (saved.live && not (is_go_saved saved l)))
+          (λ live t k. go_outs (saved.live && not (is_go_saved saved l)) t k)
+          (λ live k. ap (λ v. old_shown (go_by (v && not (is_go_saved saved l))) (with_go rows l g) k) live
           ∙ go_shown_by (not (is_go_saved saved l)) (not_twice (is_go_saved saved l)) k);
     }
 
--- all of a link at the last sweep by whether what comes is saved
-abbrev told_by : SavedValue → Bool → RowsValue → ℕ → CellValue
-told_by saved b rows k = record {
-  arrivals = part_by b (λ v. v.arrivals) saved rows k;
-  go = part_by (is_go_saved saved k) (λ v. v.go) saved rows k;
-  queue = part_by b (λ v. v.queue) saved rows k;
-  out = old_out saved rows rows.sweeps k;
-  figures = part_by b (λ v. v.figures) saved rows k;
+    abbrev go_lowered : SavedValue
+    go_lowered = record go_flagged { go_flags = set saved.go_flags l false }
+
+    -- saved GO is given back
+    pub given_go : is_go_saved saved l ≡ true → g ≡ (shown_at saved.rows l).go
+        → GivesBack rows saved (with_go rows l g) go_lowered
+    given_go up is = record {
+      size = record { step_count = refl; sweeps = refl; link_count = refl };
+      carries = record {
+        fits = record { size = (go_fits true).size; links = (go_fits true).links };
+        marked = marked_stays rows saved (with_go rows l g) go_lowered
+            (record { step_count = refl; sweeps = refl; link_count = refl }) refl (λ live t k. refl)
+            (λ live k. shown k);
+      };
+      outs = λ t k down. down;
+      come = λ k down. down;
+      go = λ k down. stays_down saved.go_flags l k down;
+    }
+      where
+        green : (k : ℕ) → part_by (is_go_saved go_lowered k) (λ v. v.go) go_lowered (with_go rows l g) k
+            ≡ part_by (is_go_saved saved k) (λ v. v.go) saved rows k
+        green k =
+            given_stays saved.go_flags l k (omega (arith, room.goes, fits.links)) up (shown_at rows k).go
+            (shown_at (with_go rows l g) k).go (shown_at saved.rows k).go (shown_at go_flagged.rows k).go
+            (λ other. ap (λ (v : CellValue). v.go) (go_elsewhere rows l g kept inside long rows.sweeps k other))
+            (λ same. ap (λ m. (shown_at (with_go rows l g) m).go) same
+            ∙ ap (λ (v : CellValue). v.go) (go_here rows l g kept inside long rows.sweeps) ∙ is
+            ∙ sym (ap (λ m. (shown_at saved.rows m).go) same))
+            (λ other. ap (λ (v : CellValue). v.go) (go_elsewhere saved.rows l (shown_at rows l).go saved_kept go_inside
+            (was_long ∙ sym fits.size.step_count) saved.rows.sweeps k other))
+
+        shown : (k : ℕ) → old_shown go_lowered (with_go rows l g) k ≡ old_shown saved rows k
+        shown k =
+            let come = go_come true (λ v. v.arrivals) k (λ _ _. refl) in
+            let standing = go_come true (λ v. v.queue) k (λ _ _. refl) in
+            let told = go_come true (λ v. v.figures) k (λ _ _. refl) in
+            let going = green k in
+            (λ j. record {
+              arrivals = come j;
+              go = going j;
+              queue = standing j;
+              out = old_out saved rows rows.sweeps k;
+              figures = told j;
+            })
+
+  -- figures of a link are saved with its arrivals and queue, and then written over
+  pub carries_weighed : (net : Network) (l : ℕ) → l < length rows.figures
+      → Carries rows saved (with_weights rows net l) (come_kept saved l (shown_at rows l))
+  carries_weighed net l inside =
+      let f = reweighed net l (shown_at rows l).figures in
+      let was = shown_steps rows kept l inside in
+      let come = row_again rows.step_count rows.arrivals l in
+      let standing = row_again rows.step_count rows.queue l in
+      let written : with_come_of rows l (record (shown_at rows l) { figures = f }) ≡ with_weights rows net l =
+      (λ j. record (with_weights rows net l) { arrivals = come j; queue = standing j }) in
+      subst (λ new. Carries rows saved new (come_kept saved l (shown_at rows l))) written
+      (carries_come l inside (record (shown_at rows l) { figures = f }) was.arrivals was.queue was.arrivals was.queue)
+
+-- nothing is given back
+pub gives_same : (rows : RowsValue) (saved : SavedValue) → FitsRows rows saved → GivesBack rows saved rows saved
+gives_same rows saved fits = record {
+  size = record { step_count = refl; sweeps = refl; link_count = refl };
+  carries = record { fits = fits; marked = refl };
+  outs = λ t k down. down;
+  come = λ k down. down;
+  go = λ k down. down;
 }
 
--- a link is weighed anew
-pub carries_weighed : (net : Network) (rows : RowsValue) (saved : SavedValue) → FitsRows rows saved → (l : ℕ)
-    → l < length rows.figures → Carries rows saved (with_weights rows net l) saved
-carries_weighed net rows saved fits l inside = record {
-  size = figures_size rows l (reweighed net l (shown_at rows l).figures);
-  fits = record {
-    size = record {
-      step_count = fits.size.step_count;
-      sweeps = fits.size.sweeps;
-      link_count = fits.size.link_count ∙ sym size;
-    };
-    links = fits.links ∙ sym size;
+-- one after another is
+pub gives_more : (x : RowsValue) (d : SavedValue) (y : RowsValue) (e : SavedValue) (z : RowsValue) (f : SavedValue)
+    → GivesBack x d y e → GivesBack y e z f → GivesBack x d z f
+gives_more x d y e z f one two = record {
+  size = record {
+    step_count = two.size.step_count ∙ one.size.step_count;
+    sweeps = two.size.sweeps ∙ one.size.sweeps;
+    link_count = two.size.link_count ∙ one.size.link_count;
   };
-  live = refl;
-  outs = λ live t k within there. leaving t k;
-  shown = λ live k there. by k (is_come_saved saved k) (cases_eq k l);
+  carries = record { fits = two.carries.fits; marked = two.carries.marked ∙ one.carries.marked };
+  outs = λ t k down. two.outs t k (one.outs t k down);
+  come = λ k down. two.come k (one.come k down);
+  go = λ k down. two.go k (one.go k down);
 }
-  where
-    size : length (with_weights rows net l).figures ≡ length rows.figures
-    size = length-set rows.figures l (reweighed net l (shown_at rows l).figures)
-
-    leaving : (t k : ℕ) → old_out saved (with_weights rows net l) t k ≡ old_out saved rows t k
-    leaving t k =
-        ap (λ x. if is_out_saved saved t k then out_at saved.rows t k else x)
-        (figures_out rows l (reweighed net l (shown_at rows l).figures) t k)
-
-    by : (k : ℕ) (b : Bool) → (k ≡ l) ⊎ (k ≡ l → ⊥)
-        → unweighed (told_by saved b (with_weights rows net l) k) ≡ unweighed (told_by saved b rows k)
-    by k true which =
-        let out = leaving rows.sweeps k in
-        (λ j. record {
-          arrivals = (shown_at saved.rows k).arrivals;
-          go = part_by (is_go_saved saved k) (λ v. v.go) saved rows k;
-          queue = (shown_at saved.rows k).queue;
-          out = out j;
-          figures = record (shown_at saved.rows k).figures { index = 0 };
-        })
-    by k false (inl here) =
-        let out = leaving rows.sweeps k in
-        let weighed = ap (λ m. (unweighed (shown_at (with_weights rows net l) m)).figures) here
-        ∙ ap (λ (v : CellValue). (unweighed v).figures)
-        (figures_here rows l (reweighed net l (shown_at rows l).figures) inside)
-        ∙ sym (ap (λ m. (unweighed (shown_at rows m)).figures) here) in
-        (λ j. record {
-          arrivals = (shown_at rows k).arrivals;
-          go = part_by (is_go_saved saved k) (λ v. v.go) saved rows k;
-          queue = (shown_at rows k).queue;
-          out = out j;
-          figures = weighed j;
-        })
-    by k false (inr other) =
-        let out = leaving rows.sweeps k in
-        let weighed = ap (λ (v : CellValue). (unweighed v).figures)
-        (figures_elsewhere rows l (reweighed net l (shown_at rows l).figures) k other) in
-        (λ j. record {
-          arrivals = (shown_at rows k).arrivals;
-          go = part_by (is_go_saved saved k) (λ v. v.go) saved rows k;
-          queue = (shown_at rows k).queue;
-          out = out j;
-          figures = weighed j;
-        })

@@ -2,5 +2,6 @@ pub mod FlagLaws
 pub mod WrittenLaws
 pub mod CarryLaws
 pub mod BackLaws
-pub mod GivenLaws
 pub mod CopyLaws
+pub mod DrawnLaws
+pub mod KeptLaws

@@ -1,6 +1,7 @@
 -- The rows that are saved while a mark is open.
 use Rattle.std.specs.Prelude.{◌≡◌, ℕ, ◌+◌, ◌*◌, ◌<◌, ◌≤◌, Bool, true, false, not, ◌&&◌, ◌||◌, List, length}
-use Rattle.std.specs.Prelude.{if◌then◌else◌, slice_index_or, slice_set, replicate}
+use Rattle.std.specs.Prelude.{if◌then◌else◌, slice_index_or, slice_set, replicate, map, Option, Some, None}
+use Rattle.std.specs.List.{range_with_len}
 use Rattle.transyt_sweep.specs.Cell.{CellValue}
 use Rattle.transyt_sweep.specs.Rows.{RowsValue, SameSize, out_at, shown_at, with_out, with_come, with_go}
 
@@ -83,25 +84,58 @@ old_shown saved rows link = record {
   figures = part_by (is_come_saved saved link) (λ c. c.figures) saved rows link;
 }
 
--- all of a link but its index
-abbrev pub unweighed : CellValue → CellValue
-unweighed cell = record cell { figures = record cell.figures { index = 0 } }
+-- Rows by sweep and link: for each sweep and link the departures, and for each link all of the last sweep.
+pub record RowsByLink : Type 0 where
+  pub outs : List (List (List ℕ))
+  pub shown : List CellValue
+
+-- so many values of a function
+abbrev pub listed : {A : Type 0} → ℕ → (ℕ → A) → List A
+listed count f = map f (range_with_len 0 count)
+
+-- rows of so many sweeps and links, by functions of a sweep and a link
+abbrev pub rows_by : ℕ → ℕ → (ℕ → ℕ → List ℕ) → (ℕ → CellValue) → RowsByLink
+rows_by sweeps links outs shown = record {
+  outs = listed (sweeps + 1) (λ sweep. listed links (outs sweep));
+  shown = listed links shown;
+}
+
+-- the rows now, by sweep and link
+abbrev pub by_link : RowsValue → RowsByLink
+by_link rows = rows_by rows.sweeps (length rows.figures) (out_at rows) (shown_at rows)
+
+-- the rows of the mark, each by the saved one, if there is one, else by the row now
+abbrev pub old_rows : SavedValue → RowsValue → RowsByLink
+old_rows saved rows = rows_by rows.sweeps (length rows.figures) (old_out saved rows) (old_shown saved rows)
+
+-- these rows, if a mark is open
+abbrev pub marked_by : Bool → RowsByLink → Option RowsByLink
+marked_by true rows = Some rows
+marked_by false rows = None
+
+-- Rows with a mark: the rows now, and those of the mark, if one is open.
+pub record KeptValue : Type 0 where
+  pub now : RowsValue
+  pub marked : Option RowsByLink
+
+-- the rows and the saved rows as rows with a mark
+abbrev pub kept_of : RowsValue → SavedValue → KeptValue
+kept_of rows saved = record { now = rows; marked = marked_by saved.live (old_rows saved rows) }
+
+-- rows with no mark
+abbrev pub unmarked : RowsValue → KeptValue
+unmarked rows = record { now = rows; marked = None }
 
 -- the saved rows have the size of the rows
 pub record FitsRows (rows : RowsValue) (saved : SavedValue) : Type 0 where
   pub size : SameSize saved.rows rows
   pub links : saved.link_count ≡ length rows.figures
 
--- the rows that the saved rows, and where there are none the rows now, lead back to stay
+-- rows and saved rows after a write: their size and the rows of the mark stay
 pub record Carries (rows : RowsValue) (saved : SavedValue) (new_rows : RowsValue) (new_saved : SavedValue) : Type 0
   where
-    pub size : SameSize new_rows rows
     pub fits : FitsRows new_rows new_saved
-    pub live : new_saved.live ≡ saved.live
-    pub outs : saved.live ≡ true → (sweep link : ℕ) → sweep ≤ rows.sweeps → link < length rows.figures
-        → old_out new_saved new_rows sweep link ≡ old_out saved rows sweep link
-    pub shown : saved.live ≡ true → (link : ℕ) → link < length rows.figures
-        → unweighed (old_shown new_saved new_rows link) ≡ unweighed (old_shown saved rows link)
+    pub marked : (kept_of new_rows new_saved).marked ≡ (kept_of rows saved).marked
 
 -- the parts of saved rows: a flag for each pair of a sweep and a link, and two for each link
 pub record AreSaved (link_count : ℕ) (out_flags come_flags go_flags : List Bool) (rows : RowsValue) : Type 0 where
@@ -129,21 +163,20 @@ begun saved = record saved {
 abbrev pub settled : SavedValue → SavedValue
 settled saved = record saved { live = false }
 
--- two have the rows of the same places, as large
-pub record SaveAlike (a b : SavedValue) : Type 0 where
-  pub live : a.live ≡ b.live
-  pub link_count : a.link_count ≡ b.link_count
-  pub out_flags : a.out_flags ≡ b.out_flags
-  pub come_flags : a.come_flags ≡ b.come_flags
-  pub go_flags : a.go_flags ≡ b.go_flags
-  pub size : SameSize a.rows b.rows
+-- saved rows were given back: the size and the rows of the mark stay, and where none was saved none is
+pub record GivesBack (rows : RowsValue) (saved : SavedValue) (new_rows : RowsValue) (new_saved : SavedValue) : Type 0
+  where
+    pub size : SameSize new_rows rows
+    pub carries : Carries rows saved new_rows new_saved
+    pub outs : (sweep link : ℕ) → is_out_saved saved sweep link ≡ false → is_out_saved new_saved sweep link ≡ false
+    pub come : (link : ℕ) → is_come_saved saved link ≡ false → is_come_saved new_saved link ≡ false
+    pub go : (link : ℕ) → is_go_saved saved link ≡ false → is_go_saved new_saved link ≡ false
 
--- the rows went back to those that were saved
-pub record AreRestored (saved : SavedValue) (old rows : RowsValue) : Type 0 where
-  pub size : SameSize rows old
-  pub outs : (sweep link : ℕ) → sweep ≤ old.sweeps → link < length old.figures
-      → out_at rows sweep link ≡ old_out saved old sweep link
-  pub shown : (link : ℕ) → link < length old.figures → shown_at rows link ≡ old_shown saved old link
+-- no row is saved
+pub record AreDown (rows : RowsValue) (saved : SavedValue) : Type 0 where
+  pub outs : (sweep link : ℕ) → sweep ≤ rows.sweeps → link < length rows.figures → is_out_saved saved sweep link ≡ false
+  pub come : (link : ℕ) → link < length rows.figures → is_come_saved saved link ≡ false
+  pub go : (link : ℕ) → link < length rows.figures → is_go_saved saved link ≡ false
 
 -- a link's departures at a sweep by other rows, if they are saved, else by these
 abbrev pub copied_out : SavedValue → RowsValue → RowsValue → ℕ → ℕ → List ℕ

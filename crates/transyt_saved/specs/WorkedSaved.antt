@@ -72,31 +72,7 @@ shown_before = record {
   figures = new_figures 5 6 7 8;
 } ∷ []
 
--- the rows now written over where they are saved, with another index where the figures aren't, and with values past the
--- last row
-abbrev pub rows_written : RowsValue
-rows_written =
-    rows_of 2 2 (11 ∷ 12 ∷ 77 ∷ 78 ∷ 21 ∷ 22 ∷ 23 ∷ 24 ∷ 79 ∷ 80 ∷ 33 ∷ 34 ∷ 91 ∷ 92 ∷ [])
-    (71 ∷ 72 ∷ 43 ∷ 44 ∷ 93 ∷ 94 ∷ []) (51 ∷ 52 ∷ 73 ∷ 74 ∷ []) (75 ∷ 76 ∷ 63 ∷ 64 ∷ [])
-    (new_figures 81 82 83 84 ∷ new_figures 5 6 7 9 ∷ [])
-
--- the worked saved rows with others where none is saved, and another index where one is
-abbrev pub saved_written : SavedValue
-saved_written = record saved_two {
-  rows = rows_of 2 2 (101 ∷ 102 ∷ 113 ∷ 114 ∷ 103 ∷ 104 ∷ 105 ∷ 106 ∷ 131 ∷ 132 ∷ 107 ∷ 108 ∷ [])
-      (141 ∷ 142 ∷ 109 ∷ 110 ∷ []) (115 ∷ 116 ∷ 153 ∷ 154 ∷ []) (161 ∷ 162 ∷ 117 ∷ 118 ∷ [])
-      (new_figures 101 102 103 119 ∷ new_figures 125 126 127 128 ∷ []);
-}
-
--- departures that aren't saved differ
-abbrev pub other_out : RowsValue
-other_out = record rows_now { outs = 11 ∷ 12 ∷ 13 ∷ 14 ∷ 21 ∷ 22 ∷ 23 ∷ 25 ∷ 31 ∷ 32 ∷ 33 ∷ 34 ∷ [] }
-
--- saved arrivals differ
-abbrev pub other_come_saved : SavedValue
-other_come_saved = record saved_two { rows = record rows_before { arrivals = 143 ∷ 142 ∷ 143 ∷ 144 ∷ [] } }
-
--- the rows now, gone back to what is saved
+-- the rows now, gone back to those of the mark
 abbrev pub rows_restored : RowsValue
 rows_restored =
     rows_of 2 2 (11 ∷ 12 ∷ 113 ∷ 114 ∷ 21 ∷ 22 ∷ 23 ∷ 24 ∷ 131 ∷ 132 ∷ 33 ∷ 34 ∷ []) (141 ∷ 142 ∷ 43 ∷ 44 ∷ [])

@@ -1,28 +1,24 @@
 //! Laws about the definitions.
 
 ghost use Rattle.std.specs.Prelude.{◌≡◌, [], ◌∷◌, map};
-ghost use Rattle.transyt_saved.specs.Saved.{AreCopied, AreRestored, Carries, old_out, old_shown};
-ghost use Rattle.transyt_saved.specs.WorkedSaved.{copied_index, copied_out_more, copied_second_go, other_come_saved};
-ghost use Rattle.transyt_saved.specs.WorkedSaved.{other_out, outs_before, restored_come, restored_first_go};
+ghost use Rattle.transyt_saved.specs.Saved.{AreCopied, by_link, old_out, old_rows, old_shown};
+ghost use Rattle.transyt_saved.specs.WorkedSaved.{copied_index, copied_out_more, copied_second_go};
+ghost use Rattle.transyt_saved.specs.WorkedSaved.{outs_before, restored_come, restored_first_go};
 ghost use Rattle.transyt_saved.specs.WorkedSaved.{restored_start, rows_copied, rows_now, rows_other, rows_restored};
-ghost use Rattle.transyt_saved.specs.WorkedSaved.{rows_written, saved_first, saved_two, saved_written, shown_before};
+ghost use Rattle.transyt_saved.specs.WorkedSaved.{saved_first, saved_two, shown_before};
 
-/// The worked saved rows, and where there are none the rows, lead back to the rows that are written beside them; this
-/// stays where rows are written over that are saved, and not where others are.
+/// The rows of the mark of the worked saved rows are the rows that are written beside them.
 pub fn worked_saved()
     ensures outs { map (λ row. old_out saved_two rows_now row.0 row.1) outs_before ≡ map (λ row. row.2) outs_before }
     ensures shown { map (old_shown saved_two rows_now) (0 ∷ 1 ∷ []) ≡ shown_before }
-    ensures carried { Carries rows_now saved_two rows_written saved_written }
-    ensures uncarried_out { Carries rows_now saved_two other_out saved_two → ⊥ }
-    ensures uncarried_come { Carries rows_now saved_two rows_now other_come_saved → ⊥ }
 {}
 
-/// The rows go back to those that are saved, and wrong ones haven't.
+/// These rows have those of the mark, and wrong ones don't.
 pub fn worked_restored()
-    ensures restored { AreRestored saved_two rows_now rows_restored }
-    ensures not_start { AreRestored saved_two rows_now restored_start → ⊥ }
-    ensures not_come { AreRestored saved_two rows_now restored_come → ⊥ }
-    ensures not_first_go { AreRestored saved_two rows_now restored_first_go → ⊥ }
+    ensures restored { by_link rows_restored ≡ old_rows saved_two rows_now }
+    ensures not_start { by_link restored_start ≡ old_rows saved_two rows_now → ⊥ }
+    ensures not_come { by_link restored_come ≡ old_rows saved_two rows_now → ⊥ }
+    ensures not_first_go { by_link restored_first_go ≡ old_rows saved_two rows_now → ⊥ }
 {}
 
 /// They become those of others where anything is saved, and wrong ones haven't.

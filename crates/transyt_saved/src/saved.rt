@@ -1,16 +1,16 @@
-//! Saved rows and their calls.
+//! Saved rows: flags, and the rows that were there before they were written over.
 
 ghost use Rattle.std.specs.Prelude.{◌≡◌, ◌+◌, ◌*◌, ◌<◌, ◌≤◌, ◌||◌, ℕ, false, length, IfOk, if◌then◌else◌};
 ghost use Rattle.transyt_sweep.specs.Cell.{HasSteps};
 ghost use Rattle.transyt_sweep.specs.Rows.{Fits, SameSize, AreRows, out_at, shown_at};
-ghost use Rattle.transyt_sweep.specs.Rows.{with_out, with_come, with_go, with_rest};
+ghost use Rattle.transyt_sweep.specs.Rows.{with_out, with_come, with_go, with_rest, with_weights};
 ghost use Rattle.transyt_sweep.specs.Front.{AreMixed};
 ghost use Rattle.transyt_sweep.specs.Sweeps.{start};
 ghost use Rattle.transyt_saved.specs.Saved.{is_out_saved, is_come_saved, is_go_saved, is_shown_saved};
 ghost use Rattle.transyt_saved.specs.Saved.{out_kept, come_kept, go_kept};
 ghost use Rattle.transyt_saved.specs.Saved.{old_out, old_shown, copied_out, copied_shown, with_come_of};
-ghost use Rattle.transyt_saved.specs.Saved.{begun, settled, FitsRows, Carries, AreSaved, SaveAlike};
-ghost use Rattle.transyt_saved.specs.Saved.{AreRestored, AreCopied};
+ghost use Rattle.transyt_saved.specs.Saved.{begun, settled, FitsRows, Carries, AreSaved};
+ghost use Rattle.transyt_saved.specs.Saved.{AreDown, AreCopied, GivesBack};
 
 use crate::flags::{clear, no_flags};
 use std::alloc::{AllocError, Global};
@@ -20,7 +20,7 @@ use transyt_sweep::{Rows, SavedRows, Scratch};
 
 /// The rows that were there when a mark was set, as far as they were written over since.
 #[derive(Drop)]
-pub struct Saved {
+pub(crate) struct Saved {
     live: bool,
     link_count: usize,
     // a flag for each pair of a sweep and a link: its departures are saved
@@ -51,7 +51,7 @@ impl Model for Saved {
 
 impl Saved {
     /// Room to save the rows of a network. No mark is open. On an error nothing is left of it.
-    pub fn open(alloc: Global, net: &Net) -> Result<Saved, AllocError>
+    pub(crate) fn open(alloc: Global, net: &Net) -> Result<Saved, AllocError>
         ensures live { IfOk result (λ saved. saved.live ≡ false) }
         ensures fits { IfOk result (λ saved. Fits net.now saved.rows) }
         ensures links { IfOk result (λ saved. saved.link_count ≡ length net.now.links) }
@@ -73,14 +73,14 @@ impl Saved {
     }
 
     /// Whether a mark is open.
-    pub fn is_live(&self) -> bool
+    pub(crate) fn is_live(&self) -> bool
         ensures { result ≡ self.now.live }
     {
         self.live
     }
 
     /// Whether a link's arrivals, GO, queue or figures of the last sweep are saved.
-    pub fn is_shown_saved(&self, link: usize) -> bool
+    pub(crate) fn is_shown_saved(&self, link: usize) -> bool
         requires { link < self.now.link_count }
         ensures { result ≡ is_shown_saved self.now link }
     {
@@ -88,7 +88,7 @@ impl Saved {
     }
 
     /// Sets a mark: none of the rows is saved.
-    pub fn begin(&mut self)
+    pub(crate) fn begin(&mut self)
         ensures { self.new ≡ begun self.old }
     {
         clear(&mut self.out_flags);
@@ -98,7 +98,7 @@ impl Saved {
     }
 
     /// The mark is gone.
-    pub fn settle(&mut self)
+    pub(crate) fn settle(&mut self)
         ensures { self.new ≡ settled self.old }
     {
         self.live = false;
@@ -106,7 +106,7 @@ impl Saved {
 
     /// Writes a link's departures at a sweep from a scratch. While a mark is open, the first write saves the row before
     /// it.
-    pub fn take_out(&mut self, sweep: u32, link: usize, scratch: &Scratch, rows: &mut Rows)
+    pub(crate) fn take_out(&mut self, sweep: u32, link: usize, scratch: &Scratch, rows: &mut Rows)
         requires fits { FitsRows rows.old self.old }
         requires sweep { sweep ≤ rows.old.sweeps }
         requires link { link < length rows.old.figures }
@@ -121,7 +121,7 @@ impl Saved {
 
     /// Writes a link's arrivals at the last sweep, its queue and its figures from a scratch, which is left with other
     /// rows. While a mark is open, the first write saves those that were there. Nothing is copied.
-    pub fn take_come(&mut self, link: usize, scratch: &mut Scratch, rows: &mut Rows)
+    pub(crate) fn take_come(&mut self, link: usize, scratch: &mut Scratch, rows: &mut Rows)
         requires fits { FitsRows rows.old self.old }
         requires link { link < length rows.old.figures }
         requires steps { HasSteps rows.old.step_count scratch.old }
@@ -138,7 +138,7 @@ impl Saved {
 
     /// Writes a link's GO at the last sweep from a scratch, which is left with another row. While a mark is open, the
     /// first write saves the row that was there. Nothing is copied.
-    pub fn take_go(&mut self, link: usize, scratch: &mut Scratch, rows: &mut Rows)
+    pub(crate) fn take_go(&mut self, link: usize, scratch: &mut Scratch, rows: &mut Rows)
         requires fits { FitsRows rows.old self.old }
         requires link { link < length rows.old.figures }
         requires steps { length scratch.old.arrivals ≡ rows.old.step_count }
@@ -154,7 +154,7 @@ impl Saved {
 
     /// Writes a link's departures before the first sweep by its total flow. While a mark is open, the first write saves
     /// the row that was there.
-    pub fn start(&mut self, net: &Net, link: usize, rows: &mut Rows)
+    pub(crate) fn start(&mut self, net: &Net, link: usize, rows: &mut Rows)
         requires fits { Fits net.now rows.old }
         requires fits_saved { FitsRows rows.old self.old }
         requires link { link < length net.now.links }
@@ -166,19 +166,32 @@ impl Saved {
         rows.start(net, link);
     }
 
-    /// Each saved row is given back. The flags stay.
-    pub fn restore(&mut self, net: &Net, rows: &mut Rows)
+    /// Weighs a link anew. While a mark is open, its arrivals at the last sweep, its queue and its figures are saved before
+    /// the first such write.
+    pub(crate) fn reweigh(&mut self, net: &Net, link: usize, rows: &mut Rows)
         requires fits { Fits net.now rows.old }
         requires fits_saved { FitsRows rows.old self.old }
-        ensures rows { AreRestored self.old rows.old rows.new }
-        ensures saved { SaveAlike self.new self.old }
+        requires link { link < length net.now.links }
+        ensures value { rows.new ≡ with_weights rows.old net.now link }
+        ensures carries { Carries rows.old self.old rows.new self.new }
+    {
+        self.save_come(link, rows);
+        rows.reweigh(net, link);
+    }
+
+    /// Each saved row is given back, and none is saved then.
+    pub(crate) fn restore(&mut self, net: &Net, rows: &mut Rows)
+        requires fits { Fits net.now rows.old }
+        requires fits_saved { FitsRows rows.old self.old }
+        ensures back { GivesBack rows.old self.old rows.new self.new }
+        ensures down { AreDown rows.new self.new }
     {
         self.give_outs(net, rows);
         self.give_shown(net, rows);
     }
 
     /// Rows become those of others where any is saved.
-    pub fn copy_changes(&self, net: &Net, from: &Rows, rows: &mut Rows)
+    pub(crate) fn copy_changes(&self, net: &Net, from: &Rows, rows: &mut Rows)
         requires fits { Fits net.now rows.old }
         requires fits_from { Fits net.now from.now }
         requires fits_saved { FitsRows from.now self.now }
@@ -241,6 +254,24 @@ impl Saved {
         }
     }
 
+    /// Saves a link's arrivals at the last sweep, its queue and its figures, if a mark is open and none are saved.
+    fn save_come(&mut self, link: usize, rows: &Rows)
+        requires fits { FitsRows rows.now self.old }
+        requires link { link < length rows.now.figures }
+        ensures value { self.new ≡ come_kept self.old link (shown_at rows.now link) }
+        ensures rows { AreRows self.old.rows }
+        ensures kept { AreRows rows.now }
+        ensures room { AreSaved self.old.link_count self.old.out_flags self.old.come_flags self.old.go_flags
+            self.old.rows }
+    {
+        rows.index();
+        self.rows.sweeps();
+        if self.live && !self.is_come_saved(link) {
+            self.come_flags[link] = true;
+            self.rows.save_come(link, rows);
+        }
+    }
+
     /// Saves the arrivals, queue and figures of a scratch as the link's, if a mark is open and none are saved.
     fn keep_come(&mut self, link: usize, scratch: &mut Scratch)
         requires link { link < self.old.link_count }
@@ -277,12 +308,12 @@ impl Saved {
     }
 
     /// All saved departures are given back.
-    fn give_outs(&self, net: &Net, rows: &mut Rows)
+    fn give_outs(&mut self, net: &Net, rows: &mut Rows)
         requires fits { Fits net.now rows.old }
-        requires fits_saved { FitsRows rows.old self.now }
-        ensures outs { AreMixed net.now (old_out self.now rows.old) (out_at rows.old) (net.now.frame.sweeps + 1) 0
-            rows.new }
-        ensures rest { rows.new ≡ record rows.old { outs = rows.new.outs } }
+        requires fits_saved { FitsRows rows.old self.old }
+        ensures back { GivesBack rows.old self.old rows.new self.new }
+        ensures down { (sweep link : ℕ) → sweep ≤ net.now.frame.sweeps → link < length net.now.links
+            → is_out_saved self.new sweep link ≡ false }
     {
         for sweep in 0..net.frame().sweeps + 1 {
             for link in 0..net.links().len() {
@@ -292,19 +323,19 @@ impl Saved {
     }
 
     /// A link's departures at a sweep are given back, if they are saved.
-    fn give_out(&self, sweep: u32, link: usize, rows: &mut Rows)
-        requires fits { FitsRows rows.old self.now }
+    fn give_out(&mut self, sweep: u32, link: usize, rows: &mut Rows)
+        requires fits { FitsRows rows.old self.old }
         requires sweep { sweep ≤ rows.old.sweeps }
         requires link { link < length rows.old.figures }
-        ensures value { rows.new ≡ (if is_out_saved self.now sweep link
-            then with_out rows.old sweep link (out_at self.now.rows sweep link) else rows.old) }
-        ensures kept { AreRows rows.old }
-        ensures kept_saved { AreRows self.now.rows }
+        ensures back { GivesBack rows.old self.old rows.new self.new }
+        ensures down { is_out_saved self.new sweep link ≡ false }
     {
         rows.index();
         self.rows.sweeps();
         if self.is_out_saved(sweep, link) {
             self.rows.give_out(sweep, link, rows);
+            let place = self.place(sweep, link);
+            self.out_flags[place] = false;
         }
     }
 
@@ -312,11 +343,9 @@ impl Saved {
     fn give_shown(&mut self, net: &Net, rows: &mut Rows)
         requires fits { Fits net.now rows.old }
         requires fits_saved { FitsRows rows.old self.old }
-        ensures size { SameSize rows.new rows.old }
-        ensures outs { rows.new.outs ≡ rows.old.outs }
-        ensures shown { (link : ℕ) → link < length rows.old.figures → shown_at rows.new link
-            ≡ record (old_shown self.old rows.old link) { out = out_at rows.old rows.old.sweeps link } }
-        ensures saved { SaveAlike self.new self.old }
+        ensures back { GivesBack rows.old self.old rows.new self.new }
+        ensures come { (link : ℕ) → link < length net.now.links → is_come_saved self.new link ≡ false }
+        ensures go { (link : ℕ) → link < length net.now.links → is_go_saved self.new link ≡ false }
     {
         for link in 0..net.links().len() {
             self.give_come(link, rows);
@@ -329,17 +358,14 @@ impl Saved {
     fn give_come(&mut self, link: usize, rows: &mut Rows)
         requires fits { FitsRows rows.old self.old }
         requires link { link < length rows.old.figures }
-        ensures rows { rows.new ≡ (if is_come_saved self.old link
-            then with_come_of rows.old link (shown_at self.old.rows link) else rows.old) }
-        ensures saved { self.new ≡ (if is_come_saved self.old link
-            then record self.old { rows = with_come_of self.old.rows link (shown_at rows.old link) } else self.old) }
-        ensures kept { AreRows rows.old }
-        ensures kept_saved { AreRows self.old.rows }
+        ensures back { GivesBack rows.old self.old rows.new self.new }
+        ensures down { is_come_saved self.new link ≡ false }
     {
         rows.index();
         self.rows.sweeps();
         if self.is_come_saved(link) {
             self.rows.give_come(link, rows);
+            self.come_flags[link] = false;
         }
     }
 
@@ -347,17 +373,14 @@ impl Saved {
     fn give_go(&mut self, link: usize, rows: &mut Rows)
         requires fits { FitsRows rows.old self.old }
         requires link { link < length rows.old.figures }
-        ensures rows { rows.new ≡ (if is_go_saved self.old link
-            then with_go rows.old link (shown_at self.old.rows link).go else rows.old) }
-        ensures saved { self.new ≡ (if is_go_saved self.old link
-            then record self.old { rows = with_go self.old.rows link (shown_at rows.old link).go } else self.old) }
-        ensures kept { AreRows rows.old }
-        ensures kept_saved { AreRows self.old.rows }
+        ensures back { GivesBack rows.old self.old rows.new self.new }
+        ensures down { is_go_saved self.new link ≡ false }
     {
         rows.index();
         self.rows.sweeps();
         if self.is_go_saved(link) {
             self.rows.give_go(link, rows);
+            self.go_flags[link] = false;
         }
     }
 

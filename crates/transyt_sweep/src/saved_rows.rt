@@ -99,6 +99,19 @@ impl SavedRows {
         rows.outs.take_narrow(place, &self.outs);
     }
 
+    /// Saves the arrivals of a link of these rows at the last sweep, its queue and its figures.
+    pub fn save_come(&mut self, link: usize, rows: &Rows)
+        requires link { link < length rows.now.figures }
+        requires size { SameSize self.old rows.now }
+        ensures value { self.new ≡ with_come self.old link (row rows.now.step_count rows.now.arrivals link)
+            (row rows.now.step_count rows.now.queue link) (slice_index_or rows.now.figures link no_figures) }
+        ensures kept { AreRows self.old }
+    {
+        self.arrivals.put(link, rows.arrivals(link));
+        self.queue.put(link, rows.queue(link));
+        self.figures[link] = rows.figures(link);
+    }
+
     /// The arrivals of a link at the last sweep, its queue and its figures, as they were saved, change places with those in
     /// `scratch`. No row is copied.
     pub fn exchange_come(&mut self, link: usize, scratch: &mut Scratch)

@@ -14,9 +14,8 @@ pub mod FrontLaws
 pub mod GoLaws
 pub mod StartLaws
 pub mod EditedLaws
-pub mod CarryLaws
+pub mod EvaluationLaws
 pub mod BackLaws
-pub mod CopiedLaws
 pub mod TrackLaws
 pub mod RuleLaws
 pub mod CompareLaws

@@ -23,7 +23,7 @@ pub record HasRoom (net : Network) (front : Front) : Type 0 where
 
 -- the front has come to a link at a sweep
 pub record IsFront (change : Change) (sweep link : ℕ) (front : Front) : Type 0 where
-  pub at : AreAt change.before.now change.after.now sweep link front.rows front.awaited.items
+  pub at : AreAt change.before.now change.after.now sweep link front.kept.now front.awaited.items
   pub own : AreFlags (own_differs change.before.now change.after.now) (length change.after.now.links)
       front.own_changed.items
   pub steps : length front.scratch.arrivals ≡ change.after.now.frame.step_count

@@ -6,9 +6,8 @@ use Rattle.transyt_parts.specs.Flow.{total_flow}
 use Rattle.transyt_net.specs.Parts.{Network, link_of}
 use Rattle.transyt_sweep.specs.Cell.{CellValue}
 use Rattle.transyt_sweep.specs.Sweeps.{out_of, evaluated}
-use Rattle.transyt_sweep.specs.Rows.{RowsValue, out_at, shown_at, with_weights, Fits}
+use Rattle.transyt_sweep.specs.Rows.{RowsValue, shown_at, with_weights}
 use Rattle.transyt_sweep.specs.Front.{AreMixed, is_before}
-use Rattle.transyt_saved.specs.Saved.{unweighed}
 use Rattle.transyt_track.specs.Own.{own, same_own, places_at}
 use Rattle.std.specs.List.{list_any}
 use Rattle.transyt_track.specs.Due.{differs, read_differs, is_some_and}
@@ -90,12 +89,3 @@ pub record AreBetween (net : Network) (early : ℕ → ℕ → List ℕ) (early_
     (late : ℕ → ℕ → List ℕ) (late_shown : ℕ → CellValue) (sweep link : ℕ) (rows : RowsValue) : Type 0 where
   pub outs : AreMixed net early late sweep link rows
   pub shown : AreShownMixed net early_shown late_shown sweep link rows
-
--- departures are those of the network, and the last sweep too: whole before a link, and but for the weights from it on
-pub record AreWeighed (net : Network) (link : ℕ) (rows : RowsValue) : Type 0 where
-  pub fits : Fits net rows
-  pub outs : (sweep other : ℕ) → sweep ≤ net.frame.sweeps → other < length net.links
-      → out_at rows sweep other ≡ out_of net sweep other
-  pub weighed : (other : ℕ) → other < link → other < length net.links → shown_at rows other ≡ evaluated net other
-  pub others : (other : ℕ) → other < length net.links
-      → unweighed (shown_at rows other) ≡ unweighed (evaluated net other)

@@ -5,5 +5,5 @@ pub mod Work
 pub mod WorkedWork
 pub mod Front
 pub mod Change
-pub mod Saved
+pub mod Kept
 pub mod Tracker

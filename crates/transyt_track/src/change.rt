@@ -3,8 +3,8 @@
 use crate::own::Places;
 use crate::readers::Readers;
 use transyt_net::Net;
-use transyt_saved::Saved;
-use transyt_sweep::{Rows, Scratch};
+use transyt_saved::KeptRows;
+use transyt_sweep::Scratch;
 
 /// A change that a tracker follows: two networks of one shape, with the places that each link reads and its readers.
 #[derive(Clone, Copy)]
@@ -24,10 +24,8 @@ pub(crate) struct Change<'a> {
 /// The rows while they go over from one network to another, and all that changes with them.
 #[derive(Drop)]
 pub(crate) struct Front {
-    /// The rows.
-    pub(crate) rows: Rows,
-    /// The rows that were written over since the mark.
-    pub(crate) saved: Saved,
+    /// The rows, with those of the mark.
+    pub(crate) kept: KeptRows,
     /// A flag for each link: its own data differ.
     pub(crate) own_changed: Vec<bool>,
     /// A flag for each link: it is known to be due at its next turn.

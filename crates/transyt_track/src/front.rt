@@ -9,7 +9,7 @@ ghost use Rattle.transyt_sweep.specs.Front.{AreEvaluation};
 ghost use Rattle.transyt_track.specs.Due.{is_due, due_at, due};
 ghost use Rattle.transyt_track.specs.Change.{HasRoom, IsChange, IsFront};
 ghost use Rattle.transyt_track.specs.Front.{flag};
-ghost use Rattle.transyt_saved.specs.Saved.{FitsRows, Carries};
+ghost use Rattle.transyt_saved.specs.Saved.{KeptValue};
 
 use crate::change::{Change, Front};
 use crate::readers::Readers;
@@ -80,15 +80,15 @@ fn work_out<L: Ledger>(
     requires last { sweep ≤ change.now.after.now.frame.sweeps }
     requires link { link < length change.now.after.now.links }
     requires front { IsFront change.now sweep link front.old }
-    requires fits { FitsRows front.old.rows front.old.saved }
     ensures front { IsFront change.now sweep (link + 1) front.new }
-    ensures carries { Carries front.old.rows front.old.saved front.new.rows front.new.saved }
+    ensures marked { front.new.kept.marked ≡ front.old.kept.marked }
     ensures steps { steps.new ≡ steps.old + 1 }
 {
     let after = change.after;
     after.frame();
-    cell(after, link, sweep, &front.rows, &mut front.scratch, steps);
-    let differs = differ(front.rows.out(sweep, link), front.scratch.out());
+    let rows = front.kept.rows();
+    cell(after, link, sweep, rows, &mut front.scratch, steps);
+    let differs = differ(rows.out(sweep, link), front.scratch.out());
     let readers = change.readers;
     pass_on(
         link,
@@ -132,9 +132,8 @@ fn turn<L: Ledger>(
     requires last { sweep ≤ change.now.after.now.frame.sweeps }
     requires link { link < length change.now.after.now.links }
     requires front { IsFront change.now sweep link front.old }
-    requires fits { FitsRows front.old.rows front.old.saved }
     ensures front { IsFront change.now sweep (link + 1) front.new }
-    ensures carries { Carries front.old.rows front.old.saved front.new.rows front.new.saved }
+    ensures marked { front.new.kept.marked ≡ front.old.kept.marked }
     ensures count { result ≡ (if is_due change.now.before.now change.now.after.now sweep link then 1 else 0) }
     ensures steps { steps.new ≡ steps.old + result }
 {
@@ -142,7 +141,7 @@ fn turn<L: Ledger>(
         work_out(change, sweep, link, front, steps);
         1
     } else {
-        leave(change, sweep, link, &mut front.rows, &front.saved);
+        leave(change, sweep, link, &mut front.kept);
         0
     }
 }
@@ -158,9 +157,8 @@ fn sweep_links<L: Ledger>(
     requires first { 1 ≤ sweep }
     requires last { sweep ≤ change.now.after.now.frame.sweeps }
     requires front { IsFront change.now sweep 0 front.old }
-    requires fits { FitsRows front.old.rows front.old.saved }
     ensures front { IsFront change.now (sweep + 1) 0 front.new }
-    ensures carries { Carries front.old.rows front.old.saved front.new.rows front.new.saved }
+    ensures marked { front.new.kept.marked ≡ front.old.kept.marked }
     ensures count { result ≡ due_at change.now.before.now change.now.after.now sweep }
     ensures few { result ≤ 1000 }
     ensures steps { steps.new ≡ steps.old + result }
@@ -179,11 +177,10 @@ pub(crate) fn follow_rows<L: Ledger>(
     steps: &mut Steps<L>,
 ) -> u64
     requires change { IsChange change.now }
-    requires rows { AreEvaluation change.now.before.now front.old.rows }
-    requires fits { FitsRows front.old.rows front.old.saved }
+    requires rows { AreEvaluation change.now.before.now front.old.kept.now }
     requires room { HasRoom change.now.after.now front.old }
-    ensures rows { AreEvaluation change.now.after.now front.new.rows }
-    ensures carries { Carries front.old.rows front.old.saved front.new.rows front.new.saved }
+    ensures rows { AreEvaluation change.now.after.now front.new.kept.now }
+    ensures marked { front.new.kept.marked ≡ front.old.kept.marked }
     ensures room { HasRoom change.now.after.now front.new }
     ensures count { result ≡ due change.now.before.now change.now.after.now }
     ensures few { result ≤ 8000 }

@@ -77,13 +77,6 @@ fn same_numbers(old: &Link, new: &Link) -> bool
     old.entry == new.entry && old.saturation == new.saturation && same_feeds(&old.feeds, &new.feeds)
 }
 
-/// Whether an edit leaves all links as they are: one of a node does.
-pub(crate) fn leaves_links(e: &Edit) -> bool
-    ensures { IsTrue result → (net : Network) → (with_edit net e.now).links ≡ net.links }
-{
-    matches!(e, Edit::Offset { .. } | Edit::Change { .. })
-}
-
 /// The place of the node whose times alone an edit alters, if it is an edit of one.
 pub(crate) fn edited_node(net: &Net, e: &Edit) -> Option<usize>
     ensures { IfSome result (λ place. DifferAt place net.now (with_edit net.now e.now)) }

@@ -1,7 +1,6 @@
 //! A tracker's room, beside its networks and its rows.
 
-ghost use Rattle.std.specs.Prelude.{◌≡◌, false, length, IfOk};
-ghost use Rattle.transyt_sweep.specs.Rows.{Fits};
+ghost use Rattle.std.specs.Prelude.{◌≡◌, length, IfOk};
 ghost use Rattle.transyt_track.specs.Own.{all_places};
 ghost use Rattle.transyt_track.specs.Readers.{AreReaders};
 
@@ -9,14 +8,12 @@ use crate::own::{Places, all_places};
 use crate::readers::{Readers, all_readers};
 use std::alloc::{AllocError, Global};
 use transyt_net::Net;
-use transyt_saved::Saved;
 use transyt_sweep::Scratch;
 
-/// A tracker's room: for each link the places that it reads, the links that read it and two flags; room for saved rows,
-/// and for the work on one link.
+/// A tracker's room: for each link the places that it reads, the links that read it and two flags; room for the work on
+/// one link.
 #[derive(Drop)]
 pub(crate) struct Room {
-    pub(crate) saved: Saved,
     pub(crate) places: Vec<Places>,
     pub(crate) readers: Vec<Readers>,
     pub(crate) own_changed: Vec<bool>,
@@ -46,23 +43,18 @@ fn flags(alloc: Global, net: &Net) -> Result<(Vec<bool>, Vec<bool>), AllocError>
 }
 
 impl Room {
-    /// Room for a tracker of a network. No mark is open.
+    /// Room for a tracker of a network.
     pub(crate) fn open(alloc: Global, net: &Net) -> Result<Room, AllocError>
-        ensures live { IfOk result (λ room. room.saved.live ≡ false) }
-        ensures fits { IfOk result (λ room. Fits net.now room.saved.rows) }
-        ensures links { IfOk result (λ room. room.saved.link_count ≡ length net.now.links) }
         ensures places { IfOk result (λ room. room.places.items ≡ all_places net.now) }
         ensures readers { IfOk result (λ room. AreReaders net.now room.readers.items) }
         ensures own_count { IfOk result (λ room. length room.own_changed.items ≡ length net.now.links) }
         ensures count { IfOk result (λ room. length room.awaited.items ≡ length net.now.links) }
         ensures steps { IfOk result (λ room. length room.scratch.arrivals ≡ net.now.frame.step_count) }
     {
-        let saved = Saved::open(alloc, net)?;
         let read = read(alloc, net)?;
         let flags = flags(alloc, net)?;
         let scratch = Scratch::open(alloc, net)?;
         Ok(Room {
-            saved,
             places: read.0,
             readers: read.1,
             own_changed: flags.0,

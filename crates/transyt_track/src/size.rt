@@ -4,8 +4,8 @@ use crate::own::Places;
 use crate::readers::Readers;
 use std::mem::size_of;
 use transyt_delay::Figures;
-use transyt_saved::Saved;
-use transyt_sweep::{FACTOR_BYTES, Rows, Scratch};
+use transyt_saved::KeptRows;
+use transyt_sweep::{FACTOR_BYTES, Scratch};
 
 // the limits of a network
 const LINKS: usize = 1000;
@@ -39,8 +39,7 @@ const ROOM: usize = 2 * LINKS * size_of::<bool>() + 13 * PROFILE + LINKS * FACTO
 
 /// The most bytes that a tracker takes beside its two networks, at the limits of a network: 1,000 links of eight feeds,
 /// 120 steps and eight sweeps. It is below 20.2 million.
-pub const MOST_BYTES: usize = size_of::<Rows>()
-    + size_of::<Saved>()
+pub const MOST_BYTES: usize = size_of::<KeptRows>()
     + size_of::<Scratch>()
     + ROWS
     + SAVED

@@ -9,7 +9,7 @@ ghost use Rattle.transyt_track.specs.Change.{HasRoom, IsChange, IsFront};
 ghost use Rattle.transyt_track.specs.Due.{differs, is_some_and};
 ghost use Rattle.transyt_track.specs.Front.{flag, flag_from, AreFlags, AreDownWhere, own_differs, total_differs};
 ghost use Rattle.transyt_track.specs.Front.{awaits, AreStarting};
-ghost use Rattle.transyt_saved.specs.Saved.{FitsRows, Carries};
+ghost use Rattle.transyt_saved.specs.Saved.{KeptValue};
 
 use crate::change::{Change, Front};
 use crate::own::{Places, other_total, same_data, same_times};
@@ -49,17 +49,16 @@ fn start_link(change: &Change<'_>, link: usize, moves: bool, front: &mut Front)
     requires link { link < length change.now.after.now.links }
     requires moves { moves ≡ differs change.now.before.now change.now.after.now 0 link }
     requires some { 1 ≤ change.now.after.now.frame.sweeps }
-    requires starting { AreStarting change.now.before.now change.now.after.now link front.old.rows front.old.awaited.items }
-    requires fits { FitsRows front.old.rows front.old.saved }
-    ensures starting { AreStarting change.now.before.now change.now.after.now (link + 1) front.new.rows
+    requires starting { AreStarting change.now.before.now change.now.after.now link front.old.kept.now front.old.awaited.items }
+    ensures starting { AreStarting change.now.before.now change.now.after.now (link + 1) front.new.kept.now
         front.new.awaited.items }
-    ensures carries { Carries front.old.rows front.old.saved front.new.rows front.new.saved }
+    ensures marked { front.new.kept.marked ≡ front.old.kept.marked }
     ensures own_changed { front.new.own_changed ≡ front.old.own_changed }
     ensures scratch { front.new.scratch ≡ front.old.scratch }
 {
     front.awaited[link] = moves;
     if moves {
-        front.saved.start(change.after, link, &mut front.rows);
+        front.kept.start(change.after, link);
     }
 }
 
@@ -67,17 +66,16 @@ fn start_link(change: &Change<'_>, link: usize, moves: bool, front: &mut Front)
 /// before the first sweep differ: their other flag goes up.
 fn start_links(change: &Change<'_>, front: &mut Front)
     requires change { IsChange change.now }
-    requires rows { AreEvaluation change.now.before.now front.old.rows }
-    requires fits { FitsRows front.old.rows front.old.saved }
+    requires rows { AreEvaluation change.now.before.now front.old.kept.now }
     requires room { HasRoom change.now.after.now front.old }
     ensures starting { AreStarting change.now.before.now change.now.after.now (length change.now.after.now.links)
-        front.new.rows front.new.awaited.items }
+        front.new.kept.now front.new.awaited.items }
     ensures totals { AreFlags (total_differs change.now.before.now change.now.after.now)
         (length change.now.after.now.links) front.new.awaited.items }
     ensures down { AreDownWhere (HaveData change.now.before.now change.now.after.now) (length change.now.after.now.links)
         front.new.own_changed.items }
     ensures room { HasRoom change.now.after.now front.new }
-    ensures carries { Carries front.old.rows front.old.saved front.new.rows front.new.saved }
+    ensures marked { front.new.kept.marked ≡ front.old.kept.marked }
 {
     // a total flow that differs lets another profile go, since a vehicle per hour is more than a unit per step
     let before = change.before;
@@ -200,11 +198,10 @@ fn flag_node(before: &Net, after: &Net, node: usize, places: &[Places], own_chan
 /// the networks differ in the times of a node alone, no link is started anew.
 pub(crate) fn set_out(change: &Change<'_>, front: &mut Front)
     requires change { IsChange change.now }
-    requires rows { AreEvaluation change.now.before.now front.old.rows }
-    requires fits { FitsRows front.old.rows front.old.saved }
+    requires rows { AreEvaluation change.now.before.now front.old.kept.now }
     requires room { HasRoom change.now.after.now front.old }
     ensures front { IsFront change.now 1 0 front.new }
-    ensures carries { Carries front.old.rows front.old.saved front.new.rows front.new.saved }
+    ensures marked { front.new.kept.marked ≡ front.old.kept.marked }
 {
     let before = change.before;
     let after = change.after;

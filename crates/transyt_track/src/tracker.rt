@@ -9,16 +9,16 @@ ghost use Rattle.transyt_net.specs.Shape.{SameShape};
 ghost use Rattle.transyt_sweep.specs.Front.{AreEvaluation};
 ghost use Rattle.transyt_sweep.specs.Sweeps.{out_of, evaluated, index};
 ghost use Rattle.transyt_track.specs.Due.{due};
-ghost use Rattle.transyt_saved.specs.Saved.{FitsRows, SaveAlike};
-ghost use Rattle.transyt_track.specs.Saved.{LeadBack};
+ghost use Rattle.transyt_saved.specs.Saved.{KeptValue};
+ghost use Rattle.transyt_track.specs.Kept.{evaluation_of};
 ghost use Rattle.transyt_track.specs.Tracker.{tracker_of, unmarked, IsTracking};
 
 use crate::change::{Change, Front};
 use crate::found::Found;
 use crate::front::follow_rows;
-use crate::own::{Places, edited_node, leaves_links};
+use crate::own::{Places, edited_node};
 use crate::readers::Readers;
-use crate::returning::{copy_changes, copy_rows, go_back};
+use crate::returning::{copy_rows, go_back};
 use crate::room::Room;
 use std::alloc::{AllocError, Global};
 use std::marker::Model;
@@ -26,7 +26,7 @@ use std::mem;
 use std::sync::ledger::Ledger;
 use transyt_delay::Figures;
 use transyt_net::{Edit, Net};
-use transyt_saved::Saved;
+use transyt_saved::KeptRows;
 use transyt_steps::Steps;
 use transyt_sweep::{Rows, full};
 
@@ -49,12 +49,12 @@ impl Model for Tracker {
 
     ghost Value = { TrackerValue };
 
-    ghost view = { λ t. tracker_of t.net t.front.saved.live t.marked };
+    ghost view = { λ t. tracker_of t.net t.front.kept.marked t.marked };
 
-    // the rows are the evaluation of the network, and the saved rows lead back to the marked one
+    // the rows are the evaluation of the network, and those of the mark that of the marked one
     ghost invariant = { λ t.
-        IsTracking t.net t.marked t.front.rows t.front.saved t.places.items t.readers.items
-        t.front.own_changed.items t.front.awaited.items t.front.scratch };
+        IsTracking t.net t.marked t.front.kept t.places.items t.readers.items t.front.own_changed.items
+        t.front.awaited.items t.front.scratch };
 }
 
 impl Tracker {
@@ -69,7 +69,8 @@ impl Tracker {
         ensures err { OnErr result (steps.new ≤ steps.old + net.now.frame.sweeps * length net.now.links) }
     {
         let rows = full(alloc, net, steps)?;
-        Tracker::around(alloc, net, rows)
+        let kept = KeptRows::open(alloc, net, rows)?;
+        Tracker::around(alloc, net, kept)
     }
 
     /// A tracker of the same network, with no mark. It works out no link.
@@ -77,26 +78,28 @@ impl Tracker {
         requires { self.now.mark ≡ None }
         ensures { IfOk result (λ tracker. tracker ≡ self.now) }
     {
-        let mut rows = Rows::open(alloc, &self.net)?;
-        copy_rows(&self.net, &self.front.rows, &mut rows);
-        Tracker::around(alloc, &self.net, rows)
+        let rows = Rows::open(alloc, &self.net)?;
+        let mut kept = KeptRows::open(alloc, &self.net, rows)?;
+        copy_rows(&self.net, self.front.kept.rows(), &mut kept);
+        Tracker::around(alloc, &self.net, kept)
     }
 
-    /// A tracker around the rows of the evaluation of a network.
-    fn around(alloc: Global, net: &Net, rows: Rows) -> Result<Tracker, AllocError>
-        requires { AreEvaluation net.now rows }
+    /// A tracker around the rows of the evaluation of a network, with no mark.
+    fn around(alloc: Global, net: &Net, kept: KeptRows) -> Result<Tracker, AllocError>
+        requires rows { AreEvaluation net.now kept.now }
+        requires closed { kept.marked ≡ None }
         ensures { IfOk result (λ tracker. tracker ≡ unmarked net.now) }
     {
         let Ok(room) = Room::open(alloc, net) else {
-            drop(rows);
+            drop(kept);
             return Err(AllocError);
         };
         let Ok(nets) = Tracker::copies(alloc, net) else {
-            drop(rows);
+            drop(kept);
             drop(room);
             return Err(AllocError);
         };
-        Ok(Tracker::of_parts(nets.0, nets.1, rows, room))
+        Ok(Tracker::of_parts(nets.0, nets.1, kept, room))
     }
 
     /// Two copies of a network.
@@ -110,10 +113,10 @@ impl Tracker {
     }
 
     /// The tracker of these parts.
-    fn of_parts(net: Net, marked: Net, rows: Rows, room: Room) -> Tracker
-        requires { IsTracking net marked rows room.saved room.places.items room.readers.items room.own_changed.items
+    fn of_parts(net: Net, marked: Net, kept: KeptRows, room: Room) -> Tracker
+        requires { IsTracking net marked kept room.places.items room.readers.items room.own_changed.items
             room.awaited.items room.scratch }
-        ensures { result ≡ tracker_of net room.saved.live marked }
+        ensures { result ≡ tracker_of net kept.marked marked }
     {
         Tracker {
             net,
@@ -121,8 +124,7 @@ impl Tracker {
             places: room.places,
             readers: room.readers,
             front: Front {
-                rows,
-                saved: room.saved,
+                kept,
                 own_changed: room.own_changed,
                 awaited: room.awaited,
                 scratch: room.scratch,
@@ -141,7 +143,7 @@ impl Tracker {
     pub fn is_marked(&self) -> bool
         ensures { result ≡ is_some self.now.mark }
     {
-        self.front.saved.is_live()
+        self.front.kept.is_marked()
     }
 
     /// The departures of a link at a sweep, in millionths of a vehicle per step.
@@ -150,7 +152,7 @@ impl Tracker {
         requires link { link < length self.now.net.links }
         ensures { result.now ≡ out_of self.now.net sweep link }
     {
-        self.front.rows.out(sweep, link)
+        self.front.kept.rows().out(sweep, link)
     }
 
     /// The arrivals of a link at the last sweep, before any cut, in millionths of a vehicle per step.
@@ -158,7 +160,7 @@ impl Tracker {
         requires { link < length self.now.net.links }
         ensures { result.now ≡ (evaluated self.now.net link).arrivals }
     {
-        self.front.rows.arrivals(link)
+        self.front.kept.rows().arrivals(link)
     }
 
     /// The GO of a link at the last sweep, in millionths of a vehicle per step.
@@ -166,7 +168,7 @@ impl Tracker {
         requires { link < length self.now.net.links }
         ensures { result.now ≡ (evaluated self.now.net link).go }
     {
-        self.front.rows.go(link)
+        self.front.kept.rows().go(link)
     }
 
     /// The queue at the end of each step of the last sweep, in millionths of a vehicle.
@@ -174,7 +176,7 @@ impl Tracker {
         requires { link < length self.now.net.links }
         ensures { result.now ≡ (evaluated self.now.net link).queue }
     {
-        self.front.rows.queue(link)
+        self.front.kept.rows().queue(link)
     }
 
     /// The figures of a link at the last sweep, in millionths as those of `transyt_delay`.
@@ -182,14 +184,14 @@ impl Tracker {
         requires { link < length self.now.net.links }
         ensures { result ≡ (evaluated self.now.net link).figures }
     {
-        self.front.rows.figures(link)
+        self.front.kept.rows().figures(link)
     }
 
     /// The index of the network: the sum of its links' indexes.
     pub fn index(&self) -> u128
         ensures { result ≡ index self.now.net }
     {
-        self.front.rows.index()
+        self.front.kept.rows().index()
     }
 
     /// Follows edits: stands for `after` then, and returns how many pairs of a link and a sweep were due.
@@ -267,7 +269,7 @@ impl Tracker {
         ensures few { result.due ≤ 8000 }
         ensures steps { steps.new ≡ steps.old + result.due }
     {
-        self.front.saved.begin();
+        self.front.kept.begin();
         let change = Change {
             before: &self.net,
             after,
@@ -276,16 +278,8 @@ impl Tracker {
             readers: &self.readers,
         };
         let due = follow_rows(&change, &mut self.front, steps);
-        let index = self.front.rows.index();
-        settle_on(
-            &mut self.net,
-            after,
-            e,
-            index < bound,
-            &mut self.front.rows,
-            &mut self.front.saved,
-        );
-        self.front.saved.settle();
+        let index = self.front.kept.rows().index();
+        settle_on(&mut self.net, after, e, index < bound, &mut self.front.kept);
         Found { index, due }
     }
 
@@ -296,7 +290,7 @@ impl Tracker {
         ensures net { self.new.net ≡ from.now.net }
         ensures mark { self.new.mark ≡ None }
     {
-        copy_rows(&from.net, &from.front.rows, &mut self.front.rows);
+        copy_rows(&from.net, from.front.kept.rows(), &mut self.front.kept);
         self.net.take_numbers(&from.net);
     }
 
@@ -309,13 +303,9 @@ impl Tracker {
         ensures mark { self.new.mark ≡ None }
         ensures shape { SameShape self.old.net self.new.net }
     {
-        copy_changes(
-            &self.net,
-            &from.net,
-            &from.front.rows,
-            &from.front.saved,
-            &mut self.front.rows,
-        );
+        from.front
+            .kept
+            .copy_changes(&from.net, &mut self.front.kept);
         self.net.take_numbers(&from.net);
     }
 
@@ -326,7 +316,7 @@ impl Tracker {
         ensures mark { self.new.mark ≡ Some self.old.net }
     {
         self.marked.take_numbers(&self.net);
-        self.front.saved.begin();
+        self.front.kept.begin();
     }
 
     /// Stands for the marked network again, and the mark is gone. It takes no memory and no step.
@@ -336,15 +326,8 @@ impl Tracker {
         ensures mark { self.new.mark ≡ None }
         ensures shape { SameShape self.old.net self.new.net }
     {
-        go_back(
-            &self.net,
-            &self.marked,
-            false,
-            &mut self.front.rows,
-            &mut self.front.saved,
-        );
+        go_back(&self.net, &self.marked, &mut self.front.kept);
         mem::swap(&mut self.net, &mut self.marked);
-        self.front.saved.settle();
     }
 
     /// The mark is gone, and all else stays.
@@ -353,7 +336,7 @@ impl Tracker {
         ensures net { self.new.net ≡ self.old.net }
         ensures mark { self.new.mark ≡ None }
     {
-        self.front.saved.settle();
+        self.front.kept.settle();
     }
 }
 
@@ -366,23 +349,22 @@ fn make(net: &mut Net, e: Edit)
 }
 
 /// The rows of an evaluation of `after`, which is a network with an allowed edit made, are kept, and the edit is made in
-/// the network itself, or the rows go back to those that were saved.
-fn settle_on(net: &mut Net, after: &Net, e: Edit, keeps: bool, rows: &mut Rows, saved: &mut Saved)
+/// the network itself, or the rows go back to those of the mark. The mark is gone.
+fn settle_on(net: &mut Net, after: &Net, e: Edit, keeps: bool, kept: &mut KeptRows)
     requires shape { SameShape net.old after.now }
     requires allowed { edit_fault net.old e ≡ None }
     requires after { after.now ≡ with_edit net.old e }
-    requires rows { AreEvaluation after.now rows.old }
-    requires fits { FitsRows rows.old saved.old }
-    requires live { saved.old.live ≡ true }
-    requires back { LeadBack net.old rows.old saved.old }
+    requires rows { AreEvaluation after.now kept.old.now }
+    requires marked { kept.old.marked ≡ Some (evaluation_of net.old) }
     ensures net { net.new ≡ (if keeps then after.now else net.old) }
     ensures shape { SameShape after.now net.new }
-    ensures rows { AreEvaluation net.new rows.new }
-    ensures saved { SaveAlike saved.new saved.old }
+    ensures rows { AreEvaluation net.new kept.new.now }
+    ensures closed { kept.new.marked ≡ None }
 {
     if keeps {
         make(net, e);
+        kept.settle();
         return;
     }
-    go_back(after, net, leaves_links(&e), rows, saved);
+    go_back(after, net, kept);
 }

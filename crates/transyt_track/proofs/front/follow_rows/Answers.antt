@@ -5,14 +5,13 @@ use Rattle.transyt_track.specs.Due.{due_through}
 use Rattle.transyt_track.specs.Front.{AreAt}
 use Rattle.transyt_track.proofs.ShapeLaws.{shape_frame}
 use Rattle.transyt_track.proofs.DueLaws.{due_through_none, due_through_more, due_is}
-use Rattle.transyt_saved.proofs.CarryLaws.{carries_more}
 use Rattle.transyt_track.proofs.FrontLaws.{ended}
 use Rattle.transyt_track.proofs.front.follow_rows.Goals as goal
 
 pub loop-sweep-init : goal.loop-sweep-init
 loop-sweep-init g c = record {
   front = c.set_out.ensures.front;
-  carries = c.set_out.ensures.carries;
+  marked = c.set_out.ensures.marked;
   count = sym (due_through_none c.args.change.now.before.now c.args.change.now.after.now);
   few = omega arith;
   steps = omega arith;
@@ -33,9 +32,7 @@ loop-sweep-preserved g c =
     ) in
     record {
       front = c.sweep_links-count.ensures.front;
-      carries = carries_more c.args.front.now.rows c.args.front.now.saved c.loop-sweep.front.rows c.loop-sweep.front.saved
-          c.sweep_links-count.new.front.rows c.sweep_links-count.new.front.saved c.loop-sweep.invariant.carries
-          c.sweep_links-count.ensures.carries;
+      marked = c.sweep_links-count.ensures.marked ∙ c.loop-sweep.invariant.marked;
       count = more ∙ sym (ap (due_through a b) last);
       few = omega (arith, c.loop-sweep.invariant.few, c.sweep_links-count.ensures.few, c.loop-sweep.auto.sweep);
       steps = omega (arith, c.loop-sweep.invariant.steps, c.sweep_links-count.ensures.steps);
@@ -46,8 +43,8 @@ returns-clause-rows g c =
     let b = c.args.change.now.after.now in
     let all : c.loop-sweep.sweep ≡ b.frame.sweeps + 1 = omega
     (arith, ap (λ (f : Frame). f.sweeps) c.frame-sweep-end.ensures.value) in
-    ended c.args.change.now.before.now b c.loop-sweep.front.rows c.loop-sweep.front.awaited.items
-    (subst (λ s. AreAt c.args.change.now.before.now b s 0 c.loop-sweep.front.rows c.loop-sweep.front.awaited.items) all
+    ended c.args.change.now.before.now b c.loop-sweep.front.kept.now c.loop-sweep.front.awaited.items
+    (subst (λ s. AreAt c.args.change.now.before.now b s 0 c.loop-sweep.front.kept.now c.loop-sweep.front.awaited.items) all
     c.loop-sweep.invariant.front.at)
 
 pub returns-clause-count : goal.returns-clause-count

@@ -1,14 +1,13 @@
 -- One turn more.
-use Rattle.std.proofs.Common.{◌+◌, length, ap, arith}
+use Rattle.std.proofs.Common.{◌+◌, length, refl, ap, ◌∙◌, arith}
 use Rattle.transyt_track.proofs.DueLaws.{due_in_none, due_in_more, due_in_few}
-use Rattle.transyt_saved.proofs.CarryLaws.{carries_same, carries_more}
 use Rattle.transyt_track.proofs.FrontLaws.{turned_sweep}
 use Rattle.transyt_track.proofs.front.sweep_links.Goals as goal
 
 pub loop-link-init : goal.loop-link-init
 loop-link-init g c = record {
   front = c.requires.front;
-  carries = carries_same c.args.front.now.rows c.args.front.now.saved c.requires.fits;
+  marked = refl;
   count = omega (arith, due_in_none c.args.change.now.before.now c.args.change.now.after.now c.args.sweep);
   steps = omega arith;
 }
@@ -29,8 +28,7 @@ overflow_add-count g c =
 pub loop-link-preserved : goal.loop-link-preserved
 loop-link-preserved g c = record {
   front = c.turn-count.ensures.front;
-  carries = carries_more c.args.front.now.rows c.args.front.now.saved c.loop-link.front.rows c.loop-link.front.saved c.turn-count.new.front.rows
-      c.turn-count.new.front.saved c.loop-link.invariant.carries c.turn-count.ensures.carries;
+  marked = c.turn-count.ensures.marked ∙ c.loop-link.invariant.marked;
   count = omega (
     arith,
     c.turn-count.ensures.count,
@@ -45,7 +43,7 @@ returns-clause-front g c =
     let at = c.loop-link.invariant.front in
     record {
       at = turned_sweep c.args.change.now.before.now c.args.change.now.after.now c.args.sweep c.loop-link.link
-          c.loop-link.front.rows c.loop-link.front.awaited.items at.at c.requires.change.shape
+          c.loop-link.front.kept.now c.loop-link.front.awaited.items at.at c.requires.change.shape
           (omega (arith, ap length c.links-link-end.ensures.value));
       own = at.own;
       steps = at.steps;

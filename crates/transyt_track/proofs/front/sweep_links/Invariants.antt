@@ -2,14 +2,13 @@
 use Rattle.std.proofs.Common.{◌≡◌, ◌+◌}
 use Rattle.transyt_track.specs.Due.{due_in}
 use Rattle.transyt_track.specs.Change.{IsFront}
-use Rattle.transyt_saved.specs.Saved.{Carries}
 use Rattle.transyt_track.proofs.front.sweep_links.Given as goal
 
 -- those so far had their turn, in a step for each that was due
 abbrev pub invariant-loop-link : goal.invariant-loop-link
 invariant-loop-link g l = record {
   front : IsFront l.change l.sweep l.link l.front;
-  carries : Carries l.fn.front.rows l.fn.front.saved l.front.rows l.front.saved;
+  marked : l.front.kept.marked ≡ l.fn.front.kept.marked;
   count : l.count ≡ due_in l.change.before.now l.change.after.now l.sweep l.link;
   steps : l.steps ≡ l.fn.steps + l.count;
 }

@@ -10,7 +10,7 @@ use Rattle.transyt_track.proofs.front.turn.Goals as goal
 pub leave-requires-clause-shown : goal.leave-requires-clause-shown
 leave-requires-clause-shown g c = λ last.
     shown_now c.args.change.now.after.now (evaluated c.args.change.now.after.now) (evaluated c.args.change.now.before.now) c.args.sweep c.args.link
-    c.args.front.now.rows c.requires.front.at.shown (sym last) c.requires.link
+    c.args.front.now.kept.now c.requires.front.at.shown (sym last) c.requires.link
 
 pub returns-then-is_awaited-clause-count : goal.returns-then-is_awaited-clause-count
 returns-then-is_awaited-clause-count g c =
@@ -18,7 +18,7 @@ returns-then-is_awaited-clause-count g c =
     let b = c.args.change.now.after.now in
     let flags = c.args.front.now.awaited.items in
     let due : is_due a b c.args.sweep c.args.link ≡ true =
-    sym (flag_tells a b c.args.sweep c.args.link c.args.front.now.rows flags c.requires.front.at c.requires.link)
+    sym (flag_tells a b c.args.sweep c.args.link c.args.front.now.kept.now flags c.requires.front.at c.requires.link)
     ∙ ap (λ (up : List Bool). flag up c.args.link) (sym c.deref.ensures.value)
     ∙ sym c.is_awaited.ensures
     ∙ c.if-is_awaited.true in
@@ -31,12 +31,12 @@ returns-else-is_awaited-clause-front g c =
     let b = c.args.change.now.after.now in
     let flags = c.args.front.now.awaited.items in
     let none : is_due a b c.args.sweep c.args.link ≡ false =
-    sym (flag_tells a b c.args.sweep c.args.link c.args.front.now.rows flags r.front.at r.link)
+    sym (flag_tells a b c.args.sweep c.args.link c.args.front.now.kept.now flags r.front.at r.link)
     ∙ ap (λ (up : List Bool). flag up c.args.link) (sym c.deref.ensures.value)
     ∙ sym c.is_awaited.ensures
     ∙ c.if-is_awaited.false in
     record {
-      at = rw c.leave.ensures.value (turned_left a b c.args.sweep c.args.link c.args.front.now.rows flags r.front.at
+      at = rw c.leave.ensures (turned_left a b c.args.sweep c.args.link c.args.front.now.kept.now flags r.front.at
           r.change.shape r.first r.last r.link none);
       own = r.front.own;
       steps = r.front.steps;
@@ -49,7 +49,7 @@ returns-else-is_awaited-clause-count g c =
     let b = c.args.change.now.after.now in
     let flags = c.args.front.now.awaited.items in
     let none : is_due a b c.args.sweep c.args.link ≡ false =
-    sym (flag_tells a b c.args.sweep c.args.link c.args.front.now.rows flags r.front.at r.link)
+    sym (flag_tells a b c.args.sweep c.args.link c.args.front.now.kept.now flags r.front.at r.link)
     ∙ ap (λ (up : List Bool). flag up c.args.link) (sym c.deref.ensures.value)
     ∙ sym c.is_awaited.ensures
     ∙ c.if-is_awaited.false in

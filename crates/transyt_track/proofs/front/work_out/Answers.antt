@@ -7,9 +7,9 @@ use Rattle.std.specs.Cmp.Lexicographic.{same_text}
 use Rattle.std.proofs.lemmas.Bool.{or_parts}
 use Rattle.std.proofs.lemmas.List.{get_or_default}
 use Rattle.transyt_net.specs.Parts.{link_of}
-use Rattle.transyt_sweep.specs.Cell.{CellValue, HasSteps}
+use Rattle.transyt_sweep.specs.Cell.{CellValue, HasSteps, worked}
 use Rattle.transyt_sweep.specs.Sweeps.{out_of, worked_at}
-use Rattle.transyt_sweep.specs.Rows.{read_in, out_at}
+use Rattle.transyt_sweep.specs.Rows.{RowsValue, read_in, out_at}
 use Rattle.transyt_sweep.proofs.StepLaws.{worked_steps}
 use Rattle.transyt_sweep.proofs.FrontLaws.{cell_is}
 use Rattle.transyt_track.specs.Due.{differs}
@@ -24,12 +24,13 @@ use Rattle.transyt_track.proofs.front.work_out.Goals as goal
 
 pub differ-differs-requires : goal.differ-differs-requires
 differ-differs-requires g c =
-    let read = read_in c.args.front.now.rows c.args.sweep c.args.link in
-    let worked : HasSteps c.args.change.now.after.now.frame.step_count c.cell.new.scratch =
+    let read = read_in c.rows-rows.result.now c.args.sweep c.args.link in
+    let long : HasSteps c.args.change.now.after.now.frame.step_count c.cell.new.scratch =
     subst (HasSteps c.args.change.now.after.now.frame.step_count) (sym c.cell.ensures.value)
     (worked_steps c.args.change.now.after.now read c.args.link) in
-    as_long c.out.result.now c.out-2.result.now c.args.front.now.rows.step_count c.out.ensures.steps
-    c.cell.new.scratch.out c.out-2.ensures (worked.out ∙ sym c.requires.front.at.outs.fits.step_count)
+    as_long c.out.result.now c.out-2.result.now c.rows-rows.result.now.step_count c.out.ensures.steps
+    c.cell.new.scratch.out c.out-2.ensures
+    (long.out ∙ sym c.requires.front.at.outs.fits.step_count ∙ sym (ap (λ (r : RowsValue). r.step_count) c.rows-rows.ensures))
 
 pub bounds-readers-link : goal.bounds-readers-link
 bounds-readers-link g c =
@@ -66,19 +67,20 @@ go_may_differ-go_differs-requires-clause-count g c = ap length c.deref-2.ensures
 
 pub place-requires-clause-steps : goal.place-requires-clause-steps
 place-requires-clause-steps g c =
-    let read = read_in c.args.front.now.rows c.args.sweep c.args.link in
+    let read = read_in c.rows-rows.result.now c.args.sweep c.args.link in
     subst (λ n. HasSteps n c.cell.new.scratch) (sym c.requires.front.at.outs.fits.step_count)
     (subst (HasSteps c.args.change.now.after.now.frame.step_count) (sym c.cell.ensures.value)
     (worked_steps c.args.change.now.after.now read c.args.link))
 
 pub place-requires-clause-out_same : goal.place-requires-clause-out_same
 place-requires-clause-out_same g c = λ same.
-    let rows = c.args.front.now.rows in
+    let rows = c.args.front.now.kept.now in
     let s = c.args.sweep in
     let l = c.args.link in
     let told : c.differ-differs.result ≡ not (bytes_eq (out_at rows s l) c.cell.new.scratch.out) =
     c.differ-differs.ensures
     ∙ ap (λ x. not (bytes_eq x c.out-2.result.now)) c.out.ensures.value
+    ∙ ap (λ (r : RowsValue). not (bytes_eq (out_at r s l) c.out-2.result.now)) c.rows-rows.ensures
     ∙ ap (λ x. not (bytes_eq (out_at rows s l) x)) c.out-2.ensures in
     same_text (out_at rows s l) c.cell.new.scratch.out
     (sym (not_false (bytes_eq (out_at rows s l) c.cell.new.scratch.out) (sym told ∙ same)))
@@ -90,13 +92,13 @@ place-requires-clause-go_same g c = λ last same.
     let b = c.args.change.now.after.now in
     let s = c.args.sweep in
     let l = c.args.link in
-    let rows = c.args.front.now.rows in
+    let rows = c.args.front.now.kept.now in
     let parts = or_parts (flag c.args.front.now.own_changed.items l) (is_some (link_of b l).gives_way)
     (ap (λ (up : List Bool). flag up l || is_some (link_of b l).gives_way) (sym c.deref-2.ensures.value)
     ∙ sym c.go_may_differ-go_differs.ensures
     ∙ same) in
     let made : c.cell.new.scratch ≡ worked_at b s l =
-    c.cell.ensures.value ∙ cell_is b (out_of a) s l rows r.front.at.outs r.first r.last r.link in
+    c.cell.ensures.value ∙ ap (λ (r : RowsValue). worked b (read_in r s l) l) c.rows-rows.ensures ∙ cell_is b (out_of a) s l rows r.front.at.outs r.first r.last r.link in
     go_stays a b s l rows c.args.front.now.awaited.items r.front.at r.change.shape r.link (sym last)
     (sym (r.front.own.flagged l r.link) ∙ parts.0) parts.1
     ∙ sym (ap (λ (v : CellValue). v.go) made)
@@ -108,16 +110,17 @@ returns-clause-front g c =
     let b = c.args.change.now.after.now in
     let s = c.args.sweep in
     let l = c.args.link in
-    let rows = c.args.front.now.rows in
+    let rows = c.args.front.now.kept.now in
     let awaited = c.args.front.now.awaited.items in
     let readers = c.args.change.now.readers.now in
     let rs = c.index-readers-link.result in
     let links = shape_count a b r.change.shape in
     let made : c.cell.new.scratch ≡ worked_at b s l =
-    c.cell.ensures.value ∙ cell_is b (out_of a) s l rows r.front.at.outs r.first r.last r.link in
+    c.cell.ensures.value ∙ ap (λ (r : RowsValue). worked b (read_in r s l) l) c.rows-rows.ensures ∙ cell_is b (out_of a) s l rows r.front.at.outs r.first r.last r.link in
     let told : c.differ-differs.result ≡ not (bytes_eq (out_at rows s l) c.cell.new.scratch.out) =
     c.differ-differs.ensures
     ∙ ap (λ x. not (bytes_eq x c.out-2.result.now)) c.out.ensures.value
+    ∙ ap (λ (r : RowsValue). not (bytes_eq (out_at r s l) c.out-2.result.now)) c.rows-rows.ensures
     ∙ ap (λ x. not (bytes_eq (out_at rows s l) x)) c.out-2.ensures in
     let moved : c.differ-differs.result ≡ differs a b s l =
     differs_told a b s l rows awaited r.front.at r.change.shape r.first r.last r.link c.cell.new.scratch made c.differ-differs.result

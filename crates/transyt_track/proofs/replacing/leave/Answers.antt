@@ -2,19 +2,20 @@
 use Rattle.std.proofs.Common.{◌≡◌, IsTrue, sym, ap, ◌∙◌, arith, rules, if◌then◌else◌}
 use Rattle.transyt_parts.specs.declared.frame.Frame.{Frame}
 use Rattle.transyt_sweep.specs.Cell.{CellValue}
-use Rattle.transyt_sweep.specs.Rows.{with_weights}
+use Rattle.transyt_sweep.specs.Rows.{RowsValue, with_weights}
 use Rattle.transyt_track.proofs.FrontLaws.{same_test}
 use Rattle.transyt_track.proofs.LeftLaws.{weights_stay}
 use Rattle.transyt_track.proofs.replacing.leave.Goals as goal
 
-pub returns-else-not-same_weights-clause-value : goal.returns-else-not-same_weights-clause-value
-returns-else-not-same_weights-clause-value c =
+pub returns-else-not-same_weights : goal.returns-else-not-same_weights
+returns-else-not-same_weights c =
     let b = c.args.change.now.after.now in
     let l = c.args.link in
-    let rows = c.args.rows.now in
+    let rows = c.args.kept.now.now in
     let sweeps : c.frame.result.sweeps ≡ b.frame.sweeps = ap (λ (f : Frame). f.sweeps) c.frame.ensures.value in
     let last : c.args.sweep ≡ b.frame.sweeps = omega (arith, c.if-sweep-frame.false, sweeps) in
     let told : IsTrue c.same_weights.result = search rules in
-    sym (ap (λ w. if w then with_weights rows b l else rows) (same_test c.args.sweep b.frame.sweeps (sym last))
+    ap (λ (r : RowsValue). record c.args.kept.now { now = r })
+    (sym (ap (λ w. if w then with_weights rows b l else rows) (same_test c.args.sweep b.frame.sweeps (sym last))
     ∙ weights_stay c.args.change.now.before.now b l rows c.requires.change.shape (c.same_weights.ensures.0 told)
-    (ap (λ (v : CellValue). v.figures) (c.requires.shown last)))
+    (ap (λ (v : CellValue). v.figures) (c.requires.shown last))))

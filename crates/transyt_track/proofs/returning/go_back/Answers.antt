@@ -1,20 +1,19 @@
--- What was saved is there again, and what wasn't never changed but for the weights.
-use Rattle.std.proofs.Common.{◌∙◌}
-use Rattle.transyt_track.proofs.BackLaws.{back_end, unsaved_end}
+-- The rows of the mark are there again.
+use Rattle.std.proofs.Common.{sym, ◌∙◌}
+use Rattle.std.proofs.lemmas.Option.{same_Some}
+use Rattle.transyt_saved.specs.Saved.{by_link}
+use Rattle.transyt_track.specs.Kept.{evaluation_of}
+use Rattle.transyt_track.proofs.EvaluationLaws.{by_link_evaluation}
+use Rattle.transyt_track.proofs.MixedLaws.{fits_same}
 use Rattle.transyt_track.proofs.TrackLaws.{fits_shape}
 use Rattle.transyt_track.proofs.returning.go_back.Goals as goal
 
-pub weigh_all-requires-clause-unsaved : goal.weigh_all-requires-clause-unsaved
-weigh_all-requires-clause-unsaved c =
-    unsaved_end c.args.net.now c.args.saved.now c.restore.new.self c.args.rows.now c.restore.new.rows c.requires.rows
-    c.restore.ensures.rows c.restore.ensures.saved
-
-pub weigh_all-requires-clause-weighed : goal.weigh_all-requires-clause-weighed
-weigh_all-requires-clause-weighed c =
-    back_end c.args.marked.now c.args.saved.now c.args.rows.now c.restore.new.rows
-    (fits_shape c.args.net.now c.args.marked.now c.requires.shape c.args.rows.now c.requires.rows.fits)
-    c.requires.back c.requires.live c.restore.ensures.rows
-
-pub weigh_all-requires-clause-links : goal.weigh_all-requires-clause-links
-weigh_all-requires-clause-links c =
-    c.restore.ensures.saved.link_count ∙ c.requires.fits.links ∙ c.requires.rows.fits.link_count
+pub returns-clause-rows : goal.returns-clause-rows
+returns-clause-rows c =
+    let net = c.args.marked.now in
+    let old = c.args.kept.now.now in
+    let new = c.restore.new.self.now in
+    by_link_evaluation net new
+    (fits_same net new old c.restore.ensures.size
+    (fits_shape c.args.net.now net c.requires.shape old c.requires.rows.fits))
+    (same_Some (by_link new) (evaluation_of net) (sym c.restore.ensures.rows ∙ c.requires.marked))

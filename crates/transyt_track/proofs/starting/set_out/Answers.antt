@@ -12,8 +12,8 @@ returns-in-Some-clause-front c =
     let differ : DifferAt c.in-Some.node a b =
     subst (λ o. IfSome o (λ place. DifferAt place a b)) c.in-Some.is c.requires.change.node in
     record {
-      at = subst (AreAt a b 1 0 c.args.front.now.rows) (sym (c.copy_from_slice.ensures.items ∙ c.deref.ensures.value))
-          (set_out_at a b c.requires.change.shape differ.links c.args.front.now.rows c.flag_node.new.own_changed.items c.requires.rows
+      at = subst (AreAt a b 1 0 c.args.front.now.kept.now) (sym (c.copy_from_slice.ensures.items ∙ c.deref.ensures.value))
+          (set_out_at a b c.requires.change.shape differ.links c.args.front.now.kept.now c.flag_node.new.own_changed.items c.requires.rows
           c.flag_node.ensures (omega (arith, c.frame.ensures.valid.sound.frame.sweeps)));
       own = c.flag_node.ensures;
       steps = c.requires.room.steps;
@@ -22,7 +22,7 @@ returns-in-Some-clause-front c =
 pub returns-in-None-clause-front : goal.returns-in-None-clause-front
 returns-in-None-clause-front c =
     record {
-      at = started_end c.args.change.now.before.now c.args.change.now.after.now c.requires.change.shape _ c.start_links.new.front.rows
+      at = started_end c.args.change.now.before.now c.args.change.now.after.now c.requires.change.shape _ c.start_links.new.front.kept.now
           c.start_links.new.front.awaited.items c.await_first.new.awaited.items refl c.start_links.ensures.starting
           c.await_first.ensures;
       own = c.flag_own.ensures;

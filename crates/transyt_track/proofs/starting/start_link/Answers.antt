@@ -9,7 +9,7 @@ returns-then-moves-clause-starting c =
     let a = c.args.change.now.before.now in
     let b = c.args.change.now.after.now in
     let flags = c.args.front.now.awaited.items in
-    let made = started_put a b r.change.shape c.args.link c.args.front.now.rows flags r.starting r.link r.some c.start.ensures.kept
+    let made = started_put a b r.change.shape c.args.link c.args.front.now.kept.now flags r.starting r.link r.some c.start.ensures.rows
     (sym r.moves ∙ c.if-moves.true) in
     rw (c.start.ensures.value, c.if-moves.true) made
 
@@ -19,6 +19,6 @@ returns-else-moves-clause-starting c =
     let a = c.args.change.now.before.now in
     let b = c.args.change.now.after.now in
     let flags = c.args.front.now.awaited.items in
-    let made = started_left a b r.change.shape c.args.link c.args.front.now.rows flags r.starting r.link r.some
+    let made = started_left a b r.change.shape c.args.link c.args.front.now.kept.now flags r.starting r.link r.some
     (sym r.moves ∙ c.if-moves.false) in
     rw c.if-moves.false made

@@ -1,5 +1,5 @@
 -- One link more, and at the end all of them.
-use Rattle.std.proofs.Common.{◌≡◌, ◌<◌, not, length, ap, sym, subst, ◌∙◌, arith}
+use Rattle.std.proofs.Common.{◌≡◌, ◌<◌, not, length, refl, ap, sym, subst, ◌∙◌, arith}
 use Rattle.std.proofs.lemmas.List.{length-set}
 use Rattle.transyt_sweep.specs.Cell.{CellValue}
 use Rattle.transyt_track.specs.Own.{HaveData}
@@ -7,18 +7,17 @@ use Rattle.transyt_track.specs.Front.{AreStarting}
 use Rattle.transyt_track.proofs.ChangeLaws.{down_more, not_down}
 use Rattle.transyt_track.proofs.PlaceLaws.{place_read}
 use Rattle.transyt_track.proofs.ShapeLaws.{shape_count, shape_places}
-use Rattle.transyt_saved.proofs.CarryLaws.{carries_same, carries_more}
 use Rattle.transyt_track.proofs.StartLaws.{total_start, started_none}
 use Rattle.transyt_track.proofs.starting.start_links.Goals as goal
 
 pub loop-link-init : goal.loop-link-init
 loop-link-init c = record {
-  starting = started_none c.args.change.now.before.now c.args.change.now.after.now c.requires.change.shape c.args.front.now.rows c.args.front.now.awaited.items
+  starting = started_none c.args.change.now.before.now c.args.change.now.after.now c.requires.change.shape c.args.front.now.kept.now c.args.front.now.awaited.items
       c.requires.rows c.requires.room.count;
   own_count = c.requires.room.own_count;
   down = λ m none. absurd (omega arith);
   steps = c.requires.room.steps;
-  carries = carries_same c.args.front.now.rows c.args.front.now.saved c.requires.fits;
+  marked = refl;
 }
 
 pub start_link-requires-clause-moves : goal.start_link-requires-clause-moves
@@ -38,15 +37,14 @@ loop-link-preserved c = record {
       (not_down c.same_data-same.result (HaveData c.args.change.now.before.now c.args.change.now.after.now c.loop-link.link)
       c.same_data-same.ensures));
   steps = ap (λ (s : CellValue). length s.arrivals) c.start_link.ensures.scratch ∙ c.loop-link.invariant.steps;
-  carries = carries_more c.args.front.now.rows c.args.front.now.saved c.loop-link.front.rows c.loop-link.front.saved c.start_link.new.front.rows
-      c.start_link.new.front.saved c.loop-link.invariant.carries c.start_link.ensures.carries;
+  marked = c.start_link.ensures.marked ∙ c.loop-link.invariant.marked;
 }
 
 pub returns-clause-starting : goal.returns-clause-starting
 returns-clause-starting c =
     let b = c.args.change.now.after.now in
     let all : c.loop-link.link ≡ length b.links = omega (arith, ap length c.links-link-end.ensures.value) in
-    subst (λ l. AreStarting c.args.change.now.before.now b l c.loop-link.front.rows c.loop-link.front.awaited.items) all
+    subst (λ l. AreStarting c.args.change.now.before.now b l c.loop-link.front.kept.now c.loop-link.front.awaited.items) all
     c.loop-link.invariant.starting
 
 pub returns-clause-totals : goal.returns-clause-totals

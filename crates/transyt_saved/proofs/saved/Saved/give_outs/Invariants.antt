@@ -1,18 +1,17 @@
--- What leaves is what was saved as far as the pair, and nothing else is written.
-use Rattle.std.proofs.Common.{◌≡◌}
-use Rattle.transyt_sweep.specs.Rows.{out_at}
-use Rattle.transyt_sweep.specs.Front.{AreMixed}
-use Rattle.transyt_saved.specs.Saved.{old_out}
+-- The pairs so far were given back.
+use Rattle.std.proofs.Common.{◌≡◌, ◌<◌, ℕ, true, false, length}
+use Rattle.transyt_sweep.specs.Front.{is_before}
+use Rattle.transyt_saved.specs.Saved.{is_out_saved, GivesBack}
 use Rattle.transyt_saved.proofs.saved.Saved.give_outs.Given as goal
 
 abbrev pub invariant-loop-sweep : goal.invariant-loop-sweep
 invariant-loop-sweep l = record {
-  outs : AreMixed l.net (old_out l.self l.fn.rows) (out_at l.fn.rows) l.sweep 0 l.rows;
-  rest : l.rows ≡ record l.fn.rows { outs = l.rows.outs };
+  back : GivesBack l.fn.rows l.fn.self l.rows l.self;
+  down : (t k : ℕ) → k < length l.net.links → is_before t k l.sweep 0 ≡ true → is_out_saved l.self t k ≡ false;
 }
 
 abbrev pub invariant-loop-link : goal.invariant-loop-link
 invariant-loop-link l = record {
-  outs : AreMixed l.net (old_out l.self l.fn.rows) (out_at l.fn.rows) l.sweep l.link l.rows;
-  rest : l.rows ≡ record l.fn.rows { outs = l.rows.outs };
+  back : GivesBack l.fn.rows l.fn.self l.rows l.self;
+  down : (t k : ℕ) → k < length l.net.links → is_before t k l.sweep l.link ≡ true → is_out_saved l.self t k ≡ false;
 }

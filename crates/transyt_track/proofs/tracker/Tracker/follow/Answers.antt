@@ -17,9 +17,9 @@ invariant_of-self g c =
     let say = c.follow_rows-due.ensures in
     let same : SameShape i.net c.args.after.now = ap (λ (t : TrackerValue). shape t.net) c.self.view_is ∙ c.requires in
     rw c.take_numbers.ensures
-    (followed_tracks i.net i.marked i.front.rows i.front.saved i.places.items i.readers.items i.front.own_changed.items i.front.awaited.items i.front.scratch
-    c.self.invariant c.args.after.now same new.front.rows new.front.saved new.front.own_changed.items new.front.awaited.items new.front.scratch
-    say.rows say.carries
+    (followed_tracks i.net i.marked i.front.kept i.places.items i.readers.items i.front.own_changed.items i.front.awaited.items i.front.scratch
+    c.self.invariant c.args.after.now same new.front.kept new.front.own_changed.items new.front.awaited.items new.front.scratch
+    say.rows say.marked
     say.room.own_count say.room.count say.room.steps)
 
 pub returns-clause-due : goal.returns-clause-due

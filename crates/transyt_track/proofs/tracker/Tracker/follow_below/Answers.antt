@@ -1,35 +1,28 @@
 -- The rows are those of the network with the edit made, or those from before it.
-use Rattle.std.proofs.Common.{◌≡◌, IfSome, refl, ap, sym, subst, if◌then◌else◌, nat_lt, ◌∙◌}
+use Rattle.std.proofs.Common.{◌≡◌, IfSome, Some, ap, sym, subst, if◌then◌else◌, nat_lt, ◌∙◌}
 use Rattle.transyt_parts.specs.declared.frame.Frame.{Frame}
 use Rattle.transyt_net.specs.Shape.{shape, SameShape}
 use Rattle.transyt_net.specs.Edits.{with_edit}
 use Rattle.transyt_track.specs.Own.{ArePlaces, DifferAt}
+use Rattle.transyt_sweep.specs.Rows.{index_in}
 use Rattle.transyt_sweep.specs.Sweeps.{index}
 use Rattle.transyt_sweep.proofs.IndexLaws.{index_is}
-use Rattle.transyt_saved.specs.Saved.{Carries, begun, settled}
+use Rattle.transyt_saved.specs.Saved.{KeptValue, by_link}
 use Rattle.transyt_track.specs.Due.{due}
 use Rattle.transyt_track.specs.Readers.{AreReaders}
 use Rattle.transyt_track.specs.Tracker.{TrackerValue, IsTracking}
 use Rattle.transyt_track.proofs.ShapeLaws.{shape_frame, shape_count}
+use Rattle.transyt_track.proofs.EvaluationLaws.{evaluation_by_link}
 use Rattle.transyt_track.proofs.TrackLaws.{begun_tracks, followed_tracks, closed_tracks}
 use Rattle.transyt_track.proofs.tracker.Tracker.follow_below.Goals as goal
 
-pub settle_on-requires-clause-live : goal.settle_on-requires-clause-live
-settle_on-requires-clause-live g c =
-    c.follow_rows-due.ensures.carries.live ∙ ap (λ s. s.live) c.begin.ensures
-
-pub settle_on-requires-clause-back : goal.settle_on-requires-clause-back
-settle_on-requires-clause-back g c =
+-- the mark has the rows of the network from before the edit
+pub settle_on-requires-clause-marked : goal.settle_on-requires-clause-marked
+settle_on-requires-clause-marked g c =
     let i = c.self.inside in
-    let new = c.follow_rows-due.new in
-    let say = c.follow_rows-due.ensures in
-    let same : SameShape i.net c.args.after.now =
-    ap (λ (t : TrackerValue). shape t.net) c.self.view_is ∙ c.requires.shape in
-    (followed_tracks i.net i.net i.front.rows (begun i.front.saved) i.places.items i.readers.items i.front.own_changed.items i.front.awaited.items i.front.scratch
-    (begun_tracks i.net i.marked i.front.rows i.front.saved i.places.items i.readers.items i.front.own_changed.items i.front.awaited.items i.front.scratch
-    c.self.invariant) c.args.after.now same new.front.rows new.front.saved new.front.own_changed.items new.front.awaited.items new.front.scratch
-    say.rows (subst (λ s. Carries i.front.rows s new.front.rows new.front.saved) c.begin.ensures say.carries)
-    say.room.own_count say.room.count say.room.steps).back
+    c.follow_rows-due.ensures.marked
+    ∙ ap (λ (k : KeptValue). k.marked) c.begin.ensures
+    ∙ ap Some (evaluation_by_link i.net i.front.kept.now c.self.invariant.evaluation)
 
 pub invariant_of-self : goal.invariant_of-self
 invariant_of-self g c =
@@ -37,33 +30,35 @@ invariant_of-self g c =
     let new = c.follow_rows-due.new in
     let say = c.follow_rows-due.ensures in
     let end = c.settle_on.ensures in
+    let was = c.self.invariant in
     let same : SameShape i.net c.args.after.now =
     ap (λ (t : TrackerValue). shape t.net) c.self.view_is ∙ c.requires.shape in
-    let followed : IsTracking c.args.after.now i.net new.front.rows new.front.saved i.places.items i.readers.items new.front.own_changed.items
-    new.front.awaited.items new.front.scratch =
-    followed_tracks i.net i.net i.front.rows (begun i.front.saved) i.places.items i.readers.items i.front.own_changed.items i.front.awaited.items i.front.scratch
-    (begun_tracks i.net i.marked i.front.rows i.front.saved i.places.items i.readers.items i.front.own_changed.items i.front.awaited.items i.front.scratch
-    c.self.invariant) c.args.after.now same new.front.rows new.front.saved new.front.own_changed.items new.front.awaited.items new.front.scratch
-    say.rows (subst (λ s. Carries i.front.rows s new.front.rows new.front.saved) c.begin.ensures say.carries)
-    say.room.own_count say.room.count say.room.steps in
-    rw c.settle.ensures
-    (closed_tracks c.args.after.now i.net new.front.rows new.front.saved i.places.items i.readers.items new.front.own_changed.items new.front.awaited.items
-    new.front.scratch followed c.settle_on.new.net i.marked end.shape (sym end.shape ∙ sym same ∙ c.self.invariant.shape)
-    c.settle_on.new.rows end.rows (settled c.settle_on.new.saved) refl end.saved.size end.saved.link_count)
+    let followed : IsTracking c.args.after.now i.net new.front.kept i.places.items i.readers.items
+    new.front.own_changed.items new.front.awaited.items new.front.scratch =
+    followed_tracks i.net i.net (record i.front.kept { marked = Some (by_link i.front.kept.now) }) i.places.items
+    i.readers.items i.front.own_changed.items i.front.awaited.items i.front.scratch
+    (begun_tracks i.net i.marked i.front.kept i.places.items i.readers.items i.front.own_changed.items
+    i.front.awaited.items i.front.scratch was)
+    c.args.after.now same new.front.kept new.front.own_changed.items new.front.awaited.items new.front.scratch
+    say.rows (say.marked ∙ ap (λ (k : KeptValue). k.marked) c.begin.ensures) say.room.own_count say.room.count
+    say.room.steps in
+    closed_tracks c.args.after.now i.net new.front.kept i.places.items i.readers.items new.front.own_changed.items
+    new.front.awaited.items new.front.scratch followed c.settle_on.new.net i.marked end.shape
+    (sym end.shape ∙ sym same ∙ was.shape) c.settle_on.new.kept end.rows end.closed
 
 pub returns-clause-net : goal.returns-clause-net
 returns-clause-net g c =
     let after = c.args.after.now in
     let i = c.self.inside in
     let found : c.index-index.result ≡ index after =
-    c.index-index.ensures.value ∙ index_is after c.follow_rows-due.new.front.rows c.follow_rows-due.ensures.rows in
+    c.index-index.ensures.value ∙ ap index_in c.rows.ensures ∙ index_is after c.follow_rows-due.new.front.kept.now c.follow_rows-due.ensures.rows in
     c.settle_on.ensures.net
     ∙ ap (λ x. if nat_lt x c.args.bound then after else i.net) found
     ∙ ap (λ (t : TrackerValue). if nat_lt (index after) c.args.bound then after else t.net) c.self.view_is
 
 pub returns-clause-index : goal.returns-clause-index
 returns-clause-index g c =
-    c.index-index.ensures.value ∙ index_is c.args.after.now c.follow_rows-due.new.front.rows c.follow_rows-due.ensures.rows
+    c.index-index.ensures.value ∙ ap index_in c.rows.ensures ∙ index_is c.args.after.now c.follow_rows-due.new.front.kept.now c.follow_rows-due.ensures.rows
 
 pub returns-clause-due : goal.returns-clause-due
 returns-clause-due g c =

@@ -21,9 +21,9 @@ invariant_of-self g c =
     let made : c.make.new.net ≡ c.args.after.now =
     c.make.ensures ∙ ap (λ (t : TrackerValue). with_edit t.net c.args.e) c.self.view_is ∙ sym c.requires.after in
     rw made
-    (followed_tracks i.net i.marked i.front.rows i.front.saved i.places.items i.readers.items i.front.own_changed.items i.front.awaited.items i.front.scratch
-    c.self.invariant c.args.after.now same new.front.rows new.front.saved new.front.own_changed.items new.front.awaited.items new.front.scratch
-    say.rows say.carries say.room.own_count say.room.count say.room.steps)
+    (followed_tracks i.net i.marked i.front.kept i.places.items i.readers.items i.front.own_changed.items i.front.awaited.items i.front.scratch
+    c.self.invariant c.args.after.now same new.front.kept new.front.own_changed.items new.front.awaited.items new.front.scratch
+    say.rows say.marked say.room.own_count say.room.count say.room.steps)
 
 pub returns-clause-due : goal.returns-clause-due
 returns-clause-due g c =

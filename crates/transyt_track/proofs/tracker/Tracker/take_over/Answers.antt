@@ -1,8 +1,8 @@
 -- The rows are those of the other tracker.
-use Rattle.std.proofs.Common.{◌≡◌, false, refl, ap, sym, ◌∙◌}
+use Rattle.std.proofs.Common.{ap, sym, ◌∙◌}
 use Rattle.transyt_net.specs.Shape.{shape, SameShape}
 use Rattle.transyt_track.specs.Tracker.{TrackerValue}
-use Rattle.transyt_track.proofs.TrackLaws.{fits_shape, not_live_of, closed_tracks}
+use Rattle.transyt_track.proofs.TrackLaws.{fits_shape, no_mark, closed_tracks}
 use Rattle.transyt_track.proofs.tracker.Tracker.take_over.Goals as goal
 
 pub copy_rows-requires-clause-fits : goal.copy_rows-requires-clause-fits
@@ -11,7 +11,12 @@ copy_rows-requires-clause-fits c =
     let same : SameShape i.net c.from.inside.net =
     ap (λ (t : TrackerValue). shape t.net) c.self.view_is ∙ c.requires.shape
     ∙ sym (ap (λ (t : TrackerValue). shape t.net) c.from.view_is) in
-    fits_shape i.net c.from.inside.net same i.front.rows c.self.invariant.evaluation.fits
+    fits_shape i.net c.from.inside.net same i.front.kept.now c.self.invariant.evaluation.fits
+
+pub copy_rows-requires-clause-closed : goal.copy_rows-requires-clause-closed
+copy_rows-requires-clause-closed c =
+    let i = c.self.inside in
+    no_mark i.front.kept.marked i.marked (ap (λ (t : TrackerValue). t.mark) c.self.view_is ∙ c.requires.closed)
 
 pub invariant_of-self : goal.invariant_of-self
 invariant_of-self c =
@@ -19,9 +24,7 @@ invariant_of-self c =
     let same : SameShape i.net c.from.inside.net =
     ap (λ (t : TrackerValue). shape t.net) c.self.view_is ∙ c.requires.shape
     ∙ sym (ap (λ (t : TrackerValue). shape t.net) c.from.view_is) in
-    let closed : i.front.saved.live ≡ false =
-    not_live_of i.front.saved.live i.marked (ap (λ (t : TrackerValue). t.mark) c.self.view_is ∙ c.requires.closed) in
     rw c.take_numbers.ensures
-    (closed_tracks i.net i.marked i.front.rows i.front.saved i.places.items i.readers.items i.front.own_changed.items i.front.awaited.items i.front.scratch
-    c.self.invariant c.from.inside.net i.marked same (sym same ∙ c.self.invariant.shape) c.copy_rows.new.rows
-    c.copy_rows.ensures i.front.saved closed (record { step_count = refl; sweeps = refl; link_count = refl }) refl)
+    (closed_tracks i.net i.marked i.front.kept i.places.items i.readers.items i.front.own_changed.items
+    i.front.awaited.items i.front.scratch c.self.invariant c.from.inside.net i.marked same
+    (sym same ∙ c.self.invariant.shape) c.copy_rows.new.kept c.copy_rows.ensures.rows c.copy_rows.ensures.closed)
