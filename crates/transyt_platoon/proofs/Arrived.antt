@@ -1,7 +1,8 @@
 -- What of a platoon has arrived within two turns round the cycle, while its second turn goes by.
-use Rattle.std.proofs.Common.{◌≡◌, ℕ, ◌+◌, ◌-◌, ◌*◌, ◌%◌, ◌^◌, ◌<◌, ◌≤◌, List, length, get_or}
-use Rattle.std.proofs.Common.{if◌then◌else◌, ltb, ap, sym, ◌∙◌, arith, All}
+use Rattle.std.proofs.Common.{◌≡◌, ℕ, suc, ◌+◌, ◌-◌, ◌*◌, ◌%◌, ◌<◌, ◌≤◌, List, [], ◌∷◌, length, get_or, sum_by}
+use Rattle.std.proofs.Common.{refl, ap, sym, ◌∙◌, arith, All}
 use Rattle.std.proofs.lemmas.List.{get_or_default}
+use Rattle.std.proofs.lemmas.List.Sums.{sum_by-cons}
 use Rattle.std.proofs.Math.Logic.{⊎_elim}
 use Rattle.std.proofs.Math.Nat.{mod-lt, mod-eq_of_lt}
 use Rattle.std.proofs.lemmas.Bool.{cases_lt}
@@ -10,16 +11,11 @@ use Rattle.std.proofs.lemmas.List.FromFn.{get_or-map-range_with_len, length-map-
 use Rattle.transyt_cycle.specs.Cycle.{minus_mod}
 use Rattle.transyt_cycle.proofs.CycleLaws.{minus_mod-above, minus_mod-under}
 use Rattle.transyt_platoon.specs.Platoon.{dispersed_at}
-use Rattle.transyt_platoon.specs.Going.{gone_by}
-use Rattle.transyt_profile.specs.Profile.{added}
-use Rattle.transyt_profile.proofs.AddedLaws.{added_grows}
-use Rattle.transyt_platoon.specs.Travels.{IsReady, arriving, sent}
+use Rattle.transyt_platoon.specs.Arriving.{arriving, sent}
+use Rattle.transyt_platoon.specs.Going.{arrived, arrived_by, brings, gone_by, steps_of}
 use Rattle.transyt_platoon.proofs.Mixing.{smoothed-le}
+use Rattle.transyt_platoon.proofs.Turns.{length-sent}
 use Rattle.transyt_platoon.specs.declared.platoon.Platoon.{Platoon}
-
--- at place j, after i steps of which the first arrives at `first`, where step m brings g m
-abbrev pub arrived_by : (ℕ → ℕ) → ℕ → ℕ → ℕ → ℕ
-arrived_by g first i j = if ltb j first then 0 else (if ltb j (first + i) then g (j - first) else 0)
 
 -- before the first place nothing has arrived
 pub none_before : (g : ℕ → ℕ) (first i j : ℕ) → j < first → arrived_by g first i j ≡ 0
@@ -46,19 +42,17 @@ same_under g first i j under =
     (λ after. some_between g first i j after under ∙ sym (some_between g first (i + 1) j after (omega (arith, under))))
     (cases_lt j first)
 
--- one step more
-pub arrived_more : (g : ℕ → ℕ) (first i n place : ℕ) (old new : List ℕ) (rest : ℕ → ℕ) → place ≡ first
+-- one step more, which is added where it arrives
+pub arrived_more : (g : ℕ → ℕ) (first i place : ℕ) (old new : List ℕ) → place ≡ first
     → get_or new (place + i) 0 ≡ get_or old (place + i) 0 + g i
     → ((j : ℕ) → (j ≡ place + i → ⊥) → get_or new j 0 ≡ get_or old j 0)
-    → ((j : ℕ) → j < n → get_or old j 0 ≡ rest j + arrived_by g first i j)
-    → (j : ℕ) → j < n → get_or new j 0 ≡ rest j + arrived_by g first (i + 1) j
-arrived_more g first i n place old new rest same here others before j inside =
+    → (j : ℕ) → get_or new j 0 + arrived_by g first i j ≡ get_or old j 0 + arrived_by g first (i + 1) j
+arrived_more g first i place old new same here others j =
     ⊎_elim
     (λ (under : j < first + i).
     omega (
       arith,
       others j (λ taken. omega (arith, under, taken, same)),
-      before j inside,
       same_under g first i j under,
     ))
     (λ (over : first + i ≤ j).
@@ -67,7 +61,6 @@ arrived_more g first i n place old new rest same here others before j inside =
     omega (
       arith,
       others j (λ taken. omega (arith, past, taken, same)),
-      before j inside,
       none_after g first i j over,
       none_after g first (i + 1) j (omega (arith, past)),
     ))
@@ -79,7 +72,6 @@ arrived_more g first i n place old new rest same here others before j inside =
       ap (λ k. get_or new k 0) at,
       ap (λ k. get_or old k 0) at,
       here,
-      before j inside,
       none_after g first i j over,
       some_between g first (i + 1) j (omega (arith, over)) (omega (arith, there)) ∙ ap g step,
     ))
@@ -112,37 +104,60 @@ arrived_whole g n t k inside =
     ))
     (cases_lt k (t % n))
 
--- what step m of a platoon's second turn round n steps brings
-abbrev pub brings : ℕ → Platoon → ℕ → ℕ
-brings n p m = gone_by p (n + 1 + m)
-
--- what of a platoon has arrived at place j of two turns after i steps of its second turn
-abbrev pub arrived : ℕ → Platoon → ℕ → ℕ → ℕ
-arrived n p i j = arrived_by (brings n p) (p.travel.now.time % n) i j
-
 -- with the whole turn past, it is what arrives
-pub arriving_at : (p : Platoon) (n i k : ℕ) → length (sent p) ≡ n → i ≡ n → k < n
-    → get_or (arriving p) k 0 ≡ arrived n p i k + arrived n p i (n + k)
-arriving_at p n i k same end inside =
+pub arriving_at : (p : Platoon) (i k : ℕ) → i ≡ steps_of p → k < steps_of p
+    → get_or (arriving p) k 0 ≡ arrived i k p + arrived i (steps_of p + k) p
+arriving_at p i k end inside =
     let t : ℕ = p.travel.now.time in
+    let n : ℕ = steps_of p in
     let xs : List ℕ = sent p in
+    let same : length xs ≡ n = length-sent p in
     let below : k < length xs = omega (arith, same, inside) in
     get_or-map-range_with_len (dispersed_at xs t p.travel.now.percent) 0 (length xs) k k 0 below (omega arith)
-    ∙ sym (arrived_whole (brings (length xs) p) (length xs) t k below)
-    ∙ ap (λ m. arrived m p m k + arrived m p m (m + k)) same
-    ∙ ap (λ m. arrived n p m k + arrived n p m (n + k)) (sym end)
+    ∙ ap (λ m. gone_by p (m + 1 + minus_mod m k t)) same
+    ∙ sym (arrived_whole (brings p) n t k inside)
+    ∙ ap (λ m. arrived m k p + arrived m (n + k) p) (sym end)
+
+-- so is it of each of some platoons
+pub arriving_each : (n i k : ℕ) (ps : List Platoon) → All (λ p. steps_of p ≡ n) ps → i ≡ n → k < n
+    → sum_by (λ p. get_or (arriving p) k 0) ps ≡ sum_by (arrived i k) ps + sum_by (arrived i (n + k)) ps
+arriving_each n i k [] same end inside = refl
+arriving_each n i k (p ∷ ps) same end inside =
+    let own : steps_of p ≡ n = same 0 p (omega arith) in
+    omega (
+      arith,
+      sum_by-cons (λ q. get_or (arriving q) k 0) p ps,
+      sum_by-cons (arrived i k) p ps,
+      sum_by-cons (arrived i (n + k)) p ps,
+      arriving_at p i k (end ∙ sym own) (omega (arith, inside, own)),
+      ap (λ m. arrived i (m + k) p) own,
+      arriving_each n i k ps (λ q d below. same (suc q) d (omega (arith, below))) end inside,
+    )
+
+-- before the first step nothing has arrived
+pub none_arrived : (j : ℕ) (ps : List Platoon) → sum_by (arrived 0 j) ps ≡ 0
+none_arrived j [] = refl
+none_arrived j (p ∷ ps) =
+    omega (
+      arith,
+      sum_by-cons (arrived 0 j) p ps,
+      none_yet (brings p) (p.travel.now.time % steps_of p) j,
+      none_arrived j ps,
+    )
 
 -- as many steps arrive as set out
-length-arriving : (p : Platoon) → length (arriving p) ≡ length (sent p)
+pub length-arriving : (p : Platoon) → length (arriving p) ≡ steps_of p
 length-arriving p =
     length-map-range_with_len (dispersed_at (sent p) p.travel.now.time p.travel.now.percent) 0 (length (sent p))
+    ∙ length-sent p
 
 -- and none is past the bound of those that set out
-arriving_small : (p : Platoon) (b : ℕ) → 0 < length (sent p) → All (λ v. v < b) (sent p) → All (λ v. v < b) (arriving p)
-arriving_small p b some fit k d h =
+pub arriving_small : (p : Platoon) (b : ℕ) → 0 < steps_of p → All (λ v. v < b) (sent p) → All (λ v. v < b) (arriving p)
+arriving_small p b steps fit k d h =
     let t : ℕ = p.travel.now.time in
     let xs : List ℕ = sent p in
-    let below : k < length xs = omega (arith, h, length-arriving p) in
+    let some : 0 < length xs = omega (arith, steps, length-sent p) in
+    let below : k < length xs = omega (arith, h, length-arriving p, length-sent p) in
     let first : get_or xs 0 0 < b = fit 0 0 some in
     let most : All (λ v. v ≤ b - 1) xs = λ n e l. omega (arith, fit n e l) in
     omega (
@@ -152,10 +167,3 @@ arriving_small p b some fit k d h =
       smoothed-le xs (p.travel.now.percent * t) (length xs + 1 + minus_mod (length xs) k t) (b - 1) some most,
       first,
     )
-
--- so a limit on what stood goes up by that of a platoon
-pub arriving_grows : (p : Platoon) (n lane limit : ℕ) (lanes before : List ℕ) → IsReady n lane lanes p → 0 < n
-    → length before ≡ n → All (λ v. v < limit) before → All (λ v. v < limit + 2 ^ 22) (added before (arriving p))
-arriving_grows p n lane limit lanes before is some same within =
-    added_grows before (arriving p) limit (2 ^ 22) (length-arriving p ∙ is.values_len ∙ sym same) within
-    (arriving_small p (2 ^ 22) (omega (arith, some, is.values_len)) (λ k d h. omega (arith, is.fit k d h, is.travel.small)))

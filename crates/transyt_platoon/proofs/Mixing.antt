@@ -44,6 +44,7 @@ use Rattle.std.proofs.Math.Nat.{
 use Rattle.transyt_cycle.specs.Cycle.{minus_mod}
 use Rattle.transyt_cycle.proofs.CycleLaws.{minus_mod-lt, minus_mod-add, turned_apart}
 use Rattle.transyt_platoon.specs.Platoon.{mixed, smoothed, dispersed_at, dispersed}
+use Rattle.transyt_platoon.specs.Turns.{Placed}
 
 -- a mean of two numbers up to m is at most m
 pub mixed-le : (w x z m : ℕ) → x ≤ m → z ≤ m → mixed w x z ≤ m
@@ -118,11 +119,6 @@ dispersed_uniform xs t k v some same =
     ap (λ ys. smoothed ys (k * t) j) same ∙ smoothed_uniform (length xs) v (k * t) j some in
     let there : get_or xs i 0 ≡ v = ap (λ ys. get_or ys i 0) same ∙ get_or-replicate (length xs) i v 0 below in
     there ∙ sym here))
-
--- ys has the first n steps of the second turn in their places
-abbrev pub Placed : List ℕ → List ℕ → ℕ → ℕ → ℕ → Type 0
-Placed xs ys t k n =
-    (m : ℕ) → m < n → get_or ys ((m + t) % length xs) 0 ≡ smoothed xs (k * t) (length xs + 1 + m)
 
 -- with the whole turn placed, step i has what the definition says
 pub placed_at : (xs ys : List ℕ) (t k i : ℕ) → Placed xs ys t k (length xs) → i < length xs

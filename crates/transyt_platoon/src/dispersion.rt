@@ -2,6 +2,7 @@
 
 ghost use Rattle.std.specs.Prelude.{◌≡◌, ℕ, ◌+◌, ◌-◌, ◌*◌, ◌/◌, ◌%◌, ◌^◌, ◌<◌, ◌≤◌, length, replicate, slice_index, sum, All};
 ghost use Rattle.transyt_platoon.specs.Platoon.{mixed, smoothed, dispersed};
+ghost use Rattle.transyt_platoon.specs.Turns.{IsSecondTurn};
 
 use crate::quick::{most_of, travel_by};
 use transyt_profile::total;
@@ -27,51 +28,61 @@ pub fn disperse(x: &[u64], t: u32, percent: u32, out: &mut [u64])
     ensures uniform { (v : ℕ) → x.now ≡ replicate (length x.now) v → out.new ≡ x.now }
 {
     let whole = total(x);
-    let mean = whole / x.len() as u64;
-    let most = most_of(u64::from(percent) * u64::from(t));
-    go_round(x, t, percent, whole, mean, most, out);
+    let journey = Journey {
+        profile: x,
+        time: t,
+        percent,
+        mean: whole / x.len() as u64,
+    };
+    go_round(&journey, whole, out);
 }
 
-/// Twice round the cycle from the mean: by products where the values leave room for them, else by divisions.
-fn go_round(x: &[u64], t: u32, percent: u32, whole: u64, mean: u64, most: u64, out: &mut [u64])
-    requires steps { 0 < length x.now }
-    requires lengths { length x.now ≡ length out.old }
-    requires fit { All (λ v. v < 2 ^ 44) x.now }
-    requires travel { t ≤ 960 }
-    requires percent { percent ≤ 100 }
-    requires mean { mean ≡ sum x.now / length x.now }
-    requires mean_fits { mean < 2 ^ 44 }
-    requires whole { whole ≡ sum x.now }
-    requires most { most * (100 + percent * t) * (100 + percent * t) ≤ 2 ^ 64 }
-    requires most_fits { most < 2 ^ 44 }
-    ensures { (m : ℕ) → m < length x.now → slice_index out.new ((m + t) % length x.now)
-        ≡ smoothed x.now (percent * t) (length x.now + 1 + m) }
+/// A profile that is to be dispersed: how it travels, and the mean from which its first turn starts.
+#[derive(Clone, Copy)]
+pub(crate) struct Journey<'a> {
+    /// One value for each step of the cycle.
+    pub(crate) profile: &'a [u64],
+    /// The travel time in steps.
+    pub(crate) time: u32,
+    /// The dispersion in percent.
+    pub(crate) percent: u32,
+    /// The mean of the profile, rounded down.
+    pub(crate) mean: u64,
+    ghost steps: { 0 < length profile.now },
+    ghost fit: { All (λ v. v < 2 ^ 44) profile.now },
+    ghost time_fits: { time ≤ 960 },
+    ghost percent_fits: { percent ≤ 100 },
+    ghost is_mean: { mean ≡ sum profile.now / length profile.now },
+    ghost mean_fits: { mean < 2 ^ 44 },
+}
+
+/// Twice round the cycle from the mean: by products where the values leave room for them, else by divisions. `whole` is
+/// the sum of the profile.
+fn go_round(journey: &Journey<'_>, whole: u64, out: &mut [u64])
+    requires lengths { length journey.now.profile.now ≡ length out.old }
+    requires whole { whole ≡ sum journey.now.profile.now }
+    ensures { IsSecondTurn journey.now.profile.now journey.now.time journey.now.percent out.new }
 {
-    if whole < most && 0 < percent && 0 < t {
-        travel_by(x, t, percent, mean, most, out);
+    let most = most_of(u64::from(journey.percent) * u64::from(journey.time));
+    if whole < most && 0 < journey.percent && 0 < journey.time {
+        travel_by(journey, most, out);
     } else {
-        travel(x, t, percent, mean, out);
+        travel(journey, out);
     }
 }
 
 /// Twice round the cycle with a division in each step: the second turn is written.
-fn travel(x: &[u64], t: u32, percent: u32, mean: u64, out: &mut [u64])
-    requires steps { 0 < length x.now }
-    requires lengths { length x.now ≡ length out.old }
-    requires fit { All (λ v. v < 2 ^ 44) x.now }
-    requires travel { t ≤ 960 }
-    requires percent { percent ≤ 100 }
-    requires mean { mean ≡ sum x.now / length x.now }
-    requires mean_fits { mean < 2 ^ 44 }
-    ensures { (m : ℕ) → m < length x.now → slice_index out.new ((m + t) % length x.now)
-        ≡ smoothed x.now (percent * t) (length x.now + 1 + m) }
+fn travel(journey: &Journey<'_>, out: &mut [u64])
+    requires lengths { length journey.now.profile.now ≡ length out.old }
+    ensures { IsSecondTurn journey.now.profile.now journey.now.time journey.now.percent out.new }
 {
-    let weight = u64::from(percent) * u64::from(t);
-    let mut value = mean;
+    let x = journey.profile;
+    let weight = u64::from(journey.percent) * u64::from(journey.time);
+    let mut value = journey.mean;
     'first: for i in 0..x.len() {
         value = mix(weight, x[i], value);
     }
-    let mut place = t as usize % x.len();
+    let mut place = journey.time as usize % x.len();
     'second: for i in 0..x.len() {
         value = mix(weight, x[i], value);
         out[place] = value;

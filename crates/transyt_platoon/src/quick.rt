@@ -1,9 +1,10 @@
 //! The dispersion of a platoon by products in place of quotients.
 
 ghost use Rattle.std.specs.Prelude.{◌≡◌, ℕ, ◌+◌, ◌*◌, ◌/◌, ◌%◌, ◌^◌, ◌<◌, ◌≤◌, length, slice_index, sum};
-ghost use Rattle.transyt_platoon.specs.Platoon.{mixed, smoothed};
+ghost use Rattle.transyt_platoon.specs.Platoon.{mixed};
+ghost use Rattle.transyt_platoon.specs.Turns.{IsSecondTurn};
 
-use crate::dispersion::after;
+use crate::dispersion::{Journey, after};
 use transyt_num::reciprocal;
 
 /// A number below which a `Mixer` mixes values with `weight`.
@@ -76,27 +77,23 @@ impl Mixer {
 }
 
 /// Twice round the cycle by products, where the sum of the profile is below `most`: the second turn is written.
-pub(crate) fn travel_by(x: &[u64], t: u32, percent: u32, mean: u64, most: u64, out: &mut [u64])
-    requires steps { 0 < length x.now }
-    requires lengths { length x.now ≡ length out.old }
-    requires fit { sum x.now < most }
-    requires most { most * (100 + percent * t) * (100 + percent * t) ≤ 2 ^ 64 }
+pub(crate) fn travel_by(journey: &Journey<'_>, most: u64, out: &mut [u64])
+    requires lengths { length journey.now.profile.now ≡ length out.old }
+    requires fit { sum journey.now.profile.now < most }
+    requires most { most * (100 + journey.now.percent * journey.now.time)
+        * (100 + journey.now.percent * journey.now.time) ≤ 2 ^ 64 }
     requires most_fits { most < 2 ^ 44 }
-    requires some_travel { 0 < t }
-    requires travel { t ≤ 960 }
-    requires some_percent { 0 < percent }
-    requires percent { percent ≤ 100 }
-    requires mean { mean ≡ sum x.now / length x.now }
-    requires mean_fits { mean < most }
-    ensures { (m : ℕ) → m < length x.now → slice_index out.new ((m + t) % length x.now)
-        ≡ smoothed x.now (percent * t) (length x.now + 1 + m) }
+    requires some_travel { 0 < journey.now.time }
+    requires some_percent { 0 < journey.now.percent }
+    ensures { IsSecondTurn journey.now.profile.now journey.now.time journey.now.percent out.new }
 {
-    let mixer = Mixer::new(u64::from(percent) * u64::from(t), most);
-    let mut value = mean;
+    let x = journey.profile;
+    let mixer = Mixer::new(u64::from(journey.percent) * u64::from(journey.time), most);
+    let mut value = journey.mean;
     'first: for i in 0..x.len() {
         value = mixer.mix(x[i], value);
     }
-    let mut place = t as usize % x.len();
+    let mut place = journey.time as usize % x.len();
     'second: for i in 0..x.len() {
         value = mixer.mix(x[i], value);
         out[place] = value;

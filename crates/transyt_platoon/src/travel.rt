@@ -43,7 +43,7 @@ pub struct Travel {
 }
 
 /// A travel of `time` steps at `percent` dispersion round a cycle of `step_count` steps, made ready for
-/// `disperse_three` and `disperse_four`.
+/// `disperse_together`.
 #[tactic(auto, using(transyt_num::proofs::ReciprocalLaws::reciprocal_least, transyt_num::proofs::ReciprocalLaws::reciprocal_close))]
 pub fn travel_of(time: u32, percent: u32, step_count: usize) -> Travel
     requires steps { 0 < step_count }

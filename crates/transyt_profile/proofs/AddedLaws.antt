@@ -1,7 +1,9 @@
 -- The sum of profiles, step by step.
-use Rattle.std.proofs.Common.{◌≡◌, ℕ, ◌+◌, ◌-◌, ◌*◌, ◌<◌, ◌≤◌, List, length, get_or, ap, ◌∙◌, sym, arith}
+use Rattle.std.proofs.Common.{◌≡◌, ℕ, suc, ◌+◌, ◌-◌, ◌*◌, ◌<◌, ◌≤◌, List, [], ◌∷◌, length, get_or, fold, sum_by}
+use Rattle.std.proofs.Common.{ap, ◌∙◌, sym, arith}
 use Rattle.std.specs.List.{All}
-use Rattle.std.proofs.lemmas.List.{get_or_default}
+use Rattle.std.proofs.lemmas.List.{ext_get_or, get_or_default}
+use Rattle.std.proofs.lemmas.List.Sums.{sum_by-cons}
 use Rattle.std.proofs.lemmas.List.FromFn.{fill_by_all, get_or-map-range_with_len, length-map-range_with_len}
 use Rattle.std.proofs.Math.Logic.{⊎_elim}
 use Rattle.std.proofs.lemmas.Bool.{cases_lt}
@@ -69,38 +71,34 @@ folded_each n turns limit within same k d h =
     ))
     (cases_lt k n)
 
--- the profile whose steps are sums of four values is the sum of four profiles
-pub is_added_three : (out x y z new : List ℕ) → length new ≡ length out
-    → ((k : ℕ) → k < length out → get_or new k 0 ≡ get_or out k 0 + get_or x k 0 + get_or y k 0 + get_or z k 0)
-    → new ≡ added (added (added out x) y) z
-is_added_three out x y z new long sums =
-    let one : length (added out x) ≡ length out = length-added out x in
-    let two : length (added (added out x) y) ≡ length out = length-added (added out x) y ∙ one in
-    fill_by_all (added_at (added (added out x) y) z) new (length (added (added out x) y)) 0 (long ∙ sym two)
+-- the profile whose steps are those of a profile and of others, all added, is their sum
+pub is_added_each : {X : Type 0} (f : X → List ℕ) (xs : List X) (out new : List ℕ) → length new ≡ length out
+    → ((k : ℕ) → k < length out → get_or new k 0 ≡ get_or out k 0 + sum_by (λ x. get_or (f x) k 0) xs)
+    → new ≡ fold (λ come x. added come (f x)) out xs
+is_added_each f [] out new long sums =
+    ext_get_or 0 new out long (λ k h. omega (arith, sums k (omega (arith, h, long))))
+is_added_each f (x ∷ xs) out new long sums =
+    let one : length (added out (f x)) ≡ length out = length-added out (f x) in
+    is_added_each f xs (added out (f x)) new (long ∙ sym one)
     (λ k h.
     omega (
       arith,
-      sums k (omega (arith, h, two)),
-      get_or-added (added out x) y k (omega (arith, h, one, two)),
-      get_or-added out x k (omega (arith, h, two)),
+      sums k (omega (arith, h, one)),
+      sum_by-cons (λ y. get_or (f y) k 0) x xs,
+      get_or-added out (f x) k (omega (arith, h, one)),
     ))
 
--- and one more
-pub is_added_four : (out x y z u new : List ℕ) → length new ≡ length out
-    → ((k : ℕ) → k < length out
-    → get_or new k 0 ≡ get_or out k 0 + get_or x k 0 + get_or y k 0 + get_or z k 0 + get_or u k 0)
-    → new ≡ added (added (added (added out x) y) z) u
-is_added_four out x y z u new long sums =
-    let one : length (added out x) ≡ length out = length-added out x in
-    let two : length (added (added out x) y) ≡ length out = length-added (added out x) y ∙ one in
-    let three : length (added (added (added out x) y) z) ≡ length out = length-added (added (added out x) y) z ∙ two in
-    fill_by_all (added_at (added (added (added out x) y) z) u) new (length (added (added (added out x) y) z)) 0
-    (long ∙ sym three)
-    (λ k h.
+-- and a limit on the first goes up by the limits of the others
+pub each_grows : {X : Type 0} (f : X → List ℕ) (xs : List X) (out : List ℕ) (limit more : ℕ)
+    → All (λ x. length (f x) ≡ length out) xs → All (λ x. All (λ v. v < more) (f x)) xs → All (λ v. v < limit) out
+    → All (λ v. v < limit + length xs * more) (fold (λ come x. added come (f x)) out xs)
+each_grows f [] out limit more same small within k d h = omega (arith, within k d h)
+each_grows f (x ∷ xs) out limit more same small within k d h =
+    let one : length (added out (f x)) ≡ length out = length-added out (f x) in
     omega (
       arith,
-      sums k (omega (arith, h, three)),
-      get_or-added (added (added out x) y) z k (omega (arith, h, two, three)),
-      get_or-added (added out x) y k (omega (arith, h, one, three)),
-      get_or-added out x k (omega (arith, h, three)),
-    ))
+      each_grows f xs (added out (f x)) (limit + more) more
+          (λ i e below. same (suc i) e (omega (arith, below)) ∙ sym one)
+          (λ i e below. small (suc i) e (omega (arith, below)))
+          (added_grows out (f x) limit more (same 0 x (omega arith)) within (small 0 x (omega arith))) k d h,
+    )

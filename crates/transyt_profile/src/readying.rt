@@ -7,17 +7,27 @@ ghost use Rattle.transyt_profile.specs.Profile.{share_of, shared};
 
 use crate::sharing::{Part, product, share_step};
 
-/// Writes the part of a profile that goes on, each share times `factor`, beside three others, and returns the sum of
-/// its shares, where all of them are below `limit`; none where one is not.
+/// What each share is multiplied by, and the limit below which all shares have to be.
+#[derive(Clone, Copy, Debug, PartialEq, Eq)]
+pub struct Scale {
+    /// The factor of each share.
+    pub factor: u64,
+    /// Shares are below this.
+    pub limit: u64,
+    ghost factor_fits: { factor ≤ 2 ^ 41 },
+    ghost limit_fits: { limit ≤ 2 ^ 22 },
+}
+
+/// Writes the part of a profile that goes on, each share times the factor of `scale`, beside three others, and returns
+/// the sum of its shares, where all of them are below its limit; none where one is not.
 ///
 /// `x` has one value for each step of the cycle and `lanes` four: each product is written at place `lane` of the four
 /// of its step. What stood there is overwritten, and the other lanes stay. It takes least time where all bits of the
-/// shares together are below `limit`.
+/// shares together are below the limit.
 pub fn share_ready(
     x: &[u64],
     part: &Part,
-    factor: u64,
-    limit: u64,
+    scale: Scale,
     lane: usize,
     lanes: &mut [u64],
 ) -> Option<u64>
@@ -26,50 +36,39 @@ pub fn share_ready(
     requires lanes_len { length lanes.old ≡ 4 * length x.now }
     requires fit { All (λ v. v < 2 ^ 30) x.now }
     requires is { IsPart part.now }
-    requires factor { factor ≤ 2 ^ 41 }
-    requires limit { limit ≤ 2 ^ 22 }
-    ensures below { IfSome result (λ _. All (λ v. v < limit) (shared part.now.part part.now.whole x.now)) }
+    ensures below { IfSome result (λ _. All (λ v. v < scale.limit) (shared part.now.part part.now.whole x.now)) }
     ensures ready { IfSome result (λ _. (k : ℕ) → k < length x.now → slice_index lanes.new (4 * k + lane)
-        ≡ share_of part.now.part part.now.whole (slice_index x.now k) * factor) }
+        ≡ share_of part.now.part part.now.whole (slice_index x.now k) * scale.factor) }
     ensures total { IfSome result (λ total. total ≡ sum (shared part.now.part part.now.whole x.now)) }
     ensures none { IfNone result (0 < length x.now
-        → Any (λ v. limit ≤ v) (shared part.now.part part.now.whole x.now)) }
+        → Any (λ v. scale.limit ≤ v) (shared part.now.part part.now.whole x.now)) }
     ensures others { (k : ℕ) → (m : ℕ) → m < 4 → (m ≡ lane → ⊥)
         → slice_index lanes.new (4 * k + m) ≡ slice_index lanes.old (4 * k + m) }
 {
     if part.quick {
-        let total = share_below(x, part, factor, limit, lane, lanes);
+        let total = share_below(x, part, scale, lane, lanes);
         if total.is_some() {
             return total;
         }
     }
-    share_any(x, part, factor, limit, lane, lanes)
+    share_any(x, part, scale, lane, lanes)
 }
 
 /// What `share_ready` does with one product and no division a step, where all bits of the shares together are below
-/// `limit`: then each share is. None where they are not. Nothing is tested at a step, so that no step waits for the one
+/// the limit: then each share is. None where they are not. Nothing is tested at a step, so that no step waits for the one
 /// before.
-fn share_below(
-    x: &[u64],
-    part: &Part,
-    factor: u64,
-    limit: u64,
-    lane: usize,
-    lanes: &mut [u64],
-) -> Option<u64>
+fn share_below(x: &[u64], part: &Part, scale: Scale, lane: usize, lanes: &mut [u64]) -> Option<u64>
     requires most { length x.now ≤ 120 }
     requires lane { lane < 4 }
     requires lanes_len { length lanes.old ≡ 4 * length x.now }
     requires fit { All (λ v. v < 2 ^ 30) x.now }
     requires quick { IsQuick part.now }
-    requires factor { factor ≤ 2 ^ 41 }
-    requires limit { limit ≤ 2 ^ 22 }
-    ensures below { IfSome result (λ _. All (λ v. v < limit) (shared part.now.part part.now.whole x.now)) }
+    ensures below { IfSome result (λ _. All (λ v. v < scale.limit) (shared part.now.part part.now.whole x.now)) }
     ensures ready { IfSome result (λ _. (k : ℕ) → k < length x.now → slice_index lanes.new (4 * k + lane)
-        ≡ share_of part.now.part part.now.whole (slice_index x.now k) * factor) }
+        ≡ share_of part.now.part part.now.whole (slice_index x.now k) * scale.factor) }
     ensures total { IfSome result (λ total. total ≡ sum (shared part.now.part part.now.whole x.now)) }
     ensures none { IfNone result
-        (limit ≤ fold (λ bits v. bit_or bits (share_of part.now.part part.now.whole v)) 0 x.now) }
+        (scale.limit ≤ fold (λ bits v. bit_or bits (share_of part.now.part part.now.whole v)) 0 x.now) }
     ensures others { (k : ℕ) → (m : ℕ) → m < 4 → (m ≡ lane → ⊥)
         → slice_index lanes.new (4 * k + m) ≡ slice_index lanes.old (4 * k + m) }
 {
@@ -78,35 +77,30 @@ fn share_below(
     let mut bits: u64 = 0;
     for i in 0..x.len() {
         let share = product(x[i], &part);
-        lanes[4 * i + lane] = times(share, factor);
+        lanes[4 * i + lane] = times(share, scale.factor);
         total += share;
         bits |= share;
     }
-    if bits < limit { Some(total) } else { None }
+    if bits < scale.limit {
+        Some(total)
+    } else {
+        None
+    }
 }
 
 /// What `share_ready` does, however the part is and however large the shares are.
-fn share_any(
-    x: &[u64],
-    part: &Part,
-    factor: u64,
-    limit: u64,
-    lane: usize,
-    lanes: &mut [u64],
-) -> Option<u64>
+fn share_any(x: &[u64], part: &Part, scale: Scale, lane: usize, lanes: &mut [u64]) -> Option<u64>
     requires most { length x.now ≤ 120 }
     requires lane { lane < 4 }
     requires lanes_len { length lanes.old ≡ 4 * length x.now }
     requires fit { All (λ v. v < 2 ^ 30) x.now }
     requires is { IsPart part.now }
-    requires factor { factor ≤ 2 ^ 41 }
-    requires limit { limit ≤ 2 ^ 22 }
-    ensures below { IfSome result (λ _. All (λ v. v < limit) (shared part.now.part part.now.whole x.now)) }
+    ensures below { IfSome result (λ _. All (λ v. v < scale.limit) (shared part.now.part part.now.whole x.now)) }
     ensures ready { IfSome result (λ _. (k : ℕ) → k < length x.now → slice_index lanes.new (4 * k + lane)
-        ≡ share_of part.now.part part.now.whole (slice_index x.now k) * factor) }
+        ≡ share_of part.now.part part.now.whole (slice_index x.now k) * scale.factor) }
     ensures total { IfSome result (λ total. total ≡ sum (shared part.now.part part.now.whole x.now)) }
     ensures none { IfNone result (0 < length x.now
-        → Any (λ v. limit ≤ v) (shared part.now.part part.now.whole x.now)) }
+        → Any (λ v. scale.limit ≤ v) (shared part.now.part part.now.whole x.now)) }
     ensures others { (k : ℕ) → (m : ℕ) → m < 4 → (m ≡ lane → ⊥)
         → slice_index lanes.new (4 * k + m) ≡ slice_index lanes.old (4 * k + m) }
 {
@@ -114,11 +108,15 @@ fn share_any(
     let mut greatest: u64 = 0;
     for i in 0..x.len() {
         let share = share_step(x[i], part);
-        lanes[4 * i + lane] = times(share, factor);
+        lanes[4 * i + lane] = times(share, scale.factor);
         total += share;
         greatest = greatest.max(share);
     }
-    if greatest < limit { Some(total) } else { None }
+    if greatest < scale.limit {
+        Some(total)
+    } else {
+        None
+    }
 }
 
 /// A product, where the value is below 2^22.

@@ -1,6 +1,5 @@
 -- The arrivals of a link, feed by feed.
 use Rattle.std.proofs.Common.{◌≡◌, ℕ, ◌+◌, ◌-◌, ◌*◌, ◌^◌, ◌<◌, ◌≤◌, List, All, length, take, drop, get_or, ap, sym, subst, ◌∙◌, arith}
-use Rattle.std.proofs.lemmas.Nat.{mul-le}
 use Rattle.std.proofs.lemmas.List.Sums.{fold_more, fold-append}
 use Rattle.std.proofs.Math.Seq.{take-add, take-length}
 use Rattle.std.proofs.lemmas.List.{length-drop, take-append-drop}
@@ -94,11 +93,3 @@ brought_by net read f part out time percent made is_part is_time is_percent =
     ∙ ap (λ x. dispersed x time percent) is_part
     ∙ ap (λ t. dispersed (taken net read f) t percent) is_time
     ∙ ap (dispersed (taken net read f) (travel_steps f.cruise net.frame.step_count net.frame.cycle)) is_percent
-
--- the first factor of a travel has 41 bits
-pub factor_fits : (reciprocal weight time percent factor : ℕ) → factor ≡ 100 * reciprocal → weight ≡ percent * time
-    → percent ≤ 100 → time ≤ 960 → reciprocal * (100 + weight) < 1099511627776 + (100 + weight) → factor ≤ 2 ^ 41
-factor_fits reciprocal weight time percent factor is_factor is_weight percent_fits time_fits close =
-    let most : percent * time ≤ 100 * 960 = mul-le percent time 100 960 percent_fits time_fits in
-    let apart : reciprocal * (100 + weight) ≡ 100 * reciprocal + reciprocal * weight = omega arith in
-    omega (arith, most, apart, close, is_factor, is_weight)

@@ -1,5 +1,5 @@
 -- The slots of a group's factors.
-use Rattle.std.proofs.Common.{◌≡◌, ℕ, ◌+◌, ◌<◌, List, [], ◌∷◌, ◌++◌, length, set, take, drop, get_or, refl, sym, subst, arith}
+use Rattle.std.proofs.Common.{ℕ, ◌+◌, ◌<◌, List, ◌++◌, length, set, take, drop, get_or, sym, subst, arith}
 use Rattle.std.specs.List.{All}
 use Rattle.std.proofs.lemmas.List.Elements.{All-append, All-take, All-drop, All-from_get_or}
 use Rattle.std.proofs.lemmas.List.{get_or-set_same, get_or-set_other}
@@ -20,26 +20,6 @@ are_put n place count kept slots are right =
     (All-take (AreFactors n) place kept are)
     (All-append (AreFactors n) slots (drop count (drop place kept)) right
     (All-drop (AreFactors n) count (drop place kept) (All-drop (AreFactors n) place kept are)))
-
--- three slots, one by one
-pub three_of : (slots : List Factors) → length slots ≡ 3
-    → slots ≡ get_or slots 0 no_factors ∷ get_or slots 1 no_factors ∷ get_or slots 2 no_factors ∷ []
-three_of [] three = absurd (omega (arith, three))
-three_of (p ∷ []) three = absurd (omega (arith, three))
-three_of (p ∷ q ∷ []) three = absurd (omega (arith, three))
-three_of (p ∷ q ∷ r ∷ []) three = refl
-three_of (p ∷ q ∷ r ∷ s ∷ rest) three = absurd (omega (arith, three))
-
--- and four
-pub four_of : (slots : List Factors) → length slots ≡ 4
-    → slots
-    ≡ get_or slots 0 no_factors ∷ get_or slots 1 no_factors ∷ get_or slots 2 no_factors ∷ get_or slots 3 no_factors ∷ []
-four_of [] four = absurd (omega (arith, four))
-four_of (p ∷ []) four = absurd (omega (arith, four))
-four_of (p ∷ q ∷ []) four = absurd (omega (arith, four))
-four_of (p ∷ q ∷ r ∷ []) four = absurd (omega (arith, four))
-four_of (p ∷ q ∷ r ∷ s ∷ []) four = refl
-four_of (p ∷ q ∷ r ∷ s ∷ t ∷ rest) four = absurd (omega (arith, four))
 
 -- factors that serve can be sent
 pub sendable : (inputs : Inputs) (feeds : List Feed) (slots : List Factors) → AreServed inputs.net.now feeds slots

@@ -1,5 +1,5 @@
 -- The factors of a feed, which are worked out of its numbers once. No public clause cites it.
-use Rattle.std.specs.Prelude.{◌≡◌, ℕ, ◌^◌, ◌≤◌, List}
+use Rattle.std.specs.Prelude.{◌≡◌, ℕ, List}
 use Rattle.transyt_profile.specs.Parts.{IsPart}
 use Rattle.transyt_profile.specs.Profile.{shared}
 use Rattle.transyt_platoon.specs.Platoon.{travel_steps}
@@ -16,7 +16,6 @@ pub record AreFactors (steps : ℕ) (f : Factors) : Type 0 where
   pub part : IsPart f.part
   pub travel : IsTravel steps f.travel
   pub time : f.travel.time ≡ travel_steps f.cruise steps f.cycle
-  pub factor : f.travel.starting_factor ≤ 2 ^ 41
 
 -- the numbers that they name are a feed's, whose feeder is at this place and lets `total` vehicles per hour go
 pub record Serve (frame : Frame) (feed : Feed) (place total : ℕ) (f : Factors) : Type 0 where

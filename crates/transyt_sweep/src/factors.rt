@@ -1,6 +1,6 @@
 //! The factors of a feed, which are worked out of its numbers once, and kept.
 
-ghost use Rattle.std.specs.Prelude.{◌≡◌, ◌^◌, ◌≤◌, IsTrue};
+ghost use Rattle.std.specs.Prelude.{◌≡◌, ◌≤◌, IsTrue};
 ghost use Rattle.transyt_parts.specs.declared.frame.Frame.{Frame};
 ghost use Rattle.transyt_parts.specs.declared.link.Feed.{Feed};
 ghost use Rattle.transyt_platoon.specs.Platoon.{travel_steps};
@@ -35,7 +35,6 @@ fn travel(net: &Net, feed: Feed) -> Travel
     ensures time { result.time ≡ travel_steps feed.cruise net.now.frame.step_count net.now.frame.cycle }
     ensures percent { result.percent ≡ net.now.frame.dispersion }
     ensures is { IsTravel net.now.frame.step_count result }
-    ensures factor { result.starting_factor ≤ 2 ^ 41 }
 {
     let frame = net.frame();
     let time = travel_steps(feed.cruise, frame.step_count, frame.cycle);

@@ -18,9 +18,9 @@ ghost use Rattle.transyt_sweep.specs.Inflow.{
 
 use crate::factors::Factors;
 use crate::inputs::Inputs;
-use crate::sending::{renew_feed, send_feed, share_feed};
+use crate::sending::{platoon, renew_feed, share_feed};
 use transyt_net::{Feed, Net};
-use transyt_platoon::{disperse, disperse_four, disperse_three, travel_steps};
+use transyt_platoon::{disperse, disperse_together, travel_steps};
 use transyt_profile::{add_to_first, fold_into, start_turns};
 
 /// Adds the arrivals of one feed to the two turns of arrivals, in millionths of a vehicle per step. `room` is room for
@@ -75,67 +75,8 @@ fn renew_feeds(net: &Net, feeds: &[Feed], slots: &mut [Factors])
     }
 }
 
-/// Adds the arrivals by three slots' factors to the two turns, side by side in the lanes, and says so; adds nothing where
-/// one of them can't be sent.
-fn send_three(inputs: &Inputs<'_>, slots: &[Factors], lanes: &mut [u64], turns: &mut [u64]) -> bool
-    requires lanes_len { length lanes.old ≡ 4 * inputs.now.step_count }
-    requires len { length slots.now ≡ 3 }
-    requires slots { All (AreSendable inputs.now) slots.now }
-    requires turns { HaveRoom inputs.now.step_count (length slots.now) turns.old }
-    ensures value { IsTrue result → folded inputs.now.step_count turns.new
-        ≡ with_carried (read_by inputs.now) (folded inputs.now.step_count turns.old) slots.now }
-    ensures grows { IsTrue result → (limit : ℕ) → All (λ v. v < limit) (folded inputs.now.step_count turns.old)
-        → All (λ v. v < limit + 3 * 2 ^ 22) (folded inputs.now.step_count turns.new) }
-    ensures stays { (IsTrue result → ⊥) → turns.new ≡ turns.old }
-{
-    let one_sent = send_feed(inputs, &slots[0], 0, lanes);
-    let two_sent = send_feed(inputs, &slots[1], 1, lanes);
-    let three_sent = send_feed(inputs, &slots[2], 2, lanes);
-    if let (Some(one_sent), Some(two_sent), Some(three_sent)) = (one_sent, two_sent, three_sent) {
-        let steps = inputs.step_count;
-        disperse_three(steps, lanes, &one_sent, &two_sent, &three_sent, turns);
-        true
-    } else {
-        false
-    }
-}
-
-/// Adds the arrivals by four slots' factors to the two turns, as `send_three` does of three.
-fn send_four(inputs: &Inputs<'_>, slots: &[Factors], lanes: &mut [u64], turns: &mut [u64]) -> bool
-    requires lanes_len { length lanes.old ≡ 4 * inputs.now.step_count }
-    requires len { length slots.now ≡ 4 }
-    requires slots { All (AreSendable inputs.now) slots.now }
-    requires turns { HaveRoom inputs.now.step_count (length slots.now) turns.old }
-    ensures value { IsTrue result → folded inputs.now.step_count turns.new
-        ≡ with_carried (read_by inputs.now) (folded inputs.now.step_count turns.old) slots.now }
-    ensures grows { IsTrue result → (limit : ℕ) → All (λ v. v < limit) (folded inputs.now.step_count turns.old)
-        → All (λ v. v < limit + 4 * 2 ^ 22) (folded inputs.now.step_count turns.new) }
-    ensures stays { (IsTrue result → ⊥) → turns.new ≡ turns.old }
-{
-    let one_sent = send_feed(inputs, &slots[0], 0, lanes);
-    let two_sent = send_feed(inputs, &slots[1], 1, lanes);
-    let three_sent = send_feed(inputs, &slots[2], 2, lanes);
-    let four_sent = send_feed(inputs, &slots[3], 3, lanes);
-    if let (Some(one_sent), Some(two_sent), Some(three_sent), Some(four_sent)) = (
-        one_sent, two_sent, three_sent, four_sent,
-    ) {
-        let steps = inputs.step_count;
-        disperse_four(
-            steps,
-            lanes,
-            &one_sent,
-            &two_sent,
-            &three_sent,
-            &four_sent,
-            turns,
-        );
-        true
-    } else {
-        false
-    }
-}
-
-/// Adds the arrivals by the factors of three slots or of four to the two turns, as `send_three` and `send_four` do.
+/// Adds the arrivals by the factors of three slots or of four to the two turns, side by side in the lanes, and says so;
+/// adds nothing where one of them can't be sent.
 fn send_group(inputs: &Inputs<'_>, slots: &[Factors], lanes: &mut [u64], turns: &mut [u64]) -> bool
     requires lanes_len { length lanes.old ≡ 4 * inputs.now.step_count }
     requires len { IsGroup (length slots.now) }
@@ -147,10 +88,15 @@ fn send_group(inputs: &Inputs<'_>, slots: &[Factors], lanes: &mut [u64], turns: 
         → All (λ v. v < limit + 4 * 2 ^ 22) (folded inputs.now.step_count turns.new) }
     ensures stays { (IsTrue result → ⊥) → turns.new ≡ turns.old }
 {
+    let steps = inputs.step_count;
+    let first = platoon(inputs, &slots[0]);
+    let second = platoon(inputs, &slots[1]);
+    let third = platoon(inputs, &slots[2]);
     if slots.len() == 4 {
-        send_four(inputs, slots, lanes, turns)
+        let fourth = platoon(inputs, &slots[3]);
+        disperse_together(steps, &[first, second, third, fourth], lanes, turns)
     } else {
-        send_three(inputs, slots, lanes, turns)
+        disperse_together(steps, &[first, second, third], lanes, turns)
     }
 }
 

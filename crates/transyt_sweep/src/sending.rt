@@ -1,19 +1,18 @@
 //! The part of a feeder's departures that goes on to a link.
 
-ghost use Rattle.std.specs.Prelude.{◌≡◌, ◌+◌, ◌*◌, ◌^◌, ◌<◌, ◌≤◌, ℕ, length, slice_index, All, Any};
-ghost use Rattle.std.specs.Prelude.{IfNone, IfSome, IsTrue};
+ghost use Rattle.std.specs.Prelude.{◌≡◌, ◌^◌, ◌<◌, ◌≤◌, length, All, IsTrue};
 ghost use Rattle.transyt_parts.specs.declared.link.Feed.{Feed};
 ghost use Rattle.transyt_net.specs.Valid.{link_place};
-ghost use Rattle.transyt_platoon.specs.Travels.{IsReady, sent};
+ghost use Rattle.transyt_platoon.specs.Arriving.{arriving};
 ghost use Rattle.transyt_sweep.specs.Cell.{taken};
-ghost use Rattle.transyt_sweep.specs.Factors.{AreFactors, taken_by};
-ghost use Rattle.transyt_sweep.specs.Inflow.{AreSendable, IsSmall, Served, read_by};
+ghost use Rattle.transyt_sweep.specs.Factors.{AreFactors};
+ghost use Rattle.transyt_sweep.specs.Inflow.{AreSendable, IsSmall, Served, carried, read_by};
 
 use crate::factors::{Factors, renew};
 use crate::inputs::Inputs;
 use transyt_net::{Feed, Net};
 use transyt_platoon::Platoon;
-use transyt_profile::{share_into, share_ready};
+use transyt_profile::share_into;
 
 /// The place of a link's number; the first where there is no such link.
 pub(crate) fn link_place(net: &Net, number: u32) -> usize
@@ -79,38 +78,16 @@ pub(crate) fn renew_feed(net: &Net, feed: Feed, slot: &mut Factors)
     renew(net, feed, feeder, net.total_flow(feeder), slot);
 }
 
-/// Makes a feed's part of its feeder's departures ready in a lane, each value times the first factor of its travel, by the
-/// feed's factors; none where a value is at the limit of its travel or past it. The other lanes stay.
-pub(crate) fn send_feed<'a>(
-    inputs: &Inputs<'a>,
-    factors: &'a Factors,
-    lane: usize,
-    lanes: &mut [u64],
-) -> Option<Platoon<'a>>
+/// The platoon of a feed, by the feed's factors.
+pub(crate) fn platoon<'a>(inputs: &Inputs<'a>, factors: &'a Factors) -> Platoon<'a>
     requires factors { AreSendable inputs.now factors.now }
-    requires lane { lane < 4 }
-    requires lanes_len { length lanes.old ≡ 4 * inputs.now.step_count }
-    ensures ready { IfSome result (λ p. IsReady inputs.now.step_count lane lanes.new p) }
-    ensures taken { IfSome result (λ p. sent p ≡ taken_by (read_by inputs.now) factors.now) }
-    ensures travel { IfSome result (λ p. p.travel.now ≡ factors.now.travel) }
-    ensures none { IfNone result (Any (λ v. factors.now.travel.limit ≤ v) (taken_by (read_by inputs.now) factors.now)) }
-    ensures others { (k : ℕ) → (m : ℕ) → m < 4 → (m ≡ lane → ⊥)
-        → slice_index lanes.new (4 * k + m) ≡ slice_index lanes.old (4 * k + m) }
+    ensures steps { length result.leaving.now ≡ inputs.now.step_count }
+    ensures brings { arriving result ≡ carried (read_by inputs.now) factors.now }
 {
     let rows = inputs.rows;
-    let leaving = rows.read(inputs.sweep, inputs.link, factors.feeder);
-    let part = &factors.part;
-    let travel = &factors.travel;
-    let factor = travel.starting_factor;
-    match share_ready(leaving, part, factor, travel.limit, lane, lanes) {
-        None => None,
-        Some(total) => {
-            Some(Platoon {
-                leaving,
-                part,
-                total,
-                travel,
-            })
-        }
+    Platoon {
+        leaving: rows.read(inputs.sweep, inputs.link, factors.feeder),
+        part: &factors.part,
+        travel: &factors.travel,
     }
 }

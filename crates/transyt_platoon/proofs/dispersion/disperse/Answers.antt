@@ -5,8 +5,8 @@ use Rattle.transyt_platoon.proofs.Mixing.{dispersed_uniform, placed_all, placed_
 use Rattle.transyt_platoon.proofs.dispersion.disperse.Goals as goal
 
 -- the mean of the profile is within its bound
-pub go_round-requires-clause-mean_fits : goal.go_round-requires-clause-mean_fits
-go_round-requires-clause-mean_fits c =
+pub invariant_of-journey-clause-mean_fits : goal.invariant_of-journey-clause-mean_fits
+invariant_of-journey-clause-mean_fits c =
     let whole = c.total-whole.ensures.bounded (2 ^ 44 - 1) (λ k d h. omega (arith, c.requires.fit k d h)) in
     let mean = div-le_of_le-mul (length c.args.x.now) whole in omega arith
 

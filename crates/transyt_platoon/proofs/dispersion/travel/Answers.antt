@@ -8,26 +8,26 @@ use Rattle.transyt_platoon.proofs.dispersion.travel.Goals as goal
 -- both turns begin with the mean
 pub first-init : goal.first-init
 first-init c = record {
-  small = c.requires.mean_fits;
-  here = c.requires.mean ∙ sym (smoothed_none c.args.x.now (c.args.percent * c.args.t));
+  small = c.args.journey.now.mean_fits;
+  here = c.args.journey.now.is_mean ∙ sym (smoothed_none c.args.journey.now.profile.now (c.args.journey.now.percent * c.args.journey.now.time));
 }
 
 -- one step of the first turn
 pub first-preserved : goal.first-preserved
 first-preserved c =
-    let weight : ℕ = c.args.percent * c.args.t in
+    let weight : ℕ = c.args.journey.now.percent * c.args.journey.now.time in
     record {
       small = c.mix-value.ensures.small;
-      here = first_more c.args.x.now weight c.first.i c.first.value _ (omega arith)
+      here = first_more c.args.journey.now.profile.now weight c.first.i c.first.value _ (omega arith)
           c.first.invariant.here (search rules);
     }
 
 -- one step of the second turn, written in its place
 pub second-preserved : goal.second-preserved
 second-preserved c =
-    let xs : List ℕ = c.args.x.now in
+    let xs : List ℕ = c.args.journey.now.profile.now in
     let i : ℕ = c.second.i in
-    let weight : ℕ = c.args.percent * c.args.t in
+    let weight : ℕ = c.args.journey.now.percent * c.args.journey.now.time in
     let at = c.second.invariant in
     let now : c.mix-value-in-second.result ≡ smoothed xs weight (length xs + 1 + i) =
     second_more xs weight i c.second.value _ (omega arith) at.here (search rules) in
@@ -35,8 +35,8 @@ second-preserved c =
     record {
       small = c.mix-value-in-second.ensures.small;
       here = now ∙ ap (smoothed xs weight) next;
-      place = place_more (length xs) i c.args.t c.second.place _ at.place c.after-place.ensures.value;
-      placed = placed_more xs c.second.out c.args.t c.args.percent i c.second.place _
+      place = place_more (length xs) i c.args.journey.now.time c.second.place _ at.place c.after-place.ensures.value;
+      placed = placed_more xs c.second.out c.args.journey.now.time c.args.journey.now.percent i c.second.place _
           (omega arith) (omega arith) at.place at.placed now;
     }
 

@@ -12,9 +12,9 @@ loop-i-preserved c = record {
   reached = reached_more (share_at c.args.part.now.part c.args.part.now.whole c.args.x.now) c.loop-i.i c.loop-i.greatest
       c.share_step-share.result c.max-greatest.result (omega arith) c.share_step-share.ensures.value c.loop-i.invariant.reached;
   greatest = search rules;
-  ready = lane_more c.loop-i.lanes (share_at c.args.part.now.part c.args.part.now.whole c.args.x.now) c.args.factor c.args.lane c.loop-i.i
+  ready = lane_more c.loop-i.lanes (share_at c.args.part.now.part c.args.part.now.whole c.args.x.now) c.args.scale.factor c.args.lane c.loop-i.i
       c.times.result (omega (arith, c.requires.lanes_len, c.requires.lane)) c.loop-i.invariant.ready
-      (λ small. c.times.ensures (omega (arith, small, c.share_step-share.ensures.value)) ∙ ap (λ v. v * c.args.factor) c.share_step-share.ensures.value);
+      (λ small. c.times.ensures (omega (arith, small, c.share_step-share.ensures.value)) ∙ ap (λ v. v * c.args.scale.factor) c.share_step-share.ensures.value);
   others = others_more c.args.lanes.now c.loop-i.lanes c.args.lane c.loop-i.i c.times.result c.requires.lane
       c.loop-i.invariant.others;
   so_far =
@@ -24,22 +24,22 @@ loop-i-preserved c = record {
 }
 
 -- each share is below the limit
-pub returns-then-greatest-limit-clause-below : goal.returns-then-greatest-limit-clause-below
-returns-then-greatest-limit-clause-below c =
-    all_shared c.args.part.now.part c.args.part.now.whole c.args.limit c.args.x.now
+pub returns-then-greatest-scale-clause-below : goal.returns-then-greatest-scale-clause-below
+returns-then-greatest-scale-clause-below c =
+    all_shared c.args.part.now.part c.args.part.now.whole c.args.scale.limit c.args.x.now
     (λ k below. omega (arith, c.loop-i.invariant.most k (omega arith)))
 
 -- and its product is ready
-pub returns-then-greatest-limit-clause-ready : goal.returns-then-greatest-limit-clause-ready
-returns-then-greatest-limit-clause-ready c = λ k below.
-    c.loop-i.invariant.ready k (omega arith) (omega (arith, c.loop-i.invariant.most k (omega arith), c.requires.limit))
+pub returns-then-greatest-scale-clause-ready : goal.returns-then-greatest-scale-clause-ready
+returns-then-greatest-scale-clause-ready c = λ k below.
+    c.loop-i.invariant.ready k (omega arith) (omega (arith, c.loop-i.invariant.most k (omega arith), c.args.scale.limit_fits))
 
 -- the sum over all steps
-pub returns-then-greatest-limit-clause-total : goal.returns-then-greatest-limit-clause-total
-returns-then-greatest-limit-clause-total c = c.loop-i.invariant.so_far ∙ sum_shared c.args.part.now.part c.args.part.now.whole c.loop-i.i c.args.x.now (omega arith)
+pub returns-then-greatest-scale-clause-total : goal.returns-then-greatest-scale-clause-total
+returns-then-greatest-scale-clause-total c = c.loop-i.invariant.so_far ∙ sum_shared c.args.part.now.part c.args.part.now.whole c.loop-i.i c.args.x.now (omega arith)
 
 -- where the greatest is not below the limit, a share is not
-pub returns-else-greatest-limit-clause-none : goal.returns-else-greatest-limit-clause-none
-returns-else-greatest-limit-clause-none c = λ some.
-    any_shared c.args.part.now.part c.args.part.now.whole c.loop-i.i c.loop-i.greatest c.args.limit c.args.x.now some
+pub returns-else-greatest-scale-clause-none : goal.returns-else-greatest-scale-clause-none
+returns-else-greatest-scale-clause-none c = λ some.
+    any_shared c.args.part.now.part c.args.part.now.whole c.loop-i.i c.loop-i.greatest c.args.scale.limit c.args.x.now some
     (omega arith) c.loop-i.invariant.reached (omega arith)

@@ -19,9 +19,9 @@ loop-i-preserved c = record {
       c.product-share.ensures.value
       ∙ sym (fold_more (λ bits v. bit_or bits (share_of c.args.part.now.part c.args.part.now.whole v)) 0 c.args.x.now
       c.loop-i.i 0 (omega arith));
-  ready = lane_more c.loop-i.lanes (share_at c.args.part.now.part c.args.part.now.whole c.args.x.now) c.args.factor c.args.lane c.loop-i.i
+  ready = lane_more c.loop-i.lanes (share_at c.args.part.now.part c.args.part.now.whole c.args.x.now) c.args.scale.factor c.args.lane c.loop-i.i
       c.times.result (omega (arith, c.requires.lanes_len, c.requires.lane)) c.loop-i.invariant.ready
-      (λ small. c.times.ensures (omega (arith, small, c.product-share.ensures.value)) ∙ ap (λ v. v * c.args.factor) c.product-share.ensures.value);
+      (λ small. c.times.ensures (omega (arith, small, c.product-share.ensures.value)) ∙ ap (λ v. v * c.args.scale.factor) c.product-share.ensures.value);
   others = others_more c.args.lanes.now c.loop-i.lanes c.args.lane c.loop-i.i c.times.result c.requires.lane
       c.loop-i.invariant.others;
   so_far =
@@ -31,23 +31,23 @@ loop-i-preserved c = record {
 }
 
 -- each share is below the limit
-pub returns-then-bits-limit-clause-below : goal.returns-then-bits-limit-clause-below
-returns-then-bits-limit-clause-below c =
-    all_shared c.args.part.now.part c.args.part.now.whole c.args.limit c.args.x.now
+pub returns-then-bits-scale-clause-below : goal.returns-then-bits-scale-clause-below
+returns-then-bits-scale-clause-below c =
+    all_shared c.args.part.now.part c.args.part.now.whole c.args.scale.limit c.args.x.now
     (λ k below. omega (arith, c.loop-i.invariant.most k (omega arith)))
 
 -- and its product is ready
-pub returns-then-bits-limit-clause-ready : goal.returns-then-bits-limit-clause-ready
-returns-then-bits-limit-clause-ready c = λ k below.
-    c.loop-i.invariant.ready k (omega arith) (omega (arith, c.loop-i.invariant.most k (omega arith), c.requires.limit))
+pub returns-then-bits-scale-clause-ready : goal.returns-then-bits-scale-clause-ready
+returns-then-bits-scale-clause-ready c = λ k below.
+    c.loop-i.invariant.ready k (omega arith) (omega (arith, c.loop-i.invariant.most k (omega arith), c.args.scale.limit_fits))
 
 -- the sum over all steps
-pub returns-then-bits-limit-clause-total : goal.returns-then-bits-limit-clause-total
-returns-then-bits-limit-clause-total c = c.loop-i.invariant.so_far ∙ sum_shared c.args.part.now.part c.args.part.now.whole c.loop-i.i c.args.x.now (omega arith)
+pub returns-then-bits-scale-clause-total : goal.returns-then-bits-scale-clause-total
+returns-then-bits-scale-clause-total c = c.loop-i.invariant.so_far ∙ sum_shared c.args.part.now.part c.args.part.now.whole c.loop-i.i c.args.x.now (omega arith)
 
 -- all bits together are those of all shares
-pub returns-else-bits-limit-clause-none : goal.returns-else-bits-limit-clause-none
-returns-else-bits-limit-clause-none c =
+pub returns-else-bits-scale-clause-none : goal.returns-else-bits-scale-clause-none
+returns-else-bits-scale-clause-none c =
     let all : c.loop-i.bits ≡ fold (λ bits v. bit_or bits (share_of c.args.part.now.part c.args.part.now.whole v)) 0 c.args.x.now =
     c.loop-i.invariant.bits
     ∙ ap (fold (λ bits v. bit_or bits (share_of c.args.part.now.part c.args.part.now.whole v)) 0)

@@ -1,12 +1,21 @@
--- The mean goes before the first step.
-use Rattle.std.proofs.Common.{refl}
-use Rattle.transyt_platoon.proofs.Turns.{mean_gone}
+-- The mean goes before the first step, and is within the bound of what it is made of.
+use Rattle.std.proofs.Common.{◌≡◌, ◌/◌, length, sum, ap, sym, ◌∙◌, arith, refl}
+use Rattle.transyt_platoon.specs.Arriving.{sent}
+use Rattle.transyt_platoon.specs.Going.{steps_of}
+use Rattle.transyt_platoon.proofs.Mixing.{mean_below}
+use Rattle.transyt_platoon.proofs.Turns.{length-sent, mean_gone}
 use Rattle.transyt_platoon.proofs.going.Going.begin.Goals as goal
 
 pub returns : goal.returns
-returns c = record {
-  value = mean_gone c.args.platoon.now _ c.mean_of.ensures.value;
-  small = c.mean_of.ensures.small;
-  factor = refl;
-  place = refl;
-}
+returns c =
+    let p = c.args.platoon.now in
+    let same : length (sent p) ≡ steps_of p = length-sent p in
+    let is_mean : c.args.total / steps_of p ≡ sum (sent p) / length (sent p) =
+    ap (λ all. all / steps_of p) c.requires.total ∙ ap (λ n. sum (sent p) / n) (sym same) in
+    record {
+      value = mean_gone p _ is_mean;
+      small = rw is_mean (mean_below (sent p) p.travel.now.limit (omega (arith, c.requires.some, same)) c.requires.fits);
+      factor = refl;
+      place = refl;
+      fits = c.requires.fits;
+    }

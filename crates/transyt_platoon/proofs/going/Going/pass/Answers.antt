@@ -4,11 +4,12 @@ use Rattle.transyt_platoon.proofs.going.Going.pass.Goals as goal
 
 pub returns : goal.returns
 returns c =
-    let is = c.requires.ready in
+    let before = c.requires.passed in
     record {
-      value = first_gone c.args.step_count c.args.platoon.now c.args.step c.args.self.now.value _ is.values_len is.travel
-          c.requires.step c.requires.passed.value c.mix_ready-self.ensures.value;
-      small = c.mix_ready-self.ensures.small;
-      factor = c.requires.passed.factor;
-      place = c.requires.passed.place;
+      value = first_gone c.args.platoon.now c.args.step c.args.self.now.value _ c.requires.step before.value
+          c.mix-self.ensures.value;
+      small = c.mix-self.ensures.small;
+      factor = before.factor;
+      place = before.place;
+      fits = before.fits;
     }

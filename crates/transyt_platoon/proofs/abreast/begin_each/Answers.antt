@@ -1,0 +1,24 @@
+-- One platoon more stands before its first step.
+use Rattle.std.proofs.Common.{◌∙◌, arith}
+use Rattle.std.proofs.lemmas.List.{length-replicate, length-set}
+use Rattle.transyt_platoon.specs.Going.{HasPassed}
+use Rattle.transyt_platoon.proofs.Lanes.{go_more}
+use Rattle.transyt_platoon.proofs.abreast.begin_each.Goals as goal
+
+pub loop-lane-init : goal.loop-lane-init
+loop-lane-init g c = record {
+  len = length-replicate g.row.N _;
+  begun = λ i d e inside below. absurd (omega (arith, below));
+}
+
+pub loop-lane-preserved : goal.loop-lane-preserved
+loop-lane-preserved g c = record {
+  len = length-set c.loop-lane.goings c.loop-lane.lane c.begin.result ∙ c.loop-lane.invariant.len;
+  begun = go_more (λ p e. HasPassed p 0 e) c.args.abreast.now.platoons.now c.loop-lane.goings c.loop-lane.lane
+      c.index-abreast-lane.result c.begin.result (omega (arith, c.loop-lane-test.true, c.requires.count))
+      (omega (arith, c.loop-lane.invariant.len, c.requires.count)) c.begin.ensures c.loop-lane.invariant.begun;
+}
+
+pub returns : goal.returns
+returns g c = λ i d e inside.
+    c.loop-lane.invariant.begun i d e inside (omega (arith, inside, c.requires.count, c.loop-lane-test.false))
