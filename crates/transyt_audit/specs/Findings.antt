@@ -30,7 +30,7 @@ finding_at net place line =
     if nat_lt (move_count net) place then Wrong
     else finding_of (agrees line (slice_index_or (cert_texts net) place [])) (lowers_there net place)
 
--- what so many lines come to of which none was wrong, `next` being the number of the line after the table's last
+-- the find of so many lines of which none was wrong, `next` being the number of the line after the table's last
 abbrev pub concluded : Network → ℕ → ℕ → Option ℕ → Verdict
 concluded net given next lower =
     no_or (if nat_le given (move_count net) then Some next else None) code.OtherLine

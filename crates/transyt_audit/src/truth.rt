@@ -91,7 +91,7 @@ impl Truth {
     ) -> Result<Finding, AllocError>
         ensures finding { IfOk result (λ found. found ≡ finding_at self.old place line.now) }
         ensures same { self.new ≡ self.old }
-        // what is left of an evaluation for each place from this one on
+        // the rest of an evaluation for each place from this one on
         ensures steps { steps.new + self.old.frame.sweeps * length self.old.links * (move_count self.old - (place + 1))
             ≤ steps.old + self.old.frame.sweeps * length self.old.links * (move_count self.old - place) }
         ensures more_steps { steps.old ≤ steps.new }

@@ -20,7 +20,7 @@ use transyt_num::read_number;
 use transyt_steps::Steps;
 use transyt_sweep::full;
 
-/// What evaluations came to: the cells that were worked out, and the index of the last.
+/// The result of evaluations: the cells worked out, and the index of the last.
 #[derive(Clone, Copy, Debug, PartialEq, Eq)]
 struct Evaluated {
     cells: u64,

@@ -1,4 +1,4 @@
--- What a line says as a command.
+-- Lines as commands.
 use Rattle.std.specs.Prelude.{ℕ, List, [], ◌∷◌, codes, Option, Result}
 use Rattle.transyt_syntax.specs.declared.code.Code.{Code}
 use Rattle.transyt_syntax.specs.Syntax.{Entry, entry, said, at}

@@ -21,7 +21,7 @@ with_row row (Err code) rest = Err (stop.Refused row code)
 with_row row (Ok c) (Err other) = Err other
 with_row row (Ok c) (Ok cs) = Ok (c ∷ cs)
 
--- what the rows from a number on count, or the first of them with a code
+-- the counts of the rows from a number on, or the first of them with a code
 abbrev pub read_rows : Network → ℕ → List (List (List ℕ)) → Result (List Count) CountStop
 read_rows net row [] = Ok []
 read_rows net row (r ∷ rs) = with_row row (read_row net row r) (read_rows net (row + 1) rs)

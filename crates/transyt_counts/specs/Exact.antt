@@ -1,4 +1,4 @@
--- What the edits of a table come to on the network: each row counts in one edit, each edit is allowed after those before
+-- The network after the edits of a table: each row counts in one edit, each edit is allowed after those before
 -- it, and after them all each key's flow is its counted one and all else is as before.
 use Rattle.std.specs.Prelude.{ℕ, ◌≡◌, Bool, false, List, [], ◌∷◌, map, All, count_by, Some, None, if◌then◌else◌}
 use Rattle.std.specs.List.{list_any}
@@ -56,7 +56,7 @@ set_link keys flow l = record l {
 abbrev pub set_flows : List Key → (Key → ℕ) → Network → Network
 set_flows keys flow net = record net { links = map (set_link keys flow) net.links }
 
--- what the edits of rows come to
+-- the network after the edits of rows
 pub record AreExact (net : Network) (counts : List Count) (edits : List Edit) : Type 0 where
   pub once : All (λ c. count_by (sets c.key) edits ≡ 1) counts
   pub allowed : AreAllowed net edits

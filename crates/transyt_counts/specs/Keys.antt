@@ -1,4 +1,4 @@
--- What a row counts: a flow of a link.
+-- The flow of a link that a row counts.
 use Rattle.std.specs.Prelude.{ℕ, Bool, true, false, ◌&&◌, nat_eq, Option, Some, None}
 use Rattle.transyt_net.specs.declared.edit.Edit.{Edit}
 use Rattle.transyt_net.specs.declared.edit.Edit.TheVariants.{Entry, Part}

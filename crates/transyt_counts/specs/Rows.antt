@@ -25,7 +25,7 @@ made_count row (Some link) None vehicles minutes = None
 made_count row (Some link) (Some feeder) None minutes = None
 made_count row (Some link) (Some feeder) (Some vehicles) None = None
 
--- what a row of these four fields counts; none where one isn't a number
+-- the count of a row of these four fields; none where one isn't a number
 abbrev pub count_of : ℕ → List ℕ → List ℕ → List ℕ → List ℕ → Option Count
 count_of row link feeder vehicles minutes =
     made_count row (number_of link) (feeder_of feeder) (number_of vehicles) (number_of minutes)
@@ -57,17 +57,17 @@ abbrev pub count_code : Network → Count → Option Code
 count_code net c =
     first_code (key_code net c.key) (if not (nat_le c.vehicles 999999 && within 1 1440 c.minutes) then Some code.Range else None)
 
--- what is counted where there is no code
+-- the count where there is no code
 abbrev pub unless : Option Code → Count → Result Count Code
 unless None c = Ok c
 unless (Some code) c = Err code
 
--- what a row counts where it has no code; no number where a field isn't a number
+-- the count of a row that has no code; no number where a field isn't a number
 abbrev pub judged : Network → Option Count → Result Count Code
 judged net None = Err code.NoNumber
 judged net (Some c) = unless (count_code net c) c
 
--- what the row of a number counts, or its code; a wrong count where it hasn't four fields
+-- the count of a row with its number, or its code; a wrong count where it hasn't four fields
 abbrev pub read_row : Network → ℕ → List (List ℕ) → Result Count Code
 read_row net row [] = Err code.WrongCount
 read_row net row (a ∷ []) = Err code.WrongCount

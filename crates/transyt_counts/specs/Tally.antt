@@ -1,4 +1,4 @@
--- What the rows of each key sum to.
+-- The sums of the rows, key by key.
 use Rattle.std.specs.Prelude.{ℕ, ◌+◌, ◌*◌, ◌/◌, ◌<◌, ◌≤◌, ◌^◌, Bool, List, [], ◌∷◌, ◌++◌, map, sum_by, Option, Some, None, if◌then◌else◌}
 use Rattle.std.specs.List.{filter, fold, list_any}
 use Rattle.transyt_counts.specs.declared.key.Key.{Key}

@@ -82,7 +82,7 @@ abbrev pub count_at : ℕ → ℕ → Option ℕ → ℕ → ℕ → Count
 count_at row link feeder vehicles minutes =
     record { row = row; key = record { link = link; feeder = feeder }; vehicles = vehicles; minutes = minutes }
 
--- what the rows of a table count: three flows of link 4, and one of them twice
+-- the counts of a table: three flows of link 4, and one of them twice
 abbrev pub four_counts : List Count
 four_counts =
     count_at 1 4 None 37 15 ∷ count_at 2 4 (Some 9) 25 10 ∷ count_at 3 4 None 41 20 ∷ count_at 4 4 (Some 5) 12 7 ∷ []
@@ -91,14 +91,14 @@ four_counts =
 abbrev pub three_edits : List Edit
 three_edits = Entry 4 133 ∷ Part 4 9 150 ∷ Part 4 5 102 ∷ []
 
--- what the first and the third row count, the edit that they come to, and the town with that flow and all else as it was
+-- the count of the first and the third row, their edit, and the town with that flow and all else as it was
 abbrev pub two_counts : List Count
 two_counts = count_at 1 4 None 37 15 ∷ count_at 3 4 None 41 20 ∷ []
 
 abbrev pub town_of_two : Network
 town_of_two = of (signals 4 8) (streets 133 1451 4 6 311 23)
 
--- what a row counts of the flow that link 4 takes from link 5, and the town with it
+-- the row that counts the flow from link 5 to link 4, and the town with it
 abbrev pub fed_count : List Count
 fed_count = count_at 4 4 (Some 5) 12 7 ∷ []
 

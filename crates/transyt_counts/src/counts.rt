@@ -4,7 +4,7 @@ use std::marker::Model;
 use transyt_net::Edit;
 use transyt_syntax::Code;
 
-/// What a table of counts comes to.
+/// The answer to a table of counts.
 #[derive(Debug, Drop)]
 pub struct Counts {
     /// How many rows the table has.

@@ -1,4 +1,4 @@
-//! What a row counts.
+//! The flow that a row counts.
 
 ghost use Rattle.std.specs.Prelude.{◌≡◌};
 ghost use Rattle.transyt_counts.specs.Keys.{edit_of};

@@ -38,7 +38,7 @@ fn read_feeder(field: &[u8]) -> Option<Option<u32>>
     }
 }
 
-/// What a row of these four fields counts, if each is a number.
+/// The flow that a row of these four fields counts, if each is a number.
 fn read_count(row: u32, fields: &Fields) -> Option<Count>
     ensures { result ≡ count_of row fields.now.link.now fields.now.feeder.now
         fields.now.vehicles.now fields.now.minutes.now }
@@ -79,7 +79,7 @@ fn count_code(net: &Net, count: Count) -> Option<Code>
     None
 }
 
-/// What a row of these four fields counts, or its code.
+/// The flow that a row of these four fields counts, or its code.
 fn judge(net: &Net, row: u32, fields: &Fields) -> Result<Count, Code>
     ensures { result ≡ judged net.now (count_of row fields.now.link.now fields.now.feeder.now
         fields.now.vehicles.now fields.now.minutes.now) }
@@ -93,7 +93,7 @@ fn judge(net: &Net, row: u32, fields: &Fields) -> Result<Count, Code>
     }
 }
 
-/// What a row counts, or its code.
+/// The flow that a row counts, or its code.
 pub fn read_row(net: &Net, row: u32, fields: &ByteRecord) -> Result<Count, Code>
     ensures { result ≡ read_row net.now row (fields_of fields.now) }
 {

@@ -1,4 +1,4 @@
-//! What the rows of each key sum to.
+//! The sums of the rows, key by key.
 
 ghost use Rattle.std.specs.Prelude.{◌≡◌, OnOk, IfSome};
 ghost use Rattle.indexmap.specs.IndexMap.{get, insert_entry};
@@ -10,7 +10,7 @@ use crate::row::Count;
 use indexmap::IndexMap;
 use std::alloc::AllocFailed;
 
-/// What the rows of a key sum to, and the last of them.
+/// The sum of a key's rows, and the last of them.
 #[derive(Clone, Copy)]
 pub struct Totals {
     pub vehicles: u64,

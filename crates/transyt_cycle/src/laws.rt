@@ -1,4 +1,4 @@
-//! What the definition of a difference comes to.
+//! Worked differences round the cycle.
 
 ghost use Rattle.std.specs.Prelude.{◌≡◌, map};
 ghost use Rattle.transyt_cycle.specs.Cycle.{minus_mod};

@@ -1,4 +1,4 @@
--- What adding a card comes to. Only private contracts cite these words.
+-- The outcome of adding a card. Only private contracts cite these words.
 use Rattle.std.specs.Prelude.{◌≡◌, ◌<◌, ◌≤◌, length, IsOk, Option, Some, None, Result, Ok, Err}
 use Rattle.transyt_syntax.specs.declared.code.Code.{Code}
 use Rattle.transyt_net.specs.declared.draft.DraftFault.{DraftFault}
@@ -24,7 +24,7 @@ abbrev pub stopped : {T : Type 0} → Result T DraftFault → Result T Stop
 stopped (Ok x) = Ok x
 stopped (Err fault) = Err (stop_with (fault_code fault))
 
--- what was to be made is made; or it is refused with its code, or memory runs out where it has none, and all is as before
+-- the new part is made; or it is refused with its code, or memory runs out where it has none, and all is as before
 abbrev pub Adds : {A T : Type 0} → Result A Code → A → A → Result T Stop → Type 0
 Adds made old new (Ok x) = made ≡ Ok new
 Adds made old new (Err (stop.Code code)) = (made ≡ Err code) × (new ≡ old)
@@ -42,7 +42,7 @@ CanAdd (c.Link link stages) = (1 ≤ length stages) × (length stages ≤ 8)
 CanAdd (c.Steps budget sizes) = (1 ≤ length sizes) × (length sizes ≤ 16)
 CanAdd _ = Unit {0}
 
--- what the part of a deck says of its network: a STAGE card finds a node, a STEPS card no plan, and END judged the plans
+-- the network by the part of a deck: a STAGE card finds a node, a STEPS card no plan, and END judged the plans
 abbrev pub IsTied : Part → Network → Type 0
 IsTied p.Frame net = net.plan ≡ None
 IsTied p.Nodes net = (0 < length net.nodes) × (net.plan ≡ None)

@@ -1,4 +1,4 @@
--- What a reader of cards stands for.
+-- The view of a reader of cards.
 use Rattle.std.specs.Prelude.{◌≡◌, ◌+◌, ◌||◌, Bool, true, false, not, is_some, IsTrue, Result, Ok, Err}
 use Rattle.transyt_syntax.specs.declared.code.Code.TheVariants as code
 use Rattle.transyt_net.specs.Parts.{Network}

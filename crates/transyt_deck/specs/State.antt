@@ -1,4 +1,4 @@
--- What the cards of a deck come to, card by card.
+-- The state of a deck, card by card.
 use Rattle.std.specs.Prelude.{ℕ, Bool, not, nat_le, if◌then◌else◌, ◌==◌, List, Option, Some, None, option_and_then}
 use Rattle.std.specs.Prelude.{Result, Ok, Err}
 use Rattle.std.specs.Option.{option_map}
@@ -51,7 +51,7 @@ plan_code plan.FewStages = code.FewStages
 plan_code plan.StageOrder = code.StageOrder
 plan_code plan.LeastGreen = code.LeastGreen
 
--- what a card makes: out of its place, or refused with the code of its fault, or the part and the network with it
+-- the outcome of a card: out of its place, or refused with the code of its fault, or the part and the network with it
 abbrev pub placed : Bool → Option DraftFault → Part → Network → Result (Part × Network) Code
 placed fits fault part net =
     if fits then unless (option_and_then fault_code fault) (part, net) else Err code.OutOfPlace

@@ -10,7 +10,7 @@ use transyt_io::is_skipped;
 use transyt_net::{Feed, Frame, GiveWay, NewLink, Stage, Weights};
 use transyt_syntax::{Code, Numbers, first_of, further_of, is_word, say};
 
-/// What a card says, whether or not it is in its place and its numbers are in their ranges.
+/// A card as it is read, whether or not it is in its place and its numbers are in their ranges.
 #[derive(Drop)]
 pub enum Card {
     /// `FORM f`: the form of the LINK cards.

@@ -1,4 +1,4 @@
-//! What the cards of a deck have come to, and one card more.
+//! The state of a deck after its cards so far, and after one card more.
 ghost use Rattle.std.specs.Prelude.{◌≡◌, ◌≤◌, ℕ, length, OnOk, OnErr, IfOk, IfErr, Ok, Err, true, false};
 ghost use Rattle.transyt_deck.specs.Deck.{deck_at, is_open, is_complete};
 ghost use Rattle.transyt_deck.specs.declared.card.Card.TheVariants as card;
@@ -52,7 +52,7 @@ impl Part {
     }
 }
 
-/// What the cards of a deck have come to.
+/// The state of a deck after its cards so far.
 #[derive(Drop)]
 pub enum State {
     /// No card yet.

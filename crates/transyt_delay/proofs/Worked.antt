@@ -7,11 +7,11 @@ use Rattle.transyt_delay.specs.Index.{index_of}
 use Rattle.transyt_delay.specs.Figures.{figures, in_period, stops_of, under_root, uniform_of}
 use Rattle.transyt_delay.specs.WorkedLinks.{usual, great_penalty, short_period, oversaturated, worked}
 
--- what comes in the period
+-- the arrivals of the period
 abbrev come : Terms → ℕ
 come terms = in_period terms.frame terms.arrivals
 
--- what the green lets pass in the period
+-- GO of the period
 abbrev room : Terms → ℕ
 room terms = in_period terms.frame terms.room
 

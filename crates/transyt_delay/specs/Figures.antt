@@ -20,7 +20,7 @@ pub record InLimits (terms : Terms) : Type 0 where
   pub stop_penalty : terms.frame.stop_penalty ≤ 9999
   pub weights : AreWeights terms.weights
 
--- what a cycle's total comes to in the period, rounded down
+-- the total of the period, by that of a cycle, rounded down
 abbrev pub in_period : TermsFrame → ℕ → ℕ
 in_period frame total = 60 * frame.period * total / frame.cycle
 

@@ -61,7 +61,7 @@ pub fn figures_of(terms: &Terms) -> Figures
     }
 }
 
-/// What a cycle's total comes to in the period, rounded down.
+/// The total of the period, by that of a cycle, rounded down.
 fn in_period(frame: &TermsFrame, total: u64) -> u64
     requires cycle { 30 ≤ frame.now.cycle }
     requires period { frame.now.period ≤ 120 }

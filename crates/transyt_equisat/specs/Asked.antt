@@ -1,4 +1,4 @@
--- What the stages of a node ask of its cycle. No public clause cites these.
+-- The demands of a node's stages. No public clause cites these.
 use Rattle.std.specs.Prelude.{ℕ, ◌≡◌, ◌+◌, ◌<◌, ◌≤◌, List, length, map, sum, All, slice_index}
 use Rattle.transyt_parts.specs.declared.node.Stage.{Stage}
 use Rattle.transyt_parts.specs.Parts.{NodeValue}
@@ -15,7 +15,7 @@ pub record AskedValue : Type 0 where
   pub stages : List Stage
   pub demands : List Demand
 
--- what the stages of a node ask
+-- the demands of a node's stages
 abbrev pub asked_of : Network → NodeValue → AskedValue
 asked_of net n = record {
   steps = net.frame.step_count;
@@ -23,7 +23,7 @@ asked_of net n = record {
   demands = demands_of net n.number (length n.stages);
 }
 
--- what it keeps to: a demand for each stage, and least greens that fit into the cycle
+-- its invariant: a demand for each stage, and least greens that fit into the cycle
 pub record IsAsked (a : AskedValue) : Type 0 where
   pub short : a.steps ≤ 120
   pub few : (0 < length a.stages) × (length a.stages ≤ 8)

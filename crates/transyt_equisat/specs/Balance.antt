@@ -58,7 +58,7 @@ abbrev pub greens_at : Network → NodeValue → Fraction → List ℕ
 greens_at net n v =
     first_more (net.frame.step_count - (sum (least_greens net n v) + lost n.stages)) (least_greens net n v)
 
--- what the stage at a place needs: the least green at which each of its counted links is below v; 0 where v is 0
+-- the need of the stage at a place: the least green at which each of its counted links is below v; 0 where v is 0
 abbrev pub need_at : Network → NodeValue → Fraction → ℕ → ℕ
 need_at net n v k =
     if nat_eq v.top 0 then 0
@@ -116,7 +116,7 @@ balance_at net n v = answer_of net n v (greens_at net n v)
 abbrev pub balance : Network → ℕ → GreensValue
 balance net p = balance_at net (node_of net p) (least_peak net (node_of net p))
 
--- what stands at a place where there is no share
+-- the share at a place that has none
 abbrev pub no_share : Share
 no_share = record { change = 0; green = 0; need = 0 }
 
@@ -129,7 +129,7 @@ timed stages shares =
 abbrev pub peak_told : GreensValue → Fraction
 peak_told g = record { top = g.top; base = g.base }
 
--- what the answer for a node is worth: its plan is allowed and has the greens and the peak told, no allowed plan of
+-- the worth of the answer for a node: its plan is allowed and has the greens and the peak told, no allowed plan of
 -- the node has a lower peak, and a lower one would need more steps than there are
 pub record IsBalanced (net : Network) (n : NodeValue) (g : GreensValue) : Type 0 where
   pub allowed : IsPlanOf net.frame.step_count n.stages (timed n.stages g.stages)

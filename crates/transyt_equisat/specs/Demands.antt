@@ -1,4 +1,4 @@
--- What the counted links of a stage ask of its green, as the one that asks most. No public clause cites these.
+-- The demand of a stage: that of its counted link that asks most. No public clause cites these.
 use Rattle.std.specs.Prelude.{ℕ, ◌+◌, ◌*◌, Bool, ◌&&◌, nat_lt, List, map, if◌then◌else◌}
 use Rattle.std.specs.List.{fold, range_with_len}
 use Rattle.transyt_parts.specs.Parts.{LinkValue}
@@ -8,11 +8,11 @@ use Rattle.transyt_equisat.specs.declared.fraction.Fraction.{Fraction}
 use Rattle.transyt_equisat.specs.declared.demand.Demand.{Demand}
 use Rattle.transyt_equisat.specs.Degrees.{counts_in}
 
--- what a stage with no counted link asks
+-- the demand of a stage with no counted link
 abbrev pub no_demand : Demand
 no_demand = record { flow = 0; saturation = 1 }
 
--- what a link asks
+-- the demand of a link
 abbrev pub demand_of : LinkValue → Demand
 demand_of l = record { flow = total_flow l; saturation = l.saturation }
 

@@ -79,7 +79,7 @@ told_of steps greens o = record {
   link = number_found o;
 }
 
--- what the balance of a node stands on in a valid network
+-- the conditions of a node's balance in a valid network
 pub record IsSetting (net : Network) (n : NodeValue) : Type 0 where
   pub steps : (0 < net.frame.step_count) × (net.frame.step_count ≤ 120)
   pub stages : (2 ≤ length n.stages) × (length n.stages ≤ 8)

@@ -1,4 +1,4 @@
-//! What the stages of a node ask of its cycle.
+//! The demands of a node's stages.
 
 ghost use Rattle.std.specs.Prelude.{◌≡◌, ◌<◌, length, All};
 ghost use Rattle.transyt_net.specs.Parts.{node_of};
@@ -10,7 +10,7 @@ use std::marker::Model;
 use transyt_net::Net;
 use transyt_parts::Stage;
 
-/// What the stages of a node ask: the steps of the cycle, the stages, and for each what its counted links ask.
+/// The demands of a node's stages: the steps of the cycle, the stages, and for each the demand of its counted links.
 #[derive(Drop)]
 pub(crate) struct Asked<'a> {
     steps: u32,
@@ -30,7 +30,7 @@ impl<'a> Model for Asked<'a> {
 }
 
 impl<'a> Asked<'a> {
-    /// What the stages of the node at a place ask, where these are their demands.
+    /// The demands of the stages of the node at a place, where these are theirs.
     pub(crate) fn new(net: &'a Net, node: usize, demands: &'a [Demand]) -> Asked<'a>
         requires node { node < length net.now.nodes }
         requires demands { demands.now ≡ demands_of net.now (node_of net.now node).number

@@ -172,7 +172,7 @@ fn reaching(net: &Net, number: u32, peak: Fraction, greens: &[u32]) -> Option<us
     None
 }
 
-/// What an answer tells of its peak.
+/// The peak as an answer tells it.
 struct Told {
     top: u32,
     base: u32,
@@ -270,7 +270,7 @@ fn answer_for(
 ///
 /// Of all allowed plans with the node's intergreens and least greens it takes one whose peak, the
 /// greatest degree of its counted links, is least. The greens are the least ones for that peak, and
-/// what is left of the cycle goes to the first stage. Lags and give-way rules aren't looked at.
+/// the rest of the cycle goes to the first stage. Lags and give-way rules aren't looked at.
 pub fn balance(alloc: Global, net: &Net, node: usize) -> Result<Greens, AllocError>
     requires { node < length net.now.nodes }
     ensures value { IfOk result (λ g. g ≡ balance net.now node) }

@@ -1,4 +1,4 @@
-//! What a stage's counted links ask of its green.
+//! The demand of a stage: the green that its counted links ask for.
 
 ghost use Rattle.std.specs.Prelude.{◌≡◌, ℕ, ◌+◌, ◌*◌, ◌<◌, ◌≤◌, length, map, All, IfOk, if◌then◌else◌, slice_index_or};
 ghost use Rattle.std.specs.List.{range_with_len};

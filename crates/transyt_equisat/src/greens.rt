@@ -2,7 +2,7 @@
 
 use std::marker::Model;
 
-/// What a stage gets, in steps.
+/// The green of a stage, in steps.
 #[derive(Clone, Copy, Debug, PartialEq, Eq)]
 pub struct Share {
     /// The step of the node's clock at which the stage begins.

@@ -1,4 +1,4 @@
--- What a call of `gather` does to the line that is kept; no public clause cites it.
+-- The effect of `gather` on the line that is kept; no public clause cites it.
 use Rattle.std.specs.Prelude.{◌≡◌, ℕ, ◌+◌, ◌++◌, List, ◌∷◌, Bool, false, take, drop, Option, MatchOption}
 use Rattle.transyt_io.specs.Lines.{lines_by, has_end}
 

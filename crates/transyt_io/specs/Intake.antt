@@ -1,10 +1,10 @@
--- What taking a whole input does to its source.
+-- The effect on a source of taking all its input.
 use Rattle.std.specs.Prelude.{◌≡◌, ◌≤◌, ℕ, List, Option, Result, MatchResult, length}
 use Rattle.transyt_io.specs.declared.reader.ReadStop.{ReadStop}
 use Rattle.transyt_io.specs.declared.reader.ReadStop.TheVariants.{Fault, TooLong}
 use Rattle.transyt_io.specs.Streams.{Takes, IsAtEnd}
 
--- what a stop says of the bytes taken
+-- the meaning of a stop for the bytes taken
 abbrev pub StopTakes : List ℕ → ReadStop → Type 0
 StopTakes taken Fault = length taken ≤ 4194304
 StopTakes taken TooLong = length taken ≡ 4194305

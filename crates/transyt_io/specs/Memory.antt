@@ -11,7 +11,7 @@ next_count n = min (n + 1) last_count
 abbrev pub fails_next : List ℕ → ℕ → Bool
 fails_next fail calls = nat_lt calls 4294967295 && list_any (λ number. number == calls + 1) fail
 
--- what a MemorySource is seen as
+-- the view of a MemorySource
 pub record Supply : Type 0 where
   -- the bytes left
   pub left : List ℕ
@@ -56,7 +56,7 @@ supply_after_fault supply = record {
   last = 0;
 }
 
--- what a SteadySource is seen as
+-- the view of a SteadySource
 pub record Stock : Type 0 where
   -- the bytes left
   pub left : List ℕ
@@ -67,7 +67,7 @@ pub record Stock : Type 0 where
 abbrev pub stock_after : Stock → ℕ → Stock
 stock_after stock n = record { left = drop n stock.left; last = n }
 
--- what a MemorySink is seen as
+-- the view of a MemorySink
 pub record Store : Type 0 where
   -- the bytes written
   pub written : List ℕ

@@ -1,4 +1,4 @@
--- What a line reader is seen as. It names no type of the crate, so that the reader's model may cite it.
+-- The view of a line reader. It names no type of the crate, so that the reader's model may cite it.
 use Rattle.std.specs.Prelude.{ℕ, List, Bool, Option}
 
 -- a reader of lines

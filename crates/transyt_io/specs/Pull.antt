@@ -1,4 +1,4 @@
--- What a call of `read_on` does; no public clause cites it.
+-- The effect of `read_on`; no public clause cites it.
 use Rattle.std.specs.Prelude.{◌≡◌, ◌<◌, ◌≤◌, ℕ, ◌+◌, ◌-◌, ◌++◌, List, [], ◌∷◌, Bool, false, Option, Result, IfSome}
 use Rattle.std.specs.Prelude.{MatchResult, MatchOption, length}
 use Rattle.std.specs.List.{between}

@@ -1,4 +1,4 @@
--- What a line reader took and handed out, and what a call of `next` does to both.
+-- The bytes that a line reader took, the lines that it handed out, and the effect of `next` on both.
 use Rattle.std.specs.Prelude.{◌≡◌, ◌≤◌, ◌⊎◌, ℕ, ◌+◌, ◌-◌, ◌*◌, ◌++◌, List, [], ◌∷◌, Bool, true, false, Option, Some}
 use Rattle.std.specs.Prelude.{None, Result, Ok, Err, IfSome, MatchResult, length, take}
 use Rattle.transyt_io.specs.declared.reader.Line.{Line}
@@ -25,12 +25,12 @@ pub record HandedOut (reading : Reading) (left : Option (List ℕ)) (taken : Lis
   pub now : reading.line ≡ Some line
   pub has_read : HasRead reading left taken (given ++ line ∷ [])
 
--- what an answer says of all bytes taken and of the lines handed out before this call
+-- the meaning of an answer for all bytes taken and the lines handed out before this call
 abbrev pub AnswerSays : Reading → Option (List ℕ) → List ℕ → List (List ℕ) → Line → Type 0
 AnswerSays reading left taken given Text = HandedOut reading left taken given
 AnswerSays reading left taken given End = (given ≡ lines taken) × IsAtEnd left × (length taken ≤ 4194304)
 
--- what a stop says of them: all whole lines were handed out, at TooLong those of the first 4,194,304 bytes
+-- the meaning of a stop for them: all whole lines were handed out, at TooLong those of the first 4,194,304 bytes
 abbrev pub StopSays : List ℕ → List (List ℕ) → ReadStop → Type 0
 StopSays taken given Fault = (given ≡ whole taken) × (length taken ≤ 4194304)
 StopSays taken given TooLong = (length taken ≡ 4194305) × (given ≡ whole (take 4194304 taken))

@@ -1,14 +1,14 @@
 -- The ends of std: what contracts see of them.
 use Rattle.std.specs.Prelude.{ℕ, List, ◌||◌, IsTrue, Option, None, Some, is_none, is_some}
 
--- what an end of std is seen as
+-- the view of an end of std
 pub record StdEnd : Type 0 where
   -- of a reader the bytes left, of a writer the bytes that it holds, where std told them when the end was made
   pub told : Option (List ℕ)
   -- how many calls failed
   pub faults : ℕ
 
--- what is told now, where something was told at first
+-- the bytes told now, where some were told at first
 abbrev pub told_since : Option (List ℕ) → Option (List ℕ) → Option (List ℕ)
 told_since None now = None
 told_since (Some first) now = now

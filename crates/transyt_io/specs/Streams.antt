@@ -1,12 +1,12 @@
--- What reads and writes do to what a source or sink tells.
+-- The effect of reads and writes on the bytes that a source or sink tells.
 use Rattle.std.specs.Prelude.{◌≡◌, ◌<◌, ◌≤◌, ◌⊎◌, ◌++◌, ℕ, List, [], Option, Result, IfSome, OnErr, MatchResult, take}
 use Rattle.std.specs.Prelude.{option_map}
 
--- what a source told before it gave these bytes
+-- the bytes that a source told before it gave these
 abbrev pub followed_by : List ℕ → Option (List ℕ) → Option (List ℕ)
 followed_by front told = option_map (λ rest. front ++ rest) told
 
--- what a sink tells after it took these bytes
+-- the bytes that a sink tells after it took these
 abbrev pub extended_by : Option (List ℕ) → List ℕ → Option (List ℕ)
 extended_by told back = option_map (λ front. front ++ back) told
 

@@ -25,7 +25,7 @@ use crate::streams::{Failed, Source};
 use std::alloc::{AllocError, Global};
 use std::marker::Model;
 
-/// What a call of `LineReader::next` found.
+/// The answer of `LineReader::next`.
 #[derive(Debug, Clone, Copy, PartialEq, Eq)]
 pub enum Line {
     /// A line, which `LineReader::line` gives.

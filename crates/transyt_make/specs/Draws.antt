@@ -10,7 +10,7 @@ unfoldable pub after_draws : ℕ → ℕ → ℕ
 after_draws seed zero = seed
 after_draws seed (suc k) = next (after_draws seed k)
 
--- what a number gives as a draw below a
+-- the draw below a that a number gives
 abbrev pub drawn : ℕ → ℕ → ℕ
 drawn x a = x / 65536 % a
 

@@ -46,7 +46,7 @@ moves net = flat_map (size_moves net.frame.step_count net.nodes) (sizes_of net.p
 unfoldable pub move_count : Network → ℕ
 move_count net = length (moves net)
 
--- what stands after the end of the list of moves
+-- the move past the end of the list
 abbrev pub no_move : Edit
 no_move = Offset 0 0
 

@@ -52,12 +52,12 @@ set_part feeder flow l = record l { feeds = on_numbered feeder_of (flow_to flow)
 abbrev pub set_cruise : ℕ → ℕ → LinkValue → LinkValue
 set_cruise feeder seconds l = record l { feeds = on_numbered feeder_of (cruise_to seconds) l.feeds feeder }
 
--- what an edit names: a node or a link, by its card number
+-- the part that an edit names: a node or a link, by its card number
 pub data Named : Type 0 where
   NamesNode : ℕ → Named
   NamesLink : ℕ → Named
 
--- what this edit names
+-- the part that this edit names
 abbrev pub named : Edit → Named
 named (Offset node offset) = NamesNode node
 named (Change node stage change) = NamesNode node
@@ -67,13 +67,13 @@ named (Cruise link feeder seconds) = NamesLink link
 named (Saturation link flow) = NamesLink link
 named (Weight link weights) = NamesLink link
 
--- what an edit does to the node that it names
+-- the node that an edit names, after it
 abbrev pub node_edit : Edit → NodeValue → NodeValue
 node_edit (Offset node offset) n = set_offset offset n
 node_edit (Change node stage change) n = set_change stage change n
 node_edit e n = n
 
--- what an edit does to the link that it names
+-- the link that an edit names, after it
 abbrev pub link_edit : Edit → LinkValue → LinkValue
 link_edit (Entry link flow) l = set_entry flow l
 link_edit (Part link feeder flow) l = set_part feeder flow l

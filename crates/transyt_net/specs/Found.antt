@@ -20,7 +20,7 @@ abbrev pub link_in : Option LinkValue → LinkValue
 link_in None = no_link
 link_in (Some l) = l
 
--- what is found where there is no feed
+-- the feed that is found where there is none
 abbrev pub no_feed : Feed
 no_feed = record { feeder = 0; flow = 0; cruise = 0 }
 

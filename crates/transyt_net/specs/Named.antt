@@ -1,4 +1,4 @@
--- What an edit needs of the part that it names, and where a part stands. No public clause cites these: they say what
+-- The conditions of an edit on its part, and where a part stands. No public clause cites these: they say what
 -- the private steps of an edit need.
 use Rattle.std.specs.Prelude.{⊤, ◌≡◌, ℕ, ◌<◌, ◌≤◌, true, false, nat_eq, List, length, slice_index_or}
 use Rattle.transyt_net.specs.declared.edit.Edit.{Edit}
@@ -6,12 +6,12 @@ use Rattle.transyt_net.specs.declared.edit.Edit.TheVariants.{Change, Part, Cruis
 use Rattle.transyt_parts.specs.Parts.{NodeValue, LinkValue}
 use Rattle.transyt_parts.specs.Valid.{is_fed}
 
--- what an edit needs of the node that it names
+-- the condition of an edit on the node that it names
 abbrev pub NodeTakes : Edit → NodeValue → Type 0
 NodeTakes (Change node stage change) n = (1 ≤ stage) × (stage ≤ length n.stages)
 NodeTakes e n = ⊤
 
--- what an edit needs of the link that it names
+-- the condition of an edit on the link that it names
 abbrev pub LinkTakes : Edit → LinkValue → Type 0
 LinkTakes (Part link feeder flow) l = is_fed l.feeds feeder ≡ true
 LinkTakes (Cruise link feeder seconds) l = is_fed l.feeds feeder ≡ true

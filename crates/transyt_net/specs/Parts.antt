@@ -23,11 +23,11 @@ with_cycle net cycle = record net { frame = record net.frame { cycle = cycle } }
 abbrev pub with_signals : Network → Frame → List NodeValue → Network
 with_signals net frame nodes = record net { frame = frame; nodes = nodes }
 
--- what stands at a place where there is no node
+-- the node at a place that has none
 abbrev pub no_node : NodeValue
 no_node = record { number = 0; offset = 0; stages = [] }
 
--- what stands at a place where there is no link
+-- the link at a place that has none
 abbrev pub no_link : LinkValue
 no_link = record {
   number = 0;

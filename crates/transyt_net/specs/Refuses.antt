@@ -1,4 +1,4 @@
--- What a call answers that refuses by its first fault.
+-- The answer of a call that refuses by its first fault.
 use Rattle.std.specs.Prelude.{◌≡◌, Option, Some, None, Result, Ok, Err}
 
 -- A call refuses exactly where it has a first fault, and with that fault. Where it has none it succeeds, or is refused

@@ -3,7 +3,7 @@ use Rattle.std.specs.Prelude.{◌≡◌, map}
 use Rattle.transyt_net.specs.Parts.{Network}
 use Rattle.transyt_parts.specs.Shape.{bare_node, bare_link}
 
--- what no edit changes: the network with each number that an edit sets put to 0
+-- the shape of a network: each number that an edit sets put to 0
 abbrev pub shape : Network → Network
 shape net = record net { nodes = map bare_node net.nodes; links = map bare_link net.links }
 

@@ -1,4 +1,4 @@
--- What an edit names, and whether the network has it.
+-- The part that an edit names, and whether the network has it.
 use Rattle.std.specs.Prelude.{ℕ, ◌≤◌, length}
 use Rattle.std.specs.List.{Contains}
 use Rattle.transyt_net.specs.declared.edit.Edit.{Edit}
@@ -24,7 +24,7 @@ HasStage net node stage = HasNode net node × (1 ≤ stage) × (stage ≤ length
 abbrev pub HasFeed : Network → ℕ → ℕ → Type 0
 HasFeed net link feeder = HasLink net link × Contains (feeders (the_link net link).feeds) feeder
 
--- what an edit names is there
+-- the part that an edit names is there
 abbrev pub IsThere : Network → Edit → Type 0
 IsThere net (Offset node offset) = HasNode net node
 IsThere net (Change node stage change) = HasStage net node stage

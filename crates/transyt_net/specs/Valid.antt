@@ -1,4 +1,4 @@
--- What a network keeps to, and the part that a card number names.
+-- Valid networks, and the part that a card number names.
 use Rattle.std.specs.Prelude.{suc, zero, ◌≡◌, ℕ, ◌<◌, ◌≤◌, Bool, nat_eq, List, [], ◌∷◌, length, map}
 use Rattle.std.specs.Prelude.{Option, Some, None, IfSome, All, position, IsTrue, if◌then◌else◌}
 use Rattle.std.specs.List.{list_any}
@@ -79,18 +79,18 @@ rule_at links number = rule_in (numbered link_number links number)
 abbrev pub is_among : List ℕ → ℕ → Bool
 is_among numbers number = list_any (nat_eq number) numbers
 
--- what a feed keeps to
+-- a valid feed
 pub record IsFeed (numbers : List ℕ) (f : Feed) : Type 0 where
   pub feeder : IsTrue (is_among numbers f.feeder)
   pub flow : f.flow ≤ most_flow
   pub cruise : IsIn cruise_range f.cruise
 
--- what a give-way rule keeps to
+-- a valid give-way rule
 pub record IsRule (numbers : List ℕ) (r : GiveWay) : Type 0 where
   pub other : IsTrue (is_among numbers r.other)
   pub percent : r.percent ≤ most_percent
 
--- what a link keeps to, among these nodes and link numbers
+-- a valid link, among these nodes and link numbers
 pub record IsLink (steps : ℕ) (nodes : List NodeValue) (numbers : List ℕ) (l : LinkValue) : Type 0 where
   pub number : IsIn number_range l.number
   pub node : IsTrue (is_among (node_numbers nodes) l.node)

@@ -1,4 +1,4 @@
-//! What the definitions of edits and of a draft's calls come to.
+//! Worked edits and calls of a draft.
 ghost use Rattle.std.specs.Prelude.{◌≡◌, ◌↔◌, ◌<◌, ◌≤◌, ℕ, length, [], ◌∷◌, map, None, Some, IsTrue};
 ghost use Rattle.transyt_net.specs.declared.edit.Edit.{Edit};
 ghost use Rattle.transyt_net.specs.Parts.{Network};

@@ -57,7 +57,7 @@ impl Model for Net {
 }
 
 impl Net {
-    /// What holds for the whole network.
+    /// The numbers of the whole network.
     pub fn frame(&self) -> Frame
         ensures value { result ≡ self.now.frame }
         ensures valid { IsValid self.now }

@@ -9,7 +9,7 @@ use Rattle.transyt_parts.specs.declared.stage_plan.PlanFault.{PlanFault}
 use Rattle.transyt_parts.specs.declared.stage_plan.PlanFault.TheVariants.{FewStages, StageOrder, LeastGreen}
 use Rattle.transyt_parts.specs.Parts.{NodeValue}
 
--- what stands at a place where there is no stage
+-- the stage at a place that has none
 abbrev pub no_stage : Stage
 no_stage = record { change = 0; intergreen = 0; least = 0 }
 

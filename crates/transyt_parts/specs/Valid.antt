@@ -1,4 +1,4 @@
--- What each part of a network keeps to by itself. Offsets, changes, intergreens, least greens and lags are in steps.
+-- Valid parts, each by itself. Offsets, changes, intergreens, least greens and lags are in steps.
 use Rattle.std.specs.Prelude.{ℕ, ◌<◌, ◌≤◌, Bool, true, ◌&&◌, not, nat_le, nat_eq, List, [], ◌∷◌, length, map, All}
 use Rattle.std.specs.Prelude.{nat_lt}
 use Rattle.std.specs.List.{list_any}
@@ -61,25 +61,25 @@ link_in_range steps l =
 abbrev pub feed_in_range : Feed → Bool
 feed_in_range f = nat_le f.flow most_flow && is_in cruise_range f.cruise
 
--- what a stage keeps to
+-- a valid stage
 pub record IsStage (steps : ℕ) (s : Stage) : Type 0 where
   pub change : s.change < steps
   pub intergreen : s.intergreen < steps
   pub least : IsWithin 1 steps s.least
 
--- what a node keeps to, its plan apart
+-- a valid node, its plan apart
 pub record IsNode (steps : ℕ) (n : NodeValue) : Type 0 where
   pub number : IsIn number_range n.number
   pub offset : n.offset < steps
   pub stage_count : length n.stages ≤ most_stages
   pub stages : All (IsStage steps) n.stages
 
--- what the weights of a link keep to
+-- valid weights of a link
 pub record AreWeights (w : Weights) : Type 0 where
   pub delay : w.delay ≤ most_weight
   pub stop : w.stop ≤ most_weight
 
--- what the numbers of a link keep to, its names apart
+-- the numbers of a valid link, its names apart
 pub record HasRanges (steps : ℕ) (l : LinkValue) : Type 0 where
   pub number : IsIn number_range l.number
   pub entry : l.entry ≤ most_flow
@@ -88,13 +88,13 @@ pub record HasRanges (steps : ℕ) (l : LinkValue) : Type 0 where
   pub start_lag : l.start_lag < steps
   pub end_lag : l.end_lag < steps
 
--- what a climb plan keeps to
+-- a valid climb plan
 pub record IsPlan (steps : ℕ) (p : PlanValue) : Type 0 where
   pub budget : IsIn budget_range p.budget
   pub size_count : IsWithin 1 most_sizes (length p.sizes)
   pub sizes : All (λ h. (1 ≤ h) × (h < steps)) p.sizes
 
--- what a frame keeps to
+-- a valid frame
 pub record IsFrame (f : Frame) : Type 0 where
   pub cycle : IsIn cycle_range f.cycle
   pub step_count : IsIn step_count_range f.step_count

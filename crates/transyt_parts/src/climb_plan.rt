@@ -1,8 +1,8 @@
-//! What a climb does.
+//! The plan of a climb.
 
 use std::marker::Model;
 
-/// What a climb tries, and how often.
+/// The sizes that a climb tries, and how often it may look.
 #[derive(Debug, Drop)]
 pub struct ClimbPlan {
     /// How many moves a climb looks at, at most: 1 to 1,000,000.

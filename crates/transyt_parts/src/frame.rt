@@ -1,6 +1,6 @@
-//! What holds for the whole network.
+//! The numbers of the whole network.
 
-/// What holds for the whole network: the cycle and how it is worked out.
+/// The numbers of the whole network: the cycle, and how it is worked out.
 ///
 /// Times are in whole seconds, minutes or steps as each field says. LR 253 has the cycle, the steps
 /// and the dispersion; the sweeps, the period and the limits are this project's own.
@@ -14,7 +14,7 @@ pub struct Frame {
     pub sweeps: u32,
     /// The minutes that the random delay is worked out for, 15 to 120.
     pub period: u32,
-    /// What a stop weighs against a second of delay, in hundredths; at most 9,999.
+    /// The weight of a stop against a second of delay, in hundredths; at most 9,999.
     pub stop_penalty: u32,
     /// The dispersion of platoons in per cent, at most 100.
     pub dispersion: u32,

@@ -1,4 +1,4 @@
-//! What the tests of ranges and of plans tell.
+//! Worked ranges and stage plans.
 ghost use Rattle.std.specs.Prelude.{◌≡◌, ◌≢◌, ◌↔◌, ◌<◌, ◌≤◌, ◌-◌, ℕ, [], ◌∷◌, true, false, map, replicate, List, length, sum, All, None, Some, IsTrue};
 ghost use Rattle.transyt_parts.specs.Ranges.{within, IsWithin, is_in, IsIn, most_flow, cruise_range, number_range, budget_range, most_stages, most_sizes};
 ghost use Rattle.transyt_parts.specs.WorkedPlans as plan;

@@ -8,7 +8,7 @@ ghost use Rattle.transyt_parts.specs.Valid.{is_fed};
 use std::alloc::AllocFailed;
 use std::marker::Model;
 
-/// What a link takes from another.
+/// The part of a link's traffic that comes from another link.
 #[derive(Clone, Copy, Debug, PartialEq, Eq)]
 pub struct Feed {
     /// The card number of the link that the vehicles come from.
@@ -28,7 +28,7 @@ pub struct GiveWay {
     pub percent: u32,
 }
 
-/// What the delay and the stops of a link weigh in the performance index. LR 253.
+/// The weights of a link's delay and stops in the performance index. LR 253.
 #[derive(Clone, Copy, Debug, PartialEq, Eq)]
 pub struct Weights {
     /// The weight of its delay, a whole number, at most 999.
@@ -75,7 +75,7 @@ pub struct Link {
     pub end_lag: u32,
     /// The stages of its node in which it runs, each from 1; one to eight of them, and none twice.
     pub stages: Vec<u32>,
-    /// What feeds it, at most 8, and no feeder twice.
+    /// Its feeds, at most 8, and no feeder twice.
     pub feeds: Vec<Feed>,
     /// To whom it gives way, if to anyone.
     pub gives_way: Option<GiveWay>,

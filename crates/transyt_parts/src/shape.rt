@@ -1,4 +1,4 @@
-//! What no edit changes of the parts, and how parts take the numbers of others of their shape.
+//! The shape of the parts, which no edit changes, and how parts take the numbers of others of their shape.
 //!
 //! An edit sets an offset, a change, a flow, a cruise time or a weight; all else is the shape. This
 //! project's own.

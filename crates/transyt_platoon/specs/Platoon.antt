@@ -16,7 +16,7 @@ unfoldable pub smoothed : List ℕ → ℕ → ℕ → ℕ
 smoothed profile weight zero = sum profile / length profile
 smoothed profile weight (suc j) = mixed weight (slice_index profile (j % length profile)) (smoothed profile weight j)
 
--- what arrives at step i: what the second turn round the cycle gives for the step that t steps of travel lead to i
+-- the arrivals of step i: the second turn's value for the step from which t steps of travel lead to i
 abbrev pub dispersed_at : List ℕ → ℕ → ℕ → ℕ → ℕ
 dispersed_at profile t percent i = smoothed profile (percent * t) (length profile + 1 + minus_mod (length profile) i t)
 

@@ -90,7 +90,7 @@ fn travel(journey: &Journey<'_>, out: &mut [u64])
     }
 }
 
-/// What goes by in one step: 100 parts of what set out and `weight` parts of what went by a step before.
+/// The passing traffic of one step: 100 parts of the departures and `weight` parts of the traffic a step before.
 fn mix(weight: u64, starting: u64, before: u64) -> u64
     requires weight { weight ≤ 96000 }
     requires starting { starting < 2 ^ 44 }

@@ -20,7 +20,7 @@ pub(crate) fn most_of(weight: u64) -> u64
     }
 }
 
-/// What `travel_by` mixes with: factors that take the place of a division.
+/// The factors of `travel_by`, which take the place of a division.
 #[derive(Clone, Copy)]
 struct Mixer {
     /// The weight of what went by a step before, against 100 of what sets out.
@@ -63,7 +63,7 @@ impl Mixer {
         }
     }
 
-    /// What goes by in one step, where `before` went by a step before.
+    /// The passing traffic of one step, where `before` went by a step before.
     fn mix(&self, starting: u64, before: u64) -> u64
         requires starting { starting < self.now.most }
         requires before { before < self.now.most }

@@ -88,7 +88,7 @@ fn print_plot<K: Sink>(
 }
 
 /// Appends the plot of the link at a place, each line handed to `write` in one piece: the step in three digits, then
-/// what comes (before any cut), what can go and what leaves, as 20 characters each for the greatest value of all three.
+/// arrivals (before any cut), GO and departures, as 20 characters each for the greatest value of all three.
 ///
 /// Failed comes only where the sink's count rose; a front of the text was appended then. What `line` held before is
 /// lost, and what it holds afterwards is unspecified.

@@ -54,7 +54,7 @@ pub fn share_ready(
     share_any(x, part, scale, lane, lanes)
 }
 
-/// What `share_ready` does with one product and no division a step, where all bits of the shares together are below
+/// `share_ready` with one product and no division a step, where all bits of the shares together are below
 /// the limit: then each share is. None where they are not. Nothing is tested at a step, so that no step waits for the one
 /// before.
 fn share_below(x: &[u64], part: &Part, scale: Scale, lane: usize, lanes: &mut [u64]) -> Option<u64>
@@ -88,7 +88,7 @@ fn share_below(x: &[u64], part: &Part, scale: Scale, lane: usize, lanes: &mut [u
     }
 }
 
-/// What `share_ready` does, however the part is and however large the shares are.
+/// `share_ready` for any part and shares of any size.
 fn share_any(x: &[u64], part: &Part, scale: Scale, lane: usize, lanes: &mut [u64]) -> Option<u64>
     requires most { length x.now ≤ 120 }
     requires lane { lane < 4 }

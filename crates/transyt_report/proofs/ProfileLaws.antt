@@ -12,7 +12,7 @@ evaluated_steps net l =
     subst (HasSteps net.frame.step_count) (sym (evaluated_is net l))
     (worked_steps net (read_of net net.frame.sweeps l) l)
 
--- what leaves a link at the last sweep is what leaves it in the evaluation
+-- a link's departures at the last sweep are those of the evaluation
 pub out_is : (net : Network) (l : ℕ) → 1 ≤ net.frame.sweeps → out_of net net.frame.sweeps l ≡ (evaluated net l).out
 out_is net l some =
     out_of_pair net net.frame.sweeps l some ∙ ap (λ (cell : CellValue). cell.out) (sym (evaluated_is net l))

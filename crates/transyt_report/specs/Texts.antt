@@ -58,15 +58,15 @@ timing_end = form_line (codes "END TIMING") []
 abbrev pub timing_text : Network → List ℕ
 timing_text net = flat_map (node_text_at net) (range_with_len 0 (length net.nodes)) ++ timing_end
 
--- what comes to the link at a place, before the cut
+-- the arrivals of the link at a place, before the cut
 unfoldable pub in_line : Network → ℕ → List ℕ
 in_line net l = values_line (codes "IN #") ((link_of net l).number ∷ []) (evaluated net l).arrivals
 
--- what can go of the link at a place
+-- GO of the link at a place
 unfoldable pub go_line : Network → ℕ → List ℕ
 go_line net l = values_line (codes "GO #") ((link_of net l).number ∷ []) (evaluated net l).go
 
--- what leaves the link at a place
+-- the departures of the link at a place
 unfoldable pub out_line : Network → ℕ → List ℕ
 out_line net l = values_line (codes "OUT #") ((link_of net l).number ∷ []) (evaluated net l).out
 

@@ -2,7 +2,7 @@
 
 use transyt_net::{Draft, Link, Net, Node};
 
-/// What a refused line meets: the form of the LINK cards, the steps of the cycle, and the nodes and links so far.
+/// The site of a refused line: the form of the LINK cards, the steps of the cycle, and the nodes and links so far.
 #[derive(Clone, Copy)]
 pub struct Site<'a> {
     /// The form of the LINK cards, 1 or 2.

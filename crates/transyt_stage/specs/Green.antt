@@ -62,11 +62,11 @@ shown_link net l = shown_of net.frame.step_count (the_node net (link_of net l).n
 abbrev pub is_green : Network → ℕ → ℕ → Bool
 is_green net l i = green_at (shown_link net l) (link_of net l).start_lag (link_of net l).end_lag i
 
--- what the green lets pass in step i, where `room` passes in a step of green
+-- GO in step i, where `room` passes in a step of green
 abbrev pub passed_at : List Bool → ℕ → ℕ → ℕ → ℕ → ℕ
 passed_at shown start_lag end_lag room i = if green_at shown start_lag end_lag i then room else 0
 
--- what the green of the link at a place lets pass in each step: the saturation flow, and nothing where it isn't green
+-- GO of the link at a place, in each step: the saturation flow, and nothing where it isn't green
 abbrev pub signal : Network → ℕ → List ℕ
 signal net l =
     map (passed_at (shown_link net l) (link_of net l).start_lag (link_of net l).end_lag

@@ -1,7 +1,7 @@
 -- Worked greens: those of the three junctions, and what is left of a green where a link gives way.
 use Rattle.std.specs.Prelude.{ℕ, List, [], ◌∷◌, ◌++◌, replicate, Bool, true, false}
 
--- what the green of each link of the three junctions lets pass in each step
+-- GO of each link of the three junctions, in each step
 abbrev pub greens : List (List ℕ)
 greens =
     (replicate 8 0 ++ replicate 6 2406944 ++ replicate 4 0)

@@ -1,4 +1,4 @@
-//! What is left of a link's green where it gives way to another link.
+//! GO of a link that gives way to another.
 
 ghost use Rattle.std.specs.Prelude.{◌≡◌, ◌^◌, ◌<◌, ◌≤◌, length, All};
 ghost use Rattle.transyt_stage.specs.GiveWay.{yielded, yielding};
@@ -20,7 +20,7 @@ pub fn give_way(other_out: &[u64], percent: u32, go: &mut [u64])
     }
 }
 
-/// What can still go in one step.
+/// GO of one step, beside the other link.
 fn yielded(percent: u32, other: u64, go: u64) -> u64
     requires percent { percent ≤ 400 }
     requires other { other < 2 ^ 30 }

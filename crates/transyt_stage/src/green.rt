@@ -68,7 +68,7 @@ pub fn fill_go(net: &Net, link: usize, out: &mut [u64])
     show_stages(net.frame().step_count, node, &found.stages, room, out);
 }
 
-/// What `fill_go` does, for a link with lags: first the steps at which it is shown, then those that are green.
+/// Fills GO of a link with lags: first the steps at which green is shown, then those at which traffic goes.
 fn fill_lagged(net: &Net, link: usize, out: &mut [u64])
     requires link { link < length net.now.links }
     requires steps { length out.old ≡ net.now.frame.step_count }
@@ -99,7 +99,7 @@ fn fill_passed(shown: &[bool], start_lag: u32, end_lag: u32, room: u64, out: &mu
     }
 }
 
-/// What the green lets pass in a step.
+/// GO of a step.
 fn passed_at(shown: &[bool], start_lag: u32, end_lag: u32, room: u64, step: usize) -> u64
     requires step { step < length shown.now }
     requires most { length shown.now ≤ 120 }

@@ -8,13 +8,13 @@ use std::sync::ledger::{Blank, Ledger};
 
 /// Work that counts its steps on a counter that it is handed, whatever ledger that is kept in.
 pub trait Counting: Sized {
-    /// What the work comes to.
+    /// The result of the work.
     type Answer;
 
-    /// What the work asks of the value that it is done with.
+    /// The condition on the value that the work is done with.
     ghost needs: { Self → Type 0 };
 
-    /// What the answer says of that value.
+    /// The fact that relates that value and the answer.
     ghost gives: { Self → Self.Answer → Type 0 };
 
     /// Does the work, and counts its steps.

@@ -47,7 +47,7 @@ scaled_no_more a b [] i part = omega arith
 scaled_no_more a b (x ∷ xs) zero part = scaled-le a b x part
 scaled_no_more a b (x ∷ xs) (suc i) part = scaled_no_more a b xs i part
 
--- what reaches the stop line sums to no more than the green lets pass
+-- the arrivals after the cut sum to no more than GO
 pub arrivals_total : (xs go : List ℕ) → sum (arrivals_of xs go) ≤ sum go
 arrivals_total xs go =
     elim (cases_lt (sum go) (sum xs)) as (λ w. sum (arrivals_of xs go) ≤ sum go) [

@@ -13,7 +13,7 @@ queue-le arrivals go i below =
     greatest-le (λ n. sum_back arrivals i n - sum_back go i n) (sum arrivals) (length arrivals)
     (λ n most. omega (arith, back-le arrivals n i below most))
 
--- what the green lets pass in a cycle is below 2^37
+-- GO of a cycle is below 2^37
 pub go_total : (go : List ℕ) → length go ≤ 120 → All (λ v. v < 2 ^ 30) go → sum go < 2 ^ 37
 go_total go most fit = omega (arith, sum_by-le (λ x. x) (2 ^ 30) go (λ k d below. omega (arith, fit k d below)))
 

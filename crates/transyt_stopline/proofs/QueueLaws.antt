@@ -46,7 +46,7 @@ queue_over arrivals go n i = greatest (λ m. sum_back arrivals i m - sum_back go
 abbrev pub first_at : List ℕ → List ℕ → ℕ → ℕ
 first_at arrivals go i = queue_over arrivals go (i + 1) i
 
--- what leaves in step i of the first turn
+-- the departures of step i in the first turn
 abbrev pub first_out : List ℕ → List ℕ → ℕ → ℕ
 first_out arrivals go i =
     queue_over arrivals go i (step_before (length arrivals) i) + get_or arrivals i 0 - first_at arrivals go i
@@ -86,7 +86,7 @@ pub step_before_pos : (n i : ℕ) → 0 < i → step_before n i ≡ i - 1
 step_before_pos n zero positive = absurd (omega arith)
 step_before_pos n (suc i) positive = omega arith
 
--- what left in the first n steps and the queue then are the queue at the start and the arrivals so far
+-- the departures of the first n steps and the queue then are the queue at the start and the arrivals so far
 pub outs_so_far : (arrivals go : List ℕ) (n : ℕ)
     → length go ≡ length arrivals → sum arrivals ≤ sum go → n ≤ length arrivals
     → sum (map (out_at arrivals go) (range_with_len 0 n)) + queue_at arrivals go (step_before (length arrivals) n)
@@ -109,7 +109,7 @@ outs_so_far arrivals go (suc n) same_length served most =
       ap (λ k. sum (take k arrivals)) next,
     )
 
--- what leaves in a cycle is what arrives in it
+-- the departures of a cycle sum to its arrivals
 pub outs_total : (arrivals go : List ℕ) → 0 < length arrivals → length go ≡ length arrivals → sum arrivals ≤ sum go
     → sum (outs arrivals go) ≡ sum arrivals
 outs_total arrivals go positive same_length served =
@@ -193,7 +193,7 @@ pub out-le-go : (arrivals go : List ℕ) (i : ℕ)
     → out_at arrivals go i ≤ get_or go i 0
 out-le-go arrivals go i same_length served below = omega (arith, queue_more arrivals go i same_length served below)
 
--- what leaves and what then stands is what stood and what arrived
+-- departures and the queue after are the queue before and the arrivals
 pub out_kept : (arrivals go : List ℕ) (i : ℕ)
     → length go ≡ length arrivals → sum arrivals ≤ sum go → i < length arrivals
     → out_at arrivals go i + queue_at arrivals go i

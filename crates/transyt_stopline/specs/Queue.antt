@@ -10,7 +10,7 @@ use Rattle.transyt_stopline.specs.LastSteps.{sum_back, sum_at_places, greatest}
 abbrev pub queue_at : List ℕ → List ℕ → ℕ → ℕ
 queue_at arrivals go i = greatest (λ n. sum_back arrivals i n - sum_back go i n) (length arrivals)
 
--- what leaves in step i: what stood before it and what arrived, less what stands after it
+-- the departures of step i: the queue before it and the arrivals, less the queue after it
 abbrev pub out_at : List ℕ → List ℕ → ℕ → ℕ
 out_at arrivals go i =
     queue_at arrivals go (step_before (length arrivals) i) + slice_index arrivals i - queue_at arrivals go i
@@ -19,7 +19,7 @@ out_at arrivals go i =
 abbrev pub queues : List ℕ → List ℕ → List ℕ
 queues arrivals go = map (queue_at arrivals go) (range_with_len 0 (length arrivals))
 
--- what leaves in each step
+-- the departures of each step
 abbrev pub outs : List ℕ → List ℕ → List ℕ
 outs arrivals go = map (out_at arrivals go) (range_with_len 0 (length arrivals))
 

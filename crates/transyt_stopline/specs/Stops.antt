@@ -2,14 +2,14 @@
 use Rattle.std.specs.Prelude.{ℕ, List, length, map, sum, slice_index, nat_lt, if◌then◌else◌}
 use Rattle.std.specs.List.{range_with_len}
 
--- what stops of the arrivals of one step: all of them where the step ends with a queue
+-- the stopped arrivals of one step: all of them where the step ends with a queue
 abbrev pub stopping : ℕ → ℕ → ℕ
 stopping arrival queue = (if nat_lt 0 queue then arrival else 0)
 
--- what stops of the arrivals of step i
+-- the stopped arrivals of step i
 abbrev pub stopped_at : List ℕ → List ℕ → ℕ → ℕ
 stopped_at arrivals queue i = stopping (slice_index arrivals i) (slice_index queue i)
 
--- what stops of a cycle's arrivals
+-- the stopped arrivals of a cycle
 abbrev pub stopped_of : List ℕ → List ℕ → ℕ
 stopped_of arrivals queue = sum (map (stopped_at arrivals queue) (range_with_len 0 (length arrivals)))

@@ -1,7 +1,7 @@
 -- Worked cycles at a stop line, with what comes of each. No number is neutral.
 use Rattle.std.specs.Prelude.{ℕ, List, [], ◌∷◌}
 
--- what the green lets pass in six steps
+-- GO in six steps
 abbrev pub green : List ℕ
 green = 0 ∷ 400009 ∷ 700001 ∷ 900001 ∷ 1 ∷ 0 ∷ []
 
@@ -9,7 +9,7 @@ green = 0 ∷ 400009 ∷ 700001 ∷ 900001 ∷ 1 ∷ 0 ∷ []
 abbrev pub crowd : List ℕ
 crowd = 1000003 ∷ 750007 ∷ 0 ∷ 37 ∷ 999999 ∷ 61 ∷ []
 
--- what of it reaches the stop line
+-- the arrivals after the cut
 abbrev pub cut_crowd : List ℕ
 cut_crowd = 727250 ∷ 545441 ∷ 0 ∷ 26 ∷ 727248 ∷ 44 ∷ []
 

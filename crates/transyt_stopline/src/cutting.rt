@@ -1,4 +1,4 @@
-//! What reaches the stop line of what comes to it.
+//! The cut: the arrivals that the green can serve.
 
 ghost use Rattle.std.specs.Prelude.{◌≡◌, ℕ, ◌^◌, ◌*◌, ◌<◌, ◌≤◌, length, sum, slice_index, All};
 ghost use Rattle.transyt_stopline.specs.Cut.{arrivals_of, scaled};
@@ -7,7 +7,7 @@ use crate::totals::Totals;
 use transyt_num::{divided_near, mul_div};
 use transyt_profile::total;
 
-/// What reaches the stop line of what comes to it.
+/// The cut: the arrivals that the green can serve.
 ///
 /// All three slices have one value for each step of the cycle, in millionths of a vehicle; what stood in `out` is
 /// overwritten. `go` is what the green lets pass. Where more comes in a cycle than that, each step is scaled down

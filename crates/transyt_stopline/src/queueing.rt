@@ -45,7 +45,7 @@ pub fn queue(arrivals: &[u64], go: &[u64], queue: &mut [u64], out: &mut [u64])
 
 /// Once round the cycle from an empty queue, and what then is left: the queue of every later cycle at its last step.
 ///
-/// What stands at a step is the greatest excess of the steps passed.
+/// The queue at a step is the greatest excess of the steps passed.
 fn first_turn(arrivals: &[u64], go: &[u64], queue: &mut [u64], out: &mut [u64]) -> u64
     requires steps { 0 < length arrivals.now }
     requires most { length arrivals.now ≤ 120 }

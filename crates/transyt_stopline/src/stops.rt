@@ -21,7 +21,7 @@ pub fn stopped(arrivals: &[u64], queue: &[u64]) -> u64
     all
 }
 
-/// What stops of one step's arrivals: all of them where a queue stands at the step's end.
+/// The stopped arrivals of one step: all of them where a queue stands at the step's end.
 fn stopping(arrival: u64, queue: u64) -> u64
     ensures value { result ≡ stopping arrival queue }
     ensures part { result ≤ arrival }

@@ -2,12 +2,12 @@
 
 ghost use Rattle.std.specs.Prelude.{◌<◌, ◌↔◌, IsTrue};
 
-/// What comes to a stop line in a cycle and what the green lets pass in it, in millionths of a vehicle.
+/// The arrivals at a stop line in a cycle and its GO, in millionths of a vehicle.
 #[derive(Clone, Copy, Debug, PartialEq, Eq)]
 pub struct Totals {
-    /// What comes, before any cut.
+    /// The arrivals, before any cut.
     pub come: u64,
-    /// What the green lets pass.
+    /// GO of a cycle.
     pub served: u64,
 }
 

@@ -35,7 +35,7 @@ pub record IsTable (rows steps : ℕ) (table : TableValue) : Type 0 where
   pub step_count : table.step_count ≡ steps
   pub count : table.count ≡ rows
 
--- what the parts of rows keep to: tables of their sizes, and the kept index is the sum of the links' indexes
+-- the invariant of rows: tables of their sizes, and the kept index is the sum of the links' indexes
 pub record AreKept (step_count sweeps : ℕ) (outs arrivals go queue : TableValue) (figures : List Figures) (index : ℕ)
     : Type 0 where
   pub rows : AreRows (rows_of step_count sweeps outs.items arrivals.items go.items queue.items figures)
@@ -45,7 +45,7 @@ pub record AreKept (step_count sweeps : ℕ) (outs arrivals go queue : TableValu
   pub go_size : IsTable (length figures) step_count go
   pub queue_size : IsTable (length figures) step_count queue
 
--- what the parts of rows that were written over keep to: tables of their sizes
+-- the invariant of rows that were written over: tables of their sizes
 pub record AreKeptApart (step_count sweeps : ℕ) (outs arrivals go queue : TableValue) (figures : List Figures)
     : Type 0 where
   pub rows : AreRows (rows_of step_count sweeps outs.items arrivals.items go.items queue.items figures)

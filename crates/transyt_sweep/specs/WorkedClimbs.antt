@@ -17,7 +17,7 @@ turned = one_node 9 3 1 []
 abbrev pub planless : Network
 planless = record idle { plan = None }
 
--- what a try of each of its six moves finds: an offset never is barred, and a first stage of two steps is
+-- the finds of its six moves: an offset never is barred, and a first stage of two steps is
 abbrev pub tried_in_idle : List (Option ℕ)
 tried_in_idle = Some 0 ∷ Some 0 ∷ None ∷ Some 0 ∷ Some 0 ∷ None ∷ []
 

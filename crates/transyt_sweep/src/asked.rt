@@ -9,7 +9,7 @@ use transyt_delay::{Figures, TermsFrame};
 use transyt_net::Net;
 use transyt_stopline::Totals;
 
-/// What the figures of a link take beside its rows and their sums.
+/// The terms of a link's figures beside its rows and their sums.
 #[derive(Clone, Copy)]
 pub(crate) struct Weights {
     /// The numbers of the network's frame.

@@ -84,7 +84,7 @@ entry_of table line = named table (first_word (words line))
 abbrev pub counts_of : {A : Type 0} → List (Entry A) → List ℕ → Option (ℕ × ℕ)
 counts_of table line = option_map (λ found. found.counts) (entry_of table line)
 
--- what a line's keyword says with its numbers
+-- the entry of a line's keyword, with its numbers
 abbrev pub says_of : {A : Type 0} → List (Entry A) → List ℕ → Option A
 says_of table line =
     option_and_then (λ found. option_map found.says (numbers_of line)) (entry_of table line)
@@ -94,7 +94,7 @@ abbrev pub unless : {A : Type 0} → Option Code → A → Result A Code
 unless (Some code) said = Err code
 unless None said = Ok said
 
--- what a line says by a table of keywords: nothing where it is skipped; else the first of the codes 11, 10, 12 and 13
+-- the meaning of a line by a table of keywords: none where it is skipped; else the first of the codes 11, 10, 12 and 13
 -- that holds of it, or what its keyword says with its numbers
 abbrev pub said : {A : Type 0} → List (Entry A) → List ℕ → Result (Option A) Code
 said table line =

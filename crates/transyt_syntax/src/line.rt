@@ -24,7 +24,7 @@ fn is_plain_line(line: &[u8]) -> bool
     line.iter().all(|b| is_plain(*b))
 }
 
-/// What a line that isn't skipped says, or the first of the codes 11, 10, 12 and 13 that holds of it.
+/// The entry and numbers of a line that isn't skipped, or the first of the codes 11, 10, 12 and 13 that holds of it.
 ///
 /// `further` are the words after its keyword; `found` are the least and the most numbers that the keyword takes and what
 /// it says with those of `further`, none where the line's first word is no keyword.

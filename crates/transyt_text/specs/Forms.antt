@@ -6,7 +6,7 @@ abbrev pub first_text : List ℕ → List ℕ
 first_text [] = []
 first_text (n ∷ ns) = decimal n
 
--- what stands for a byte of a form: for `#` the first number, and itself for any other
+-- the text of a byte of a form: for `#` the first number, and itself for any other
 abbrev pub piece : ℕ → List ℕ → List ℕ
 piece byte ns = if byte == 35 then first_text ns else byte ∷ []
 

@@ -1,4 +1,4 @@
--- What a call did to a sink that was to write a text.
+-- The effect on a sink of a call that writes a text.
 use Rattle.std.specs.Prelude.{ℕ, ◌≤◌, List, Option, Result, OnOk, OnErr}
 use Rattle.transyt_io.specs.Streams.{Adds, AddsFront, CountsFault}
 

@@ -37,7 +37,7 @@ abbrev pub may_have : ℕ → Network → Bool
 may_have steps net =
     is_in step_count_range steps && list_all (has_short_lags steps) net.links && has_short_sizes steps net.plan
 
--- what stages take at least: their least greens and their intergreens
+-- the least time of stages: their least greens and their intergreens
 abbrev pub least_length : List Stage → ℕ
 least_length stages = sum_by (λ s. s.least) stages + lost stages
 
@@ -103,12 +103,12 @@ balanced_nodes net = map (balanced_node net) (range_with_len 0 (length net.nodes
 abbrev pub balanced : Network → Network
 balanced net = record net { nodes = balanced_nodes net }
 
--- what a cycle time with so many steps comes to, by the number of the first node that bars it
+-- the plan of a cycle time with so many steps, or the number of the first node that bars it
 abbrev pub plan_by : Network → ℕ → Option ℕ → AtCycle
 plan_by net cycle (Some node) = Barred node
 plan_by net cycle None = Plan (balanced (bare_net net cycle))
 
--- what a cycle time comes to: no plan where it isn't a whole number of steps, or may not have them; barred by the first
+-- the plan of a cycle time: none where it isn't a whole number of steps, or may not have them; barred by the first
 -- node whose stages take more; else the bare network, balanced
 unfoldable pub at_cycle : Network → ℕ → AtCycle
 at_cycle net cycle =

@@ -1,4 +1,4 @@
--- What a network made of another keeps of it.
+-- The parts that a network made of another keeps.
 use Rattle.std.specs.Prelude.{⊤, ◌≡◌, ◌*◌, map}
 use Rattle.transyt_parts.specs.Shape.{bare_node}
 use Rattle.transyt_net.specs.Parts.{Network}

@@ -1,4 +1,4 @@
--- What the calls that make a bare plan need. No public clause cites these.
+-- The conditions of the calls that make a bare plan. No public clause cites these.
 use Rattle.std.specs.Prelude.{ℕ, ◌≡◌, ◌<◌, ◌≤◌, true, length, None}
 use Rattle.transyt_parts.specs.Parts.{NodeValue}
 use Rattle.transyt_parts.specs.Valid.{IsNode}

@@ -17,7 +17,7 @@ use std::alloc::{AllocError, Global};
 use transyt_equisat::{Greens, Share, balance};
 use transyt_net::{ClimbPlan, Frame, Link, Net, Node, Stage};
 
-/// What a cycle time of a network comes to.
+/// A network at another cycle time, or the reason why there is none.
 #[derive(Drop)]
 pub enum AtCycle {
     /// The cycle time isn't a whole number of the network's steps, or its steps aren't 10 to 120, or a lag or a step
@@ -361,7 +361,7 @@ fn plan_at(alloc: Global, net: &Net, cycle: u32) -> Result<Net, AllocError>
     made
 }
 
-/// What a cycle time of a network comes to.
+/// A network at another cycle time, or the reason why there is none.
 fn cycle_made(alloc: Global, net: &Net, cycle: u32) -> Result<AtCycle, AllocError>
     requires low { 30 ≤ cycle }
     requires high { cycle ≤ 240 }

@@ -1,4 +1,4 @@
--- What can go is lessened step by step.
+-- GO is lessened step by step.
 use Rattle.std.proofs.Common.{◌≡◌, ◌^◌, ◌<◌, ◌≤◌, ℕ, get_or}
 use Rattle.transyt_stage.specs.GiveWay.{yielded_at}
 use Rattle.transyt_stage.proofs.giving_way.give_way.Given as goal

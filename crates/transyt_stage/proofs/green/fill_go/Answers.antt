@@ -1,4 +1,4 @@
--- What passes without lags.
+-- GO without lags.
 use Rattle.std.proofs.Common.{rules}
 use Rattle.transyt_net.specs.Parts.{link_of}
 use Rattle.transyt_net.specs.Edits.{the_node}

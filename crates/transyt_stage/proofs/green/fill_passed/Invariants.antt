@@ -1,4 +1,4 @@
--- What passes, step by step.
+-- GO, step by step.
 use Rattle.std.proofs.Common.{◌≡◌, ◌^◌, ◌<◌, ℕ, get_or}
 use Rattle.transyt_stage.specs.Green.{passed_at}
 use Rattle.transyt_stage.proofs.green.fill_passed.Given as goal

@@ -40,7 +40,7 @@ returns-clause-recurrence c = λ i below.
       queue_more c.args.arrivals.now c.args.go.now i c.requires.go_len c.requires.served below,
     )
 
--- what leaves and what then stands is what stood and what arrived
+-- departures and the queue after are the queue before and the arrivals
 pub returns-clause-kept : goal.returns-clause-kept
 returns-clause-kept c = λ i below.
     let before : step_before (length c.args.arrivals.now) i < length c.args.arrivals.now = step_before-lt _ i below in
@@ -65,7 +65,7 @@ returns-clause-out_at_most_go c = λ i.
       | inr past ↦ omega (arith, get_or_past c.second_turn.new.out i 0 (omega arith))
     ]
 
--- what leaves in a cycle is what arrives in it
+-- the departures of a cycle sum to its arrivals
 pub returns-clause-total : goal.returns-clause-total
 returns-clause-total c =
     let out : ℕ → ℕ = out_at c.args.arrivals.now c.args.go.now in
@@ -84,7 +84,7 @@ returns-clause-queue_small c = λ k d below.
       queue-lt c.args.arrivals.now c.args.go.now k (omega arith) c.requires.served (omega arith) c.requires.go_fit,
     )
 
--- what leaves is below the limit of what the green lets pass
+-- departures are below the limit of GO
 pub returns-clause-out_small : goal.returns-clause-out_small
 returns-clause-out_small c = λ k d below.
     let go_small : get_or c.args.go.now k 0 < 2 ^ 30 = c.requires.go_fit k 0 (omega arith) in
