@@ -1,6 +1,6 @@
 -- Desks as a list, and the sessions of desks.
 use Rattle.std.proofs.Common.{◌≡◌, ℕ, zero, suc, ◌+◌, ◌-◌, ◌<◌, ◌≤◌, List, [], ◌∷◌, ◌++◌, length, take, drop}
-use Rattle.std.proofs.Common.{slice_index_or, slice_set, replicate, refl, ap, sym, ◌∙◌, arith, subst, None}
+use Rattle.std.proofs.Common.{slice_index_or, slice_set, replicate, refl, ap, sym, ◌∙◌, arith, None}
 use Rattle.std.proofs.Math.ListN.{get_or-map}
 use Rattle.std.proofs.lemmas.List.{length-map, map-append, same_lists, get_or_default, get_or-set_other}
 use Rattle.std.proofs.lemmas.List.{length-replicate, get_or-replicate, replicate-append-replicate}
@@ -14,10 +14,8 @@ use Rattle.transyt_net.specs.Shape.{SameShape, shape as shape_word}
 use Rattle.transyt_moves.specs.Moves.{move_count}
 use Rattle.transyt_session.specs.Session.{SessionValue, opened}
 use Rattle.transyt_desks.specs.declared.desk.Desk.{Desk}
-use Rattle.transyt_desks.specs.declared.stretch.Reach.{Reach}
-use Rattle.transyt_desks.specs.Stretches.{IsStretch, bound_at}
-use Rattle.transyt_desks.specs.Desks.{no_session, no_desk, new_desk, session_at, desk_zero, sessions_of, opened_desks, tried_at}
-use Rattle.transyt_desks.specs.Desks.{AreAligned, AreAlike, AreDesks, AreTried, HasTried, OthersClosed}
+use Rattle.transyt_desks.specs.Desks.{no_session, no_desk, new_desk, session_at, desk_zero, sessions_of, opened_desks}
+use Rattle.transyt_desks.specs.Desks.{AreAligned, AreAlike, AreDesks, OthersClosed}
 
 -- the session at a place is that of the desk there
 pub session_is : (desks : List Desk) (k : ℕ) → session_at (sessions_of desks) k ≡ (slice_index_or desks k no_desk).session
@@ -217,24 +215,6 @@ same_sessions olds news count same = same_lists (sessions_of news) (sessions_of 
         get_or-map-at (λ (d : Desk). d.session) news k no_desk s (omega (arith, count))
         ∙ same k no_desk here
         ∙ sym (get_or-map-at (λ (d : Desk). d.session) olds k no_desk s here)
-
--- aligned desks that have each tried a stretch have tried it on the network of desk 0
-pub all_tried : (reach : Reach) (olds news : List Desk) → AreAligned (sessions_of olds)
-    → sessions_of news ≡ sessions_of olds → length news ≡ length olds
-    → ((k : ℕ) (d : Desk) → k < length olds → HasTried reach k (slice_index_or olds k d) (slice_index_or news k d))
-    → AreTried reach news
-all_tried reach olds news aligned same count has = record { each = each }
-  where
-    each : (k : ℕ) → k < length news → IsStretch (desk_zero (sessions_of news)).net reach.place reach.count
-        (bound_at reach k) (bound_at reach (k + 1)) (tried_at news k)
-    each k less =
-        let here : k < length olds = omega (arith, count) in
-        let net_is : (slice_index_or olds k no_desk).session.net ≡ (desk_zero (sessions_of news)).net =
-        sym (ap (λ (s : SessionValue). s.net) (session_is olds k))
-        ∙ aligned.same k (omega (arith, sessions_count olds, here))
-        ∙ sym (ap (λ (ss : List SessionValue). (desk_zero ss).net) same) in
-        subst (λ (n : Network). IsStretch n reach.place reach.count (bound_at reach k) (bound_at reach (k + 1)) (tried_at news k))
-        net_is (has k no_desk here).tried
 
 -- no desk has an open trial
 pub all_closed : (desks : List Desk) (k : ℕ) (d : Desk) → OthersClosed (sessions_of desks)

@@ -1,5 +1,5 @@
 -- A round: how many turns it is, one turn, and the turns of a stretch.
-use Rattle.std.proofs.Common.{◌≡◌, ℕ, ◌+◌, ◌*◌, ◌<◌, ◌≤◌, Bool, true, false, None, List, length, min, refl, ap, sym, ◌∙◌, subst, arith}
+use Rattle.std.proofs.Common.{◌≡◌, ℕ, ◌+◌, ◌<◌, ◌≤◌, Bool, true, false, None, List, length, refl, ap, sym, ◌∙◌, subst, arith}
 use Rattle.std.proofs.Common.{slice_index_or, slice_set, if◌then◌else◌, ◌==◌}
 use Rattle.transyt_net.specs.declared.edit.Edit.{Edit}
 use Rattle.transyt_net.specs.Shape.{SameShape}
@@ -13,11 +13,10 @@ use Rattle.transyt_climb.specs.Turns.{Counters, Machine, machine, look_answer, a
 use Rattle.transyt_climb.proofs.WayLaws.{round_one}
 use Rattle.transyt_desks.specs.declared.desk.Desk.{Desk}
 use Rattle.transyt_desks.specs.declared.settling.Round.{Round}
-use Rattle.transyt_desks.specs.declared.stretch.Reach.{Reach}
 use Rattle.transyt_desks.specs.declared.stretch.Stretch.{Stretch}
-use Rattle.transyt_desks.specs.Stretches.{IsStretch, bound_at, place_at}
+use Rattle.transyt_desks.specs.Stretches.{IsStretch, place_at}
 use Rattle.transyt_desks.specs.Desks.{desk_zero, sessions_of}
-use Rattle.transyt_desks.specs.Rounds.{is_took, room_of, turns_of, turns_up_to, CanRound, IsReachOf, MakesRound, RoundsDesks}
+use Rattle.transyt_desks.specs.Rounds.{is_took, room_of, turns_of, turns_up_to, CanRound, MakesRound, RoundsDesks}
 use Rattle.transyt_desks.proofs.TriedLaws.{answers_look, answers_took}
 use Rattle.transyt_desks.proofs.LeastLaws.{up_to_one}
 use Rattle.transyt_desks.proofs.PassingLaws.{ArePassing, number_passed, number_took, round_passed, round_took}
@@ -127,12 +126,6 @@ makes_step places m now after s last ready since looked tried lower passing work
       closed = closed;
       few = omega (arith, few, work, tried.few);
     }
-
--- as many moves as the desks try
-pub reach_room : (c : Counters) (desks each : ℕ) (reach : Reach) → IsReachOf c each reach
-    → bound_at reach desks ≡ room_of (desks * each) c
-unfolding bound_at
-reach_room c desks each reach is = ap (λ e. min (desks * e) reach.room) is.each ∙ ap (min (desks * each)) is.room
 
 -- a round on the session of desk 0
 pub rounds_zero : (places : ℕ) (before after : Counters) (desks : List Desk) (d x : Desk) (result : Round) → 0 < length desks

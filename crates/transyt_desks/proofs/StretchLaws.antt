@@ -1,13 +1,12 @@
 -- Stretches: one try more, and one stretch after another.
-use Rattle.std.proofs.Common.{◌≡◌, ℕ, zero, suc, ◌+◌, ◌*◌, ◌<◌, ◌≤◌, Bool, true, false, nat_lt, if◌then◌else◌, refl, ap, sym, ◌∙◌, subst, arith}
+use Rattle.std.proofs.Common.{◌≡◌, ℕ, suc, ◌+◌, ◌<◌, ◌≤◌, Bool, true, false, nat_lt, if◌then◌else◌, refl, ap, sym, ◌∙◌, subst, arith}
 use Rattle.std.proofs.lemmas.Bool.Decides.{nat_tests}
 use Rattle.transyt_net.specs.Parts.{Network}
 use Rattle.transyt_moves.specs.Moves.{move}
 use Rattle.transyt_sweep.specs.Climb.{lowers}
 use Rattle.transyt_track.specs.Work.{edit_work}
-use Rattle.transyt_desks.specs.declared.stretch.Reach.{Reach}
 use Rattle.transyt_desks.specs.declared.stretch.Stretch.{Stretch}
-use Rattle.transyt_desks.specs.Stretches.{IsStretch, after_try, bound_at, joined, lowering, passing, place_at, untried, work_before}
+use Rattle.transyt_desks.specs.Stretches.{IsStretch, after_try, lowering, passing, place_at, untried, work_before}
 
 -- no move is tried before the first
 pub stretch_none : (net : Network) (place count n : ℕ) → IsStretch net place count n n untried
@@ -99,59 +98,3 @@ stretch_ended net place count from n to s is lower inside = record {
   found = is.found;
   whole = λ no. (let never : ⊥ = cc in absurd never);
 }
-
--- a stretch that passes, and the one after it
-pub stretch_joined : (net : Network) (place count from mid to : ℕ) (s t : Stretch) → IsStretch net place count from mid s
-    → s.lowers ≡ false → IsStretch net place count mid to t → IsStretch net place count from to (joined s t)
-stretch_joined net place count from mid to s t first going second =
-    let all : from + s.passed ≡ mid = first.whole going in
-    let end : from + (s.passed + t.passed) ≡ mid + t.passed = omega (arith, all) in
-    let worked : work_before net place count from + s.work ≡ work_before net place count mid =
-    first.work ∙ ap (work_before net place count) all in
-    record {
-      inside = omega (arith, all, second.inside);
-      passes = passes all;
-      work = omega (arith, worked, second.work) ∙ sym (ap (work_before net place count) end);
-      few = omega (arith, first.few, second.few);
-      next = λ yes. omega (arith, end, second.next yes);
-      found = λ yes. ap (λ j. lowers net (place_at place count j)) end ∙ second.found yes;
-      whole = λ no. end ∙ second.whole no;
-    }
-  where
-    passes : from + s.passed ≡ mid → (k : ℕ) → from ≤ k → k < from + (s.passed + t.passed)
-        → lowers net (place_at place count k) ≡ false
-    passes all k low less = by (nat_lt k mid) refl
-      where
-        by : (b : Bool) → nat_lt k mid ≡ b → lowers net (place_at place count k) ≡ false
-        by true fewer =
-            let inside : k < mid = grind (arith, nat_tests) in
-            first.passes k low (omega (arith, all, inside))
-        by false last =
-            let past : mid ≤ k = grind (arith, nat_tests) in
-            second.passes k past (omega (arith, all, less))
-
--- no desk begins past the last move
-pub bound_most : (reach : Reach) (desk : ℕ) → bound_at reach desk ≤ reach.room
-unfolding bound_at
-bound_most reach desk = omega arith
-
--- the first desk begins at the first move
-pub bound_zero : (reach : Reach) → bound_at reach 0 ≡ 0
-unfolding bound_at
-bound_zero reach = omega arith
-
--- a desk ends no earlier than it begins
-pub bound_next : (reach : Reach) (desk : ℕ) → bound_at reach desk ≤ bound_at reach (desk + 1)
-unfolding bound_at
-bound_next reach desk =
-    let more : (desk + 1) * reach.each ≡ desk * reach.each + reach.each = omega arith in
-    omega (arith, more)
-
--- nor does any desk after it begin earlier
-pub bound_up : (reach : Reach) (desk more : ℕ) → bound_at reach desk ≤ bound_at reach (desk + more)
-bound_up reach desk zero =
-    let same : desk + 0 ≡ desk = omega arith in
-    omega (arith, ap (bound_at reach) same)
-bound_up reach desk (suc n) =
-    let same : desk + suc n ≡ desk + n + 1 = omega arith in
-    omega (arith, ap (bound_at reach) same, bound_next reach (desk + n), bound_up reach desk n)

@@ -11,13 +11,14 @@ use Rattle.transyt_moves.specs.Moves.{move}
 use Rattle.transyt_sweep.specs.Sweeps.{index}
 use Rattle.transyt_sweep.specs.Climb.{lowers, moved, is_below, index_with, tried_at}
 use Rattle.transyt_track.specs.Work.{edit_work, work_with}
+use Rattle.transyt_session.specs.declared.answers.Tried.{Tried}
 use Rattle.transyt_session.specs.declared.answers.Tried.TheVariants.{Barred, Index}
 use Rattle.transyt_session.specs.Session.{SessionValue, try_of, tried_with}
 use Rattle.transyt_climb.specs.declared.turn.Turn.TheVariants.{Took, Passed, Local, Budget}
 use Rattle.transyt_climb.specs.Turns.{Machine, machine, look_answer, answer_of, after_answer, turned, noted}
 use Rattle.transyt_climb.proofs.LookLaws.{lowers_is}
 use Rattle.transyt_desks.specs.declared.stretch.Stretch.{Stretch}
-use Rattle.transyt_desks.specs.Stretches.{after_try, lowering, passing}
+use Rattle.transyt_desks.specs.Stretches.{after_found, after_try, lowering, passing}
 
 -- what a try of an allowed move says
 pub record IsIndexed (net : Network) (place found work : ℕ) : Type 0 where
@@ -153,3 +154,20 @@ after_higher net place found work s is higher =
     let tried : IsIndexed net place found work = tried_index net place found work is in
     ap (passing s) tried.work_is
     ∙ sym (ap (λ b. if b then lowering s else passing s (edit_work net (move net place))) (tried.lowers_is ∙ higher))
+
+-- a try of a move goes on as the move does
+pub after_tried : (net : Network) (place : ℕ) (found : Tried) (s : Stretch) → found ≡ try_of net (move net place)
+    → after_found (index net) found s ≡ after_try net place s
+after_tried net place Barred s is = after_barred net place s (sym is)
+after_tried net place (Index found work) s is = by (nat_lt found (index net)) refl
+  where
+    by : (b : Bool) → nat_lt found (index net) ≡ b → after_found (index net) (Index found work) s ≡ after_try net place s
+    by true lower =
+        ap (λ b. if b then lowering s else passing s work) lower ∙ after_lower net place found work s (sym is) lower
+    by false higher =
+        ap (λ b. if b then lowering s else passing s work) higher ∙ after_higher net place found work s (sym is) higher
+
+-- its work is that of the move
+pub found_work : (net : Network) (place found work : ℕ) → Index found work ≡ try_of net (move net place)
+    → work ≡ edit_work net (move net place)
+found_work net place found work is = (tried_index net place found work (sym is)).work_is

@@ -1,5 +1,5 @@
 -- Desks: sessions that try candidates for one climb, desk 0 first.
-use Rattle.std.specs.Prelude.{◌≡◌, ℕ, ◌+◌, ◌-◌, ◌<◌, ◌≤◌, List, [], ◌∷◌, map, length, None, replicate}
+use Rattle.std.specs.Prelude.{◌≡◌, ℕ, ◌-◌, ◌<◌, ◌≤◌, List, [], ◌∷◌, map, length, None, replicate}
 use Rattle.std.specs.Prelude.{slice_index_or, slice_set}
 use Rattle.transyt_parts.specs.declared.frame.Frame.{Frame}
 use Rattle.transyt_net.specs.Parts.{network_of}
@@ -7,9 +7,6 @@ use Rattle.transyt_net.specs.Shape.{SameShape}
 use Rattle.transyt_session.specs.declared.answers.Tried.TheVariants.{Barred}
 use Rattle.transyt_session.specs.Session.{SessionValue, opened}
 use Rattle.transyt_desks.specs.declared.desk.Desk.{Desk}
-use Rattle.transyt_desks.specs.declared.stretch.Reach.{Reach}
-use Rattle.transyt_desks.specs.declared.stretch.Stretch.{Stretch}
-use Rattle.transyt_desks.specs.Stretches.{IsStretch, bound_at, untried}
 
 -- what stands where there is no frame
 abbrev pub no_frame : Frame
@@ -59,23 +56,8 @@ sessions_of desks = map (λ d. d.session) desks
 
 -- a new desk with a session
 abbrev pub new_desk : SessionValue → Desk
-new_desk session = record { session = session; tried = untried; finds = replicate 32 Barred }
+new_desk session = record { session = session; finds = replicate 64 Barred }
 
 -- what stands where there is no desk
 abbrev pub no_desk : Desk
 no_desk = new_desk no_session
-
--- what the desk at a place has tried
-abbrev pub tried_at : List Desk → ℕ → Stretch
-tried_at desks k = (slice_index_or desks k no_desk).tried
-
--- a desk that has tried its stretch of a reach, before and after
-pub record HasTried (reach : Reach) (number : ℕ) (before after : Desk) : Type 0 where
-  pub session : after.session ≡ before.session
-  pub tried : IsStretch before.session.net reach.place reach.count (bound_at reach number) (bound_at reach (number + 1))
-      after.tried
-
--- desks that have each tried a stretch of a reach on the network of desk 0
-pub record AreTried (reach : Reach) (desks : List Desk) : Type 0 where
-  pub each : (k : ℕ) → k < length desks → IsStretch (desk_zero (sessions_of desks)).net reach.place reach.count
-      (bound_at reach k) (bound_at reach (k + 1)) (tried_at desks k)

@@ -84,10 +84,10 @@ pub record RoundsDesks (places : ℕ) (before : Counters) (olds : List SessionVa
   pub made : MakesRound places (machine before (desk_zero olds)) (machine after (desk_zero news)) result
   pub others : news ≡ with_zero olds (desk_zero news)
 
--- the next moves of a climber's list, so many each desk
-pub record IsReachOf (c : Counters) (size : ℕ) (reach : Reach) : Type 0 where
+-- the next moves of a climber's list, for so many desks
+pub record IsReachOf (c : Counters) (places count : ℕ) (reach : Reach) : Type 0 where
   pub place : reach.place ≡ c.place
-  pub count : reach.count ≡ c.count
-  pub room : reach.room ≡ min (c.budget - c.looked) (c.count - c.since)
-  pub each : reach.each ≡ size
+  pub list : reach.count ≡ c.count
+  pub room : reach.room ≡ room_of places c
+  pub desks : reach.desks ≡ count
   pub is : IsReach reach

@@ -1,9 +1,11 @@
--- Stretches: the moves that one desk of a round tries.
-use Rattle.std.specs.Prelude.{◌≡◌, ℕ, zero, suc, ◌+◌, ◌*◌, ◌%◌, ◌^◌, ◌<◌, ◌≤◌, min, true, false, if◌then◌else◌}
+-- Stretches: the moves that the desks of a round try, up to the first that lowers the index.
+use Rattle.std.specs.Prelude.{◌≡◌, ℕ, zero, suc, ◌+◌, ◌*◌, ◌%◌, ◌<◌, ◌≤◌, nat_lt, true, false, if◌then◌else◌}
 use Rattle.transyt_net.specs.Parts.{Network}
 use Rattle.transyt_moves.specs.Moves.{move}
 use Rattle.transyt_sweep.specs.Climb.{lowers}
 use Rattle.transyt_track.specs.Work.{edit_work}
+use Rattle.transyt_session.specs.declared.answers.Tried.{Tried}
+use Rattle.transyt_session.specs.declared.answers.Tried.TheVariants.{Barred, Index}
 use Rattle.transyt_desks.specs.declared.stretch.Reach.{Reach}
 use Rattle.transyt_desks.specs.declared.stretch.Stretch.{Stretch}
 
@@ -11,15 +13,12 @@ use Rattle.transyt_desks.specs.declared.stretch.Stretch.{Stretch}
 abbrev pub place_at : ℕ → ℕ → ℕ → ℕ
 place_at place count number = (place + number) % count
 
--- the number of the move at which a desk begins, and the desk before it ends
-unfoldable pub bound_at : Reach → ℕ → ℕ
-bound_at reach desk = min (desk * reach.each) reach.room
-
--- a reach round a list that has its place, with few moves each desk
+-- a reach round a list that has its place, with at most 64 moves for each of one to eight desks
 pub record IsReach (reach : Reach) : Type 0 where
   pub place : reach.place < reach.count
-  pub room : reach.room < 2 ^ 32
-  pub each : reach.each ≤ 65536
+  pub some : 0 < reach.desks
+  pub many : reach.desks ≤ 8
+  pub room : reach.room ≤ 64 * reach.desks
 
 -- no move was tried
 abbrev pub untried : Stretch
@@ -33,13 +32,14 @@ passing s work = record { passed = s.passed + 1; work = s.work + work; lowers = 
 abbrev pub lowering : Stretch → Stretch
 lowering s = record { passed = s.passed; work = s.work; lowers = true }
 
--- a stretch, and the one after it
-abbrev pub joined : Stretch → Stretch → Stretch
-joined s t = record { passed = s.passed + t.passed; work = s.work + t.work; lowers = t.lowers }
-
 -- a stretch after one try more
 abbrev pub after_try : Network → ℕ → Stretch → Stretch
 after_try net place s = if lowers net place then lowering s else passing s (edit_work net (move net place))
+
+-- the same, by the try, where the network has this index
+abbrev pub after_found : ℕ → Tried → Stretch → Stretch
+after_found limit Barred s = passing s 0
+after_found limit (Index found work) s = if nat_lt found limit then lowering s else passing s work
 
 -- the work of the moves before a number
 abbrev pub work_before : Network → ℕ → ℕ → ℕ → ℕ

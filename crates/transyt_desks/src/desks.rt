@@ -16,7 +16,6 @@ use crate::finding::find_moves;
 use crate::gate::Gate;
 use crate::rounds::{aligned_round, alike_round};
 use crate::settling::Round;
-use crate::stretch::untried;
 use std::alloc::{AllocError, Global};
 use std::marker::Model;
 use std::sync::ledger::Ledger;
@@ -99,7 +98,8 @@ impl Desks {
     /// moves for each desk.
     ///
     /// No session changes, but that the other desks stand for the network of desk 0 afterwards. No work is added: whoever
-    /// wants it counted credits it. A desk tries its part between entering and leaving the gate. It takes no memory.
+    /// wants it counted credits it. The moves come to the desks in turn. A desk tries its own between entering and leaving
+    /// the gate. It takes no memory.
     pub fn try_moves<R: Threads + Sync, G: Gate>(
         &mut self,
         rt: &R,
@@ -150,13 +150,13 @@ impl Desks {
         )
     }
 
-    /// A round in which desk 0 goes on alone for a while after a step, and then every desk tries a stretch of the next
-    /// moves, a longer one the longer no move lowers the index: as many moves in all as `places_of` says. The first of
-    /// them that lowers the index is made at desk 0.
+    /// A round in which desk 0 goes on alone for a while after a step, and then the desks try the next moves in turn, the
+    /// more the longer no move lowers the index: as many in all as `places_of` says. The first of them that lowers the
+    /// index is made at desk 0.
     ///
     /// Right after a step the same move mostly lowers the index again, so that one desk goes on alone, with nothing to
     /// copy. The other desks are left behind, and stand for the network of desk 0 again once they try. A desk tries its
-    /// stretch between entering and leaving the gate. All else is as in `round`.
+    /// moves between entering and leaving the gate. All else is as in `round`.
     pub fn stretch_round<R: Threads + Sync, G: Gate, L: Ledger>(
         &mut self,
         rt: &R,
@@ -211,8 +211,7 @@ fn add_desk(desks: &mut Vec<Desk>, session: Session) -> Result<(), AllocError>
 {
     let desk = Desk {
         session,
-        tried: untried(),
-        finds: [Tried::Barred; 32],
+        finds: [Tried::Barred; 64],
     };
     desks.push(desk)?;
     Ok(())

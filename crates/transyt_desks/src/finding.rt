@@ -1,54 +1,60 @@
-//! Consecutive moves of the list, all tried at once.
+//! Moves of the list, all tried at once.
 
 ghost use Rattle.std.specs.Prelude.{◌≡◌, ℕ, ◌+◌, ◌*◌, ◌^◌, ◌<◌, ◌≤◌, length, None, All, slice_index_or};
-ghost use Rattle.transyt_moves.specs.Moves.{move_count};
+ghost use Rattle.transyt_moves.specs.Moves.{move, move_count};
+ghost use Rattle.transyt_sweep.specs.Sweeps.{index};
+ghost use Rattle.transyt_track.specs.Work.{edit_work};
+ghost use Rattle.transyt_session.specs.Session.{try_of};
 ghost use Rattle.transyt_desks.specs.Desks.{AreAligned, OthersClosed, desk_zero, sessions_of};
-ghost use Rattle.transyt_desks.specs.Finds.{AreFound, AreTriesOf, HasFound, IsListReach};
+ghost use Rattle.transyt_desks.specs.Finds.{AreFinds, AreFound, AreTriesOf, HasFound};
+ghost use Rattle.transyt_desks.specs.Stretches.{IsReach, IsStretch, place_at};
 ghost use Rattle.transyt_desks.specs.declared.desk.Desk.{Desk};
 
 use crate::crew::Crew;
 use crate::desk::Desk;
 use crate::gate::Gate;
-use crate::stretch::{Reach, bound, try_at};
+use crate::stretch::{Reach, Stretch, after_find, place_of, try_at, untried};
 use std::thread::{self, Threads};
 use transyt_moves::move_count;
 use transyt_session::{Session, Tried};
 
-/// Tries so many consecutive moves from a place on.
-fn find(session: &mut Session, from: u32, count: u32) -> [Tried; 32]
-    requires few { count ≤ 32 }
-    requires places { from + count ≤ move_count session.old.net }
-    requires small { move_count session.old.net < 2 ^ 32 }
+/// Tries the moves of a reach that come to a desk in turn.
+fn find(session: &mut Session, reach: Reach, desk: u32) -> [Tried; 64]
+    requires reach { IsReach reach }
+    requires desk { desk < 8 }
+    requires count { reach.count ≡ move_count session.old.net }
     requires closed { session.old.before ≡ None }
-    ensures tries { AreTriesOf session.old.net from count result }
+    ensures finds { AreFinds session.old.net reach desk result }
     ensures same { session.new ≡ session.old }
 {
-    let mut finds = [Tried::Barred; 32];
-    for number in 0..count {
-        finds[number as usize] = try_at(session, from + number);
+    let mut finds = [Tried::Barred; 64];
+    for turn in 0..64u32 {
+        let number = desk + turn * reach.desks;
+        if number >= reach.room {
+            return finds;
+        }
+        finds[turn as usize] = try_at(session, place_of(reach, number));
     }
     finds
 }
 
-/// Tries a desk's part of a reach, between entering and leaving the gate.
-fn find_part<G: Gate>(gate: &G, desk: &mut Desk, number: usize, reach: Reach)
+/// Tries a desk's moves of a reach, between entering and leaving the gate.
+fn find_at_gate<G: Gate>(gate: &G, desk: &mut Desk, number: usize, reach: Reach)
     requires number { number < 8 }
-    requires reach { IsListReach reach }
+    requires reach { IsReach reach }
     requires moves { move_count desk.old.session.net ≡ reach.count }
     requires closed { desk.old.session.before ≡ None }
     ensures { HasFound reach number desk.old desk.new }
 {
     gate.enter(number as u32);
-    let from = bound(reach, number);
-    let count = bound(reach, number + 1) - from;
-    desk.finds = find(&mut desk.session, reach.place + from, count);
+    desk.finds = find(&mut desk.session, reach, number as u32);
     gate.leave(number as u32);
 }
 
-/// Tries the moves of a reach, a part at each desk and all at once.
-fn find_parts<R: Threads + Sync, G: Gate>(crew: &Crew<'_, R, G>, desks: &mut [Desk], reach: Reach)
+/// Tries the moves of a reach, which come to the desks in turn, all at once.
+fn find_all<R: Threads + Sync, G: Gate>(crew: &Crew<'_, R, G>, desks: &mut [Desk], reach: Reach)
     requires few { length desks.old ≤ 8 }
-    requires reach { IsListReach reach }
+    requires reach { IsReach reach }
     requires moves { All (λ d. move_count d.session.net ≡ reach.count) desks.old }
     requires closed { All (λ d. d.session.before ≡ None) desks.old }
     ensures len { length desks.new ≡ length desks.old }
@@ -61,51 +67,101 @@ fn find_parts<R: Threads + Sync, G: Gate>(crew: &Crew<'_, R, G>, desks: &mut [De
         desks,
         8,
         &|i: usize, desk: &mut Desk|
-            requires { (i < 8) × IsListReach reach × (move_count desk.old.session.net ≡ reach.count)
+            requires { (i < 8) × IsReach reach × (move_count desk.old.session.net ≡ reach.count)
                 × (desk.old.session.before ≡ None) }
-        { find_part(gate, desk, i, reach) },
+        { find_at_gate(gate, desk, i, reach) },
     );
 }
 
-/// Hands on the finds of all desks in the list's order.
+/// Tries the moves of a reach at desks that stand for one network, all at once.
+fn find_reach<R: Threads + Sync, G: Gate>(crew: &Crew<'_, R, G>, desks: &mut [Desk], reach: Reach)
+    requires few { length desks.old ≤ 8 }
+    requires reach { IsReach reach }
+    requires desks { reach.desks ≡ length desks.old }
+    requires aligned { AreAligned (sessions_of desks.old) }
+    requires others { OthersClosed (sessions_of desks.old) }
+    requires moves { reach.count ≡ move_count (desk_zero (sessions_of desks.old)).net }
+    requires closed { (desk_zero (sessions_of desks.old)).before ≡ None }
+    ensures len { length desks.new ≡ length desks.old }
+    ensures sessions { sessions_of desks.new ≡ sessions_of desks.old }
+    ensures found { AreFound reach desks.new }
+{
+    find_all(crew, desks, reach);
+}
+
+/// The find of the move of a reach with a number.
+fn find_at(desks: &[Desk], reach: Reach, number: u32) -> Tried
+    requires reach { IsReach reach }
+    requires number { number < reach.room }
+    requires found { AreFound reach desks.now }
+    ensures found { result ≡ try_of (desk_zero (sessions_of desks.now)).net
+        (move (desk_zero (sessions_of desks.now)).net (place_at reach.place reach.count number)) }
+    ensures few { edit_work (desk_zero (sessions_of desks.now)).net
+        (move (desk_zero (sessions_of desks.now)).net (place_at reach.place reach.count number)) ≤ 8000 }
+{
+    let desk = (number % reach.desks) as usize;
+    let turn = (number / reach.desks) as usize;
+    desks[desk].finds[turn]
+}
+
+/// The moves of a reach as a stretch, up to the first in the list's order that lowers the index; `limit` is the index of
+/// the network.
+fn first_lower(desks: &[Desk], reach: Reach, limit: u128) -> Stretch
+    requires reach { IsReach reach }
+    requires limit { limit ≡ index (desk_zero (sessions_of desks.now)).net }
+    requires found { AreFound reach desks.now }
+    ensures { IsStretch (desk_zero (sessions_of desks.now)).net reach.place reach.count 0 reach.room result }
+{
+    let mut stretch = untried();
+    for number in 0..reach.room {
+        let found = find_at(desks, reach, number);
+        stretch = after_find(stretch, found, limit);
+        if stretch.lowers {
+            return stretch;
+        }
+    }
+    stretch
+}
+
+/// Tries the moves of a reach at desks that stand for one network, all at once, and gives them as a stretch, up to the
+/// first that lowers the index.
+pub(crate) fn try_reach<R: Threads + Sync, G: Gate>(
+    crew: &Crew<'_, R, G>,
+    desks: &mut [Desk],
+    reach: Reach,
+) -> Stretch
+    requires some { 0 < length desks.old }
+    requires few { length desks.old ≤ 8 }
+    requires reach { IsReach reach }
+    requires desks { reach.desks ≡ length desks.old }
+    requires aligned { AreAligned (sessions_of desks.old) }
+    requires others { OthersClosed (sessions_of desks.old) }
+    requires moves { reach.count ≡ move_count (desk_zero (sessions_of desks.old)).net }
+    requires closed { (desk_zero (sessions_of desks.old)).before ≡ None }
+    ensures len { length desks.new ≡ length desks.old }
+    ensures sessions { sessions_of desks.new ≡ sessions_of desks.old }
+    ensures tried { IsStretch (desk_zero (sessions_of desks.old)).net reach.place reach.count 0 reach.room result }
+{
+    find_reach(crew, desks, reach);
+    let limit = desks[0].session.index();
+    first_lower(desks, reach, limit)
+}
+
+/// Hands on the finds in the list's order.
 fn hand_on(desks: &[Desk], reach: Reach, tries: &mut [Tried])
-    requires reach { IsListReach reach }
-    requires some { 0 < reach.each }
+    requires reach { IsReach reach }
+    requires inside { reach.place + reach.room ≤ reach.count }
     requires room { reach.room ≡ length tries.old }
-    requires all { length tries.old ≤ length desks.now * reach.each }
     requires found { AreFound reach desks.now }
     ensures len { length tries.new ≡ length tries.old }
     ensures tries { AreTriesOf (desk_zero (sessions_of desks.now)).net reach.place (length tries.old) tries.new }
 {
-    let each = reach.each as usize;
     for number in 0..tries.len() {
-        tries[number] = desks[number / each].finds[number % each];
+        tries[number] = find_at(desks, reach, number as u32);
     }
 }
 
-/// So many consecutive moves from a place on, parted among so many desks.
-fn list_reach(place: u32, count: u32, tries: usize, desks: usize) -> Reach
-    requires places { place + tries ≤ count }
-    requires some { 0 < tries }
-    requires few { tries ≤ 32 * desks }
-    requires desks { 0 < desks }
-    requires most { desks ≤ 8 }
-    ensures reach { IsListReach result }
-    ensures place { result.place ≡ place }
-    ensures count { result.count ≡ count }
-    ensures room { result.room ≡ tries }
-    ensures each { 0 < result.each }
-    ensures all { tries ≤ desks * result.each }
-{
-    Reach {
-        place,
-        count,
-        room: tries as u32,
-        each: tries.div_ceil(desks) as u32,
-    }
-}
-
-/// Tries consecutive moves from a place on at desks that stand for one network, a part at each and all at once.
+/// Tries consecutive moves from a place on at desks that stand for one network, all at once.
 pub(crate) fn find_moves<R: Threads + Sync, G: Gate>(
     crew: &Crew<'_, R, G>,
     desks: &mut [Desk],
@@ -127,8 +183,12 @@ pub(crate) fn find_moves<R: Threads + Sync, G: Gate>(
     if tries.is_empty() {
         return;
     }
-    let count = move_count(desks[0].session.net());
-    let reach = list_reach(from, count, tries.len(), desks.len());
-    find_parts(crew, desks, reach);
+    let reach = Reach {
+        place: from,
+        count: move_count(desks[0].session.net()),
+        room: tries.len() as u32,
+        desks: desks.len() as u32,
+    };
+    find_reach(crew, desks, reach);
     hand_on(desks, reach, tries);
 }

@@ -1,13 +1,13 @@
-//! A gate that each desk passes with each stretch of moves.
+//! A gate that each desk passes with the moves that it tries.
 
-/// A gate is told when a desk begins to try a stretch of moves, and when it has tried it. Desks are numbered from 0.
+/// A gate is told when a desk begins to try its moves of a round, and when it has tried them. Desks are numbered from 0.
 ///
 /// Several desks may be inside at once, so a gate is shared among threads. A clause names nothing of it.
 pub trait Gate: Sync {
     /// The desk begins.
     fn enter(&self, desk: u32);
 
-    /// The desk has tried its stretch.
+    /// The desk has tried its moves.
     fn leave(&self, desk: u32);
 }
 

@@ -25,7 +25,7 @@ pub(crate) fn goes_alone(desks: usize, climber: &Climber) -> bool
 pub(crate) fn each(climber: &Climber) -> u32
     ensures value { result ≡ each_of climber.now }
     ensures some { 0 < result }
-    ensures few { result ≤ 65536 }
+    ensures few { result ≤ 64 }
 {
     (climber.since() / PLACES_FOR_ONE).clamp(1, MOST_PLACES)
 }

@@ -7,7 +7,8 @@ ghost use Rattle.transyt_desks.specs.Desks.{desk_zero, sessions_of, AreAligned, 
 ghost use Rattle.transyt_desks.specs.Rounds.{places_of, turns_of, CanRound, IsReachOf, MakesRound, RoundsDesks};
 
 use crate::crew::Crew;
-use crate::desk::{Desk, follow_zero, try_reach};
+use crate::desk::{Desk, follow_zero};
+use crate::finding::try_reach;
 use crate::gate::Gate;
 use crate::policy::{each, goes_alone};
 use crate::settling::{Round, settle, take_turn};
@@ -67,23 +68,25 @@ fn alone<G: Gate, L: Ledger>(
     round
 }
 
-/// The next moves of a climber's list, so many each desk, up to its budget and at most once round the list.
-fn reach_of(climber: &Climber, each: u32) -> Reach
+/// So many next moves of a climber's list, up to its budget and at most once round the list, for so many desks.
+fn reach_of(climber: &Climber, places: u32, desks: usize) -> Reach
     requires since { climber.now.since < climber.now.count }
-    requires few { each ≤ 65536 }
-    ensures { IsReachOf climber.now each result }
+    requires some { 0 < desks }
+    requires many { desks ≤ 8 }
+    requires few { places ≤ 64 * desks }
+    ensures { IsReachOf climber.now places desks result }
 {
     let looks = climber.budget() - climber.looked();
-    let places = climber.count() - climber.since();
+    let left = climber.count() - climber.since();
     Reach {
         place: climber.place(),
         count: climber.count(),
-        room: looks.min(places),
-        each,
+        room: places.min(looks.min(left)),
+        desks: desks as u32,
     }
 }
 
-/// A round in which every desk tries a stretch.
+/// A round in which every desk tries moves.
 fn together<R: Threads + Sync, G: Gate, L: Ledger>(
     crew: &Crew<'_, R, G>,
     desks: &mut [Desk],
@@ -95,20 +98,20 @@ fn together<R: Threads + Sync, G: Gate, L: Ledger>(
     requires aligned { AreAligned (sessions_of desks.old) }
     requires ready { CanRound climber.old (desk_zero (sessions_of desks.old)) }
     requires some { 0 < each }
-    requires few { each ≤ 65536 }
+    requires few { each ≤ 64 }
     requires since { climber.old.since < climber.old.count }
     requires looked { climber.old.looked < climber.old.budget }
     ensures made { RoundsDesks (length desks.old * each) climber.old (sessions_of desks.old) climber.new
         (sessions_of desks.new) result }
     ensures len { length desks.new ≡ length desks.old }
 {
-    let reach = reach_of(climber, each);
-    let tried = try_reach(crew, desks, reach);
     let places = desks.len() as u32 * each;
+    let reach = reach_of(climber, places, desks.len());
+    let tried = try_reach(crew, desks, reach);
     settle(climber, &mut desks[0].session, tried, places, steps)
 }
 
-/// A round in which every desk tries a stretch, or the end of the climb.
+/// A round in which every desk tries moves, or the end of the climb.
 fn round_on<R: Threads + Sync, G: Gate, L: Ledger>(
     crew: &Crew<'_, R, G>,
     desks: &mut [Desk],
@@ -120,7 +123,7 @@ fn round_on<R: Threads + Sync, G: Gate, L: Ledger>(
     requires aligned { AreAligned (sessions_of desks.old) }
     requires ready { CanRound climber.old (desk_zero (sessions_of desks.old)) }
     requires some { 0 < each }
-    requires few { each ≤ 65536 }
+    requires few { each ≤ 64 }
     ensures made { RoundsDesks (length desks.old * each) climber.old (sessions_of desks.old) climber.new
         (sessions_of desks.new) result }
     ensures len { length desks.new ≡ length desks.old }
@@ -158,7 +161,7 @@ pub(crate) fn aligned_round<R: Threads + Sync, G: Gate, L: Ledger>(
     round
 }
 
-/// A round of desks whose networks have one shape, in which desk 0 goes on alone, or every desk tries a stretch.
+/// A round of desks whose networks have one shape, in which desk 0 goes on alone, or every desk tries moves.
 pub(crate) fn alike_round<R: Threads + Sync, G: Gate, L: Ledger>(
     crew: &Crew<'_, R, G>,
     desks: &mut [Desk],

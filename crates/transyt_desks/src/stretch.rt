@@ -1,11 +1,11 @@
-//! A stretch of the list of moves, which one desk tries.
+//! Moves of the list, one after another, up to the first that lowers the index.
 
-ghost use Rattle.std.specs.Prelude.{◌≡◌, ℕ, ◌+◌, ◌^◌, ◌<◌, ◌≤◌, None, false};
+ghost use Rattle.std.specs.Prelude.{◌≡◌, ℕ, ◌+◌, ◌^◌, ◌<◌, ◌≤◌, None};
 ghost use Rattle.transyt_moves.specs.Moves.{move, move_count};
-ghost use Rattle.transyt_sweep.specs.Sweeps.{index};
 ghost use Rattle.transyt_track.specs.Work.{edit_work};
+ghost use Rattle.transyt_session.specs.declared.answers.Tried.TheVariants.{Index};
 ghost use Rattle.transyt_session.specs.Session.{try_of};
-ghost use Rattle.transyt_desks.specs.Stretches.{IsReach, IsStretch, after_try, bound_at, joined, passing, place_at, untried};
+ghost use Rattle.transyt_desks.specs.Stretches.{IsReach, after_found, passing, place_at, untried};
 
 use std::marker::Brand;
 use std::sync::ledger::{Blank, Ledger};
@@ -21,13 +21,13 @@ pub(crate) struct Reach {
     pub(crate) place: u32,
     /// How many places the list has.
     pub(crate) count: u32,
-    /// How many moves are tried at most.
+    /// How many moves are tried.
     pub(crate) room: u32,
-    /// How many of them each desk tries.
-    pub(crate) each: u32,
+    /// How many desks try them, in turn.
+    pub(crate) desks: u32,
 }
 
-/// Moves that a desk has tried, up to the first that lowers the index.
+/// Moves that the desks have tried, up to the first that lowers the index.
 #[derive(Clone, Copy, Debug, PartialEq, Eq)]
 pub(crate) struct Stretch {
     /// How many don't lower the index.
@@ -62,31 +62,8 @@ fn passing(stretch: Stretch, work: u64) -> Stretch
     }
 }
 
-/// The moves of a stretch, none of which lowers the index, and of the one after it.
-pub(crate) fn joined(first: Stretch, second: Stretch) -> Stretch
-    requires passed { first.passed + second.passed < 2 ^ 32 }
-    requires work { first.work + second.work < 2 ^ 64 }
-    ensures { result ≡ joined first second }
-{
-    Stretch {
-        passed: first.passed + second.passed,
-        work: first.work + second.work,
-        lowers: second.lowers,
-    }
-}
-
-/// The number of the move at which a desk begins, and the desk before it ends.
-#[tactic(auto, unfolding(crate::specs::Stretches::bound_at))]
-pub(crate) fn bound(reach: Reach, desk: usize) -> u32
-    requires few { desk ≤ 8 }
-    requires reach { IsReach reach }
-    ensures { result ≡ bound_at reach desk }
-{
-    (desk as u32 * reach.each).min(reach.room)
-}
-
 /// The place of the move with a number.
-fn place_of(reach: Reach, number: u32) -> u32
+pub(crate) fn place_of(reach: Reach, number: u32) -> u32
     requires { IsReach reach }
     ensures value { result ≡ place_at reach.place reach.count number }
     ensures below { result < reach.count }
@@ -120,18 +97,14 @@ pub(crate) fn try_at(session: &mut Session, place: u32) -> Tried
     try_counted::<Brand>(session, edit, Blank::new(1))
 }
 
-/// Tries the move at a place, after those of a stretch; `limit` is the index of the network.
-fn try_one(session: &mut Session, limit: u128, place: u32, stretch: Stretch) -> Stretch
-    requires place { place < move_count session.old.net }
-    requires closed { session.old.before ≡ None }
-    requires limit { limit ≡ index session.old.net }
+/// A stretch with one try more; `limit` is the index of the network.
+pub(crate) fn after_find(stretch: Stretch, found: Tried, limit: u128) -> Stretch
     requires passed { stretch.passed + 1 < 2 ^ 32 }
-    requires work { stretch.work ≤ 2 ^ 62 }
-    ensures after { result ≡ after_try session.old.net place stretch }
-    ensures few { edit_work session.old.net (move session.old.net place) ≤ 8000 }
-    ensures same { session.new ≡ session.old }
+    requires work { (index work : ℕ) → found ≡ Index index work → stretch.work + work < 2 ^ 64 }
+    requires small { stretch.work < 2 ^ 64 }
+    ensures { result ≡ after_found limit found stretch }
 {
-    match try_at(session, place) {
+    match found {
         Tried::Barred => passing(stretch, 0),
         Tried::Index { index, work } => {
             if index < limit {
@@ -144,25 +117,4 @@ fn try_one(session: &mut Session, limit: u128, place: u32, stretch: Stretch) -> 
             }
         }
     }
-}
-
-/// Tries the moves with the numbers from `from` to before `to`, one after another, up to the first that lowers the
-/// index.
-pub(crate) fn try_stretch(session: &mut Session, reach: Reach, from: u32, to: u32) -> Stretch
-    requires reach { IsReach reach }
-    requires count { reach.count ≡ move_count session.old.net }
-    requires order { from ≤ to }
-    requires closed { session.old.before ≡ None }
-    ensures stretch { IsStretch session.old.net reach.place reach.count from to result }
-    ensures same { session.new ≡ session.old }
-{
-    let limit = session.index();
-    let mut stretch = untried();
-    for number in from..to {
-        stretch = try_one(session, limit, place_of(reach, number), stretch);
-        if stretch.lowers {
-            return stretch;
-        }
-    }
-    stretch
 }

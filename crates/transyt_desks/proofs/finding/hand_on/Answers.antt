@@ -1,25 +1,25 @@
 -- One find more is handed on.
-use Rattle.std.proofs.Common.{◌/◌, ◌<◌, length, ◌∙◌, arith}
-use Rattle.std.proofs.lemmas.Nat.{div_below}
-use Rattle.std.proofs.lemmas.List.{get_or_default, length-set}
-use Rattle.transyt_session.specs.declared.answers.Tried.TheVariants.{Barred}
-use Rattle.transyt_desks.specs.Desks.{desk_zero, no_desk, sessions_of}
-use Rattle.transyt_desks.proofs.FindLaws.{found_at, found_few, tries_more}
+use Rattle.std.proofs.Common.{◌≡◌, ◌+◌, ◌≤◌, ap, ◌∙◌, subst, arith}
+use Rattle.std.proofs.lemmas.List.{length-set}
+use Rattle.transyt_moves.specs.Moves.{move}
+use Rattle.transyt_track.specs.Work.{edit_work}
+use Rattle.transyt_session.specs.Session.{try_of}
+use Rattle.transyt_desks.specs.Desks.{desk_zero, sessions_of}
+use Rattle.transyt_desks.specs.Stretches.{place_at}
+use Rattle.transyt_desks.proofs.FindLaws.{place_within, tries_more}
 use Rattle.transyt_desks.proofs.finding.hand_on.Goals as goal
 
 pub loop-number-preserved : goal.loop-number-preserved
 loop-number-preserved c =
-    let desks = c.args.desks.now in
+    let net = (desk_zero (sessions_of c.args.desks.now)).net in
     let reach = c.args.reach in
     let n = c.loop-number.number in
-    let inside : n < reach.room = omega (arith, c.loop-number-test.true, c.loop-number.invariant.len) in
-    let less : n / reach.each < length desks =
-    div_below n reach.each (length desks) c.requires.some (omega (arith, inside)) in
+    let place : place_at reach.place reach.count n ≡ reach.place + n =
+    place_within reach.place reach.count n (omega (arith, c.loop-number-test.true, c.loop-number.invariant.len, c.requires.room, c.requires.inside)) in
     record {
-      tries = tries_more (desk_zero (sessions_of desks)).net reach.place n c.loop-number.tries _
+      tries = tries_more net (λ k. reach.place + k) n c.loop-number.tries c.find_at.result
           (omega (arith, c.loop-number-test.true)) c.loop-number.invariant.tries
-          (found_at reach desks n _ Barred c.requires.found c.requires.some inside less
-          (get_or_default desks (n / reach.each) c.index-desks-number.result no_desk less))
-          (found_few reach desks n c.requires.found c.requires.some inside less);
-      len = length-set c.loop-number.tries n _ ∙ c.loop-number.invariant.len;
+          (c.find_at.ensures.found ∙ ap (λ p. try_of net (move net p)) place)
+          (subst (λ p. edit_work net (move net p) ≤ 8000) place c.find_at.ensures.few);
+      len = length-set c.loop-number.tries n c.find_at.result ∙ c.loop-number.invariant.len;
     }

@@ -7,6 +7,6 @@ use Rattle.transyt_desks.proofs.finding.hand_on.Given as goal
 -- they stand at the front
 abbrev pub invariant-loop-number : goal.invariant-loop-number
 invariant-loop-number l = record {
-  tries : AreTriesOf (desk_zero (sessions_of l.desks)).net l.fn.reach.place l.number l.tries;
+  tries : AreTriesOf (desk_zero (sessions_of l.desks)).net l.reach.place l.number l.tries;
   len : length l.tries ≡ length l.fn.tries;
 }

@@ -5,9 +5,8 @@ use Rattle.transyt_desks.specs.declared.desk.Desk.{Desk}
 use Rattle.transyt_desks.specs.declared.stretch.Stretch.{Stretch}
 use Rattle.transyt_desks.specs.Desks.{desk_zero, sessions_of}
 use Rattle.transyt_desks.specs.Rounds.{room_of, CanRound}
-use Rattle.transyt_desks.specs.Stretches.{IsStretch, bound_at}
+use Rattle.transyt_desks.specs.Stretches.{IsStretch}
 use Rattle.transyt_desks.proofs.DeskLaws.{session_read, sessions_count}
-use Rattle.transyt_desks.proofs.RoundLaws.{reach_room}
 use Rattle.transyt_desks.proofs.rounds.together.Goals as goal
 
 pub settle-requires-clause-ready : goal.settle-requires-clause-ready
@@ -25,15 +24,11 @@ settle-requires-clause-tried g c =
     let reach = c.reach_of-reach.ensures in
     let zero : (slice_index_or desks 0 c.index-desks-0.result).session ≡ desk_zero (sessions_of olds) =
     session_read desks 0 c.index-desks-0.result (omega (arith, c.try_reach-tried.ensures.len, c.requires.desks.some, sessions_count c.args.desks.now)) ∙ ap desk_zero c.try_reach-tried.ensures.sessions in
-    let many : ℕ = length desks * c.args.each in
-    let places : length olds * c.args.each ≡ many = sym (ap (λ n. n * c.args.each) c.try_reach-tried.ensures.len) in
-    let room : bound_at c.reach_of-reach.result (length olds) ≡ room_of many c.args.climber.now =
-    reach_room c.args.climber.now (length olds) c.args.each c.reach_of-reach.result reach
-    ∙ ap (λ n. room_of n c.args.climber.now) places in
+    let places : ℕ = length olds * c.args.each in
     subst (λ (s : SessionValue). IsStretch s.net c.args.climber.now.place c.args.climber.now.count 0
-    (room_of many c.args.climber.now) tried) (sym zero)
-    (subst (λ n. IsStretch (desk_zero (sessions_of olds)).net c.args.climber.now.place c.args.climber.now.count 0 n tried) room
+    (room_of places c.args.climber.now) tried) (sym zero)
+    (subst (λ n. IsStretch (desk_zero (sessions_of olds)).net c.args.climber.now.place c.args.climber.now.count 0 n tried) reach.room
     (subst (λ n. IsStretch (desk_zero (sessions_of olds)).net c.args.climber.now.place n 0
-    (bound_at c.reach_of-reach.result (length olds)) tried) reach.count
+    c.reach_of-reach.result.room tried) reach.list
     (subst (λ p. IsStretch (desk_zero (sessions_of olds)).net p c.reach_of-reach.result.count 0
-    (bound_at c.reach_of-reach.result (length olds)) tried) reach.place c.try_reach-tried.ensures.tried)))
+    c.reach_of-reach.result.room tried) reach.place c.try_reach-tried.ensures.tried)))
