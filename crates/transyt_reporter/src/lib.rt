@@ -12,7 +12,9 @@ mod remarks;
 mod reporter;
 mod running;
 mod saying;
+mod workers;
 
 pub use brief::write_brief;
 pub use laws::worked_brief;
 pub use running::run_deck;
+pub use workers::Workers;
