@@ -2,8 +2,10 @@ pub mod TriedLaws
 pub mod PassingLaws
 pub mod LeastLaws
 pub mod DeskLaws
+pub mod FindLaws
 pub mod ShapeLaws
 pub mod StretchLaws
 pub mod RoundLaws
 pub mod WorkedLaws
 pub mod WorkedDeskLaws
+pub mod WorkedFindLaws

@@ -4,6 +4,7 @@ use Rattle.std.specs.Prelude.{slice_index_or, slice_set}
 use Rattle.transyt_parts.specs.declared.frame.Frame.{Frame}
 use Rattle.transyt_net.specs.Parts.{network_of}
 use Rattle.transyt_net.specs.Shape.{SameShape}
+use Rattle.transyt_session.specs.declared.answers.Tried.TheVariants.{Barred}
 use Rattle.transyt_session.specs.Session.{SessionValue, opened}
 use Rattle.transyt_desks.specs.declared.desk.Desk.{Desk}
 use Rattle.transyt_desks.specs.declared.stretch.Reach.{Reach}
@@ -56,17 +57,17 @@ pub record AreDesks (sessions : List SessionValue) : Type 0 where
 abbrev pub sessions_of : List Desk → List SessionValue
 sessions_of desks = map (λ d. d.session) desks
 
+-- a new desk with a session
+abbrev pub new_desk : SessionValue → Desk
+new_desk session = record { session = session; tried = untried; finds = replicate 32 Barred }
+
 -- what stands where there is no desk
 abbrev pub no_desk : Desk
-no_desk = record { session = no_session; tried = untried }
+no_desk = new_desk no_session
 
 -- what the desk at a place has tried
 abbrev pub tried_at : List Desk → ℕ → Stretch
 tried_at desks k = (slice_index_or desks k no_desk).tried
-
--- a new desk with a session
-abbrev pub new_desk : SessionValue → Desk
-new_desk session = record { session = session; tried = untried }
 
 -- a desk that has tried its stretch of a reach, before and after
 pub record HasTried (reach : Reach) (number : ℕ) (before after : Desk) : Type 0 where

@@ -8,6 +8,7 @@ use Rattle.transyt_climb.specs.declared.turn.Turn.{Turn}
 use Rattle.transyt_climb.specs.declared.turn.Turn.TheVariants.{Took, Passed, Local, Budget}
 use Rattle.transyt_climb.specs.Turns.{Counters, Machine, machine, answer_of, turns, is_end}
 use Rattle.transyt_climb.specs.Way.{IsRound}
+use Rattle.transyt_desks.specs.declared.policy.TheConstants.{PLACES_ALONE, PLACES_FOR_ONE, MOST_PLACES}
 use Rattle.transyt_desks.specs.declared.settling.Round.{Round}
 use Rattle.transyt_desks.specs.declared.stretch.Reach.{Reach}
 use Rattle.transyt_desks.specs.Stretches.{IsReach}
@@ -41,13 +42,13 @@ room_of workers c = min workers (min (c.budget - c.looked) (c.count - c.since))
 abbrev pub turns_of : ℕ → Machine → ℕ
 turns_of workers m = if is_end (answer_of m) then 1 else turns_up_to (room_of workers m.counters) m
 
--- whether desk 0 of so many goes on alone: where there is no other, or up to eight places after a step
+-- whether desk 0 of so many goes on alone: where there is no other, or up to some places after a step
 abbrev pub goes_alone : ℕ → Counters → Bool
-goes_alone desks c = (desks == 1) || (nat_lt 0 c.looked && nat_lt c.since 8)
+goes_alone desks c = (desks == 1) || (nat_lt 0 c.looked && nat_lt c.since PLACES_ALONE)
 
--- how many places each desk tries: a quarter of the places since the last step, but at least one and at most 32
+-- how many places each desk tries: a fraction of the places since the last step, but at least one and not too many
 abbrev pub each_of : Counters → ℕ
-each_of c = min 32 (max 1 (c.since / 4))
+each_of c = min MOST_PLACES (max 1 (c.since / PLACES_FOR_ONE))
 
 -- how many places so many desks try in a round of stretches
 abbrev pub places_of : ℕ → Counters → ℕ

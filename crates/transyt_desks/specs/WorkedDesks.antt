@@ -1,6 +1,8 @@
 -- Worked desks: such as stand for one network or for networks of one shape, and such as don't.
 use Rattle.std.specs.Prelude.{List, [], ◌∷◌, None}
 use Rattle.transyt_track.specs.WorkedWork.{junctions}
+use Rattle.transyt_session.specs.declared.answers.Tried.{Tried}
+use Rattle.transyt_session.specs.declared.answers.Tried.TheVariants.{Barred, Index}
 use Rattle.transyt_session.specs.Session.{SessionValue}
 use Rattle.transyt_session.specs.WorkedSessions.{in_trial}
 use Rattle.transyt_climb.specs.Turns.{Machine, machine}
@@ -25,3 +27,8 @@ unlike = twin ∷ idle_session ∷ []
 -- a climber of three junctions at the last of their moves, which is barred, with seven looks left; the first move lowers
 abbrev pub seven_left : Machine
 seven_left = machine (record { place = 71; since = 1; looked = 2; budget = 9; count = 72 }) three_session
+
+-- the tries of the last four moves of a network without links: its first stage has as many steps as it needs, so that it
+-- can't begin later, nor the second earlier
+abbrev pub idle_tries : List Tried
+idle_tries = Barred ∷ Index 0 0 ∷ Index 0 0 ∷ Barred ∷ []

@@ -1,23 +1,25 @@
 //! One desk, and many that try at once.
 
-ghost use Rattle.std.specs.Prelude.{◌≡◌, ℕ, ◌+◌, ◌<◌, ◌≤◌, length, List, All, None, slice_index_or};
+ghost use Rattle.std.specs.Prelude.{◌≡◌, ℕ, ◌+◌, ◌<◌, ◌≤◌, length, List, All, None, slice_index_or, ◌↔◌, IsTrue};
 ghost use Rattle.transyt_net.specs.Shape.{SameShape};
 ghost use Rattle.transyt_moves.specs.Moves.{move_count};
 ghost use Rattle.transyt_desks.specs.Desks.{AreTried, HasTried, AreAlike, AreAligned, OthersClosed, sessions_of, desk_zero};
 ghost use Rattle.transyt_desks.specs.Stretches.{IsReach, IsStretch, bound_at};
 ghost use Rattle.transyt_desks.specs.declared.desk.Desk.{Desk};
 
+use crate::crew::Crew;
 use crate::equal::same_net;
 use crate::gate::Gate;
 use crate::stretch::{Reach, Stretch, bound, joined, try_stretch, untried};
 use std::thread::{self, Threads};
-use transyt_session::Session;
+use transyt_session::{Session, Tried};
 
-/// A session, and the last stretch that was tried on it.
+/// A session, the last stretch that was tried on it, and the last finds of consecutive moves.
 #[derive(Drop)]
 pub(crate) struct Desk {
     pub(crate) session: Session,
     pub(crate) tried: Stretch,
+    pub(crate) finds: [Tried; 32],
 }
 
 /// Tries a desk's stretch, between entering and leaving the gate.
@@ -36,7 +38,7 @@ fn pass_gate<G: Gate>(gate: &G, desk: &mut Desk, number: usize, reach: Reach)
 }
 
 /// Tries the moves of a reach, a stretch at each desk and all at once.
-fn try_all<R: Threads + Sync, G: Gate>(rt: &R, gate: &G, desks: &mut [Desk], reach: Reach)
+fn try_all<R: Threads + Sync, G: Gate>(crew: &Crew<'_, R, G>, desks: &mut [Desk], reach: Reach)
     requires few { length desks.old ≤ 8 }
     requires reach { IsReach reach }
     requires moves { All (λ d. move_count d.session.net ≡ reach.count) desks.old }
@@ -45,8 +47,9 @@ fn try_all<R: Threads + Sync, G: Gate>(rt: &R, gate: &G, desks: &mut [Desk], rea
     ensures tried { (k : ℕ) (d : Desk) → k < length desks.old
         → HasTried reach k (slice_index_or desks.old k d) (slice_index_or desks.new k d) }
 {
+    let gate = crew.gate;
     thread::for_each_mut(
-        rt,
+        crew.rt,
         desks,
         8,
         &|i: usize, desk: &mut Desk|
@@ -76,8 +79,7 @@ fn join(desks: &[Desk], reach: Reach) -> Stretch
 /// Tries the moves of a reach at desks that stand for one network, a stretch at each and all at once, up to the first
 /// move that lowers the index.
 pub(crate) fn try_reach<R: Threads + Sync, G: Gate>(
-    rt: &R,
-    gate: &G,
+    crew: &Crew<'_, R, G>,
     desks: &mut [Desk],
     reach: Reach,
 ) -> Stretch
@@ -93,8 +95,22 @@ pub(crate) fn try_reach<R: Threads + Sync, G: Gate>(
     ensures tried { IsStretch (desk_zero (sessions_of desks.old)).net reach.place reach.count 0
         (bound_at reach (length desks.old)) result }
 {
-    try_all(rt, gate, desks, reach);
+    try_all(crew, desks, reach);
     join(desks, reach)
+}
+
+/// Whether all desks stand for the network of the first.
+pub(crate) fn all_same(desks: &[Desk]) -> bool
+    requires some { 0 < length desks.now }
+    ensures { IsTrue result ↔ AreAligned (sessions_of desks.now) }
+{
+    let zero = desks[0].session.net();
+    for i in 0..desks.len() {
+        if !same_net(zero, desks[i].session.net()) {
+            return false;
+        }
+    }
+    true
 }
 
 /// Lets a desk stand for the network of a session, if it doesn't yet.
@@ -109,21 +125,26 @@ fn follow(desk: &mut Desk, zero: &Session)
     }
 }
 
-/// Lets every desk stand for the network of a session.
-fn stand_all(desks: &mut [Desk], zero: &Session)
+/// Lets every desk stand for the network of a session, all at once.
+fn stand_all<R: Threads + Sync>(rt: &R, desks: &mut [Desk], zero: &Session)
     requires shape { All (λ d. SameShape d.session.net zero.now.net) desks.old }
     requires closed { All (λ d. d.session.before ≡ None) desks.old }
     ensures len { length desks.new ≡ length desks.old }
     ensures net { All (λ d. d.session.net ≡ zero.now.net) desks.new }
     ensures closed { All (λ d. d.session.before ≡ None) desks.new }
 {
-    for i in 0..desks.len() {
-        follow(&mut desks[i], zero);
-    }
+    thread::for_each_mut(
+        rt,
+        desks,
+        8,
+        &|_i: usize, desk: &mut Desk|
+            requires { SameShape desk.old.session.net zero.now.net × (desk.old.session.before ≡ None) }
+        { follow(desk, zero) },
+    );
 }
 
-/// Lets every other desk stand for the network of desk 0.
-pub(crate) fn follow_zero(desks: &mut [Desk])
+/// Lets every other desk stand for the network of desk 0, all at once. No thread is made where they do already.
+pub(crate) fn follow_zero<R: Threads + Sync>(rt: &R, desks: &mut [Desk])
     requires some { 0 < length desks.old }
     requires shape { AreAlike (sessions_of desks.old) }
     requires closed { OthersClosed (sessions_of desks.old) }
@@ -132,6 +153,9 @@ pub(crate) fn follow_zero(desks: &mut [Desk])
     ensures zero { desk_zero (sessions_of desks.new) ≡ desk_zero (sessions_of desks.old) }
     ensures closed { OthersClosed (sessions_of desks.new) }
 {
+    if all_same(desks) {
+        return;
+    }
     let (zero, others) = desks.split_at_mut(1);
-    stand_all(others, &zero[0].session);
+    stand_all(rt, others, &zero[0].session);
 }

@@ -4,21 +4,25 @@ ghost use Rattle.std.specs.Prelude.{◌≡◌, ℕ, ◌+◌, ◌*◌, ◌^◌, �
 ghost use Rattle.std.specs.Borrow.{sem};
 ghost use Rattle.transyt_climb.specs.Turns.{machine};
 ghost use Rattle.transyt_desks.specs.Desks.{desk_zero, new_desk, opened_desks, sessions_of, AreAligned, AreAlike, AreDesks};
+ghost use Rattle.transyt_desks.specs.Finds.{AreTriesOf};
 ghost use Rattle.transyt_desks.specs.Lends.{LendsZero};
+ghost use Rattle.transyt_moves.specs.Moves.{move_count};
 ghost use Rattle.transyt_session.specs.Session.{SessionValue};
-ghost use Rattle.transyt_desks.specs.Rounds.{each_of, goes_alone, places_of, turns_of, CanRound, IsReachOf, MakesRound, RoundsDesks};
+ghost use Rattle.transyt_desks.specs.Rounds.{places_of, CanRound, MakesRound};
 
-use crate::desk::{Desk, follow_zero, try_reach};
-use crate::equal::same_net;
+use crate::crew::Crew;
+use crate::desk::{Desk, all_same, follow_zero};
+use crate::finding::find_moves;
 use crate::gate::Gate;
-use crate::settling::{Round, settle, take_turn};
-use crate::stretch::{Reach, untried};
+use crate::rounds::{aligned_round, alike_round};
+use crate::settling::Round;
+use crate::stretch::untried;
 use std::alloc::{AllocError, Global};
 use std::marker::Model;
 use std::sync::ledger::Ledger;
 use std::thread::Threads;
 use transyt_climb::Climber;
-use transyt_session::Session;
+use transyt_session::{Session, Tried};
 use transyt_steps::Steps;
 
 /// One to eight desks. Desk 0's session is the one that counts; the others follow it.
@@ -74,14 +78,14 @@ impl Desks {
     }
 
     /// Lets every other desk stand for the network of desk 0. It takes no memory, and does nothing with one desk.
-    pub fn align<L: Ledger>(&mut self, steps: &mut Steps<L>)
+    pub fn align<R: Threads + Sync, L: Ledger>(&mut self, rt: &R, steps: &mut Steps<L>)
         requires shape { AreAlike self.old }
         ensures aligned { AreAligned self.new }
         ensures zero { desk_zero self.new ≡ desk_zero self.old }
         ensures workers { length self.new ≡ length self.old }
         ensures alone { length self.old ≡ 1 → steps.new ≡ steps.old }
     {
-        follow_zero(self.desks.as_mut_slice());
+        follow_zero(rt, self.desks.as_mut_slice());
     }
 
     /// Whether every desk stands for the network of desk 0.
@@ -89,6 +93,31 @@ impl Desks {
         ensures { IsTrue result ↔ AreAligned self.now }
     {
         all_same(&self.desks)
+    }
+
+    /// Tries consecutive moves of the list from a place on, all desks at once, and writes what each comes to: at most 32
+    /// moves for each desk.
+    ///
+    /// No session changes, but that the other desks stand for the network of desk 0 afterwards. No work is added: whoever
+    /// wants it counted credits it. A desk tries its part between entering and leaving the gate. It takes no memory.
+    pub fn try_moves<R: Threads + Sync, G: Gate>(
+        &mut self,
+        rt: &R,
+        gate: &G,
+        from: u32,
+        tries: &mut [Tried],
+    )
+        requires alike { AreAlike self.old }
+        requires closed { (desk_zero self.old).before ≡ None }
+        requires places { from + length tries.old ≤ move_count (desk_zero self.old).net }
+        requires few { length tries.old ≤ 32 * length self.old }
+        ensures tried { AreTriesOf (desk_zero self.old).net from (length tries.old) tries.new }
+        ensures len { length tries.new ≡ length tries.old }
+        ensures zero { desk_zero self.new ≡ desk_zero self.old }
+        ensures alike { AreAlike self.new }
+        ensures workers { length self.new ≡ length self.old }
+    {
+        try_alike(&Crew { rt, gate }, self.desks.as_mut_slice(), from, tries);
     }
 
     /// A round: the next moves of the list are tried at once, one at each desk, and the first of them that lowers the
@@ -113,7 +142,12 @@ impl Desks {
         ensures steps { length self.old ≡ 1
             → steps.new + (desk_zero self.old).work ≡ steps.old + (desk_zero self.new).work }
     {
-        aligned_round(rt, gate, self.desks.as_mut_slice(), climber, steps)
+        aligned_round(
+            &Crew { rt, gate },
+            self.desks.as_mut_slice(),
+            climber,
+            steps,
+        )
     }
 
     /// A round in which desk 0 goes on alone for a while after a step, and then every desk tries a stretch of the next
@@ -139,8 +173,36 @@ impl Desks {
         ensures steps { length self.old ≡ 1
             → steps.new + (desk_zero self.old).work ≡ steps.old + (desk_zero self.new).work }
     {
-        alike_round(rt, gate, self.desks.as_mut_slice(), climber, steps)
+        alike_round(
+            &Crew { rt, gate },
+            self.desks.as_mut_slice(),
+            climber,
+            steps,
+        )
     }
+}
+
+/// Tries consecutive moves from a place on at desks whose networks have one shape, all at once.
+fn try_alike<R: Threads + Sync, G: Gate>(
+    crew: &Crew<'_, R, G>,
+    desks: &mut [Desk],
+    from: u32,
+    tries: &mut [Tried],
+)
+    requires desks { AreDesks (sessions_of desks.old) }
+    requires alike { AreAlike (sessions_of desks.old) }
+    requires closed { (desk_zero (sessions_of desks.old)).before ≡ None }
+    requires places { from + length tries.old ≤ move_count (desk_zero (sessions_of desks.old)).net }
+    requires few { length tries.old ≤ 32 * length desks.old }
+    ensures tried { AreTriesOf (desk_zero (sessions_of desks.old)).net from (length tries.old) tries.new }
+    ensures count { length tries.new ≡ length tries.old }
+    ensures zero { desk_zero (sessions_of desks.new) ≡ desk_zero (sessions_of desks.old) }
+    ensures desks { AreDesks (sessions_of desks.new) }
+    ensures alike { AreAlike (sessions_of desks.new) }
+    ensures len { length desks.new ≡ length desks.old }
+{
+    follow_zero(crew.rt, desks);
+    find_moves(crew, desks, from, tries);
 }
 
 /// Adds a desk with this session.
@@ -150,206 +212,8 @@ fn add_desk(desks: &mut Vec<Desk>, session: Session) -> Result<(), AllocError>
     let desk = Desk {
         session,
         tried: untried(),
+        finds: [Tried::Barred; 32],
     };
     desks.push(desk)?;
     Ok(())
-}
-
-/// Whether all desks stand for the network of the first.
-fn all_same(desks: &[Desk]) -> bool
-    requires some { 0 < length desks.now }
-    ensures { IsTrue result ↔ AreAligned (sessions_of desks.now) }
-{
-    let zero = desks[0].session.net();
-    for i in 0..desks.len() {
-        if !same_net(zero, desks[i].session.net()) {
-            return false;
-        }
-    }
-    true
-}
-
-/// Whether desk 0 of so many goes on alone.
-fn goes_alone(desks: usize, climber: &Climber) -> bool
-    ensures { result ≡ goes_alone desks climber.now }
-{
-    desks == 1 || (climber.looked() > 0 && climber.since() < 8)
-}
-
-/// How many moves each desk tries.
-fn each(climber: &Climber) -> u32
-    ensures { result ≡ each_of climber.now }
-{
-    (climber.since() / 4).clamp(1, 32)
-}
-
-/// Whether a climber's next turn ends its climb, so that a round is this turn alone.
-fn is_over(climber: &Climber) -> bool
-    ensures over { (places : ℕ) (s : SessionValue) → result ≡ true → turns_of places (machine climber.now s) ≡ 1 }
-    ensures since { result ≡ false → climber.now.since < climber.now.count }
-    ensures looked { result ≡ false → climber.now.looked < climber.now.budget }
-{
-    climber.since() == climber.count() || climber.looked() == climber.budget()
-}
-
-/// A round of one turn at desk 0, of which so many places are one. The other desks stay as they are.
-fn turn_zero<L: Ledger>(
-    desks: &mut [Desk],
-    climber: &mut Climber,
-    places: u32,
-    steps: &mut Steps<L>,
-) -> Round
-    requires some { 0 < length desks.old }
-    requires ready { CanRound climber.old (desk_zero (sessions_of desks.old)) }
-    requires one { turns_of places (machine climber.old (desk_zero (sessions_of desks.old))) ≡ 1 }
-    ensures made { RoundsDesks places climber.old (sessions_of desks.old) climber.new (sessions_of desks.new) result }
-    ensures len { length desks.new ≡ length desks.old }
-    ensures steps { steps.new + (desk_zero (sessions_of desks.old)).work
-        ≡ steps.old + (desk_zero (sessions_of desks.new)).work }
-{
-    take_turn(climber, &mut desks[0].session, places, steps)
-}
-
-/// A round of one turn at desk 0, which passes the gate.
-fn alone<G: Gate, L: Ledger>(
-    gate: &G,
-    desks: &mut [Desk],
-    climber: &mut Climber,
-    steps: &mut Steps<L>,
-) -> Round
-    requires some { 0 < length desks.old }
-    requires ready { CanRound climber.old (desk_zero (sessions_of desks.old)) }
-    ensures made { RoundsDesks 1 climber.old (sessions_of desks.old) climber.new (sessions_of desks.new) result }
-    ensures len { length desks.new ≡ length desks.old }
-    ensures steps { steps.new + (desk_zero (sessions_of desks.old)).work
-        ≡ steps.old + (desk_zero (sessions_of desks.new)).work }
-{
-    if is_over(climber) {
-        return turn_zero(desks, climber, 1, steps);
-    }
-    gate.enter(0);
-    let round = turn_zero(desks, climber, 1, steps);
-    gate.leave(0);
-    round
-}
-
-/// The next moves of a climber's list, so many each desk, up to its budget and at most once round the list.
-fn reach_of(climber: &Climber, each: u32) -> Reach
-    requires since { climber.now.since < climber.now.count }
-    requires few { each ≤ 65536 }
-    ensures { IsReachOf climber.now each result }
-{
-    let looks = climber.budget() - climber.looked();
-    let places = climber.count() - climber.since();
-    Reach {
-        place: climber.place(),
-        count: climber.count(),
-        room: looks.min(places),
-        each,
-    }
-}
-
-/// A round in which every desk tries a stretch.
-fn together<R: Threads + Sync, G: Gate, L: Ledger>(
-    rt: &R,
-    gate: &G,
-    desks: &mut [Desk],
-    each: u32,
-    climber: &mut Climber,
-    steps: &mut Steps<L>,
-) -> Round
-    requires desks { AreDesks (sessions_of desks.old) }
-    requires aligned { AreAligned (sessions_of desks.old) }
-    requires ready { CanRound climber.old (desk_zero (sessions_of desks.old)) }
-    requires some { 0 < each }
-    requires few { each ≤ 65536 }
-    requires since { climber.old.since < climber.old.count }
-    requires looked { climber.old.looked < climber.old.budget }
-    ensures made { RoundsDesks (length desks.old * each) climber.old (sessions_of desks.old) climber.new
-        (sessions_of desks.new) result }
-    ensures len { length desks.new ≡ length desks.old }
-{
-    let reach = reach_of(climber, each);
-    let tried = try_reach(rt, gate, desks, reach);
-    let places = desks.len() as u32 * each;
-    settle(climber, &mut desks[0].session, tried, places, steps)
-}
-
-/// A round in which every desk tries a stretch, or the end of the climb.
-fn round_on<R: Threads + Sync, G: Gate, L: Ledger>(
-    rt: &R,
-    gate: &G,
-    desks: &mut [Desk],
-    each: u32,
-    climber: &mut Climber,
-    steps: &mut Steps<L>,
-) -> Round
-    requires desks { AreDesks (sessions_of desks.old) }
-    requires aligned { AreAligned (sessions_of desks.old) }
-    requires ready { CanRound climber.old (desk_zero (sessions_of desks.old)) }
-    requires some { 0 < each }
-    requires few { each ≤ 65536 }
-    ensures made { RoundsDesks (length desks.old * each) climber.old (sessions_of desks.old) climber.new
-        (sessions_of desks.new) result }
-    ensures len { length desks.new ≡ length desks.old }
-{
-    if is_over(climber) {
-        let places = desks.len() as u32 * each;
-        return turn_zero(desks, climber, places, steps);
-    }
-    together(rt, gate, desks, each, climber, steps)
-}
-
-/// A round of desks that stand for one network, before it and after it, in which each tries one move.
-fn aligned_round<R: Threads + Sync, G: Gate, L: Ledger>(
-    rt: &R,
-    gate: &G,
-    desks: &mut [Desk],
-    climber: &mut Climber,
-    steps: &mut Steps<L>,
-) -> Round
-    requires desks { AreDesks (sessions_of desks.old) }
-    requires aligned { AreAligned (sessions_of desks.old) }
-    requires ready { CanRound climber.old (desk_zero (sessions_of desks.old)) }
-    ensures made { MakesRound (length desks.old) (machine climber.old (desk_zero (sessions_of desks.old)))
-        (machine climber.new (desk_zero (sessions_of desks.new))) result }
-    ensures desks { AreDesks (sessions_of desks.new) }
-    ensures aligned { AreAligned (sessions_of desks.new) }
-    ensures len { length desks.new ≡ length desks.old }
-    ensures steps { length desks.old ≡ 1 → steps.new + (desk_zero (sessions_of desks.old)).work
-        ≡ steps.old + (desk_zero (sessions_of desks.new)).work }
-{
-    if desks.len() == 1 {
-        return alone(gate, desks, climber, steps);
-    }
-    let round = round_on(rt, gate, desks, 1, climber, steps);
-    follow_zero(desks);
-    round
-}
-
-/// A round of desks whose networks have one shape, in which desk 0 goes on alone, or every desk tries a stretch.
-fn alike_round<R: Threads + Sync, G: Gate, L: Ledger>(
-    rt: &R,
-    gate: &G,
-    desks: &mut [Desk],
-    climber: &mut Climber,
-    steps: &mut Steps<L>,
-) -> Round
-    requires desks { AreDesks (sessions_of desks.old) }
-    requires alike { AreAlike (sessions_of desks.old) }
-    requires ready { CanRound climber.old (desk_zero (sessions_of desks.old)) }
-    ensures made { MakesRound (places_of (length desks.old) climber.old)
-        (machine climber.old (desk_zero (sessions_of desks.old)))
-        (machine climber.new (desk_zero (sessions_of desks.new))) result }
-    ensures desks { AreDesks (sessions_of desks.new) }
-    ensures alike { AreAlike (sessions_of desks.new) }
-    ensures len { length desks.new ≡ length desks.old }
-    ensures steps { length desks.old ≡ 1 → steps.new + (desk_zero (sessions_of desks.old)).work
-        ≡ steps.old + (desk_zero (sessions_of desks.new)).work }
-{
-    if goes_alone(desks.len(), climber) {
-        return alone(gate, desks, climber, steps);
-    }
-    follow_zero(desks);
-    round_on(rt, gate, desks, each(climber), climber, steps)
 }

@@ -2,10 +2,11 @@
 
 ghost use Rattle.std.specs.Prelude.{◌≡◌, map, None, Some};
 ghost use Rattle.transyt_session.specs.WorkedSessions.{in_trial};
-ghost use Rattle.transyt_climb.specs.WorkedTurns.{junctions_session};
+ghost use Rattle.transyt_climb.specs.WorkedTurns.{idle, junctions_session};
 ghost use Rattle.transyt_desks.specs.Desks.{AreAligned, AreAlike, desk_zero, opened_desks, with_zero};
+ghost use Rattle.transyt_desks.specs.Finds.{AreTriesOf};
 ghost use Rattle.transyt_desks.specs.Rounds.{is_took, places_of, room_of, turns_of, up_to};
-ghost use Rattle.transyt_desks.specs.WorkedDesks.{seven_left, trial_first, trial_second, unlike};
+ghost use Rattle.transyt_desks.specs.WorkedDesks.{idle_tries, seven_left, trial_first, trial_second, unlike};
 ghost use Rattle.transyt_desks.specs.WorkedRounds.{three_desks, worked_places, worked_rooms, worked_rounds};
 ghost use Rattle.transyt_desks.specs.WorkedRounds.{worked_tooks};
 
@@ -25,9 +26,12 @@ pub fn worked_rounds()
     ensures aligned { AreAligned three_desks }
 {}
 
-/// Worked desks stand for networks of one shape, and not for one network; others not even for one shape.
+/// Worked desks stand for networks of one shape, and not for one network; others not even for one shape. Worked tries are
+/// those of the moves from the third on, and not from the second on.
 pub fn worked_desks()
     ensures not_aligned { AreAligned trial_second → ⊥ }
     ensures alike_in_trial { AreAlike trial_first }
     ensures unlike { AreAlike unlike → ⊥ }
+    ensures tries { AreTriesOf idle 2 4 idle_tries }
+    ensures not_earlier { AreTriesOf idle 1 4 idle_tries → ⊥ }
 {}

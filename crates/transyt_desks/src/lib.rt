@@ -13,11 +13,15 @@
 #![tactic(auto)]
 
 mod climbing;
+mod crew;
 mod desk;
 mod desks;
 mod equal;
+mod finding;
 mod gate;
 mod laws;
+mod policy;
+mod rounds;
 mod settling;
 mod stretch;
 

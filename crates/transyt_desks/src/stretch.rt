@@ -108,6 +108,18 @@ fn try_counted<L: Ledger>(session: &mut Session, edit: Edit, blank: Blank) -> Tr
     session.try_edit(edit, &mut steps)
 }
 
+/// Tries the move at a place, with a counter of steps of its own.
+pub(crate) fn try_at(session: &mut Session, place: u32) -> Tried
+    requires place { place < move_count session.old.net }
+    requires closed { session.old.before ≡ None }
+    ensures tried { result ≡ try_of session.old.net (move session.old.net place) }
+    ensures few { edit_work session.old.net (move session.old.net place) ≤ 8000 }
+    ensures same { session.new ≡ session.old }
+{
+    let edit = move_at(session.net(), place);
+    try_counted::<Brand>(session, edit, Blank::new(1))
+}
+
 /// Tries the move at a place, after those of a stretch; `limit` is the index of the network.
 fn try_one(session: &mut Session, limit: u128, place: u32, stretch: Stretch) -> Stretch
     requires place { place < move_count session.old.net }
@@ -119,8 +131,7 @@ fn try_one(session: &mut Session, limit: u128, place: u32, stretch: Stretch) -> 
     ensures few { edit_work session.old.net (move session.old.net place) ≤ 8000 }
     ensures same { session.new ≡ session.old }
 {
-    let edit = move_at(session.net(), place);
-    match try_counted::<Brand>(session, edit, Blank::new(1)) {
+    match try_at(session, place) {
         Tried::Barred => passing(stretch, 0),
         Tried::Index { index, work } => {
             if index < limit {

@@ -96,10 +96,10 @@ fn two_rounds<R: Threads + Sync, L: Ledger>(
 }
 
 /// Lets all desks stand for the network of desk 0, which they do already.
-fn align<L: Ledger>(desks: &mut Desks, steps: &mut Steps<L>)
+fn align<R: Threads + Sync, L: Ledger>(rt: &R, desks: &mut Desks, steps: &mut Steps<L>)
     requires { AreAligned desks.old }
 {
-    desks.align(steps);
+    desks.align(rt, steps);
 }
 
 /// Two rounds from the start of a climb, after which all desks stand for one network.
@@ -112,7 +112,7 @@ fn first_rounds<R: Threads + Sync, L: Ledger>(
     if !desks.aligned() {
         return None;
     }
-    align(desks, steps);
+    align(rt, desks, steps);
     let found = two_rounds(rt, &mut climber, desks, steps)?;
     if !desks.aligned() {
         return None;

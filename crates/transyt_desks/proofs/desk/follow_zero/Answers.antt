@@ -8,7 +8,7 @@ use Rattle.transyt_desks.proofs.DeskLaws.{session_read, sessions_count, first_ze
 use Rattle.transyt_desks.proofs.desk.follow_zero.Goals as goal
 
 pub stand_all-requires-clause-shape : goal.stand_all-requires-clause-shape
-stand_all-requires-clause-shape c =
+stand_all-requires-clause-shape g c κs within =
     let S : List SessionValue = sessions_of c.args.desks.now in
     let z : Desk = c.index-zero-0.result in
     let front : List Desk = c.split_at_mut-zero.result.0.now in
@@ -28,7 +28,7 @@ stand_all-requires-clause-shape c =
     ap (λ (s : SessionValue). shape s.net) other ∙ c.requires.shape.shape (k + 1) inside ∙ sym (ap shape net_is))
 
 pub stand_all-requires-clause-closed : goal.stand_all-requires-clause-closed
-stand_all-requires-clause-closed c =
+stand_all-requires-clause-closed g c κs within =
     let S : List SessionValue = sessions_of c.args.desks.now in
     let back : List Desk = c.split_at_mut-zero.result.1.now in
     λ k d less.
@@ -41,7 +41,7 @@ stand_all-requires-clause-closed c =
     ap (λ (s : SessionValue). s.before) other ∙ c.requires.closed.closed (k + 1) (omega arith) inside)
 
 pub returns-clause-aligned : goal.returns-clause-aligned
-returns-clause-aligned c =
+returns-clause-aligned g c =
     let S : List SessionValue = sessions_of c.args.desks.now in
     let z : Desk = c.index-zero-0.result in
     let front : List Desk = c.split_at_mut-zero.result.0.now in
@@ -55,6 +55,6 @@ returns-clause-aligned c =
     (joined_aligned c.args.desks.now c.stand_all.new.desks given.net c.requires.some net_is c.stand_all.ensures.net)
 
 pub returns-clause-closed : goal.returns-clause-closed
-returns-clause-closed c =
+returns-clause-closed g c =
     subst (λ (ds : List Desk). OthersClosed (sessions_of (ds ++ c.stand_all.new.desks))) (sym c.split_at_mut-zero.ensures.front)
     (joined_closed c.args.desks.now c.stand_all.new.desks c.requires.some c.stand_all.ensures.closed)

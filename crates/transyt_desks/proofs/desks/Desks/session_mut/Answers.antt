@@ -8,5 +8,5 @@ use Rattle.transyt_desks.proofs.desks.Desks.session_mut.Goals as goal
 pub invariant_of-self-lent : goal.invariant_of-self-lent
 invariant_of-self-lent c =
     λ w. subst AreDesks
-    (sym (lent_sessions c.self.inside.desks.items (record { session = w; tried = c.index_mut-desk.result.now.tried })))
+    (sym (lent_sessions c.self.inside.desks.items (record c.index_mut-desk.result.now { session = w })))
     (desks_lent (sessions_of c.self.inside.desks.items) w c.self.invariant)

@@ -1,5 +1,5 @@
 -- The counter's ledger is that of the blank.
-use Rattle.transyt_desks.proofs.stretch.try_one.Given as goal
+use Rattle.transyt_desks.proofs.stretch.try_at.Given as goal
 
 -- the ledger of the call
 abbrev pub ghosts-try_counted : goal.ghosts-try_counted

@@ -6,7 +6,7 @@ use Rattle.transyt_desks.specs.declared.desk.Desk.{Desk}
 use Rattle.transyt_desks.specs.Rounds.{turns_of, CanRound}
 use Rattle.transyt_desks.proofs.DeskLaws.{lent_zero, session_read}
 use Rattle.transyt_desks.proofs.RoundLaws.{rounds_zero}
-use Rattle.transyt_desks.proofs.desks.turn_zero.Goals as goal
+use Rattle.transyt_desks.proofs.rounds.turn_zero.Goals as goal
 
 pub take_turn-requires-clause-ready : goal.take_turn-requires-clause-ready
 take_turn-requires-clause-ready g c =
@@ -22,7 +22,7 @@ pub returns-clause-made : goal.returns-clause-made
 returns-clause-made g c =
     let desks : List Desk = c.args.desks.now in
     let x : Desk = slice_index_or desks 0 c.index-desks-0.result in
-    let d : Desk = record { session = c.take_turn.new.session; tried = x.tried } in
+    let d : Desk = record x { session = c.take_turn.new.session } in
     rounds_zero c.args.places c.args.climber.now c.take_turn.new.climber desks d c.index-desks-0.result c.take_turn.result
     c.requires.some c.take_turn.ensures.made
 
@@ -30,7 +30,7 @@ pub returns-clause-steps : goal.returns-clause-steps
 returns-clause-steps g c =
     let desks : List Desk = c.args.desks.now in
     let x : Desk = slice_index_or desks 0 c.index-desks-0.result in
-    let d : Desk = record { session = c.take_turn.new.session; tried = x.tried } in
+    let d : Desk = record x { session = c.take_turn.new.session } in
     let old = ap (λ (s : SessionValue). s.work) (session_read desks 0 c.index-desks-0.result c.requires.some) in
     let new = ap (λ (s : SessionValue). s.work) (lent_zero desks d c.requires.some) in
     omega (arith, c.take_turn.ensures.steps, old, new)

@@ -2,7 +2,7 @@
 use Rattle.transyt_climb.specs.Turns.{machine}
 use Rattle.transyt_desks.specs.Desks.{desk_zero, sessions_of}
 use Rattle.transyt_desks.proofs.RoundLaws.{turns_one}
-use Rattle.transyt_desks.proofs.desks.alone.Goals as goal
+use Rattle.transyt_desks.proofs.rounds.alone.Goals as goal
 
 pub turn_zero-round-requires-clause-one : goal.turn_zero-round-requires-clause-one
 turn_zero-round-requires-clause-one g c =

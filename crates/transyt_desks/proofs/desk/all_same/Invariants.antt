@@ -1,7 +1,7 @@
 -- The desks so far stand for the network of the first.
 use Rattle.std.proofs.Common.{◌≡◌, ◌<◌, ℕ}
 use Rattle.transyt_desks.specs.Desks.{session_at, desk_zero, sessions_of}
-use Rattle.transyt_desks.proofs.desks.all_same.Given as goal
+use Rattle.transyt_desks.proofs.desk.all_same.Given as goal
 
 -- each of them
 abbrev pub invariant-loop-i : goal.invariant-loop-i

@@ -6,7 +6,7 @@ use Rattle.transyt_desks.specs.Desks.{desk_zero, sessions_of, AreAlike, AreDesks
 use Rattle.transyt_desks.specs.Rounds.{goes_alone, each_of, places_of, CanRound, MakesRound}
 use Rattle.transyt_desks.proofs.DeskLaws.{aligned_alike, alike_lent, desks_lent, followed_desks, sessions_count}
 use Rattle.transyt_desks.proofs.RoundLaws.{shape_rounds}
-use Rattle.transyt_desks.proofs.desks.alike_round.Goals as goal
+use Rattle.transyt_desks.proofs.rounds.alike_round.Goals as goal
 
 pub returns-then-goes_alone-clause-made : goal.returns-then-goes_alone-clause-made
 returns-then-goes_alone-clause-made g c =
@@ -43,7 +43,7 @@ returns-clause-made g c =
     let desks = c.args.desks.now in
     let followed = c.follow_zero.new.desks in
     let places : length followed * c.each.result ≡ places_of (length desks) c.args.climber.now =
-    ap (λ n. length followed * n) c.each.ensures ∙ ap (λ n. n * each_of c.args.climber.now) c.follow_zero.ensures.len
+    ap (λ n. length followed * n) c.each.ensures.value ∙ ap (λ n. n * each_of c.args.climber.now) c.follow_zero.ensures.len
     ∙ sym (ap (λ b. if b then 1 else length desks * each_of c.args.climber.now) (sym c.goes_alone.ensures ∙ c.if-goes_alone.false)) in
     subst (λ n. MakesRound n (machine c.args.climber.now (desk_zero (sessions_of desks)))
     (machine c.round_on.new.climber (desk_zero (sessions_of c.round_on.new.desks))) c.round_on.result) places

@@ -8,7 +8,7 @@ use Rattle.transyt_desks.specs.Rounds.{room_of, CanRound}
 use Rattle.transyt_desks.specs.Stretches.{IsStretch, bound_at}
 use Rattle.transyt_desks.proofs.DeskLaws.{session_read, sessions_count}
 use Rattle.transyt_desks.proofs.RoundLaws.{reach_room}
-use Rattle.transyt_desks.proofs.desks.together.Goals as goal
+use Rattle.transyt_desks.proofs.rounds.together.Goals as goal
 
 pub settle-requires-clause-ready : goal.settle-requires-clause-ready
 settle-requires-clause-ready g c =

@@ -4,11 +4,11 @@ use Rattle.transyt_session.specs.Session.{SessionValue}
 use Rattle.transyt_desks.specs.Desks.{desk_zero, sessions_of, AreAlike}
 use Rattle.transyt_desks.proofs.DeskLaws.{aligned_alike, alike_lent}
 use Rattle.transyt_desks.proofs.RoundLaws.{shape_rounds}
-use Rattle.transyt_desks.proofs.desks.aligned_round.Goals as goal
+use Rattle.transyt_desks.proofs.rounds.aligned_round.Goals as goal
 
 -- the desks after the turns at desk 0, alike
 pub follow_zero-requires-clause-shape : goal.follow_zero-requires-clause-shape
-follow_zero-requires-clause-shape g c =
+follow_zero-requires-clause-shape g c κs within =
     let olds : List SessionValue = sessions_of c.args.desks.now in
     let news : List SessionValue = sessions_of c.round_on-round.new.desks in
     let made = c.round_on-round.ensures.made in

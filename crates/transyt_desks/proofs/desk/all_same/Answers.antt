@@ -5,7 +5,7 @@ use Rattle.transyt_session.specs.Session.{SessionValue}
 use Rattle.transyt_desks.specs.declared.desk.Desk.{Desk}
 use Rattle.transyt_desks.specs.Desks.{session_at, desk_zero, sessions_of}
 use Rattle.transyt_desks.proofs.DeskLaws.{session_read, sessions_count}
-use Rattle.transyt_desks.proofs.desks.all_same.Goals as goal
+use Rattle.transyt_desks.proofs.desk.all_same.Goals as goal
 
 pub returns-then-not-same_net : goal.returns-then-not-same_net
 returns-then-not-same_net c =
