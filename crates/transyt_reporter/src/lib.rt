@@ -5,6 +5,7 @@
 #![tactic(auto)]
 
 mod brief;
+mod certifying;
 mod climbing;
 mod laws;
 mod opening;

@@ -1,4 +1,4 @@
-//! What was judged is said: CLIMB and CERT are carried out line by line as they are written.
+//! What was judged is said: CLIMB and CERT are carried out as they are written.
 ghost use Rattle.std.specs.Prelude.{◌≡◌, ◌^◌, ◌≤◌, length, OnOk};
 ghost use Rattle.transyt_desks.specs.Desks.{desk_zero};
 ghost use Rattle.transyt_text.specs.Prints.{PrintsOn};
@@ -6,16 +6,17 @@ ghost use Rattle.transyt_answers.specs.Commands.{answer_text, after_answer};
 ghost use Rattle.transyt_answers.specs.Conditions.{IsOf};
 ghost use Rattle.transyt_reporter.specs.Conditions.{AreReady, Leaves};
 
+use crate::certifying::certify;
 use crate::climbing::climb_on;
 use crate::workers::Clerk;
 use std::sync::ledger::Ledger;
 use std::thread::Threads;
-use transyt_answers::{Answer, certify_on, say_text};
+use transyt_answers::{Answer, say_text};
 use transyt_desks::{Desks, Gate};
 use transyt_io::{Failed, Sink};
 use transyt_steps::Steps;
 
-/// Writes the text of an answer; CLIMB and CERT are carried out line by line as they are written.
+/// Writes the text of an answer; CLIMB and CERT are carried out as they are written.
 ///
 /// On Failed some first bytes of the text were written. It takes no memory.
 pub(crate) fn say<R: Threads + Sync, G: Gate, K: Sink, L: Ledger>(
@@ -38,7 +39,7 @@ pub(crate) fn say<R: Threads + Sync, G: Gate, K: Sink, L: Ledger>(
 {
     match answer {
         Answer::Climb => climb_on(clerk, desks, sink, steps),
-        Answer::Cert => certify_on(desks.session_mut(), &mut clerk.line, sink, steps),
+        Answer::Cert => certify(clerk, desks, sink, steps),
         _ => say_text(answer, desks.session(), &mut clerk.line, sink),
     }
 }
