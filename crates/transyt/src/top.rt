@@ -15,7 +15,7 @@ use std::thread::Threads;
 use transyt_desks::Gate;
 use transyt_io::{Sink, Source};
 use transyt_plans::{answer_cycles, answer_starts};
-use transyt_reporter::run_deck;
+use transyt_reporter::{Workers, run_deck};
 use transyt_running::Status;
 use transyt_scan::{IdleBench, answer_scan};
 use transyt_steps::Steps;
@@ -41,7 +41,17 @@ fn answer_word<R: Threads + Sync, S: Source, K: Sink, G: Gate, L: Ledger>(
     ensures steps { WordSteps word (S.left source.old) (S.left source.new) steps.old steps.new result }
 {
     match word {
-        Word::Run { workers } => run_deck(rt, alloc, workers, source, sink, gate, steps),
+        Word::Run { workers } => run_deck(
+            Workers {
+                rt,
+                gate,
+                count: workers,
+            },
+            alloc,
+            source,
+            sink,
+            steps,
+        ),
         Word::Make { seed, nodes } => write_made(alloc, seed, nodes, sink),
         Word::Brief {
             seed,

@@ -13,7 +13,7 @@ use transyt_deck::print_deck;
 use transyt_desks::Gate;
 use transyt_io::{LineBuffer, Sink};
 use transyt_make::make_net;
-use transyt_reporter::write_brief;
+use transyt_reporter::{Workers, write_brief};
 use transyt_running::{Status, Stop};
 use transyt_steps::Steps;
 
@@ -69,7 +69,17 @@ pub(crate) fn write_made_brief<R: Threads + Sync, K: Sink, G: Gate, L: Ledger>(
     let Ok(net) = make_net(alloc, seed, nodes) else {
         return Status::NoMemory;
     };
-    match write_brief(rt, alloc, net, workers, gate, sink, steps) {
+    match write_brief(
+        Workers {
+            rt,
+            gate,
+            count: workers,
+        },
+        alloc,
+        net,
+        sink,
+        steps,
+    ) {
         Ok(()) => Status::Done,
         Err(Stop::Write) => Status::WriteFault,
         Err(Stop::Memory) => Status::NoMemory,

@@ -1,8 +1,8 @@
 //! CERT: the line of each place is written before the next is tried.
 ghost use Rattle.std.specs.Prelude.{◌≡◌, ◌+◌, ◌^◌, ◌≤◌, ◌<◌, None, OnOk};
-ghost use Rattle.transyt_moves.specs.Moves.{move_count};
+ghost use Rattle.transyt_moves.specs.Moves.{move, move_count};
 ghost use Rattle.transyt_sweep.specs.Sweeps.{index};
-ghost use Rattle.transyt_sweep.specs.Climb.{tried_at};
+ghost use Rattle.transyt_session.specs.Session.{try_of};
 ghost use Rattle.transyt_climb.specs.Turns.{certified};
 ghost use Rattle.transyt_text.specs.Prints.{PrintsOn};
 ghost use Rattle.transyt_cert.specs.Certificate.{place_text, last_text, cert_text};
@@ -27,25 +27,42 @@ fn index_of(tried: Tried) -> Option<u128>
     }
 }
 
-/// Tries the move at a place, and gives its index, or none where it is barred. Its work is added.
-fn index_with_move<L: Ledger>(
-    session: &mut Session,
+/// Writes the line of a place, by what the try of its move found. On Failed some first bytes of it were written. It takes
+/// no memory.
+pub fn say_cert_place<K: Sink>(
+    session: &Session,
     place: u32,
-    steps: &mut Steps<L>,
-) -> Option<u128>
-    requires place { place < move_count session.old.net }
-    requires closed { session.old.before ≡ None }
-    requires room { session.old.work ≤ 2 ^ 62 }
-    ensures tried { result ≡ tried_at session.old.net place }
-    ensures state { session.new ≡ certified place session.old }
-    ensures few { session.new.work ≤ session.old.work + 8000 }
-    ensures steps { steps.new + session.old.work ≡ steps.old + session.new.work }
+    tried: Tried,
+    line: &mut LineBuffer,
+    sink: &mut K,
+) -> Result<(), Failed>
+    requires place { place < move_count session.now.net }
+    requires tried { tried ≡ try_of session.now.net (move session.now.net place) }
+    ensures { PrintsOn K.written K.faults sink.old sink.new result
+        (place_text session.now.net place) }
 {
-    let tried = certify(session, place, steps);
-    index_of(tried)
+    let edit = move_at(session.net(), place);
+    let found = index_of(tried);
+    move_line(&edit, place, found, line);
+    write_line(line, sink)
 }
 
-/// Writes the line of a place, whose work is added.
+/// Writes the last line of a certificate of so many places. On Failed some first bytes of it were written. It takes no
+/// memory.
+pub fn say_cert_end<K: Sink>(
+    places: u32,
+    session: &Session,
+    line: &mut LineBuffer,
+    sink: &mut K,
+) -> Result<(), Failed>
+    ensures { PrintsOn K.written K.faults sink.old sink.new result
+        (last_text places (index session.now.net)) }
+{
+    cert_line(places, session.index(), line);
+    write_line(line, sink)
+}
+
+/// Tries the move at a place and writes its line. The work is added.
 fn certify_place<K: Sink, L: Ledger>(
     session: &mut Session,
     place: u32,
@@ -62,24 +79,8 @@ fn certify_place<K: Sink, L: Ledger>(
     ensures few { session.new.work ≤ session.old.work + 8000 }
     ensures steps { steps.new + session.old.work ≡ steps.old + session.new.work }
 {
-    let edit = move_at(session.net(), place);
-    let tried = index_with_move(session, place, steps);
-    move_line(&edit, place, tried, line);
-    write_line(line, sink)
-}
-
-/// Writes the last line.
-fn certify_end<K: Sink>(
-    places: u32,
-    session: &Session,
-    line: &mut LineBuffer,
-    sink: &mut K,
-) -> Result<(), Failed>
-    ensures { PrintsOn K.written K.faults sink.old sink.new result
-        (last_text places (index session.now.net)) }
-{
-    cert_line(places, session.index(), line);
-    write_line(line, sink)
+    let tried = certify(session, place, steps);
+    say_cert_place(session, place, tried, line, sink)
 }
 
 /// Writes the certificate of the network now, whose work is added. On Failed some first bytes of it were written. It takes
@@ -105,5 +106,5 @@ pub fn certify_on<K: Sink, L: Ledger>(
     for place in 0..places {
         certify_place(session, place, line, sink, steps)?;
     }
-    certify_end(places, session, line, sink)
+    say_cert_end(places, session, line, sink)
 }

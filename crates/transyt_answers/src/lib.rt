@@ -13,7 +13,7 @@ mod laws;
 mod saying;
 
 pub use answer::Answer;
-pub use certifying::certify_on;
+pub use certifying::{certify_on, say_cert_end, say_cert_place};
 pub use judging::judge;
 pub use laws::{
     steps_are_work, steps_lower, worked_commands, worked_lowering, worked_reports, worked_trial,

@@ -1,13 +1,16 @@
 -- The desks and the steps that answering leaves.
-use Rattle.std.proofs.Common.{◌≡◌, ℕ, ◌+◌, ◌*◌, ◌≤◌, true, List, length, set, Option, None, IfSome, refl, sym, ◌∙◌, ap, subst, arith}
+use Rattle.std.proofs.Common.{◌≡◌, ℕ, ◌+◌, ◌*◌, ◌≤◌, true, List, length, set, Option, None, IfSome, Result, refl, sym, ◌∙◌, ap, subst, arith}
 use Rattle.std.proofs.lemmas.List.{length-set}
 use Rattle.transyt_net.specs.Shape.{SameShape}
+use Rattle.transyt_moves.specs.Moves.{move_count}
+use Rattle.transyt_track.specs.Work.{cert_work}
 use Rattle.transyt_session.specs.Session.{SessionValue}
 use Rattle.transyt_desks.specs.Desks.{desk_zero, AreAlike}
 use Rattle.transyt_climb.specs.Way.{climbed}
 use Rattle.transyt_answers.specs.declared.answer.Answer.{Answer}
 use Rattle.transyt_answers.specs.declared.answer.Answer.TheVariants as a
 use Rattle.transyt_answers.specs.Commands.{after_answer}
+use Rattle.transyt_reporter.specs.Certifying.{HasCertified}
 use Rattle.transyt_reporter.specs.Conditions.{AreReady, Leaves}
 use Rattle.transyt_answers.specs.Conditions.{is_told}
 use Rattle.transyt_reporter.proofs.ReadyLaws.{ready_same, zero_set}
@@ -64,6 +67,27 @@ cert_leaves desks old s steps steps_new ready is net closed few work made =
       few = omega (arith, at, same, few);
       work = omega (arith, at, end, work);
       made = λ one. omega (arith, at, same, made);
+    }
+
+-- a certificate by several desks
+pub batches_leave : {T E : Type 0} (desks after : List SessionValue) (r : Result T E) (steps : ℕ) → AreReady desks
+    → (desk_zero desks).before ≡ None → HasCertified (desk_zero desks) (desk_zero after) 0 (move_count (desk_zero desks).net) r
+    → move_count (desk_zero desks).net ≤ 57600 → AreAlike after → length after ≡ length desks → (length desks ≡ 1 → ⊥)
+    → Leaves 8000072000 (after_answer a.Cert (desk_zero desks)) desks after steps steps
+batches_leave desks after r steps ready closed so most alike len several =
+    let P : Option _ → Type 0 = λ o. IfSome o (λ net. SameShape (desk_zero after).net net) in
+    let end : cert_work (desk_zero desks).net (0 + move_count (desk_zero desks).net)
+    ≡ cert_work (desk_zero desks).net (move_count (desk_zero desks).net) = ap (cert_work (desk_zero desks).net) (omega arith) in
+    record {
+      ready = record {
+        some = omega (arith, ready.some, len);
+        alike = alike;
+        before = subst P (sym (so.before ∙ closed)) tt;
+      };
+      len = len;
+      few = omega (arith, so.few, most);
+      work = omega (arith, so.some, end);
+      made = λ one. absurd (several one);
     }
 
 -- a climb of this budget

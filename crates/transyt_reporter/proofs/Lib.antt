@@ -2,6 +2,7 @@
 pub mod Answered
 pub mod BriefLaws
 pub mod CardLaws
+pub mod CertifyLaws
 pub mod ClimbTexts
 pub mod CountLaws
 pub mod LeavesLaws

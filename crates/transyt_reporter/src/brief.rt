@@ -16,6 +16,7 @@ ghost use Rattle.transyt_reporter.specs.Conditions.{AreReady};
 
 use crate::climbing::{start_climber, steps_of};
 use crate::opening::desks_of;
+use crate::workers::{Clerk, Workers};
 use std::alloc::Global;
 use std::sync::ledger::Ledger;
 use std::thread::Threads;
@@ -60,8 +61,7 @@ fn before_climb(session: &Session) -> Before
 
 /// Climbs by rounds of the desks, from a climber at its start to its end, and counts the steps.
 fn count_steps<R: Threads + Sync, G: Gate, L: Ledger>(
-    rt: &R,
-    gate: &G,
+    workers: &Workers<'_, R, G>,
     desks: &mut Desks,
     climber: &mut Climber,
     steps: &mut Steps<L>,
@@ -70,7 +70,6 @@ fn count_steps<R: Threads + Sync, G: Gate, L: Ledger>(
     requires budget { climber.old.budget ≤ 1000000 }
     requires alike { AreAlike desks.old }
     requires closed { (desk_zero desks.old).before ≡ None }
-    requires few { length desks.old ≤ 8 }
     requires room { (desk_zero desks.old).work ≤ 2 ^ 60 }
     ensures took { result.took ≡ length (climb (desk_zero desks.old).net 0 climber.old.budget).steps }
     ensures local { result.local ≡ (climb (desk_zero desks.old).net 0 climber.old.budget).local }
@@ -81,7 +80,7 @@ fn count_steps<R: Threads + Sync, G: Gate, L: Ledger>(
 {
     let mut took = 0;
     loop {
-        let round = desks.stretch_round(rt, climber, gate, steps);
+        let round = desks.stretch_round(workers.rt, climber, workers.gate, steps);
         if round.last.is_end() {
             return Climbed {
                 took,
@@ -95,15 +94,13 @@ fn count_steps<R: Threads + Sync, G: Gate, L: Ledger>(
 
 /// Climbs by the network's plan.
 fn climb_counted<R: Threads + Sync, G: Gate, L: Ledger>(
-    rt: &R,
-    gate: &G,
+    workers: &Workers<'_, R, G>,
     desks: &mut Desks,
     steps: &mut Steps<L>,
 ) -> Climbed
     requires ready { AreReady desks.old }
     requires plan { IsSome (desk_zero desks.old).net.plan }
     requires closed { (desk_zero desks.old).before ≡ None }
-    requires few { length desks.old ≤ 8 }
     requires room { (desk_zero desks.old).work ≤ 2 ^ 60 }
     ensures took { result.took ≡ length (climb_of (desk_zero desks.old).net).steps }
     ensures looked { result.looked ≡ length (climb_of (desk_zero desks.old).net).looks }
@@ -113,7 +110,7 @@ fn climb_counted<R: Threads + Sync, G: Gate, L: Ledger>(
         → steps.new ≡ steps.old + work_of (climb_of (desk_zero desks.old).net).looks }
 {
     let mut climber = start_climber(desks.session().net());
-    count_steps(rt, gate, desks, &mut climber, steps)
+    count_steps(workers, desks, &mut climber, steps)
 }
 
 /// Writes the line of a climb, which led to this index.
@@ -155,17 +152,14 @@ fn print_brief<K: Sink>(
 
 /// Climbs by the network's plan, and writes the line.
 fn tell_climb<R: Threads + Sync, G: Gate, K: Sink, L: Ledger>(
-    rt: &R,
-    gate: &G,
+    clerk: &mut Clerk<'_, R, G>,
     desks: &mut Desks,
-    line: &mut LineBuffer,
     sink: &mut K,
     steps: &mut Steps<L>,
 ) -> Result<(), Failed>
     requires ready { AreReady desks.old }
     requires plan { IsSome (desk_zero desks.old).net.plan }
     requires closed { (desk_zero desks.old).before ≡ None }
-    requires few { length desks.old ≤ 8 }
     requires room { (desk_zero desks.old).work ≤ 2 ^ 60 }
     ensures prints { PrintsOn K.written K.faults sink.old sink.new result
         (brief_text (desk_zero desks.old).net) }
@@ -173,43 +167,39 @@ fn tell_climb<R: Threads + Sync, G: Gate, K: Sink, L: Ledger>(
         → steps.new ≡ steps.old + work_of (climb_of (desk_zero desks.old).net).looks }
 {
     let before = before_climb(desks.session());
-    let climbed = climb_counted(rt, gate, desks, steps);
+    let climbed = climb_counted(&clerk.workers, desks, steps);
     let to = desks.session().index();
-    print_brief(before, climbed, to, line, sink)
+    print_brief(before, climbed, to, &mut clerk.line, sink)
 }
 
 /// Climbs once on a network by its plan, with so many workers, and writes the line of it.
 ///
 /// All memory is taken before the line is written. On a failed write some first bytes of the line were written.
 pub fn write_brief<R: Threads + Sync, G: Gate, K: Sink, L: Ledger>(
-    rt: &R,
+    workers: Workers<'_, R, G>,
     alloc: Global,
     net: Net,
-    workers: u32,
-    gate: &G,
     sink: &mut K,
     steps: &mut Steps<L>,
 ) -> Result<(), Stop>
     requires plan { IsSome net.plan }
-    requires some { 1 ≤ workers }
-    requires most { workers ≤ 8 }
     ensures ok { OnOk result (Adds (K.written sink.old) (K.written sink.new) (brief_text net)) }
     ensures err { OnErr result (AddsFront (K.written sink.old) (K.written sink.new) (brief_text net)) }
     ensures later { K.faults sink.old ≤ K.faults sink.new }
     ensures fault { IsErrOf result Stop.Write → Rose (K.faults sink.old) (K.faults sink.new) }
     ensures silent { IsErrOf result Stop.Memory → sink.new ≡ sink.old }
-    ensures steps { workers ≡ 1 → OnOk result (steps.new ≡ steps.old + brief_steps net) }
-    ensures some_steps { workers ≡ 1 → OnErr result (steps.new ≤ steps.old + brief_steps net) }
+    ensures steps { workers.entry.count ≡ 1 → OnOk result (steps.new ≡ steps.old + brief_steps net) }
+    ensures some_steps { workers.entry.count ≡ 1 → OnErr result (steps.new ≤ steps.old + brief_steps net) }
 {
-    let Ok(mut desks) = desks_of(alloc, net, workers, steps) else {
+    let Ok(mut desks) = desks_of(alloc, net, workers.count, steps) else {
         return Err(Stop::Memory);
     };
-    let Ok(mut line) = LineBuffer::open(alloc) else {
+    let Ok(mut clerk) = Clerk::open(alloc, workers) else {
         drop(desks);
         return Err(Stop::Memory);
     };
-    let told = tell_climb(rt, gate, &mut desks, &mut line, sink, steps);
-    drop(line);
+    let told = tell_climb(&mut clerk, &mut desks, sink, steps);
+    drop(clerk);
     drop(desks);
     match told {
         Ok(()) => Ok(()),

@@ -11,6 +11,7 @@ ghost use Rattle.transyt_answers.specs.Commands.{after_answer, steps_text, climb
 ghost use Rattle.transyt_reporter.specs.Conditions.{IsStep, AreReady, Leaves};
 
 use crate::remarks::remark_end;
+use crate::workers::Clerk;
 use std::sync::ledger::Ledger;
 use std::thread::Threads;
 use transyt_answers::Answer;
@@ -75,11 +76,9 @@ pub(crate) fn start_climber(net: &Net) -> Climber
 
 /// Climbs by rounds of the desks, from a climber at its start to its end.
 fn climb_by_rounds<R: Threads + Sync, G: Gate, K: Sink, L: Ledger>(
-    rt: &R,
-    gate: &G,
+    clerk: &mut Clerk<'_, R, G>,
     desks: &mut Desks,
     climber: &mut Climber,
-    line: &mut LineBuffer,
     sink: &mut K,
     steps: &mut Steps<L>,
 ) -> Result<(), Failed>
@@ -87,11 +86,11 @@ fn climb_by_rounds<R: Threads + Sync, G: Gate, K: Sink, L: Ledger>(
     requires budget { climber.old.budget ≤ 1000000 }
     requires alike { AreAlike desks.old }
     requires closed { (desk_zero desks.old).before ≡ None }
-    requires few { length desks.old ≤ 8 }
     requires room { (desk_zero desks.old).work ≤ 2 ^ 60 }
     ensures prints { PrintsOn K.written K.faults sink.old sink.new result
         (climb_text (climb (desk_zero desks.old).net 0 climber.old.budget)) }
     ensures state { OnOk result (desk_zero desks.new ≡ climbed climber.old.budget (desk_zero desks.old)) }
+    ensures workers { clerk.new.workers.count ≡ clerk.old.workers.count }
     ensures alike { AreAlike desks.new }
     ensures closed { (desk_zero desks.new).before ≡ None }
     ensures len { length desks.new ≡ length desks.old }
@@ -101,35 +100,39 @@ fn climb_by_rounds<R: Threads + Sync, G: Gate, K: Sink, L: Ledger>(
         → steps.new + (desk_zero desks.old).work ≡ steps.old + (desk_zero desks.new).work }
 {
     loop {
-        let round = desks.stretch_round(rt, climber, gate, steps);
+        let round = desks.stretch_round(clerk.workers.rt, climber, clerk.workers.gate, steps);
         if round.last.is_end() {
             let index = desks.session().index();
-            return say_end(round.last.is_local(), climber.looked(), index, line, sink);
+            return say_end(
+                round.last.is_local(),
+                climber.looked(),
+                index,
+                &mut clerk.line,
+                sink,
+            );
         }
-        say_step(round.last, line, sink)?;
+        say_step(round.last, &mut clerk.line, sink)?;
     }
 }
 
 /// Climbs by the network's plan.
 pub(crate) fn climb_on<R: Threads + Sync, G: Gate, K: Sink, L: Ledger>(
-    rt: &R,
-    gate: &G,
+    clerk: &mut Clerk<'_, R, G>,
     desks: &mut Desks,
-    line: &mut LineBuffer,
     sink: &mut K,
     steps: &mut Steps<L>,
 ) -> Result<(), Failed>
     requires ready { AreReady desks.old }
     requires plan { IsSome (desk_zero desks.old).net.plan }
     requires closed { (desk_zero desks.old).before ≡ None }
-    requires few { length desks.old ≤ 8 }
     requires room { (desk_zero desks.old).work ≤ 2 ^ 60 }
     ensures prints { PrintsOn K.written K.faults sink.old sink.new result
         (climb_text (climb_of (desk_zero desks.old).net)) }
     ensures state { OnOk result (desk_zero desks.new ≡ after_answer Answer.Climb (desk_zero desks.old)) }
+    ensures workers { clerk.new.workers.count ≡ clerk.old.workers.count }
     ensures leaves { Leaves 8000072000 (after_answer Answer.Climb (desk_zero desks.old)) desks.old desks.new
         steps.old steps.new }
 {
     let mut climber = start_climber(desks.session().net());
-    climb_by_rounds(rt, gate, desks, &mut climber, line, sink, steps)
+    climb_by_rounds(clerk, desks, &mut climber, sink, steps)
 }

@@ -5,6 +5,7 @@
 #![tactic(auto)]
 
 mod brief;
+mod certifying;
 mod climbing;
 mod laws;
 mod opening;
@@ -12,7 +13,9 @@ mod remarks;
 mod reporter;
 mod running;
 mod saying;
+mod workers;
 
 pub use brief::write_brief;
 pub use laws::worked_brief;
 pub use running::run_deck;
+pub use workers::Workers;

@@ -14,57 +14,40 @@ ghost use Rattle.transyt_reporter.specs.Reporter.{HasAnswered, state_of, AreKept
 use crate::opening::desks_of;
 use crate::remarks::{InputLine, remark_card, remark_command};
 use crate::saying::say;
+use crate::workers::{Clerk, Workers};
 use std::alloc::{AllocError, Global};
 use std::marker::Model;
 use std::mem;
 use std::sync::ledger::Ledger;
 use std::thread::Threads;
-use transyt_answers::{Answer, judge, print_accepted, print_card_refused};
+use transyt_answers::{judge, print_accepted, print_card_refused};
 use transyt_deck::{CardReader, CardStop, Progress};
 use transyt_desks::{Desks, Gate};
-use transyt_io::{Failed, LineBuffer, Sink};
+use transyt_io::{Failed, Sink};
 use transyt_running::{Ending, Stop};
 use transyt_steps::Steps;
 use transyt_syntax::Code;
-
-/// What the answers are written with: a line, the number of the line that is answered, and how many commands were refused.
-#[derive(Drop)]
-struct Pen {
-    line: LineBuffer,
-    number: u32,
-    refused: u32,
-}
-
-impl Pen {
-    /// Counts an answer that is a refusal.
-    fn count(&mut self, answer: Answer) {
-        if let Answer::Refused(_) = answer {
-            self.refused = self.refused.saturating_add(1);
-        }
-    }
-}
 
 /// Answers the lines of a deck and, from END on, the commands over desks for so many workers.
 ///
 /// A contract sees how many workers and lines there are, the reader of cards, and from END on the sessions of the desks.
 #[derive(Drop)]
-pub(crate) struct Reporter {
+pub(crate) struct Reporter<'a, R, G> {
     alloc: Global,
-    workers: u32,
     lines: u32,
     cards: CardReader,
     desks: Option<Desks>,
-    pen: Pen,
+    clerk: Clerk<'a, R, G>,
 }
 
-impl Model for Reporter {
+impl<'a, R, G> Model for Reporter<'a, R, G> {
     ghost use Rattle.transyt_reporter.specs.Reporter.{ReporterValue, IsReporter, reporter_of};
 
     ghost Value = { ReporterValue };
 
-    ghost view = { λ r. reporter_of r.workers r.lines r.cards r.desks };
+    ghost view = { λ r. reporter_of r.clerk.workers.count r.lines r.cards r.desks };
 
-    ghost invariant = { λ r. IsReporter (reporter_of r.workers r.lines r.cards r.desks) };
+    ghost invariant = { λ r. IsReporter (reporter_of r.clerk.workers.count r.lines r.cards r.desks) };
 }
 
 /// Opens the desks of a complete deck: all memory of the commands is taken here.
@@ -90,58 +73,55 @@ fn open_desks<L: Ledger>(
 
 /// Answers a command: it is judged, and then said.
 fn answer_command<R: Threads + Sync, G: Gate, K: Sink, L: Ledger>(
-    rt: &R,
-    gate: &G,
+    clerk: &mut Clerk<'_, R, G>,
     desks: &mut Desks,
     command: &[u8],
-    pen: &mut Pen,
     sink: &mut K,
     steps: &mut Steps<L>,
 ) -> Result<Option<Ending>, Stop>
     requires ready { AreReady desks.old }
-    requires few { length desks.old ≤ 8 }
+    requires len { length desks.old ≡ clerk.old.workers.count }
     requires room { (desk_zero desks.old).work ≤ 2 ^ 59 }
     ensures prints { PrintsOn K.written K.faults sink.old sink.new result
         (answer_text (desk_zero desks.old) (line_answer (desk_zero desks.old) command.now)) }
     ensures ends { IfOk result (λ end. end ≡ answer_ends (line_answer (desk_zero desks.old) command.now)) }
     ensures state { OnOk result (desk_zero desks.new ≡ session_after (desk_zero desks.old) command.now) }
     ensures takes_none { IsErrOf result Stop.Memory → ⊥ }
+    ensures workers { clerk.new.workers.count ≡ clerk.old.workers.count }
     ensures leaves { Leaves 8589934592 (session_after (desk_zero desks.old) command.now) desks.old desks.new
         steps.old steps.new }
 {
     let answer = judge(desks.session_mut(), command, steps);
-    pen.count(answer);
+    clerk.count(answer);
     let said = InputLine {
-        number: pen.number,
+        number: clerk.number,
         text: command,
     };
     remark_command(answer, said, desks.session(), sink);
-    match say(rt, gate, answer, desks, &mut pen.line, sink, steps) {
+    match say(clerk, answer, desks, sink, steps) {
         Ok(()) => Ok(answer.ending()),
         Err(Failed) => Err(Stop::Write),
     }
 }
 
-impl Reporter {
+impl<'a, R, G> Reporter<'a, R, G> {
     /// No line came. The memory for writing is taken here.
-    pub(crate) fn open(alloc: Global, workers: u32) -> Result<Reporter, AllocError>
-        requires some { 1 ≤ workers }
-        requires most { workers ≤ 8 }
-        ensures value { IfOk result (λ r. r ≡ new_reporter workers) }
+    pub(crate) fn open(
+        alloc: Global,
+        workers: Workers<'a, R, G>,
+    ) -> Result<Reporter<'a, R, G>, AllocError>
+        ensures value { IfOk result (λ r. r ≡ new_reporter workers.entry.count) }
     {
-        let line = LineBuffer::open(alloc)?;
-        Ok(Reporter {
-            alloc,
-            workers,
-            lines: 0,
-            cards: CardReader::new(alloc),
-            desks: None,
-            pen: Pen {
-                line,
-                number: 0,
-                refused: 0,
-            },
-        })
+        match Clerk::open(alloc, workers) {
+            Ok(clerk) => Ok(Reporter {
+                alloc,
+                lines: 0,
+                cards: CardReader::new(alloc),
+                desks: None,
+                clerk,
+            }),
+            Err(error) => Err(error),
+        }
     }
 
     /// Answers a line before END or END.
@@ -173,7 +153,7 @@ impl Reporter {
                     text: line,
                 };
                 remark_card(&self.cards, code, refused, sink);
-                match print_card_refused(card, code, &mut self.pen.line, sink) {
+                match print_card_refused(card, code, &mut self.clerk.line, sink) {
                     Ok(()) => Ok(Some(Ending::Refused)),
                     Err(Failed) => Err(Stop::Write),
                 }
@@ -199,11 +179,11 @@ impl Reporter {
         ensures workers { self.new.workers ≡ self.old.workers }
     {
         let cards = mem::replace(&mut self.cards, CardReader::new(self.alloc));
-        let Ok(desks) = open_desks(self.alloc, cards, self.workers, steps) else {
+        let Ok(desks) = open_desks(self.alloc, cards, self.clerk.workers.count, steps) else {
             return Err(Stop::Memory);
         };
         let net = desks.session().net();
-        if let Err(Failed) = print_accepted(net, &mut self.pen.line, sink) {
+        if let Err(Failed) = print_accepted(net, &mut self.clerk.line, sink) {
             drop(desks);
             return Err(Stop::Write);
         }
@@ -214,9 +194,7 @@ impl Reporter {
 
 /// Answers a line: how it ends the run, if it does.
 pub(crate) fn answer_line<R: Threads + Sync, G: Gate, K: Sink, L: Ledger>(
-    rt: &R,
-    gate: &G,
-    reporter: &mut Reporter,
+    reporter: &mut Reporter<'_, R, G>,
     line: &[u8],
     sink: &mut K,
     steps: &mut Steps<L>,
@@ -241,8 +219,8 @@ pub(crate) fn answer_line<R: Threads + Sync, G: Gate, K: Sink, L: Ledger>(
 {
     reporter.lines += 1;
     if let Some(desks) = &mut reporter.desks {
-        reporter.pen.number = reporter.lines;
-        return answer_command(rt, gate, desks, line, &mut reporter.pen, sink, steps);
+        reporter.clerk.number = reporter.lines;
+        return answer_command(&mut reporter.clerk, desks, line, sink, steps);
     }
     if !reporter.cards.is_live() {
         return Ok(Some(Ending::Refused));
@@ -250,10 +228,10 @@ pub(crate) fn answer_line<R: Threads + Sync, G: Gate, K: Sink, L: Ledger>(
     reporter.answer_card(line, sink, steps)
 }
 
-impl Reporter {
+impl<'a, R, G> Reporter<'a, R, G> {
     /// How many commands were refused.
     pub(crate) fn refused(&self) -> u32 {
-        self.pen.refused
+        self.clerk.refused
     }
 
     /// Answers the end of the input: whether it is a refusal. It takes no memory.
@@ -276,7 +254,7 @@ impl Reporter {
             text: b"",
         };
         remark_card(&self.cards, Code::NoEnd, end, sink);
-        match print_card_refused(card, Code::NoEnd, &mut self.pen.line, sink) {
+        match print_card_refused(card, Code::NoEnd, &mut self.clerk.line, sink) {
             Ok(()) => Ok(true),
             Err(Failed) => Err(Stop::Write),
         }

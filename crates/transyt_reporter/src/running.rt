@@ -9,6 +9,7 @@ ghost use Rattle.transyt_reporter.specs.Reporter.{new_reporter};
 
 use crate::remarks::remark_refused;
 use crate::reporter::{Reporter, answer_line};
+use crate::workers::Workers;
 use std::alloc::Global;
 use std::sync::ledger::Ledger;
 use std::thread::Threads;
@@ -19,12 +20,10 @@ use transyt_steps::Steps;
 
 /// Takes the lines of a new reader one at a time, and answers each before the next is taken.
 fn run<R: Threads + Sync, S: Source, K: Sink, G: Gate, L: Ledger>(
-    rt: &R,
-    reporter: &mut Reporter,
+    reporter: &mut Reporter<'_, R, G>,
     reader: &mut LineReader,
     source: &mut S,
     sink: &mut K,
-    gate: &G,
     steps: &mut Steps<L>,
 ) -> Status
     requires new { reporter.old ≡ new_reporter reporter.old.workers }
@@ -48,7 +47,7 @@ fn run<R: Threads + Sync, S: Source, K: Sink, G: Gate, L: Ledger>(
                 Err(stop) => stopped(stop),
             };
         }
-        match answer_line(rt, gate, reporter, reader.line(), sink, steps) {
+        match answer_line(reporter, reader.line(), sink, steps) {
             Ok(None) => {}
             Ok(Some(ending)) => return ending.status(),
             Err(stop) => return stopped(stop),
@@ -61,23 +60,19 @@ fn run<R: Threads + Sync, S: Source, K: Sink, G: Gate, L: Ledger>(
 /// Each line is answered before the next is read, and each step of a climb is written before the next look. The memory
 /// for reading and writing is taken before the first read, and all other memory before the first line is written.
 pub fn run_deck<R: Threads + Sync, S: Source, K: Sink, G: Gate, L: Ledger>(
-    rt: &R,
+    workers: Workers<'_, R, G>,
     alloc: Global,
-    workers: u32,
     source: &mut S,
     sink: &mut K,
-    gate: &G,
     steps: &mut Steps<L>,
 ) -> Status
-    requires some { 1 ≤ workers }
-    requires most { workers ≤ 8 }
     ensures outcome { Outcome reporting_run (S.left source.old) (S.left source.new) (S.last source.new)
         (K.written sink.old) (K.written sink.new) result }
     ensures source_later { S.faults source.old ≤ S.faults source.new }
     ensures sink_later { K.faults sink.old ≤ K.faults sink.new }
     ensures read_fault { result ≡ Status.ReadFault → Rose (S.faults source.old) (S.faults source.new) }
     ensures write_fault { result ≡ Status.WriteFault → Rose (K.faults sink.old) (K.faults sink.new) }
-    ensures steps { workers ≡ 1
+    ensures steps { workers.entry.count ≡ 1
         → StepsTaken deck_answering (S.left source.old) (S.left source.new) steps.old steps.new result }
 {
     let Ok(mut reporter) = Reporter::open(alloc, workers) else {
@@ -87,7 +82,7 @@ pub fn run_deck<R: Threads + Sync, S: Source, K: Sink, G: Gate, L: Ledger>(
         drop(reporter);
         return Status::NoMemory;
     };
-    let status = run(rt, &mut reporter, &mut reader, source, sink, gate, steps);
+    let status = run(&mut reporter, &mut reader, source, sink, steps);
     remark_refused(reporter.refused(), sink);
     drop(reader);
     drop(reporter);

@@ -1,4 +1,4 @@
-//! What was judged is said: CLIMB and CERT are carried out line by line as they are written.
+//! What was judged is said: CLIMB and CERT are carried out as they are written.
 ghost use Rattle.std.specs.Prelude.{◌≡◌, ◌^◌, ◌≤◌, length, OnOk};
 ghost use Rattle.transyt_desks.specs.Desks.{desk_zero};
 ghost use Rattle.transyt_text.specs.Prints.{PrintsOn};
@@ -6,39 +6,40 @@ ghost use Rattle.transyt_answers.specs.Commands.{answer_text, after_answer};
 ghost use Rattle.transyt_answers.specs.Conditions.{IsOf};
 ghost use Rattle.transyt_reporter.specs.Conditions.{AreReady, Leaves};
 
+use crate::certifying::certify;
 use crate::climbing::climb_on;
+use crate::workers::Clerk;
 use std::sync::ledger::Ledger;
 use std::thread::Threads;
-use transyt_answers::{Answer, certify_on, say_text};
+use transyt_answers::{Answer, say_text};
 use transyt_desks::{Desks, Gate};
-use transyt_io::{Failed, LineBuffer, Sink};
+use transyt_io::{Failed, Sink};
 use transyt_steps::Steps;
 
-/// Writes the text of an answer; CLIMB and CERT are carried out line by line as they are written.
+/// Writes the text of an answer; CLIMB and CERT are carried out as they are written.
 ///
 /// On Failed some first bytes of the text were written. It takes no memory.
 pub(crate) fn say<R: Threads + Sync, G: Gate, K: Sink, L: Ledger>(
-    rt: &R,
-    gate: &G,
+    clerk: &mut Clerk<'_, R, G>,
     answer: Answer,
     desks: &mut Desks,
-    line: &mut LineBuffer,
     sink: &mut K,
     steps: &mut Steps<L>,
 ) -> Result<(), Failed>
     requires ready { AreReady desks.old }
-    requires few { length desks.old ≤ 8 }
+    requires len { length desks.old ≡ clerk.old.workers.count }
     requires of { IsOf (desk_zero desks.old) answer }
     requires room { (desk_zero desks.old).work ≤ 2 ^ 60 }
     ensures prints { PrintsOn K.written K.faults sink.old sink.new result
         (answer_text (desk_zero desks.old) answer) }
     ensures state { OnOk result (desk_zero desks.new ≡ after_answer answer (desk_zero desks.old)) }
+    ensures workers { clerk.new.workers.count ≡ clerk.old.workers.count }
     ensures leaves { Leaves 8000072000 (after_answer answer (desk_zero desks.old)) desks.old desks.new
         steps.old steps.new }
 {
     match answer {
-        Answer::Climb => climb_on(rt, gate, desks, line, sink, steps),
-        Answer::Cert => certify_on(desks.session_mut(), line, sink, steps),
-        _ => say_text(answer, desks.session(), line, sink),
+        Answer::Climb => climb_on(clerk, desks, sink, steps),
+        Answer::Cert => certify(clerk, desks, sink, steps),
+        _ => say_text(answer, desks.session(), &mut clerk.line, sink),
     }
 }

@@ -54,10 +54,10 @@ returns-clause-prints g c =
     let past : move_count net ≤ c.loop-place.place = omega (arith, c.loop-place-test.false, c.move_count-places.ensures.count, ap move_count c.net.ensures) in
     let count = c.move_count-places.ensures.count ∙ ap move_count c.net.ensures in
     let last = last_text (move_count net) (index net) in
-    prints_same _ _ c.certify_end.result _ _
-    (prints_both c.certify_end.result (flat_map (place_text net) (range_with_len 0 (move_count net))) last
+    prints_same _ _ c.say_cert_end.result _ _
+    (prints_both c.say_cert_end.result (flat_map (place_text net) (range_with_len 0 (move_count net))) last
     (places_printed (tt {0}) (place_text net) (move_count net) c.loop-place.place _ _ past so.printed)
-    (prints_same _ _ c.certify_end.result _ _ c.certify_end.ensures
+    (prints_same _ _ c.say_cert_end.result _ _ c.say_cert_end.ensures
     (λ i. last_text (count i) (index (so.net i)))))
     (sym (text_by_place net))
 

@@ -9,4 +9,4 @@ use Rattle.transyt_reporter.proofs.brief.write_brief.Goals as goal
 pub tell_climb-told-requires-clause-ready : goal.tell_climb-told-requires-clause-ready
 tell_climb-told-requires-clause-ready g c κs within =
     let P : List SessionValue → Type 0 = λ desks. AreReady desks in
-    subst P (sym c.in-Ok.ensures.value) (ready_opened (opened c.args.net) c.args.workers refl)
+    subst P (sym c.in-Ok.ensures.value) (ready_opened (opened c.args.net) c.args.workers.count refl)

@@ -1,5 +1,5 @@
 -- One round more of a climb on its way, whose line is written, or its last.
-use Rattle.std.proofs.Common.{◌≡◌, Result, Ok, Err, OnOk, false, length, refl, sym, ◌∙◌, ap, arith}
+use Rattle.std.proofs.Common.{◌≡◌, Result, Ok, Err, OnOk, false, length, refl, sym, ◌∙◌, ap, arith, rules}
 use Rattle.transyt_climb.specs.Turns.{is_end, machine}
 use Rattle.transyt_sweep.specs.Sweeps.{index}
 use Rattle.transyt_session.specs.Session.{SessionValue}
@@ -18,6 +18,7 @@ loop-desks-init g c = record {
   written = writes_nothing (climb_starts c.args.climber.now.budget c.args.desks.now c.args.climber.now c.requires.start
       c.requires.closed c.requires.alike) _ _;
   steps = λ one. refl;
+  workers = refl;
 }
 
 -- the line of a step is written
@@ -35,6 +36,7 @@ loop-desks-preserved g c =
           let before = c.loop-desks.invariant.steps one in
           let now = round.steps (so.climb.len ∙ one) in
           omega (arith, before, now);
+      workers = search rules;
     }
 
 -- the last line is written, or broke off

@@ -19,7 +19,7 @@ none_is (Some x) never = absurd (never x refl)
 pub returns-in-Some-clause-whole : goal.returns-in-Some-clause-whole
 returns-in-Some-clause-whole g c before h =
     let old = c.reporter.inside in
-    let r = reporter_of old.workers old.lines old.cards old.desks in
+    let r = reporter_of old.clerk.workers.count old.lines old.cards old.desks in
     let desks = c.in-Some.desks in
     let line = c.args.line.now in
     let P : ReporterValue → Type 0 = λ r. HasAnswered r before in
@@ -35,12 +35,12 @@ returns-in-Some-clause-whole g c before h =
 pub returns-in-Some-clause-steps : goal.returns-in-Some-clause-steps
 returns-in-Some-clause-steps g c before h one =
     let old = c.reporter.inside in
-    let r = reporter_of old.workers old.lines old.cards old.desks in
+    let r = reporter_of old.clerk.workers.count old.lines old.cards old.desks in
     let desks = c.in-Some.desks in
     let P : ReporterValue → Type 0 = λ r. HasAnswered r before in
     let k : HasAnswered r before = subst P (sym c.reporter.view_is) h in
-    let Q : Option (List SessionValue) → Type 0 = λ o. IfSome o (AreKept old.workers old.lines) in
-    let kept : AreKept old.workers old.lines desks = subst Q c.in-Some.is c.reporter.invariant.desks in
+    let Q : Option (List SessionValue) → Type 0 = λ o. IfSome o (AreKept old.clerk.workers.count old.lines) in
+    let kept : AreKept old.clerk.workers.count old.lines desks = subst Q c.in-Some.is c.reporter.invariant.desks in
     let told = c.answer_command.ensures in
     command_cost c.answer_command.result (desk_zero desks) (desk_zero c.answer_command.new.desks) before c.args.line.now
     c.args.steps.now c.answer_command.new.steps (session_is r before k desks c.in-Some.is) told.state
@@ -50,7 +50,7 @@ returns-in-Some-clause-steps g c before h one =
 pub returns-clause-whole : goal.returns-clause-whole
 returns-clause-whole g c before h =
     let old = c.reporter.inside in
-    let r = reporter_of old.workers old.lines old.cards old.desks in
+    let r = reporter_of old.clerk.workers.count old.lines old.cards old.desks in
     let line = c.args.line.now in
     let P : ReporterValue → Type 0 = λ r. HasAnswered r before in
     let k : HasAnswered r before = subst P (sym c.reporter.view_is) h in
@@ -67,7 +67,7 @@ returns-clause-whole g c before h =
 pub returns-clause-silent : goal.returns-clause-silent
 returns-clause-silent g c before h failed =
     let old = c.reporter.inside in
-    let r = reporter_of old.workers old.lines old.cards old.desks in
+    let r = reporter_of old.clerk.workers.count old.lines old.cards old.desks in
     let P : ReporterValue → Type 0 = λ r. HasAnswered r before in
     let k : HasAnswered r before = subst P (sym c.reporter.view_is) h in
     (answered_nothing r before k (none_is old.desks c.in_default.not-Some), c.answer_card.ensures.silent failed)

@@ -1,32 +1,21 @@
 -- A certificate, a climb, and an answer that is no more than its text.
-use Rattle.std.proofs.Common.{sym, ◌∙◌, ap, subst, set}
+use Rattle.std.proofs.Common.{sym, ap, subst}
 use Rattle.transyt_session.specs.Session.{SessionValue}
 use Rattle.transyt_desks.specs.Desks.{desk_zero}
 use Rattle.transyt_text.proofs.PrintLaws.{prints_same}
-use Rattle.transyt_cert.specs.Certificate.{cert_text}
 use Rattle.transyt_answers.specs.declared.answer.Answer.{Answer}
 use Rattle.transyt_answers.specs.Commands.{answer_text, after_answer}
 use Rattle.transyt_reporter.specs.Conditions.{Leaves}
-use Rattle.transyt_reporter.proofs.LeavesLaws.{told_by, told_leaves, cert_leaves}
+use Rattle.transyt_reporter.proofs.LeavesLaws.{told_by, told_leaves}
 use Rattle.transyt_reporter.proofs.saying.say.Goals as goal
 
--- a certificate
-pub returns-in-Cert-clause-prints : goal.returns-in-Cert-clause-prints
-returns-in-Cert-clause-prints g c =
-    prints_same _ _ c.certify_on.result _ _ c.certify_on.ensures.prints
-    (ap (λ (s : SessionValue). cert_text s.net) c.session_mut.ensures.value
-    ∙ ap (answer_text (desk_zero c.args.desks.now)) (sym c.in-Cert.is))
-
--- its desks and steps
+-- the desks and the steps of a certificate
 pub returns-in-Cert-clause-leaves : goal.returns-in-Cert-clause-leaves
 returns-in-Cert-clause-leaves g c =
     let desks = c.args.desks.now in
-    let s = c.certify_on.new.session in
-    let told = c.certify_on.ensures in
-    let P : Answer → Type 0 = λ answer.
-    Leaves 8000072000 (after_answer answer (desk_zero desks)) desks (set desks 0 s) c.args.steps.now c.certify_on.new.steps in
-    subst P (sym c.in-Cert.is)
-    (cert_leaves desks _ s _ _ c.requires.ready c.session_mut.ensures.value told.same told.closed told.few told.work told.steps)
+    let P : Answer → Type 0 = λ answer. Leaves 8000072000 (after_answer answer (desk_zero desks)) desks
+    c.certify.new.desks c.args.steps.now c.certify.new.steps in
+    subst P (sym c.in-Cert.is) c.certify.ensures.leaves
 
 -- the desks and the steps of a climb
 pub returns-in-Climb-clause-leaves : goal.returns-in-Climb-clause-leaves

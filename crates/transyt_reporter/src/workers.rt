@@ -1,0 +1,58 @@
+//! Who tries moves, and who writes the answers.
+ghost use Rattle.std.specs.Prelude.{◌≡◌, ◌≤◌, IfOk};
+
+use std::alloc::{AllocError, Global};
+use transyt_answers::Answer;
+use transyt_io::LineBuffer;
+
+/// One to eight workers, who try moves at once: how many, the runtime that starts them, and the gate that they pass.
+#[derive(Drop)]
+pub struct Workers<'a, R, G> {
+    /// What starts them.
+    pub rt: &'a R,
+    /// What each passes with the moves that it tries.
+    pub gate: &'a G,
+    /// How many they are.
+    pub count: u32,
+    ghost some: { 1 ≤ count },
+    ghost most: { count ≤ 8 },
+}
+
+/// What carries the commands out and writes the answers: the workers, the line that is written, the number of the line
+/// that is answered, and how many commands were refused.
+#[derive(Drop)]
+pub(crate) struct Clerk<'a, R, G> {
+    pub(crate) workers: Workers<'a, R, G>,
+    pub(crate) line: LineBuffer,
+    pub(crate) number: u32,
+    pub(crate) refused: u32,
+}
+
+impl<'a, R, G> Clerk<'a, R, G> {
+    /// Nothing is answered yet. The memory for writing is taken here.
+    pub(crate) fn open(
+        alloc: Global,
+        workers: Workers<'a, R, G>,
+    ) -> Result<Clerk<'a, R, G>, AllocError>
+        ensures { IfOk result (λ clerk. clerk.workers.count ≡ workers.entry.count) }
+    {
+        match LineBuffer::open(alloc) {
+            Ok(line) => Ok(Clerk {
+                workers,
+                line,
+                number: 0,
+                refused: 0,
+            }),
+            Err(error) => Err(error),
+        }
+    }
+
+    /// Counts an answer that is a refusal.
+    pub(crate) fn count(&mut self, answer: Answer)
+        ensures { self.new.workers.count ≡ self.old.workers.count }
+    {
+        if let Answer::Refused(_) = answer {
+            self.refused = self.refused.saturating_add(1);
+        }
+    }
+}
