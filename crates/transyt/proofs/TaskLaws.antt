@@ -8,8 +8,8 @@ use Rattle.transyt_running.specs.Outcome.{IsSettled}
 use Rattle.transyt_running.proofs.Head.{headline, complete, too_long_where}
 use Rattle.transyt_running.proofs.MoreBytes.{lines_settled}
 use Rattle.transyt_answers.specs.Report.{deck_answering, report, status}
-use Rattle.transyt_whole.proofs.Settled.{whole_settled}
-use Rattle.transyt_whole.specs.Whole.{StepsWithin}
+use Rattle.transyt_words.proofs.Settled.{whole_settled}
+use Rattle.transyt_words.specs.Whole.{StepsWithin}
 use Rattle.transyt_deck.specs.declared.reader.CardStop.{CardStop}
 use Rattle.transyt_deck.specs.declared.cut.Cut.{Cut}
 use Rattle.transyt_deck.specs.Cut.{cut_of}
@@ -17,8 +17,8 @@ use Rattle.transyt_words.specs.AfterDeck.{answer_after, most_of_cut, most_after}
 use Rattle.transyt_words.specs.Audit.{audit_answer}
 use Rattle.transyt_words.specs.Counts.{counts_answer}
 use Rattle.transyt_words.specs.Equisat.{equisat_answer}
-use Rattle.transyt_scan.specs.Scan.{scan_answer}
-use Rattle.transyt_plans.specs.Plans.{cycles_answer, starts_answer}
+use Rattle.transyt_words.specs.Scan.{scan_answer}
+use Rattle.transyt_words.specs.Plans.{cycles_answer, starts_answer}
 use Rattle.transyt.specs.declared.word.Word.{Word}
 use Rattle.transyt.specs.declared.word.Word.TheVariants as w
 use Rattle.transyt.specs.Tasks.{Task, Reads, Writes, task, TextRow, TaskOutcome, TaskHeadline, TaskComplete}

@@ -11,14 +11,14 @@ use Rattle.transyt_running.specs.Outcome.{Reporting, Outcome, IsFront, Headline,
 use Rattle.transyt_running.specs.Runs.{StepsTaken}
 use Rattle.transyt_reporter.specs.Brief.{brief_text, brief_steps}
 use Rattle.transyt_answers.specs.Report.{deck_answering, reporting_run}
-use Rattle.transyt_whole.specs.Answer.{of_whole}
-use Rattle.transyt_whole.specs.Whole.{StepsWithin}
+use Rattle.transyt_words.specs.Answer.{of_whole}
+use Rattle.transyt_words.specs.Whole.{StepsWithin}
 use Rattle.transyt_words.specs.AfterDeck.{answer_after, most_after}
 use Rattle.transyt_words.specs.Audit.{audit_answer, audit_most}
 use Rattle.transyt_words.specs.Counts.{counts_answer}
 use Rattle.transyt_words.specs.Equisat.{equisat_answer}
-use Rattle.transyt_scan.specs.Scan.{scan_answer}
-use Rattle.transyt_plans.specs.Plans.{cycles_answer, starts_answer}
+use Rattle.transyt_words.specs.Scan.{scan_answer}
+use Rattle.transyt_words.specs.Plans.{cycles_answer, starts_answer}
 use Rattle.transyt.specs.declared.word.Word.{Word}
 use Rattle.transyt.specs.declared.word.Word.TheVariants as w
 use Rattle.transyt.specs.Words.{word_of}

@@ -1,8 +1,8 @@
 -- Worked words, each with what it asks for.
 use Rattle.std.specs.Prelude.{ℕ, List, [], ◌∷◌, Option, None, Some, codes}
 use Rattle.transyt_scan.specs.declared.asked.ScanWord.{ScanWord}
-use Rattle.transyt_plans.specs.declared.cycles.CyclesWord.{CyclesWord}
-use Rattle.transyt_plans.specs.declared.starts.StartsWord.{StartsWord}
+use Rattle.transyt_words.specs.declared.cycles.CyclesWord.{CyclesWord}
+use Rattle.transyt_words.specs.declared.starts.StartsWord.{StartsWord}
 use Rattle.transyt.specs.declared.word.Word.{Word}
 use Rattle.transyt.specs.declared.word.Word.TheVariants as w
 

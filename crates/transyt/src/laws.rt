@@ -7,7 +7,7 @@ ghost use Rattle.transyt_reporter.specs.Brief.{brief_steps};
 ghost use Rattle.transyt_answers.specs.Report.{deck_answering};
 ghost use Rattle.transyt.specs.declared.word.Word.{Word};
 ghost use Rattle.transyt_net.specs.Parts.{Network};
-ghost use Rattle.transyt_whole.specs.Answer.{done, of_whole};
+ghost use Rattle.transyt_words.specs.Answer.{done, of_whole};
 ghost use Rattle.transyt.specs.Climbs.{Descends};
 ghost use Rattle.transyt.specs.Tasks.{Reads, TaskComplete, TaskHeadline, TaskTooLong, TextRow, TextSteps, WordSteps, Writes};
 ghost use Rattle.transyt.specs.Words.{IsWord, word_of};

@@ -14,13 +14,10 @@ use std::sync::ledger::Ledger;
 use std::thread::Threads;
 use transyt_desks::Gate;
 use transyt_io::{Sink, Source};
-use transyt_plans::{answer_cycles, answer_starts};
 use transyt_reporter::{Workers, run_deck};
 use transyt_running::Status;
-use transyt_scan::{IdleBench, answer_scan};
 use transyt_steps::Steps;
-use transyt_whole::answer_whole;
-use transyt_words::{AfterDeck, AuditWord, CountsWord, EquisatWord};
+use transyt_words::{AuditWord, CountsWord, EquisatWord, answer_whole};
 
 /// Does what a word asks for.
 fn answer_word<R: Threads + Sync, S: Source, K: Sink, G: Gate, L: Ledger>(
@@ -58,12 +55,12 @@ fn answer_word<R: Threads + Sync, S: Source, K: Sink, G: Gate, L: Ledger>(
             nodes,
             workers,
         } => write_made_brief(rt, alloc, seed, nodes, workers, gate, sink, steps),
-        Word::Counts => answer_whole(alloc, &AfterDeck { word: CountsWord }, source, sink, steps),
-        Word::Equisat => answer_whole(alloc, &AfterDeck { word: EquisatWord }, source, sink, steps),
-        Word::Audit => answer_whole(alloc, &AfterDeck { word: AuditWord }, source, sink, steps),
-        Word::Scan { asked } => answer_scan(rt, alloc, asked, &IdleBench, source, sink),
-        Word::Cycles { asked } => answer_cycles(rt, alloc, asked, source, sink),
-        Word::Starts { asked } => answer_starts(rt, alloc, asked, source, sink),
+        Word::Counts => answer_whole(rt, alloc, &CountsWord, source, sink, steps),
+        Word::Equisat => answer_whole(rt, alloc, &EquisatWord, source, sink, steps),
+        Word::Audit => answer_whole(rt, alloc, &AuditWord, source, sink, steps),
+        Word::Scan { asked } => answer_whole(rt, alloc, &asked, source, sink, steps),
+        Word::Cycles { asked } => answer_whole(rt, alloc, &asked, source, sink, steps),
+        Word::Starts { asked } => answer_whole(rt, alloc, &asked, source, sink, steps),
     }
 }
 

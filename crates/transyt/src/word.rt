@@ -5,8 +5,8 @@ ghost use Rattle.transyt.specs.Words.{within, workers_of, nodes_of, alone, run_w
 ghost use Rattle.transyt.specs.Words.{scan_word, cycles_word, starts_word, word_of, IsWord};
 
 use transyt_num::read_number;
-use transyt_plans::{CyclesWord, StartsWord};
 use transyt_scan::ScanWord;
+use transyt_words::{CyclesWord, StartsWord};
 
 /// What words ask for.
 #[derive(Clone, Copy, Debug, PartialEq, Eq, Drop)]

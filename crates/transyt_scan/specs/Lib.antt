@@ -1,4 +1,3 @@
 pub mod Rows
 pub mod Best
-pub mod Scan
 pub mod WorkedScan

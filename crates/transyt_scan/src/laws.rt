@@ -3,17 +3,12 @@
 ghost use Rattle.std.specs.Prelude.{◌≡◌, [], ◌∷◌, map, true, false, None, Some};
 ghost use Rattle.transyt_parts.specs.Made.{new_plan};
 ghost use Rattle.transyt_climb.specs.WorkedTurns.{idle};
-ghost use Rattle.transyt_whole.specs.declared.line.AnswerLine.TheVariants as line;
-ghost use Rattle.transyt_whole.specs.declared.line.ScanLine.TheVariants as said;
-ghost use Rattle.transyt_whole.specs.Answer.{done};
 ghost use Rattle.transyt_scan.specs.Rows.{row_at, scan_of, table};
 ghost use Rattle.transyt_scan.specs.Best.{IsLeast, best};
-ghost use Rattle.transyt_scan.specs.Scan.{row_line, scan_answer, table_lines, told};
 ghost use Rattle.transyt_scan.specs.WorkedScan.{from_44, idle_with, in_range, junction_at_61, out_of_range, stayed};
 ghost use Rattle.transyt_scan.specs.WorkedScan.{climbed_at, three_rows};
 
-/// What may be asked for (each number at its limits, and one past them), rows where no move lowers
-/// the index, the lines of a table and an answer.
+/// What may be asked for (each number at its limits, and one past them), and rows where no move lowers the index.
 pub fn worked_scan()
     ensures within { map (λ a. scan_of a.workers a.times.low a.times.high a.times.by) in_range ≡ map Some in_range }
     ensures beyond { map (λ a. scan_of a.workers a.times.low a.times.high a.times.by) out_of_range
@@ -21,12 +16,6 @@ pub fn worked_scan()
     ensures rows { table idle from_44 ≡ stayed 44 true 6 ∷ stayed 51 true 6 ∷ [] }
     ensures budget { row_at (idle_with (Some (new_plan 4 (2 ∷ [])))) 44 ≡ stayed 44 false 4 }
     ensures unplanned { row_at (idle_with None) 44 ≡ stayed 44 true 0 }
-    ensures told { told (climbed_at 58 8 2 false 20 3)
-        ≡ record { number = 58; from = 8; took = 2; local = false; looked = 20; to = 3 } }
-    ensures lines { table_lines three_rows ≡ row_line (climbed_at 50 9 1 true 11 7) ∷ row_line (climbed_at 58 8 2 false 20 3)
-        ∷ row_line (climbed_at 66 5 4 true 13 3) ∷ line.Scan (said.Best 58 3) ∷ [] }
-    ensures answer { scan_answer from_44 idle 17 (5 ∷ [])
-        ≡ done (table_lines (stayed 44 true 6 ∷ stayed 51 true 6 ∷ [])) }
 {}
 
 /// The row of a junction with a link at another cycle time than its own: its third move lowers the index, by what it is

@@ -1,46 +1,55 @@
 //! The word `audit`.
-ghost use Rattle.std.specs.Prelude.{◌≡◌, ℕ, List};
-ghost use Rattle.transyt_words.specs.Audit.{audit_line, audit_answer, audit_most};
 
-use crate::after_deck::DeckWord;
-use crate::lines::one;
+ghost use Rattle.std.specs.Prelude.{◌≡◌};
+ghost use Rattle.transyt_words.specs.Audit.{audit_answer, audit_line, audit_most};
+
+use crate::answer::Answer;
+use crate::deck_word::DeckWord;
+use crate::line::{AnswerLine, one};
 use std::alloc::{AllocError, Global};
 use std::sync::ledger::Ledger;
+use std::thread::Threads;
 use transyt_audit::{Verdict, audit};
-use transyt_net::Net;
+use transyt_deck::Cut;
 use transyt_sentences::on_audit;
 use transyt_steps::Steps;
-use transyt_whole::{Answer, AnswerLine, AuditLine};
 
 /// Tells whether the lines after a deck prove that no listed move lowers the index.
 #[derive(Clone, Copy, Debug, Drop)]
 pub struct AuditWord;
 
 /// The line of a verdict.
-fn audit_line(verdict: Verdict) -> AuditLine
+fn audit_line(verdict: Verdict) -> AnswerLine
     ensures { result ≡ audit_line verdict }
 {
     match verdict {
-        Verdict::Yes { places, index } => AuditLine::Yes { places, index },
-        Verdict::No { line, code } => AuditLine::No { line, code },
+        Verdict::Yes { places, index } => {
+            AnswerLine::new(b"AUDIT YES # INDEX #", &[u128::from(places), index])
+        }
+        Verdict::No { line, code } => {
+            let numbers = [u128::from(line), u128::from(code.number())];
+            AnswerLine::new(b"AUDIT NO # #", &numbers)
+        }
     }
 }
 
 impl DeckWord for AuditWord {
+    ghost fits = { λ self. Unit {0} };
+
     ghost answer = { λ self. audit_answer };
 
     ghost most = { λ self. audit_most };
 
-    fn judge<L: Ledger>(
+    fn judge<R: Threads + Sync, L: Ledger>(
         &self,
+        _rt: &R,
         alloc: Global,
-        net: &Net,
-        line: u32,
+        cut: &Cut,
         table: &[u8],
         steps: &mut Steps<L>,
     ) -> Result<Answer, AllocError> {
-        let verdict = audit(alloc, net, table, line, steps)?;
-        let answer = Answer::done(one(alloc, AnswerLine::Audit(audit_line(verdict)))?);
+        let verdict = audit(alloc, &cut.net, table, cut.line, steps)?;
+        let answer = Answer::done(one(alloc, audit_line(verdict))?);
         match verdict {
             Verdict::Yes { .. } => Ok(answer),
             Verdict::No { line, code } => Ok(answer.with_remark(on_audit(line, code))),

@@ -1,36 +1,55 @@
 //! The word `counts`.
-ghost use Rattle.std.specs.Prelude.{◌≡◌, ◌≤◌, ◌++◌, ℕ, List, length, OnOk, IfOk};
-ghost use Rattle.transyt_words.specs.Counts.{command_lines, counts_lines, counts_answer};
 
-use crate::after_deck::DeckWord;
-use crate::lines::{add, one};
+ghost use Rattle.std.specs.Prelude.{◌≡◌, ◌++◌, IfOk, OnOk};
+ghost use Rattle.transyt_words.specs.Counts.{command_lines, counted_line, counts_answer, counts_lines, refused_row};
+
+use crate::answer::Answer;
+use crate::deck_word::DeckWord;
+use crate::line::{AnswerLine, add, one};
 use std::alloc::{AllocError, Global};
 use std::sync::ledger::Ledger;
+use std::thread::Threads;
 use transyt_counts::{CountStop, Counts, read_counts};
-use transyt_net::{Edit, Net};
+use transyt_deck::Cut;
+use transyt_net::Edit;
 use transyt_sentences::on_row;
 use transyt_steps::Steps;
-use transyt_whole::{Answer, AnswerLine, CountsLine};
+use transyt_syntax::Code;
 
 /// Turns a table of counts after a deck into commands.
 #[derive(Clone, Copy, Debug, Drop)]
 pub struct CountsWord;
+
+/// The line of a refused row: its number and the code.
+fn refused_row(row: u32, code: Code) -> AnswerLine
+    ensures { result ≡ refused_row row code }
+{
+    let numbers = [u128::from(row), u128::from(code.number())];
+    AnswerLine::new(b"ROW # REFUSED #", &numbers)
+}
 
 /// Adds the command of an edit of a flow.
 fn add_command(lines: &mut Vec<AnswerLine>, edit: Edit) -> Result<(), AllocError>
     ensures { OnOk result (lines.new.items ≡ lines.old.items ++ command_lines edit) }
 {
     match edit {
-        Edit::Entry { link, flow } => add(
-            lines,
-            AnswerLine::Counts(CountsLine::Entry { link, flow }),
-        ),
-        Edit::Part { link, feeder, flow } => add(
-            lines,
-            AnswerLine::Counts(CountsLine::Part { link, feeder, flow }),
-        ),
+        Edit::Entry { link, flow } => {
+            let numbers = [u128::from(link), u128::from(flow)];
+            add(lines, AnswerLine::new(b"ENTRY # #", &numbers))
+        }
+        Edit::Part { link, feeder, flow } => {
+            let numbers = [u128::from(link), u128::from(feeder), u128::from(flow)];
+            add(lines, AnswerLine::new(b"PART # # #", &numbers))
+        }
         _ => Ok(()),
     }
+}
+
+/// How many rows the table has, and how many flows it counts.
+fn counted_line(rows: u32, flows: usize) -> AnswerLine
+    ensures { result ≡ counted_line rows flows }
+{
+    AnswerLine::new(b"* COUNTS # #", &[u128::from(rows), flows as u128])
 }
 
 /// The lines of what a table comes to.
@@ -41,33 +60,29 @@ fn counts_lines(alloc: Global, counts: &Counts) -> Result<Vec<AnswerLine>, Alloc
     for edit in &counts.edits {
         add_command(&mut lines, *edit)?;
     }
-    add(
-        &mut lines,
-        AnswerLine::Counts(CountsLine::Counted {
-            rows: counts.rows,
-            keys: counts.edits.len(),
-        }),
-    )?;
+    add(&mut lines, counted_line(counts.rows, counts.edits.len()))?;
     Ok(lines)
 }
 
 impl DeckWord for CountsWord {
+    ghost fits = { λ self. Unit {0} };
+
     ghost answer = { λ self. counts_answer };
 
     ghost most = { λ self net line table. 0 };
 
-    fn judge<L: Ledger>(
+    fn judge<R: Threads + Sync, L: Ledger>(
         &self,
+        _rt: &R,
         alloc: Global,
-        net: &Net,
-        _line: u32,
+        cut: &Cut,
         table: &[u8],
         _steps: &mut Steps<L>,
     ) -> Result<Answer, AllocError> {
-        match read_counts(alloc, table, net) {
+        match read_counts(alloc, table, &cut.net) {
             Ok(counts) => Ok(Answer::done(counts_lines(alloc, &counts)?)),
             Err(CountStop::Refused { row, code }) => {
-                let lines = one(alloc, AnswerLine::Counts(CountsLine::Refused { row, code }))?;
+                let lines = one(alloc, refused_row(row, code))?;
                 Ok(Answer::refusal(lines).with_remark(on_row(row, code)))
             }
             Err(CountStop::Memory) => Err(AllocError),

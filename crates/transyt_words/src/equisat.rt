@@ -1,52 +1,65 @@
 //! The word `equisat`.
-ghost use Rattle.std.specs.Prelude.{◌≡◌, ◌<◌, ◌++◌, ℕ, List, length, OnOk, IfOk};
-ghost use Rattle.transyt_words.specs.Equisat.{share_lines, node_lines, lines_at, equisat_lines, equisat_answer};
 
-use crate::after_deck::DeckWord;
-use crate::lines::add;
+ghost use Rattle.std.specs.Prelude.{◌≡◌, ◌<◌, ◌++◌, length, IfOk, OnOk};
+ghost use Rattle.transyt_words.specs.Equisat.{end_line, equisat_answer, equisat_lines, lines_at, node_line, node_lines};
+ghost use Rattle.transyt_words.specs.Equisat.{share_lines, stage_line};
+
+use crate::answer::Answer;
+use crate::deck_word::DeckWord;
+use crate::line::{AnswerLine, add};
 use std::alloc::{AllocError, Global};
 use std::sync::ledger::Ledger;
+use std::thread::Threads;
+use transyt_deck::Cut;
 use transyt_equisat::{Greens, Share, balance};
 use transyt_net::Net;
 use transyt_steps::Steps;
-use transyt_whole::{Answer, AnswerLine, BalanceLine};
 
 /// Tells stage lengths of equal saturation for each node.
 #[derive(Clone, Copy, Debug, Drop)]
 pub struct EquisatWord;
+
+/// The line of a stage with this number.
+fn stage_line(stage: usize, share: Share) -> AnswerLine
+    ensures { result ≡ stage_line stage share }
+{
+    let numbers = [
+        stage as u128,
+        u128::from(share.change),
+        u128::from(share.green),
+        u128::from(share.need),
+    ];
+    AnswerLine::new(b"STAGE # CHANGE # GREEN # NEED #", &numbers)
+}
 
 /// Adds a line for each share.
 fn add_shares(lines: &mut Vec<AnswerLine>, shares: &[Share]) -> Result<(), AllocError>
     ensures { OnOk result (lines.new.items ≡ lines.old.items ++ share_lines 1 shares.now) }
 {
     for place in 0..shares.len() {
-        let share = shares[place];
-        add(
-            lines,
-            AnswerLine::Balance(BalanceLine::Stage {
-                stage: place + 1,
-                change: share.change,
-                green: share.green,
-                need: share.need,
-            }),
-        )?;
+        add(lines, stage_line(place + 1, shares[place]))?;
     }
     Ok(())
+}
+
+/// The first line of a node with this number.
+fn node_line(number: u32, greens: &Greens) -> AnswerLine
+    ensures { result ≡ node_line number greens.now }
+{
+    let numbers = [
+        u128::from(number),
+        u128::from(greens.top),
+        u128::from(greens.base),
+        u128::from(greens.link),
+    ];
+    AnswerLine::new(b"NODE # PEAK # OF # LINK #", &numbers)
 }
 
 /// Adds the lines of a node with this number.
 fn add_node(lines: &mut Vec<AnswerLine>, number: u32, greens: &Greens) -> Result<(), AllocError>
     ensures { OnOk result (lines.new.items ≡ lines.old.items ++ node_lines number greens.now) }
 {
-    add(
-        lines,
-        AnswerLine::Balance(BalanceLine::Node {
-            number,
-            top: greens.top,
-            base: greens.base,
-            link: greens.link,
-        }),
-    )?;
+    add(lines, node_line(number, greens))?;
     add_shares(lines, &greens.stages)
 }
 
@@ -65,6 +78,13 @@ fn add_balance(
     add_node(lines, node.number, &greens)
 }
 
+/// The last line.
+fn end_line() -> AnswerLine
+    ensures { result ≡ end_line }
+{
+    AnswerLine::new(b"END EQUISAT", &[])
+}
+
 /// The lines of a network.
 fn equisat_lines(alloc: Global, net: &Net) -> Result<Vec<AnswerLine>, AllocError>
     ensures { IfOk result (λ lines. lines.items ≡ equisat_lines net.now) }
@@ -73,23 +93,25 @@ fn equisat_lines(alloc: Global, net: &Net) -> Result<Vec<AnswerLine>, AllocError
     for place in 0..net.nodes().len() {
         add_balance(alloc, &mut lines, net, place)?;
     }
-    add(&mut lines, AnswerLine::Balance(BalanceLine::End))?;
+    add(&mut lines, end_line())?;
     Ok(lines)
 }
 
 impl DeckWord for EquisatWord {
+    ghost fits = { λ self. Unit {0} };
+
     ghost answer = { λ self. equisat_answer };
 
     ghost most = { λ self net line table. 0 };
 
-    fn judge<L: Ledger>(
+    fn judge<R: Threads + Sync, L: Ledger>(
         &self,
+        _rt: &R,
         alloc: Global,
-        net: &Net,
-        _line: u32,
+        cut: &Cut,
         _table: &[u8],
         _steps: &mut Steps<L>,
     ) -> Result<Answer, AllocError> {
-        Ok(Answer::done(equisat_lines(alloc, net)?))
+        Ok(Answer::done(equisat_lines(alloc, &cut.net)?))
     }
 }

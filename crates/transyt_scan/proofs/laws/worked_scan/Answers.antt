@@ -19,8 +19,3 @@ returns-clause-budget c = refl
 pub returns-clause-unplanned : goal.returns-clause-unplanned
 unfolding own_climb
 returns-clause-unplanned c = refl
-
--- the two rows and the last line
-pub returns-clause-answer : goal.returns-clause-answer
-unfolding own_climb climb move_count move tried_at lowers moved
-returns-clause-answer c = refl

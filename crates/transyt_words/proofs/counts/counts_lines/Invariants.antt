@@ -1,3 +1,4 @@
+-- The commands of the edits stand one after another.
 use Rattle.std.proofs.Common.{◌≡◌, ◌++◌, drop}
 use Rattle.std.specs.List.{flat_map}
 use Rattle.transyt_words.specs.Counts.{command_lines}

@@ -1,3 +1,4 @@
+-- The lines of the shares stand one after another.
 use Rattle.std.proofs.Common.{◌≡◌, ◌++◌, ◌+◌, drop}
 use Rattle.transyt_words.specs.Equisat.{share_lines}
 use Rattle.transyt_words.proofs.equisat.add_shares.Given as goal

@@ -1,3 +1,4 @@
+-- The lines of the nodes stand one after another.
 use Rattle.std.proofs.Common.{◌≡◌}
 use Rattle.std.specs.List.{flat_map, range_with_len}
 use Rattle.transyt_words.specs.Equisat.{lines_at}

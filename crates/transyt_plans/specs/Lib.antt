@@ -1,5 +1,0 @@
-pub mod Asked
-pub mod Lines
-pub mod Plans
-pub mod ReadBack
-pub mod WorkedPlans

@@ -1,3 +1,0 @@
--- The lemmas of the crate.
-pub mod Settled
-pub mod Worked

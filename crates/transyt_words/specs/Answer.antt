@@ -1,0 +1,44 @@
+-- The answer to a whole input, and what is reported by it.
+use Rattle.std.specs.Prelude.{ℕ, List, [], ◌++◌, Bool, true, false, Option, None, Some}
+use Rattle.transyt_net.specs.Parts.{Network}
+use Rattle.transyt_deck.specs.Cards.{deck_text}
+use Rattle.transyt_running.specs.Outcome.{Reporting}
+use Rattle.transyt_words.specs.Lines.{LineValue, lines_text}
+
+-- the lines that are written, the network whose deck text is written after them, if there is one, and whether the input
+-- is refused
+pub record AnswerValue : Type 0 where
+  pub lines : List LineValue
+  pub deck : Option Network
+  pub refused : Bool
+
+-- the lines of an input that is not refused
+abbrev pub done : List LineValue → AnswerValue
+done lines = record { lines = lines; deck = None; refused = false }
+
+-- the lines of an input that is refused
+abbrev pub refusal : List LineValue → AnswerValue
+refusal lines = record { lines = lines; deck = None; refused = true }
+
+-- the lines of an input that is not refused, and a network's deck text after them, if there is one
+abbrev pub with_deck : List LineValue → Option Network → AnswerValue
+with_deck lines net = record { lines = lines; deck = net; refused = false }
+
+-- the deck text of a network, if there is one
+abbrev pub deck_after : Option Network → List ℕ
+deck_after None = []
+deck_after (Some net) = deck_text net
+
+-- the text of an answer
+abbrev pub answer_text : AnswerValue → List ℕ
+answer_text answer = lines_text answer.lines ++ deck_after answer.deck
+
+-- what is reported of an input that is taken whole: nothing is written of it, and nothing ends the run, before it was
+-- read to its end
+abbrev pub of_whole : (List ℕ → AnswerValue) → Reporting
+of_whole answer = record {
+  so_far = λ bytes. [];
+  ends = λ bytes. None;
+  report = λ input. answer_text (answer input);
+  refused = λ input. (answer input).refused;
+}

@@ -1,0 +1,29 @@
+-- The answer of `scan` to a network.
+use Rattle.std.specs.Prelude.{ℕ, ◌++◌, List, [], ◌∷◌, codes, map, if◌then◌else◌}
+use Rattle.transyt_net.specs.Parts.{Network}
+use Rattle.transyt_climbs.specs.declared.times.CycleTimes.{CycleTimes}
+use Rattle.transyt_scan.specs.declared.row.ScanRow.{ScanRow}
+use Rattle.transyt_scan.specs.Rows.{table}
+use Rattle.transyt_scan.specs.Best.{best}
+use Rattle.transyt_words.specs.Answer.{AnswerValue, done}
+use Rattle.transyt_words.specs.Lines.{LineValue, line_of}
+
+-- the line of a row: its cycle time, the index before the climb, the steps taken, the places looked at, and the index
+-- after it
+abbrev pub row_line : ScanRow → LineValue
+row_line row =
+    line_of
+    (if row.local then codes "CYCLE # FROM # TOOK # LOCAL # TO #" else codes "CYCLE # FROM # TOOK # BUDGET # TO #")
+    (row.cycle ∷ row.from ∷ row.took ∷ row.looked ∷ row.to ∷ [])
+
+-- the last line: the cycle time of the best row, and its index at the end
+abbrev pub best_line : ScanRow → LineValue
+best_line row = line_of (codes "BEST # #") (row.cycle ∷ row.to ∷ [])
+
+-- a line for each row, and then the last
+abbrev pub table_lines : List ScanRow → List LineValue
+table_lines rows = map row_line rows ++ best_line (best rows) ∷ []
+
+-- the answer to a network, whatever the number of workers; what stands after its deck isn't looked at
+abbrev pub scan_answer : CycleTimes → Network → ℕ → List ℕ → AnswerValue
+scan_answer times net line after = done (table_lines (table net times))

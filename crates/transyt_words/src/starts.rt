@@ -1,0 +1,103 @@
+//! The word `starts`.
+
+ghost use Rattle.std.specs.Prelude.{◌≡◌, IfSome};
+ghost use Rattle.transyt_words.specs.Asked.{IsStarts, starts_of};
+
+use crate::answer::Answer;
+use crate::deck_word::DeckWord;
+use crate::table::{Numbered, TableWord, answer_net};
+use std::alloc::{AllocError, Global};
+use std::sync::ledger::Ledger;
+use std::thread::Threads;
+use transyt_climbs::{Planned, Plans};
+use transyt_deck::Cut;
+use transyt_net::Net;
+use transyt_steps::Steps;
+use transyt_variants::start_net;
+
+/// Climbs from a deck's own offsets and from drawn ones, with so many workers.
+#[derive(Clone, Copy, Debug, PartialEq, Eq, Drop)]
+pub struct StartsWord {
+    /// How many workers climb, 1 to 8.
+    pub workers: u32,
+    /// The seed of the draws, at most 999,999,999.
+    pub seed: u32,
+    /// How many starts there are, 1 to 1,000; the first is the deck's own.
+    pub count: u32,
+}
+
+impl StartsWord {
+    /// Climbs with so many workers from so many starts, drawn from a seed; none where a number is out of its range.
+    pub fn new(workers: u32, seed: u32, count: u32) -> Option<StartsWord>
+        ensures value { result ≡ starts_of workers seed count }
+        ensures within { IfSome result IsStarts }
+    {
+        let fits = 1 <= workers && workers <= 8 && seed <= 999999999 && 1 <= count && count <= 1000;
+        if !fits {
+            return None;
+        }
+        Some(StartsWord {
+            workers,
+            seed,
+            count,
+        })
+    }
+}
+
+impl Plans for StartsWord {
+    ghost use Rattle.transyt_words.specs.Asked.{IsStarts};
+    ghost use Rattle.transyt_words.specs.Plans.{starts};
+
+    ghost fits = { IsStarts };
+
+    ghost list = { λ self. starts self.seed self.count };
+
+    fn workers(&self) -> usize {
+        self.workers as usize
+    }
+
+    fn count(&self) -> usize {
+        self.count as usize
+    }
+
+    fn number(&self, place: usize) -> u32 {
+        place as u32
+    }
+
+    fn plan(&self, alloc: Global, net: &Net, place: usize) -> Result<Planned, AllocError> {
+        let start = start_net(alloc, net, self.seed, place)?;
+        Ok(Planned::Plan(start))
+    }
+}
+
+impl TableWord for StartsWord {
+    ghost use Rattle.transyt_words.specs.declared.table.Numbered.TheVariants.{Starts};
+
+    ghost kind = { λ self. Starts };
+
+    fn numbered(&self) -> Numbered {
+        Numbered::Starts
+    }
+}
+
+impl DeckWord for StartsWord {
+    ghost use Rattle.transyt_words.specs.Asked.{IsStarts};
+    ghost use Rattle.transyt_words.specs.Plans.{starts_answer};
+
+    ghost fits = { IsStarts };
+
+    ghost answer = { λ self. starts_answer self.seed self.count };
+
+    ghost most = { λ self net line table. 0 };
+
+    fn judge<R: Threads + Sync, L: Ledger>(
+        &self,
+        rt: &R,
+        alloc: Global,
+        cut: &Cut,
+        _table: &[u8],
+        _steps: &mut Steps<L>,
+    ) -> Result<Answer, AllocError> {
+        answer_net(rt, alloc, self, &cut.net)
+    }
+}

@@ -1,0 +1,145 @@
+//! A table of plans compared, and the deck of the best: what `starts` and `cycles` have in common.
+
+ghost use Rattle.std.specs.Prelude.{◌≡◌, ◌<◌, IfOk, IfSome};
+ghost use Rattle.transyt_words.specs.Plans.{deck_of, plans_answer};
+ghost use Rattle.transyt_words.specs.ReadBack.{DeckReadsBack, ReadsBack};
+ghost use Rattle.transyt_words.specs.Table.{best_line, climbed_line, row_line, table_lines};
+ghost use Rattle.transyt_words.specs.declared.table.Numbered.{Numbered};
+
+use crate::answer::Answer;
+use crate::line::AnswerLine;
+use std::alloc::{AllocError, Global};
+use std::thread::Threads;
+use transyt_climbs::{BestRow, Climbed, IdleBench, PlanRow, Plans, best, climb_plans, end_at};
+use transyt_net::Net;
+
+/// What the rows of a table are numbered by.
+#[derive(Clone, Copy, Debug, PartialEq, Eq, Drop)]
+pub enum Numbered {
+    /// Starts, from 0.
+    Starts,
+    /// Cycle times, in seconds.
+    Cycles,
+}
+
+/// Plans whose table is written.
+pub trait TableWord: Plans {
+    /// What the rows are numbered by.
+    ghost kind: { Self → Numbered };
+
+    /// What the rows are numbered by.
+    fn numbered(&self) -> Numbered
+        ensures { result ≡ kind self.now };
+}
+
+/// The line of a climb.
+fn climbed_line(by: Numbered, row: Climbed) -> AnswerLine
+    ensures { result ≡ climbed_line by row }
+{
+    let numbers = [
+        u128::from(row.number),
+        row.from,
+        u128::from(row.took),
+        u128::from(row.looked),
+        row.to,
+    ];
+    match (by, row.local) {
+        (Numbered::Starts, true) => {
+            AnswerLine::new(b"* START # FROM # TOOK # LOCAL # TO #", &numbers)
+        }
+        (Numbered::Starts, false) => {
+            AnswerLine::new(b"* START # FROM # TOOK # BUDGET # TO #", &numbers)
+        }
+        (Numbered::Cycles, true) => {
+            AnswerLine::new(b"* CYCLE # FROM # TOOK # LOCAL # TO #", &numbers)
+        }
+        (Numbered::Cycles, false) => {
+            AnswerLine::new(b"* CYCLE # FROM # TOOK # BUDGET # TO #", &numbers)
+        }
+    }
+}
+
+/// The line of a row.
+fn row_line(by: Numbered, row: PlanRow) -> AnswerLine
+    ensures { result ≡ row_line by row }
+{
+    match row {
+        PlanRow::NoPlan { number } => { AnswerLine::new(b"* CYCLE # NONE", &[u128::from(number)]) }
+        PlanRow::Barred { number, node } => {
+            let numbers = [u128::from(number), u128::from(node)];
+            AnswerLine::new(b"* CYCLE # BARRED #", &numbers)
+        }
+        PlanRow::Climbed(climbed) => climbed_line(by, climbed),
+    }
+}
+
+/// The last line of a table, by its best row.
+fn best_line(best: Option<BestRow>) -> AnswerLine
+    ensures { result ≡ best_line best }
+{
+    match best {
+        None => AnswerLine::new(b"* NONE", &[]),
+        Some(best) => AnswerLine::new(b"* BEST # #", &[u128::from(best.number), best.to]),
+    }
+}
+
+/// The lines of a table: each row, and then the best.
+fn table_lines(alloc: Global, by: Numbered, rows: &[PlanRow]) -> Result<Vec<AnswerLine>, AllocError>
+    ensures { IfOk result (λ lines. lines.items ≡ table_lines by rows.now) }
+{
+    let mut lines = Vec::new(alloc);
+    for row in rows {
+        lines.push(row_line(by, *row))?;
+    }
+    lines.push(best_line(best(rows)))?;
+    Ok(lines)
+}
+
+/// The same network, if there is one, whose deck text is known to read back.
+fn read_back(made: Option<Net>) -> Option<Net>
+    ensures same { result ≡ made }
+    ensures reads_back { DeckReadsBack result }
+{
+    let Some(net) = made else {
+        return None;
+    };
+    // That a network is valid is told by its accessors.
+    let _ = net.links();
+    Some(net)
+}
+
+/// The network at the end of the climb of the best row, if there is a best row.
+fn deck_of<P: Plans>(
+    alloc: Global,
+    asked: &P,
+    net: &Net,
+    best: Option<BestRow>,
+) -> Result<Option<Net>, AllocError>
+    requires fits { P.fits asked.now }
+    requires within { IfSome best (λ b. b.place < (P.list asked.now).count) }
+    ensures deck { IfOk result (λ deck. deck ≡ deck_of (P.list asked.now) net.now best) }
+    ensures reads_back { IfOk result DeckReadsBack }
+{
+    let Some(best) = best else {
+        return Ok(None);
+    };
+    let end = end_at(alloc, asked, net, best.place)?;
+    Ok(read_back(end))
+}
+
+/// The answer to a network: the lines of its table, and the deck text of the network at the end of the best climb.
+pub(crate) fn answer_net<R: Threads + Sync, W: TableWord>(
+    rt: &R,
+    alloc: Global,
+    asked: &W,
+    net: &Net,
+) -> Result<Answer, AllocError>
+    requires { W.fits asked.now }
+    ensures answer { IfOk result (λ found. found ≡ plans_answer (W.kind asked.now) (W.list asked.now) net.now) }
+    ensures reads_back { IfOk result ReadsBack }
+{
+    let rows = climb_plans(rt, alloc, asked, net, &IdleBench)?;
+    let lines = table_lines(alloc, asked.numbered(), &rows)?;
+    let deck = deck_of(alloc, asked, net, best(&rows))?;
+    Ok(Answer::with_deck(lines, deck))
+}

@@ -1,0 +1,98 @@
+//! The run over an input that is taken whole: it is judged, and then the lines of its answer are written.
+
+ghost use Rattle.std.specs.Prelude.{◌≡◌, ◌≢◌, ◌≤◌, length};
+ghost use Rattle.std.specs.Option.{option_map};
+ghost use Rattle.transyt_io.specs.Streams.{Rose};
+ghost use Rattle.transyt_running.specs.Outcome.{Outcome};
+ghost use Rattle.transyt_text.specs.Prints.{PrintsOn};
+ghost use Rattle.transyt_words.specs.AfterDeck.{answer_after, most_after};
+ghost use Rattle.transyt_words.specs.Answer.{answer_text, deck_after, of_whole};
+ghost use Rattle.transyt_words.specs.Whole.{IsSilent, StepsWithin, Told};
+
+use crate::answer::Answer;
+use crate::deck_word::{DeckWord, judge_deck};
+use crate::line::print_lines;
+use std::alloc::Global;
+use std::sync::ledger::Ledger;
+use std::thread::Threads;
+use transyt_deck::print_deck;
+use transyt_io::{Failed, Intake, LineBuffer, Sink, Source};
+use transyt_net::Net;
+use transyt_running::{Status, ended, stopped_reading};
+use transyt_steps::Steps;
+
+/// Writes the deck text of a network, if there is one.
+fn print_net<K: Sink>(net: Option<&Net>, line: &mut LineBuffer, sink: &mut K) -> Result<(), Failed>
+    ensures { PrintsOn K.written K.faults sink.old sink.new result
+        (deck_after (option_map (λ n. n.now) net.entry)) }
+{
+    let Some(net) = net else {
+        return Ok(());
+    };
+    print_deck(net, line, sink)
+}
+
+/// Writes the lines of an answer, one after another, and its deck text.
+fn print_answer<K: Sink>(found: &Answer, line: &mut LineBuffer, sink: &mut K) -> Result<(), Failed>
+    ensures { PrintsOn K.written K.faults sink.old sink.new result (answer_text found.now) }
+{
+    print_lines(found.lines(), line, sink)?;
+    print_net(found.deck(), line, sink)
+}
+
+/// Tells the sink the remark of an answer, and writes the answer: its lines, one after another, and then its deck text.
+pub fn say<K: Sink>(found: &Answer, line: &mut LineBuffer, sink: &mut K) -> Status
+    ensures told { Told found.now (K.written sink.old) (K.written sink.new) result }
+    ensures later { K.faults sink.old ≤ K.faults sink.new }
+    ensures fault { result ≡ Status.WriteFault → Rose (K.faults sink.old) (K.faults sink.new) }
+    ensures said { result ≢ Status.NoMemory }
+{
+    if let Some(sentence) = found.remark() {
+        sink.remark(sentence.bytes());
+    }
+    if let Err(Failed) = print_answer(found, line, sink) {
+        return Status::WriteFault;
+    }
+    ended(found.is_refused())
+}
+
+/// Takes a source whole, and answers by a word what it gave. The memory for reading and writing is taken before the first
+/// read, and all other memory before the first line is written.
+pub fn answer_whole<R: Threads + Sync, W: DeckWord, S: Source, K: Sink, L: Ledger>(
+    rt: &R,
+    alloc: Global,
+    word: &W,
+    source: &mut S,
+    sink: &mut K,
+    steps: &mut Steps<L>,
+) -> Status
+    requires { W.fits word.now }
+    ensures outcome { Outcome (of_whole (answer_after (W.answer word.now)))
+        (S.left source.old) (S.left source.new) (S.last source.new)
+        (K.written sink.old) (K.written sink.new) result }
+    ensures source_later { S.faults source.old ≤ S.faults source.new }
+    ensures sink_later { K.faults sink.old ≤ K.faults sink.new }
+    ensures read_fault { result ≡ Status.ReadFault → Rose (S.faults source.old) (S.faults source.new) }
+    ensures write_fault { result ≡ Status.WriteFault → Rose (K.faults sink.old) (K.faults sink.new) }
+    // the sink isn't touched before the input is judged
+    ensures silent { IsSilent result → sink.new ≡ sink.old }
+    ensures steps { StepsWithin (most_after (W.most word.now))
+        (S.left source.old) (S.left source.new) steps.old steps.new }
+    ensures more_steps { steps.old ≤ steps.new }
+{
+    let Ok(mut intake) = Intake::open(alloc) else {
+        return Status::NoMemory;
+    };
+    let Ok(mut line) = LineBuffer::open(alloc) else {
+        return Status::NoMemory;
+    };
+    if let Err(stop) = intake.take_all(source) {
+        return stopped_reading(stop);
+    }
+    let Ok(found) = judge_deck(rt, alloc, word, intake.bytes(), steps) else {
+        return Status::NoMemory;
+    };
+    let status = say(&found, &mut line, sink);
+    drop(found);
+    status
+}
