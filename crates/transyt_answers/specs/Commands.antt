@@ -1,4 +1,4 @@
--- What is answered to a command over a session, its text, and the session after it.
+-- The answer to a command over a session, its text, and the session after it.
 use Rattle.std.specs.Prelude.{ℕ, ◌-◌, ◌++◌, List, [], ◌∷◌, Option, Some, None, Result, Ok, Err, is_some, codes}
 use Rattle.std.specs.Prelude.{flat_map, length, if◌then◌else◌}
 use Rattle.transyt_syntax.specs.declared.code.Code.{Code}
@@ -39,17 +39,17 @@ edit_code fault.Range = code.Range
 edit_code fault.StageOrder = code.StageOrder
 edit_code fault.LeastGreen = code.LeastGreen
 
--- what is answered to an edit, by its fault
+-- the answer to an edit, by its fault
 abbrev pub edit_answer : Option EditFault → Answer
 edit_answer None = a.Done
 edit_answer (Some f) = a.Refused (edit_code f)
 
--- what is answered about the link at a place, or that there is none
+-- the answer about the link at a place, or that there is none
 abbrev pub about : (ℕ → Answer) → Option ℕ → Answer
 about answer None = a.Refused code.Unknown
 about answer (Some place) = answer place
 
--- what is answered about the link of this number
+-- the answer about the link of this number
 abbrev pub about_link : Network → ℕ → (ℕ → Answer) → Answer
 about_link net number answer = about answer (place_of (link_numbers net.links) number)
 
@@ -67,15 +67,15 @@ abbrev pub refusal_or : Answer → Option Code → Answer
 refusal_or answer None = answer
 refusal_or answer (Some code) = a.Refused code
 
--- what is answered to TRIAL
+-- the answer to TRIAL
 abbrev pub trial_answer : SessionValue → Answer
 trial_answer s = if is_some s.before then a.Refused code.OpenTrial else a.Done
 
--- what is answered to BACK and KEEP
+-- the answer to BACK and to KEEP
 abbrev pub end_answer : SessionValue → Answer
 end_answer s = if is_some s.before then a.Done else a.Refused code.NoTrial
 
--- what is answered to a request
+-- the answer to a request
 abbrev pub requested : SessionValue → Request → Answer
 requested s r.Climb = refusal_or a.Climb (plan_refusal s)
 requested s r.Cert = refusal_or a.Cert (plan_refusal s)
@@ -91,7 +91,7 @@ requested s r.Work = a.Show report.Work
 requested s r.Deck = a.Deck
 requested s r.Stop = a.Stop
 
--- what is answered to a command
+-- the answer to a command
 abbrev pub answer_to : SessionValue → Command → Answer
 answer_to s (c.Edit e) = edit_answer (edit_fault s.net e)
 answer_to s c.Trial = trial_answer s
@@ -151,13 +151,13 @@ answer_text s a.Deck = deck_text s.net
 answer_text s a.Climb = climb_text (climb_of s.net)
 answer_text s a.Cert = cert_text s.net
 
--- what is answered to a line, by what it says
+-- the answer to a line, by its meaning
 abbrev pub said_answer : SessionValue → Result (Option Command) Code → Answer
 said_answer s (Err code) = a.Refused code
 said_answer s (Ok None) = a.Nothing
 said_answer s (Ok (Some command)) = answer_to s command
 
--- what is answered to a line
+-- the answer to a line
 abbrev pub line_answer : SessionValue → List ℕ → Answer
 line_answer s line = said_answer s (command_in line)
 

@@ -1,4 +1,4 @@
--- What an answer speaks of, and the index that a try found. No clause of the top call cites it.
+-- The link or plan that an answer speaks of, and the index that a try found. No clause of the top call cites it.
 use Rattle.std.specs.Prelude.{ℕ, ◌≡◌, ◌<◌, true, length, Option, None, Some, IsSome}
 use Rattle.std.specs.Prelude.{Bool, false}
 use Rattle.transyt_session.specs.Session.{SessionValue}
@@ -8,7 +8,7 @@ use Rattle.transyt_report.specs.Texts.{IsOfPlace}
 use Rattle.transyt_answers.specs.declared.answer.Answer.{Answer}
 use Rattle.transyt_answers.specs.declared.answer.Answer.TheVariants as a
 
--- what an answer speaks of is there: the link of a report or a plot, and for CLIMB and CERT a plan and no trial
+-- the network has what an answer speaks of: the link of a report or a plot, and for CLIMB and CERT a plan and no trial
 abbrev pub IsOf : SessionValue → Answer → Type 0
 IsOf s (a.Show what) = IsOfPlace s.net what
 IsOf s (a.Plot place) = place < length s.net.links

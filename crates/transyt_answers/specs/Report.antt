@@ -17,7 +17,7 @@ use Rattle.transyt_answers.specs.declared.answer.Answer.{Answer}
 use Rattle.transyt_answers.specs.declared.answer.Answer.TheVariants as a
 use Rattle.transyt_answers.specs.Commands.{line_answer, answer_text, session_after, line_work}
 
--- what the lines of an input have come to: the deck so far, or after END the session
+-- the state after the lines of an input: the deck so far, or after END the session
 pub data RunState : Type 0 where
   InDeck : Deck → RunState
   InSession : SessionValue → RunState
@@ -59,18 +59,18 @@ deck_steps (Open count state) = 0
 deck_steps (Complete number net) = net.frame.sweeps * length net.links
 deck_steps (Refused number code) = 0
 
--- what lines have come to whose deck is this: the accepted END opens a session of its network
+-- the state after lines whose deck is this: the accepted END opens a session of its network
 abbrev pub run_of : Deck → RunState
 run_of (Open count state) = InDeck (Open count state)
 run_of (Complete number net) = InSession (opened net)
 run_of (Refused number code) = InDeck (Refused number code)
 
--- what lines have come to, after one more
+-- the state after one line more
 abbrev pub run_after : RunState → List ℕ → RunState
 run_after (InDeck deck) line = run_of (next deck line)
 run_after (InSession s) line = InSession (session_after s line)
 
--- what lines have come to, one after another
+-- the state after lines, one after another
 abbrev pub run_state : List (List ℕ) → RunState
 run_state before = fold run_after (InDeck start) before
 
@@ -128,7 +128,7 @@ cost before line = line_steps (run_state before) line
 abbrev pub deck_answering : Answering
 deck_answering = answering text ends closing refused_at_end cost
 
--- what is reported of an input: the answers to its lines and, where it ends before END, the refusal of its deck
+-- the report of an input: the answers to its lines and, where it ends before END, the refusal of its deck
 abbrev pub reporting_run : Reporting
 reporting_run = of_lines deck_answering
 

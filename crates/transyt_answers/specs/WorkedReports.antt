@@ -28,7 +28,7 @@ timing offset first second =
     ∷ (codes "STAGE 2 CHANGE 6 AT " ++ second ++ codes " LENGTH 11 INTERGREEN 2 GREEN 9 LEAST 4")
     ∷ codes "END TIMING" ∷ []
 
--- what is answered to END and to them: in the first trial the timing of its network, after it that of before, and after
+-- the answers to END and to them: in the first trial the timing of its network, after it that of before, and after
 -- the second, which is kept, that of its network
 abbrev pub answers : List (List ℕ)
 answers =
@@ -50,7 +50,7 @@ abbrev pub climb_commands : List (List ℕ)
 climb_commands =
     codes "CLIMB" ∷ codes "CERT" ∷ codes "CHANGE 21 2 8" ∷ codes "INDEX" ∷ codes "WORK" ∷ []
 
--- what is answered to END and to them: no move lowers an index of 0
+-- the answers to END and to them: no move lowers an index of 0
 abbrev pub climb_answers : List (List ℕ)
 climb_answers =
     codes "ACCEPTED 1 0" ∷ codes "LOCAL 6 INDEX 0" ∷ codes "MOVE 0 OFFSET 21 6 INDEX 0"

@@ -48,7 +48,7 @@ profile_in_trial =
     ∷ codes "OUT 9 862863 949967 1378363 1611990 0 0 0 0 0 0 0 0 0 2698333 2698333"
     ∷ []
 
--- what is answered to END and to them
+-- the answers to END and to them
 abbrev pub trial_answers : List (List ℕ)
 trial_answers =
     codes "ACCEPTED 2 3" ∷ codes "DONE" ∷ codes "DONE"

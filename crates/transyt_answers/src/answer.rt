@@ -1,4 +1,4 @@
-//! What is answered to a line after END.
+//! The answer to a line after END.
 ghost use Rattle.std.specs.Prelude.{◌≡◌};
 ghost use Rattle.transyt_answers.specs.Report.{answer_ends};
 
@@ -6,7 +6,7 @@ use transyt_report::Report;
 use transyt_running::Ending;
 use transyt_syntax::Code;
 
-/// What is answered to a line after END.
+/// The answer to a line after END.
 #[derive(Clone, Copy, Debug, PartialEq, Eq, Drop)]
 pub enum Answer {
     /// A comment or a blank line: nothing is written.

@@ -1,4 +1,4 @@
-//! What a climb is in the words of the report, and worked reports.
+//! Climbs in the words of the report, and worked reports.
 ghost use Rattle.std.specs.Prelude.{◌≡◌, ◌+◌, ◌∷◌, [], ◌++◌, ℕ, All, List, None, Option, Some, codes, map, true};
 ghost use Rattle.transyt_running.specs.Runs.{costs_by, ending_by};
 ghost use Rattle.transyt_running.specs.declared.status.Status.{Status};
@@ -63,7 +63,7 @@ pub fn worked_trial()
     ensures { report (text_of (two_junctions (codes "4") ++ trial_commands)) ≡ text_of trial_answers }
 {}
 
-/// What is answered to the worked requests, without a trial, in one and without a climb plan; the text of an answer, in a
+/// The answers to the worked requests, without a trial, in one and without a climb plan; the text of an answer, in a
 /// trial too, is of the network now; what BACK and KEEP leave of a trial; the codes of an edit's faults, the budget of a
 /// climb, the work of a certificate, and the lines of a climb.
 #[tactic(auto, using(crate::proofs::WorkedCommands::certified, crate::proofs::WorkedCommands::of_now, crate::proofs::WorkedCommands::climb_told))]

@@ -1,4 +1,4 @@
-//! What is answered to a line of a run: what a command asks for over a session, its text, and the report of a deck and its
+//! Answers to the lines of a run: those to commands over a session, their texts, and the report of a deck and its
 //! commands as a definition.
 //!
 //! `specs/Commands` has what is answered to a command, its text and the session after it, `specs/Report` the report of an

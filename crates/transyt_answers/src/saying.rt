@@ -1,4 +1,4 @@
-//! What was judged is said: its text is written. CLIMB and CERT, which look as they write, are no part of this.
+//! The text of an answer. CLIMB and CERT, which look as they write, are no part of this.
 ghost use Rattle.std.specs.Prelude.{◌≡◌, true};
 ghost use Rattle.transyt_net.specs.Parts.{Network};
 ghost use Rattle.transyt_text.specs.Prints.{PrintsOn};

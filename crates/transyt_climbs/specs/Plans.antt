@@ -8,7 +8,7 @@ use Rattle.transyt_climbs.specs.declared.row.PlanRow.{PlanRow}
 use Rattle.transyt_climbs.specs.declared.row.PlanRow.TheVariants as row
 use Rattle.transyt_climbs.specs.Climbs.{own_climb, climbed_row}
 
--- what is asked for: how many networks, the number of the row at each place, from 0, and the network there, by the
+-- the question: how many networks, the number of the row at each place, from 0, and the network there, by the
 -- network that they are made out of
 pub record PlanList : Type 0 where
   pub count : ℕ

@@ -130,7 +130,7 @@ fn row_of<L: Ledger>(
     }
 }
 
-/// What is climbed on, and where: networks made out of a network, each with memory of its own, at a bench.
+/// The networks that are climbed on, made out of one network, each with memory of its own, and the bench.
 #[derive(Drop)]
 pub(crate) struct Work<'a, P, B> {
     /// Where memory comes from.

@@ -18,7 +18,7 @@ pub enum Planned {
     NoPlan,
 }
 
-/// What is asked for: networks made out of a deck's, by their places from 0, and how many workers climb.
+/// The question: networks made out of a deck's, by their places from 0, and how many workers climb.
 pub trait Plans: Sync {
     /// The numbers asked for are in their ranges.
     ghost fits: { Self → Type 0 };

@@ -8,11 +8,11 @@ use Rattle.transyt_session.specs.declared.answers.Tried.TheVariants.{Barred}
 use Rattle.transyt_session.specs.Session.{SessionValue, opened}
 use Rattle.transyt_desks.specs.declared.desk.Desk.{Desk}
 
--- what stands where there is no frame
+-- the frame where there is none
 abbrev pub no_frame : Frame
 no_frame = record { cycle = 0; step_count = 0; sweeps = 0; period = 0; stop_penalty = 0; dispersion = 0 }
 
--- what stands where there is no session
+-- the session at a place that has none
 abbrev pub no_session : SessionValue
 no_session = opened (network_of no_frame [] [] None)
 
@@ -44,7 +44,7 @@ pub record AreAlike (sessions : List SessionValue) : Type 0 where
 pub record OthersClosed (sessions : List SessionValue) : Type 0 where
   pub closed : (k : ℕ) → 0 < k → k < length sessions → (session_at sessions k).before ≡ None
 
--- what desks keep to: one to eight of them, and no trial at any but desk 0. No public clause cites it.
+-- the invariant of desks: one to eight of them, and no trial at any but desk 0. No public clause cites it.
 pub record AreDesks (sessions : List SessionValue) : Type 0 where
   pub some : 0 < length sessions
   pub few : length sessions ≤ 8
@@ -58,6 +58,6 @@ sessions_of desks = map (λ d. d.session) desks
 abbrev pub new_desk : SessionValue → Desk
 new_desk session = record { session = session; finds = replicate 64 Barred }
 
--- what stands where there is no desk
+-- the desk at a place that has none
 abbrev pub no_desk : Desk
 no_desk = new_desk no_session

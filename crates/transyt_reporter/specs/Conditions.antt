@@ -1,4 +1,4 @@
--- What the desks keep to between two lines and during a climb. No clause of the top call cites it.
+-- The invariant of the desks between two lines and during a climb. No clause of the top call cites it.
 use Rattle.std.specs.Prelude.{ℕ, ◌+◌, ◌*◌, ◌≡◌, ◌<◌, ◌≤◌, true, length, Option, IfSome, List}
 use Rattle.std.specs.Prelude.{Result, OnOk, OnErr, IfOk, IsErrOf}
 use Rattle.transyt_io.specs.Streams.{Adds, AddsFront, Rose}

@@ -1,4 +1,4 @@
--- What a reporter stands for, and what it keeps to.
+-- The view of a reporter, and its invariant.
 use Rattle.std.specs.Prelude.{ℕ, ◌≡◌, ◌*◌, ◌≤◌, ◌++◌, true, List, [], length, Option, None, Some, IfSome, IfNone}
 use Rattle.transyt_deck.specs.Deck.{start, line_count, is_open}
 use Rattle.transyt_deck.specs.Reader.{ReaderValue}
@@ -15,7 +15,7 @@ pub record ReporterValue : Type 0 where
   pub cards : ReaderValue
   pub desks : Option (List SessionValue)
 
--- what its lines have come to
+-- the state after its lines
 abbrev pub state_of : ReaderValue → Option (List SessionValue) → RunState
 state_of cards None = InDeck cards.deck
 state_of cards (Some desks) = InSession (desk_zero desks)
@@ -28,13 +28,13 @@ reporter_of workers lines cards desks = record { workers = workers; lines = line
 abbrev pub new_reporter : ℕ → ReporterValue
 new_reporter workers = reporter_of workers 0 (record { deck = start; live = true }) None
 
--- what desks for so many workers keep to after so many lines
+-- the invariant of desks for so many workers after so many lines
 pub record AreKept (workers lines : ℕ) (desks : List SessionValue) : Type 0 where
   pub ready : AreReady desks
   pub len : length desks ≡ workers
   pub work : (desk_zero desks).work ≤ 8589934592 * lines
 
--- what a reporter keeps to
+-- the invariant of a reporter
 pub record IsReporter (r : ReporterValue) : Type 0 where
   pub workers : r.workers ≤ 8
   pub some : 1 ≤ r.workers

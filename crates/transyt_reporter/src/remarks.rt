@@ -1,4 +1,4 @@
-//! What a sink is told of a run beside its report.
+//! Remarks of a run, which a sink is told beside its report.
 ghost use Rattle.std.specs.Prelude.{◌≡◌};
 
 use transyt_answers::Answer;

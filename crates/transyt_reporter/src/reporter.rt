@@ -1,4 +1,4 @@
-//! What answers the lines of a deck and of its commands.
+//! The reporter: it answers the lines of a deck and of its commands.
 ghost use Rattle.std.specs.Prelude.{◌≡◌, ◌≤◌, ◌<◌, ◌+◌, ◌^◌, true, None, Some, Ok, IfOk, IfNone, OnOk, OnErr, IsErrOf, IsTrue, length, ℕ, List, []};
 ghost use Rattle.transyt_running.specs.Turns.{AnsweredWhole, ClosedWhole, answers_after};
 ghost use Rattle.transyt_io.specs.Streams.{Adds, AddsFront, Rose};

@@ -1,4 +1,4 @@
--- What a run of the program writes of its input, and what its status says of the bytes taken and of those written.
+-- The report of an input, and the meaning of a status: the bytes taken and those written.
 use Rattle.std.specs.Prelude.{◌≡◌, ◌⊎◌, ℕ, ◌-◌, ◌++◌, ◌≤◌, ◌<◌, List, [], Bool, true, false, Option, None, Some}
 use Rattle.std.specs.Prelude.{IfSome, length, take, if◌then◌else◌}
 use Rattle.transyt_io.specs.Streams.{Takes, Adds, IsAtEnd}
@@ -7,7 +7,7 @@ use Rattle.transyt_running.specs.declared.status.Status.{Status}
 use Rattle.transyt_running.specs.declared.status.Status.TheVariants.{Done, DeckRefused, ReadFault, TooLong, WriteFault}
 use Rattle.transyt_running.specs.declared.status.Status.TheVariants.{NoMemory, BadWords}
 
--- What is reported of bytes: what is written of them while more may come, and how they end the run before the input ends,
+-- The report of bytes: the text of them while more may come, and how they end the run before the input ends,
 -- if they do; and, where they are the whole input, the report of it and whether it is refused.
 pub record Reporting : Type 0 where
   pub so_far : List ℕ → List ℕ
@@ -52,12 +52,12 @@ abbrev pub IsPart : Reporting → Option (List ℕ) → List ℕ → List ℕ �
 IsPart by left taken out =
     IsFront out (by.so_far taken) ⊎ (IsAtEnd left × IsFront out (by.report taken))
 
--- what is written of the bytes before the last read was written
+-- the text of the bytes before the last read was written
 abbrev pub IsWritten : Reporting → Option ℕ → List ℕ → List ℕ → Type 0
 IsWritten by last taken out =
     IfSome last (λ n. IsFront (by.so_far (take (length taken - n) taken)) out)
 
--- what a status says of the bytes taken and of those written; `left` and `last` are what the source tells afterwards:
+-- the meaning of a status: the bytes taken and those written; `left` and `last` are what the source tells afterwards:
 -- the bytes that it has left, and how many the last read gave
 abbrev pub Row : Reporting → Option (List ℕ) → Option ℕ → List ℕ → List ℕ → Status → Type 0
 Row by left last taken out Done = Finished by left taken out false

@@ -36,6 +36,6 @@ pub record RunSoFar (by : Answering) (has_answered : List (List ℕ) → Type 0)
   pub so_far : AnsweredSoFar by before out steps steps_then
   pub counted_all : counted ≡ true → steps_then ≡ steps_new
   pub written_then : IsWritten (of_lines by) last taken out
-  -- what answers has answered them
+  -- they were answered, each as the definition says
   pub answered : has_answered before
   pub counts : count ≤ length before

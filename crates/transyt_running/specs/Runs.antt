@@ -44,7 +44,7 @@ report_by by bytes =
 abbrev pub is_refused_by : Answering → List ℕ → Bool
 is_refused_by by bytes = or_else (ending_by by (lines bytes)) (by.refused (lines bytes))
 
--- what is reported of bytes by the answers to their lines: those to the whole lines while more may come
+-- the report of bytes by the answers to their lines: those to the whole lines while more may come
 abbrev pub of_lines : Answering → Reporting
 of_lines by = record {
   so_far = λ bytes. answers_by by (whole bytes);

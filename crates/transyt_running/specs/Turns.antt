@@ -1,4 +1,4 @@
--- What is answered to lines, given the answer to one line after the lines before it.
+-- The answers to lines, given the answer to one line after the lines before it.
 use Rattle.std.specs.Prelude.{◌≡◌, ℕ, ◌+◌, ◌++◌, List, [], ◌∷◌, Bool, true, false, Option, None, Some}
 use Rattle.transyt_running.specs.declared.ending.Ending.{Ending}
 use Rattle.transyt_running.specs.declared.ending.Ending.TheVariants.{Stopped, Refused}

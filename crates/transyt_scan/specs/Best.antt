@@ -2,7 +2,7 @@
 use Rattle.std.specs.Prelude.{ℕ, ◌<◌, ◌≤◌, nat_lt, true, List, [], ◌∷◌, length, slice_index_or, if◌then◌else◌}
 use Rattle.transyt_scan.specs.declared.row.ScanRow.{ScanRow}
 
--- what stands where there is no row
+-- the row at a place that has none
 abbrev pub no_row : ScanRow
 no_row = record { cycle = 0; from = 0; took = 0; local = true; looked = 0; to = 0 }
 

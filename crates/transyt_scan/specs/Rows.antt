@@ -14,7 +14,7 @@ use Rattle.transyt_climbs.specs.Plans.{PlanList}
 use Rattle.transyt_scan.specs.declared.row.ScanRow.{ScanRow}
 use Rattle.transyt_scan.specs.declared.asked.ScanWord.{ScanWord}
 
--- what may be asked: one to eight workers, and cycle times that may be
+-- a question that may be asked: one to eight workers, and cycle times that may be
 pub record IsScan (asked : ScanWord) : Type 0 where
   pub some : 1 ≤ asked.workers
   pub few : asked.workers ≤ 8
@@ -28,7 +28,7 @@ over_times workers times = record { workers = workers; times = times }
 abbrev pub asking : ℕ → ℕ → ℕ → ℕ → ScanWord
 asking workers low high by = over_times workers (times_of low high by)
 
--- what these numbers ask for, where they may
+-- the question of these numbers, where they may be
 abbrev pub scan_of : ℕ → ℕ → ℕ → ℕ → Option ScanWord
 scan_of workers low high by =
     if nat_le 1 workers && nat_le workers 8 then option_map (over_times workers) (times_within low high by) else None
