@@ -5,6 +5,7 @@ pub mod CardLaws
 pub mod CertifyLaws
 pub mod ClimbTexts
 pub mod CountLaws
+pub mod JudgedLaws
 pub mod LeavesLaws
 pub mod MoveLaws
 pub mod OpenedLaws

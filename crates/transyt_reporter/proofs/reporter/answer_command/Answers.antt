@@ -1,13 +1,13 @@
 -- A command is judged, and then said.
-use Rattle.std.proofs.Common.{◌≡◌, ℕ, List, sym, ◌∙◌, ap, subst, set}
+use Rattle.std.proofs.Common.{ℕ, List, sym, ◌∙◌, ap, subst, set}
 use Rattle.transyt_io.specs.Streams.{Adds, AddsFront}
 use Rattle.transyt_session.specs.Session.{SessionValue}
 use Rattle.transyt_desks.specs.Desks.{desk_zero}
-use Rattle.transyt_answers.specs.Commands.{after_answer, answer_text, line_answer, line_judged}
+use Rattle.transyt_answers.specs.Commands.{answer_text, line_answer, line_judged}
 use Rattle.transyt_reporter.specs.Conditions.{AreReady}
 use Rattle.transyt_reporter.proofs.RemarkLaws.{adds_from, front_from, later_from, rose_from}
-use Rattle.transyt_reporter.proofs.ReadyLaws.{ready_judged, zero_set}
-use Rattle.transyt_answers.proofs.JudgedTexts.{line_said}
+use Rattle.transyt_reporter.proofs.ReadyLaws.{ready_judged}
+use Rattle.transyt_reporter.proofs.JudgedLaws.{text_is, after_is}
 use Rattle.transyt_reporter.proofs.LeavesLaws.{command_leaves}
 use Rattle.transyt_reporter.proofs.reporter.answer_command.Goals as goal
 
@@ -25,18 +25,14 @@ pub returns-in-Ok-clause-prints : goal.returns-in-Ok-clause-prints
 returns-in-Ok-clause-prints g c =
     let zero = desk_zero c.args.desks.now in
     let line = c.args.command.now in
-    let value = c.session_mut.ensures.value in
-    let at : desk_zero (set c.args.desks.now 0 c.judge-answer.new.session) ≡ line_judged zero line =
-    zero_set c.args.desks.now c.judge-answer.new.session c.requires.ready.some
-    ∙ c.judge-answer.ensures.state ∙ ap (λ (s : SessionValue). line_judged s line) value in
-    let answer : c.judge-answer.result ≡ line_answer zero line =
-    c.judge-answer.ensures.answer ∙ ap (λ (s : SessionValue). line_answer s line) value in
-    let same = (λ i. answer_text (at i) (answer i)) ∙ line_said zero line in
+    let judged = c.judge-answer.ensures in
     let told = c.in-Ok.ensures.prints in
     let remark = c.remark_command.ensures in
     let P : List ℕ → Type 0 = λ xs. Adds (g.K.Sink.written c.remark_command.new.sink) (g.K.Sink.written c.say.new.sink) xs in
     record {
-      ok = adds_from (answer_text zero (line_answer zero line)) remark.written (subst P same told.ok);
+      ok = adds_from (answer_text zero (line_answer zero line)) remark.written
+          (subst P (text_is c.args.desks.now c.session_mut.result.now c.judge-answer.new.session c.judge-answer.result line
+          c.requires.ready.some c.session_mut.ensures.value judged.state judged.answer) told.ok);
       err = tt;
       cause = record { later = later_from remark.faults told.cause.later; failed = tt };
     }
@@ -46,19 +42,15 @@ pub returns-in-Err-clause-prints : goal.returns-in-Err-clause-prints
 returns-in-Err-clause-prints g c =
     let zero = desk_zero c.args.desks.now in
     let line = c.args.command.now in
-    let value = c.session_mut.ensures.value in
-    let at : desk_zero (set c.args.desks.now 0 c.judge-answer.new.session) ≡ line_judged zero line =
-    zero_set c.args.desks.now c.judge-answer.new.session c.requires.ready.some
-    ∙ c.judge-answer.ensures.state ∙ ap (λ (s : SessionValue). line_judged s line) value in
-    let answer : c.judge-answer.result ≡ line_answer zero line =
-    c.judge-answer.ensures.answer ∙ ap (λ (s : SessionValue). line_answer s line) value in
-    let same = (λ i. answer_text (at i) (answer i)) ∙ line_said zero line in
+    let judged = c.judge-answer.ensures in
     let told = c.in-Err.ensures.prints in
     let remark = c.remark_command.ensures in
     let P : List ℕ → Type 0 = λ xs. AddsFront (g.K.Sink.written c.remark_command.new.sink) (g.K.Sink.written c.say.new.sink) xs in
     record {
       ok = tt;
-      err = front_from (answer_text zero (line_answer zero line)) remark.written (subst P same told.err);
+      err = front_from (answer_text zero (line_answer zero line)) remark.written
+          (subst P (text_is c.args.desks.now c.session_mut.result.now c.judge-answer.new.session c.judge-answer.result line
+          c.requires.ready.some c.session_mut.ensures.value judged.state judged.answer) told.err);
       cause = record {
         later = later_from remark.faults told.cause.later;
         failed = rose_from remark.faults told.cause.failed;
@@ -69,28 +61,22 @@ returns-in-Err-clause-prints g c =
 pub returns-in-Ok-clause-leaves : goal.returns-in-Ok-clause-leaves
 returns-in-Ok-clause-leaves g c =
     let desks = c.args.desks.now in
-    let line = c.args.command.now in
     let s = c.judge-answer.new.session in
     let value = c.session_mut.ensures.value in
     let told = c.judge-answer.ensures in
-    let at : desk_zero (set desks 0 s) ≡ line_judged (desk_zero desks) line =
-    zero_set desks s c.requires.ready.some ∙ told.state ∙ ap (λ (s : SessionValue). line_judged s line) value in
-    let answer : c.judge-answer.result ≡ line_answer (desk_zero desks) line =
-    told.answer ∙ ap (λ (s : SessionValue). line_answer s line) value in
     command_leaves desks c.say.new.desks _ s _ _ c.args.steps.now c.judge-answer.new.steps c.say.new.steps
-    c.requires.ready value told.few told.steps (λ i. after_answer (answer i) (at i)) c.in-Ok.ensures.leaves
+    c.requires.ready value told.few told.steps
+    (after_is desks _ s c.judge-answer.result c.args.command.now c.requires.ready.some value told.state told.answer)
+    c.in-Ok.ensures.leaves
 
 -- and where it broke off
 pub returns-in-Err-clause-leaves : goal.returns-in-Err-clause-leaves
 returns-in-Err-clause-leaves g c =
     let desks = c.args.desks.now in
-    let line = c.args.command.now in
     let s = c.judge-answer.new.session in
     let value = c.session_mut.ensures.value in
     let told = c.judge-answer.ensures in
-    let at : desk_zero (set desks 0 s) ≡ line_judged (desk_zero desks) line =
-    zero_set desks s c.requires.ready.some ∙ told.state ∙ ap (λ (s : SessionValue). line_judged s line) value in
-    let answer : c.judge-answer.result ≡ line_answer (desk_zero desks) line =
-    told.answer ∙ ap (λ (s : SessionValue). line_answer s line) value in
     command_leaves desks c.say.new.desks _ s _ _ c.args.steps.now c.judge-answer.new.steps c.say.new.steps
-    c.requires.ready value told.few told.steps (λ i. after_answer (answer i) (at i)) c.in-Err.ensures.leaves
+    c.requires.ready value told.few told.steps
+    (after_is desks _ s c.judge-answer.result c.args.command.now c.requires.ready.some value told.state told.answer)
+    c.in-Err.ensures.leaves
