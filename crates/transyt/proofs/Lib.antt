@@ -1,6 +1,7 @@
 -- The lemmas of the crate.
 pub mod BudgetLaws
 pub mod DeckLaws
+pub mod GivenLaws
 pub mod ProgramLaws
 pub mod Refusals
 pub mod SaidCards

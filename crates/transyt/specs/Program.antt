@@ -1,5 +1,5 @@
 -- What the program does with its words, between a source and a sink.
-use Rattle.std.specs.Prelude.{◌≡◌, ◌≢◌, ◌↔◌, ◌≤◌, ◌++◌, ℕ, List, Option, None, Some, IfSome, drop, length}
+use Rattle.std.specs.Prelude.{◌≡◌, ◌≢◌, ◌↔◌, ◌⊎◌, ◌≤◌, ◌++◌, ℕ, List, Option, None, Some, IfSome, drop, length}
 use Rattle.transyt_io.specs.Streams.{Rose}
 use Rattle.transyt_running.specs.Exit.{exit_number}
 use Rattle.transyt_running.specs.declared.status.Status.{Status}
@@ -76,6 +76,13 @@ pub record OverRan (words : List (List ℕ)) (remaining contents contents_new : 
   pub bad_words : (ended ≡ BadWords) ↔ (word_of words ≡ None)
   pub told : number ≢ 3 → number ≢ 4 → number ≢ 5 → IfSome (task_of words) (λ asked.
       TaskHeadline asked remaining contents contents_new ended)
+
+-- the program ran so with the words that std answered; or there was no memory for the list of them: then the number is 5,
+-- and the writer holds what it held
+abbrev pub ArgsRan : List (List ℕ) → Option (List ℕ) → Option (List ℕ) → Option (List ℕ) → ℕ → Type 0
+ArgsRan words remaining contents contents_new number =
+    OverRan words remaining contents contents_new number
+    ⊎ ((number ≡ 5) × IfSome contents (λ held. contents_new ≡ Some held))
 
 -- with `run` that is the report of the input, and the number is that of the input's status
 abbrev pub OverHeadline : List (List ℕ) → Option (List ℕ) → Option (List ℕ) → Option (List ℕ) → ℕ → Type 0

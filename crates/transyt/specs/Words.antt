@@ -5,6 +5,7 @@ use Rattle.std.specs.Str.{bytes_eq}
 use Rattle.transyt_num.specs.Number.{number_of}
 use Rattle.transyt_scan.specs.Rows.{IsScan, scan_of}
 use Rattle.transyt_words.specs.Asked.{IsCycles, IsStarts, cycles_of, starts_of}
+use Rattle.transyt.specs.declared.word.Range.{Range}
 use Rattle.transyt.specs.declared.word.Word.{Word}
 use Rattle.transyt.specs.declared.word.Word.TheVariants as w
 
@@ -65,27 +66,27 @@ brief_word (seed ∷ nodes ∷ []) = brief_by seed nodes (Some 1)
 brief_word (seed ∷ nodes ∷ workers ∷ []) = brief_by seed nodes (workers_of workers)
 brief_word _ = None
 
--- what these numbers ask `scan` for
-abbrev pub scan_by : Option ℕ → Option ℕ → Option ℕ → Option ℕ → Option Word
-scan_by (Some workers) (Some low) (Some high) (Some by) = option_map w.Scan (scan_of workers low high by)
-scan_by _ _ _ _ = None
+-- a number of workers and a range of cycle times, by the numbers of four words
+abbrev pub range_by : Option ℕ → Option ℕ → Option ℕ → Option ℕ → Option Range
+range_by (Some workers) (Some low) (Some high) (Some by) =
+    Some (record { workers = workers; low = low; high = high; by = by })
+range_by _ _ _ _ = None
+
+-- `w low high by`
+abbrev pub range_of : List (List ℕ) → Option Range
+range_of (workers ∷ low ∷ high ∷ by ∷ []) =
+    range_by (workers_of workers) (number_of low) (number_of high) (number_of by)
+range_of _ = None
 
 -- `scan w low high by`
 abbrev pub scan_word : List (List ℕ) → Option Word
-scan_word (workers ∷ low ∷ high ∷ by ∷ []) =
-    scan_by (workers_of workers) (number_of low) (number_of high) (number_of by)
-scan_word _ = None
-
--- what these numbers ask `cycles` for
-abbrev pub cycles_by : Option ℕ → Option ℕ → Option ℕ → Option ℕ → Option Word
-cycles_by (Some workers) (Some low) (Some high) (Some by) = option_map w.Cycles (cycles_of workers low high by)
-cycles_by _ _ _ _ = None
+scan_word rest =
+    option_and_then (λ r. option_map w.Scan (scan_of r.workers r.low r.high r.by)) (range_of rest)
 
 -- `cycles w low high by`
 abbrev pub cycles_word : List (List ℕ) → Option Word
-cycles_word (workers ∷ low ∷ high ∷ by ∷ []) =
-    cycles_by (workers_of workers) (number_of low) (number_of high) (number_of by)
-cycles_word _ = None
+cycles_word rest =
+    option_and_then (λ r. option_map w.Cycles (cycles_of r.workers r.low r.high r.by)) (range_of rest)
 
 -- what these numbers ask `starts` for
 abbrev pub starts_by : Option ℕ → Option ℕ → Option ℕ → Option Word

@@ -9,6 +9,7 @@
 #![tactic(auto)]
 
 mod ending;
+mod given;
 mod laws;
 mod over;
 mod program;
@@ -20,9 +21,10 @@ mod version;
 mod word;
 
 pub use ending::{exit_of, sentence_of};
+pub use given::{given_words, run_args};
 pub use laws::{worked_ranges, worked_steps, worked_tasks, worked_words};
 pub use over::run_over;
-pub use program::{given_words, run_program, run_steady, run_tallied};
+pub use program::{run_program, run_steady, run_tallied};
 pub use refusing::refused_by_deck;
 pub use top::transyt;
 pub use transyt_answers::steps_lower;

@@ -1,9 +1,10 @@
 //! The program over a reader and a writer of std.
+ghost use Rattle.std.specs.IoError.{error_kind};
 ghost use Rattle.std.specs.Prelude.{◌≡◌, ◌≤◌, ◌⊎◌, IfErr, IfOk, IfSome, Some, map, string_bytes};
 ghost use Rattle.transyt.specs.Program.{OverHeadline, OverRan, after_name};
 
 use crate::program::run_program;
-use std::io::{self, Read, Write};
+use std::io::{self, ErrorKind, Read, Write};
 use std::thread::Threads;
 use transyt_io::{StdSink, StdSource};
 
@@ -29,6 +30,7 @@ pub fn run_over<R: Threads + Sync + Eprint + AllocGlobal, I: Read + Drop, W: Wri
     ensures no_words { IfErr given (λ error.
         IfSome (W.contents writer) (λ held. W.contents result.1 ≡ Some held)) }
     ensures no_words_number { IfErr given (λ error. (result.0 ≡ 5) ⊎ (result.0 ≡ 7)) }
+    ensures out_of_memory { IfErr given (λ error. error_kind error ≡ ErrorKind.OutOfMemory → result.0 ≡ 5) }
     ensures most { result.0 ≤ 7 }
 {
     let mut source = StdSource::new(reader);

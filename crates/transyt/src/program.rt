@@ -1,4 +1,5 @@
 //! The program over any source and sink: its words, the top call and the end.
+ghost use Rattle.std.specs.IoError.{error_kind};
 ghost use Rattle.std.specs.Prelude.{◌≡◌, ◌≢◌, ◌<◌, ◌≤◌, ◌⊎◌, IfErr, IfOk, map, string_bytes};
 ghost use Rattle.transyt_running.specs.declared.status.Status.{Status};
 ghost use Rattle.transyt.specs.Program.{ProgramHeadline, ProgramRan, TopCall, after_name, ends_of};
@@ -7,7 +8,6 @@ use crate::ending::{exit_of, sentence_of};
 use crate::telling::Telling;
 use crate::top::transyt;
 use crate::version::VERSION;
-use std::env::{self, Env};
 use std::io::{self, ErrorKind};
 use std::marker::Brand;
 use std::sync::ledger::{Blank, Ledger};
@@ -16,15 +16,6 @@ use transyt_desks::OpenGate;
 use transyt_io::{Sink, Source, SteadySource, TallySink};
 use transyt_running::Status;
 use transyt_steps::Steps;
-
-/// The words that the runtime was started with: the program's name, and those after it.
-pub fn given_words<R: Env + AllocGlobal>(rt: &R) -> io::Result<Vec<String>> {
-    let mut words = Vec::new(rt.alloc());
-    for word in env::args(rt)? {
-        words.push(word)?;
-    }
-    Ok(words)
-}
 
 /// The words after the program's name.
 fn after_name(given: &[String]) -> &[String]
@@ -127,6 +118,7 @@ fn run_given<R: Threads + Sync + Eprint + AllocGlobal, S: Source, K: Sink>(
 /// The program without words: nothing is read or written.
 fn run_without<R: Eprint>(rt: &R, cause: ErrorKind) -> u8
     ensures number { (result ≡ 5) ⊎ (result ≡ 7) }
+    ensures out_of_memory { cause ≡ ErrorKind.OutOfMemory → result ≡ 5 }
     ensures most { result ≤ 7 }
 {
     tell(rt, Err(cause));
@@ -153,6 +145,7 @@ pub fn run_program<R: Threads + Sync + Eprint + AllocGlobal, S: Source, K: Sink>
     // with no words nothing is read or written
     ensures no_words { IfErr given (λ error. (source.new ≡ source.old) × (result.1 ≡ sink)) }
     ensures no_words_number { IfErr given (λ error. (result.0 ≡ 5) ⊎ (result.0 ≡ 7)) }
+    ensures out_of_memory { IfErr given (λ error. error_kind error ≡ ErrorKind.OutOfMemory → result.0 ≡ 5) }
     ensures most { result.0 ≤ 7 }
 {
     let words = match given {

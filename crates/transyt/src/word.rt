@@ -2,14 +2,14 @@
 ghost use Rattle.std.specs.Prelude.{◌≡◌, ◌≤◌, ◌<◌, IfSome, map, string_bytes};
 ghost use Rattle.transyt_num.specs.Number.{number_of};
 ghost use Rattle.transyt.specs.Words.{within, workers_of, nodes_of, alone, run_word, make_word, brief_by, brief_word};
-ghost use Rattle.transyt.specs.Words.{scan_word, cycles_word, starts_word, word_of, IsWord};
+ghost use Rattle.transyt.specs.Words.{range_of, scan_word, cycles_word, starts_word, word_of, IsWord};
 
 use transyt_num::read_number;
 use transyt_scan::ScanWord;
 use transyt_words::{CyclesWord, StartsWord};
 
 /// What words ask for.
-#[derive(Clone, Copy, Debug, PartialEq, Eq, Drop)]
+#[derive(Clone, Copy, Drop)]
 pub(crate) enum Word {
     /// The report of a deck and its commands.
     Run {
@@ -156,10 +156,22 @@ fn brief_word(rest: &[String]) -> Option<Word>
     }
 }
 
-/// `scan w low high by`.
-fn scan_word(rest: &[String]) -> Option<Word>
-    ensures word { result ≡ scan_word (map string_bytes rest.now) }
-    ensures within { IfSome result IsWord }
+/// A number of workers, and a range of cycle times in seconds, as words give them.
+#[derive(Clone, Copy)]
+pub(crate) struct Range {
+    /// How many workers climb, 1 to 8.
+    workers: u32,
+    /// The least cycle time.
+    low: u32,
+    /// The greatest cycle time.
+    high: u32,
+    /// The step from one cycle time to the next.
+    by: u32,
+}
+
+/// `w low high by`.
+fn range_of(rest: &[String]) -> Option<Range>
+    ensures { result ≡ range_of (map string_bytes rest.now) }
 {
     let [workers, low, high, by] = rest else {
         return None;
@@ -168,7 +180,21 @@ fn scan_word(rest: &[String]) -> Option<Word>
     let low = read_number(low.as_bytes())?;
     let high = read_number(high.as_bytes())?;
     let by = read_number(by.as_bytes())?;
-    let asked = ScanWord::new(workers, low, high, by)?;
+    Some(Range {
+        workers,
+        low,
+        high,
+        by,
+    })
+}
+
+/// `scan w low high by`.
+fn scan_word(rest: &[String]) -> Option<Word>
+    ensures word { result ≡ scan_word (map string_bytes rest.now) }
+    ensures within { IfSome result IsWord }
+{
+    let range = range_of(rest)?;
+    let asked = ScanWord::new(range.workers, range.low, range.high, range.by)?;
     Some(Word::Scan { asked })
 }
 
@@ -177,14 +203,8 @@ fn cycles_word(rest: &[String]) -> Option<Word>
     ensures word { result ≡ cycles_word (map string_bytes rest.now) }
     ensures within { IfSome result IsWord }
 {
-    let [workers, low, high, by] = rest else {
-        return None;
-    };
-    let workers = workers_of(workers.as_bytes())?;
-    let low = read_number(low.as_bytes())?;
-    let high = read_number(high.as_bytes())?;
-    let by = read_number(by.as_bytes())?;
-    let asked = CyclesWord::new(workers, low, high, by)?;
+    let range = range_of(rest)?;
+    let asked = CyclesWord::new(range.workers, range.low, range.high, range.by)?;
     Some(Word::Cycles { asked })
 }
 

@@ -1,10 +1,11 @@
 //! The program over standard input and output, as a stored run: a certificate that holds.
 #![tactic(auto)]
 
+use std::env;
 use std::process::ExitCode;
-use transyt::{given_words, run_over};
+use transyt::run_args;
 
 fn main(rt: HostRuntime) -> ExitCode {
-    let (number, _) = run_over(&rt, given_words(&rt), rt.stdin(), rt.stdout());
+    let (number, _) = run_args(&rt, env::args(&rt), rt.stdin(), rt.stdout());
     ExitCode::from(number)
 }

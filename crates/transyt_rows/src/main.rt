@@ -13,16 +13,29 @@ mod trial;
 
 use crate::reader::rows_of;
 use crate::report::Tally;
+use crate::row::Row;
 use crate::trial::passes;
 use anyhow::{Context, Result};
 use std::io;
+use std::thread::Threads;
+
+/// Runs all rows, and counts those that pass.
+fn tally_of<R: Threads + Sync + Print + Eprint + AllocGlobal>(
+    rt: &R,
+    rows: &[Row],
+) -> io::Result<Tally> {
+    let mut tally = Tally::new();
+    for row in rows {
+        tally.count(passes(rt, row)?);
+    }
+    Ok(tally)
+}
 
 fn main(rt: HostRuntime) -> Result<()> {
     let text = io::read_to_string(rt.alloc(), rt.stdin()).context("the rows are no text")?;
-    let mut tally = Tally::new();
-    for row in &rows_of(rt.alloc(), &text)? {
-        tally.count(passes(&rt, row)?);
-    }
-    println!(rt; "{tally}")?;
+    let rows = rows_of(rt.alloc(), &text)?;
+    let tally = tally_of(&rt, &rows);
+    drop(rows);
+    println!(rt; "{}", tally?)?;
     Ok(())
 }

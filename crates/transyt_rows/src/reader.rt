@@ -123,9 +123,9 @@ fn number_or(word: Option<&str>, other: usize) -> Result<usize> {
     }
 }
 
-/// The rows of a text.
-pub(crate) fn rows_of(alloc: Global, text: &str) -> Result<Vec<Row>> {
-    let mut reader = Reader::new(alloc);
+/// Reads the lines of a text.
+fn read_all(reader: &mut Reader, text: &str) -> Result<()> {
+    let alloc = reader.alloc;
     for (index, line) in text.lines().enumerate() {
         let number = index.saturating_add(1);
         reader.read(line).context(format_args!("line {number}"))?;
@@ -134,5 +134,20 @@ pub(crate) fn rows_of(alloc: Global, text: &str) -> Result<Vec<Row>> {
     for row in &mut reader.rows {
         row.settle(alloc)?;
     }
-    Ok(reader.rows)
+    Ok(())
+}
+
+/// The rows of a text.
+pub(crate) fn rows_of(alloc: Global, text: &str) -> Result<Vec<Row>> {
+    let mut reader = Reader::new(alloc);
+    let read = read_all(&mut reader, text);
+    let rows = mem::replace(&mut reader.rows, Vec::new(alloc));
+    drop(reader);
+    match read {
+        Ok(()) => Ok(rows),
+        Err(error) => {
+            drop(rows);
+            Err(error)
+        }
+    }
 }

@@ -85,6 +85,17 @@ impl Row {
         Ok(())
     }
 
+    /// How many bytes the input has.
+    pub(crate) fn input_len(&self) -> usize {
+        let mut len = 0usize;
+        for said in &self.said {
+            if let Said::Read(bytes) = said {
+                len = len.saturating_add(bytes.len());
+            }
+        }
+        len
+    }
+
     /// The bytes of the input.
     pub(crate) fn input(&self, alloc: Global) -> Result<Vec<u8>, AllocError> {
         let mut input = Vec::new(alloc);

@@ -11,7 +11,7 @@ use std::io;
 use std::marker::Brand;
 use std::sync::ledger::{Blank, Ledger};
 use std::thread::Threads;
-use transyt::{Gate, OpenGate, Status, run_over, transyt};
+use transyt::{Gate, OpenGate, Status, run_args, transyt};
 use transyt_io::{MemorySink, MemorySource, Sink, Source, SteadySource, TallySink};
 use transyt_steps::Steps;
 
@@ -83,6 +83,45 @@ fn calls(alloc: Global, failing: u32) -> Result<Vec<u32>, AllocError> {
     vec![in alloc; failing; 1]
 }
 
+/// The source of a trial.
+fn source_of(alloc: Global, trial: &Trial<'_>) -> Result<MemorySource, AllocError> {
+    let failing = calls(alloc, trial.failing_read)?;
+    let input = trial.row.input(alloc)?;
+    Ok(MemorySource::new(input, trial.pieces.read.max(1), failing))
+}
+
+/// The sink of a trial.
+fn sink_of(alloc: Global, trial: &Trial<'_>) -> Result<Hearing<MemorySink>, AllocError> {
+    let failing = calls(alloc, trial.failing_write)?;
+    let sink = MemorySink::new(alloc, trial.row.room, trial.pieces.written.max(1), failing)?;
+    let heard = Vec::new(alloc);
+    Ok(Hearing { sink, heard })
+}
+
+/// What came of a trial over a source and a sink in memory that ended with this status.
+fn came_of(
+    alloc: Global,
+    row: &Row,
+    status: Status,
+    source: &mut MemorySource,
+    sink: &Hearing<MemorySink>,
+) -> Result<Outcome, AllocError> {
+    let most = match &row.left {
+        Some(left) => left.len().saturating_add(1),
+        None => 0,
+    };
+    let written = sink.sink.bytes().to_vec(alloc)?;
+    let left = rest_of(alloc, source, most)?;
+    let told = sink.heard.to_vec(alloc)?;
+    Ok(Outcome {
+        status: status.code(),
+        written,
+        left,
+        told,
+        met: true,
+    })
+}
+
 /// Runs over a source and a sink in memory.
 fn over_memory<R: Threads + Sync + AllocGlobal, G: Gate>(
     rt: &R,
@@ -90,26 +129,19 @@ fn over_memory<R: Threads + Sync + AllocGlobal, G: Gate>(
     gate: &G,
 ) -> Result<Outcome, AllocError> {
     let alloc = rt.alloc();
-    let Trial { row, pieces, .. } = trial;
-    let failing_reads = calls(alloc, trial.failing_read)?;
-    let mut source = MemorySource::new(row.input(alloc)?, pieces.read.max(1), failing_reads);
-    let failing_writes = calls(alloc, trial.failing_write)?;
-    let mut sink = Hearing {
-        sink: MemorySink::new(alloc, row.room, pieces.written.max(1), failing_writes)?,
-        heard: Vec::new(alloc),
+    let mut source = source_of(alloc, trial)?;
+    let mut sink = match sink_of(alloc, trial) {
+        Ok(sink) => sink,
+        Err(error) => {
+            drop(source);
+            return Err(error);
+        }
     };
     let status = run(rt, trial.words, &mut source, &mut sink, gate);
-    let most = row
-        .left
-        .as_ref()
-        .map_or(0, |left| left.len().saturating_add(1));
-    Ok(Outcome {
-        status: status.code(),
-        written: sink.sink.bytes().to_vec(alloc)?,
-        left: rest_of(alloc, &mut source, most)?,
-        told: sink.heard,
-        met: true,
-    })
+    let came = came_of(alloc, trial.row, status, &mut source, &sink);
+    drop(sink);
+    drop(source);
+    came
 }
 
 /// Runs at a gate where the first two desks wait for each other.
@@ -142,19 +174,25 @@ fn over_tally<R: Threads + Sync + AllocGlobal>(
     })
 }
 
+/// The words of a program that has this name, with its name first.
+fn named(alloc: Global, name: &str, words: &[String]) -> Result<Vec<String>, AllocError> {
+    let mut given = Vec::new(alloc);
+    given.push(String::from_str(alloc, name)?)?;
+    for word in words {
+        given.push(String::from_str(alloc, word)?)?;
+    }
+    Ok(given)
+}
+
 /// Runs over a slice and a vector, as a reader and a writer of std, with a program's name before the words.
 fn over_std<R: Threads + Sync + Eprint + AllocGlobal>(
     rt: &R,
     trial: &Trial<'_>,
 ) -> Result<Outcome, AllocError> {
     let alloc = rt.alloc();
-    let mut given = Vec::new(alloc);
-    given.push(String::from_str(alloc, "transyt")?)?;
-    for word in trial.words {
-        given.push(String::from_str(alloc, word)?)?;
-    }
     let input = trial.row.input(alloc)?;
-    let (status, written) = run_over(rt, Ok(given), input.as_slice(), Vec::new(alloc));
+    let given = named(alloc, "transyt", trial.words)?.into_iter();
+    let (status, written) = run_args(rt, Ok(given), input.as_slice(), Vec::new(alloc));
     Ok(Outcome {
         status,
         written,
@@ -185,44 +223,65 @@ fn is_told(row: &Row, told: &[u8]) -> bool {
     }
 }
 
+/// The bytes that the source is to have left.
+fn left_of(row: &Row) -> &[u8] {
+    match &row.left {
+        Some(left) => left.as_slice(),
+        None => &[],
+    }
+}
+
+/// Whether what came of a trial is wanted.
+fn is_wanted(trial: &Trial<'_>, outcome: &Outcome) -> bool {
+    let row = trial.row;
+    outcome.written == trial.wanted
+        && outcome.left.as_slice() == left_of(row)
+        && is_told(row, &outcome.told)
+        && outcome.met
+        && outcome.status == row.status
+}
+
+/// Tells how what came of a trial differs from what is wanted.
+fn print_outcome<R: Print>(rt: &R, trial: &Trial<'_>, outcome: &Outcome) -> io::Result<()> {
+    let row = trial.row;
+    print_failed(rt, row, trial.words)?;
+    println!(rt; "  status wanted: {}, got: {}", row.status, outcome.status)?;
+    print_difference(rt, "output", &trial.wanted, &outcome.written)?;
+    print_difference(rt, "left", left_of(row), &outcome.left)?;
+    match &row.told {
+        Some(told) => print_difference(rt, "told", told, &outcome.told),
+        None => Ok(()),
+    }
+}
+
 /// Whether what came of a trial is wanted; if not, it is told.
 fn holds<R: Threads + Sync + Print + Eprint + AllocGlobal>(
     rt: &R,
     trial: &Trial<'_>,
 ) -> io::Result<bool> {
     let outcome = outcome_of(rt, trial)?;
-    let row = trial.row;
-    let left = match &row.left {
-        Some(left) => left.as_slice(),
-        None => &[],
+    let wanted = is_wanted(trial, &outcome);
+    let told = if wanted {
+        Ok(())
+    } else {
+        print_outcome(rt, trial, &outcome)
     };
-    let is_same = outcome.written == trial.wanted
-        && outcome.left.as_slice() == left
-        && is_told(row, &outcome.told);
-    if is_same && outcome.met && outcome.status == row.status {
-        return Ok(true);
-    }
-    print_failed(rt, row, trial.words)?;
-    println!(rt; "  status wanted: {}, got: {}", row.status, outcome.status)?;
-    print_difference(rt, "output", &trial.wanted, &outcome.written)?;
-    print_difference(rt, "left", left, &outcome.left)?;
-    if let Some(told) = &row.told {
-        print_difference(rt, "told", told, &outcome.told)?;
-    }
-    Ok(false)
+    drop(outcome);
+    told?;
+    Ok(wanted)
 }
 
 /// Lets each read of one byte fail in turn, the one that finds the end too: the answers to the lines before it stand.
 fn holds_at_each_read<R: Threads + Sync + Print + Eprint + AllocGlobal>(
     rt: &R,
-    mut trial: Trial<'_>,
+    trial: &mut Trial<'_>,
 ) -> io::Result<bool> {
     trial.pieces.read = 1;
     let row = trial.row;
-    for taken in 0..=row.input(rt.alloc())?.len() {
+    for taken in 0..=row.input_len() {
         trial.failing_read = trial.failing_read.saturating_add(1);
         trial.wanted = row.output(rt.alloc(), taken)?;
-        if !holds(rt, &trial)? {
+        if !holds(rt, trial)? {
             return Ok(false);
         }
     }
@@ -232,21 +291,41 @@ fn holds_at_each_read<R: Threads + Sync + Print + Eprint + AllocGlobal>(
 /// Lets each write fail in turn: the pieces before it stand. Each line is written by calls of its own.
 fn holds_at_each_write<R: Threads + Sync + Print + Eprint + AllocGlobal>(
     rt: &R,
-    mut trial: Trial<'_>,
+    trial: &mut Trial<'_>,
+    output: &[u8],
 ) -> io::Result<bool> {
-    let output = trial.row.output(rt.alloc(), usize::MAX)?;
-    let mut stands = Vec::new(rt.alloc());
+    let size = trial.pieces.written.max(1);
+    let mut before = 0usize;
     for line in output.split_inclusive(|byte| *byte == b'\n') {
-        for piece in line.chunks(trial.pieces.written.max(1)) {
+        for piece in line.chunks(size) {
             trial.failing_write = trial.failing_write.saturating_add(1);
-            trial.wanted = stands.to_vec(rt.alloc())?;
-            if !holds(rt, &trial)? {
+            trial.wanted = output.get(..before).unwrap_or(&[]).to_vec(rt.alloc())?;
+            if !holds(rt, trial)? {
                 return Ok(false);
             }
-            stands.extend_from_slice(piece)?;
+            before = before.saturating_add(piece.len());
         }
     }
     Ok(true)
+}
+
+/// Whether a trial holds, where these calls fail in it.
+fn holds_failing<R: Threads + Sync + Print + Eprint + AllocGlobal>(
+    rt: &R,
+    trial: &mut Trial<'_>,
+    failing: Failing,
+) -> io::Result<bool> {
+    match failing {
+        Failing::Nothing => {}
+        Failing::Read(number) => trial.failing_read = number,
+        Failing::Write(number) => trial.failing_write = number,
+        Failing::EachRead => return holds_at_each_read(rt, trial),
+        Failing::EachWrite => {
+            let output = trial.row.output(rt.alloc(), usize::MAX)?;
+            return holds_at_each_write(rt, trial, &output);
+        }
+    }
+    holds(rt, trial)
 }
 
 /// Whether a row holds with these words and pieces.
@@ -264,14 +343,7 @@ fn passes_with<R: Threads + Sync + Print + Eprint + AllocGlobal>(
         failing_write: 0,
         wanted: row.output(rt.alloc(), usize::MAX)?,
     };
-    match row.failing {
-        Failing::Nothing => {}
-        Failing::Read(number) => trial.failing_read = number,
-        Failing::Write(number) => trial.failing_write = number,
-        Failing::EachRead => return holds_at_each_read(rt, trial),
-        Failing::EachWrite => return holds_at_each_write(rt, trial),
-    }
-    holds(rt, &trial)
+    holds_failing(rt, &mut trial, row.failing)
 }
 
 /// Whether a row holds with each list of its words and each size of its pieces.
