@@ -1,4 +1,4 @@
--- What a climb of a report comes to.
+-- The climbs of a report.
 use Rattle.std.specs.Prelude.{◌≡◌, ℕ, true, false, length}
 use Rattle.transyt_net.specs.Parts.{Network}
 use Rattle.transyt_sweep.specs.Climb.{Climb}

@@ -1,4 +1,4 @@
--- What the program does with its words, between a source and a sink.
+-- The program with its words, between a source and a sink.
 use Rattle.std.specs.Prelude.{◌≡◌, ◌≢◌, ◌↔◌, ◌⊎◌, ◌≤◌, ◌++◌, ℕ, List, Option, None, Some, IfSome, drop, length}
 use Rattle.transyt_io.specs.Streams.{Rose}
 use Rattle.transyt_running.specs.Exit.{exit_number}
@@ -8,7 +8,7 @@ use Rattle.transyt_answers.specs.Report.{report, status}
 use Rattle.transyt.specs.Tasks.{task_of, TaskOutcome, TaskHeadline, TaskComplete, TaskTooLong, IsRun}
 use Rattle.transyt.specs.Words.{word_of}
 
--- what a source and a sink tell, with their counts of faults
+-- the bytes that a source and a sink tell, with their counts of faults
 pub record Ends : Type 0 where
   pub left : Option (List ℕ)
   pub last : Option ℕ
@@ -16,7 +16,7 @@ pub record Ends : Type 0 where
   pub written : Option (List ℕ)
   pub writes : ℕ
 
--- what they tell by the meanings of a source and of a sink
+-- the bytes that they tell, by the meanings of a source and of a sink
 abbrev pub ends_of : {S K : Type 0} → (S → Option (List ℕ)) → (S → Option ℕ) → (S → ℕ) → (K → Option (List ℕ))
     → (K → ℕ) → S → K → Ends
 ends_of left last reads written writes source sink = record {
@@ -69,7 +69,7 @@ ProgramHeadline words old new number =
 
 -- the program ran over a reader and a writer, of which what remains and what is held are told: the number is that of a
 -- status, and where it is none of 3, 4 and 5 (a read failed, a write failed, no memory) the writer holds what it held and
--- what the words ask for
+-- the task of the words
 pub record OverRan (words : List (List ℕ)) (remaining contents contents_new : Option (List ℕ)) (number : ℕ) : Type 0 where
   pub ended : Status
   pub number_is : number ≡ exit_number ended

@@ -1,4 +1,4 @@
--- What the words ask for, and what a run with them has to do.
+-- The tasks of the words, and what a run with each has to do.
 use Rattle.std.specs.Prelude.{◌≡◌, ℕ, ◌+◌, ◌++◌, ◌≤◌, List, [], Option, Some}
 use Rattle.std.specs.Option.{option_map}
 use Rattle.transyt_io.specs.Streams.{Adds}
@@ -23,12 +23,12 @@ use Rattle.transyt.specs.declared.word.Word.{Word}
 use Rattle.transyt.specs.declared.word.Word.TheVariants as w
 use Rattle.transyt.specs.Words.{word_of}
 
--- what words ask for: the report of an input, or a text for which nothing is read
+-- the task of words: the report of an input, or a text for which nothing is read
 pub data Task : Type 0 where
   Reads : Reporting → Task
   Writes : List ℕ → Task
 
--- what a word asks for; the number of workers changes none of it
+-- the task of a word; the number of workers changes none of it
 abbrev pub task : Word → Task
 task (w.Run workers) = Reads reporting_run
 task (w.Make seed nodes) = Writes (deck_text (made seed nodes))
@@ -40,11 +40,11 @@ task (w.Scan asked) = Reads (of_whole (answer_after (scan_answer asked.times)))
 task (w.Cycles asked) = Reads (of_whole (answer_after (cycles_answer asked.times)))
 task (w.Starts asked) = Reads (of_whole (answer_after (starts_answer asked.seed asked.count)))
 
--- what words ask for; none where they are none that the program takes
+-- the task of words; none where the program doesn't take them
 abbrev pub task_of : List (List ℕ) → Option Task
 task_of words = option_map task (word_of words)
 
--- what a status says of the bytes written of a text
+-- the meaning of a status for the bytes written of a text
 abbrev pub TextRow : List ℕ → List ℕ → Status → Type 0
 TextRow text out Done = out ≡ text
 TextRow text out WriteFault = IsFront out text

@@ -88,7 +88,7 @@ abbrev pub cycles_word : List (List ℕ) → Option Word
 cycles_word rest =
     option_and_then (λ r. option_map w.Cycles (cycles_of r.workers r.low r.high r.by)) (range_of rest)
 
--- what these numbers ask `starts` for
+-- the task of `starts` with these numbers
 abbrev pub starts_by : Option ℕ → Option ℕ → Option ℕ → Option Word
 starts_by (Some workers) (Some seed) (Some count) = option_map w.Starts (starts_of workers seed count)
 starts_by _ _ _ = None
@@ -98,7 +98,7 @@ abbrev pub starts_word : List (List ℕ) → Option Word
 starts_word (workers ∷ seed ∷ count ∷ []) = starts_by (workers_of workers) (number_of seed) (number_of count)
 starts_word _ = None
 
--- what words ask for; none where they are none that the program takes
+-- the task of words; none where the program doesn't take them
 abbrev pub word_of : List (List ℕ) → Option Word
 word_of [] = None
 word_of (name ∷ rest) =

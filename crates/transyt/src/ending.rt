@@ -1,4 +1,4 @@
-//! What the program tells of how it ended.
+//! The end of the program: its number, and its sentence on standard error.
 ghost use Rattle.std.specs.Prelude.{◌≡◌, ◌≢◌, ◌≤◌, ◌↔◌, Ok, Err, IfOk, IfErr, IsSome};
 ghost use Rattle.transyt_running.specs.Exit.{exit_number};
 
@@ -38,7 +38,7 @@ pub fn sentence_of(ended: Result<Status, ErrorKind>) -> Option<&'static str>
     }
 }
 
-/// What is told where the words are none that the program takes.
+/// The sentence for words that the program doesn't take.
 const WORDS: &str = "\
 These words are none that the program takes. It takes:
 

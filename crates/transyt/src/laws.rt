@@ -41,7 +41,7 @@ pub fn worked_steps()
     ensures brief_by_two { WordSteps (Word.Brief 7 1 2) None None 40 7 Status.Done }
 {}
 
-/// What a status says of a text, of an input of too many bytes and of a climb: what is so, and what isn't.
+/// The meaning of a status for a text, an input of too many bytes and a climb: cases that hold, and cases that don't.
 #[tactic(auto, using(crate::proofs::WorkedTasks::text_whole, crate::proofs::WorkedTasks::text_cut, crate::proofs::WorkedTasks::text_front, crate::proofs::WorkedTasks::text_other, crate::proofs::WorkedTasks::headline_after, crate::proofs::WorkedTasks::headline_over, crate::proofs::WorkedTasks::text_complete, crate::proofs::WorkedTasks::text_refused, crate::proofs::WorkedTasks::many_bytes, crate::proofs::WorkedTasks::many_done, crate::proofs::WorkedTasks::no_looks, crate::proofs::WorkedTasks::too_few_looks))]
 pub fn worked_tasks()
     ensures whole { TextRow (5 ∷ 7 ∷ []) (5 ∷ 7 ∷ []) Status.Done }

@@ -134,7 +134,7 @@ pub fn run_program<R: Threads + Sync + Eprint + AllocGlobal, S: Source, K: Sink>
     source: &mut S,
     sink: K,
 ) -> (u8, K)
-    // what the top call says of one run with the words after the program's name; the number is that of its status
+    // the top call's outcome of one run with the words after the program's name; the number is that of its status
     ensures ran { IfOk given (λ words. ProgramRan (map string_bytes (after_name words.items))
         (ends_of S.left S.last S.faults K.written K.faults source.old sink)
         (ends_of S.left S.last S.faults K.written K.faults source.new result.1) result.0) }

@@ -8,7 +8,7 @@ use transyt_io::{Failed, Sink};
 /// A sink over another, which tells standard error each remark. A fault of standard error changes nothing.
 #[derive(Drop)]
 pub(crate) struct Telling<'a, R, K> {
-    /// What has standard error.
+    /// The runtime, which has standard error.
     pub(crate) rt: &'a R,
     /// The sink that is written.
     pub(crate) sink: K,

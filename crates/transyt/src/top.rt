@@ -77,7 +77,7 @@ fn answer_word<R: Threads + Sync, S: Source, K: Sink, G: Gate, L: Ledger>(
 /// - `starts w seed count` climbs on a deck from so many starts, whose offsets are drawn from the seed, with w workers, and
 ///   writes the deck of the best.
 ///
-/// What is written is the same for every number of workers. `run` answers each line of the input before the next is
+/// The output is the same for every number of workers. `run` answers each line of the input before the next is
 /// read, and each step of a climb is written before the next look; the words after it that read an input take
 /// it whole. All memory is taken before the first line is written.
 pub fn transyt<R: Threads + Sync, S: Source, K: Sink, G: Gate, L: Ledger>(
@@ -94,7 +94,7 @@ pub fn transyt<R: Threads + Sync, S: Source, K: Sink, G: Gate, L: Ledger>(
     ensures untouched { result ≡ Status.BadWords
         → (source.new ≡ source.old) × (sink.new ≡ sink.old) × (steps.new ≡ steps.old) }
 
-    // what was taken and what was written, for each other status
+    // the bytes taken and written, for each other status
     ensures outcome { IfSome (task_of (map string_bytes words.now)) (λ asked.
         TaskOutcome asked (S.left source.old) (S.left source.new) (S.last source.new)
         (K.written sink.old) (K.written sink.new) result) }

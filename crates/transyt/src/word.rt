@@ -8,7 +8,7 @@ use transyt_num::read_number;
 use transyt_scan::ScanWord;
 use transyt_words::{CyclesWord, StartsWord};
 
-/// What words ask for.
+/// The task that words ask for.
 #[derive(Clone, Copy, Drop)]
 pub(crate) enum Word {
     /// The report of a deck and its commands.
@@ -223,7 +223,7 @@ fn starts_word(rest: &[String]) -> Option<Word>
     Some(Word::Starts { asked })
 }
 
-/// What words ask for; none where they are none that the program takes. It takes no memory.
+/// The task that words ask for; none where the program doesn't take them. It takes no memory.
 pub(crate) fn word_of(words: &[String]) -> Option<Word>
     ensures word { result ≡ word_of (map string_bytes words.now) }
     ensures within { IfSome result IsWord }

@@ -76,7 +76,7 @@ impl Failing {
     }
 }
 
-/// What a row is run over.
+/// The ends that a row is run over.
 #[derive(Clone, Copy)]
 pub(crate) enum Ends {
     /// A source and a sink in memory.

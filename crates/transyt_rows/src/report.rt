@@ -1,4 +1,4 @@
-//! What is told of the rows.
+//! The report of the rows.
 
 use crate::row::Row;
 use std::{fmt, io, str};

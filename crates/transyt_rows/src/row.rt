@@ -14,7 +14,7 @@ const PIECE: usize = 4096;
 /// One row: what the program is run with, and what is wanted of it.
 #[derive(Drop)]
 pub(crate) struct Row {
-    /// What the row shows.
+    /// The purpose of the row.
     pub(crate) name: String,
     /// The lists of words; the row is run with each.
     pub(crate) words: Vec<Vec<String>>,
@@ -22,7 +22,7 @@ pub(crate) struct Row {
     pub(crate) pieces: Vec<Pieces>,
     /// The calls of the source and the sink that fail.
     pub(crate) failing: Failing,
-    /// What the row is run over.
+    /// The ends that the row is run over.
     pub(crate) ends: Ends,
     /// How many bytes the sink has room for.
     pub(crate) room: usize,
@@ -107,7 +107,7 @@ impl Row {
         Ok(input)
     }
 
-    /// What is written for those parts of the input that are whole in its first `count` bytes.
+    /// The text for those parts of the input that are whole in its first `count` bytes.
     pub(crate) fn output(&self, alloc: Global, count: usize) -> Result<Vec<u8>, AllocError> {
         let mut output = Vec::new(alloc);
         let mut left = count;

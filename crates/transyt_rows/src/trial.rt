@@ -27,7 +27,7 @@ struct Trial<'a> {
     wanted: Vec<u8>,
 }
 
-/// What came of a run: the exit number, what was written, what the source has left, the remarks, and whether the gate was
+/// The result of a run: exit number, bytes written, bytes left in the source, remarks, and whether the gate was
 /// met.
 #[derive(Drop)]
 struct Outcome {
@@ -66,7 +66,7 @@ fn run<R: Threads + Sync + AllocGlobal, S: Source, K: Sink, G: Gate>(
     run_counted::<R, S, K, G, Brand>(rt, words, (source, sink), gate, Blank::new(1))
 }
 
-/// What a source has left, and at most so many bytes of it.
+/// The bytes that a source has left, and at most so many of them.
 fn rest_of(alloc: Global, source: &mut MemorySource, most: usize) -> Result<Vec<u8>, AllocError> {
     let mut rest = Vec::new(alloc);
     for _ in 0..most {
@@ -202,7 +202,7 @@ fn over_std<R: Threads + Sync + Eprint + AllocGlobal>(
     })
 }
 
-/// What came of a trial.
+/// The result of a trial.
 fn outcome_of<R: Threads + Sync + Eprint + AllocGlobal>(
     rt: &R,
     trial: &Trial<'_>,

@@ -33,7 +33,7 @@ deck_after (Some net) = deck_text net
 abbrev pub answer_text : AnswerValue → List ℕ
 answer_text answer = lines_text answer.lines ++ deck_after answer.deck
 
--- what is reported of an input that is taken whole: nothing is written of it, and nothing ends the run, before it was
+-- the report of an input that is taken whole: nothing is written of it, and nothing ends the run, before it was
 -- read to its end
 abbrev pub of_whole : (List ℕ → AnswerValue) → Reporting
 of_whole answer = record {

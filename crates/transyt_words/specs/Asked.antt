@@ -1,4 +1,4 @@
--- What may be asked for.
+-- The questions that may be asked.
 use Rattle.std.specs.Prelude.{ℕ, ◌≤◌, Bool, nat_le, ◌&&◌, if◌then◌else◌, Option, Some, None}
 use Rattle.std.specs.Option.{option_map}
 use Rattle.transyt_climbs.specs.declared.times.CycleTimes.{CycleTimes}
@@ -19,7 +19,7 @@ abbrev pub are_starts : ℕ → ℕ → ℕ → Bool
 are_starts workers seed count =
     nat_le 1 workers && nat_le workers 8 && nat_le seed 999999999 && nat_le 1 count && nat_le count 1000
 
--- what these numbers ask for, where they may
+-- the question of these numbers, where they may be
 abbrev pub starts_of : ℕ → ℕ → ℕ → Option StartsWord
 starts_of workers seed count =
     if are_starts workers seed count then Some (record { workers = workers; seed = seed; count = count }) else None
@@ -34,7 +34,7 @@ pub record IsCycles (asked : CyclesWord) : Type 0 where
 abbrev pub over_times : ℕ → CycleTimes → CyclesWord
 over_times workers times = record { workers = workers; times = times }
 
--- what these numbers ask for, where they may
+-- the question of these numbers, where they may be
 abbrev pub cycles_of : ℕ → ℕ → ℕ → ℕ → Option CyclesWord
 cycles_of workers low high by =
     if nat_le 1 workers && nat_le workers 8 then option_map (over_times workers) (times_within low high by) else None

@@ -26,7 +26,7 @@ starts seed count = record {
   planned = λ net place. plan.Plan (start_at net seed place);
 }
 
--- what a cycle time comes to, as a network to climb on or the reason why there is none
+-- the network of a cycle time to climb on, or the reason why there is none
 abbrev pub planned_of : AtCycle → Planned
 planned_of (at.Plan net) = plan.Plan net
 planned_of (at.Barred node) = plan.Barred node

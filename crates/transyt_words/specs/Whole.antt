@@ -1,4 +1,4 @@
--- What a run does that takes its input whole.
+-- A run that takes its input whole.
 use Rattle.std.specs.Prelude.{◌≡◌, ◌≤◌, ◌+◌, ℕ, List, [], true, false, Option}
 use Rattle.transyt_io.specs.Streams.{Takes, Adds}
 use Rattle.transyt_words.specs.Answer.{AnswerValue, answer_text}
@@ -7,7 +7,7 @@ use Rattle.transyt_running.specs.declared.status.Status.{Status}
 use Rattle.transyt_running.specs.declared.status.Status.TheVariants.{Done, DeckRefused, ReadFault, TooLong, WriteFault}
 use Rattle.transyt_running.specs.declared.status.Status.TheVariants.{NoMemory}
 
--- what a status says of the answer to an input and of the bytes written
+-- the meaning of a status for the answer to an input and the bytes written
 abbrev pub ToldRow : AnswerValue → List ℕ → Status → Type 0
 ToldRow answer out Done = (out ≡ answer_text answer) × (answer.refused ≡ false)
 ToldRow answer out DeckRefused = (out ≡ answer_text answer) × (answer.refused ≡ true)

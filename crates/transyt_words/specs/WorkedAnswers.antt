@@ -24,7 +24,7 @@ part link feeder flow = line_of (codes "PART # # #") (link ∷ feeder ∷ flow �
 abbrev pub refused : ℕ → ℕ → LineValue
 refused row code = line_of (codes "ROW # REFUSED #") (row ∷ code ∷ [])
 
--- what tables come to, each with its answer
+-- tables, each with its answer
 abbrev pub worked_tables : List (Result CountsValue CountStop × AnswerValue)
 worked_tables = (
   Ok (record { rows = 4; edits = Entry 5 133 ∷ Part 4 9 150 ∷ Part 4 5 102 ∷ [] }),

@@ -40,7 +40,7 @@ impl CyclesWord {
     }
 }
 
-/// What a cycle time comes to, as a network to climb on or the reason why there is none.
+/// The network of a cycle time to climb on, or the reason why there is none.
 fn planned_of(at: AtCycle) -> Planned
     ensures { result ≡ planned_of at }
 {

@@ -13,7 +13,7 @@ use std::thread::Threads;
 use transyt_climbs::{BestRow, Climbed, IdleBench, PlanRow, Plans, best, climb_plans, end_at};
 use transyt_net::Net;
 
-/// What the rows of a table are numbered by.
+/// The numbers of a table's rows.
 #[derive(Clone, Copy, Debug, PartialEq, Eq, Drop)]
 pub enum Numbered {
     /// Starts, from 0.
@@ -24,10 +24,10 @@ pub enum Numbered {
 
 /// Plans whose table is written.
 pub trait TableWord: Plans {
-    /// What the rows are numbered by.
+    /// The numbers of the rows.
     ghost kind: { Self → Numbered };
 
-    /// What the rows are numbered by.
+    /// The numbers of the rows.
     fn numbered(&self) -> Numbered
         ensures { result ≡ kind self.now };
 }

@@ -18,7 +18,7 @@ returns-clause-headline g c = λ run memory no_read no_write.
     (task_headline _ _ _ _ _ memory (λ e. no_read (all.read_fault e)) (λ e. no_write (all.write_fault e)) (task word)
     (word_settled word) all.outcome)
 
--- what the words ask for
+-- the task of the words
 pub returns-clause-told : goal.returns-clause-told
 returns-clause-told g c = λ memory no_read no_write.
     let word = c.in-Some.word in
