@@ -19,14 +19,35 @@ use transyt_running::Status;
 use transyt_steps::Steps;
 use transyt_words::{AuditWord, CountsWord, EquisatWord, answer_whole};
 
+/// The runtime, whose threads the workers of a word use, and the gate that they pass.
+#[derive(Clone, Copy)]
+struct Crew<'a, R, G> {
+    rt: &'a R,
+    gate: &'a G,
+}
+
+impl<'a, R, G> Crew<'a, R, G> {
+    /// So many workers of it.
+    fn workers(self, count: u32) -> Workers<'a, R, G>
+        requires some { 1 ≤ count }
+        requires most { count ≤ 8 }
+        ensures { result.count ≡ count }
+    {
+        Workers {
+            rt: self.rt,
+            gate: self.gate,
+            count,
+        }
+    }
+}
+
 /// Does what a word asks for.
 fn answer_word<R: Threads + Sync, S: Source, K: Sink, G: Gate, L: Ledger>(
-    rt: &R,
+    crew: Crew<'_, R, G>,
     alloc: Global,
     word: Word,
     source: &mut S,
     sink: &mut K,
-    gate: &G,
     steps: &mut Steps<L>,
 ) -> Status
     requires { IsWord word }
@@ -38,29 +59,19 @@ fn answer_word<R: Threads + Sync, S: Source, K: Sink, G: Gate, L: Ledger>(
     ensures steps { WordSteps word (S.left source.old) (S.left source.new) steps.old steps.new result }
 {
     match word {
-        Word::Run { workers } => run_deck(
-            Workers {
-                rt,
-                gate,
-                count: workers,
-            },
-            alloc,
-            source,
-            sink,
-            steps,
-        ),
+        Word::Run { workers } => run_deck(crew.workers(workers), alloc, source, sink, steps),
         Word::Make { seed, nodes } => write_made(alloc, seed, nodes, sink),
         Word::Brief {
             seed,
             nodes,
             workers,
-        } => write_made_brief(rt, alloc, seed, nodes, workers, gate, sink, steps),
-        Word::Counts => answer_whole(rt, alloc, &CountsWord, source, sink, steps),
-        Word::Equisat => answer_whole(rt, alloc, &EquisatWord, source, sink, steps),
-        Word::Audit => answer_whole(rt, alloc, &AuditWord, source, sink, steps),
-        Word::Scan { asked } => answer_whole(rt, alloc, &asked, source, sink, steps),
-        Word::Cycles { asked } => answer_whole(rt, alloc, &asked, source, sink, steps),
-        Word::Starts { asked } => answer_whole(rt, alloc, &asked, source, sink, steps),
+        } => write_made_brief(crew.workers(workers), alloc, seed, nodes, sink, steps),
+        Word::Counts => answer_whole(crew.rt, alloc, &CountsWord, source, sink, steps),
+        Word::Equisat => answer_whole(crew.rt, alloc, &EquisatWord, source, sink, steps),
+        Word::Audit => answer_whole(crew.rt, alloc, &AuditWord, source, sink, steps),
+        Word::Scan { asked } => answer_whole(crew.rt, alloc, &asked, source, sink, steps),
+        Word::Cycles { asked } => answer_whole(crew.rt, alloc, &asked, source, sink, steps),
+        Word::Starts { asked } => answer_whole(crew.rt, alloc, &asked, source, sink, steps),
     }
 }
 
@@ -140,5 +151,5 @@ pub fn transyt<R: Threads + Sync, S: Source, K: Sink, G: Gate, L: Ledger>(
     let Some(word) = word_of(words) else {
         return Status::BadWords;
     };
-    answer_word(rt, alloc, word, source, sink, gate, steps)
+    answer_word(Crew { rt, gate }, alloc, word, source, sink, steps)
 }

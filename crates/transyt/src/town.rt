@@ -46,40 +46,26 @@ pub(crate) fn write_made<K: Sink>(alloc: Global, seed: u32, nodes: u32, sink: &m
 /// Climbs once on the town of a seed, with so many workers, and writes the line of it. All memory is taken before it is
 /// written.
 pub(crate) fn write_made_brief<R: Threads + Sync, K: Sink, G: Gate, L: Ledger>(
-    rt: &R,
+    workers: Workers<'_, R, G>,
     alloc: Global,
     seed: u32,
     nodes: u32,
-    workers: u32,
-    gate: &G,
     sink: &mut K,
     steps: &mut Steps<L>,
 ) -> Status
     requires seed { seed ≤ 999999999 }
     requires some { 1 ≤ nodes }
     requires most { nodes ≤ 200 }
-    requires worker { 1 ≤ workers }
-    requires workers { workers ≤ 8 }
     ensures outcome { TextOutcome (brief_text (made seed nodes)) (K.written sink.old) (K.written sink.new) result }
     ensures later { K.faults sink.old ≤ K.faults sink.new }
     ensures write_fault { result ≡ Status.WriteFault → Rose (K.faults sink.old) (K.faults sink.new) }
     ensures silent { result ≡ Status.NoMemory → sink.new ≡ sink.old }
-    ensures steps { workers ≡ 1 → TextSteps (brief_steps (made seed nodes)) steps.old steps.new result }
+    ensures steps { workers.entry.count ≡ 1 → TextSteps (brief_steps (made seed nodes)) steps.old steps.new result }
 {
     let Ok(net) = make_net(alloc, seed, nodes) else {
         return Status::NoMemory;
     };
-    match write_brief(
-        Workers {
-            rt,
-            gate,
-            count: workers,
-        },
-        alloc,
-        net,
-        sink,
-        steps,
-    ) {
+    match write_brief(workers, alloc, net, sink, steps) {
         Ok(()) => Status::Done,
         Err(Stop::Write) => Status::WriteFault,
         Err(Stop::Memory) => Status::NoMemory,
