@@ -7,10 +7,10 @@ use Rattle.transyt_io.specs.Lines.{lines}
 use Rattle.transyt_deck.specs.declared.state.State.{State}
 use Rattle.transyt_deck.specs.Deck.{Deck, Refused, Complete, Open, next, start, deck, is_complete}
 use Rattle.transyt_session.specs.Session.{SessionValue, opened}
-use Rattle.transyt_running.specs.declared.ending.Ending.{Ending}
-use Rattle.transyt_running.specs.declared.status.Status.TheVariants.{Done, DeckRefused}
-use Rattle.transyt_running.specs.Runs.{is_refused_by}
-use Rattle.transyt_running.specs.Turns.{ending_after, first_of, or_else}
+use Rattle.transyt_outcome.specs.declared.ending.Ending.{Ending}
+use Rattle.transyt_outcome.specs.declared.status.Status.TheVariants.{Done, DeckRefused}
+use Rattle.transyt_outcome.specs.Runs.{is_refused_by}
+use Rattle.transyt_outcome.specs.Turns.{ending_after, first_of, or_else}
 use Rattle.transyt_answers.specs.declared.answer.Answer.{Answer}
 use Rattle.transyt_answers.specs.declared.answer.Answer.TheVariants as a
 use Rattle.transyt_answers.specs.Commands.{line_answer, session_after}

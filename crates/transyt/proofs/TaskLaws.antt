@@ -1,12 +1,12 @@
 -- What the outcome of a run tells where no count of faults rose.
 use Rattle.std.proofs.Common.{◌≡◌, ◌≢◌, ℕ, ◌++◌, List, Option, Some, Result, Ok, Err, length, ◌≤◌, refl, ap, subst, ◌∙◌, arith}
 use Rattle.transyt_io.specs.Streams.{Adds}
-use Rattle.transyt_running.specs.declared.status.Status.{Status}
-use Rattle.transyt_running.specs.declared.status.Status.TheVariants.{Done, BadWords, DeckRefused, ReadFault, WriteFault}
-use Rattle.transyt_running.specs.declared.status.Status.TheVariants.{NoMemory, TooLong}
-use Rattle.transyt_running.specs.Outcome.{IsSettled}
-use Rattle.transyt_running.proofs.Head.{headline, complete, too_long_where}
-use Rattle.transyt_running.proofs.MoreBytes.{lines_settled}
+use Rattle.transyt_outcome.specs.declared.status.Status.{Status}
+use Rattle.transyt_outcome.specs.declared.status.Status.TheVariants.{Done, BadWords, DeckRefused, ReadFault, WriteFault}
+use Rattle.transyt_outcome.specs.declared.status.Status.TheVariants.{NoMemory, TooLong}
+use Rattle.transyt_outcome.specs.Outcome.{IsSettled}
+use Rattle.transyt_outcome.proofs.Head.{headline, complete, too_long_where}
+use Rattle.transyt_outcome.proofs.MoreBytes.{lines_settled}
 use Rattle.transyt_answers.specs.Report.{deck_answering, report, status}
 use Rattle.transyt_words.proofs.Settled.{whole_settled}
 use Rattle.transyt_words.specs.Whole.{StepsWithin}

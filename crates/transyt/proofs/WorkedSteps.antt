@@ -1,9 +1,9 @@
 -- The steps of words, by their definitions.
 use Rattle.std.proofs.Common.{ℕ, List, Option, None, refl, lit≤, arith}
 use Rattle.transyt_make.specs.Made.{made}
-use Rattle.transyt_running.specs.Runs.{StepsTaken}
-use Rattle.transyt_running.specs.declared.status.Status.{Status}
-use Rattle.transyt_running.specs.declared.status.Status.TheVariants.{Done, WriteFault}
+use Rattle.transyt_outcome.specs.Runs.{StepsTaken}
+use Rattle.transyt_outcome.specs.declared.status.Status.{Status}
+use Rattle.transyt_outcome.specs.declared.status.Status.TheVariants.{Done, WriteFault}
 use Rattle.transyt_reporter.specs.Brief.{brief_steps}
 use Rattle.transyt_answers.specs.Report.{deck_answering}
 use Rattle.transyt.specs.declared.word.Word.TheVariants as w

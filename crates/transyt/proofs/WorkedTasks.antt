@@ -1,7 +1,7 @@
 -- Worked texts, headlines and climbs: one that is so, and one that isn't.
 use Rattle.std.proofs.Common.{◌≡◌, ℕ, ◌<◌, false, List, [], ◌∷◌, Option, None, Some, length, refl, arith}
 use Rattle.transyt_net.specs.Parts.{Network}
-use Rattle.transyt_running.specs.declared.status.Status.TheVariants.{Done, DeckRefused, WriteFault, TooLong}
+use Rattle.transyt_outcome.specs.declared.status.Status.TheVariants.{Done, DeckRefused, WriteFault, TooLong}
 use Rattle.transyt_words.specs.Answer.{of_whole, done}
 use Rattle.transyt.specs.Climbs.{Descends}
 use Rattle.transyt.specs.Tasks.{Reads, Writes, TextRow, TaskHeadline, TaskComplete, TaskTooLong}

@@ -1,9 +1,9 @@
 -- The program with its words, between a source and a sink.
 use Rattle.std.specs.Prelude.{◌≡◌, ◌≢◌, ◌↔◌, ◌⊎◌, ◌≤◌, ◌++◌, ℕ, List, Option, None, Some, IfSome, drop, length}
 use Rattle.transyt_io.specs.Streams.{Rose}
-use Rattle.transyt_running.specs.Exit.{exit_number}
-use Rattle.transyt_running.specs.declared.status.Status.{Status}
-use Rattle.transyt_running.specs.declared.status.Status.TheVariants.{BadWords, ReadFault, WriteFault, NoMemory}
+use Rattle.transyt_outcome.specs.Exit.{exit_number}
+use Rattle.transyt_outcome.specs.declared.status.Status.{Status}
+use Rattle.transyt_outcome.specs.declared.status.Status.TheVariants.{BadWords, ReadFault, WriteFault, NoMemory}
 use Rattle.transyt_answers.specs.Report.{report, status}
 use Rattle.transyt.specs.Tasks.{task_of, TaskOutcome, TaskHeadline, TaskComplete, TaskTooLong, IsRun}
 use Rattle.transyt.specs.Words.{word_of}

@@ -2,7 +2,7 @@
 use Rattle.std.specs.Prelude.{◌≡◌, ◌↔◌, ℕ, List}
 use Rattle.transyt_io.specs.Lines.{lines}
 use Rattle.transyt_deck.specs.Deck.{Deck, Refused, Complete, Open, deck}
-use Rattle.transyt_running.specs.declared.status.Status.TheVariants.{DeckRefused}
+use Rattle.transyt_outcome.specs.declared.status.Status.TheVariants.{DeckRefused}
 use Rattle.transyt_answers.specs.Report.{status}
 
 -- a line of the deck was refused, or its END didn't come

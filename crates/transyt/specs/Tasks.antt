@@ -4,11 +4,11 @@ use Rattle.std.specs.Option.{option_map}
 use Rattle.transyt_io.specs.Streams.{Adds}
 use Rattle.transyt_deck.specs.Cards.{deck_text}
 use Rattle.transyt_make.specs.Made.{made}
-use Rattle.transyt_running.specs.declared.status.Status.{Status}
-use Rattle.transyt_running.specs.declared.status.Status.TheVariants.{Done, BadWords, DeckRefused, ReadFault, WriteFault}
-use Rattle.transyt_running.specs.declared.status.Status.TheVariants.{NoMemory, TooLong}
-use Rattle.transyt_running.specs.Outcome.{Reporting, Outcome, IsFront, Headline, Complete, TooLongWhere}
-use Rattle.transyt_running.specs.Runs.{StepsTaken}
+use Rattle.transyt_outcome.specs.declared.status.Status.{Status}
+use Rattle.transyt_outcome.specs.declared.status.Status.TheVariants.{Done, BadWords, DeckRefused, ReadFault, WriteFault}
+use Rattle.transyt_outcome.specs.declared.status.Status.TheVariants.{NoMemory, TooLong}
+use Rattle.transyt_outcome.specs.Outcome.{Reporting, Outcome, IsFront, Headline, Complete, TooLongWhere}
+use Rattle.transyt_outcome.specs.Runs.{StepsTaken}
 use Rattle.transyt_reporter.specs.Brief.{brief_text, brief_steps}
 use Rattle.transyt_answers.specs.Report.{deck_answering, reporting_run}
 use Rattle.transyt_words.specs.Answer.{of_whole}

@@ -1,9 +1,9 @@
 //! The end of the program: its number, and its sentence on standard error.
 ghost use Rattle.std.specs.Prelude.{◌≡◌, ◌≢◌, ◌≤◌, ◌↔◌, Ok, Err, IfOk, IfErr, IsSome};
-ghost use Rattle.transyt_running.specs.Exit.{exit_number};
+ghost use Rattle.transyt_outcome.specs.Exit.{exit_number};
 
 use std::io::ErrorKind;
-use transyt_running::Status;
+use transyt_outcome::Status;
 
 /// The exit number of the program: that of the status; where the words could not be had, 5 out of memory and 7 for another
 /// cause.

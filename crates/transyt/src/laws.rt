@@ -1,8 +1,8 @@
 //! Laws about the definitions.
 ghost use Rattle.std.specs.Prelude.{◌≡◌, ◌<◌, ℕ, List, [], ◌∷◌, Option, None, Some, All, false, length, map};
 ghost use Rattle.transyt_make.specs.Made.{made};
-ghost use Rattle.transyt_running.specs.Runs.{StepsTaken};
-ghost use Rattle.transyt_running.specs.declared.status.Status.{Status};
+ghost use Rattle.transyt_outcome.specs.Runs.{StepsTaken};
+ghost use Rattle.transyt_outcome.specs.declared.status.Status.{Status};
 ghost use Rattle.transyt_reporter.specs.Brief.{brief_steps};
 ghost use Rattle.transyt_answers.specs.Report.{deck_answering};
 ghost use Rattle.transyt.specs.declared.word.Word.{Word};

@@ -5,7 +5,7 @@
 //! function of the input's bytes: cite `report` and `status` of transyt_answers' `specs/Report` first, the answers to the
 //! lines one after another over what the lines before them have come to. `Descends` of `specs/Climbs` says what a climb of
 //! the report is. What each word asks for is `task_of` of `specs/Tasks`: a report of an input, or a text for which nothing
-//! is read. `Outcome` of transyt_running says what a run took, what it wrote and what each status says of both.
+//! is read. `Outcome` of transyt_outcome says what a run took, what it wrote and what each status says of both.
 #![tactic(auto)]
 
 mod ending;
@@ -29,5 +29,5 @@ pub use refusing::refused_by_deck;
 pub use top::transyt;
 pub use transyt_answers::steps_lower;
 pub use transyt_desks::{Gate, OpenGate};
-pub use transyt_running::Status;
+pub use transyt_outcome::Status;
 pub use version::VERSION;

@@ -1,7 +1,7 @@
 //! The program over any source and sink: its words, the top call and the end.
 ghost use Rattle.std.specs.IoError.{error_kind};
 ghost use Rattle.std.specs.Prelude.{◌≡◌, ◌≢◌, ◌<◌, ◌≤◌, ◌⊎◌, IfErr, IfOk, map, string_bytes};
-ghost use Rattle.transyt_running.specs.declared.status.Status.{Status};
+ghost use Rattle.transyt_outcome.specs.declared.status.Status.{Status};
 ghost use Rattle.transyt.specs.Program.{ProgramHeadline, ProgramRan, TopCall, after_name, ends_of};
 
 use crate::ending::{exit_of, sentence_of};
@@ -14,7 +14,7 @@ use std::sync::ledger::{Blank, Ledger};
 use std::thread::Threads;
 use transyt_desks::OpenGate;
 use transyt_io::{Sink, Source, SteadySource, TallySink};
-use transyt_running::Status;
+use transyt_outcome::Status;
 use transyt_steps::Steps;
 
 /// The words after the program's name.

@@ -14,8 +14,8 @@ use std::sync::ledger::Ledger;
 use std::thread::Threads;
 use transyt_desks::Gate;
 use transyt_io::{Sink, Source};
+use transyt_outcome::Status;
 use transyt_reporter::{Workers, run_deck};
-use transyt_running::Status;
 use transyt_steps::Steps;
 use transyt_words::{AuditWord, CountsWord, EquisatWord, answer_whole};
 

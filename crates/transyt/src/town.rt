@@ -13,8 +13,8 @@ use transyt_deck::print_deck;
 use transyt_desks::Gate;
 use transyt_io::{LineBuffer, Sink};
 use transyt_make::make_net;
+use transyt_outcome::{Status, Stop};
 use transyt_reporter::{Workers, write_brief};
-use transyt_running::{Status, Stop};
 use transyt_steps::Steps;
 
 /// Writes the deck text of the town of a seed. All memory is taken before the first line is written.

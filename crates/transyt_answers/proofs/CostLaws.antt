@@ -12,9 +12,9 @@ use Rattle.transyt_moves.specs.Moves.{move_count}
 use Rattle.transyt_sweep.specs.Climb.{Climb, moved, first, ended, stepped, after_search, climb_within, climb}
 use Rattle.transyt_session.specs.Session.{SessionValue}
 use Rattle.transyt_climb.proofs.CountLaws.{shape_moved}
-use Rattle.transyt_running.specs.declared.ending.Ending.{Ending}
-use Rattle.transyt_running.specs.Turns.{ending_after, costs_after, first_of, unless_over}
-use Rattle.transyt_running.specs.Runs.{costs_by, ending_by}
+use Rattle.transyt_outcome.specs.declared.ending.Ending.{Ending}
+use Rattle.transyt_outcome.specs.Turns.{ending_after, costs_after, first_of, unless_over}
+use Rattle.transyt_outcome.specs.Runs.{costs_by, ending_by}
 use Rattle.transyt_answers.specs.declared.answer.Answer.{Answer}
 use Rattle.transyt_answers.specs.declared.answer.Answer.TheVariants as a
 use Rattle.transyt_answers.specs.Commands.{after_answer, budget_of, line_answer, line_judged, session_after}

@@ -1,7 +1,7 @@
 -- The worked reports, computed from the definitions.
 use Rattle.std.proofs.Common.{◌≡◌, ◌++◌, [], ◌∷◌, codes, refl}
 use Rattle.std.specs.Fmt.{digits}
-use Rattle.transyt_running.specs.Runs.{costs_by}
+use Rattle.transyt_outcome.specs.Runs.{costs_by}
 use Rattle.transyt_platoon.specs.Platoon.{smoothed}
 use Rattle.transyt_stopline.specs.LastSteps.{sum_back, greatest}
 use Rattle.transyt_moves.specs.Moves.{move, move_count}

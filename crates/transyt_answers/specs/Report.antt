@@ -8,11 +8,11 @@ use Rattle.transyt_net.specs.Parts.{Network}
 use Rattle.transyt_deck.specs.Deck.{Deck, Refused, Complete, Open, next, start}
 use Rattle.transyt_session.specs.Session.{SessionValue, opened}
 use Rattle.transyt_text.specs.Forms.{form_line}
-use Rattle.transyt_running.specs.declared.ending.Ending.{Ending}
-use Rattle.transyt_running.specs.declared.ending.Ending.TheVariants as ending
-use Rattle.transyt_running.specs.Runs.{Answering, answering, of_lines, report_by}
-use Rattle.transyt_running.specs.Outcome.{Reporting, status_by}
-use Rattle.transyt_running.specs.declared.status.Status.{Status}
+use Rattle.transyt_outcome.specs.declared.ending.Ending.{Ending}
+use Rattle.transyt_outcome.specs.declared.ending.Ending.TheVariants as ending
+use Rattle.transyt_outcome.specs.Runs.{Answering, answering, of_lines, report_by}
+use Rattle.transyt_outcome.specs.Outcome.{Reporting, status_by}
+use Rattle.transyt_outcome.specs.declared.status.Status.{Status}
 use Rattle.transyt_answers.specs.declared.answer.Answer.{Answer}
 use Rattle.transyt_answers.specs.declared.answer.Answer.TheVariants as a
 use Rattle.transyt_answers.specs.Commands.{line_answer, answer_text, session_after, line_work}

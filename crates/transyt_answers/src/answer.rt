@@ -2,8 +2,8 @@
 ghost use Rattle.std.specs.Prelude.{◌≡◌};
 ghost use Rattle.transyt_answers.specs.Report.{answer_ends};
 
+use transyt_outcome::Ending;
 use transyt_report::Report;
-use transyt_running::Ending;
 use transyt_syntax::Code;
 
 /// The answer to a line after END.

@@ -1,7 +1,7 @@
 //! Climbs in the words of the report, and worked reports.
 ghost use Rattle.std.specs.Prelude.{◌≡◌, ◌+◌, ◌∷◌, [], ◌++◌, ℕ, All, List, None, Option, Some, codes, map, true};
-ghost use Rattle.transyt_running.specs.Runs.{costs_by, ending_by};
-ghost use Rattle.transyt_running.specs.declared.status.Status.{Status};
+ghost use Rattle.transyt_outcome.specs.Runs.{costs_by, ending_by};
+ghost use Rattle.transyt_outcome.specs.declared.status.Status.{Status};
 ghost use Rattle.transyt_syntax.specs.Codes.{number};
 ghost use Rattle.transyt_parts.specs.Made.{new_plan};
 ghost use Rattle.transyt_net.specs.declared.edit.EditFault.{EditFault};

@@ -3,9 +3,9 @@ use Rattle.std.specs.Prelude.{ℕ, ◌+◌, ◌*◌, ◌≡◌, ◌<◌, ◌≤�
 use Rattle.std.specs.Prelude.{Result, OnOk, OnErr, IfOk, IsErrOf}
 use Rattle.transyt_io.specs.Streams.{Adds, AddsFront, Rose}
 use Rattle.transyt_deck.specs.Deck.{Deck}
-use Rattle.transyt_running.specs.declared.ending.Ending.{Ending}
-use Rattle.transyt_running.specs.declared.ending.Stop.{Stop}
-use Rattle.transyt_running.specs.declared.ending.Stop.TheVariants.{Write}
+use Rattle.transyt_outcome.specs.declared.ending.Ending.{Ending}
+use Rattle.transyt_outcome.specs.declared.ending.Stop.{Stop}
+use Rattle.transyt_outcome.specs.declared.ending.Stop.TheVariants.{Write}
 use Rattle.transyt_answers.specs.Report.{deck_said, deck_ends, deck_steps}
 use Rattle.transyt_net.specs.Shape.{SameShape}
 use Rattle.transyt_sweep.specs.Climb.{Step, climb}

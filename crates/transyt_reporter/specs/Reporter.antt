@@ -4,7 +4,7 @@ use Rattle.transyt_deck.specs.Deck.{start, line_count, is_open}
 use Rattle.transyt_deck.specs.Reader.{ReaderValue}
 use Rattle.transyt_session.specs.Session.{SessionValue}
 use Rattle.transyt_desks.specs.Desks.{desk_zero}
-use Rattle.transyt_running.specs.Turns.{answers_after}
+use Rattle.transyt_outcome.specs.Turns.{answers_after}
 use Rattle.transyt_answers.specs.Report.{RunState, InDeck, InSession, text, ends, run_state}
 use Rattle.transyt_reporter.specs.Conditions.{AreReady}
 

@@ -24,7 +24,7 @@ use transyt_climb::Climber;
 use transyt_desks::{Desks, Gate};
 use transyt_io::{Failed, LineBuffer, Sink};
 use transyt_net::Net;
-use transyt_running::Stop;
+use transyt_outcome::Stop;
 use transyt_session::Session;
 use transyt_steps::Steps;
 use transyt_text::print_form;

@@ -1,6 +1,6 @@
 //! The reporter: it answers the lines of a deck and of its commands.
 ghost use Rattle.std.specs.Prelude.{◌≡◌, ◌≤◌, ◌<◌, ◌+◌, ◌^◌, true, None, Some, Ok, IfOk, IfNone, OnOk, OnErr, IsErrOf, IsTrue, length, ℕ, List, []};
-ghost use Rattle.transyt_running.specs.Turns.{AnsweredWhole, ClosedWhole, answers_after};
+ghost use Rattle.transyt_outcome.specs.Turns.{AnsweredWhole, ClosedWhole, answers_after};
 ghost use Rattle.transyt_io.specs.Streams.{Adds, AddsFront, Rose};
 ghost use Rattle.transyt_text.specs.Prints.{PrintsOn};
 ghost use Rattle.transyt_deck.specs.Deck.{next, is_complete, line_count};
@@ -24,7 +24,7 @@ use transyt_answers::{judge, print_accepted, print_card_refused};
 use transyt_deck::{CardReader, CardStop, Progress};
 use transyt_desks::{Desks, Gate};
 use transyt_io::{Failed, Sink};
-use transyt_running::{Ending, Stop};
+use transyt_outcome::{Ending, Stop};
 use transyt_steps::Steps;
 use transyt_syntax::Code;
 

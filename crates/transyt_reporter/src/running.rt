@@ -2,8 +2,8 @@
 ghost use Rattle.std.specs.Prelude.{◌≡◌, ◌≤◌, [], nat_eq};
 ghost use Rattle.transyt_io.specs.Streams.{Rose};
 ghost use Rattle.transyt_io.specs.Reading.{new_reading};
-ghost use Rattle.transyt_running.specs.Outcome.{Outcome};
-ghost use Rattle.transyt_running.specs.Runs.{Ran, StepsTaken};
+ghost use Rattle.transyt_outcome.specs.Outcome.{Outcome};
+ghost use Rattle.transyt_outcome.specs.Runs.{Ran, StepsTaken};
 ghost use Rattle.transyt_answers.specs.Report.{deck_answering, reporting_run};
 ghost use Rattle.transyt_reporter.specs.Reporter.{new_reporter};
 
@@ -15,7 +15,7 @@ use std::sync::ledger::Ledger;
 use std::thread::Threads;
 use transyt_desks::Gate;
 use transyt_io::{Line, LineReader, Sink, Source};
-use transyt_running::{Status, ended, stopped, stopped_reading};
+use transyt_outcome::{Status, ended, stopped, stopped_reading};
 use transyt_steps::Steps;
 
 /// Takes the lines of a new reader one at a time, and answers each before the next is taken.

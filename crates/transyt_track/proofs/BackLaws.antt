@@ -8,7 +8,7 @@ use Rattle.transyt_sweep.specs.Rows.{RowsValue, out_at, shown_at, pair_in, place
 use Rattle.transyt_sweep.specs.Rows.{AreRows}
 use Rattle.transyt_sweep.specs.Front.{AreEvaluation}
 use Rattle.transyt_sweep.proofs.FrontLaws.{mixed_turn, before_end}
-use Rattle.transyt_saved.proofs.WrittenLaws.{pair_steps}
+use Rattle.transyt_kept.proofs.WrittenLaws.{pair_steps}
 use Rattle.transyt_track.specs.Front.{AreBetween}
 use Rattle.transyt_track.proofs.MixedLaws.{mixed_placed, shown_placed, shown_turn}
 

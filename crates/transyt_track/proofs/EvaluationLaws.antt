@@ -4,8 +4,8 @@ use Rattle.transyt_net.specs.Parts.{Network}
 use Rattle.transyt_sweep.specs.Sweeps.{out_of, evaluated}
 use Rattle.transyt_sweep.specs.Rows.{RowsValue, out_at, shown_at, Fits}
 use Rattle.transyt_sweep.specs.Front.{AreEvaluation}
-use Rattle.transyt_saved.specs.Saved.{rows_by, by_link}
-use Rattle.transyt_saved.proofs.DrawnLaws.{rows_ext, outs_at, shown_of}
+use Rattle.transyt_kept.specs.Saved.{rows_by, by_link}
+use Rattle.transyt_kept.proofs.DrawnLaws.{rows_ext, outs_at, shown_of}
 use Rattle.transyt_track.specs.Kept.{evaluation_of}
 
 module _ (net : Network) (rows : RowsValue) where

@@ -27,8 +27,8 @@ use Rattle.transyt_track.specs.Readers.{AreReaders, reads}
 use Rattle.transyt_track.specs.Front.{AreShownMixed, AreFlags, flag, AreAt, awaits, left_at, own_differs}
 use Rattle.transyt_track.proofs.AwaitLaws.{awaits_here, awaits_on, awaits_own, awaits_turn, or_false}
 use Rattle.transyt_track.proofs.PlaceLaws.{feeders_inside, rule_inside}
-use Rattle.transyt_saved.proofs.WrittenLaws.{figures_here, figures_elsewhere}
-use Rattle.transyt_saved.proofs.BackLaws.{mixed_left}
+use Rattle.transyt_kept.proofs.WrittenLaws.{figures_here, figures_elsewhere}
+use Rattle.transyt_kept.proofs.BackLaws.{mixed_left}
 use Rattle.transyt_track.proofs.MixedLaws.{mixed_here, mixed_placed, mixed_figures, shown_moved}
 use Rattle.transyt_track.proofs.MixedLaws.{shown_now, shown_placed, shown_turn}
 use Rattle.transyt_track.proofs.DueLaws.{differs_is}

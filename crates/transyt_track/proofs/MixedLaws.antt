@@ -10,8 +10,8 @@ use Rattle.transyt_sweep.specs.Rows.{Fits, SameSize, AreRows}
 use Rattle.transyt_sweep.specs.Front.{AreMixed, is_before}
 use Rattle.transyt_sweep.proofs.FrontLaws.{before_self, before_other, before_turn, mixed_put, mixed_shown}
 use Rattle.transyt_track.specs.Front.{AreShownMixed}
-use Rattle.transyt_saved.proofs.WrittenLaws.{figures_out, figures_size}
-use Rattle.transyt_saved.proofs.BackLaws.{before_here}
+use Rattle.transyt_kept.proofs.WrittenLaws.{figures_out, figures_size}
+use Rattle.transyt_kept.proofs.BackLaws.{before_here}
 use Rattle.transyt_track.proofs.PlacedLaws.{placed_last, placed_stays}
 
 -- rows of the same size fit the same network

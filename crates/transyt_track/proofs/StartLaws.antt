@@ -25,7 +25,7 @@ use Rattle.transyt_sweep.proofs.PairLaws.{out_elsewhere}
 use Rattle.transyt_sweep.proofs.FrontLaws.{mixed_put, mixed_turn, not_before_first}
 use Rattle.transyt_track.specs.Due.{differs}
 use Rattle.transyt_track.specs.Front.{flag, own_differs, total_differs, AreAt, AreFlags, AreStarting, awaits}
-use Rattle.transyt_saved.proofs.BackLaws.{mixed_left}
+use Rattle.transyt_kept.proofs.BackLaws.{mixed_left}
 use Rattle.transyt_track.proofs.MixedLaws.{shown_moved, shown_turn}
 use Rattle.transyt_track.proofs.AwaitLaws.{awaits_none}
 use Rattle.transyt_track.proofs.RuleLaws.{same_number}

@@ -7,7 +7,7 @@ use Rattle.transyt_net.specs.Shape.{shape, SameShape}
 use Rattle.transyt_sweep.specs.Cell.{CellValue}
 use Rattle.transyt_sweep.specs.Rows.{RowsValue, Fits}
 use Rattle.transyt_sweep.specs.Front.{AreEvaluation}
-use Rattle.transyt_saved.specs.Saved.{RowsByLink, KeptValue, by_link}
+use Rattle.transyt_kept.specs.Saved.{RowsByLink, KeptValue, by_link}
 use Rattle.transyt_track.specs.Own.{PlacesValue, ArePlaces, all_places}
 use Rattle.transyt_track.specs.Readers.{AreReaders}
 use Rattle.transyt_track.specs.Kept.{AreOfMark, evaluation_of}

@@ -2,7 +2,7 @@
 use Rattle.std.specs.Prelude.{◌≡◌, length, Option, IfSome}
 use Rattle.transyt_net.specs.Parts.{Network}
 use Rattle.transyt_sweep.specs.Sweeps.{out_of, evaluated}
-use Rattle.transyt_saved.specs.Saved.{RowsByLink, rows_by}
+use Rattle.transyt_kept.specs.Saved.{RowsByLink, rows_by}
 
 -- the evaluation of a network, by sweep and link
 abbrev pub evaluation_of : Network → RowsByLink

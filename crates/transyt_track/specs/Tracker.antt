@@ -6,7 +6,7 @@ use Rattle.transyt_sweep.specs.Cell.{CellValue}
 use Rattle.transyt_sweep.specs.Front.{AreEvaluation}
 use Rattle.transyt_track.specs.Own.{PlacesValue, ArePlaces}
 use Rattle.transyt_track.specs.Readers.{AreReaders}
-use Rattle.transyt_saved.specs.Saved.{RowsByLink, KeptValue}
+use Rattle.transyt_kept.specs.Saved.{RowsByLink, KeptValue}
 use Rattle.transyt_track.specs.Kept.{AreOfMark}
 
 -- a tracker: the network that it stands for, and the one that its open mark stands for, or none

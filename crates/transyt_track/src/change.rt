@@ -2,8 +2,8 @@
 
 use crate::own::Places;
 use crate::readers::Readers;
+use transyt_kept::KeptRows;
 use transyt_net::Net;
-use transyt_saved::KeptRows;
 use transyt_sweep::Scratch;
 
 /// A change that a tracker follows: two networks of one shape, with the places that each link reads and its readers.

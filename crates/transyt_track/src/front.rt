@@ -9,7 +9,7 @@ ghost use Rattle.transyt_sweep.specs.Front.{AreEvaluation};
 ghost use Rattle.transyt_track.specs.Due.{is_due, due_at, due};
 ghost use Rattle.transyt_track.specs.Change.{HasRoom, IsChange, IsFront};
 ghost use Rattle.transyt_track.specs.Front.{flag};
-ghost use Rattle.transyt_saved.specs.Saved.{KeptValue};
+ghost use Rattle.transyt_kept.specs.Saved.{KeptValue};
 
 use crate::change::{Change, Front};
 use crate::readers::Readers;

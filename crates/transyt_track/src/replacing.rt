@@ -4,14 +4,14 @@ ghost use Rattle.std.specs.Prelude.{◌≡◌, ◌<◌, ◌≤◌, false, length
 ghost use Rattle.transyt_sweep.specs.Cell.{HasSteps};
 ghost use Rattle.transyt_sweep.specs.Rows.{Fits, AreRows, out_at, shown_at, placed, with_out, with_rest};
 ghost use Rattle.transyt_sweep.specs.Sweeps.{evaluated};
-ghost use Rattle.transyt_saved.specs.Saved.{KeptValue};
+ghost use Rattle.transyt_kept.specs.Saved.{KeptValue};
 ghost use Rattle.transyt_track.specs.Change.{IsChange};
 ghost use Rattle.transyt_track.specs.Front.{left_at};
 
 use crate::change::{Change, Front};
 use crate::own::same_weights;
+use transyt_kept::KeptRows;
 use transyt_net::Net;
-use transyt_saved::KeptRows;
 use transyt_sweep::Scratch;
 
 /// Writes a link's departures at a sweep from a scratch, where they differ.

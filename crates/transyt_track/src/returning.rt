@@ -4,11 +4,11 @@ ghost use Rattle.std.specs.Prelude.{◌≡◌, ◌<◌, ◌≤◌, length, Some,
 ghost use Rattle.transyt_net.specs.Shape.{SameShape};
 ghost use Rattle.transyt_sweep.specs.Rows.{Fits, AreRows, pair_in, placed};
 ghost use Rattle.transyt_sweep.specs.Front.{AreEvaluation};
-ghost use Rattle.transyt_saved.specs.Saved.{KeptValue, unmarked};
+ghost use Rattle.transyt_kept.specs.Saved.{KeptValue, unmarked};
 ghost use Rattle.transyt_track.specs.Kept.{evaluation_of};
 
+use transyt_kept::KeptRows;
 use transyt_net::Net;
-use transyt_saved::KeptRows;
 use transyt_sweep::Rows;
 
 /// The rows go back to those of the marked network, and the mark is gone.

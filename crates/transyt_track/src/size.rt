@@ -4,7 +4,7 @@ use crate::own::Places;
 use crate::readers::Readers;
 use std::mem::size_of;
 use transyt_delay::Figures;
-use transyt_saved::KeptRows;
+use transyt_kept::KeptRows;
 use transyt_sweep::{FACTOR_BYTES, Scratch};
 
 // the limits of a network

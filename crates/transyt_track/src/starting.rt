@@ -9,7 +9,7 @@ ghost use Rattle.transyt_track.specs.Change.{HasRoom, IsChange, IsFront};
 ghost use Rattle.transyt_track.specs.Due.{differs, is_some_and};
 ghost use Rattle.transyt_track.specs.Front.{flag, flag_from, AreFlags, AreDownWhere, own_differs, total_differs};
 ghost use Rattle.transyt_track.specs.Front.{awaits, AreStarting};
-ghost use Rattle.transyt_saved.specs.Saved.{KeptValue};
+ghost use Rattle.transyt_kept.specs.Saved.{KeptValue};
 
 use crate::change::{Change, Front};
 use crate::own::{Places, other_total, same_data, same_times};

@@ -9,7 +9,7 @@ ghost use Rattle.transyt_net.specs.Shape.{SameShape};
 ghost use Rattle.transyt_sweep.specs.Front.{AreEvaluation};
 ghost use Rattle.transyt_sweep.specs.Sweeps.{out_of, evaluated, index};
 ghost use Rattle.transyt_track.specs.Due.{due};
-ghost use Rattle.transyt_saved.specs.Saved.{KeptValue};
+ghost use Rattle.transyt_kept.specs.Saved.{KeptValue};
 ghost use Rattle.transyt_track.specs.Kept.{evaluation_of};
 ghost use Rattle.transyt_track.specs.Tracker.{tracker_of, unmarked, IsTracking};
 
@@ -25,8 +25,8 @@ use std::marker::Model;
 use std::mem;
 use std::sync::ledger::Ledger;
 use transyt_delay::Figures;
+use transyt_kept::KeptRows;
 use transyt_net::{Edit, Net};
-use transyt_saved::KeptRows;
 use transyt_steps::Steps;
 use transyt_sweep::{Rows, full};
 

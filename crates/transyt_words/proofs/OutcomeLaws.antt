@@ -1,10 +1,10 @@
 -- The outcome of a run that has taken its input whole and told its answer.
 use Rattle.std.proofs.Common.{◌≡◌, ℕ, ◌≤◌, List, Option, Some, None, length, refl, ap, subst, ◌∙◌, inr, inl}
 use Rattle.transyt_io.specs.Streams.{Takes, IsAtEnd}
-use Rattle.transyt_running.specs.Outcome.{Outcome, IsWritten, Row}
-use Rattle.transyt_running.specs.declared.status.Status.{Status}
-use Rattle.transyt_running.specs.declared.status.Status.TheVariants.{Done, BadWords, DeckRefused, ReadFault, WriteFault}
-use Rattle.transyt_running.specs.declared.status.Status.TheVariants.{NoMemory, TooLong}
+use Rattle.transyt_outcome.specs.Outcome.{Outcome, IsWritten, Row}
+use Rattle.transyt_outcome.specs.declared.status.Status.{Status}
+use Rattle.transyt_outcome.specs.declared.status.Status.TheVariants.{Done, BadWords, DeckRefused, ReadFault, WriteFault}
+use Rattle.transyt_outcome.specs.declared.status.Status.TheVariants.{NoMemory, TooLong}
 use Rattle.transyt_words.specs.Answer.{AnswerValue, of_whole}
 use Rattle.transyt_words.specs.Whole.{Told, ToldRow}
 

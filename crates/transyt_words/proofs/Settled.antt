@@ -1,6 +1,6 @@
 -- An input that is taken whole: no bytes end its run.
 use Rattle.std.proofs.Common.{ℕ, List}
-use Rattle.transyt_running.specs.Outcome.{IsSettled}
+use Rattle.transyt_outcome.specs.Outcome.{IsSettled}
 use Rattle.transyt_words.specs.Answer.{AnswerValue, of_whole}
 
 -- bytes after those that end the run change nothing, since none do

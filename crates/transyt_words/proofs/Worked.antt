@@ -4,9 +4,9 @@ use Rattle.std.proofs.Common.{refl, sym, ◌∙◌, lit≤, arith}
 use Rattle.std.specs.Fmt.{digits}
 use Rattle.transyt_syntax.specs.declared.code.Code.TheVariants.{Unknown}
 use Rattle.transyt_text.specs.Forms.{filled, form_line}
-use Rattle.transyt_running.specs.Outcome.{IsFront}
-use Rattle.transyt_running.specs.WorkedOutcomes.{Each}
-use Rattle.transyt_running.specs.declared.status.Status.TheVariants.{Done}
+use Rattle.transyt_outcome.specs.Outcome.{IsFront}
+use Rattle.transyt_outcome.specs.WorkedOutcomes.{Each}
+use Rattle.transyt_outcome.specs.declared.status.Status.TheVariants.{Done}
 use Rattle.transyt_words.specs.Answer.{of_whole, answer_text, done, refusal}
 use Rattle.transyt_words.specs.Lines.{lines_text, refused_card}
 use Rattle.transyt_words.specs.Whole.{StepsWithin, Told, ToldRow}

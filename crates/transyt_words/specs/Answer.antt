@@ -2,7 +2,7 @@
 use Rattle.std.specs.Prelude.{ℕ, List, [], ◌++◌, Bool, true, false, Option, None, Some}
 use Rattle.transyt_net.specs.Parts.{Network}
 use Rattle.transyt_deck.specs.Cards.{deck_text}
-use Rattle.transyt_running.specs.Outcome.{Reporting}
+use Rattle.transyt_outcome.specs.Outcome.{Reporting}
 use Rattle.transyt_words.specs.Lines.{LineValue, lines_text}
 
 -- the lines that are written, the network whose deck text is written after them, if there is one, and whether the input

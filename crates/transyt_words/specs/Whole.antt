@@ -2,10 +2,10 @@
 use Rattle.std.specs.Prelude.{◌≡◌, ◌≤◌, ◌+◌, ℕ, List, [], true, false, Option}
 use Rattle.transyt_io.specs.Streams.{Takes, Adds}
 use Rattle.transyt_words.specs.Answer.{AnswerValue, answer_text}
-use Rattle.transyt_running.specs.Outcome.{IsFront}
-use Rattle.transyt_running.specs.declared.status.Status.{Status}
-use Rattle.transyt_running.specs.declared.status.Status.TheVariants.{Done, DeckRefused, ReadFault, TooLong, WriteFault}
-use Rattle.transyt_running.specs.declared.status.Status.TheVariants.{NoMemory}
+use Rattle.transyt_outcome.specs.Outcome.{IsFront}
+use Rattle.transyt_outcome.specs.declared.status.Status.{Status}
+use Rattle.transyt_outcome.specs.declared.status.Status.TheVariants.{Done, DeckRefused, ReadFault, TooLong, WriteFault}
+use Rattle.transyt_outcome.specs.declared.status.Status.TheVariants.{NoMemory}
 
 -- the meaning of a status for the answer to an input and the bytes written
 abbrev pub ToldRow : AnswerValue → List ℕ → Status → Type 0

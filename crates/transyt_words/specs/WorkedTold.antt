@@ -1,7 +1,7 @@
 -- Worked answers as they are written under each status: rows that may be, and rows that may not.
 use Rattle.std.specs.Prelude.{ℕ, ◌++◌, List, [], ◌∷◌, codes}
-use Rattle.transyt_running.specs.declared.status.Status.{Status}
-use Rattle.transyt_running.specs.declared.status.Status.TheVariants.{Done, DeckRefused, ReadFault, WriteFault, NoMemory}
+use Rattle.transyt_outcome.specs.declared.status.Status.{Status}
+use Rattle.transyt_outcome.specs.declared.status.Status.TheVariants.{Done, DeckRefused, ReadFault, WriteFault, NoMemory}
 use Rattle.transyt_words.specs.Answer.{AnswerValue, done, refusal}
 use Rattle.transyt_words.specs.Lines.{LineValue, line_of}
 

@@ -3,8 +3,8 @@
 ghost use Rattle.std.specs.Prelude.{◌≡◌, ◌*◌, ◌++◌, ◌∷◌, [], codes, length, map, None, Some, true};
 ghost use Rattle.transyt_syntax.specs.declared.code.Code.{Code};
 ghost use Rattle.transyt_net.specs.WorkedNets.{town};
-ghost use Rattle.transyt_running.specs.WorkedOutcomes.{Each};
-ghost use Rattle.transyt_running.specs.declared.status.Status.{Status};
+ghost use Rattle.transyt_outcome.specs.WorkedOutcomes.{Each};
+ghost use Rattle.transyt_outcome.specs.declared.status.Status.{Status};
 ghost use Rattle.transyt_equisat.specs.WorkedBalances.{worked_town};
 ghost use Rattle.transyt_audit.specs.declared.verdict.Verdict.{Verdict};
 ghost use Rattle.transyt_climb.specs.WorkedTurns.{idle};

@@ -3,7 +3,7 @@
 ghost use Rattle.std.specs.Prelude.{◌≡◌, ◌≢◌, ◌≤◌, length};
 ghost use Rattle.std.specs.Option.{option_map};
 ghost use Rattle.transyt_io.specs.Streams.{Rose};
-ghost use Rattle.transyt_running.specs.Outcome.{Outcome};
+ghost use Rattle.transyt_outcome.specs.Outcome.{Outcome};
 ghost use Rattle.transyt_text.specs.Prints.{PrintsOn};
 ghost use Rattle.transyt_words.specs.AfterDeck.{answer_after, most_after};
 ghost use Rattle.transyt_words.specs.Answer.{answer_text, deck_after, of_whole};
@@ -18,7 +18,7 @@ use std::thread::Threads;
 use transyt_deck::print_deck;
 use transyt_io::{Failed, Intake, LineBuffer, Sink, Source};
 use transyt_net::Net;
-use transyt_running::{Status, ended, stopped_reading};
+use transyt_outcome::{Status, ended, stopped_reading};
 use transyt_steps::Steps;
 
 /// Writes the deck text of a network, if there is one.

@@ -1,6 +1,6 @@
 -- A line is a command, or one of the deck.
 use Rattle.std.proofs.Common.{◌≡◌, List, Option, None, Some, IfSome, refl, sym, ◌∙◌, ap, subst}
-use Rattle.transyt_running.specs.declared.ending.Ending.{Ending}
+use Rattle.transyt_outcome.specs.declared.ending.Ending.{Ending}
 use Rattle.transyt_session.specs.Session.{SessionValue}
 use Rattle.transyt_desks.specs.Desks.{desk_zero}
 use Rattle.transyt_deck.specs.Deck.{next}

@@ -4,8 +4,8 @@ use Rattle.std.proofs.lemmas.Bool.{eqb-true}
 use Rattle.transyt_answers.specs.Report.{deck_answering}
 use Rattle.transyt_reporter.specs.Reporter.{HasAnswered, ReporterValue}
 use Rattle.transyt_reporter.proofs.Answered.{answered_none}
-use Rattle.transyt_running.proofs.RunLaws.{run_new, goes_on, line_ends, line_stops, end_closes, end_stops}
-use Rattle.transyt_running.proofs.RunLaws.{read_stops}
+use Rattle.transyt_outcome.proofs.RunLaws.{run_new, goes_on, line_ends, line_stops, end_closes, end_stops}
+use Rattle.transyt_outcome.proofs.RunLaws.{read_stops}
 use Rattle.transyt_reporter.proofs.running.run.Goals as goal
 
 -- one worker, as the test tells

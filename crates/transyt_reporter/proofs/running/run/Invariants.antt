@@ -3,7 +3,7 @@ use Rattle.std.proofs.Common.{◌≡◌, ◌≤◌, nat_eq}
 use Rattle.transyt_io.specs.Reading.{most_lines_left}
 use Rattle.transyt_answers.specs.Report.{deck_answering}
 use Rattle.transyt_reporter.specs.Reporter.{HasAnswered}
-use Rattle.transyt_running.specs.RunSoFar.{RunSoFar}
+use Rattle.transyt_outcome.specs.RunSoFar.{RunSoFar}
 use Rattle.transyt_reporter.proofs.running.run.Given as goal
 
 -- how far the run has come from what source, sink and steps told at its start

@@ -3,7 +3,7 @@ use Rattle.std.proofs.Common.{◌≡◌, ◌+◌, ◌<◌, ◌≤◌, length, ap
 use Rattle.transyt_parts.specs.declared.frame.Frame.{Frame}
 use Rattle.transyt_sweep.specs.Sweeps.{out_of, evaluated}
 use Rattle.transyt_sweep.specs.Rows.{out_at, shown_at}
-use Rattle.transyt_saved.specs.Saved.{KeptValue}
+use Rattle.transyt_kept.specs.Saved.{KeptValue}
 use Rattle.transyt_track.specs.Front.{AreBetween}
 use Rattle.transyt_track.proofs.BackLaws.{copied_put, copied_end, between_turn}
 use Rattle.transyt_track.proofs.returning.copy_rows.Goals as goal

@@ -1,7 +1,7 @@
 -- The rows of the mark are there again.
 use Rattle.std.proofs.Common.{sym, ◌∙◌}
 use Rattle.std.proofs.lemmas.Option.{same_Some}
-use Rattle.transyt_saved.specs.Saved.{by_link}
+use Rattle.transyt_kept.specs.Saved.{by_link}
 use Rattle.transyt_track.specs.Kept.{evaluation_of}
 use Rattle.transyt_track.proofs.EvaluationLaws.{by_link_evaluation}
 use Rattle.transyt_track.proofs.MixedLaws.{fits_same}

@@ -7,7 +7,7 @@ use Rattle.transyt_track.specs.Own.{ArePlaces, DifferAt}
 use Rattle.transyt_sweep.specs.Rows.{index_in}
 use Rattle.transyt_sweep.specs.Sweeps.{index}
 use Rattle.transyt_sweep.proofs.IndexLaws.{index_is}
-use Rattle.transyt_saved.specs.Saved.{KeptValue, by_link}
+use Rattle.transyt_kept.specs.Saved.{KeptValue, by_link}
 use Rattle.transyt_track.specs.Due.{due}
 use Rattle.transyt_track.specs.Readers.{AreReaders}
 use Rattle.transyt_track.specs.Tracker.{TrackerValue, IsTracking}

@@ -1,0 +1,69 @@
+//! The status of a run by what ended it.
+ghost use Rattle.std.specs.Prelude.{◌≡◌, if◌then◌else◌};
+ghost use Rattle.transyt_outcome.specs.Turns.{is_refusal};
+
+use crate::status::Status;
+use transyt_io::ReadStop;
+
+/// How a line ends a run.
+#[derive(Clone, Copy, Debug, PartialEq, Eq, Drop)]
+pub enum Ending {
+    /// All that was asked for is done: STOP.
+    Stopped,
+    /// The line is refused, and nothing after it is answered.
+    Refused,
+}
+
+impl Ending {
+    /// The status of the run that it ends.
+    pub fn status(self) -> Status
+        ensures { result ≡ (if is_refusal self then Status.DeckRefused else Status.Done) }
+    {
+        match self {
+            Ending::Stopped => Status::Done,
+            Ending::Refused => Status::DeckRefused,
+        }
+    }
+}
+
+/// Why an answer stopped.
+#[derive(Clone, Copy, Drop)]
+pub enum Stop {
+    /// The sink failed.
+    Write,
+    /// Out of memory.
+    Memory,
+}
+
+/// The status of a run that the end of the input ended: whether that is a refusal.
+pub fn ended(refused: bool) -> Status
+    ensures { result ≡ (if refused then Status.DeckRefused else Status.Done) }
+{
+    if refused {
+        Status::DeckRefused
+    } else {
+        Status::Done
+    }
+}
+
+/// The status of a run that an answer ended.
+pub fn stopped(stop: Stop) -> Status
+    ensures write { stop ≡ Stop.Write → result ≡ Status.WriteFault }
+    ensures memory { stop ≡ Stop.Memory → result ≡ Status.NoMemory }
+{
+    match stop {
+        Stop::Write => Status::WriteFault,
+        Stop::Memory => Status::NoMemory,
+    }
+}
+
+/// The status of a run that a read ended.
+pub fn stopped_reading(stop: ReadStop) -> Status
+    ensures fault { stop ≡ ReadStop.Fault → result ≡ Status.ReadFault }
+    ensures long { stop ≡ ReadStop.TooLong → result ≡ Status.TooLong }
+{
+    match stop {
+        ReadStop::Fault => Status::ReadFault,
+        ReadStop::TooLong => Status::TooLong,
+    }
+}
