@@ -2,22 +2,17 @@
 //! status that are wanted. The rows are read from standard input, whose first lines say how they are written.
 #![tactic(auto)]
 
-mod content;
 mod hearing;
 mod meeting;
-mod parts;
-mod reader;
 mod report;
-mod row;
 mod trial;
 
-use crate::reader::rows_of;
 use crate::report::Tally;
-use crate::row::Row;
 use crate::trial::passes;
 use anyhow::{Context, Result};
 use std::io;
 use std::thread::Threads;
+use transyt_row_text::{Row, rows_of};
 
 /// Runs all rows, and counts those that pass.
 fn tally_of<R: Threads + Sync + Print + Eprint + AllocGlobal>(

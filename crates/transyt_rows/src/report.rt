@@ -1,7 +1,7 @@
 //! The report of the rows.
 
-use crate::row::Row;
 use std::{fmt, io, str};
+use transyt_row_text::Row;
 
 /// How many rows passed and how many failed.
 #[derive(Drop)]

@@ -3,9 +3,7 @@ ghost use Rattle.std.specs.Prelude.{◌≡◌, ◌<◌};
 
 use crate::hearing::Hearing;
 use crate::meeting::Meeting;
-use crate::parts::{Ends, Failing, Pieces};
 use crate::report::{print_difference, print_failed};
-use crate::row::Row;
 use std::alloc::{AllocError, Global};
 use std::io;
 use std::marker::Brand;
@@ -13,6 +11,7 @@ use std::sync::ledger::{Blank, Ledger};
 use std::thread::Threads;
 use transyt::{Gate, OpenGate, Status, run_args, transyt};
 use transyt_io::{MemorySink, MemorySource, Sink, Source, SteadySource, TallySink};
+use transyt_row_text::{Ends, Failing, Pieces, Row};
 use transyt_steps::Steps;
 
 /// One run of a row: its words and pieces, the numbers of the read and of the write that fail, or 0, and what is to be

@@ -4,7 +4,7 @@ use anyhow::{Context, Result, bail};
 
 /// Where lines of content go.
 #[derive(Clone, Copy)]
-pub(crate) enum Part {
+pub enum Part {
     /// No content stands here.
     Nothing,
     /// A text with a name.
@@ -21,7 +21,7 @@ pub(crate) enum Part {
 
 /// Bytes that are read, or that are written.
 #[derive(Drop)]
-pub(crate) enum Said {
+pub enum Said {
     /// The bytes are read.
     Read(Vec<u8>),
     /// The bytes are written.
@@ -30,14 +30,14 @@ pub(crate) enum Said {
 
 /// How many bytes a call of the source and one of the sink take at most.
 #[derive(Clone, Copy)]
-pub(crate) struct Pieces {
-    pub(crate) read: usize,
-    pub(crate) written: usize,
+pub struct Pieces {
+    pub read: usize,
+    pub written: usize,
 }
 
 impl Pieces {
     /// The two numbers of a line.
-    pub(crate) fn named(written: &str) -> Result<Pieces> {
+    pub fn named(written: &str) -> Result<Pieces> {
         let (first, second) = written
             .split_once(' ')
             .context("`pieces` takes two numbers")?;
@@ -50,7 +50,7 @@ impl Pieces {
 
 /// Which calls fail.
 #[derive(Clone, Copy)]
-pub(crate) enum Failing {
+pub enum Failing {
     /// No call fails.
     Nothing,
     /// The call of the source with this number, from 1, fails.
@@ -65,7 +65,7 @@ pub(crate) enum Failing {
 
 impl Failing {
     /// The failing calls of a line.
-    pub(crate) fn named(written: &str) -> Result<Failing> {
+    pub fn named(written: &str) -> Result<Failing> {
         Ok(match written.split_once(' ') {
             Some(("read", "each")) => Failing::EachRead,
             Some(("write", "each")) => Failing::EachWrite,
@@ -78,7 +78,7 @@ impl Failing {
 
 /// The ends that a row is run over.
 #[derive(Clone, Copy)]
-pub(crate) enum Ends {
+pub enum Ends {
     /// A source and a sink in memory.
     Memory,
     /// The same, at a gate where the first two desks wait for each other.
@@ -91,7 +91,7 @@ pub(crate) enum Ends {
 
 impl Ends {
     /// The ends of a line.
-    pub(crate) fn named(written: &str) -> Result<Ends> {
+    pub fn named(written: &str) -> Result<Ends> {
         Ok(match written {
             "memory" => Ends::Memory,
             "meeting" => Ends::Meeting,

@@ -138,7 +138,7 @@ fn read_all(reader: &mut Reader, text: &str) -> Result<()> {
 }
 
 /// The rows of a text.
-pub(crate) fn rows_of(alloc: Global, text: &str) -> Result<Vec<Row>> {
+pub fn rows_of(alloc: Global, text: &str) -> Result<Vec<Row>> {
     let mut reader = Reader::new(alloc);
     let read = read_all(&mut reader, text);
     let rows = mem::replace(&mut reader.rows, Vec::new(alloc));

@@ -13,32 +13,32 @@ const PIECE: usize = 4096;
 
 /// One row: what the program is run with, and what is wanted of it.
 #[derive(Drop)]
-pub(crate) struct Row {
+pub struct Row {
     /// The purpose of the row.
-    pub(crate) name: String,
+    pub name: String,
     /// The lists of words; the row is run with each.
-    pub(crate) words: Vec<Vec<String>>,
+    pub words: Vec<Vec<String>>,
     /// The sizes of pieces; the row is run with each.
-    pub(crate) pieces: Vec<Pieces>,
+    pub pieces: Vec<Pieces>,
     /// The calls of the source and the sink that fail.
-    pub(crate) failing: Failing,
+    pub failing: Failing,
     /// The ends that the row is run over.
-    pub(crate) ends: Ends,
+    pub ends: Ends,
     /// How many bytes the sink has room for.
-    pub(crate) room: usize,
+    pub room: usize,
     /// The bytes of the input, and the bytes that are written for them, in turn.
-    pub(crate) said: Vec<Said>,
+    pub said: Vec<Said>,
     /// The bytes that the source has left, where the row names them.
-    pub(crate) left: Option<Vec<u8>>,
+    pub left: Option<Vec<u8>>,
     /// The remarks, where the row names them.
-    pub(crate) told: Option<Vec<u8>>,
+    pub told: Option<Vec<u8>>,
     /// The exit number.
-    pub(crate) status: u8,
+    pub status: u8,
 }
 
 impl Row {
     /// A row that names nothing yet.
-    pub(crate) fn new(alloc: Global, name: &str) -> Result<Row, AllocError> {
+    pub fn new(alloc: Global, name: &str) -> Result<Row, AllocError> {
         Ok(Row {
             name: String::from_str(alloc, name)?,
             words: Vec::new(alloc),
@@ -54,7 +54,7 @@ impl Row {
     }
 
     /// Notes what a line names, and tells which part begins with it.
-    pub(crate) fn note(&mut self, alloc: Global, keyword: &str, written: &str) -> Result<Part> {
+    pub fn note(&mut self, alloc: Global, keyword: &str, written: &str) -> Result<Part> {
         match keyword {
             "words" => self.words.push(words_of(alloc, written)?)?,
             "pieces" => self.pieces.push(Pieces::named(written)?)?,
@@ -72,7 +72,7 @@ impl Row {
     }
 
     /// Gives a row that names no words the word `run`, and one that names no pieces large ones.
-    pub(crate) fn settle(&mut self, alloc: Global) -> Result<()> {
+    pub fn settle(&mut self, alloc: Global) -> Result<()> {
         if self.words.is_empty() {
             self.words.push(words_of(alloc, "run")?)?;
         }
@@ -86,7 +86,7 @@ impl Row {
     }
 
     /// How many bytes the input has.
-    pub(crate) fn input_len(&self) -> usize {
+    pub fn input_len(&self) -> usize {
         let mut len = 0usize;
         for said in &self.said {
             if let Said::Read(bytes) = said {
@@ -97,7 +97,7 @@ impl Row {
     }
 
     /// The bytes of the input.
-    pub(crate) fn input(&self, alloc: Global) -> Result<Vec<u8>, AllocError> {
+    pub fn input(&self, alloc: Global) -> Result<Vec<u8>, AllocError> {
         let mut input = Vec::new(alloc);
         for said in &self.said {
             if let Said::Read(bytes) = said {
@@ -108,7 +108,7 @@ impl Row {
     }
 
     /// The text for those parts of the input that are whole in its first `count` bytes.
-    pub(crate) fn output(&self, alloc: Global, count: usize) -> Result<Vec<u8>, AllocError> {
+    pub fn output(&self, alloc: Global, count: usize) -> Result<Vec<u8>, AllocError> {
         let mut output = Vec::new(alloc);
         let mut left = count;
         for said in &self.said {
