@@ -1,5 +1,6 @@
 //! Moves of the list, all tried at once.
 
+ghost use Rattle.std.specs.Thread.{IsSync};
 ghost use Rattle.std.specs.Prelude.{◌≡◌, ℕ, ◌+◌, ◌*◌, ◌^◌, ◌<◌, ◌≤◌, length, None, All, slice_index_or};
 ghost use Rattle.transyt_moves.specs.Moves.{move, move_count};
 ghost use Rattle.transyt_sweep.specs.Sweeps.{index};
@@ -51,7 +52,64 @@ fn find_at_gate<G: Gate>(gate: &G, desk: &mut Desk, number: usize, reach: Reach)
     gate.leave(number as u32);
 }
 
+/// Tries the moves of a reach that come in turn to the desks after desk 0, all at once.
+fn find_others<R: Threads + Sync, G: Gate>(crew: &Crew<'_, R, G>, others: &mut [Desk], reach: Reach)
+    requires few { length others.old < 8 }
+    requires reach { IsReach reach }
+    requires moves { All (λ d. move_count d.session.net ≡ reach.count) others.old }
+    requires closed { All (λ d. d.session.before ≡ None) others.old }
+    ensures len { length others.new ≡ length others.old }
+    ensures found { (k : ℕ) (d : Desk) → k < length others.old
+        → HasFound reach (k + 1) (slice_index_or others.old k d) (slice_index_or others.new k d) }
+{
+    let gate = crew.gate;
+    thread::for_each_mut(
+        crew.rt,
+        others,
+        7,
+        &|i: usize, desk: &mut Desk|
+            requires { (i < 7) × IsReach reach × (move_count desk.old.session.net ≡ reach.count)
+                × (desk.old.session.before ≡ None) }
+        { find_at_gate(gate, desk, i + 1, reach) },
+    );
+}
+
+/// Tries the moves of a reach at desk 0 in this thread, and at the other desks in new ones, all at once.
+fn find_apart<R: Threads + Sync, G: Gate>(
+    crew: &Crew<'_, R, G>,
+    zero: &mut Desk,
+    others: &mut [Desk],
+    reach: Reach,
+)
+    requires few { length others.old < 8 }
+    requires reach { IsReach reach }
+    requires moves { All (λ d. move_count d.session.net ≡ reach.count) others.old }
+    requires closed { All (λ d. d.session.before ≡ None) others.old }
+    requires zero_moves { move_count zero.old.session.net ≡ reach.count }
+    requires zero_closed { zero.old.session.before ≡ None }
+    ensures zero { HasFound reach 0 zero.old zero.new }
+    ensures len { length others.new ≡ length others.old }
+    ensures found { (k : ℕ) (d : Desk) → k < length others.old
+        → HasFound reach (k + 1) (slice_index_or others.old k d) (slice_index_or others.new k d) }
+{
+    let mut there = ||
+        requires { IsSync R.row × IsSync G.row × (length others.now < 8) × IsReach reach
+            × All (λ d. move_count d.session.net ≡ reach.count) others.now × All (λ d. d.session.before ≡ None) others.now }
+        ensures { (length others.exit.now ≡ length others.entry.now) × ((k : ℕ) (d : Desk) → k < length others.entry.now
+            → HasFound reach (k + 1) (slice_index_or others.entry.now k d) (slice_index_or others.exit.now k d)) }
+    { find_others(crew, others, reach) };
+    let mut here = ||
+        requires { IsReach reach × (move_count zero.now.session.net ≡ reach.count) × (zero.now.session.before ≡ None) }
+        ensures { HasFound reach 0 zero.entry.now zero.exit.now }
+    { find_at_gate(crew.gate, zero, 0, reach) };
+    thread::join_mut(crew.rt, &mut there, &mut here);
+}
+
 /// Tries the moves of a reach, which come to the desks in turn, all at once.
+///
+/// Desk 0 tries its moves in this thread. One new thread is for the other desks, and makes the threads that they take. Two
+/// threads that two others make at the same moment mostly get the same idle processor, where one waits some 4 ms for its
+/// turn; up to four desks take no two such threads.
 fn find_all<R: Threads + Sync, G: Gate>(crew: &Crew<'_, R, G>, desks: &mut [Desk], reach: Reach)
     requires few { length desks.old ≤ 8 }
     requires reach { IsReach reach }
@@ -61,16 +119,15 @@ fn find_all<R: Threads + Sync, G: Gate>(crew: &Crew<'_, R, G>, desks: &mut [Desk
     ensures found { (k : ℕ) (d : Desk) → k < length desks.old
         → HasFound reach k (slice_index_or desks.old k d) (slice_index_or desks.new k d) }
 {
-    let gate = crew.gate;
-    thread::for_each_mut(
-        crew.rt,
-        desks,
-        8,
-        &|i: usize, desk: &mut Desk|
-            requires { (i < 8) × IsReach reach × (move_count desk.old.session.net ≡ reach.count)
-                × (desk.old.session.before ≡ None) }
-        { find_at_gate(gate, desk, i, reach) },
-    );
+    if desks.is_empty() {
+        return;
+    }
+    let (zero, others) = desks.split_at_mut(1);
+    if others.is_empty() {
+        find_at_gate(crew.gate, &mut zero[0], 0, reach);
+    } else {
+        find_apart(crew, &mut zero[0], others, reach);
+    }
 }
 
 /// Tries the moves of a reach at desks that stand for one network, all at once.
