@@ -12,7 +12,7 @@ use crate::trial::passes;
 use anyhow::{Context, Result};
 use std::io;
 use std::thread::Threads;
-use transyt_row_text::{Row, rows_of};
+use transyt_written_rows::{Row, rows_of};
 
 /// Runs all rows, and counts those that pass.
 fn tally_of<R: Threads + Sync + Print + Eprint + AllocGlobal>(

@@ -1,7 +1,7 @@
 //! The report of the rows.
 
 use std::{fmt, io, str};
-use transyt_row_text::Row;
+use transyt_written_rows::Row;
 
 /// How many rows passed and how many failed.
 #[derive(Drop)]

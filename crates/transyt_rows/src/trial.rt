@@ -11,8 +11,8 @@ use std::sync::ledger::{Blank, Ledger};
 use std::thread::Threads;
 use transyt::{Gate, OpenGate, Status, run_args, transyt};
 use transyt_io::{MemorySink, MemorySource, Sink, Source, SteadySource, TallySink};
-use transyt_row_text::{Ends, Failing, Pieces, Row};
 use transyt_steps::Steps;
+use transyt_written_rows::{Ends, Failing, Pieces, Row};
 
 /// One run of a row: its words and pieces, the numbers of the read and of the write that fail, or 0, and what is to be
 /// written.
