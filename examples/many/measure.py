@@ -78,8 +78,11 @@ table('CERT by steps of the cycle: 200 links, 900 places', 'steps',
 climbing = with_frame(town(64), sizes='1000000 1 8 20') + 'CLIMB\n'
 table('CLIMB until LOCAL by workers: 256 links', 'workers',
       [(w, *best(['run', str(w)], climbing)) for w in (1, 2, 4, 8)], plotted=0)
-outputs = {run(['run', str(w)], climbing).output for w in (1, 2, 4, 8)}
-print(f'different outputs among them: {len(outputs)}')
+certified = town(200) + CERT
+table('CERT by workers: 800 links, each of 3 sizes', 'workers',
+      [(w, *best(['run', str(w)], certified)) for w in (1, 2, 4, 8)], plotted=0)
+outputs = {run(['run', str(w)], deck).output for w in (1, 2, 4, 8) for deck in (climbing, certified)}
+print(f'different outputs among those of two decks: {len(outputs)}')
 
 # a deck at the limits: 1000 links, 120 steps, 8 sweeps
 numbers = range(1, 201)
