@@ -81,6 +81,8 @@ table('CLIMB until LOCAL by workers: 256 links', 'workers',
 certified = town(200) + CERT
 table('CERT by workers: 800 links, each of 3 sizes', 'workers',
       [(w, *best(['run', str(w)], certified)) for w in (1, 2, 4, 8)], plotted=0)
+table('starts: 30 climbs of 20 junctions, by workers', 'workers',
+      [(w, *best(['starts', str(w), '1', '30'], town(20))) for w in (1, 2, 4, 8)], plotted=0)
 outputs = {run(['run', str(w)], deck).output for w in (1, 2, 4, 8) for deck in (climbing, certified)}
 print(f'different outputs among those of two decks: {len(outputs)}')
 
