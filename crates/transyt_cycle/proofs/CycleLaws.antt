@@ -1,14 +1,6 @@
 -- Laws of steps round a cycle.
 use Rattle.std.proofs.Common.{◌≡◌, ℕ, zero, suc, ◌+◌, ◌-◌, ◌*◌, ◌/◌, ◌%◌, ◌<◌, ◌≤◌, ap, sym, ◌∙◌, arith}
-use Rattle.std.proofs.Math.Nat.{
-  mod-add-mod,
-  add-mul-mod_self_right,
-  mod-eq_of_lt,
-  mod-lt,
-  mod-add-div',
-  mod_self,
-  add-mod_right,
-}
+use Rattle.std.proofs.Math.Nat.{mod-add-mod, add-mul-mod_self_right, mod-eq_of_lt, mod-lt, mod-add-div', mod_self, add-mod_right}
 use Rattle.transyt_cycle.specs.Cycle.{minus_mod, step_before}
 
 -- a difference round the cycle is a step of it
@@ -50,6 +42,11 @@ minus_mod-above n a b positive after =
     let below : a % n - b % n < n = omega arith in
     sym (minus_mod-mod n a b) ∙ ap (λ k. k % n) turn ∙ add-mod_right (a % n - b % n) n ∙ mod-eq_of_lt below
 
+-- whole turns back lead to the same step
+pub minus_mod-turns : (n a b : ℕ) → a < n → b % n ≡ 0 → minus_mod n a b ≡ a
+minus_mod-turns n a b below whole =
+    minus_mod-above n a b (omega arith) (omega arith) ∙ omega (arith, mod-eq_of_lt below)
+
 -- where a comes first in its turn, the difference is what is left of the turn
 pub minus_mod-under : (n a b : ℕ) → 0 < n → a % n < b % n → minus_mod n a b ≡ n - (b % n - a % n)
 minus_mod-under n a b positive before =
@@ -72,13 +69,6 @@ pub step_before-then : (n i : ℕ) → i < n → (step_before n i + 1) % n ≡ i
 step_before-then n zero below = let turn : n - 1 + 1 ≡ n = omega arith in ap (λ k. k % n) turn ∙ mod_self n
 step_before-then n (suc i) below =
     let next : suc i ≡ i + 1 = omega arith in sym (ap (λ k. k % n) next) ∙ mod-eq_of_lt below
-
--- the step before is one step back
-pub step_before-is : (n i : ℕ) → i < n → step_before n i ≡ minus_mod n i 1
-step_before-is n i below =
-    let positive : 0 < n = omega arith in
-    turned_apart n (step_before n i) (minus_mod n i 1) 1 (step_before-lt n i below) (minus_mod-lt n i 1 positive)
-    (step_before-then n i below ∙ sym (minus_mod-add n i 1 positive ∙ mod-eq_of_lt below))
 
 -- a difference from the step before is one step less
 pub minus_mod-step_before : (n i m : ℕ) → i < n → minus_mod n (step_before n i) m ≡ minus_mod n i (m + 1)
