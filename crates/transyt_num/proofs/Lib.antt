@@ -1,5 +1,5 @@
 pub mod RootLaws
 pub mod NumberLaws
-mod Digits
+pub mod Digits
 pub mod ReciprocalLaws
 pub mod Worked

@@ -1,27 +1,6 @@
 -- Laws of numbers as text.
-use Rattle.std.proofs.Common.{
-  ◌≡◌,
-  ℕ,
-  ◌+◌,
-  ◌-◌,
-  ◌*◌,
-  ◌/◌,
-  ◌%◌,
-  ◌^◌,
-  ◌<◌,
-  ◌≤◌,
-  List,
-  [],
-  ◌∷◌,
-  ◌++◌,
-  length,
-  true,
-  Some,
-  sym,
-  ◌∙◌,
-  arith,
-  refl,
-}
+use Rattle.std.proofs.Common.{◌≡◌, ℕ, ◌+◌, ◌-◌, ◌*◌, ◌/◌, ◌%◌, ◌^◌, ◌<◌, ◌≤◌, List, [], ◌∷◌, ◌++◌, length, true, Some}
+use Rattle.std.proofs.Common.{◌∙◌, arith, refl}
 use Rattle.std.specs.Char.{is_ascii_digit}
 use Rattle.std.specs.Fmt.{decimal}
 use Rattle.std.specs.List.{list_all}
@@ -85,7 +64,3 @@ number_of-decimal n small =
     let text : IsShortest n (decimal n) = shortest_decimal n (omega arith) in
     let few : length (decimal n) ≤ 9 = length-decimal-le_wide 9 n (omega arith) (omega arith) (omega arith) in
     reads (decimal n) n text.some few text.digits text.value
-
--- no text is that of two numbers
-pub shortest_injective : (m n : ℕ) (text : List ℕ) → IsShortest m text → IsShortest n text → m ≡ n
-shortest_injective m n text first second = sym first.value ∙ second.value

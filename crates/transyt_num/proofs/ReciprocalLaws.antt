@@ -1,14 +1,7 @@
 -- Division by a product: the reciprocal of a divisor is the least number that times it reaches a power of two.
 use Rattle.std.proofs.Common.{◌≡◌, ℕ, ◌+◌, ◌-◌, ◌*◌, ◌/◌, ◌<◌, ◌≤◌, arith, sym}
-use Rattle.std.proofs.Math.Nat.{
-  div-eq_of_lt-le,
-  div-mul-le_self,
-  lt-div-mul-add,
-  mul-le-mul_left,
-  mul-le-mul_right,
-  lt_of_mul-lt-mul_right,
-  le_of_mul-le-mul_right,
-}
+use Rattle.std.proofs.Math.Nat.{div-eq_of_lt-le, div-mul-le_self, lt-div-mul-add, mul-le-mul_left, mul-le-mul_right}
+use Rattle.std.proofs.Math.Nat.{lt_of_mul-lt-mul_right, le_of_mul-le-mul_right}
 
 -- the number after the quotient of p by d reaches the number after p, times d
 pub reciprocal_least : (p d : ℕ) → 0 < d → p + 1 ≤ (p / d + 1) * d

@@ -1,28 +1,11 @@
 -- The digits that were written last to first are the shortest text of the value, and stand at the front.
-use Rattle.std.proofs.Common.{
-  ◌≡◌,
-  ℕ,
-  ◌+◌,
-  ◌-◌,
-  ◌^◌,
-  ◌<◌,
-  ◌≤◌,
-  List,
-  length,
-  drop,
-  set,
-  arith,
-  sym,
-  ap,
-  ◌∙◌,
-  refl,
-  subst,
-}
+use Rattle.std.proofs.Common.{◌≡◌, ℕ, ◌+◌, ◌-◌, ◌^◌, ◌<◌, ◌≤◌, List, [], length, drop, set, arith, sym, ap, ◌∙◌, refl}
+use Rattle.std.proofs.Common.{subst}
 use Rattle.std.proofs.lemmas.List.{append-nil, take_at, take_all, length-drop, length-set}
-use Rattle.std.proofs.lemmas.Fmt.{length-decimal-le_wide}
+use Rattle.std.proofs.lemmas.Fmt.{length-decimal-le_wide, decimal_step_wide, decimal_digit}
 use Rattle.std.proofs.lemmas.Grind.{common_steps}
 use Rattle.std.specs.Fmt.{decimal}
-use Rattle.transyt_num.proofs.Digits.{put_more, put_room, put_first}
+use Rattle.transyt_num.proofs.Digits.{put_digit}
 use Rattle.transyt_num.proofs.NumberLaws.{shortest_decimal, number_of-decimal}
 use Rattle.transyt_num.specs.Number.{number_of, IsShortest}
 use Rattle.transyt_num.proofs.writing.put_number.Goals as goal
@@ -42,21 +25,19 @@ loop-rest-init c = record {
 pub overflow_sub-start : goal.overflow_sub-start
 overflow_sub-start c =
     let at = c.loop-rest in
-    let fits : at.rest < 2 ^ 128 = omega (arith, at.auto.rest-fits) in
-    let room = put_room at.rest at.start c.loop-rest-test.true fits at.invariant.room in
-    omega arith
+    let step = decimal_step_wide at.rest c.loop-rest-test.true (omega (arith, at.auto.rest-fits)) in
+    let more = put_digit c.args.v at.rest at.start _ _ at.digits step at.invariant.text at.invariant.room (omega arith) in
+    omega (arith, more.0)
 
 -- one digit more stands
 pub loop-rest-preserved : goal.loop-rest-preserved
 loop-rest-preserved c =
     let at = c.loop-rest in
-    let wide = c.loop-rest-test.true in
-    let fits : at.rest < 2 ^ 128 = omega (arith, at.auto.rest-fits) in
-    let room = put_room at.rest at.start wide fits at.invariant.room in
+    let step = decimal_step_wide at.rest c.loop-rest-test.true (omega (arith, at.auto.rest-fits)) in
+    let more = put_digit c.args.v at.rest at.start _ _ at.digits step at.invariant.text at.invariant.room (omega arith) in
     record {
-      text =
-          put_more c.args.v at.rest at.start at.digits wide fits at.invariant.text at.invariant.room (omega arith);
-      room = omega arith;
+      text = more.1;
+      room = omega (arith, more.0);
       within = omega arith;
       len = length-set at.digits _ _ ∙ at.invariant.len;
     }
@@ -65,14 +46,16 @@ loop-rest-preserved c =
 pub overflow_sub-start-2 : goal.overflow_sub-start-2
 overflow_sub-start-2 c =
     let at = c.loop-rest in
-    (put_first c.args.v at.rest at.start at.digits (omega arith) at.invariant.text at.invariant.room (omega arith)).0
+    (put_digit c.args.v at.rest at.start _ [] at.digits (decimal_digit at.rest (omega arith)) at.invariant.text
+    at.invariant.room (omega arith)).0
 
 -- with it the whole text stands, from its place on
 written : (c : goal.After-copy_from_slice) → decimal c.args.v
     ≡ drop (c.loop-rest.start - 1) (set c.loop-rest.digits (c.loop-rest.start - 1) (48 + c.loop-rest.rest))
 written c =
     let at = c.loop-rest in
-    (put_first c.args.v at.rest at.start at.digits (omega arith) at.invariant.text at.invariant.room (omega arith)).1
+    (put_digit c.args.v at.rest at.start _ [] at.digits (decimal_digit at.rest (omega arith)) at.invariant.text
+    at.invariant.room (omega arith)).1
 
 -- what is copied to the front is the text
 pub returns-clause-text : goal.returns-clause-text
