@@ -4,7 +4,7 @@ use Rattle.std.proofs.Common.{ap, ◌∙◌, sym, arith}
 use Rattle.std.specs.List.{All}
 use Rattle.std.proofs.lemmas.List.{ext_get_or, get_or_default}
 use Rattle.std.proofs.lemmas.List.Sums.{sum_by-cons}
-use Rattle.std.proofs.lemmas.List.FromFn.{fill_by_all, get_or-map-range_with_len, length-map-range_with_len}
+use Rattle.std.proofs.lemmas.List.FromFn.{get_or-map-range_with_len, length-map-range_with_len}
 use Rattle.std.proofs.Math.Logic.{⊎_elim}
 use Rattle.std.proofs.lemmas.Bool.{cases_lt}
 use Rattle.transyt_profile.specs.Profile.{added, added_at, folded, folded_at}
@@ -25,15 +25,6 @@ length-folded n turns = length-map-range_with_len (folded_at n turns) 0 n
 pub get_or-folded : (n : ℕ) (turns : List ℕ) (i : ℕ) → i < n
     → get_or (folded n turns) i 0 ≡ get_or turns i 0 + get_or turns (n + i) 0
 get_or-folded n turns i inside = get_or-map-range_with_len (folded_at n turns) 0 n i i 0 inside (omega arith)
-
--- two turns to which a profile is added, step by step
-pub is_folded_added : (n : ℕ) (turns new x : List ℕ)
-    → ((k : ℕ) → k < n → get_or (folded n new) k 0 ≡ get_or (folded n turns) k 0 + get_or x k 0)
-    → folded n new ≡ added (folded n turns) x
-is_folded_added n turns new x sums =
-    let long : length (folded n turns) ≡ n = length-folded n turns in
-    fill_by_all (added_at (folded n turns) x) (folded n new) (length (folded n turns)) 0 (length-folded n new ∙ sym long)
-    (λ k h. sums k (omega (arith, h, long)))
 
 -- a limit on what stood goes up by the limit on what is added
 pub added_grows : (xs ys : List ℕ) (limit more : ℕ) → length ys ≡ length xs → All (λ v. v < limit) xs
@@ -58,16 +49,16 @@ folded_first n turns limit k within below =
 pub folded_each : (n : ℕ) (turns : List ℕ) (limit : ℕ) → All (λ v. v < limit) (folded n turns) → length turns ≡ 2 * n
     → All (λ v. v < limit) turns
 folded_each n turns limit within same k d h =
+    let at : n ≤ k → get_or turns (n + (k - n)) 0 ≡ get_or turns k 0 = λ after.
+    ap (λ m. get_or turns m 0) (omega (arith, after)) in
     ⊎_elim
-    (λ (before : k < n).
-    omega (arith, get_or_default turns k d 0 h, folded_first n turns limit k within before))
+    (λ (before : k < n). omega (arith, get_or_default turns k d 0 h, folded_first n turns limit k within before))
     (λ (after : n ≤ k).
-    let at : n + (k - n) ≡ k = omega (arith, after) in
     omega (
       arith,
       get_or_default turns k d 0 h,
       folded_first n turns limit (k - n) within (omega (arith, h, same, after)),
-      ap (λ m. get_or turns m 0) at,
+      at after,
     ))
     (cases_lt k n)
 

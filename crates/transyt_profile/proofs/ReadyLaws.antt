@@ -4,7 +4,8 @@ use Rattle.std.proofs.Common.{All, ap, max, sym, ◌∙◌, arith, get_or-set_sa
 use Rattle.std.specs.List.{Any}
 use Rattle.std.proofs.Math.Logic.{⊎_elim}
 use Rattle.std.proofs.lemmas.Bool.{cases_lt}
-use Rattle.std.proofs.lemmas.List.{get_or_default, take_all, get_or-map, length-map}
+use Rattle.std.proofs.lemmas.List.{take_all, get_or-map, length-map}
+use Rattle.std.proofs.lemmas.List.Elements.{All-from_get_or, All-map}
 use Rattle.std.proofs.lemmas.List.Sums.{sum-map}
 use Rattle.transyt_profile.specs.Profile.{share_of, shared}
 
@@ -42,14 +43,8 @@ others_more old lanes lane n r own before k m small other =
 -- what holds of each share holds of each value of the part that goes on
 pub all_shared : (part whole b : ℕ) (xs : List ℕ) → ((k : ℕ) → k < length xs → share_at part whole xs k < b)
     → All (λ v. v < b) (shared part whole xs)
-all_shared part whole b xs each k d h =
-    let below : k < length xs = omega (arith, h, length-map xs (share_of part whole)) in
-    omega (
-      arith,
-      get_or_default (shared part whole xs) k d 0 h,
-      get_or-map (share_of part whole) xs k 0 0 below,
-      each k below,
-    )
+all_shared part whole b xs each =
+    All-map (λ v. v < b) (share_of part whole) xs (All-from_get_or (λ v. share_of part whole v < b) xs 0 each)
 
 -- the sum over all steps
 pub sum_shared : (part whole n : ℕ) (xs : List ℕ) → length xs ≤ n

@@ -74,23 +74,8 @@ pub fn share_part(x: &[u64], part: &Part, out: &mut [u64])
     ensures value { out.new ≡ shared part.now.part part.now.whole x.now }
     ensures small { All (λ v. v < 2 ^ 44) out.new }
 {
-    if part.quick {
-        share_quick(x, part, out);
-    } else {
-        share_each(x, part.part, part.whole, out);
-    }
-}
-
-/// Shares each step with one product and no division.
-fn share_quick(x: &[u64], part: &Part, out: &mut [u64])
-    requires lengths { length x.now ≡ length out.old }
-    requires fit { All (λ v. v < 2 ^ 30) x.now }
-    requires quick { IsQuick part.now }
-    ensures value { out.new ≡ shared part.now.part part.now.whole x.now }
-    ensures small { All (λ v. v < 2 ^ 44) out.new }
-{
     for i in 0..out.len() {
-        out[i] = product(x[i], part);
+        out[i] = share_step(x[i], part);
     }
 }
 
@@ -117,19 +102,6 @@ pub(crate) fn product(value: u64, part: &Part) -> u64
     ensures small { result < 2 ^ 44 }
 {
     ((u128::from(value) * u128::from(part.factor)) >> 64) as u64
-}
-
-/// Shares each step with a division.
-fn share_each(x: &[u64], part: u32, whole: u32, out: &mut [u64])
-    requires lengths { length x.now ≡ length out.old }
-    requires fit { All (λ v. v < 2 ^ 30) x.now }
-    requires part_fits { part ≤ 9999 }
-    ensures value { out.new ≡ shared part whole x.now }
-    ensures small { All (λ v. v < 2 ^ 44) out.new }
-{
-    for step in 0..out.len() {
-        out[step] = share(x[step], part, whole);
-    }
 }
 
 /// The share of one step, by a division.

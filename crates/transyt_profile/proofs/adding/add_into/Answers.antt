@@ -11,16 +11,13 @@ returns-clause-value c =
     fill_by_all (added_at c.args.out.now c.args.x.now) c.loop-i.out (length c.args.out.now) 0 (omega arith)
     (λ k h. c.loop-i.invariant.summed k (omega arith))
 
--- each step is the sum of two values with a limit each
-pub returns-clause-small : goal.returns-clause-small
-returns-clause-small c = λ k d h.
-    let before : get_or c.args.out.now k 0 < 2 ^ 48 - 2 ^ 44 = c.requires.out_fit k 0 (omega arith) in
-    let more : get_or c.args.x.now k 0 < 2 ^ 44 = c.requires.fit k 0 (omega arith) in
-    omega (arith, get_or_default c.loop-i.out k d 0 h, c.loop-i.invariant.summed k (omega arith))
-
--- so a limit on what stood goes up by the limit on what is added
+-- a limit on what stood goes up by the limit on what is added
 pub returns-clause-grows : goal.returns-clause-grows
 returns-clause-grows c = λ limit within k d h.
     let before : get_or c.args.out.now k 0 < limit = within k 0 (omega arith) in
     let more : get_or c.args.x.now k 0 < 2 ^ 44 = c.requires.fit k 0 (omega arith) in
     omega (arith, get_or_default c.loop-i.out k d 0 h, c.loop-i.invariant.summed k (omega arith))
+
+-- so each step is below the sum of both limits
+pub returns-clause-small : goal.returns-clause-small
+returns-clause-small c = returns-clause-grows c (2 ^ 48 - 2 ^ 44) c.requires.out_fit

@@ -1,7 +1,8 @@
 -- Two turns to whose first a profile is added, folded.
-use Rattle.std.proofs.Common.{ℕ, ◌+◌, ◌-◌, ◌^◌, length, sym, arith}
-use Rattle.transyt_profile.specs.Profile.{folded}
-use Rattle.transyt_profile.proofs.AddedLaws.{length-folded, get_or-folded, is_folded_added, added_grows, folded_first}
+use Rattle.std.proofs.Common.{◌≡◌, ℕ, ◌+◌, ◌-◌, ◌^◌, length, sym, ◌∙◌, arith}
+use Rattle.std.proofs.lemmas.List.FromFn.{fill_by_all}
+use Rattle.transyt_profile.specs.Profile.{added_at, folded}
+use Rattle.transyt_profile.proofs.AddedLaws.{length-folded, get_or-folded, added_grows, folded_first}
 use Rattle.transyt_profile.proofs.adding.add_to_first.Goals as goal
 
 -- both values of a step come to less than 2^48
@@ -16,12 +17,15 @@ overflow_add-turns c =
 pub returns-clause-value : goal.returns-clause-value
 returns-clause-value c =
     let n : ℕ = length c.args.x.now in
-    is_folded_added n c.args.turns.now c.loop-i.turns c.args.x.now
+    let stood = folded n c.args.turns.now in
+    let long : length stood ≡ n = length-folded n c.args.turns.now in
+    fill_by_all (added_at stood c.args.x.now) (folded n c.loop-i.turns) (length stood) 0
+    (length-folded n c.loop-i.turns ∙ sym long)
     (λ k below.
     omega (
       arith,
-      get_or-folded n c.loop-i.turns k below,
-      get_or-folded n c.args.turns.now k below,
+      get_or-folded n c.loop-i.turns k (omega arith),
+      get_or-folded n c.args.turns.now k (omega arith),
       c.loop-i.invariant.summed k (omega arith),
       c.loop-i.invariant.rest (n + k) (omega arith),
     ))

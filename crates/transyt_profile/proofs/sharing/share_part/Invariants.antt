@@ -1,7 +1,7 @@
 -- A profile is shared step by step.
 use Rattle.std.proofs.Common.{◌≡◌, ℕ, ◌^◌, ◌<◌, get_or}
 use Rattle.transyt_profile.specs.Profile.{share_of}
-use Rattle.transyt_profile.proofs.sharing.share_quick.Given as goal
+use Rattle.transyt_profile.proofs.sharing.share_part.Given as goal
 
 -- the steps passed have their shares
 abbrev pub invariant-loop-i : goal.invariant-loop-i
