@@ -5,7 +5,7 @@ use Rattle.std.proofs.lemmas.List.{get_or_default}
 use Rattle.std.proofs.lemmas.List.Sums.{sum_by-cons}
 use Rattle.std.proofs.Math.Logic.{⊎_elim}
 use Rattle.std.proofs.Math.Nat.{mod-lt, mod-eq_of_lt}
-use Rattle.std.proofs.lemmas.Bool.{cases_lt}
+use Rattle.std.proofs.lemmas.Bool.{cases_eq, cases_lt}
 use Rattle.std.proofs.lemmas.Bool.Decides.{nat_tests}
 use Rattle.std.proofs.lemmas.List.FromFn.{get_or-map-range_with_len, length-map-range_with_len}
 use Rattle.transyt_cycle.specs.Cycle.{minus_mod}
@@ -17,31 +17,6 @@ use Rattle.transyt_platoon.proofs.Mixing.{smoothed-le}
 use Rattle.transyt_platoon.proofs.Turns.{length-sent}
 use Rattle.transyt_platoon.specs.declared.platoon.Platoon.{Platoon}
 
--- before the first place nothing has arrived
-pub none_before : (g : ℕ → ℕ) (first i j : ℕ) → j < first → arrived_by g first i j ≡ 0
-none_before g first i j before = grind (arith, nat_tests)
-
--- nor after the last
-pub none_after : (g : ℕ → ℕ) (first i j : ℕ) → first + i ≤ j → arrived_by g first i j ≡ 0
-none_after g first i j after = grind (arith, nat_tests)
-
--- between them each step has
-pub some_between : (g : ℕ → ℕ) (first i j : ℕ) → first ≤ j → j < first + i → arrived_by g first i j ≡ g (j - first)
-some_between g first i j after before = grind (arith, nat_tests)
-
--- before its first step nothing has
-pub none_yet : (g : ℕ → ℕ) (first j : ℕ) → arrived_by g first 0 j ≡ 0
-none_yet g first j =
-    ⊎_elim (λ before. none_before g first 0 j before) (λ after. none_after g first 0 j (omega (arith, after)))
-    (cases_lt j first)
-
--- one step more brings nothing to the places of those before
-same_under : (g : ℕ → ℕ) (first i j : ℕ) → j < first + i → arrived_by g first i j ≡ arrived_by g first (i + 1) j
-same_under g first i j under =
-    ⊎_elim (λ before. none_before g first i j before ∙ sym (none_before g first (i + 1) j before))
-    (λ after. some_between g first i j after under ∙ sym (some_between g first (i + 1) j after (omega (arith, under))))
-    (cases_lt j first)
-
 -- one step more, which is added where it arrives
 pub arrived_more : (g : ℕ → ℕ) (first i place : ℕ) (old new : List ℕ) → place ≡ first
     → get_or new (place + i) 0 ≡ get_or old (place + i) 0 + g i
@@ -49,37 +24,13 @@ pub arrived_more : (g : ℕ → ℕ) (first i place : ℕ) (old new : List ℕ) 
     → (j : ℕ) → get_or new j 0 + arrived_by g first i j ≡ get_or old j 0 + arrived_by g first (i + 1) j
 arrived_more g first i place old new same here others j =
     ⊎_elim
-    (λ (under : j < first + i).
-    omega (
-      arith,
-      others j (λ taken. omega (arith, under, taken, same)),
-      same_under g first i j under,
-    ))
-    (λ (over : first + i ≤ j).
-    ⊎_elim
-    (λ (past : first + i < j).
-    omega (
-      arith,
-      others j (λ taken. omega (arith, past, taken, same)),
-      none_after g first i j over,
-      none_after g first (i + 1) j (omega (arith, past)),
-    ))
-    (λ (there : j ≤ first + i).
-    let at : place + i ≡ j = omega (arith, over, there, same) in
-    let step : j - first ≡ i = omega (arith, over, there) in
-    omega (
-      arith,
-      ap (λ k. get_or new k 0) at,
-      ap (λ k. get_or old k 0) at,
-      here,
-      none_after g first i j over,
-      some_between g first (i + 1) j (omega (arith, over)) (omega (arith, there)) ∙ ap g step,
-    ))
-    (cases_lt (first + i) j))
-    (cases_lt j (first + i))
+    (λ (there : j ≡ place + i).
+    let step : place + i - first ≡ i = omega (arith, same) in rw there (grind (arith, nat_tests, here, ap g step)))
+    (λ (apart : j ≡ place + i → ⊥). grind (arith, nat_tests, others j apart))
+    (cases_eq j (place + i))
 
 -- with the whole turn past, both places of a step have what the step that t steps of travel lead to it brought
-pub arrived_whole : (g : ℕ → ℕ) (n t k : ℕ) → k < n
+arrived_whole : (g : ℕ → ℕ) (n t k : ℕ) → k < n
     → arrived_by g (t % n) n k + arrived_by g (t % n) n (n + k) ≡ g (minus_mod n k t)
 arrived_whole g n t k inside =
     let some : 0 < n = omega (arith, inside) in
@@ -87,25 +38,17 @@ arrived_whole g n t k inside =
     let own : k % n ≡ k = mod-eq_of_lt inside in
     ⊎_elim
     (λ (before : k < t % n).
-    let far : minus_mod n k t ≡ n - (t % n - k % n) = minus_mod-under n k t some (omega (arith, before, own)) in
-    let step : n + k - t % n ≡ minus_mod n k t = omega (arith, far, own, before, first) in
-    omega (
-      arith,
-      none_before g (t % n) n k before,
-      some_between g (t % n) n (n + k) (omega (arith, first)) (omega (arith, before)) ∙ ap g step,
-    ))
+    let step : n + k - t % n ≡ minus_mod n k t =
+    omega (arith, minus_mod-under n k t some (omega (arith, before, own)), own, before, first) in
+    grind (arith, nat_tests, ap g step))
     (λ (after : t % n ≤ k).
-    let near : minus_mod n k t ≡ k % n - t % n = minus_mod-above n k t some (omega (arith, after, own)) in
-    let step : k - t % n ≡ minus_mod n k t = omega (arith, near, own) in
-    omega (
-      arith,
-      some_between g (t % n) n k after (omega (arith, inside)) ∙ ap g step,
-      none_after g (t % n) n (n + k) (omega (arith, after)),
-    ))
+    let step : k - t % n ≡ minus_mod n k t =
+    omega (arith, minus_mod-above n k t some (omega (arith, after, own)), own) in
+    grind (arith, nat_tests, ap g step))
     (cases_lt k (t % n))
 
 -- with the whole turn past, it is what arrives
-pub arriving_at : (p : Platoon) (i k : ℕ) → i ≡ steps_of p → k < steps_of p
+arriving_at : (p : Platoon) (i k : ℕ) → i ≡ steps_of p → k < steps_of p
     → get_or (arriving p) k 0 ≡ arrived i k p + arrived i (steps_of p + k) p
 arriving_at p i k end inside =
     let t : ℕ = p.travel.now.time in
@@ -135,6 +78,10 @@ arriving_each n i k (p ∷ ps) same end inside =
     )
 
 -- before the first step nothing has arrived
+none_yet : (g : ℕ → ℕ) (first j : ℕ) → arrived_by g first 0 j ≡ 0
+none_yet g first j = grind (arith, nat_tests)
+
+-- so it is of some platoons
 pub none_arrived : (j : ℕ) (ps : List Platoon) → sum_by (arrived 0 j) ps ≡ 0
 none_arrived j [] = refl
 none_arrived j (p ∷ ps) =

@@ -1,46 +1,13 @@
 -- Laws of the dispersion: what one step mixes, the smoothed profile, and where its values stand.
-use Rattle.std.proofs.Common.{
-  ◌≡◌,
-  ℕ,
-  zero,
-  suc,
-  ◌+◌,
-  ◌-◌,
-  ◌*◌,
-  ◌/◌,
-  ◌%◌,
-  ◌<◌,
-  ◌≤◌,
-  List,
-  length,
-  get_or,
-  replicate,
-  refl,
-  ap,
-  sym,
-  ◌∙◌,
-  arith,
-  sum,
-  set,
-  ◌≢◌,
-  get_or-set_same,
-  get_or-set_other,
-  below_more,
-}
+use Rattle.std.proofs.Common.{◌≡◌, ◌≢◌, ℕ, zero, suc, ◌+◌, ◌-◌, ◌*◌, ◌/◌, ◌%◌, ◌<◌, ◌≤◌, List, length, get_or, set}
+use Rattle.std.proofs.Common.{replicate, sum, refl, ap, sym, ◌∙◌, arith, get_or-set_same, get_or-set_other, below_more}
 use Rattle.std.specs.List.{All}
 use Rattle.std.proofs.lemmas.List.{length-replicate, get_or-replicate, get_or_default}
 use Rattle.std.proofs.lemmas.List.Folds.{sum_by-replicate}
 use Rattle.std.proofs.lemmas.List.Sums.{sum_by-le}
 use Rattle.std.proofs.lemmas.List.FromFn.{fill_by_all}
-use Rattle.std.proofs.Math.Nat.{
-  mod-lt,
-  mod-eq_of_lt,
-  mod-add-mod,
-  add-mod_left,
-  mul-div_cancel_left,
-  mul-le-mul_left,
-  div-le_of_le-mul,
-}
+use Rattle.std.proofs.Math.Nat.{mod-lt, mod-eq_of_lt, mod-add-mod, add-mod_left, mul-div_cancel_left, mul-le-mul_left}
+use Rattle.std.proofs.Math.Nat.{div-le_of_le-mul}
 use Rattle.transyt_cycle.specs.Cycle.{minus_mod}
 use Rattle.transyt_cycle.proofs.CycleLaws.{minus_mod-lt, minus_mod-add, turned_apart}
 use Rattle.transyt_platoon.specs.Platoon.{mixed, smoothed, dispersed_at, dispersed}
@@ -66,29 +33,21 @@ pub smoothed_none : (xs : List ℕ) (w : ℕ) → smoothed xs w 0 ≡ sum xs / l
 unfolding smoothed
 smoothed_none xs w = refl
 
--- one step more of the smoothed profile mixes the step that sets out with what went by before
-pub smoothed_suc : (xs : List ℕ) (w j : ℕ)
-    → smoothed xs w (suc j) ≡ mixed w (get_or xs (j % length xs) 0) (smoothed xs w j)
+-- after step i of the first turn the smoothed profile mixes that step with its value before
+pub first_next : (xs : List ℕ) (w i : ℕ) → i < length xs
+    → smoothed xs w (i + 1) ≡ mixed w (get_or xs i 0) (smoothed xs w i)
 unfolding smoothed
-smoothed_suc xs w j = refl
-
--- what step i of the first turn mixes is the smoothed profile's next value
-pub first_more : (xs : List ℕ) (w i z r : ℕ) → i < length xs
-    → z ≡ smoothed xs w i → r ≡ mixed w (get_or xs i 0) z → r ≡ smoothed xs w (i + 1)
-first_more xs w i z r below before mix =
-    let one : i + 1 ≡ suc i = omega arith in
-    let place : i % length xs ≡ i = mod-eq_of_lt below in
-    let at = smoothed_suc xs w i in
-    rw (one, at, place, ← before) mix
+first_next xs w i below =
+    let one : i + 1 ≡ suc i = omega arith in let place : i % length xs ≡ i = mod-eq_of_lt below in rw (one, place)
 
 -- what step i of the second turn mixes is the smoothed profile's next value
 pub second_more : (xs : List ℕ) (w i z r : ℕ) → i < length xs
     → z ≡ smoothed xs w (length xs + i) → r ≡ mixed w (get_or xs i 0) z → r ≡ smoothed xs w (length xs + 1 + i)
+unfolding smoothed
 second_more xs w i z r below before mix =
     let one : length xs + 1 + i ≡ suc (length xs + i) = omega arith in
     let place : (length xs + i) % length xs ≡ i = add-mod_left (length xs) i ∙ mod-eq_of_lt below in
-    let at = smoothed_suc xs w (length xs + i) in
-    rw (one, at, place, ← before) mix
+    rw (one, place, ← before) mix
 
 -- no value is above the greatest of the profile
 pub smoothed-le : (xs : List ℕ) (w j m : ℕ) → 0 < length xs → All (λ v. v ≤ m) xs → smoothed xs w j ≤ m
@@ -99,15 +58,14 @@ smoothed-le xs w (suc j) m some within =
     mixed-le w (get_or xs (j % length xs) 0) (smoothed xs w j) m here (smoothed-le xs w j m some within)
 
 -- a profile that is the same at each step stays so
-pub smoothed_uniform : (n v w j : ℕ) → 0 < n → smoothed (replicate n v) w j ≡ v
+smoothed_uniform : (n v w j : ℕ) → 0 < n → smoothed (replicate n v) w j ≡ v
+unfolding smoothed
 smoothed_uniform n v w zero some =
-    let whole = sum_by-replicate (λ x. x) n v in
-    smoothed_none (replicate n v) w ∙ rw (whole, length-replicate) (mul-div_cancel_left v some)
+    let whole = sum_by-replicate (λ x. x) n v in rw (whole, length-replicate) (mul-div_cancel_left v some)
 smoothed_uniform n v w (suc j) some =
     let before = smoothed_uniform n v w j some in
-    let place : j % n < n = mod-lt j some in
-    let here = get_or-replicate n (j % n) v 0 place in
-    smoothed_suc (replicate n v) w j ∙ rw (length-replicate, before, here) (mixed_same w v)
+    let here = get_or-replicate n (j % n) v 0 (mod-lt j some) in
+    rw (length-replicate, before, here) (mixed_same w v)
 
 -- so a profile that is the same at each step arrives as it set out
 pub dispersed_uniform : (xs : List ℕ) (t k v : ℕ) → 0 < length xs → xs ≡ replicate (length xs) v → dispersed xs t k ≡ xs
@@ -160,21 +118,24 @@ placed_small xs ys t k b same placed small i d within =
       smoothed-le xs (k * t) j (b - 1) (omega arith) most,
     )
 
--- one step more placed; those before stand elsewhere
-pub placed_more : (xs ys : List ℕ) (t k n p r : ℕ) → n < length xs → length ys ≡ length xs
-    → p ≡ (n + t) % length xs → Placed xs ys t k n → r ≡ smoothed xs (k * t) (length xs + 1 + n)
-    → Placed xs (set ys p r) t k (n + 1)
-placed_more xs ys t k n p r below same place placed here =
-    let within : p < length ys = omega (arith, mod-lt (n + t) {m = length xs} (omega arith)) in
-    below_more _ _
-    (λ m before.
-    let apart : (m + t) % length xs ≢ p = λ taken.
-    let one : m ≡ n = turned_apart (length xs) m n t (omega arith) below (taken ∙ place) in omega arith in
-    rw get_or-set_other (placed m before))
-    (rw (← place, get_or-set_same) here)
-
--- the place after that of step n is that of step n + 1
-pub place_more : (l n t p r : ℕ) → p ≡ (n + t) % l → r ≡ (p + 1) % l → r ≡ (n + 1 + t) % l
-place_more l n t p r place next =
-    let turn : n + t + 1 ≡ n + 1 + t = omega arith in
-    next ∙ ap (λ k. (k + 1) % l) place ∙ mod-add-mod (n + t) l 1 ∙ ap (λ k. k % l) turn
+-- one step more of the second turn: what it mixes, the place after its own, and its value there
+pub step_placed : (xs ys : List ℕ) (t k i p z r next : ℕ) → i < length xs → length ys ≡ length xs
+    → z ≡ smoothed xs (k * t) (length xs + i) → p ≡ (i + t) % length xs → Placed xs ys t k i
+    → r ≡ mixed (k * t) (get_or xs i 0) z → next ≡ (p + 1) % length xs
+    → (r ≡ smoothed xs (k * t) (length xs + (i + 1))) × (next ≡ (i + 1 + t) % length xs)
+    × Placed xs (set ys p r) t k (i + 1)
+step_placed xs ys t k i p z r next below same before place placed mix after =
+    let here : r ≡ smoothed xs (k * t) (length xs + 1 + i) = second_more xs (k * t) i z r below before mix in
+    let within : p < length ys = omega (arith, mod-lt (i + t) {m = length xs} (omega arith)) in
+    let value : length xs + 1 + i ≡ length xs + (i + 1) = omega arith in
+    let turn : i + t + 1 ≡ i + 1 + t = omega arith in (
+      here ∙ ap (smoothed xs (k * t)) value,
+      after ∙ ap (λ n. (n + 1) % length xs) place ∙ mod-add-mod (i + t) (length xs) 1
+          ∙ ap (λ n. n % length xs) turn,
+      below_more _ _
+          (λ m passed.
+          let apart : (m + t) % length xs ≢ p = λ taken.
+          let one : m ≡ i = turned_apart (length xs) m i t (omega arith) below (taken ∙ place) in omega arith in
+          rw get_or-set_other (placed m passed))
+          (rw (← place, get_or-set_same) here),
+    )

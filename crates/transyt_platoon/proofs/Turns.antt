@@ -1,13 +1,13 @@
 -- A platoon that goes by twice, step by step.
-use Rattle.std.proofs.Common.{◌≡◌, ℕ, ◌+◌, ◌*◌, ◌/◌, ◌<◌, length, get_or, sum, ap, sym, ◌∙◌, arith}
+use Rattle.std.proofs.Common.{◌≡◌, ℕ, ◌+◌, ◌*◌, ◌/◌, ◌<◌, length, get_or, sum, ap, sym, subst, ◌∙◌, arith}
 use Rattle.std.proofs.lemmas.List.{length-map}
 use Rattle.transyt_profile.specs.Profile.{share_of}
 use Rattle.transyt_platoon.specs.Arriving.{sent}
-use Rattle.transyt_platoon.specs.Going.{gone_by, HasPassed, steps_of}
+use Rattle.transyt_platoon.specs.Going.{Fits, gone_by, HasPassed, steps_of}
 use Rattle.transyt_platoon.specs.Platoon.{mixed}
 use Rattle.transyt_platoon.specs.declared.going.Going.{Going}
 use Rattle.transyt_platoon.specs.declared.platoon.Platoon.{Platoon}
-use Rattle.transyt_platoon.proofs.Mixing.{smoothed_none, first_more, second_more}
+use Rattle.transyt_platoon.proofs.Mixing.{smoothed_none, first_next, second_more}
 
 -- as many steps set out as leave
 pub length-sent : (p : Platoon) → length (sent p) ≡ steps_of p
@@ -26,8 +26,9 @@ weighed p x z r mix = mix ∙ ap (λ w. mixed w x z) p.is_travel.weight
 pub first_gone : (p : Platoon) (i z r : ℕ) → i < steps_of p
     → z ≡ gone_by p i → r ≡ mixed p.travel.now.weight (get_or (sent p) i 0) z → r ≡ gone_by p (i + 1)
 first_gone p i z r below before mix =
-    first_more (sent p) (p.travel.now.percent * p.travel.now.time) i z r (omega (arith, below, length-sent p)) before
-    (weighed p (get_or (sent p) i 0) z r mix)
+    let w : ℕ = p.travel.now.percent * p.travel.now.time in
+    weighed p (get_or (sent p) i 0) z r mix ∙ ap (mixed w (get_or (sent p) i 0)) before
+    ∙ sym (first_next (sent p) w i (omega (arith, below, length-sent p)))
 
 -- one step of the second turn
 pub second_gone : (p : Platoon) (i z r : ℕ) → i < steps_of p
@@ -41,10 +42,8 @@ second_gone p i z r below before mix =
 
 -- what went by after as many steps
 pub passed_at : (p : Platoon) (i j : ℕ) (g : Going) → i ≡ j → HasPassed p i g → HasPassed p j g
-passed_at p i j g same passed = record {
-  value = passed.value ∙ ap (gone_by p) same;
-  small = passed.small;
-  factor = passed.factor;
-  place = passed.place;
-  fits = passed.fits;
-}
+passed_at p i j g same passed = subst (λ (k : ℕ). HasPassed p k g) same passed
+
+-- what sets out at a step is below the limit
+pub sent_fits : (p : Platoon) (i : ℕ) → Fits p → i < steps_of p → get_or (sent p) i 0 < p.travel.now.limit
+sent_fits p i fits below = fits i 0 (omega (arith, below, length-sent p))

@@ -2,7 +2,7 @@
 
 ghost use Rattle.std.specs.Prelude.{◌≡◌, ℕ, ◌+◌, ◌-◌, ◌*◌, ◌/◌, ◌%◌, ◌^◌, ◌<◌, ◌≤◌, length, replicate, slice_index, sum, All};
 ghost use Rattle.transyt_platoon.specs.Platoon.{mixed, smoothed, dispersed};
-ghost use Rattle.transyt_platoon.specs.Turns.{IsSecondTurn};
+ghost use Rattle.transyt_platoon.specs.Turns.{Placed};
 
 use crate::quick::{most_of, travel_by};
 use transyt_profile::total;
@@ -61,7 +61,8 @@ pub(crate) struct Journey<'a> {
 fn go_round(journey: &Journey<'_>, whole: u64, out: &mut [u64])
     requires lengths { length journey.now.profile.now ≡ length out.old }
     requires whole { whole ≡ sum journey.now.profile.now }
-    ensures { IsSecondTurn journey.now.profile.now journey.now.time journey.now.percent out.new }
+    ensures { Placed journey.now.profile.now out.new journey.now.time journey.now.percent
+        (length journey.now.profile.now) }
 {
     let most = most_of(u64::from(journey.percent) * u64::from(journey.time));
     if whole < most && 0 < journey.percent && 0 < journey.time {
@@ -72,9 +73,11 @@ fn go_round(journey: &Journey<'_>, whole: u64, out: &mut [u64])
 }
 
 /// Twice round the cycle with a division in each step: the second turn is written.
+#[tactic(auto, using(crate::proofs::Mixing::first_next, crate::proofs::Mixing::smoothed_none))]
 fn travel(journey: &Journey<'_>, out: &mut [u64])
     requires lengths { length journey.now.profile.now ≡ length out.old }
-    ensures { IsSecondTurn journey.now.profile.now journey.now.time journey.now.percent out.new }
+    ensures { Placed journey.now.profile.now out.new journey.now.time journey.now.percent
+        (length journey.now.profile.now) }
 {
     let x = journey.profile;
     let weight = u64::from(journey.percent) * u64::from(journey.time);

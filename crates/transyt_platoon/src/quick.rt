@@ -2,7 +2,7 @@
 
 ghost use Rattle.std.specs.Prelude.{◌≡◌, ℕ, ◌+◌, ◌*◌, ◌/◌, ◌%◌, ◌^◌, ◌<◌, ◌≤◌, length, slice_index, sum};
 ghost use Rattle.transyt_platoon.specs.Platoon.{mixed};
-ghost use Rattle.transyt_platoon.specs.Turns.{IsSecondTurn};
+ghost use Rattle.transyt_platoon.specs.Turns.{Placed};
 
 use crate::dispersion::{Journey, after};
 use transyt_num::reciprocal;
@@ -77,6 +77,7 @@ impl Mixer {
 }
 
 /// Twice round the cycle by products, where the sum of the profile is below `most`: the second turn is written.
+#[tactic(auto, using(crate::proofs::Mixing::first_next, crate::proofs::Mixing::smoothed_none))]
 pub(crate) fn travel_by(journey: &Journey<'_>, most: u64, out: &mut [u64])
     requires lengths { length journey.now.profile.now ≡ length out.old }
     requires fit { sum journey.now.profile.now < most }
@@ -85,7 +86,8 @@ pub(crate) fn travel_by(journey: &Journey<'_>, most: u64, out: &mut [u64])
     requires most_fits { most < 2 ^ 44 }
     requires some_travel { 0 < journey.now.time }
     requires some_percent { 0 < journey.now.percent }
-    ensures { IsSecondTurn journey.now.profile.now journey.now.time journey.now.percent out.new }
+    ensures { Placed journey.now.profile.now out.new journey.now.time journey.now.percent
+        (length journey.now.profile.now) }
 {
     let x = journey.profile;
     let mixer = Mixer::new(u64::from(journey.percent) * u64::from(journey.time), most);

@@ -1,15 +1,9 @@
 -- One platoon more stands before its first step.
 use Rattle.std.proofs.Common.{◌∙◌, arith}
-use Rattle.std.proofs.lemmas.List.{length-replicate, length-set}
+use Rattle.std.proofs.lemmas.List.{length-set}
 use Rattle.transyt_platoon.specs.Going.{HasPassed}
 use Rattle.transyt_platoon.proofs.Lanes.{go_more}
 use Rattle.transyt_platoon.proofs.abreast.begin_each.Goals as goal
-
-pub loop-lane-init : goal.loop-lane-init
-loop-lane-init g c = record {
-  len = length-replicate g.row.N _;
-  begun = λ i d e inside below. absurd (omega (arith, below));
-}
 
 pub loop-lane-preserved : goal.loop-lane-preserved
 loop-lane-preserved g c = record {

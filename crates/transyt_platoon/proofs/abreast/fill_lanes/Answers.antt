@@ -6,13 +6,6 @@ use Rattle.transyt_platoon.specs.declared.platoon.Platoon.{Platoon}
 use Rattle.transyt_platoon.proofs.Lanes.{first_more, lane_kept, lane_ready}
 use Rattle.transyt_platoon.proofs.abreast.fill_lanes.Goals as goal
 
-pub loop-lane-init : goal.loop-lane-init
-loop-lane-init c = record {
-  fit = λ i d inside below. absurd (omega (arith, below));
-  ready = λ i d inside below. absurd (omega (arith, below));
-  totals = λ i d inside below. absurd (omega (arith, below));
-}
-
 -- this platoon has a value that does not fit
 pub returns-in-None-clause-refused : goal.returns-in-None-clause-refused
 returns-in-None-clause-refused c = λ no.
@@ -44,14 +37,3 @@ loop-lane-preserved c =
           (λ i d inside below. get_or-set_other c.loop-lane.totals k i c.in-Some.total 0 (λ same. omega (arith, same, below))
           ∙ c.loop-lane.invariant.totals i d inside below);
     }
-
-pub returns-clause-ready : goal.returns-clause-ready
-returns-clause-ready c = λ yes. record {
-  same = c.requires.same;
-  fit = λ i d inside. c.loop-lane.invariant.fit i d inside (omega (arith, inside, c.loop-lane-test.false));
-  ready = λ i d inside. c.loop-lane.invariant.ready i d inside (omega (arith, inside, c.loop-lane-test.false));
-}
-
-pub returns-clause-totals : goal.returns-clause-totals
-returns-clause-totals c = λ yes i d inside.
-    c.loop-lane.invariant.totals i d inside (omega (arith, inside, c.loop-lane-test.false))

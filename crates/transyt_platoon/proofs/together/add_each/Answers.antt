@@ -9,12 +9,6 @@ use Rattle.transyt_platoon.proofs.Arrived.{arriving_each, arriving_small, length
 use Rattle.transyt_platoon.proofs.Turns.{passed_at}
 use Rattle.transyt_platoon.proofs.together.add_each.Goals as goal
 
-pub first-init : goal.first-init
-first-init g c = c.begin_each-goings.ensures
-
-pub first-preserved : goal.first-preserved
-first-preserved g c = c.pass_each.ensures
-
 -- with the first turn past, nothing has arrived yet
 pub second-init : goal.second-init
 second-init g c = record {
@@ -22,11 +16,6 @@ second-init g c = record {
   sums = λ j. omega (arith, none_arrived j c.args.abreast.now.platoons.now);
   grows = λ limit within j d h. omega (arith, within j d h);
 }
-
-pub pass_each-requires : goal.pass_each-requires
-pass_each-requires g c =
-    let few : g.row.N * 24 < 2 ^ 63 = omega (arith, c.requires.count, c.args.abreast.now.few) in
-    (few, (c.requires.count, (c.first-test.true, c.first.invariant)))
 
 -- no place holds more than stood there and four platoons for each step
 pub arrive_each-requires : goal.arrive_each-requires

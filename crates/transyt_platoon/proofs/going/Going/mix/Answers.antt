@@ -3,7 +3,7 @@ use Rattle.std.proofs.Common.{ℕ, ◌-◌, ◌*◌, ◌<◌, get_or, ap, arith}
 use Rattle.transyt_platoon.specs.Arriving.{sent}
 use Rattle.transyt_platoon.proofs.Parts.{mixed_by, travel_sum}
 use Rattle.transyt_platoon.proofs.Mixing.{mixed-le}
-use Rattle.transyt_platoon.proofs.Turns.{length-sent}
+use Rattle.transyt_platoon.proofs.Turns.{sent_fits}
 use Rattle.transyt_platoon.proofs.going.Going.mix.Goals as goal
 
 -- what is divided by 2^40 fits
@@ -11,25 +11,21 @@ pub overflow_mul-result : goal.overflow_mul-result
 overflow_mul-result c =
     let p = c.args.platoon.now in
     let r = c.requires in
-    let x : ℕ = get_or (sent p) c.args.step 0 in
-    let x_fits : x < p.travel.now.limit = r.fits c.args.step 0 (omega (arith, r.step, length-sent p)) in
     omega (
       arith,
       ap (λ f. c.args.self.now.value * f) r.factor,
-      travel_sum _ p.travel.now x c.args.self.now.value p.is_travel x_fits r.before,
+      travel_sum _ p.travel.now _ c.args.self.now.value p.is_travel (sent_fits p c.args.step r.fits r.step) r.before,
     )
 
 pub overflow_add-result : goal.overflow_add-result
 overflow_add-result c =
     let p = c.args.platoon.now in
     let r = c.requires in
-    let x : ℕ = get_or (sent p) c.args.step 0 in
-    let x_fits : x < p.travel.now.limit = r.fits c.args.step 0 (omega (arith, r.step, length-sent p)) in
     omega (
       arith,
       r.product,
       ap (λ f. c.args.self.now.value * f) r.factor,
-      travel_sum _ p.travel.now x c.args.self.now.value p.is_travel x_fits r.before,
+      travel_sum _ p.travel.now _ c.args.self.now.value p.is_travel (sent_fits p c.args.step r.fits r.step) r.before,
     )
 
 -- by the law of the reciprocal
@@ -39,22 +35,18 @@ returns-clause-value c =
     let r = c.requires in
     let is = p.is_travel in
     let travel = p.travel.now in
-    let x : ℕ = get_or (sent p) c.args.step 0 in
-    let x_fits : x < travel.limit = r.fits c.args.step 0 (omega (arith, r.step, length-sent p)) in
     rw (r.product, r.factor, is.starting_factor, is.before_factor)
-    (mixed_by travel.weight travel.reciprocal x c.args.self.now.value travel.limit 1099511627776 is.least is.close
-    is.room x_fits r.before)
+    (mixed_by travel.weight travel.reciprocal _ c.args.self.now.value travel.limit 1099511627776 is.least is.close
+    is.room (sent_fits p c.args.step r.fits r.step) r.before)
 
 -- a mean of numbers below a limit
 pub returns-clause-small : goal.returns-clause-small
 returns-clause-small c =
     let p = c.args.platoon.now in
-    let r = c.requires in
-    let travel = p.travel.now in
     let x : ℕ = get_or (sent p) c.args.step 0 in
-    let x_fits : x < travel.limit = r.fits c.args.step 0 (omega (arith, r.step, length-sent p)) in
+    let x_fits : x < p.travel.now.limit = sent_fits p c.args.step c.requires.fits c.requires.step in
     omega (
       arith,
       returns-clause-value c,
-      mixed-le travel.weight x c.args.self.now.value (travel.limit - 1) (omega (arith, x_fits)) (omega arith),
+      mixed-le p.travel.now.weight x c.args.self.now.value (p.travel.now.limit - 1) (omega arith) (omega arith),
     )
