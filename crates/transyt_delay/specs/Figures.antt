@@ -45,16 +45,11 @@ random_of terms = random_delay (in_period terms.frame terms.arrivals) (in_period
 abbrev pub stops_of : Terms → ℕ
 stops_of terms = terms.stopped / terms.frame.cycle
 
--- the index of a link from its terms
-abbrev pub link_index : Terms → ℕ
-link_index terms =
-    index_of (uniform_of terms) (random_of terms) (stops_of terms) terms.frame.stop_penalty terms.weights
-
 -- the figures of a link from its terms
 abbrev pub figures : Terms → Figures
 figures terms = record {
   uniform = uniform_of terms;
   random = random_of terms;
   stops = stops_of terms;
-  index = link_index terms;
+  index = index_of (uniform_of terms) (random_of terms) (stops_of terms) terms.frame.stop_penalty terms.weights;
 }

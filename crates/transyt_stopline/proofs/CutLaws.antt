@@ -1,27 +1,28 @@
 -- Sums of scaled lists.
-use Rattle.std.proofs.Common.{◌≡◌, ℕ, zero, suc, ◌*◌, ◌/◌, ◌^◌, ◌<◌, ◌≤◌, List, [], ◌∷◌, length, get_or, ap, arith, sum, map, inl, inr}
+use Rattle.std.proofs.Common.{◌≡◌, ℕ, zero, suc, ◌*◌, ◌^◌, ◌<◌, ◌≤◌, List, [], ◌∷◌, length, get_or, ap, arith, sum, map}
 use Rattle.std.specs.List.{All}
-use Rattle.std.proofs.lemmas.Bool.{cases_lt}
 use Rattle.std.proofs.lemmas.Bool.Decides.{nat_tests}
 use Rattle.std.proofs.lemmas.List.Elements.{All-from_get_or}
-use Rattle.std.proofs.lemmas.List.Sums.{sum_by-cons}
+use Rattle.std.proofs.lemmas.List.Sums.{sum_by-cons, get_or-le-sum_by}
 use Rattle.std.proofs.Math.Nat.{mul-le-mul_left, div-le_of_le-mul, le_of_mul-le-mul_right, div-mul-le_self}
 use Rattle.std.proofs.lemmas.Nat.{mul-lt}
 use Rattle.std.proofs.lemmas.List.{length-map}
 use Rattle.transyt_stopline.specs.Cut.{scaled, arrivals_of}
 
 -- a part of a value is at most the value
-pub scaled-le : (a b value : ℕ) → b ≤ a → scaled a b value ≤ value
-scaled-le a b value part = div-le_of_le-mul a (omega (arith, mul-le-mul_left value part))
+pub scaled_part : (a b value : ℕ) → b ≤ a → scaled a b value ≤ value
+scaled_part a b value part = div-le_of_le-mul a (omega (arith, mul-le-mul_left value part))
+
+-- one step is at most the sum
+pub step_within : (xs : List ℕ) (i : ℕ) → i < length xs → get_or xs i 0 ≤ sum xs
+step_within xs i below = get_or-le-sum_by (λ x. x) xs i 0 below
 
 -- rounding down loses: the scaled sum times a is at most the sum times b
-pub scaled_sum : (a b : ℕ) (xs : List ℕ) → sum (map (scaled a b) xs) * a ≤ sum xs * b
+scaled_sum : (a b : ℕ) (xs : List ℕ) → sum (map (scaled a b) xs) * a ≤ sum xs * b
 scaled_sum a b [] = omega arith
 scaled_sum a b (x ∷ xs) =
     omega (
       arith,
-      sum_by-cons (λ x. x) x xs,
-      sum_by-cons (λ x. x) (scaled a b x) (map (scaled a b) xs),
       scaled_sum a b xs,
       div-mul-le_self (x * b) a,
       ap (λ n. n * a) (sum_by-cons (λ x. x) (scaled a b x) (map (scaled a b) xs)),
@@ -37,39 +38,23 @@ pub product_fits : (value served come : ℕ) → value ≤ come → served < com
 product_fits value served come part less fits =
     omega (arith, mul-lt value served (2 ^ 32) (2 ^ 32) (omega arith) (omega arith))
 
--- what is scaled down is no more than it was
-pub scaled_part : (a b value : ℕ) → b < a → value * b / a ≤ value
-scaled_part a b value less = scaled-le a b value (omega arith)
-
 -- at each step what is scaled down is no more than it was
-pub scaled_no_more : (a b : ℕ) (xs : List ℕ) (i : ℕ) → b ≤ a → get_or (map (scaled a b) xs) i 0 ≤ get_or xs i 0
+scaled_no_more : (a b : ℕ) (xs : List ℕ) (i : ℕ) → b ≤ a → get_or (map (scaled a b) xs) i 0 ≤ get_or xs i 0
 scaled_no_more a b [] i part = omega arith
-scaled_no_more a b (x ∷ xs) zero part = scaled-le a b x part
+scaled_no_more a b (x ∷ xs) zero part = scaled_part a b x part
 scaled_no_more a b (x ∷ xs) (suc i) part = scaled_no_more a b xs i part
 
 -- the arrivals after the cut sum to no more than GO
 pub arrivals_total : (xs go : List ℕ) → sum (arrivals_of xs go) ≤ sum go
-arrivals_total xs go =
-    elim (cases_lt (sum go) (sum xs)) as (λ w. sum (arrivals_of xs go) ≤ sum go) [
-      | inl more ↦ grind (arith, nat_tests, scaled_total (sum go) xs more)
-      | inr less ↦ grind (arith, nat_tests)
-    ]
+arrivals_total xs go = grind (arith, nat_tests, scaled_total (sum go) xs)
 
 -- at each step no more reaches it than comes
 pub arrivals_no_more : (xs go : List ℕ) (i : ℕ) → get_or (arrivals_of xs go) i 0 ≤ get_or xs i 0
-arrivals_no_more xs go i =
-    elim (cases_lt (sum go) (sum xs)) as (λ w. get_or (arrivals_of xs go) i 0 ≤ get_or xs i 0) [
-      | inl more ↦ grind (arith, nat_tests, scaled_no_more (sum xs) (sum go) xs i (omega arith))
-      | inr less ↦ grind (arith, nat_tests)
-    ]
+arrivals_no_more xs go i = grind (arith, nat_tests, scaled_no_more (sum xs) (sum go) xs i)
 
 -- it has a value for each step of what comes
 arrivals_length : (xs go : List ℕ) → length (arrivals_of xs go) ≡ length xs
-arrivals_length xs go =
-    elim (cases_lt (sum go) (sum xs)) as (λ w. length (arrivals_of xs go) ≡ length xs) [
-      | inl more ↦ grind (arith, nat_tests, length-map xs (scaled (sum xs) (sum go)))
-      | inr less ↦ grind (arith, nat_tests)
-    ]
+arrivals_length xs go = grind (arith, nat_tests, length-map xs (scaled (sum xs) (sum go)))
 
 -- so it stays within each limit
 pub arrivals_small : (limit : ℕ) (xs go : List ℕ) → All (λ v. v < limit) xs → All (λ v. v < limit) (arrivals_of xs go)

@@ -1,9 +1,11 @@
--- The worked cycles, computed from the definitions; and that a queue is one number.
-use Rattle.std.proofs.Common.{◌≡◌, ◌≤◌, ℕ, List, map, refl, inl, inr, arith}
+-- The worked cycles and queues, computed from the definitions; and that a queue is one number.
+use Rattle.std.proofs.Common.{◌≡◌, ◌≤◌, ℕ, zero, suc, List, [], ◌∷◌, All, map, refl, inl, inr, arith}
 use Rattle.transyt_stopline.specs.LastSteps.{sum_back, greatest}
 use Rattle.transyt_stopline.specs.Queue.{IsQueue, queues, outs}
 use Rattle.transyt_stopline.specs.Stops.{stopped_of}
 use Rattle.transyt_stopline.specs.WorkedCycles.{crowd, green, worked_queues, worked_sums}
+use Rattle.transyt_stopline.specs.WorkedQueues.{queues_by_facts}
+use Rattle.transyt_stopline.proofs.Covering.{queue_is}
 
 -- each sum over the last steps is as it is written
 pub sums : map (λ row. sum_back crowd row.0.0 row.0.1) worked_sums ≡ map (λ row. row.1) worked_sums
@@ -29,5 +31,15 @@ least_queue arrivals go i queue other is is_other =
 pub only_queue : (arrivals go : List ℕ) (i queue other : ℕ) → IsQueue arrivals go i queue
     → IsQueue arrivals go i other → queue ≡ other
 only_queue arrivals go i queue other is is_other =
-    let low = least_queue arrivals go i queue other is is_other in
-    let high = least_queue arrivals go i other queue is_other is in omega (arith, low, high)
+    omega (
+      arith,
+      least_queue arrivals go i queue other is is_other,
+      least_queue arrivals go i other queue is_other is,
+    )
+
+-- the facts are true of both worked queues, since the definition computes them
+pub facts : All (λ row. IsQueue row.0 row.1 0 row.2) queues_by_facts
+unfolding sum_back greatest
+facts zero d low = queue_is (7 ∷ 1 ∷ 2 ∷ []) (3 ∷ 4 ∷ 5 ∷ []) 0 refl (omega arith)
+facts (suc zero) d low = queue_is (1 ∷ 2 ∷ 4 ∷ []) (1 ∷ 1 ∷ 1 ∷ []) 0 refl (omega arith)
+facts (suc (suc k)) d low = absurd (omega (arith, low))

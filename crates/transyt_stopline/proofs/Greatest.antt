@@ -1,5 +1,5 @@
 -- The greatest of a function's values.
-use Rattle.std.proofs.Common.{◌≡◌, ℕ, zero, suc, ◌+◌, ◌-◌, ◌<◌, ◌≤◌, ◌⊎◌, ◌∙◌, max, ap, arith, refl, inl, inr}
+use Rattle.std.proofs.Common.{◌≡◌, ℕ, zero, suc, ◌+◌, ◌-◌, ◌<◌, ◌≤◌, ◌⊎◌, max, arith, refl, inl, inr}
 use Rattle.std.proofs.lemmas.Bool.{cases_lt}
 use Rattle.transyt_stopline.specs.LastSteps.{greatest}
 
@@ -33,24 +33,24 @@ greatest-le f limit (suc n) within =
     omega (arith, greatest-le f limit n (λ m most. within m (omega arith)), within (suc n) (omega arith))
 
 -- where a whole turn more never is above, the greatest of a turn is the greatest of a turn and one step
-pub greatest_turn : (f : ℕ → ℕ) (n : ℕ) → 0 < n → f (n + 1) ≤ f 1 → greatest f (suc n) ≡ greatest f n
+pub greatest_turn : (f : ℕ → ℕ) (n : ℕ) → 0 < n → f (suc n) ≤ f 1 → greatest f (suc n) ≡ greatest f n
 unfolding greatest
-greatest_turn f n positive less =
-    let next : n + 1 ≡ suc n = omega arith in omega (arith, le_greatest f 1 n (omega arith) positive, ap f next)
+greatest_turn f n positive less = omega (arith, le_greatest f 1 n (omega arith) positive)
 
--- a number is 0 or one of f 1 .. f n
-abbrev pub IsNoneOrValue : (ℕ → ℕ) → ℕ → ℕ → Type 0
-IsNoneOrValue f n number = (number ≡ 0) ⊎ ((m : ℕ) × (0 < m) × (m ≤ n) × (number ≡ f m))
+-- a number is 0, or with one of g 1 .. g n it is that of a
+abbrev pub IsNoneOrExcess : (a g : ℕ → ℕ) (n number : ℕ) → Type 0
+IsNoneOrExcess a g n number = (number ≡ 0) ⊎ ((m : ℕ) × (0 < m) × (m ≤ n) × (number + g m ≡ a m))
 
--- the greatest of 0 and f 1 .. f n is 0 or one of them
-pub greatest_is : (f : ℕ → ℕ) (n : ℕ) → IsNoneOrValue f n (greatest f n)
+-- so is the greatest excess
+pub greatest_is : (a g : ℕ → ℕ) (n : ℕ) → IsNoneOrExcess a g n (greatest (λ m. a m - g m) n)
 unfolding greatest
-greatest_is f zero = inl refl
-greatest_is f (suc n) =
-    elim (cases_lt (f (suc n)) (greatest f n)) as (λ w. IsNoneOrValue f (suc n) (max (greatest f n) (f (suc n)))) [
-      | inl under ↦
-          let same : max (greatest f n) (f (suc n)) ≡ greatest f n = omega arith in
-          elim (greatest_is f n) as (λ w. IsNoneOrValue f (suc n) (max (greatest f n) (f (suc n))))
-          [ inl none ↦ inl (same ∙ none) | inr some ↦ inr (some.0, some.1, omega arith, same ∙ some.3) ]
-      | inr last ↦ inr (suc n, omega arith, omega arith, omega arith)
+greatest_is a g zero = inl refl
+greatest_is a g (suc n) =
+    let before : ℕ = greatest (λ m. a m - g m) n in
+    let Claim : Type 0 = IsNoneOrExcess a g (suc n) (max before (a (suc n) - g (suc n))) in
+    elim (cases_lt before (a (suc n) - g (suc n))) as (λ w. Claim) [
+      | inl more ↦ inr (suc n, omega arith, omega arith, omega arith)
+      | inr less ↦
+          elim (greatest_is a g n) as (λ w. Claim)
+          [ inl none ↦ inl (omega arith) | inr some ↦ let is = some.3 in inr (some.0, some.1, omega arith, omega arith) ]
     ]

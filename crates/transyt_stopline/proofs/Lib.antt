@@ -4,6 +4,4 @@ pub mod QueueLaws
 pub mod Covering
 pub mod QueueBounds
 pub mod CutLaws
-pub mod StopsLaws
 pub mod Examples
-pub mod WorkedQueues

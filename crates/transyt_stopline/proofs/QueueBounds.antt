@@ -7,17 +7,13 @@ use Rattle.transyt_stopline.specs.Queue.{queue_at}
 use Rattle.transyt_stopline.proofs.BackSums.{back-le}
 use Rattle.transyt_stopline.proofs.Greatest.{greatest-le}
 
--- no queue is above the arrivals of a cycle
-pub queue-le : (arrivals go : List ℕ) (i : ℕ) → i < length arrivals → queue_at arrivals go i ≤ sum arrivals
-queue-le arrivals go i below =
-    greatest-le (λ n. sum_back arrivals i n - sum_back go i n) (sum arrivals) (length arrivals)
-    (λ n most. omega (arith, back-le arrivals n i below most))
-
--- GO of a cycle is below 2^37
-pub go_total : (go : List ℕ) → length go ≤ 120 → All (λ v. v < 2 ^ 30) go → sum go < 2 ^ 37
-go_total go most fit = omega (arith, sum_by-le (λ x. x) (2 ^ 30) go (λ k d below. omega (arith, fit k d below)))
-
--- so no queue is above what the green can let pass in a cycle
+-- no queue is above the arrivals of a cycle, and these are at most GO of a cycle, which is below 2^37
 pub queue-lt : (arrivals go : List ℕ) (i : ℕ) → i < length arrivals → sum arrivals ≤ sum go
     → length go ≤ 120 → All (λ v. v < 2 ^ 30) go → queue_at arrivals go i < 2 ^ 37
-queue-lt arrivals go i below served most fit = omega (arith, queue-le arrivals go i below, go_total go most fit)
+queue-lt arrivals go i below served most fit =
+    omega (
+      arith,
+      greatest-le (λ n. sum_back arrivals i n - sum_back go i n) (sum arrivals) (length arrivals)
+          (λ n within. omega (arith, back-le arrivals n i below within)),
+      sum_by-le (λ x. x) (2 ^ 30) go (λ k d inside. omega (arith, fit k d inside)),
+    )

@@ -1,5 +1,5 @@
 -- The queue of a cycle that repeats for ever, and what leaves.
-use Rattle.std.specs.Prelude.{◌≡◌, ℕ, ◌+◌, ◌-◌, ◌<◌, ◌≤◌, ◌⊎◌, List, length, map, slice_index}
+use Rattle.std.specs.Prelude.{◌≡◌, ℕ, zero, suc, ◌+◌, ◌-◌, ◌<◌, ◌≤◌, ◌⊎◌, List, length, map, slice_index}
 use Rattle.std.specs.List.{range_with_len}
 use Rattle.transyt_cycle.specs.Cycle.{step_before}
 use Rattle.transyt_stopline.specs.LastSteps.{sum_back, sum_at_places, greatest}
@@ -30,3 +30,8 @@ pub record IsQueue (arrivals go : List ℕ) (i queue : ℕ) : Type 0 where
       → sum_at_places arrivals i n ≤ queue + sum_at_places go i n
   pub least : (queue ≡ 0) ⊎ ((n : ℕ) × (0 < n) × (n ≤ length arrivals)
       × (queue + sum_at_places go i n ≡ sum_at_places arrivals i n))
+
+-- The queue before step i of a turn round the cycle that begins with this queue. No public clause cites it.
+abbrev pub turn : List ℕ → List ℕ → (begin : ℕ) → ℕ → ℕ
+turn arrivals go begin zero = begin
+turn arrivals go begin (suc i) = turn arrivals go begin i + slice_index arrivals i - slice_index go i

@@ -2,13 +2,9 @@
 use Rattle.std.specs.Prelude.{ℕ, List, length, map, sum, slice_index, nat_lt, if◌then◌else◌}
 use Rattle.std.specs.List.{range_with_len}
 
--- the stopped arrivals of one step: all of them where the step ends with a queue
-abbrev pub stopping : ℕ → ℕ → ℕ
-stopping arrival queue = (if nat_lt 0 queue then arrival else 0)
-
--- the stopped arrivals of step i
+-- the stopped arrivals of step i: all of them where the step ends with a queue
 abbrev pub stopped_at : List ℕ → List ℕ → ℕ → ℕ
-stopped_at arrivals queue i = stopping (slice_index arrivals i) (slice_index queue i)
+stopped_at arrivals queue i = (if nat_lt 0 (slice_index queue i) then slice_index arrivals i else 0)
 
 -- the stopped arrivals of a cycle
 abbrev pub stopped_of : List ℕ → List ℕ → ℕ

@@ -72,6 +72,7 @@ fn scale(x: &[u64], served: u64, come: u64, out: &mut [u64])
 }
 
 /// The same with one division for all steps, where the sum has 32 bits.
+#[tactic(auto, using(crate::proofs::CutLaws::step_within))]
 fn scale_near(x: &[u64], served: u64, come: u64, out: &mut [u64])
     requires lengths { length out.old ≡ length x.now }
     requires whole { come ≡ sum x.now }
@@ -98,6 +99,7 @@ fn scaled_near(value: u64, served: u64, come: u64, near: u64) -> u64
 }
 
 /// The same with a division at each step.
+#[tactic(auto, using(crate::proofs::CutLaws::step_within))]
 fn scale_each(x: &[u64], served: u64, come: u64, out: &mut [u64])
     requires lengths { length out.old ≡ length x.now }
     requires whole { come ≡ sum x.now }

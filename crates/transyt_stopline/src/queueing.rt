@@ -2,8 +2,7 @@
 
 ghost use Rattle.std.specs.Prelude.{◌≡◌, ℕ, ◌+◌, ◌-◌, ◌*◌, ◌^◌, ◌<◌, ◌≤◌, length, sum, slice_index, All};
 ghost use Rattle.transyt_cycle.specs.Cycle.{step_before};
-ghost use Rattle.transyt_stopline.specs.LastSteps.{greatest, sum_back};
-ghost use Rattle.transyt_stopline.specs.Queue.{IsQueue, out_at, outs, queue_at, queues};
+ghost use Rattle.transyt_stopline.specs.Queue.{IsQueue, outs, queues, turn};
 
 /// The queue at the end of each step, and what leaves in each step.
 ///
@@ -44,23 +43,19 @@ pub fn queue(arrivals: &[u64], go: &[u64], queue: &mut [u64], out: &mut [u64])
 }
 
 /// Once round the cycle from an empty queue, and what then is left: the queue of every later cycle at its last step.
-///
-/// The queue at a step is the greatest excess of the steps passed.
+#[tactic(auto, using(crate::proofs::QueueLaws::turn_more))]
 fn first_turn(arrivals: &[u64], go: &[u64], queue: &mut [u64], out: &mut [u64]) -> u64
-    requires steps { 0 < length arrivals.now }
     requires most { length arrivals.now ≤ 120 }
     requires go_len { length go.now ≡ length arrivals.now }
     requires queue_len { length queue.old ≡ length arrivals.now }
     requires out_len { length out.old ≡ length arrivals.now }
     requires arrivals_fit { All (λ v. v < 2 ^ 48) arrivals.now }
-    ensures left { result ≡ queue_at arrivals.now go.now (length arrivals.now - 1) }
+    ensures left { result ≡ turn arrivals.now go.now 0 (length arrivals.now) }
     ensures small { result ≤ length arrivals.now * 2 ^ 48 }
-    ensures queue { (i : ℕ) → i < length arrivals.now → slice_index queue.new i
-        ≡ greatest (λ n. sum_back arrivals.now i n - sum_back go.now i n) (i + 1) }
+    ensures queue { (i : ℕ) → i < length arrivals.now
+        → slice_index queue.new i ≡ turn arrivals.now go.now 0 (i + 1) }
     ensures out { (i : ℕ) → i < length arrivals.now → slice_index out.new i
-        ≡ greatest (λ n. sum_back arrivals.now (step_before (length arrivals.now) i) n
-        - sum_back go.now (step_before (length arrivals.now) i) n) i
-        + slice_index arrivals.now i - slice_index queue.new i }
+        ≡ turn arrivals.now go.now 0 i + slice_index arrivals.now i - turn arrivals.now go.now 0 (i + 1) }
 {
     let mut waiting: u64 = 0;
     for i in 0..arrivals.len() {
@@ -75,25 +70,22 @@ fn first_turn(arrivals: &[u64], go: &[u64], queue: &mut [u64], out: &mut [u64]) 
 
 /// Round the cycle again, from what was left, until what stands is what stood there in the first turn: from there on
 /// the two turns are the same.
+#[tactic(auto, using(crate::proofs::QueueLaws::turn_more))]
 fn second_turn(arrivals: &[u64], go: &[u64], left: u64, queue: &mut [u64], out: &mut [u64])
-    requires steps { 0 < length arrivals.now }
     requires most { length arrivals.now ≤ 120 }
     requires go_len { length go.now ≡ length arrivals.now }
     requires queue_len { length queue.old ≡ length arrivals.now }
     requires out_len { length out.old ≡ length arrivals.now }
     requires arrivals_fit { All (λ v. v < 2 ^ 48) arrivals.now }
-    requires served { sum arrivals.now ≤ sum go.now }
-    requires left { left ≡ queue_at arrivals.now go.now (length arrivals.now - 1) }
     requires small { left ≤ length arrivals.now * 2 ^ 48 }
-    requires queue { (i : ℕ) → i < length arrivals.now → slice_index queue.old i
-        ≡ greatest (λ n. sum_back arrivals.now i n - sum_back go.now i n) (i + 1) }
+    requires queue { (i : ℕ) → i < length arrivals.now
+        → slice_index queue.old i ≡ turn arrivals.now go.now 0 (i + 1) }
     requires out { (i : ℕ) → i < length arrivals.now → slice_index out.old i
-        ≡ greatest (λ n. sum_back arrivals.now (step_before (length arrivals.now) i) n
-        - sum_back go.now (step_before (length arrivals.now) i) n) i
-        + slice_index arrivals.now i - slice_index queue.old i }
+        ≡ turn arrivals.now go.now 0 i + slice_index arrivals.now i - turn arrivals.now go.now 0 (i + 1) }
     ensures queue { (i : ℕ) → i < length arrivals.now
-        → slice_index queue.new i ≡ queue_at arrivals.now go.now i }
-    ensures out { (i : ℕ) → i < length arrivals.now → slice_index out.new i ≡ out_at arrivals.now go.now i }
+        → slice_index queue.new i ≡ turn arrivals.now go.now left (i + 1) }
+    ensures out { (i : ℕ) → i < length arrivals.now → slice_index out.new i
+        ≡ turn arrivals.now go.now left i + slice_index arrivals.now i - turn arrivals.now go.now left (i + 1) }
 {
     if left == 0 {
         return;

@@ -1,7 +1,7 @@
 //! The vehicles that stop.
 
-ghost use Rattle.std.specs.Prelude.{◌≡◌, ◌^◌, ◌<◌, ◌≤◌, length, All};
-ghost use Rattle.transyt_stopline.specs.Stops.{stopping, stopped_of};
+ghost use Rattle.std.specs.Prelude.{◌≡◌, ◌^◌, ◌<◌, ◌≤◌, length, nat_lt, if◌then◌else◌, All};
+ghost use Rattle.transyt_stopline.specs.Stops.{stopped_of};
 
 /// How much of a cycle's arrivals stops: what arrives in a step that ends with a queue.
 ///
@@ -23,7 +23,7 @@ pub fn stopped(arrivals: &[u64], queue: &[u64]) -> u64
 
 /// The stopped arrivals of one step: all of them where a queue stands at the step's end.
 fn stopping(arrival: u64, queue: u64) -> u64
-    ensures value { result ≡ stopping arrival queue }
+    ensures value { result ≡ (if nat_lt 0 queue then arrival else 0) }
     ensures part { result ≤ arrival }
 {
     if queue > 0 { arrival } else { 0 }

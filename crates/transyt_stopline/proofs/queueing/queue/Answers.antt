@@ -1,96 +1,65 @@
 -- The two turns write the queue of the repeating cycle, and what leaves; the clauses are laws of the two.
-use Rattle.std.proofs.Common.{subst, ℕ, ◌^◌, ◌<◌, ◌≤◌, length, get_or, ap, sym, ◌∙◌, arith, sum, inl, inr}
+use Rattle.std.proofs.Common.{◌≡◌, ℕ, ◌<◌, ◌≤◌, List, length, get_or, subst, ap, sym, ◌∙◌, arith, sum, inl, inr}
 use Rattle.std.proofs.lemmas.List.FromFn.{fill_by_all}
 use Rattle.std.proofs.lemmas.Bool.{cases_lt}
 use Rattle.std.proofs.lemmas.List.{get_or_past, get_or_default}
 use Rattle.transyt_cycle.specs.Cycle.{step_before}
 use Rattle.transyt_cycle.proofs.CycleLaws.{step_before-lt}
 use Rattle.transyt_stopline.specs.Queue.{IsQueue, queue_at, out_at}
-use Rattle.transyt_stopline.proofs.QueueLaws.{queue_more, outs_total, out-le-go, out_kept}
+use Rattle.transyt_stopline.proofs.QueueLaws.{queue_more, second_is, outs_total, out-le-go}
 use Rattle.transyt_stopline.proofs.Covering.{queue_is}
 use Rattle.transyt_stopline.proofs.QueueBounds.{queue-lt}
 use Rattle.transyt_stopline.proofs.queueing.queue.Goals as goal
 
--- at its end each step has its queue
-pub returns-clause-queue : goal.returns-clause-queue
-returns-clause-queue c =
-    fill_by_all (queue_at c.args.arrivals.now c.args.go.now) c.second_turn.new.queue _ 0 (omega arith)
-    (λ k below. c.second_turn.ensures.queue k (omega arith))
-
--- and what leaves in it
-pub returns-clause-out : goal.returns-clause-out
-returns-clause-out c =
-    fill_by_all (out_at c.args.arrivals.now c.args.go.now) c.second_turn.new.out _ 0 (omega arith)
-    (λ k below. c.second_turn.ensures.out k (omega arith))
-
--- what is written is the queue by its two facts
-pub returns-clause-greatest : goal.returns-clause-greatest
-returns-clause-greatest c = λ i below.
-    subst (λ (q : ℕ). IsQueue c.args.arrivals.now c.args.go.now i q) (sym (c.second_turn.ensures.queue i (omega arith)))
-    (queue_is c.args.arrivals.now c.args.go.now i c.requires.go_len below)
-
--- the recurrence holds of what is written, since the definition obeys it
-pub returns-clause-recurrence : goal.returns-clause-recurrence
-returns-clause-recurrence c = λ i below.
-    let before : step_before (length c.args.arrivals.now) i < length c.args.arrivals.now = step_before-lt _ i below in
-    omega (
-      arith,
-      c.second_turn.ensures.queue i (omega arith),
-      c.second_turn.ensures.queue (step_before (length c.args.arrivals.now) i) (omega arith),
-      queue_more c.args.arrivals.now c.args.go.now i c.requires.go_len c.requires.served below,
-    )
-
--- departures and the queue after are the queue before and the arrivals
-pub returns-clause-kept : goal.returns-clause-kept
-returns-clause-kept c = λ i below.
-    let before : step_before (length c.args.arrivals.now) i < length c.args.arrivals.now = step_before-lt _ i below in
-    omega (
-      arith,
-      c.second_turn.ensures.out i (omega arith),
-      c.second_turn.ensures.queue i (omega arith),
-      c.second_turn.ensures.queue (step_before (length c.args.arrivals.now) i) (omega arith),
-      out_kept c.args.arrivals.now c.args.go.now i c.requires.go_len c.requires.served below,
-    )
-
--- no more leaves than the green lets pass; past the last step nothing leaves
-pub returns-clause-out_at_most_go : goal.returns-clause-out_at_most_go
-returns-clause-out_at_most_go c = λ i.
-    elim (cases_lt i (length c.args.arrivals.now)) as (λ w. get_or c.second_turn.new.out i 0 ≤ get_or c.args.go.now i 0) [
-      | inl below ↦
+pub returns : goal.returns
+returns c =
+    let a : List ℕ = c.args.arrivals.now in
+    let g : List ℕ = c.args.go.now in
+    let n : ℕ = length a in
+    let queue : List ℕ = c.second_turn.new.queue in
+    let out : List ℕ = c.second_turn.new.out in
+    let r = c.requires in
+    let queue_is_at : (k : ℕ) → k < n → get_or queue k 0 ≡ queue_at a g k = λ k below.
+    c.second_turn.ensures.queue k below
+    ∙ (second_is a g c.first_turn-left.result k r.go_len r.served below c.first_turn-left.ensures.left).1 in
+    let out_is_at : (k : ℕ) → k < n → get_or out k 0 ≡ out_at a g k = λ k below.
+    let at = second_is a g c.first_turn-left.result k r.go_len r.served below c.first_turn-left.ensures.left in
+    omega (arith, c.second_turn.ensures.out k below, at.0, at.1) in
+    let outs_are = fill_by_all (out_at a g) out n 0 (omega arith) out_is_at in
+    let more = λ (i : ℕ) (below : i < n). queue_more a g i r.go_len r.served below in
+    record {
+      queue = fill_by_all (queue_at a g) queue n 0 (omega arith) queue_is_at;
+      out = outs_are;
+      greatest = λ i below. subst (IsQueue a g i) (sym (queue_is_at i below)) (queue_is a g i r.go_len below);
+      recurrence = λ i below.
+          omega (arith, more i below, queue_is_at i below, queue_is_at (step_before n i) (step_before-lt n i below));
+      kept = λ i below.
           omega (
             arith,
-            c.second_turn.ensures.out i (omega arith),
-            out-le-go c.args.arrivals.now c.args.go.now i c.requires.go_len c.requires.served below,
-          )
-      | inr past ↦ omega (arith, get_or_past c.second_turn.new.out i 0 (omega arith))
-    ]
-
--- the departures of a cycle sum to its arrivals
-pub returns-clause-total : goal.returns-clause-total
-returns-clause-total c =
-    let out : ℕ → ℕ = out_at c.args.arrivals.now c.args.go.now in
-    let filled = fill_by_all out c.second_turn.new.out (length c.args.arrivals.now) 0 (omega arith)
-    (λ k below. c.second_turn.ensures.out k (omega arith)) in
-    ap sum filled
-    ∙ outs_total c.args.arrivals.now c.args.go.now c.requires.steps c.requires.go_len c.requires.served
-
--- no queue is above what the green lets pass in a cycle
-pub returns-clause-queue_small : goal.returns-clause-queue_small
-returns-clause-queue_small c = λ k d below.
-    omega (
-      arith,
-      get_or_default c.second_turn.new.queue k d 0 below,
-      c.second_turn.ensures.queue k (omega arith),
-      queue-lt c.args.arrivals.now c.args.go.now k (omega arith) c.requires.served (omega arith) c.requires.go_fit,
-    )
-
--- departures are below the limit of GO
-pub returns-clause-out_small : goal.returns-clause-out_small
-returns-clause-out_small c = λ k d below.
-    let go_small : get_or c.args.go.now k 0 < 2 ^ 30 = c.requires.go_fit k 0 (omega arith) in
-    omega (
-      arith,
-      get_or_default c.second_turn.new.out k d 0 below,
-      c.second_turn.ensures.out k (omega arith),
-      out-le-go c.args.arrivals.now c.args.go.now k c.requires.go_len c.requires.served (omega arith),
-    )
+            more i below,
+            queue_is_at i below,
+            queue_is_at (step_before n i) (step_before-lt n i below),
+            out_is_at i below,
+          );
+      out_at_most_go = λ i.
+          elim (cases_lt i n) as (λ w. get_or out i 0 ≤ get_or g i 0) [
+            | inl below ↦ omega (arith, out_is_at i below, out-le-go a g i r.go_len r.served below)
+            | inr past ↦ omega (arith, get_or_past out i 0 (omega arith))
+          ];
+      total = ap sum outs_are ∙ outs_total a g r.steps r.go_len r.served;
+      queue_small = λ k d below.
+          omega (
+            arith,
+            get_or_default queue k d 0 below,
+            queue_is_at k (omega arith),
+            queue-lt a g k (omega arith) r.served (omega arith) r.go_fit,
+          );
+      out_small = λ k d below.
+          omega (
+            arith,
+            get_or_default out k d 0 below,
+            out_is_at k (omega arith),
+            out-le-go a g k r.go_len r.served (omega arith),
+            r.go_fit k 0 (omega arith),
+          );
+    }
