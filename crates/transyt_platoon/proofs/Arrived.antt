@@ -1,7 +1,6 @@
 -- What of a platoon has arrived within two turns round the cycle, while its second turn goes by.
-use Rattle.std.proofs.Common.{◌≡◌, ℕ, suc, ◌+◌, ◌-◌, ◌*◌, ◌%◌, ◌<◌, ◌≤◌, List, [], ◌∷◌, length, get_or, sum_by}
+use Rattle.std.proofs.Common.{◌≡◌, ℕ, suc, ◌+◌, ◌-◌, ◌%◌, ◌<◌, ◌≤◌, List, [], ◌∷◌, length, get_or, sum_by}
 use Rattle.std.proofs.Common.{refl, ap, sym, ◌∙◌, arith, All}
-use Rattle.std.proofs.lemmas.List.{get_or_default}
 use Rattle.std.proofs.lemmas.List.Sums.{sum_by-cons}
 use Rattle.std.proofs.Math.Logic.{⊎_elim}
 use Rattle.std.proofs.Math.Nat.{mod-lt, mod-eq_of_lt}
@@ -13,7 +12,6 @@ use Rattle.transyt_cycle.proofs.CycleLaws.{minus_mod-above, minus_mod-under}
 use Rattle.transyt_platoon.specs.Platoon.{dispersed_at}
 use Rattle.transyt_platoon.specs.Arriving.{arriving, sent}
 use Rattle.transyt_platoon.specs.Going.{arrived, arrived_by, brings, gone_by, steps_of}
-use Rattle.transyt_platoon.proofs.Mixing.{smoothed-le}
 use Rattle.transyt_platoon.proofs.Turns.{length-sent}
 use Rattle.transyt_platoon.specs.declared.platoon.Platoon.{Platoon}
 
@@ -97,20 +95,3 @@ pub length-arriving : (p : Platoon) → length (arriving p) ≡ steps_of p
 length-arriving p =
     length-map-range_with_len (dispersed_at (sent p) p.travel.now.time p.travel.now.percent) 0 (length (sent p))
     ∙ length-sent p
-
--- and none is past the bound of those that set out
-pub arriving_small : (p : Platoon) (b : ℕ) → 0 < steps_of p → All (λ v. v < b) (sent p) → All (λ v. v < b) (arriving p)
-arriving_small p b steps fit k d h =
-    let t : ℕ = p.travel.now.time in
-    let xs : List ℕ = sent p in
-    let some : 0 < length xs = omega (arith, steps, length-sent p) in
-    let below : k < length xs = omega (arith, h, length-arriving p, length-sent p) in
-    let first : get_or xs 0 0 < b = fit 0 0 some in
-    let most : All (λ v. v ≤ b - 1) xs = λ n e l. omega (arith, fit n e l) in
-    omega (
-      arith,
-      get_or_default (arriving p) k d 0 h,
-      get_or-map-range_with_len (dispersed_at xs t p.travel.now.percent) 0 (length xs) k k 0 below (omega arith),
-      smoothed-le xs (p.travel.now.percent * t) (length xs + 1 + minus_mod (length xs) k t) (b - 1) some most,
-      first,
-    )

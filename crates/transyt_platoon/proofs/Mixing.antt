@@ -1,8 +1,9 @@
 -- Laws of the dispersion: what one step mixes, the smoothed profile, and where its values stand.
 use Rattle.std.proofs.Common.{◌≡◌, ◌≢◌, ℕ, zero, suc, ◌+◌, ◌-◌, ◌*◌, ◌/◌, ◌%◌, ◌<◌, ◌≤◌, List, length, get_or, set}
 use Rattle.std.proofs.Common.{replicate, sum, refl, ap, sym, ◌∙◌, arith, get_or-set_same, get_or-set_other, below_more}
-use Rattle.std.specs.List.{All}
-use Rattle.std.proofs.lemmas.List.{length-replicate, get_or-replicate, get_or_default}
+use Rattle.std.specs.List.{All, range_with_len}
+use Rattle.std.proofs.lemmas.List.{length-replicate, get_or-replicate}
+use Rattle.std.proofs.lemmas.List.Elements.{All-map}
 use Rattle.std.proofs.lemmas.List.Folds.{sum_by-replicate}
 use Rattle.std.proofs.lemmas.List.Sums.{sum_by-le}
 use Rattle.std.proofs.lemmas.List.FromFn.{fill_by_all}
@@ -13,9 +14,11 @@ use Rattle.transyt_cycle.proofs.CycleLaws.{minus_mod-lt, minus_mod-add, turned_a
 use Rattle.transyt_platoon.specs.Platoon.{mixed, smoothed, dispersed_at, dispersed}
 use Rattle.transyt_platoon.specs.Turns.{Placed}
 
--- a mean of two numbers up to m is at most m
-pub mixed-le : (w x z m : ℕ) → x ≤ m → z ≤ m → mixed w x z ≤ m
-mixed-le w x z m x_within z_within = div-le_of_le-mul (100 + w) (omega (arith, mul-le-mul_left w z_within))
+-- a mean of two numbers below a bound is below it
+pub mixed_below : (w x z b : ℕ) → x < b → z < b → mixed w x z < b
+mixed_below w x z b x_below z_below =
+    let within : z ≤ b - 1 = omega arith in
+    let mean : mixed w x z ≤ b - 1 = div-le_of_le-mul (100 + w) (omega (arith, mul-le-mul_left w within)) in omega arith
 
 -- a mean of a number and itself is the number
 pub mixed_same : (w v : ℕ) → mixed w v v ≡ v
@@ -49,13 +52,20 @@ second_more xs w i z r below before mix =
     let place : (length xs + i) % length xs ≡ i = add-mod_left (length xs) i ∙ mod-eq_of_lt below in
     rw (one, place, ← before) mix
 
--- no value is above the greatest of the profile
-pub smoothed-le : (xs : List ℕ) (w j m : ℕ) → 0 < length xs → All (λ v. v ≤ m) xs → smoothed xs w j ≤ m
+-- values below a bound stay below it
+smoothed_below : (xs : List ℕ) (w j b : ℕ) → 0 < length xs → All (λ v. v < b) xs → smoothed xs w j < b
 unfolding smoothed
-smoothed-le xs w zero m some within = div-le_of_le-mul (length xs) (sum_by-le (λ x. x) m xs within)
-smoothed-le xs w (suc j) m some within =
-    let here : get_or xs (j % length xs) 0 ≤ m = within (j % length xs) 0 (mod-lt j some) in
-    mixed-le w (get_or xs (j % length xs) 0) (smoothed xs w j) m here (smoothed-le xs w j m some within)
+smoothed_below xs w zero b some fit = mean_below xs b some fit
+smoothed_below xs w (suc j) b some fit =
+    mixed_below w (get_or xs (j % length xs) 0) (smoothed xs w j) b (fit (j % length xs) 0 (mod-lt j some))
+    (smoothed_below xs w j b some fit)
+
+-- so no value that arrives is past the bound of the profile that sets out
+pub dispersed_small : (xs : List ℕ) (t k b : ℕ) → 0 < length xs → All (λ v. v < b) xs
+    → All (λ v. v < b) (dispersed xs t k)
+dispersed_small xs t k b some fit =
+    All-map (λ v. v < b) (dispersed_at xs t k) (range_with_len 0 (length xs))
+    (λ i d h. smoothed_below xs (k * t) _ b some fit)
 
 -- a profile that is the same at each step stays so
 smoothed_uniform : (n v w j : ℕ) → 0 < n → smoothed (replicate n v) w j ≡ v
@@ -78,20 +88,15 @@ dispersed_uniform xs t k v some same =
     let there : get_or xs i 0 ≡ v = ap (λ ys. get_or ys i 0) same ∙ get_or-replicate (length xs) i v 0 below in
     there ∙ sym here))
 
--- with the whole turn placed, step i has what the definition says
-pub placed_at : (xs ys : List ℕ) (t k i : ℕ) → Placed xs ys t k (length xs) → i < length xs
-    → get_or ys i 0 ≡ dispersed_at xs t k i
-placed_at xs ys t k i placed below =
-    let some : 0 < length xs = omega arith in
+-- with the whole turn placed, the profile is the definition's
+pub placed_all : (xs ys : List ℕ) (t k : ℕ) → 0 < length xs
+    → length ys ≡ length xs → Placed xs ys t k (length xs) → ys ≡ dispersed xs t k
+placed_all xs ys t k some same placed =
+    fill_by_all (dispersed_at xs t k) ys (length xs) 0 same
+    (λ i below.
     let m : ℕ = minus_mod (length xs) i t in
     let place : (m + t) % length xs ≡ i = minus_mod-add (length xs) i t some ∙ mod-eq_of_lt below in
-    ap (λ n. get_or ys n 0) (sym place) ∙ placed m (minus_mod-lt (length xs) i t some)
-
--- with the whole turn placed, the profile is the definition's
-pub placed_all : (xs ys : List ℕ) (t k : ℕ)
-    → length ys ≡ length xs → Placed xs ys t k (length xs) → ys ≡ dispersed xs t k
-placed_all xs ys t k same placed =
-    fill_by_all (dispersed_at xs t k) ys (length xs) 0 same (λ i below. placed_at xs ys t k i placed below)
+    ap (λ n. get_or ys n 0) (sym place) ∙ placed m (minus_mod-lt (length xs) i t some))
 
 -- the same counted through both turns: value j stands at step j - 1 + t, round the cycle
 pub placed_by_step : (xs ys : List ℕ) (t k j : ℕ) → Placed xs ys t k (length xs)
@@ -102,21 +107,6 @@ placed_by_step xs ys t k j placed low high =
     let same : length xs + 1 + m ≡ j = omega arith in
     ap (λ n. get_or ys (n % length xs) 0) turn ∙ ap (λ n. get_or ys n 0) (add-mod_left (length xs) (m + t))
     ∙ placed m (omega arith) ∙ ap (smoothed xs (k * t)) same
-
--- no value that arrives is past the bound of the profile that set out
-pub placed_small : (xs ys : List ℕ) (t k b : ℕ) → length ys ≡ length xs → Placed xs ys t k (length xs)
-    → All (λ v. v < b) xs → All (λ v. v < b) ys
-placed_small xs ys t k b same placed small i d within =
-    let below : i < length xs = omega arith in
-    let j : ℕ = length xs + 1 + minus_mod (length xs) i t in
-    let positive : get_or xs i 0 < b = small i 0 below in
-    let most : All (λ v. v ≤ b - 1) xs = λ n f l. omega (arith, small n f l) in
-    omega (
-      arith,
-      get_or_default ys i d 0 within,
-      placed_at xs ys t k i placed below,
-      smoothed-le xs (k * t) j (b - 1) (omega arith) most,
-    )
 
 -- one step more of the second turn: what it mixes, the place after its own, and its value there
 pub step_placed : (xs ys : List ℕ) (t k i p z r next : ℕ) → i < length xs → length ys ≡ length xs

@@ -1,7 +1,7 @@
 -- The two turns write the dispersed profile.
 use Rattle.std.proofs.Common.{◌-◌, ◌^◌, length, ◌∙◌, arith}
 use Rattle.std.proofs.Math.Nat.{div-le_of_le-mul}
-use Rattle.transyt_platoon.proofs.Mixing.{dispersed_uniform, placed_all, placed_by_step, placed_small}
+use Rattle.transyt_platoon.proofs.Mixing.{dispersed_uniform, placed_all, placed_by_step, dispersed_small}
 use Rattle.transyt_platoon.proofs.dispersion.disperse.Goals as goal
 
 -- the mean of the profile is within its bound
@@ -13,7 +13,7 @@ invariant_of-journey-clause-mean_fits c =
 -- so each step has what the definition says
 pub returns-clause-value : goal.returns-clause-value
 returns-clause-value c =
-    placed_all c.args.x.now c.go_round.new.out c.args.t c.args.percent (omega arith) c.go_round.ensures
+    placed_all c.args.x.now c.go_round.new.out c.args.t c.args.percent c.requires.steps (omega arith) c.go_round.ensures
 
 -- in the rule's own order
 pub returns-clause-by_step : goal.returns-clause-by_step
@@ -23,8 +23,8 @@ returns-clause-by_step c = λ j low high.
 -- a mean is within the bound of what it is made of
 pub returns-clause-small : goal.returns-clause-small
 returns-clause-small c =
-    placed_small c.args.x.now c.go_round.new.out c.args.t c.args.percent (2 ^ 44) (omega arith) c.go_round.ensures
-    c.requires.fit
+    rw (returns-clause-value c)
+    (dispersed_small c.args.x.now c.args.t c.args.percent (2 ^ 44) c.requires.steps c.requires.fit)
 
 -- and the mean of equals is the same
 pub returns-clause-uniform : goal.returns-clause-uniform

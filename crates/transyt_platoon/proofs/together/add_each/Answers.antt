@@ -3,10 +3,11 @@ use Rattle.std.proofs.Common.{◌≡◌, ℕ, ◌+◌, ◌*◌, ◌^◌, ◌<◌
 use Rattle.std.proofs.lemmas.Nat.{mul-le}
 use Rattle.transyt_profile.specs.Profile.{folded}
 use Rattle.transyt_profile.proofs.AddedLaws.{is_added_each, each_grows, length-folded, get_or-folded, folded_each}
-use Rattle.transyt_platoon.specs.Arriving.{arriving}
+use Rattle.transyt_platoon.specs.Arriving.{arriving, sent}
 use Rattle.transyt_platoon.specs.declared.platoon.Platoon.{Platoon}
-use Rattle.transyt_platoon.proofs.Arrived.{arriving_each, arriving_small, length-arriving, none_arrived}
-use Rattle.transyt_platoon.proofs.Turns.{passed_at}
+use Rattle.transyt_platoon.proofs.Arrived.{arriving_each, length-arriving, none_arrived}
+use Rattle.transyt_platoon.proofs.Mixing.{dispersed_small}
+use Rattle.transyt_platoon.proofs.Turns.{passed_at, length-sent}
 use Rattle.transyt_platoon.proofs.together.add_each.Goals as goal
 
 -- with the first turn past, nothing has arrived yet
@@ -76,6 +77,7 @@ returns-clause-grows g c = λ limit within.
     (λ i d h. length-arriving (get_or ps i d) ∙ c.args.abreast.now.ready.same i d h ∙ sym (length-folded n c.args.turns.now))
     (λ i d h.
     let p : Platoon = get_or ps i d in
-    arriving_small p (2 ^ 22) (omega (arith, c.args.abreast.now.ready.same i d h, c.args.abreast.now.some))
+    dispersed_small (sent p) _ _ (2 ^ 22)
+    (omega (arith, length-sent p, c.args.abreast.now.ready.same i d h, c.args.abreast.now.some))
     (λ k e below. omega (arith, c.args.abreast.now.ready.fit i d h k e below, p.is_travel.small)))
     within)

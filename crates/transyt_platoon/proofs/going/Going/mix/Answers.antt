@@ -1,8 +1,7 @@
 -- The product is the mean, and it fits.
-use Rattle.std.proofs.Common.{ℕ, ◌-◌, ◌*◌, ◌<◌, get_or, ap, arith}
-use Rattle.transyt_platoon.specs.Arriving.{sent}
+use Rattle.std.proofs.Common.{◌*◌, ap, arith}
 use Rattle.transyt_platoon.proofs.Parts.{mixed_by, travel_sum}
-use Rattle.transyt_platoon.proofs.Mixing.{mixed-le}
+use Rattle.transyt_platoon.proofs.Mixing.{mixed_below}
 use Rattle.transyt_platoon.proofs.Turns.{sent_fits}
 use Rattle.transyt_platoon.proofs.going.Going.mix.Goals as goal
 
@@ -42,11 +41,5 @@ returns-clause-value c =
 -- a mean of numbers below a limit
 pub returns-clause-small : goal.returns-clause-small
 returns-clause-small c =
-    let p = c.args.platoon.now in
-    let x : ℕ = get_or (sent p) c.args.step 0 in
-    let x_fits : x < p.travel.now.limit = sent_fits p c.args.step c.requires.fits c.requires.step in
-    omega (
-      arith,
-      returns-clause-value c,
-      mixed-le p.travel.now.weight x c.args.self.now.value (p.travel.now.limit - 1) (omega arith) (omega arith),
-    )
+    let fits = sent_fits c.args.platoon.now c.args.step c.requires.fits c.requires.step in
+    rw (returns-clause-value c) (mixed_below _ _ _ _ fits c.requires.before)

@@ -1,7 +1,7 @@
 -- The product is the mean.
-use Rattle.std.proofs.Common.{◌-◌, ◌^◌, arith}
+use Rattle.std.proofs.Common.{◌^◌}
 use Rattle.transyt_platoon.proofs.Parts.{mixed_by}
-use Rattle.transyt_platoon.proofs.Mixing.{mixed-le}
+use Rattle.transyt_platoon.proofs.Mixing.{mixed_below}
 use Rattle.transyt_platoon.proofs.quick.Mixer.mix.Goals as goal
 
 -- by the law of the reciprocal
@@ -14,7 +14,4 @@ returns-clause-value c =
 
 -- a mean of numbers below a limit
 pub returns-clause-small : goal.returns-clause-small
-returns-clause-small c =
-    let m = c.args.self.now in
-    let mean = returns-clause-value c in
-    omega (arith, mean, mixed-le m.weight c.args.starting c.args.before (m.most - 1) (omega arith) (omega arith))
+returns-clause-small c = rw (returns-clause-value c) (mixed_below _ _ _ _ c.requires.starting c.requires.before)
