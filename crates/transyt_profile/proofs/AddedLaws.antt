@@ -5,8 +5,6 @@ use Rattle.std.specs.List.{All}
 use Rattle.std.proofs.lemmas.List.{ext_get_or, get_or_default}
 use Rattle.std.proofs.lemmas.List.Sums.{sum_by-cons}
 use Rattle.std.proofs.lemmas.List.FromFn.{get_or-map-range_with_len, length-map-range_with_len}
-use Rattle.std.proofs.Math.Logic.{⊎_elim}
-use Rattle.std.proofs.lemmas.Bool.{cases_lt}
 use Rattle.transyt_profile.specs.Profile.{added, added_at, folded, folded_at}
 
 -- a sum has as many steps as its first profile
@@ -51,16 +49,9 @@ pub folded_each : (n : ℕ) (turns : List ℕ) (limit : ℕ) → All (λ v. v < 
 folded_each n turns limit within same k d h =
     let at : n ≤ k → get_or turns (n + (k - n)) 0 ≡ get_or turns k 0 = λ after.
     ap (λ m. get_or turns m 0) (omega (arith, after)) in
-    ⊎_elim
-    (λ (before : k < n). omega (arith, get_or_default turns k d 0 h, folded_first n turns limit k within before))
-    (λ (after : n ≤ k).
-    omega (
-      arith,
-      get_or_default turns k d 0 h,
-      folded_first n turns limit (k - n) within (omega (arith, h, same, after)),
-      at after,
-    ))
-    (cases_lt k n)
+    let first = folded_first n turns limit k within in
+    let second = folded_first n turns limit (k - n) within in
+    grind (arith, get_or_default turns k d 0 h, first, second, at)
 
 -- the profile whose steps are those of a profile and of others, all added, is their sum
 pub is_added_each : {X : Type 0} (f : X → List ℕ) (xs : List X) (out new : List ℕ) → length new ≡ length out

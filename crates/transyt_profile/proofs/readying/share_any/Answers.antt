@@ -2,32 +2,29 @@
 use Rattle.std.proofs.Common.{rules, ◌*◌, ◌∙◌, ap, arith}
 use Rattle.std.proofs.lemmas.List.Sums.{sum_by_more}
 use Rattle.transyt_profile.specs.Profile.{share_of}
-use Rattle.transyt_profile.proofs.ReadyLaws.{share_at, lane_more, others_more, reached_more, all_shared, any_shared, sum_shared}
+use Rattle.transyt_profile.proofs.ReadyLaws.{lane_more, others_more, reached_more, all_shared, any_shared, sum_shared}
 use Rattle.transyt_profile.proofs.readying.share_any.Goals as goal
 
 -- one step more
 pub loop-i-preserved : goal.loop-i-preserved
-loop-i-preserved c = record {
-  most = search rules;
-  reached = reached_more (share_at c.args.part.now.part c.args.part.now.whole c.args.x.now) c.loop-i.i c.loop-i.greatest
-      c.share_step-share.result c.max-greatest.result (omega arith) c.share_step-share.ensures.value c.loop-i.invariant.reached;
-  greatest = search rules;
-  ready = lane_more c.loop-i.lanes (share_at c.args.part.now.part c.args.part.now.whole c.args.x.now) c.args.scale.factor c.args.lane c.loop-i.i
-      c.times.result (omega (arith, c.requires.lanes_len, c.requires.lane)) c.loop-i.invariant.ready
-      (λ small. c.times.ensures (omega (arith, small, c.share_step-share.ensures.value)) ∙ ap (λ v. v * c.args.scale.factor) c.share_step-share.ensures.value);
-  others = others_more c.args.lanes.now c.loop-i.lanes c.args.lane c.loop-i.i c.times.result c.requires.lane
-      c.loop-i.invariant.others;
-  so_far =
-      let more = sum_by_more (share_of c.args.part.now.part c.args.part.now.whole) c.args.x.now c.loop-i.i 0 (omega arith) in
-      omega (arith, more, c.loop-i.invariant.so_far, c.share_step-share.ensures.value);
-  total = omega (arith, c.loop-i.invariant.total, c.share_step-share.ensures.small);
-}
+loop-i-preserved c =
+    let share = share_of c.args.part.now.part c.args.part.now.whole in
+    let is = c.share_step-share.ensures.value in
+    record {
+      most = search rules;
+      reached = reached_more _ _ _ _ _ (omega arith) is c.loop-i.invariant.reached;
+      greatest = search rules;
+      ready = lane_more _ _ _ _ _ _ (omega (arith, c.requires.lanes_len, c.requires.lane)) c.loop-i.invariant.ready
+          (λ small. c.times.ensures (omega (arith, small, is)) ∙ ap (λ v. v * c.args.scale.factor) is);
+      others = others_more _ _ _ _ _ c.requires.lane c.loop-i.invariant.others;
+      so_far = omega (arith, is, c.loop-i.invariant.so_far, sum_by_more share c.args.x.now c.loop-i.i 0 (omega arith));
+      total = omega (arith, c.loop-i.invariant.total, c.share_step-share.ensures.small);
+    }
 
 -- each share is below the limit
 pub returns-then-greatest-scale-clause-below : goal.returns-then-greatest-scale-clause-below
 returns-then-greatest-scale-clause-below c =
-    all_shared c.args.part.now.part c.args.part.now.whole c.args.scale.limit c.args.x.now
-    (λ k below. omega (arith, c.loop-i.invariant.most k (omega arith)))
+    all_shared _ _ _ _ (λ k below. omega (arith, c.loop-i.invariant.most k (omega arith)))
 
 -- and its product is ready
 pub returns-then-greatest-scale-clause-ready : goal.returns-then-greatest-scale-clause-ready
@@ -36,10 +33,9 @@ returns-then-greatest-scale-clause-ready c = λ k below.
 
 -- the sum over all steps
 pub returns-then-greatest-scale-clause-total : goal.returns-then-greatest-scale-clause-total
-returns-then-greatest-scale-clause-total c = c.loop-i.invariant.so_far ∙ sum_shared c.args.part.now.part c.args.part.now.whole c.loop-i.i c.args.x.now (omega arith)
+returns-then-greatest-scale-clause-total c = c.loop-i.invariant.so_far ∙ sum_shared _ _ c.loop-i.i c.args.x.now (omega arith)
 
 -- where the greatest is not below the limit, a share is not
 pub returns-else-greatest-scale-clause-none : goal.returns-else-greatest-scale-clause-none
 returns-else-greatest-scale-clause-none c = λ some.
-    any_shared c.args.part.now.part c.args.part.now.whole c.loop-i.i c.loop-i.greatest c.args.scale.limit c.args.x.now some
-    (omega arith) c.loop-i.invariant.reached (omega arith)
+    any_shared _ _ c.loop-i.i c.loop-i.greatest _ c.args.x.now some (omega arith) c.loop-i.invariant.reached (omega arith)
