@@ -76,19 +76,9 @@ arriving_each n i k (p ∷ ps) same end inside =
     )
 
 -- before the first step nothing has arrived
-none_yet : (g : ℕ → ℕ) (first j : ℕ) → arrived_by g first 0 j ≡ 0
-none_yet g first j = grind (arith, nat_tests)
-
--- so it is of some platoons
 pub none_arrived : (j : ℕ) (ps : List Platoon) → sum_by (arrived 0 j) ps ≡ 0
 none_arrived j [] = refl
-none_arrived j (p ∷ ps) =
-    omega (
-      arith,
-      sum_by-cons (arrived 0 j) p ps,
-      none_yet (brings p) (p.travel.now.time % steps_of p) j,
-      none_arrived j ps,
-    )
+none_arrived j (p ∷ ps) = grind (arith, nat_tests, sum_by-cons (arrived 0 j) p ps, none_arrived j ps)
 
 -- as many steps arrive as set out
 pub length-arriving : (p : Platoon) → length (arriving p) ≡ steps_of p

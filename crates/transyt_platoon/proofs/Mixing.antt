@@ -43,14 +43,13 @@ unfolding smoothed
 first_next xs w i below =
     let one : i + 1 ≡ suc i = omega arith in let place : i % length xs ≡ i = mod-eq_of_lt below in rw (one, place)
 
--- what step i of the second turn mixes is the smoothed profile's next value
-pub second_more : (xs : List ℕ) (w i z r : ℕ) → i < length xs
-    → z ≡ smoothed xs w (length xs + i) → r ≡ mixed w (get_or xs i 0) z → r ≡ smoothed xs w (length xs + 1 + i)
+-- so it does in the second turn
+pub second_next : (xs : List ℕ) (w i : ℕ) → i < length xs
+    → smoothed xs w (length xs + 1 + i) ≡ mixed w (get_or xs i 0) (smoothed xs w (length xs + i))
 unfolding smoothed
-second_more xs w i z r below before mix =
+second_next xs w i below =
     let one : length xs + 1 + i ≡ suc (length xs + i) = omega arith in
-    let place : (length xs + i) % length xs ≡ i = add-mod_left (length xs) i ∙ mod-eq_of_lt below in
-    rw (one, place, ← before) mix
+    let place : (length xs + i) % length xs ≡ i = add-mod_left (length xs) i ∙ mod-eq_of_lt below in rw (one, place)
 
 -- values below a bound stay below it
 smoothed_below : (xs : List ℕ) (w j b : ℕ) → 0 < length xs → All (λ v. v < b) xs → smoothed xs w j < b
@@ -115,7 +114,8 @@ pub step_placed : (xs ys : List ℕ) (t k i p z r next : ℕ) → i < length xs 
     → (r ≡ smoothed xs (k * t) (length xs + (i + 1))) × (next ≡ (i + 1 + t) % length xs)
     × Placed xs (set ys p r) t k (i + 1)
 step_placed xs ys t k i p z r next below same before place placed mix after =
-    let here : r ≡ smoothed xs (k * t) (length xs + 1 + i) = second_more xs (k * t) i z r below before mix in
+    let here : r ≡ smoothed xs (k * t) (length xs + 1 + i) =
+    mix ∙ ap (mixed (k * t) (get_or xs i 0)) before ∙ sym (second_next xs (k * t) i below) in
     let within : p < length ys = omega (arith, mod-lt (i + t) {m = length xs} (omega arith)) in
     let value : length xs + 1 + i ≡ length xs + (i + 1) = omega arith in
     let turn : i + t + 1 ≡ i + 1 + t = omega arith in (

@@ -8,11 +8,10 @@ use Rattle.transyt_platoon.proofs.abreast.begin_each.Goals as goal
 pub loop-lane-preserved : goal.loop-lane-preserved
 loop-lane-preserved g c = record {
   len = length-set c.loop-lane.goings c.loop-lane.lane c.begin.result ∙ c.loop-lane.invariant.len;
-  begun = go_more (λ p e. HasPassed p 0 e) c.args.abreast.now.platoons.now c.loop-lane.goings c.loop-lane.lane
-      c.index-abreast-lane.result c.begin.result (omega (arith, c.loop-lane-test.true, c.requires.count))
-      (omega (arith, c.loop-lane.invariant.len, c.requires.count)) c.begin.ensures c.loop-lane.invariant.begun;
+  begun = go_more (λ p e. HasPassed p 0 e) _ _ _ _ _ (omega (arith, c.loop-lane-test.true, c.loop-lane.invariant.len))
+      c.begin.ensures c.loop-lane.invariant.begun;
 }
 
 pub returns : goal.returns
 returns g c = λ i d e inside.
-    c.loop-lane.invariant.begun i d e inside (omega (arith, inside, c.requires.count, c.loop-lane-test.false))
+    c.loop-lane.invariant.begun i (omega (arith, inside, c.requires.count, c.loop-lane-test.false)) d e inside

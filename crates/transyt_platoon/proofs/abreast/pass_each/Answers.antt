@@ -8,25 +8,22 @@ use Rattle.transyt_platoon.proofs.abreast.pass_each.Goals as goal
 pub loop-lane-init : goal.loop-lane-init
 loop-lane-init g c = record {
   len = c.told-goings;
-  gone = λ i d e inside below. absurd (omega (arith, below));
-  left = λ i d e inside above. c.requires.passed i d e inside;
+  gone = λ i below d e inside. absurd (omega (arith, below));
+  left = λ i above d e inside. c.requires.passed i d e inside;
 }
 
 pub pass-requires-clause-passed : goal.pass-requires-clause-passed
 pass-requires-clause-passed g c =
-    c.loop-lane.invariant.left c.loop-lane.lane _ _ (omega (arith, c.loop-lane-test.true, c.requires.count)) (omega arith)
+    c.loop-lane.invariant.left c.loop-lane.lane (omega arith) _ _ (omega (arith, c.loop-lane-test.true, c.requires.count))
 
 pub loop-lane-preserved : goal.loop-lane-preserved
 loop-lane-preserved g c = record {
   len = length-set c.loop-lane.goings c.loop-lane.lane _ ∙ c.loop-lane.invariant.len;
-  gone = go_more (λ p e. HasPassed p (c.args.step + 1) e) c.args.abreast.now.platoons.now c.loop-lane.goings
-      c.loop-lane.lane c.index-abreast-lane.result c.pass.new.self
-      (omega (arith, c.loop-lane-test.true, c.requires.count))
-      (omega (arith, c.loop-lane.invariant.len, c.requires.count)) c.pass.ensures c.loop-lane.invariant.gone;
-  left = go_less (λ p e. HasPassed p c.args.step e) c.args.abreast.now.platoons.now c.loop-lane.goings c.loop-lane.lane
-      c.pass.new.self c.loop-lane.invariant.left;
+  gone = go_more (λ p e. HasPassed p (c.args.step + 1) e) _ _ _ _ _
+      (omega (arith, c.loop-lane-test.true, c.loop-lane.invariant.len)) c.pass.ensures c.loop-lane.invariant.gone;
+  left = go_less (λ p e. HasPassed p c.args.step e) _ _ _ _ c.loop-lane.invariant.left;
 }
 
 pub returns : goal.returns
 returns g c = λ i d e inside.
-    c.loop-lane.invariant.gone i d e inside (omega (arith, inside, c.requires.count, c.loop-lane-test.false))
+    c.loop-lane.invariant.gone i (omega (arith, inside, c.requires.count, c.loop-lane-test.false)) d e inside

@@ -2,6 +2,7 @@
 use Rattle.std.proofs.Common.{◌≡◌, ℕ, ◌+◌, ◌%◌, ◌<◌, length, get_or, get_or-set_same, get_or-set_other, ap, ◌∙◌, arith}
 use Rattle.std.proofs.Math.Nat.{mod-lt}
 use Rattle.transyt_platoon.specs.Going.{brings, gone_by, steps_of}
+use Rattle.transyt_platoon.specs.Platoon.{mixed}
 use Rattle.transyt_platoon.proofs.Arrived.{arrived_more}
 use Rattle.transyt_platoon.proofs.Turns.{second_gone}
 use Rattle.transyt_platoon.proofs.going.Going.arrive.Goals as goal
@@ -15,8 +16,7 @@ returns-clause-passed c =
     let n : ℕ = steps_of p in
     let next : n + 1 + i ≡ n + (i + 1) = omega arith in
     record {
-      value = second_gone p i c.args.self.now.value _ c.requires.step before.value c.mix-self.ensures.value
-          ∙ ap (gone_by p) next;
+      value = c.mix-self.ensures.value ∙ ap (mixed _ _) before.value ∙ second_gone p i c.requires.step ∙ ap (gone_by p) next;
       small = c.mix-self.ensures.small;
       factor = before.factor;
       place = before.place;
@@ -29,7 +29,7 @@ returns-clause-arrives c =
     let p = c.args.platoon.now in
     let n : ℕ = steps_of p in
     let i : ℕ = c.args.step in
-    let gone = second_gone p i c.args.self.now.value _ c.requires.step c.requires.passed.value c.mix-self.ensures.value in
+    let gone = c.mix-self.ensures.value ∙ ap (mixed _ _) c.requires.passed.value ∙ second_gone p i c.requires.step in
     let place : ℕ = c.args.self.now.place in
     let is_place : place ≡ p.travel.now.time % n = c.requires.passed.place ∙ p.is_travel.place in
     let inside : place + i < length c.args.turns.now =

@@ -2,8 +2,8 @@
 use Rattle.std.proofs.Common.{◌≡◌, ◌/◌, length, sum, ap, sym, ◌∙◌, arith, refl}
 use Rattle.transyt_platoon.specs.Arriving.{sent}
 use Rattle.transyt_platoon.specs.Going.{steps_of}
-use Rattle.transyt_platoon.proofs.Mixing.{mean_below}
-use Rattle.transyt_platoon.proofs.Turns.{length-sent, mean_gone}
+use Rattle.transyt_platoon.proofs.Mixing.{mean_below, smoothed_none}
+use Rattle.transyt_platoon.proofs.Turns.{length-sent}
 use Rattle.transyt_platoon.proofs.going.Going.begin.Goals as goal
 
 pub returns : goal.returns
@@ -13,7 +13,7 @@ returns c =
     let is_mean : c.args.total / steps_of p ≡ sum (sent p) / length (sent p) =
     ap (λ all. all / steps_of p) c.requires.total ∙ ap (λ n. sum (sent p) / n) (sym same) in
     record {
-      value = mean_gone p _ is_mean;
+      value = is_mean ∙ sym (smoothed_none (sent p) _);
       small = rw is_mean (mean_below (sent p) p.travel.now.limit (omega (arith, c.requires.some, same)) c.requires.fits);
       factor = refl;
       place = refl;

@@ -1,31 +1,20 @@
 -- The product is the mean, and it fits.
-use Rattle.std.proofs.Common.{◌*◌, ap, arith}
-use Rattle.transyt_platoon.proofs.Parts.{mixed_by, travel_sum}
+use Rattle.std.proofs.Common.{arith}
+use Rattle.transyt_platoon.proofs.Parts.{mixed_by}
 use Rattle.transyt_platoon.proofs.Mixing.{mixed_below}
-use Rattle.transyt_platoon.proofs.Turns.{sent_fits}
+use Rattle.transyt_platoon.proofs.Turns.{sent_fits, step_fits}
 use Rattle.transyt_platoon.proofs.going.Going.mix.Goals as goal
 
 -- what is divided by 2^40 fits
 pub overflow_mul-result : goal.overflow_mul-result
 overflow_mul-result c =
-    let p = c.args.platoon.now in
     let r = c.requires in
-    omega (
-      arith,
-      ap (λ f. c.args.self.now.value * f) r.factor,
-      travel_sum _ p.travel.now _ c.args.self.now.value p.is_travel (sent_fits p c.args.step r.fits r.step) r.before,
-    )
+    omega (arith, step_fits c.args.platoon.now c.args.step _ _ r.fits r.step r.factor r.before)
 
 pub overflow_add-result : goal.overflow_add-result
 overflow_add-result c =
-    let p = c.args.platoon.now in
     let r = c.requires in
-    omega (
-      arith,
-      r.product,
-      ap (λ f. c.args.self.now.value * f) r.factor,
-      travel_sum _ p.travel.now _ c.args.self.now.value p.is_travel (sent_fits p c.args.step r.fits r.step) r.before,
-    )
+    omega (arith, r.product, step_fits c.args.platoon.now c.args.step _ _ r.fits r.step r.factor r.before)
 
 -- by the law of the reciprocal
 pub returns-clause-value : goal.returns-clause-value
