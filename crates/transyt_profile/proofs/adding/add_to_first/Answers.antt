@@ -8,10 +8,9 @@ use Rattle.transyt_profile.proofs.adding.add_to_first.Goals as goal
 -- both values of a step come to less than 2^48
 pub overflow_add-turns : goal.overflow_add-turns
 overflow_add-turns c =
-    let r = c.requires in
-    let fold =
-    folded_first (length c.args.x.now) c.args.turns.now (2 ^ 48 - 2 ^ 44) c.loop-i.i r.turns_fit (omega arith) in
-    omega (arith, fold, r.fit c.loop-i.i 0 (omega arith), c.loop-i.invariant.rest c.loop-i.i (omega arith))
+    let i = c.loop-i.i in
+    let fold = folded_first _ c.args.turns.now (2 ^ 48 - 2 ^ 44) i c.requires.turns_fit (omega arith) in
+    omega (arith, fold, c.requires.fit i 0 (omega arith), c.loop-i.invariant.rest i (omega arith))
 
 -- each step of the fold is a sum of two values
 pub returns-clause-value : goal.returns-clause-value
@@ -34,6 +33,4 @@ returns-clause-value c =
 pub returns-clause-grows : goal.returns-clause-grows
 returns-clause-grows c = λ limit within.
     let n : ℕ = length c.args.x.now in
-    rw (returns-clause-value c)
-    (added_grows (folded n c.args.turns.now) c.args.x.now limit (2 ^ 44)
-    (sym (length-folded n c.args.turns.now)) within c.requires.fit)
+    rw (returns-clause-value c) (added_grows _ _ limit _ (sym (length-folded n c.args.turns.now)) within c.requires.fit)

@@ -5,4 +5,4 @@ use Rattle.transyt_profile.proofs.adding.fold_into.Given as goal
 
 -- the steps passed have the sums of both turns
 abbrev pub invariant-loop-i : goal.invariant-loop-i
-invariant-loop-i l = (k : ℕ) → k < l.i → get_or l.out k 0 ≡ folded_at (length l.out) l.turns k
+invariant-loop-i l = (k : ℕ) → k < l.i → get_or l.out k 0 ≡ folded_at (length l.initial.out) l.turns k
