@@ -26,11 +26,6 @@ pub returns-then-greatest-scale-clause-below : goal.returns-then-greatest-scale-
 returns-then-greatest-scale-clause-below c =
     all_shared _ _ _ _ (λ k below. omega (arith, c.loop-i.invariant.most k (omega arith)))
 
--- and its product is ready
-pub returns-then-greatest-scale-clause-ready : goal.returns-then-greatest-scale-clause-ready
-returns-then-greatest-scale-clause-ready c = λ k below.
-    c.loop-i.invariant.ready k (omega arith) (omega (arith, c.loop-i.invariant.most k (omega arith), c.args.scale.limit_fits))
-
 -- the sum over all steps
 pub returns-then-greatest-scale-clause-total : goal.returns-then-greatest-scale-clause-total
 returns-then-greatest-scale-clause-total c = c.loop-i.invariant.so_far ∙ sum_shared _ _ c.loop-i.i c.args.x.now (omega arith)

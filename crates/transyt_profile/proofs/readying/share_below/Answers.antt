@@ -31,11 +31,6 @@ pub returns-then-bits-scale-clause-below : goal.returns-then-bits-scale-clause-b
 returns-then-bits-scale-clause-below c =
     all_shared _ _ _ _ (λ k below. omega (arith, c.loop-i.invariant.most k (omega arith)))
 
--- and its product is ready
-pub returns-then-bits-scale-clause-ready : goal.returns-then-bits-scale-clause-ready
-returns-then-bits-scale-clause-ready c = λ k below.
-    c.loop-i.invariant.ready k (omega arith) (omega (arith, c.loop-i.invariant.most k (omega arith), c.args.scale.limit_fits))
-
 -- the sum over all steps
 pub returns-then-bits-scale-clause-total : goal.returns-then-bits-scale-clause-total
 returns-then-bits-scale-clause-total c = c.loop-i.invariant.so_far ∙ sum_shared _ _ c.loop-i.i c.args.x.now (omega arith)
