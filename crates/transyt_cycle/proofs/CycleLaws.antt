@@ -60,10 +60,6 @@ pub step_before-lt : (n i : ℕ) → i < n → step_before n i < n
 step_before-lt n zero below = omega arith
 step_before-lt n (suc i) below = omega arith
 
--- the step before step i + 1 is step i
-pub step_before-add_one : (n i : ℕ) → step_before n (i + 1) ≡ i
-step_before-add_one n i = let next : i + 1 ≡ suc i = omega arith in ap (step_before n) next
-
 -- one step on from the step before a step stands the step
 pub step_before-then : (n i : ℕ) → i < n → (step_before n i + 1) % n ≡ i
 step_before-then n zero below = let turn : n - 1 + 1 ≡ n = omega arith in ap (λ k. k % n) turn ∙ mod_self n
