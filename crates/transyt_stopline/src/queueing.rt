@@ -54,8 +54,9 @@ fn first_turn(arrivals: &[u64], go: &[u64], queue: &mut [u64], out: &mut [u64]) 
     ensures small { result ≤ length arrivals.now * 2 ^ 48 }
     ensures queue { (i : ℕ) → i < length arrivals.now
         → slice_index queue.new i ≡ turn arrivals.now go.now 0 (i + 1) }
-    ensures out { (i : ℕ) → i < length arrivals.now → slice_index out.new i
-        ≡ turn arrivals.now go.now 0 i + slice_index arrivals.now i - turn arrivals.now go.now 0 (i + 1) }
+    ensures out { (i : ℕ) → i < length arrivals.now
+        → slice_index out.new i + turn arrivals.now go.now 0 (i + 1)
+        ≡ turn arrivals.now go.now 0 i + slice_index arrivals.now i }
 {
     let mut waiting: u64 = 0;
     for i in 0..arrivals.len() {
@@ -80,12 +81,14 @@ fn second_turn(arrivals: &[u64], go: &[u64], left: u64, queue: &mut [u64], out: 
     requires small { left ≤ length arrivals.now * 2 ^ 48 }
     requires queue { (i : ℕ) → i < length arrivals.now
         → slice_index queue.old i ≡ turn arrivals.now go.now 0 (i + 1) }
-    requires out { (i : ℕ) → i < length arrivals.now → slice_index out.old i
-        ≡ turn arrivals.now go.now 0 i + slice_index arrivals.now i - turn arrivals.now go.now 0 (i + 1) }
+    requires out { (i : ℕ) → i < length arrivals.now
+        → slice_index out.old i + turn arrivals.now go.now 0 (i + 1)
+        ≡ turn arrivals.now go.now 0 i + slice_index arrivals.now i }
     ensures queue { (i : ℕ) → i < length arrivals.now
         → slice_index queue.new i ≡ turn arrivals.now go.now left (i + 1) }
-    ensures out { (i : ℕ) → i < length arrivals.now → slice_index out.new i
-        ≡ turn arrivals.now go.now left i + slice_index arrivals.now i - turn arrivals.now go.now left (i + 1) }
+    ensures out { (i : ℕ) → i < length arrivals.now
+        → slice_index out.new i + turn arrivals.now go.now left (i + 1)
+        ≡ turn arrivals.now go.now left i + slice_index arrivals.now i }
 {
     if left == 0 {
         return;

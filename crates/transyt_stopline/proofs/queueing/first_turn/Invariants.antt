@@ -1,5 +1,5 @@
 -- The recurrence goes round the cycle from an empty queue.
-use Rattle.std.proofs.Common.{◌≡◌, ℕ, ◌+◌, ◌-◌, ◌*◌, ◌^◌, ◌<◌, ◌≤◌, get_or}
+use Rattle.std.proofs.Common.{◌≡◌, ℕ, ◌+◌, ◌*◌, ◌^◌, ◌<◌, ◌≤◌, get_or}
 use Rattle.transyt_stopline.specs.Queue.{turn}
 use Rattle.transyt_stopline.proofs.queueing.first_turn.Given as goal
 
@@ -10,5 +10,5 @@ invariant-loop-i l = record {
   so_far : l.waiting ≡ turn l.arrivals l.go 0 l.i;
   queue : (k : ℕ) → k < l.i → get_or l.queue k 0 ≡ turn l.arrivals l.go 0 (k + 1);
   out : (k : ℕ) → k < l.i
-      → get_or l.out k 0 ≡ turn l.arrivals l.go 0 k + get_or l.arrivals k 0 - turn l.arrivals l.go 0 (k + 1);
+      → get_or l.out k 0 + turn l.arrivals l.go 0 (k + 1) ≡ turn l.arrivals l.go 0 k + get_or l.arrivals k 0;
 }

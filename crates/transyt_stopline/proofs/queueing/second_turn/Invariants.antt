@@ -1,5 +1,5 @@
 -- The recurrence goes round the cycle once more, and writes over the first turn.
-use Rattle.std.proofs.Common.{◌≡◌, ℕ, ◌+◌, ◌-◌, ◌*◌, ◌^◌, ◌<◌, ◌≤◌, length, get_or}
+use Rattle.std.proofs.Common.{◌≡◌, ℕ, ◌+◌, ◌*◌, ◌^◌, ◌<◌, ◌≤◌, length, get_or}
 use Rattle.transyt_stopline.specs.Queue.{turn}
 use Rattle.transyt_stopline.proofs.queueing.second_turn.Given as goal
 
@@ -10,7 +10,7 @@ invariant-loop-i l = record {
   here : l.standing ≡ turn l.arrivals l.go l.left l.i;
   queue : (k : ℕ) → k < l.i → get_or l.queue k 0 ≡ turn l.arrivals l.go l.left (k + 1);
   out : (k : ℕ) → k < l.i
-      → get_or l.out k 0 ≡ turn l.arrivals l.go l.left k + get_or l.arrivals k 0 - turn l.arrivals l.go l.left (k + 1);
+      → get_or l.out k 0 + turn l.arrivals l.go l.left (k + 1) ≡ turn l.arrivals l.go l.left k + get_or l.arrivals k 0;
   first_queue : (k : ℕ) → l.i ≤ k → get_or l.queue k 0 ≡ get_or l.initial.queue k 0;
   first_out : (k : ℕ) → l.i ≤ k → get_or l.out k 0 ≡ get_or l.initial.out k 0;
 }
