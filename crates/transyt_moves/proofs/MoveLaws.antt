@@ -10,7 +10,7 @@ use Rattle.transyt_parts.specs.Parts.{NodeValue}
 use Rattle.transyt_parts.specs.Plan.{stage_of}
 use Rattle.transyt_net.specs.declared.edit.Edit.TheVariants.{Change}
 use Rattle.transyt_moves.specs.Moves.{shifted, offset_moves, change_moves, node_moves, size_moves, sizes_of}
-use Rattle.transyt_moves.specs.Moves.{no_move, move_count, move}
+use Rattle.transyt_moves.specs.Moves.{no_move, move_count}
 use Rattle.transyt_net.specs.Parts.{Network}
 
 module _ {X A : Type 0} (f : X → List A) where
@@ -100,15 +100,3 @@ pub count_is : (net : Network) (each : ℕ)
     → move_count net ≡ length (sizes_of net.plan) * each
 unfolding move_count
 count_is net each same = length_pieces (size_moves net.frame.step_count net.nodes) each same (sizes_of net.plan)
-
--- the same, not unfolded
-pub count_length : (net : Network) → length (flat_map (size_moves net.frame.step_count net.nodes)
-    (sizes_of net.plan)) ≡ move_count net
-unfolding move_count
-count_length net = refl
-
-pub move_is : (net : Network) (place : ℕ)
-    → get_or (flat_map (size_moves net.frame.step_count net.nodes) (sizes_of net.plan)) place no_move
-    ≡ move net place
-unfolding move
-move_is net place = refl

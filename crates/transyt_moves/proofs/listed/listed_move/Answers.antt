@@ -1,6 +1,6 @@
 -- The place is that of a size, and of what is left within the moves by it.
-use Rattle.std.proofs.Common.{◌/◌, ◌%◌, get_or, sym, ◌∙◌, arith}
-use Rattle.transyt_moves.specs.Moves.{size_moves, no_move}
+use Rattle.std.proofs.Common.{◌/◌, get_or, sym, ◌∙◌, arith}
+use Rattle.transyt_moves.specs.Moves.{no_move}
 use Rattle.transyt_moves.proofs.MoveLaws.{among_sizes, at_piece}
 use Rattle.transyt_moves.proofs.listed.listed_move.Goals as goal
 
@@ -28,6 +28,4 @@ pub returns : goal.returns
 returns c =
     let part = among_sizes _ _ _ _ _ c.nodes_count-each.ensures.count c.requires.place in
     c.size_move.ensures
-    ∙ sym (at_piece (size_moves c.args.step_count c.args.nodes.now) c.nodes_count-each.result
-    c.nodes_count-each.ensures.count c.args.sizes.now (c.args.place / c.nodes_count-each.result)
-    (c.args.place % c.nodes_count-each.result) c.args.place 0 no_move part.piece part.left part.whole)
+    ∙ sym (at_piece _ _ c.nodes_count-each.ensures.count _ _ _ _ 0 no_move part.piece part.left part.whole)

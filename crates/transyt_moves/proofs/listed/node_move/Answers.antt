@@ -16,13 +16,11 @@ returns c =
     let i = c.args.place / 2 - 1 in
     let inside : i < length c.args.node.now.stages = omega (arith, c.requires.place, c.if-place-lt2.false) in
     let number : c.args.place / 2 ≡ i + 1 = omega (arith, c.if-place-lt2.false) in
-    let stages : c.node.inside.stages.items ≡ c.args.node.now.stages = ap (λ
-    (n : NodeValue). n.stages) c.node.view_is in
+    let stages = ap (λ (n : NodeValue). n.stages) c.node.view_is in
     let stage : c.index.result.now ≡ stage_of c.args.node.now.stages i =
     c.index.ensures ∙ ap (λ (l : List Stage). get_or l i c.index.result.now) stages
-    ∙ get_or_default c.args.node.now.stages i c.index.result.now no_stage inside in
-    let name : c.node.inside.number ≡ c.args.node.now.number = ap (λ (n : NodeValue). n.number) c.node.view_is in
+    ∙ get_or_default _ _ _ no_stage inside in
+    let name = ap (λ (n : NodeValue). n.number) c.node.view_is in
     (λ j. Change (name j) (number j) ((c.shifted-2.ensures
     ∙ ap (λ (s : Stage). shifted (c.args.place % 2 == 1) c.args.step_count s.change c.args.size) stage) j))
-    ∙ sym (stage_move c.args.step_count c.args.size c.args.node.now i
-    (c.args.place % 2 == 1) c.args.place inside refl number)
+    ∙ sym (stage_move c.args.step_count c.args.size _ i _ c.args.place inside refl number)
