@@ -6,7 +6,7 @@ use Rattle.std.proofs.Math.Logic.{⊎_elim}
 use Rattle.std.proofs.Math.Nat.{mod-lt, mod-eq_of_lt}
 use Rattle.std.proofs.lemmas.Bool.{cases_eq, cases_lt}
 use Rattle.std.proofs.lemmas.Bool.Decides.{nat_tests}
-use Rattle.std.proofs.lemmas.List.FromFn.{get_or-map-range_with_len, length-map-range_with_len}
+use Rattle.std.proofs.lemmas.List.FromFn.{get_or-map-range_with_len}
 use Rattle.transyt_cycle.specs.Cycle.{minus_mod}
 use Rattle.transyt_cycle.proofs.CycleLaws.{minus_mod-above, minus_mod-under}
 use Rattle.transyt_platoon.specs.Platoon.{dispersed_at}
@@ -79,9 +79,3 @@ arriving_each n i k (p ∷ ps) same end inside =
 pub none_arrived : (j : ℕ) (ps : List Platoon) → sum_by (arrived 0 j) ps ≡ 0
 none_arrived j [] = refl
 none_arrived j (p ∷ ps) = grind (arith, nat_tests, sum_by-cons (arrived 0 j) p ps, none_arrived j ps)
-
--- as many steps arrive as set out
-pub length-arriving : (p : Platoon) → length (arriving p) ≡ steps_of p
-length-arriving p =
-    length-map-range_with_len (dispersed_at (sent p) p.travel.now.time p.travel.now.percent) 0 (length (sent p))
-    ∙ length-sent p

@@ -25,20 +25,15 @@ mixed_by w by x z most p least close room x_fits z_fits =
     ap (λ n. n / p) same
     ∙ by_reciprocal (100 * x + w * z) (100 + w) by p (omega arith) least close (parts_fit w x z most p room x_fits z_fits)
 
--- what is divided by the power fits
-pub parts_sum : (w by x z most : ℕ) → most ≤ 4194304 → w ≤ 96000 → by * (100 + w) < 1099511627776 + (100 + w)
-    → x < most → z < most → x * (100 * by) + z * (w * by) < 2 ^ 63
-parts_sum w by x z most small weight close x_fits z_fits =
-    let first : x * (100 * by) ≤ most * (100 * by) = mul-le-mul_right (100 * by) (omega arith) in
-    let second : z * (w * by) ≤ most * (w * by) = mul-le-mul_right (w * by) (omega arith) in
-    let both : most * (by * (100 + w)) ≤ 4194304 * (by * (100 + w)) = mul-le-mul_right (by * (100 + w)) small in
-    let apart : most * (by * (100 + w)) ≡ most * (100 * by) + most * (w * by) = omega arith in
-    omega (arith, first, second, both, apart, close, weight)
-
--- so the products of a travel fit
+-- the products of a travel fit
 pub travel_sum : (n : ℕ) (m : Travel) (x z : ℕ) → IsTravel n m → x < m.limit → z < m.limit
     → x * m.starting_factor + z * m.before_factor < 2 ^ 63
 travel_sum n m x z is x_fits z_fits =
+    let w : ℕ = m.weight in
+    let by : ℕ = m.reciprocal in
     let weight : m.percent * m.time ≤ 100 * 960 = mul-le m.percent m.time 100 960 is.percent is.time in
-    rw (is.starting_factor, is.before_factor)
-    (parts_sum m.weight m.reciprocal x z m.limit is.small (omega (arith, weight, is.weight)) is.close x_fits z_fits)
+    let first : x * (100 * by) ≤ m.limit * (100 * by) = mul-le-mul_right (100 * by) (omega arith) in
+    let second : z * (w * by) ≤ m.limit * (w * by) = mul-le-mul_right (w * by) (omega arith) in
+    let both : m.limit * (by * (100 + w)) ≤ 4194304 * (by * (100 + w)) = mul-le-mul_right (by * (100 + w)) is.small in
+    let apart : m.limit * (by * (100 + w)) ≡ m.limit * (100 * by) + m.limit * (w * by) = omega arith in
+    rw (is.starting_factor, is.before_factor) (omega (arith, first, second, both, apart, weight, is.weight, is.close))

@@ -1,11 +1,12 @@
 -- With both turns past, the dispersed platoons are added.
 use Rattle.std.proofs.Common.{◌≡◌, ℕ, ◌+◌, ◌*◌, ◌^◌, ◌<◌, ◌≤◌, List, length, get_or, sym, ◌∙◌, arith, All}
 use Rattle.std.proofs.lemmas.Nat.{mul-le}
+use Rattle.std.proofs.lemmas.List.FromFn.{length-map-range_with_len}
 use Rattle.transyt_profile.specs.Profile.{folded}
 use Rattle.transyt_profile.proofs.AddedLaws.{is_added_each, each_grows, length-folded, get_or-folded, folded_each}
 use Rattle.transyt_platoon.specs.Arriving.{arriving, sent}
 use Rattle.transyt_platoon.specs.declared.platoon.Platoon.{Platoon}
-use Rattle.transyt_platoon.proofs.Arrived.{arriving_each, length-arriving, none_arrived}
+use Rattle.transyt_platoon.proofs.Arrived.{arriving_each, none_arrived}
 use Rattle.transyt_platoon.proofs.Mixing.{dispersed_small}
 use Rattle.transyt_platoon.proofs.Turns.{passed_at, length-sent}
 use Rattle.transyt_platoon.proofs.together.add_each.Goals as goal
@@ -74,7 +75,9 @@ returns-clause-grows g c = λ limit within.
     let ps : List Platoon = c.args.abreast.now.platoons.now in
     rw (returns-clause-value g c)
     (each_grows arriving ps (folded n c.args.turns.now) limit (2 ^ 22)
-    (λ i d h. length-arriving (get_or ps i d) ∙ c.args.abreast.now.ready.same i d h ∙ sym (length-folded n c.args.turns.now))
+    (λ i d h.
+    length-map-range_with_len _ 0 _ ∙ length-sent (get_or ps i d) ∙ c.args.abreast.now.ready.same i d h
+    ∙ sym (length-folded n c.args.turns.now))
     (λ i d h.
     let p : Platoon = get_or ps i d in
     dispersed_small (sent p) _ _ (2 ^ 22)
