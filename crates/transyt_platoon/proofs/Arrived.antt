@@ -11,7 +11,7 @@ use Rattle.transyt_cycle.specs.Cycle.{minus_mod}
 use Rattle.transyt_cycle.proofs.CycleLaws.{minus_mod-above, minus_mod-under}
 use Rattle.transyt_platoon.specs.Platoon.{dispersed_at}
 use Rattle.transyt_platoon.specs.Arriving.{arriving, sent}
-use Rattle.transyt_platoon.specs.Going.{arrived, arrived_by, brings, gone_by, steps_of}
+use Rattle.transyt_platoon.specs.Going.{arrived, arrived_by, gone_by, steps_of}
 use Rattle.transyt_platoon.proofs.Turns.{length-sent}
 use Rattle.transyt_platoon.specs.declared.platoon.Platoon.{Platoon}
 
@@ -56,7 +56,7 @@ arriving_at p i k end inside =
     let below : k < length xs = omega (arith, same, inside) in
     get_or-map-range_with_len (dispersed_at xs t p.travel.now.percent) 0 (length xs) k k 0 below (omega arith)
     ∙ ap (λ m. gone_by p (m + 1 + minus_mod m k t)) same
-    ∙ sym (arrived_whole (brings p) n t k inside)
+    ∙ sym (arrived_whole (λ m. gone_by p (n + 1 + m)) n t k inside)
     ∙ ap (λ m. arrived m k p + arrived m (n + k) p) (sym end)
 
 -- so is it of each of some platoons

@@ -5,7 +5,7 @@ use Rattle.std.specs.List.{All}
 use Rattle.std.proofs.lemmas.List.{ext_get_or, get_or_default}
 use Rattle.std.proofs.lemmas.List.Sums.{sum_by-cons}
 use Rattle.std.proofs.lemmas.List.FromFn.{get_or-map-range_with_len, length-map-range_with_len}
-use Rattle.transyt_profile.specs.Profile.{added, added_at, folded, folded_at}
+use Rattle.transyt_profile.specs.Profile.{added, added_at, folded}
 
 -- a sum has as many steps as its first profile
 pub length-added : (xs ys : List ℕ) → length (added xs ys) ≡ length xs
@@ -17,12 +17,12 @@ get_or-added xs ys i inside = get_or-map-range_with_len (added_at xs ys) 0 (leng
 
 -- two turns folded have as many steps as the cycle
 pub length-folded : (n : ℕ) (turns : List ℕ) → length (folded n turns) ≡ n
-length-folded n turns = length-map-range_with_len (folded_at n turns) 0 n
+length-folded n turns = length-map-range_with_len _ 0 n
 
 -- and at each the sum of both values
 pub get_or-folded : (n : ℕ) (turns : List ℕ) (i : ℕ) → i < n
     → get_or (folded n turns) i 0 ≡ get_or turns i 0 + get_or turns (n + i) 0
-get_or-folded n turns i inside = get_or-map-range_with_len (folded_at n turns) 0 n i i 0 inside (omega arith)
+get_or-folded n turns i inside = get_or-map-range_with_len _ 0 n i i 0 inside (omega arith)
 
 -- a limit on what stood goes up by the limit on what is added
 pub added_grows : (xs ys : List ℕ) (limit more : ℕ) → length ys ≡ length xs → All (λ v. v < limit) xs

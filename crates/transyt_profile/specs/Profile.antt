@@ -14,13 +14,9 @@ added_at xs ys i = slice_index xs i + slice_index ys i
 abbrev pub added : List ℕ → List ℕ → List ℕ
 added xs ys = map (added_at xs ys) (range_with_len 0 (length xs))
 
--- two turns round a cycle of n steps, folded to one, at step i
-abbrev pub folded_at : ℕ → List ℕ → ℕ → ℕ
-folded_at n turns i = slice_index turns i + slice_index turns (n + i)
-
 -- two turns round a cycle of n steps, one after the other, folded to one: the sum of both values of each step
 abbrev pub folded : ℕ → List ℕ → List ℕ
-folded n turns = map (folded_at n turns) (range_with_len 0 n)
+folded n turns = map (λ i. slice_index turns i + slice_index turns (n + i)) (range_with_len 0 n)
 
 -- the part of one value that goes on with `part` of `whole` vehicles per hour, rounded down
 abbrev pub share_of : ℕ → ℕ → ℕ → ℕ

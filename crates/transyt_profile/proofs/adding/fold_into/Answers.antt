@@ -1,7 +1,6 @@
 -- Two turns are folded.
-use Rattle.std.proofs.Common.{◌^◌, length, arith}
+use Rattle.std.proofs.Common.{◌^◌, arith}
 use Rattle.std.proofs.lemmas.List.FromFn.{fill_by_all}
-use Rattle.transyt_profile.specs.Profile.{folded_at}
 use Rattle.transyt_profile.proofs.AddedLaws.{folded_first}
 use Rattle.transyt_profile.proofs.adding.fold_into.Goals as goal
 
@@ -11,6 +10,4 @@ overflow_add-out-in-loop-i c = omega (arith, folded_first _ c.args.turns.now (2 
 
 -- with every step passed, all are folded
 pub returns : goal.returns
-returns c =
-    fill_by_all (folded_at (length c.args.out.now) c.args.turns.now) c.loop-i.out _ 0 (omega arith)
-    (λ k h. c.loop-i.invariant k (omega arith))
+returns c = fill_by_all _ c.loop-i.out _ 0 (omega arith) (λ k h. c.loop-i.invariant k (omega arith))

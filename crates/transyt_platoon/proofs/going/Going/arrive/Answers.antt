@@ -1,7 +1,7 @@
 -- One step more of the second turn, where it arrives.
 use Rattle.std.proofs.Common.{◌≡◌, ℕ, ◌+◌, ◌%◌, ◌<◌, length, get_or, get_or-set_same, get_or-set_other, ap, ◌∙◌, arith}
 use Rattle.std.proofs.Math.Nat.{mod-lt}
-use Rattle.transyt_platoon.specs.Going.{brings, gone_by, steps_of}
+use Rattle.transyt_platoon.specs.Going.{gone_by, steps_of}
 use Rattle.transyt_platoon.specs.Platoon.{mixed}
 use Rattle.transyt_platoon.proofs.Arrived.{arrived_more}
 use Rattle.transyt_platoon.proofs.Turns.{second_gone}
@@ -34,7 +34,7 @@ returns-clause-arrives c =
     let is_place : place ≡ p.travel.now.time % n = c.requires.passed.place ∙ p.is_travel.place in
     let inside : place + i < length c.args.turns.now =
     omega (arith, is_place, mod-lt p.travel.now.time {m = n} (omega (arith, c.requires.step)), c.requires.step, c.requires.turns_len) in
-    arrived_more (brings p) (p.travel.now.time % n) i place c.args.turns.now _ is_place
+    arrived_more (λ m. gone_by p (n + 1 + m)) (p.travel.now.time % n) i place c.args.turns.now _ is_place
     (get_or-set_same c.args.turns.now (place + i) (get_or c.args.turns.now (place + i) 0 + c.mix-self.result) 0 inside
     ∙ ap (λ v. get_or c.args.turns.now (place + i) 0 + v) gone)
     (λ j other. get_or-set_other c.args.turns.now (place + i) j _ 0 other)
