@@ -23,13 +23,7 @@ digit_byte d small = grind (arith, nat_tests)
 
 -- the shortest text of a value below ten is its digit
 shortest_digit : (n : ℕ) → n < 10 → IsShortest n ((48 + n) ∷ [])
-shortest_digit n small = record {
-  some = omega arith;
-  digits = grind (arith, digit_byte n small);
-  value = omega arith;
-  zero = λ none. refl;
-  front = λ positive. omega arith;
-}
+shortest_digit n small = grind (arith, nat_tests)
 
 -- that of a value from ten on is the text of its tenth part and the digit that is left
 shortest_more : (n : ℕ) (ds : List ℕ) → 10 ≤ n → IsShortest (n / 10) ds → IsShortest n (ds ++ (48 + n % 10) ∷ [])
