@@ -1,6 +1,6 @@
 -- Laws of numbers as text.
 use Rattle.std.proofs.Common.{◌≡◌, ℕ, ◌+◌, ◌-◌, ◌*◌, ◌/◌, ◌%◌, ◌^◌, ◌<◌, ◌≤◌, List, [], ◌∷◌, ◌++◌, length, true, Some}
-use Rattle.std.proofs.Common.{◌∙◌, arith, refl}
+use Rattle.std.proofs.Common.{arith}
 use Rattle.std.specs.Char.{is_ascii_digit}
 use Rattle.std.specs.Fmt.{decimal}
 use Rattle.std.specs.List.{list_all}
@@ -30,18 +30,16 @@ shortest_more : (n : ℕ) (ds : List ℕ) → 10 ≤ n → IsShortest (n / 10) d
 shortest_more n ds wide tenth =
     let digit : n % 10 < 10 = mod-lt n (omega arith) in
     let whole : n % 10 + n / 10 * 10 ≡ n = mod-add-div' n 10 in
-    let positive : 0 < n / 10 = omega arith in
-    record {
-      some = omega (arith, length_push ds (48 + n % 10));
-      digits =
-          let apart = list_all-append is_ascii_digit ds ((48 + n % 10) ∷ []) in
-          grind (arith, apart, tenth.digits, digit_byte (n % 10) digit);
-      value = word_value_push ds (48 + n % 10) ∙ omega (arith, tenth.value);
-      zero = λ none. absurd (omega arith);
-      front = λ more.
-          let first = tenth.front positive in
-          omega (arith, get_or_append_left ds ((48 + n % 10) ∷ []) 0 0 tenth.some);
-    }
+    let first = tenth.front (omega arith) in
+    let last : List ℕ = (48 + n % 10) ∷ [] in
+    grind (
+      arith,
+      nat_tests,
+      length_push ds (48 + n % 10),
+      list_all-append is_ascii_digit ds last,
+      word_value_push ds (48 + n % 10),
+      get_or_append_left ds last 0 0 tenth.some,
+    )
 
 -- std's text of a value is the shortest
 pub shortest_decimal : (n : ℕ) → n < 10 ^ 64 → IsShortest n (decimal n)

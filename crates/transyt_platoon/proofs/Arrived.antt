@@ -4,7 +4,7 @@ use Rattle.std.proofs.Common.{refl, ap, sym, ◌∙◌, arith, All}
 use Rattle.std.proofs.lemmas.List.Sums.{sum_by-cons}
 use Rattle.std.proofs.Math.Logic.{⊎_elim}
 use Rattle.std.proofs.Math.Nat.{mod-lt, mod-eq_of_lt}
-use Rattle.std.proofs.lemmas.Bool.{cases_eq, cases_lt}
+use Rattle.std.proofs.lemmas.Bool.{cases_eq}
 use Rattle.std.proofs.lemmas.Bool.Decides.{nat_tests}
 use Rattle.std.proofs.lemmas.List.FromFn.{get_or-map-range_with_len}
 use Rattle.transyt_cycle.specs.Cycle.{minus_mod}
@@ -34,16 +34,11 @@ arrived_whole g n t k inside =
     let some : 0 < n = omega (arith, inside) in
     let first : t % n < n = mod-lt t some in
     let own : k % n ≡ k = mod-eq_of_lt inside in
-    ⊎_elim
-    (λ (before : k < t % n).
-    let step : n + k - t % n ≡ minus_mod n k t =
-    omega (arith, minus_mod-under n k t some (omega (arith, before, own)), own, before, first) in
-    grind (arith, nat_tests, ap g step))
-    (λ (after : t % n ≤ k).
-    let step : k - t % n ≡ minus_mod n k t =
-    omega (arith, minus_mod-above n k t some (omega (arith, after, own)), own) in
-    grind (arith, nat_tests, ap g step))
-    (cases_lt k (t % n))
+    let far : k < t % n → g (n + k - t % n) ≡ g (minus_mod n k t) = λ before.
+    ap g (omega (arith, minus_mod-under n k t some (omega (arith, before, own)), own, before, first)) in
+    let near : t % n ≤ k → g (k - t % n) ≡ g (minus_mod n k t) = λ after.
+    ap g (omega (arith, minus_mod-above n k t some (omega (arith, after, own)), own)) in
+    grind (arith, nat_tests, far, near)
 
 -- with the whole turn past, it is what arrives
 arriving_at : (p : Platoon) (i k : ℕ) → i ≡ steps_of p → k < steps_of p

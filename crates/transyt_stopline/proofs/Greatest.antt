@@ -1,5 +1,5 @@
 -- The greatest of a function's values.
-use Rattle.std.proofs.Common.{◌≡◌, ℕ, zero, suc, ◌+◌, ◌-◌, ◌<◌, ◌≤◌, ◌⊎◌, max, arith, refl, inl, inr}
+use Rattle.std.proofs.Common.{◌≡◌, ℕ, zero, suc, ◌+◌, ◌-◌, ◌<◌, ◌≤◌, ◌⊎◌, max, ap, arith, refl, inl, inr}
 use Rattle.std.proofs.lemmas.Bool.{cases_lt}
 use Rattle.transyt_stopline.specs.LastSteps.{greatest}
 
@@ -20,10 +20,8 @@ pub le_greatest : (f : ℕ → ℕ) (m n : ℕ) → 0 < m → m ≤ n → f m �
 unfolding greatest
 le_greatest f m zero positive most = absurd (omega arith)
 le_greatest f m (suc n) positive most =
-    elim (cases_lt n m) as (λ w. f m ≤ max (greatest f n) (f (suc n))) [
-      | inl above ↦ let last : m ≡ suc n = omega arith in rw last (omega arith)
-      | inr under ↦ omega (arith, le_greatest f m n positive under)
-    ]
+    let last : n < m → f m ≡ f (suc n) = λ above. ap f (omega (arith, above)) in
+    grind (arith, last, le_greatest f m n positive)
 
 -- what no value is above, the greatest isn't
 pub greatest-le : (f : ℕ → ℕ) (limit n : ℕ) → ((m : ℕ) → m ≤ n → f m ≤ limit) → greatest f n ≤ limit

@@ -35,12 +35,7 @@ loop-rest-preserved c =
     let at = c.loop-rest in
     let step = decimal_step_wide at.rest c.loop-rest-test.true (omega (arith, at.auto.rest-fits)) in
     let more = put_digit c.args.v at.rest at.start _ _ at.digits step at.invariant.text at.invariant.room (omega arith) in
-    record {
-      text = more.1;
-      room = omega (arith, more.0);
-      within = omega arith;
-      len = length-set at.digits _ _ ∙ at.invariant.len;
-    }
+    grind (arith, common_steps, more)
 
 -- the first digit has its place
 pub overflow_sub-start-2 : goal.overflow_sub-start-2

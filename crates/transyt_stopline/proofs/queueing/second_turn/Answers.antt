@@ -1,5 +1,5 @@
 -- The second turn is written until the first turn had the same queue.
-use Rattle.std.proofs.Common.{◌≡◌, ℕ, ◌+◌, ◌<◌, ◌≤◌, sym, ◌∙◌, arith}
+use Rattle.std.proofs.Common.{◌≡◌, ℕ, ◌+◌, ◌<◌, ◌≤◌, arith}
 use Rattle.std.proofs.lemmas.Bool.{cases_lt}
 use Rattle.std.proofs.Math.Logic.{⊎_elim}
 use Rattle.std.proofs.lemmas.Grind.{common_steps}
@@ -12,9 +12,10 @@ meet : (c : goal.Then-standing-queue) (k : ℕ) → c.loop-i.i + 1 ≤ k
     → turn c.args.arrivals.now c.args.go.now 0 k ≡ turn c.args.arrivals.now c.args.go.now c.args.left k
 meet c =
     turns_meet c.args.arrivals.now c.args.go.now 0 c.args.left (c.loop-i.i + 1)
-    (sym (c.requires.queue c.loop-i.i (omega arith)) ∙ sym (c.loop-i.invariant.first_queue c.loop-i.i (omega arith))
-    ∙ sym c.if-standing-queue.true ∙ omega (
+    (omega (
       arith,
+      c.requires.queue c.loop-i.i (omega arith),
+      c.loop-i.invariant.first_queue c.loop-i.i (omega arith),
       c.saturating_sub-standing.ensures,
       turn_more c.args.arrivals.now c.args.go.now c.args.left c.loop-i.i,
     ))

@@ -11,17 +11,9 @@ use Rattle.transyt_platoon.proofs.going.Going.arrive.Goals as goal
 pub returns-clause-passed : goal.returns-clause-passed
 returns-clause-passed c =
     let p = c.args.platoon.now in
-    let before = c.requires.passed in
     let i : ℕ = c.args.step in
-    let n : ℕ = steps_of p in
-    let next : n + 1 + i ≡ n + (i + 1) = omega arith in
-    record {
-      value = c.mix-self.ensures.value ∙ ap (mixed _ _) before.value ∙ second_gone p i c.requires.step ∙ ap (gone_by p) next;
-      small = c.mix-self.ensures.small;
-      factor = before.factor;
-      place = before.place;
-      fits = before.fits;
-    }
+    let next : steps_of p + 1 + i ≡ steps_of p + (i + 1) = omega arith in
+    grind (arith, second_gone p i c.requires.step ∙ ap (gone_by p) next)
 
 -- and it is added
 pub returns-clause-arrives : goal.returns-clause-arrives

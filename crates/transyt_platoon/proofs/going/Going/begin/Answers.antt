@@ -1,5 +1,5 @@
 -- The mean goes before the first step, and is within the bound of what it is made of.
-use Rattle.std.proofs.Common.{◌≡◌, ◌/◌, length, sum, ap, sym, ◌∙◌, arith, refl}
+use Rattle.std.proofs.Common.{◌≡◌, ◌*◌, ◌/◌, length, sum, ap, sym, ◌∙◌, arith}
 use Rattle.transyt_platoon.specs.Arriving.{sent}
 use Rattle.transyt_platoon.specs.Going.{steps_of}
 use Rattle.transyt_platoon.proofs.Mixing.{mean_below, smoothed_none}
@@ -12,10 +12,5 @@ returns c =
     let same : length (sent p) ≡ steps_of p = length-sent p in
     let is_mean : c.args.total / steps_of p ≡ sum (sent p) / length (sent p) =
     ap (λ all. all / steps_of p) c.requires.total ∙ ap (λ n. sum (sent p) / n) (sym same) in
-    record {
-      value = is_mean ∙ sym (smoothed_none (sent p) _);
-      small = rw is_mean (mean_below (sent p) p.travel.now.limit (omega (arith, c.requires.some, same)) c.requires.fits);
-      factor = refl;
-      place = refl;
-      fits = c.requires.fits;
-    }
+    let small = mean_below (sent p) p.travel.now.limit (omega (arith, c.requires.some, same)) c.requires.fits in
+    grind (arith, is_mean, small, smoothed_none (sent p) (p.travel.now.percent * p.travel.now.time))
