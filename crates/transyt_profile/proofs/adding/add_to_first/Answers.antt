@@ -1,8 +1,8 @@
 -- Two turns to whose first a profile is added, folded.
-use Rattle.std.proofs.Common.{◌≡◌, ℕ, ◌+◌, ◌-◌, ◌^◌, length, sym, ◌∙◌, arith}
-use Rattle.std.proofs.lemmas.List.FromFn.{fill_by_all}
-use Rattle.transyt_profile.specs.Profile.{added_at, folded}
-use Rattle.transyt_profile.proofs.AddedLaws.{length-folded, get_or-folded, added_grows, folded_first}
+use Rattle.std.proofs.Common.{ℕ, ◌-◌, ◌^◌, List, length, sym, arith}
+use Rattle.std.proofs.lemmas.Grind.{elements}
+use Rattle.transyt_profile.specs.Profile.{folded}
+use Rattle.transyt_profile.proofs.AddedLaws.{length-added, get_or-added, length-folded, get_or-folded, added_grows, folded_first}
 use Rattle.transyt_profile.proofs.adding.add_to_first.Goals as goal
 
 -- both values of a step come to less than 2^48
@@ -16,18 +16,18 @@ overflow_add-turns c =
 pub returns-clause-value : goal.returns-clause-value
 returns-clause-value c =
     let n : ℕ = length c.args.x.now in
-    let stood = folded n c.args.turns.now in
-    let long : length stood ≡ n = length-folded n c.args.turns.now in
-    fill_by_all (added_at stood c.args.x.now) (folded n c.loop-i.turns) (length stood) 0
-    (length-folded n c.loop-i.turns ∙ sym long)
-    (λ k below.
-    omega (
+    let stood : List ℕ = folded n c.args.turns.now in
+    let is : List ℕ = folded n c.loop-i.turns in
+    grind (
       arith,
-      get_or-folded n c.loop-i.turns k (omega arith),
-      get_or-folded n c.args.turns.now k (omega arith),
-      c.loop-i.invariant.summed k (omega arith),
-      c.loop-i.invariant.rest (n + k) (omega arith),
-    ))
+      elements,
+      length-folded n c.args.turns.now,
+      length-folded n c.loop-i.turns,
+      length-added stood c.args.x.now,
+      get_or-folded n c.args.turns.now,
+      get_or-folded n c.loop-i.turns,
+      get_or-added stood c.args.x.now,
+    )
 
 -- so a limit on what stood goes up by the limit on what is added
 pub returns-clause-grows : goal.returns-clause-grows
