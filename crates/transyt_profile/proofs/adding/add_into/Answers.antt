@@ -1,6 +1,6 @@
 -- The sum of two profiles, and how large its values can be.
-use Rattle.std.proofs.Common.{◌-◌, ◌^◌, ◌<◌, length, get_or, arith}
-use Rattle.std.proofs.lemmas.List.{get_or_default}
+use Rattle.std.proofs.Common.{◌-◌, ◌^◌, length, arith}
+use Rattle.std.proofs.lemmas.Grind.{elements}
 use Rattle.std.proofs.lemmas.List.FromFn.{fill_by_all}
 use Rattle.transyt_profile.specs.Profile.{added_at}
 use Rattle.transyt_profile.proofs.adding.add_into.Goals as goal
@@ -13,10 +13,7 @@ returns-clause-value c =
 
 -- a limit on what stood goes up by the limit on what is added
 pub returns-clause-grows : goal.returns-clause-grows
-returns-clause-grows c = λ limit within k d h.
-    let before : get_or c.args.out.now k 0 < limit = within k 0 (omega arith) in
-    let more : get_or c.args.x.now k 0 < 2 ^ 44 = c.requires.fit k 0 (omega arith) in
-    omega (arith, get_or_default c.loop-i.out k d 0 h, c.loop-i.invariant.summed k (omega arith))
+returns-clause-grows c = λ limit within. grind (arith, elements, within)
 
 -- so each step is below the sum of both limits
 pub returns-clause-small : goal.returns-clause-small
