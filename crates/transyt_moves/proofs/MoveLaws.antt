@@ -80,12 +80,9 @@ pub record IsParted (n c p : ℕ) : Type 0 where
 
 parted : (n c p : ℕ) → p < n * c → IsParted n c p
 parted n zero p inside = absurd (omega arith)
-parted n (suc c) p inside = record {
-  some = omega arith;
-  piece = (div-lt_iff_lt-mul {k = suc c} {x = p} {y = n} (omega arith)).1 inside;
-  left = mod-lt p (omega arith);
-  whole = omega (arith, mod-add-div' p (suc c));
-}
+parted n (suc c) p inside =
+    let piece = (div-lt_iff_lt-mul {k = suc c} {x = p} {y = n} (omega arith)).1 inside in
+    grind (arith, piece, mod-lt p {m = suc c} (omega arith), mod-add-div' p (suc c))
 
 -- a place among the moves of these sizes
 pub among_sizes : (steps : ℕ) (nodes : List NodeValue) (sizes : List ℕ) (each place : ℕ)

@@ -2,7 +2,7 @@
 use Rattle.std.proofs.Common.{◌≡◌, ℕ, zero, suc, ◌*◌, ◌^◌, ◌<◌, ◌≤◌, List, [], ◌∷◌, length, get_or, ap, arith, sum, map}
 use Rattle.std.specs.List.{All}
 use Rattle.std.proofs.lemmas.Bool.Decides.{nat_tests}
-use Rattle.std.proofs.lemmas.List.Elements.{All-from_get_or}
+use Rattle.std.proofs.lemmas.Grind.{elements}
 use Rattle.std.proofs.lemmas.List.Sums.{sum_by-cons, get_or-le-sum_by}
 use Rattle.std.proofs.Math.Nat.{mul-le-mul_left, div-le_of_le-mul, le_of_mul-le-mul_right, div-mul-le_self}
 use Rattle.std.proofs.lemmas.Nat.{mul-lt}
@@ -58,7 +58,4 @@ arrivals_length xs go = grind (arith, nat_tests, length-map xs (scaled (sum xs) 
 
 -- so it stays within each limit
 pub arrivals_small : (limit : ℕ) (xs go : List ℕ) → All (λ v. v < limit) xs → All (λ v. v < limit) (arrivals_of xs go)
-arrivals_small limit xs go fit =
-    All-from_get_or (λ v. v < limit) (arrivals_of xs go) 0
-    (λ i below. let small : get_or xs i 0 < limit = fit i 0 (omega (arith, arrivals_length xs go)) in
-    omega (arith, arrivals_no_more xs go i))
+arrivals_small limit xs go fit = grind (arith, elements, arrivals_length xs go, arrivals_no_more xs go)
