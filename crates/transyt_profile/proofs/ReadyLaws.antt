@@ -1,9 +1,10 @@
 -- What is made ready in a lane, one step more, and what all of it comes to.
-use Rattle.std.proofs.Common.{◌≡◌, ◌≢◌, ℕ, ◌+◌, ◌*◌, ◌^◌, ◌<◌, ◌≤◌, List, length, get_or, set, sum, sum_by, take}
-use Rattle.std.proofs.Common.{All, ap, max, sym, ◌∙◌, arith, get_or-set_same, get_or-set_other, below_more}
+use Rattle.std.proofs.Common.{◌≡◌, ℕ, ◌+◌, ◌*◌, ◌^◌, ◌<◌, ◌≤◌, List, length, get_or, set, sum, sum_by, take}
+use Rattle.std.proofs.Common.{All, ap, max, sym, ◌∙◌, arith, get_or-set_same, below_more}
 use Rattle.std.specs.List.{Any}
 use Rattle.std.proofs.Math.Logic.{⊎_elim}
 use Rattle.std.proofs.lemmas.Bool.{cases_lt}
+use Rattle.std.proofs.lemmas.Grind.{common_steps}
 use Rattle.std.proofs.lemmas.List.{take_all, get_or-map, length-map}
 use Rattle.std.proofs.lemmas.List.Elements.{All-from_get_or, All-map}
 use Rattle.std.proofs.lemmas.List.Sums.{sum-map}
@@ -27,18 +28,12 @@ pub lane_more : (lanes : List ℕ) (share : ℕ → ℕ) (f lane n r : ℕ) → 
     → InLane lanes share f lane n → (share n < 2 ^ 22 → r ≡ share n * f)
     → InLane (set lanes (4 * n + lane) r) share f lane (n + 1)
 lane_more lanes share f lane n r inside before here =
-    below_more _ _
-    (λ k low.
-    let apart : 4 * k + lane ≢ 4 * n + lane = λ same. omega (arith, same, low) in
-    rw get_or-set_other (before k low))
-    (rw get_or-set_same here)
+    below_more _ _ (λ k low. grind (arith, common_steps, before k low)) (rw get_or-set_same here)
 
 -- and the others stay
 pub others_more : (old lanes : List ℕ) (lane n r : ℕ) → lane < 4 → OthersStay old lanes lane
     → OthersStay old (set lanes (4 * n + lane) r) lane
-others_more old lanes lane n r own before k m small other =
-    let apart : 4 * k + m ≢ 4 * n + lane = λ same. other (omega (arith, same, own, small)) in
-    rw get_or-set_other (before k m small other)
+others_more old lanes lane n r own before k m small other = grind (arith, common_steps, before k m small other)
 
 -- what holds of each share holds of each value of the part that goes on
 pub all_shared : (part whole b : ℕ) (xs : List ℕ) → ((k : ℕ) → k < length xs → share_at part whole xs k < b)
