@@ -29,7 +29,7 @@ second_gone p i below =
 pub passed_at : (p : Platoon) (i j : ℕ) (g : Going) → i ≡ j → HasPassed p i g → HasPassed p j g
 passed_at p i j g same passed = subst (λ (k : ℕ). HasPassed p k g) same passed
 
--- what sets out at a step is below the limit
+-- each step that sets out is below the limit of its travel
 pub sent_fits : (p : Platoon) (i : ℕ) → Fits p → i < steps_of p → get_or (sent p) i 0 < p.travel.now.limit
 sent_fits p i fits below = fits i 0 (omega (arith, below, length-sent p))
 

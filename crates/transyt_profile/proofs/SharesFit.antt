@@ -11,7 +11,7 @@ fits value part whole value_fits part_fits whole_fits =
     let product : value * part < 2 ^ 30 * 10000 = mul-lt value part (2 ^ 30) 10000 value_fits (omega arith) in
     omega (arith, mul-lt (value * part) whole (2 ^ 30 * 10000) (2 ^ 20) product whole_fits)
 
--- what a part of a reciprocal makes of a value, over 2^64, is the share
+-- a value times a part times the reciprocal, over 2^64, is the share
 pub share_by : (value part whole one : ℕ) → value < 2 ^ 30 → part ≤ 9999 → 1 < whole → whole < 2 ^ 20
     → 2 ^ 64 ≤ one * whole → one * whole < 2 ^ 64 + whole → value * (part * one) / 2 ^ 64 ≡ share_of part whole value
 share_by value part whole one value_fits few some whole_fits least close =
