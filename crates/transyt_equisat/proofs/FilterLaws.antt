@@ -1,5 +1,5 @@
 -- Laws of what passes a test among what another test picks.
-use Rattle.std.proofs.Common.{◌≡◌, Bool, true, cond, List, [], ◌∷◌, All, map, subst, arith, inl, inr}
+use Rattle.std.proofs.Common.{◌≡◌, Bool, true, List, [], ◌∷◌, All, map, subst, arith, inl, inr}
 use Rattle.std.specs.List.{list_all, filter}
 use Rattle.std.proofs.lemmas.Bool.{cases_Bool}
 use Rattle.std.proofs.lemmas.List.{get_or-map, length-map}
@@ -14,11 +14,9 @@ picked_each {A} P pick (x ∷ xs) h =
     let Q : A → Type 0 = λ x. pick x ≡ true → P x in
     elim (cases_Bool (pick x)) [
       | inl picked ↦
-          let here = subst (λ (b : Bool). All P (cond b (x ∷ filter pick xs) (filter pick xs))) picked h in
+          let here = rw picked at h in
           All-cons Q x xs (λ p. All-head P x (filter pick xs) here) (picked_each P pick xs (All-tail P x (filter pick xs) here))
-      | inr left ↦
-          let here = subst (λ (b : Bool). All P (cond b (x ∷ filter pick xs) (filter pick xs))) left h in
-          All-cons Q x xs (λ p. absurd (cc (p, left))) (picked_each P pick xs here)
+      | inr left ↦ All-cons Q x xs (λ p. absurd (cc (p, left))) (picked_each P pick xs (rw left at h))
     ]
 
 -- and the other way round

@@ -14,7 +14,7 @@ loop-turn-preserved c =
     let p : ℕ = c.busiest-place.result in
     let so_far = c.loop-turn.invariant in
     record {
-      enough = enough_more c.args.asked.now gs p 1 so_far.enough;
+      enough = enough_more c.args.asked.now gs p 1 c.busiest-place.ensures.inside so_far.enough;
       fills = omega (
         arith,
         sum_by-set (λ n. n) gs p (get_or gs p 0 + 1) 0
