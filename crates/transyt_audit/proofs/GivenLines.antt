@@ -2,6 +2,7 @@
 use Rattle.std.proofs.Common.{◌≡◌, ℕ, ◌+◌, ◌≤◌, Bool, true, false, nat_lt}
 use Rattle.std.proofs.Common.{List, [], ◌∷◌, get_or, cond, arith}
 use Rattle.std.proofs.Common.{Option, Some, None, refl, sym, unwrap_or}
+use Rattle.std.specs.Option.{option_or}
 use Rattle.std.proofs.lemmas.Bool.Decides.{nat_tests}
 use Rattle.transyt_io.specs.Lines.{is_skipped}
 use Rattle.transyt_syntax.specs.declared.code.Code.TheVariants as code
@@ -14,13 +15,13 @@ use Rattle.transyt_audit.specs.declared.truth.Finding.{Finding}
 use Rattle.transyt_audit.specs.declared.truth.Finding.TheVariants.{Wrong, Right, Lower}
 use Rattle.transyt_audit.specs.Given.{agrees}
 use Rattle.transyt_audit.specs.Findings.{finding_of, finding_at, lowers_there}
-use Rattle.transyt_audit.proofs.Onward.{onward, onward_beyond, onward_wrong, onward_right, before_or}
+use Rattle.transyt_audit.proofs.Onward.{onward, onward_beyond, onward_wrong, onward_right}
 
 -- what is left to tell after a line that was found to be this
 abbrev pub after_line : Network → ℕ → Option ℕ → ℕ → List (List ℕ) → Finding → Verdict
 after_line net place lower number rest Wrong = No number code.OtherLine
 after_line net place lower number rest Right = onward net (place + 1) lower (number + 1) rest
-after_line net place lower number rest Lower = onward net (place + 1) (before_or lower (Some number))
+after_line net place lower number rest Lower = onward net (place + 1) (option_or lower (Some number))
     (number + 1) rest
 
 -- a line that has a true one at its place
@@ -56,6 +57,6 @@ onward_line net place lower number line rest kept = by (nat_lt (move_count net) 
         (lowers_there net place) kept (grind (arith, nat_tests)) refl refl
 
 -- what was found first stays
-pub first_found : (lower : Option ℕ) (number : ℕ) → Some (unwrap_or lower number) ≡ before_or lower (Some number)
+pub first_found : (lower : Option ℕ) (number : ℕ) → Some (unwrap_or lower number) ≡ option_or lower (Some number)
 first_found None number = refl
 first_found (Some n) number = refl
