@@ -6,7 +6,7 @@ ghost use Rattle.transyt_net.specs.Valid.{is_among, link_numbers, feeds_at};
 ghost use Rattle.transyt_net.specs.Faults.{with_feed};
 ghost use Rattle.transyt_make.specs.Draws.{further, draw};
 ghost use Rattle.transyt_make.specs.Made.{neighbour, side_at, number_at, turning, feeds_from, with_links};
-ghost use Rattle.transyt_make.specs.Made.{with_feeds, taken_by, draws_by, fed_before, with_three, all_names};
+ghost use Rattle.transyt_make.specs.Made.{with_feeds, draws_by, fed_before, with_three, all_names};
 
 use crate::draws::Draws;
 use crate::granted::grant_feed;
