@@ -7,10 +7,9 @@ use Rattle.std.proofs.lemmas.Slice.Eq.{bytes_eq-Decides}
 use Rattle.std.proofs.lemmas.Bool.{cases_Bool, leb-true, and_parts, and_from}
 use Rattle.std.proofs.lemmas.List.{length-map}
 use Rattle.std.proofs.lemmas.List.Elements.{All-nil, All-cons, All-head, All-tail}
-use Rattle.std.proofs.Common.{All, is_some}
+use Rattle.std.proofs.Common.{All, Bool, is_some, if◌then◌else◌}
 use Rattle.transyt_syntax.specs.declared.code.Code.{Code}
 use Rattle.transyt_syntax.specs.declared.code.Code.TheVariants as code
-use Rattle.transyt_parts.specs.Parts.{PlanValue}
 use Rattle.std.proofs.lemmas.Bool.Decides.{nat_tests}
 use Rattle.transyt_io.specs.Lines.{lines, words}
 use Rattle.transyt_net.specs.Parts.{Network}
@@ -20,10 +19,10 @@ use Rattle.transyt_sweep.specs.Climb.{is_below}
 use Rattle.transyt_cert.specs.Certificate.{CertLine, cert_line, cert_lines, cert_text}
 use Rattle.transyt_cert.proofs.CertificateLaws.{lines_certificate}
 use Rattle.transyt_audit.specs.declared.verdict.Verdict.{Verdict}
-use Rattle.transyt_audit.specs.declared.verdict.Verdict.TheVariants.{Yes}
+use Rattle.transyt_audit.specs.declared.verdict.Verdict.TheVariants.{Yes, No}
 use Rattle.transyt_audit.specs.Given.{Given, given_from, same_words, agrees, first_wrong, first_missing}
 use Rattle.transyt_audit.specs.Given.{first_lower}
-use Rattle.transyt_audit.specs.Verdict.{no_or, without_plan, judged, verdict}
+use Rattle.transyt_audit.specs.Verdict.{no_or, judged, verdict}
 use Rattle.transyt_audit.specs.Certified.{IsShort, IsCertified}
 use Rattle.transyt_audit.proofs.TrueLines.{length-cert_lines, length-cert_texts, line_at, lowers_is}
 
@@ -33,14 +32,18 @@ none_found : (o : Option ℕ) (why : Code) (later : Verdict) (places x : ℕ) �
 none_found None why later places x h = (refl, h)
 none_found (Some line) why later places x h = absurd (cc)
 
+planned_yes : (b : Bool) (line : ℕ) (v : Verdict) (places x : ℕ) → (if b then v else No line code.NoPlan) ≡ Yes places x
+    → (b ≡ true) × (v ≡ Yes places x)
+planned_yes true line v places x h = (refl, h)
+planned_yes false line v places x h = absurd (cc)
+
 -- the same words are equal
 same_equal : (us vs : List (List ℕ)) → same_words us vs ≡ true → us ≡ vs
 same_equal [] [] h = refl
-same_equal [] (v ∷ vs) h = absurd (cc)
-same_equal (u ∷ us) [] h = absurd (cc)
 same_equal (u ∷ us) (v ∷ vs) h =
     let both = and_parts (bytes_eq u v) (same_words us vs) h in
     λ j. (bytes_eq-Decides u v).0 both.0 j ∷ same_equal us vs both.1 j
+same_equal us vs h = absurd (cc)
 
 -- where no given line is wrong and no true one missing, they agree line by line, and none is too long
 all_right : (gs : List Given) (truths : List (List ℕ)) (next : ℕ) → first_wrong gs truths ≡ None
@@ -83,11 +86,6 @@ none_below x (g ∷ gs) (l ∷ ls) i d none enough inside =
     later zero inside other more = other
     later (suc i) inside other more = more i (omega (arith, inside))
 
--- a test of a plan that passed
-planned_is : (plan : Option PlanValue) (line : ℕ) → without_plan plan line ≡ None → is_some plan ≡ true
-planned_is None line h = absurd (cc)
-planned_is (Some p) line h = refl
-
 -- Yes proves that no listed move lowers the index
 pub yes_certifies : (net : Network) (table : List ℕ) (line places x : ℕ) → verdict net table line ≡ Yes places x
     → IsCertified net table line places x
@@ -95,27 +93,21 @@ yes_certifies net table line places x is =
     let given = given_from (line + 1) (lines table) in
     let truths = lines (cert_text net) in
     let next = line + 1 + length (lines table) in
-    let planned = none_found (without_plan net.plan line) code.NoPlan (judged net given next) places x is in
-    let right = none_found (first_wrong given truths) code.OtherLine _ places x planned.1 in
+    let (planned, later) = planned_yes (is_some net.plan) line (judged net given next) places x is in
+    let right = none_found (first_wrong given truths) code.OtherLine _ places x later in
     let there = none_found (first_missing given truths next) code.OtherLine _ places x right.1 in
     let higher = none_found (first_lower (index net) given (cert_lines net)) code.LowerIndex
     (Yes (move_count net) (index net)) places x there.1 in
     let agree = all_right given truths next right.0 there.0 in
     record {
-      planned = planned_is net.plan line planned.0;
+      planned = planned;
       short = agree.1;
       same = agree.0;
       local = λ place inside.
           sym (lowers_is net place)
           ∙ ap (λ l. is_below (index net) l.tried) (sym (line_at net place (cert_line net 0) inside))
           ∙ none_below (index net) given (cert_lines net) place (cert_line net 0) higher.0
-          (omega (
-            arith,
-            as_many given truths agree.0,
-            ap length (lines_certificate net),
-            length-cert_texts net,
-            length-cert_lines net,
-          ))
+          (omega (arith, as_many given truths agree.0, ap length (lines_certificate net), length-cert_texts net, length-cert_lines net))
           (omega (arith, inside, length-cert_lines net));
       count = cc;
       present = cc;
@@ -158,11 +150,6 @@ higher_from x (g ∷ gs) [] d none = refl
 higher_from x (g ∷ gs) (l ∷ ls) d none =
     rw (none 0 (omega arith)) (higher_from x gs ls d (λ i inside. none (suc i) (omega (arith, inside))))
 
--- there is a plan: the test passes
-without_none : (plan : Option PlanValue) (line : ℕ) → is_some plan ≡ true → without_plan plan line ≡ None
-without_none None line h = absurd (cc)
-without_none (Some p) line h = refl
-
 -- and what proves it is answered Yes
 pub certified_yes : (net : Network) (table : List ℕ) (line places x : ℕ) → IsCertified net table line places x
     → verdict net table line ≡ Yes places x
@@ -174,7 +161,7 @@ certified_yes net table line places x c =
     ap (λ l. is_below (index net) l.tried) (line_at net i (cert_line net 0) here) ∙ lowers_is net i
     ∙ c.local i here) in
     rw (
-      without_none net.plan line c.planned,
+      c.planned,
       right_from given truths c.short c.same,
       there_from given truths (line + 1 + length (lines table)) (as_many given truths c.same),
       higher,

@@ -1,7 +1,7 @@
 -- The greens and needs of the definition are those by what the stages ask.
 use Rattle.std.proofs.Common.{◌≡◌, ℕ, ◌+◌, ◌-◌, ◌<◌, ◌≤◌, Bool, true, not, nat_eq, List, map, length, arith}
 use Rattle.std.proofs.Common.{sym, ◌∙◌, ap, get_or, inl, inr}
-use Rattle.std.specs.List.{list_all, range_with_len}
+use Rattle.std.specs.List.{list_all, filter, range_with_len}
 use Rattle.std.proofs.lemmas.Bool.{cases_Bool}
 use Rattle.std.proofs.lemmas.Bool.Decides.{nat_tests}
 use Rattle.std.proofs.lemmas.List.FromFn.{fill_by_all, length-map-range_with_len, get_or-map-range_with_len}
@@ -11,7 +11,7 @@ use Rattle.transyt_net.specs.Parts.{Network}
 use Rattle.transyt_equisat.specs.declared.fraction.Fraction.{Fraction}
 use Rattle.transyt_equisat.specs.declared.demand.Demand.{Demand}
 use Rattle.transyt_equisat.specs.Fractions.{is_above}
-use Rattle.transyt_equisat.specs.Degrees.{counted_in, degree}
+use Rattle.transyt_equisat.specs.Degrees.{counts_in, degree}
 use Rattle.transyt_equisat.specs.Demands.{degree_of, no_demand}
 use Rattle.transyt_equisat.specs.Balance.{first_from, first_green, least_green, least_greens, need_at, share_at, no_share}
 use Rattle.transyt_equisat.specs.Asked.{asked_of}
@@ -36,7 +36,7 @@ module _ (net : Network) (n : NodeValue) (setting : IsSetting net n) (test : Fra
       (stage_of n.stages k).least (net.frame.step_count - (stage_of n.stages k).least)
   first_asked inside =
       let steps = net.frame.step_count in
-      first_same (λ e. list_all (λ l. test (degree steps l e)) (counted_in net n.number (k + 1)))
+      first_same (λ e. list_all (λ l. test (degree steps l e)) (filter (counts_in n.number (k + 1)) net.links))
       (λ e. test (degree_of steps (get_or (asked_of net n).demands k no_demand) e))
       (stage_of n.stages k).least (steps - (stage_of n.stages k).least) (
       λ e after.

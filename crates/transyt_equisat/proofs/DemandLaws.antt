@@ -12,7 +12,7 @@ use Rattle.transyt_net.specs.Parts.{Network}
 use Rattle.transyt_equisat.specs.declared.fraction.Fraction.{Fraction}
 use Rattle.transyt_equisat.specs.declared.demand.Demand.{Demand}
 use Rattle.transyt_equisat.specs.Fractions.{is_above}
-use Rattle.transyt_equisat.specs.Degrees.{counts_in, counted_in, degree}
+use Rattle.transyt_equisat.specs.Degrees.{counts_in, degree}
 use Rattle.transyt_equisat.specs.Demands.{demand_of, degree_of, heavier, heavier_of, demand_in, no_demand}
 use Rattle.transyt_equisat.proofs.FractionLaws.{not_above, not_above-trans}
 
@@ -71,10 +71,10 @@ and_true false b h = refl
 -- the counted links of a stage pass where the one that asks most does
 pub stage_tested : (test : Fraction → Bool) → IsLower test → (net : Network) (number stage e : ℕ) → 0 < e
     → All (λ l. 0 < l.saturation) net.links
-    → list_all (λ l. test (degree net.frame.step_count l e)) (counted_in net number stage)
+    → list_all (λ l. test (degree net.frame.step_count l e)) (filter (counts_in number stage) net.links)
     ≡ test (degree_of net.frame.step_count (demand_in net number stage) e)
 stage_tested test lower net number stage e some live =
-    sym (and_true (list_all (λ l. test (degree net.frame.step_count l e)) (counted_in net number stage))
+    sym (and_true (list_all (λ l. test (degree net.frame.step_count l e)) (filter (counts_in number stage) net.links))
     (test (degree_of net.frame.step_count no_demand e)) (lower.none net.frame.step_count e some))
     ∙ all_tested test lower net.frame.step_count number stage e some net.links live no_demand (omega arith)
 

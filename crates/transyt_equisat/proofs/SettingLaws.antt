@@ -1,5 +1,5 @@
 -- What the balance of a node stands on holds in a valid network.
-use Rattle.std.proofs.Common.{◌≡◌, ℕ, zero, suc, ◌<◌, ◌≤◌, All, true, false, not, nat_eq, List, [], ◌∷◌, length, get_or, cond}
+use Rattle.std.proofs.Common.{◌≡◌, ℕ, zero, suc, ◌<◌, ◌≤◌, All, true, false, not, nat_eq, List, [], ◌∷◌, length, get_or}
 use Rattle.std.proofs.Common.{◌∙◌, ap, refl, arith, Some, None}
 use Rattle.std.specs.List.{list_any}
 use Rattle.std.proofs.lemmas.Bool.{not-true, and_parts, or_parts}
@@ -39,13 +39,12 @@ pub numbered_self : (nodes : List NodeValue) (p : ℕ) (d : NodeValue) → all_d
 numbered_self [] p d differ inside = absurd (omega arith)
 numbered_self (n ∷ ns) zero d differ inside =
     let same : nat_eq n.number n.number ≡ true = grind (arith, nat_tests) in
-    ap (λ b. cond b (Some n) (numbered node_number ns n.number)) same
+    rw same
 numbered_self (n ∷ ns) (suc p) d differ inside =
     let both = and_parts (not (list_any (nat_eq n.number) (node_numbers ns))) (all_differ (node_numbers ns)) differ in
     let other = eq_swapped n.number (get_or ns p d).number
     (differs ns n.number p d (not-true (list_any (nat_eq n.number) (node_numbers ns)) both.0) (omega arith)) in
-    ap (λ b. cond b (Some n) (numbered node_number ns (get_or ns p d).number)) other
-    ∙ numbered_self ns p d both.1 (omega arith)
+    rw other (numbered_self ns p d both.1 (omega arith))
 
 -- a counted link has one stage, and runs at the node
 counted_parts : (number : ℕ) (l : LinkValue) → is_counted number l ≡ true → (l.node ≡ number) × (length l.stages ≡ 1)

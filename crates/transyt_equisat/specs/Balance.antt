@@ -1,7 +1,7 @@
 -- The balance of a node: the plan whose greatest degree of saturation is least. Times are in steps.
 use Rattle.std.specs.Prelude.{ℕ, zero, suc, ◌+◌, ◌-◌, ◌*◌, ◌%◌, Bool, not, ◌&&◌, nat_eq, List, [], ◌∷◌, map, sum, length}
 use Rattle.std.specs.Prelude.{◌≡◌, ◌<◌, slice_index, slice_index_or, slice_set, Option, Some, None, if◌then◌else◌}
-use Rattle.std.specs.List.{list_all, range_with_len, find, fold, flat_map}
+use Rattle.std.specs.List.{list_all, filter, range_with_len, find, fold, flat_map}
 use Rattle.transyt_parts.specs.declared.node.Stage.{Stage}
 use Rattle.transyt_parts.specs.Parts.{NodeValue, LinkValue}
 use Rattle.transyt_parts.specs.Plan.{stage_of}
@@ -11,7 +11,7 @@ use Rattle.transyt_equisat.specs.declared.fraction.Fraction.{Fraction}
 use Rattle.transyt_equisat.specs.declared.greens.Share.{Share}
 use Rattle.transyt_equisat.specs.declared.balancing.Told.{Told}
 use Rattle.transyt_equisat.specs.Fractions.{is_above, nothing, AtMost, IsSame}
-use Rattle.transyt_equisat.specs.Degrees.{is_counted, counted_in, degree}
+use Rattle.transyt_equisat.specs.Degrees.{is_counted, counts_in, degree}
 use Rattle.transyt_equisat.specs.Peaks.{lost, green_of, peak, greens_of, IsPlanOf}
 use Rattle.transyt_equisat.specs.Answer.{GreensValue}
 
@@ -23,14 +23,10 @@ all_greens (s ∷ ss) left =
     flat_map (λ e. map (λ es. e ∷ es) (all_greens ss (left - (e + s.intergreen))))
     (range_with_len s.least (left + 1 - (s.least + s.intergreen)))
 
--- the lesser of two fractions, the first where they are equal
-abbrev pub lesser : Fraction → Fraction → Fraction
-lesser a b = if is_above a b then b else a
-
--- the least of these
+-- the least of these, the first where some are equal
 abbrev pub least_of : List Fraction → Fraction
 least_of [] = nothing
-least_of (d ∷ ds) = fold lesser d ds
+least_of (d ∷ ds) = fold (λ a b. if is_above a b then b else a) d ds
 
 -- the least peak of all greens that fill the cycle
 abbrev pub least_peak : Network → NodeValue → Fraction
@@ -44,7 +40,7 @@ first_from test e (suc n) = if test e then e else first_from test (e + 1) n
 -- the first green of the stage at a place, from its least on, at which the degree of each of its counted links passes
 abbrev pub first_green : Network → NodeValue → (Fraction → Bool) → ℕ → ℕ
 first_green net n test k =
-    first_from (λ e. list_all (λ l. test (degree net.frame.step_count l e)) (counted_in net n.number (k + 1)))
+    first_from (λ e. list_all (λ l. test (degree net.frame.step_count l e)) (filter (counts_in n.number (k + 1)) net.links))
     (stage_of n.stages k).least (net.frame.step_count - (stage_of n.stages k).least)
 
 -- the least green of the stage at a place at which none of its counted links is above v
