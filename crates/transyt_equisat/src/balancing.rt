@@ -47,6 +47,7 @@ fn degree(net: &Net, place: usize, green: u32) -> Fraction
 }
 
 /// The least green at which a demand isn't above the peak.
+#[tactic(auto, using(crate::proofs::SearchLaws::first_skip, crate::proofs::SearchLaws::first_here))]
 fn green_by(steps: u32, peak: Fraction, least: u32, demand: Demand) -> u32
     requires { least ≤ steps }
     ensures value { result ≡ green_by steps peak least demand }
@@ -62,6 +63,7 @@ fn green_by(steps: u32, peak: Fraction, least: u32, demand: Demand) -> u32
 }
 
 /// The least green at which a demand is below the peak; 0 where the peak is 0.
+#[tactic(auto, using(crate::proofs::SearchLaws::first_skip, crate::proofs::SearchLaws::first_here))]
 fn need_by(steps: u32, peak: Fraction, least: u32, demand: Demand) -> u32
     requires { least ≤ steps }
     ensures { result ≡ need_by steps peak least demand }
