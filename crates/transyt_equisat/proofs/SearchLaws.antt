@@ -1,5 +1,7 @@
 -- Laws of the search for the first number that passes.
-use Rattle.std.proofs.Common.{◌≡◌, ℕ, zero, suc, ◌+◌, ◌-◌, ◌<◌, ◌≤◌, Bool, true, false, arith, sym, ◌∙◌, ap, refl, inl, inr}
+use Rattle.std.proofs.Common.{◌≡◌, ℕ, zero, suc, ◌+◌, ◌-◌, ◌<◌, ◌≤◌, Bool, true, false, arith, sym, ◌∙◌, ap, refl, inl, inr, List, length, get_or, drop}
+use Rattle.std.specs.List.{find}
+use Rattle.std.proofs.lemmas.List.{drop_more}
 use Rattle.std.proofs.Math.Nat.{eq-or-lt_of_le}
 use Rattle.std.proofs.lemmas.Bool.{cases_Bool}
 use Rattle.transyt_equisat.specs.Balance.{first_from}
@@ -33,3 +35,8 @@ first_least test e (suc n) k low high passes =
             rw fails (omega (arith, rest.0), rest.1, rest.2)
       ]
     ]
+
+-- a search in a list goes on behind what doesn't pass
+pub find_skip : {A : Type 0} (test : A → Bool) (xs : List A) (p : ℕ) (d : A) → p < length xs → test (get_or xs p d) ≡ false
+    → find test (drop (p + 1) xs) ≡ find test (drop p xs)
+find_skip test xs p d inside fails = rw (drop_more xs p d inside, fails)

@@ -158,6 +158,7 @@ fn reaches(net: &Net, place: usize, number: u32, peak: Fraction, greens: &[u32])
 }
 
 /// The place of the first counted link that reaches the peak.
+#[tactic(auto, using(crate::proofs::SearchLaws::find_skip))]
 fn reaching(net: &Net, number: u32, peak: Fraction, greens: &[u32]) -> Option<usize>
     requires within { AreWithin number (length greens.now) net.now.links }
     requires greens { All (λ e. e ≤ 120) greens.now }
