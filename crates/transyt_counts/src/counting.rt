@@ -46,6 +46,7 @@ fn next_record(reader: &mut Reader<&[u8]>, fields: &mut ByteRecord) -> Result<bo
 }
 
 /// Adds a row to the tally, or refuses it.
+#[tactic(auto, using(crate::proofs::TallyLaws::lookup_has))]
 fn take_row(
     net: &Net,
     row: u32,
