@@ -1,8 +1,8 @@
 -- A certificate's own text, audited: each of its lines is given as it is, so the moves alone decide.
-use Rattle.std.proofs.Common.{◌≡◌, ℕ, ◌+◌, ◌<◌, ◌≤◌, true, false, nat_le, List, [], ◌∷◌, ◌++◌}
-use Rattle.std.proofs.Common.{map, length, is_some, All, refl, arith}
+use Rattle.std.proofs.Common.{◌≡◌, ℕ, ◌+◌, ◌<◌, ◌≤◌, true, false, nat_le, List, [], ◌∷◌}
+use Rattle.std.proofs.Common.{map, length, is_some, All, refl, arith, get_or}
 use Rattle.std.proofs.lemmas.Bool.{and_right}
-use Rattle.std.proofs.lemmas.List.Elements.{All-nil, All-cons}
+use Rattle.std.proofs.lemmas.List.Elements.{All-nil, All-cons, All-head, All-tail, All-push, All-map}
 use Rattle.transyt_io.specs.Lines.{is_skipped, words, lines}
 use Rattle.transyt_net.specs.Parts.{Network}
 use Rattle.transyt_moves.specs.Moves.{move_count}
@@ -23,25 +23,18 @@ record IsGiven (text : List ℕ) : Type 0 where
   pub kept : is_skipped text ≡ false
   pub few : length text ≤ 4096
 
-abbrev AreGiven : List (List ℕ) → Type 0
-AreGiven [] = Unit {0}
-AreGiven (text ∷ more) = IsGiven text × AreGiven more
-
-both_given : (us vs : List (List ℕ)) → AreGiven us → AreGiven vs → AreGiven (us ++ vs)
-both_given [] vs a b = b
-both_given (u ∷ us) vs a b = (a.0, both_given us vs a.1 b)
-
-given_same : (texts : List (List ℕ)) (number : ℕ) → AreGiven texts
+given_same : (texts : List (List ℕ)) (number : ℕ) → All IsGiven texts
     → map (λ (g : Given). words g.line) (given_from number texts) ≡ map words texts
 given_same [] number h = refl
 given_same (text ∷ more) number h =
-    rw (h.0.kept, given_same more (number + 1) h.1)
+    rw ((All-head IsGiven text more h).kept, given_same more (number + 1) (All-tail IsGiven text more h))
 
-given_short : (texts : List (List ℕ)) (number : ℕ) → AreGiven texts → All IsShort (given_from number texts)
+given_short : (texts : List (List ℕ)) (number : ℕ) → All IsGiven texts → All IsShort (given_from number texts)
 given_short [] number h = All-nil IsShort
 given_short (text ∷ more) number h =
-    rw h.0.kept (All-cons IsShort (record { number = number; line = text }) (given_from (number + 1) more) h.0.few
-    (given_short more (number + 1) h.1))
+    let here = All-head IsGiven text more h in
+    rw here.kept (All-cons IsShort (record { number = number; line = text }) (given_from (number + 1) more) here.few
+    (given_short more (number + 1) (All-tail IsGiven text more h)))
 
 -- the line of a place, whose first byte is an M
 move_given : (l : CertLine) → IsGiven (joined (move_words l))
@@ -57,15 +50,12 @@ end_given count x =
     let text = joined_text (end_words count x) are.0 (omega (arith, are.1)) in
     record { kept = and_right (nat_le (length (joined (end_words count x))) 4096) false refl; few = text.few }
 
-moves_given : (ls : List CertLine) → AreGiven (map (λ l. joined (move_words l)) ls)
-moves_given [] = tt
-moves_given (l ∷ ls) = (move_given l, moves_given ls)
-
-texts_given : (net : Network) → AreGiven (lines (cert_text net))
+texts_given : (net : Network) → All IsGiven (lines (cert_text net))
 texts_given net =
-    rw (lines_certificate net) (both_given (map (λ l. joined (move_words l)) (cert_lines net))
-    (joined (end_words (move_count net) (index net)) ∷ []) (moves_given (cert_lines net))
-    (end_given (move_count net) (index net), tt))
+    rw (lines_certificate net) (All-push IsGiven (map (λ l. joined (move_words l)) (cert_lines net))
+    (joined (end_words (move_count net) (index net)))
+    (All-map IsGiven (λ l. joined (move_words l)) (cert_lines net) (λ i d below. move_given (get_or (cert_lines net) i d)))
+    (end_given (move_count net) (index net)))
 
 -- the answer to a certificate's own text is Yes where no move lowers the index
 pub own_yes : (net : Network) (line : ℕ) → is_some net.plan ≡ true

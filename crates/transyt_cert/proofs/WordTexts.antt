@@ -1,6 +1,6 @@
 -- Words on a line, read again: the words of the text are the words, and the lines of texts are the texts.
 use Rattle.std.proofs.Common.{◌≡◌, ℕ, zero, suc, ◌+◌, ◌-◌, ◌*◌, ◌/◌, ◌%◌, ◌<◌, ◌≤◌, ◌==◌, nat_le}
-use Rattle.std.proofs.Common.{List, [], ◌∷◌, ◌++◌, filter}
+use Rattle.std.proofs.Common.{All, List, [], ◌∷◌, ◌++◌, filter}
 use Rattle.std.proofs.Common.{length, Bool, true, false, not, ◌&&◌, refl, ◌∙◌, ap, decimal}
 use Rattle.std.proofs.Common.{arith, length-append}
 use Rattle.std.proofs.Common.{append_assoc, slice_index}
@@ -8,6 +8,7 @@ use Rattle.std.specs.List.{list_all, slice_split, onto_first}
 use Rattle.std.specs.Fmt.{digits, digits_onto, digit_glyph}
 use Rattle.std.proofs.lemmas.List.{append-nil, take_all}
 use Rattle.std.proofs.lemmas.List.Folds.{list_all-append}
+use Rattle.std.proofs.lemmas.List.Elements.{All-head, All-tail}
 use Rattle.std.proofs.lemmas.Bool.Decides.{nat_tests}
 use Rattle.std.proofs.lemmas.Bool.{and_parts, and_from, not-true, cond_both}
 use Rattle.std.proofs.Math.Nat.{mod-lt}
@@ -117,14 +118,6 @@ pub record IsText (text : List ℕ) : Type 0 where
   pub few : length text ≤ 4096
   pub no_end : list_all (λ b. not (b == 10) && not (b == 13)) text ≡ true
 
-abbrev pub AreTexts : List (List ℕ) → Type 0
-AreTexts [] = Unit {0}
-AreTexts (text ∷ more) = IsText text × AreTexts more
-
-pub both_texts : (us vs : List (List ℕ)) → AreTexts us → AreTexts vs → AreTexts (us ++ vs)
-both_texts [] vs a b = b
-both_texts (u ∷ us) vs a b = (a.0, both_texts us vs a.1 b)
-
 cut_text : (text rest : List ℕ) → list_all (λ b. not (b == 10) && not (b == 13)) text ≡ true
     → cut true (text ++ 10 ∷ rest) ≡ text ∷ cut true rest
 cut_text [] rest h = refl
@@ -148,11 +141,12 @@ line_same text h =
     rw (no_return_at text (length text - 1) h.no_end) (take_all 4097 text (omega (arith, h.few)))
 
 -- the lines of texts are the texts
-pub lines_texts : (texts : List (List ℕ)) → AreTexts texts → lines (lines_text texts) ≡ texts
+pub lines_texts : (texts : List (List ℕ)) → All IsText texts → lines (lines_text texts) ≡ texts
 lines_texts [] h = refl
 lines_texts (text ∷ more) h =
-    rw (append_assoc text (10 ∷ []) (lines_text more), cut_text text (lines_text more) h.0.no_end)
-    (λ j. line_same text h.0 j ∷ lines_texts more h.1 j)
+    let here = All-head IsText text more h in
+    rw (append_assoc text (10 ∷ []) (lines_text more), cut_text text (lines_text more) here.no_end)
+    (λ j. line_same text here j ∷ lines_texts more (All-tail IsText text more h) j)
 
 byte_fine : (b : ℕ) → is_word_byte b ≡ true → (not (b == 10) && not (b == 13)) ≡ true
 byte_fine b h = grind (arith, nat_tests)

@@ -1,9 +1,9 @@
 -- The edits of a table are exact: each row counts in one, each is allowed, together they set the counted flows.
-use Rattle.std.proofs.Common.{◌≡◌, ℕ, Bool, true, false, cond, ◌||◌, List, [], ◌∷◌, map, length, All, Option, Some, None}
+use Rattle.std.proofs.Common.{◌≡◌, ℕ, Bool, true, false, cond, ◌||◌, List, [], ◌∷◌, ◌++◌, map, length, All, Option, Some, None}
 use Rattle.std.proofs.Common.{refl, sym, ◌∙◌, ap, arith, inl, inr, get_or, Ok}
 use Rattle.std.specs.List.{find, fold, list_any}
 use Rattle.std.specs.Prelude.{count_by}
-use Rattle.std.proofs.lemmas.Bool.{cases_Bool, or_parts, ltb-false}
+use Rattle.std.proofs.lemmas.Bool.{cases_Bool, cond_both, or_parts, ltb-false}
 use Rattle.std.proofs.lemmas.Simd.{map-map}
 use Rattle.std.proofs.lemmas.List.{length-map, get_or-map}
 use Rattle.std.proofs.lemmas.List.Sums.{sum_by-cons}
@@ -76,10 +76,8 @@ keys_good : (net : Network) (cs : List Count) (ks : List Key) → All (IsGood ne
 keys_good net [] ks good before = before
 keys_good net (c ∷ cs) ks good before =
     keys_good net cs (with_key ks c.key) (All-tail (IsGood net) c cs good)
-    (elim (cases_Bool (list_any (same_key c.key) ks)) [
-      | inl there ↦ rw there before
-      | inr new ↦ rw new (All-push (λ k. key_code net k ≡ None) ks c.key before (All-head (IsGood net) c cs good).key)
-    ])
+    (cond_both (list_any (same_key c.key) ks) ks (ks ++ c.key ∷ []) (λ ks. All (λ k. key_code net k ≡ None) ks) (λ there. before)
+    (λ new. All-push (λ k. key_code net k ≡ None) ks c.key before (All-head (IsGood net) c cs good).key))
 
 -- where none was found, all fail
 none_found : {A : Type 0} (test : A → Bool) (xs : List A) → find test xs ≡ None → All (λ x. test x ≡ false) xs

@@ -3,8 +3,7 @@ use Rattle.std.proofs.Common.{◌≡◌, ℕ, Bool, true, false, cond, not, ◌&
 use Rattle.std.proofs.Common.{inl, inr, if◌then◌else◌}
 use Rattle.std.specs.List.{list_any, fold}
 use Rattle.std.specs.Map.{lookup}
-use Rattle.std.proofs.Math.Bool.{or-false}
-use Rattle.std.proofs.lemmas.Bool.{cases_Bool, not-true, and_parts, and_from, or_parts, or_from, or_left, or_right, false_from_ne_true, eqb-true}
+use Rattle.std.proofs.lemmas.Bool.{cases_Bool, not-true, and_parts, and_from, or_parts, or_from, or_left, or_right, cond_both, false_from_ne_true, eqb-true}
 use Rattle.std.proofs.lemmas.Bool.Decides.{nat_tests}
 use Rattle.std.proofs.lemmas.List.Folds.{list_any-append}
 use Rattle.indexmap.specs.IndexMap.{insert_entry}
@@ -68,10 +67,8 @@ differ_push (j ∷ js) k differ new =
 -- a key more, where it is new: they still differ
 pub differ_with : (ks : List Key) (k : Key) → keys_differ ks ≡ true → keys_differ (with_key ks k) ≡ true
 differ_with ks k differ =
-    elim (cases_Bool (list_any (same_key k) ks)) [
-      | inl there ↦ rw there differ
-      | inr new ↦ rw new (differ_push ks k differ new)
-    ]
+    cond_both (list_any (same_key k) ks) ks (ks ++ k ∷ []) (λ xs. keys_differ xs ≡ true) (λ there. differ)
+    (λ new. differ_push ks k differ new)
 
 -- the keys of rows differ
 pub fold_differ : (cs : List Count) (ks : List Key) → keys_differ ks ≡ true → keys_differ (fold (λ keys c. with_key keys c.key) ks cs) ≡ true
@@ -82,28 +79,17 @@ fold_differ (c ∷ cs) ks differ = fold_differ cs (with_key ks c.key) (differ_wi
 pub keys_of_differ : (cs : List Count) → keys_differ (keys_of cs) ≡ true
 keys_of_differ cs = fold_differ cs [] refl
 
-or_known : (a b : Bool) → (b ≡ true → a ≡ true) → a ≡ (a || b)
-or_known true b known = refl
-or_known false true known = known refl
-or_known false false known = refl
-
--- the keys that are there with one more
-pub any_more : (ks : List Key) (k j : Key) → list_any (same_key j) (with_key ks k) ≡ (list_any (same_key j) ks || same_key j k)
-any_more ks k j =
-    elim (cases_Bool (list_any (same_key k) ks)) [
-      | inl known ↦
-          rw known (or_known (list_any (same_key j) ks) (same_key j k)
-          (λ same. ap (λ x. list_any (same_key x) ks) (key_same j k same) ∙ known))
-      | inr new ↦ rw (new, list_any-append (same_key j) ks (k ∷ []), or-false (same_key j k))
-    ]
-
 -- a key that is there stays
 pub any_with : (ks : List Key) (k j : Key) → list_any (same_key j) ks ≡ true → list_any (same_key j) (with_key ks k) ≡ true
-any_with ks k j there = any_more ks k j ∙ or_left _ _ there
+any_with ks k j there =
+    cond_both (list_any (same_key k) ks) ks (ks ++ k ∷ []) (λ xs. list_any (same_key j) xs ≡ true) (λ known. there)
+    (λ new. list_any-append (same_key j) ks (k ∷ []) ∙ or_left _ _ there)
 
 -- and the new one is there
 pub any_itself : (ks : List Key) (k : Key) → list_any (same_key k) (with_key ks k) ≡ true
-any_itself ks k = any_more ks k k ∙ or_right _ _ (key_self k)
+any_itself ks k =
+    cond_both (list_any (same_key k) ks) ks (ks ++ k ∷ []) (λ xs. list_any (same_key k) xs ≡ true) (λ known. known)
+    (λ new. list_any-append (same_key k) ks (k ∷ []) ∙ or_right _ _ (or_left _ _ (key_self k)))
 
 -- functions that agree at the keys that are there
 pub map_same : {A : Type 0} (f g : Key → A) (ks : List Key) → ((j : Key) → list_any (same_key j) ks ≡ true → f j ≡ g j) → map f ks ≡ map g ks
