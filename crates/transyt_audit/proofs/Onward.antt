@@ -1,16 +1,17 @@
 -- The verdict, as far as it is left to be told, while the lines are judged one after another.
-use Rattle.std.proofs.Common.{◌≡◌, ℕ, ◌+◌, ◌<◌, ◌≤◌, Bool, true, false, ◌&&◌, nat_le, nat_lt}
+use Rattle.std.proofs.Common.{◌≡◌, ℕ, ◌+◌, ◌<◌, ◌≤◌, Bool, true, false, nat_le, nat_lt}
 use Rattle.std.proofs.Common.{List, [], ◌∷◌, length, drop, get_or}
-use Rattle.std.proofs.Common.{Option, Some, None, refl, sym, ap, ◌∙◌, arith, if◌then◌else◌}
-use Rattle.std.proofs.Common.{cond}
+use Rattle.std.proofs.Common.{Option, Some, None, refl, sym, ap, ◌∙◌, arith, if◌then◌else◌, inl, inr}
 use Rattle.std.proofs.lemmas.List.{drop_more, drop_all, length-drop}
+use Rattle.std.specs.Option.{option_or}
+use Rattle.std.proofs.lemmas.Bool.{cases_lt}
 use Rattle.std.proofs.lemmas.Bool.Decides.{nat_tests}
 use Rattle.transyt_io.specs.Lines.{is_skipped}
 use Rattle.transyt_syntax.specs.declared.code.Code.TheVariants as code
 use Rattle.transyt_net.specs.Parts.{Network}
 use Rattle.transyt_moves.specs.Moves.{move_count}
 use Rattle.transyt_sweep.specs.Sweeps.{index}
-use Rattle.transyt_sweep.specs.Climb.{is_below, lowers, tried_at}
+use Rattle.transyt_sweep.specs.Climb.{is_below, tried_at}
 use Rattle.transyt_cert.specs.Certificate.{CertLine, cert_line, cert_lines, cert_texts}
 use Rattle.transyt_cert.proofs.CertificateLaws.{lines_certificate}
 use Rattle.transyt_audit.proofs.TrueLines.{length-cert_texts, length-cert_lines, line_at, lowers_is}
@@ -20,17 +21,12 @@ use Rattle.transyt_audit.specs.Given.{Given, given_from, agrees, first_wrong, fi
 use Rattle.transyt_audit.specs.Verdict.{no_or, judged}
 use Rattle.transyt_audit.specs.Findings.{lowers_there, concluded}
 
--- what was found before, else what is found later
-abbrev pub before_or : Option ℕ → Option ℕ → Option ℕ
-before_or None later = later
-before_or (Some number) later = Some number
-
 -- the tests after that of the plan, over given lines, what they are compared with, and what was found before
 abbrev pub told : Network → List Given → List (List ℕ) → List CertLine → ℕ → Option ℕ → Verdict
 told net given truths ls next lower =
     no_or (first_wrong given truths) code.OtherLine
     (no_or (first_missing given truths next) code.OtherLine
-    (no_or (before_or lower (first_lower (index net) given ls)) code.LowerIndex
+    (no_or (option_or lower (first_lower (index net) given ls)) code.LowerIndex
     (Yes (move_count net) (index net))))
 
 -- what is left to tell of lines from a number on, from a place on, where a lower move was found before or not
@@ -47,14 +43,6 @@ onward_start net first all =
     ap (λ truths. told net (given_from first all) truths (cert_lines net) (first + length all) None)
     (sym (lines_certificate net))
 
-by_true : {A : Type 0} (t : Bool) (a b : A) → t ≡ true → cond t a b ≡ a
-by_true true a b h = refl
-by_true false a b h = absurd (cc)
-
-by_false : {A : Type 0} (t : Bool) (a b : A) → t ≡ false → cond t a b ≡ b
-by_false true a b h = absurd (cc)
-by_false false a b h = refl
-
 -- a skipped line tells nothing
 pub onward_skipped : (net : Network) (place : ℕ) (lower : Option ℕ) (number : ℕ) (line : List ℕ)
     (rest : List (List ℕ))
@@ -62,17 +50,8 @@ pub onward_skipped : (net : Network) (place : ℕ) (lower : Option ℕ) (number 
     ≡ onward net place lower (number + 1) rest
 unfolding onward
 onward_skipped net place lower number line rest skipped =
-    let given = by_true (is_skipped line) (given_from (number + 1) rest)
-    (record { number = number; line = line } ∷ given_from (number + 1) rest) skipped in
     let next : number + length (line ∷ rest) ≡ number + 1 + length rest = omega arith in
-    λ j. told net (given j) (drop place (cert_texts net)) (drop place (cert_lines net)) (next j) lower
-
--- a line that is not skipped is the first of those given
-pub given_more : (number : ℕ) (line : List ℕ) (rest : List (List ℕ)) → is_skipped line ≡ false
-    → given_from number (line ∷ rest) ≡ record { number = number; line = line } ∷ given_from (number + 1) rest
-given_more number line rest kept =
-    by_false (is_skipped line) (given_from (number + 1) rest)
-    (record { number = number; line = line } ∷ given_from (number + 1) rest) kept
+    rw (skipped, next)
 
 -- a line after the last true one is wrong
 pub onward_beyond : (net : Network) (place : ℕ) (lower : Option ℕ) (number : ℕ) (line : List ℕ)
@@ -83,8 +62,7 @@ unfolding onward
 onward_beyond net place lower number line rest kept beyond =
     let none : drop place (cert_texts net) ≡ [] = drop_all place (cert_texts net)
     (omega (arith, length-cert_texts net)) in
-    λ j. told net (given_more number line rest kept j) (none j) (drop place (cert_lines net))
-    (number + length (line ∷ rest)) lower
+    rw (kept, none)
 
 -- the true line of a place is the first of those from it on
 truth_more : (net : Network) (place : ℕ) → place ≤ move_count net
@@ -98,21 +76,11 @@ pub onward_wrong : (net : Network) (place : ℕ) (lower : Option ℕ) (number : 
     → onward net place lower number (line ∷ rest) ≡ No number code.OtherLine
 unfolding onward
 onward_wrong net place lower number line rest kept inside differs =
-    let truth = get_or (cert_texts net) place [] in
-    let more = given_from (number + 1) rest in
-    let truths = drop (place + 1) (cert_texts net) in
-    let g : Given = record { number = number; line = line } in
-    let wrong = by_false (agrees line truth) (first_wrong more truths) (Some number) differs in
-    (λ j. told net (given_more number line rest kept j) (truth_more net place inside j)
-    (drop place (cert_lines net)) (number + length (line ∷ rest)) lower)
-    ∙ ap (λ found. no_or found code.OtherLine
-    (no_or (first_missing (g ∷ more) (truth ∷ truths) (number + length (line ∷ rest))) code.OtherLine
-    (no_or (before_or lower (first_lower (index net) (g ∷ more) (drop place (cert_lines net)))) code.LowerIndex
-    (Yes (move_count net) (index net))))) wrong
+    rw (kept, truth_more net place inside, differs)
 
 -- what was found so far, with one line more
 abbrev pub noted : Bool → ℕ → Option ℕ → Option ℕ
-noted true number lower = before_or lower (Some number)
+noted true number lower = option_or lower (Some number)
 noted false number lower = lower
 
 missing_less : (given : List Given) (truths : List (List ℕ)) (g : Given) (truth : List ℕ) (next : ℕ)
@@ -120,55 +88,42 @@ missing_less : (given : List Given) (truths : List (List ℕ)) (g : Given) (trut
 missing_less given truths g truth next =
     let same : nat_lt (length (g ∷ given)) (length (truth ∷ truths)) ≡ nat_lt (length given) (length truths) =
     grind (arith, nat_tests) in
-    ap (λ t. cond t (Some next) None) same
+    rw same
 
 none_lower : (x : ℕ) (given : List Given) → first_lower x given [] ≡ None
 none_lower x [] = refl
 none_lower x (g ∷ gs) = refl
 
 found_once : (lower later : Option ℕ) (number : ℕ)
-    → before_or lower (Some number) ≡ before_or (before_or lower (Some number)) later
+    → option_or lower (Some number) ≡ option_or (option_or lower (Some number)) later
 found_once None later number = refl
 found_once (Some n) later number = refl
 
 -- what was found so far and what is found later, with one line more
 lower_more : (net : Network) (place : ℕ) (lower : Option ℕ) (g : Given) (more : List Given) (low : Bool)
-    → place ≤ move_count net → low ≡ lowers_there net place
-    → before_or lower (first_lower (index net) (g ∷ more) (drop place (cert_lines net)))
-    ≡ before_or (noted low g.number lower) (first_lower (index net) more (drop (place + 1) (cert_lines net)))
-lower_more net place lower g more low inside is = by (nat_lt place (move_count net)) refl
+    → low ≡ lowers_there net place
+    → option_or lower (first_lower (index net) (g ∷ more) (drop place (cert_lines net)))
+    ≡ option_or (noted low g.number lower) (first_lower (index net) more (drop (place + 1) (cert_lines net)))
+lower_more net place lower g more low is =
+    elim (cases_lt place (move_count net)) [
+      | inl here ↦
+          let line = drop_more (cert_lines net) place (cert_line net 0) (omega (arith, length-cert_lines net)) in
+          let there : nat_lt place (move_count net) ≡ true = grind (arith, nat_tests) in
+          let later = first_lower (index net) more (drop (place + 1) (cert_lines net)) in
+          rw (line, line_at net place (cert_line net 0) here)
+          (at_line (is_below (index net) (tried_at net place)) later (is ∙ rw there (sym (lowers_is net place))))
+      | inr after ↦
+          let none = drop_all place (cert_lines net) (omega (arith, length-cert_lines net)) in
+          let none_later = drop_all (place + 1) (cert_lines net) (omega (arith, length-cert_lines net)) in
+          let nowhere : nat_lt place (move_count net) ≡ false = grind (arith, nat_tests) in
+          let not_low : low ≡ false = is ∙ rw nowhere in
+          rw (none, none_later, not_low, none_lower (index net) more)
+    ]
   where
-    later : Option ℕ
-    later = first_lower (index net) more (drop (place + 1) (cert_lines net))
-
-    at_line : (b : Bool) → low ≡ b → b ≡ is_below (index net) (tried_at net place)
-        → before_or lower (if b then Some g.number else later) ≡ before_or (noted low g.number lower) later
-    at_line true low_is below = found_once lower later g.number
-        ∙ ap (λ b. before_or (noted b g.number lower) later) (sym low_is)
-    at_line false low_is below = ap (λ b. before_or (noted b g.number lower) later) (sym low_is)
-
-    by : (b : Bool) → nat_lt place (move_count net) ≡ b
-        → before_or lower (first_lower (index net) (g ∷ more) (drop place (cert_lines net)))
-        ≡ before_or (noted low g.number lower) later
-    by true here =
-        let below : place < move_count net = grind (arith, nat_tests) in
-        let line : drop place (cert_lines net) ≡ cert_line net place ∷ drop (place + 1) (cert_lines net) =
-        drop_more (cert_lines net) place (cert_line net 0) (omega (arith, length-cert_lines net))
-        ∙ ap (λ l. l ∷ drop (place + 1) (cert_lines net)) (line_at net place (cert_line net 0) below) in
-        let low_is : low ≡ is_below (index net) (tried_at net place) =
-        is ∙ ap (λ b. b && lowers net place) here ∙ sym (lowers_is net place) in
-        ap (λ ls. before_or lower (first_lower (index net) (g ∷ more) ls)) line
-        ∙ at_line (is_below (index net) (tried_at net place)) low_is refl
-    by false here =
-        let none : drop place (cert_lines net) ≡ [] =
-        drop_all place (cert_lines net) (grind (arith, nat_tests, length-cert_lines net)) in
-        let none_later : drop (place + 1) (cert_lines net) ≡ [] =
-        drop_all (place + 1) (cert_lines net) (grind (arith, nat_tests, length-cert_lines net)) in
-        let low_is : false ≡ low = sym (is ∙ ap (λ b. b && lowers net place) here) in
-        let no_later = sym (none_lower (index net) more) in
-        ap (λ ls. before_or lower (first_lower (index net) (g ∷ more) ls)) none
-        ∙ (λ j. before_or (noted (low_is j) g.number lower) (no_later j))
-        ∙ ap (λ ls. before_or (noted low g.number lower) (first_lower (index net) more ls)) (sym none_later)
+    at_line : (b : Bool) (later : Option ℕ) → low ≡ b
+        → option_or lower (if b then Some g.number else later) ≡ option_or (noted low g.number lower) later
+    at_line true later low_is = rw low_is (found_once lower later g.number)
+    at_line false later low_is = rw low_is
 
 -- a line that agrees is the true one of its place
 pub onward_right : (net : Network) (place : ℕ) (lower : Option ℕ) (number : ℕ) (line : List ℕ)
@@ -179,18 +134,17 @@ pub onward_right : (net : Network) (place : ℕ) (lower : Option ℕ) (number : 
     ≡ onward net (place + 1) (noted low number lower) (number + 1) rest
 unfolding onward
 onward_right net place lower number line rest low kept inside same is =
-    let truth = get_or (cert_texts net) place [] in
     let more = given_from (number + 1) rest in
-    let truths = drop (place + 1) (cert_texts net) in
     let g : Given = record { number = number; line = line } in
     let next : number + length (line ∷ rest) ≡ number + 1 + length rest = omega arith in
-    let right = by_true (agrees line truth) (first_wrong more truths) (Some number) same in
-    (λ j. told net (given_more number line rest kept j) (truth_more net place inside j)
-    (drop place (cert_lines net)) (next j) lower)
-    ∙ (λ j. no_or (right j) code.OtherLine
-    (no_or (missing_less more truths g truth (number + 1 + length rest) j) code.OtherLine
-    (no_or (lower_more net place lower g more low inside is j) code.LowerIndex
-    (Yes (move_count net) (index net)))))
+    rw (
+      kept,
+      truth_more net place inside,
+      next,
+      same,
+      missing_less more (drop (place + 1) (cert_texts net)) g _ _,
+      lower_more net place lower g more low is,
+    )
 
 -- at the end a true line is missing, or what was found decides
 pub onward_end : (net : Network) (place : ℕ) (lower : Option ℕ) (number : ℕ)
@@ -200,9 +154,8 @@ onward_end net place lower number =
     let next : number + length {A = List ℕ} [] ≡ number = omega arith in
     let some : nat_lt 0 (length (drop place (cert_texts net))) ≡ nat_le place (move_count net) =
     grind (arith, nat_tests, length-drop place (cert_texts net), length-cert_texts net) in
-    λ j. no_or (cond (some j) (Some (next j)) None) code.OtherLine
-    (no_or (alone lower j) code.LowerIndex (Yes (move_count net) (index net)))
+    rw (some, next, alone lower)
   where
-    alone : (o : Option ℕ) → before_or o None ≡ o
+    alone : (o : Option ℕ) → option_or o None ≡ o
     alone None = refl
     alone (Some n) = refl

@@ -2,10 +2,9 @@
 use Rattle.std.proofs.Common.{◌≡◌, ℕ, ◌+◌, ◌<◌, List, []}
 use Rattle.std.proofs.Common.{◌∷◌, map, length, get_or}
 use Rattle.std.proofs.Common.{Option, Some, None, Ok, Err, IfSome, IfNone, IsErrOf, IsOk, refl}
-use Rattle.std.proofs.Common.{ap, ◌∙◌, arith, zero-add, length-append, ◌-◌}
-use Rattle.std.specs.List.{range_with_len}
+use Rattle.std.proofs.Common.{ap, ◌∙◌, arith, length-append, ◌-◌}
 use Rattle.std.proofs.lemmas.List.{length-map, get_or_append_left, get_or-append_right, get_or-map}
-use Rattle.std.proofs.lemmas.List.FromFn.{length-range_with_len, get_or-range_with_len}
+use Rattle.std.proofs.lemmas.List.FromFn.{length-map-range_with_len, get_or-map-range_with_len}
 use Rattle.transyt_net.specs.declared.edit.Edit.{Edit}
 use Rattle.transyt_net.specs.declared.edit.EditFault.{EditFault}
 use Rattle.transyt_net.specs.Parts.{Network}
@@ -49,7 +48,7 @@ lowers_is net place = refl
 -- how many lines of places there are
 pub length-cert_lines : (net : Network) → length (cert_lines net) ≡ move_count net
 length-cert_lines net =
-    length-map (range_with_len 0 (move_count net)) (cert_line net) ∙ length-range_with_len 0 (move_count net)
+    length-map-range_with_len (cert_line net) 0 (move_count net)
 
 abbrev texts : Network → List (List ℕ)
 texts net = map (λ l. joined (move_words l)) (cert_lines net)
@@ -59,20 +58,14 @@ length-texts net = length-map (cert_lines net) (λ l. joined (move_words l)) ∙
 
 -- and one line more
 pub length-cert_texts : (net : Network) → length (cert_texts net) ≡ move_count net + 1
-length-cert_texts net = omega (
-  arith,
-  length-texts net,
-  length-append (texts net)
-      (joined (end_words (move_count net) (index net)) ∷ []),
-)
+length-cert_texts net =
+    omega (arith, length-texts net, length-append (texts net) (joined (end_words (move_count net) (index net)) ∷ []))
 
 -- the line of a place
 pub line_at : (net : Network) (place : ℕ) (d : CertLine) → place < move_count net
     → get_or (cert_lines net) place d ≡ cert_line net place
 line_at net place d inside =
-    get_or-map (cert_line net) (range_with_len 0 (move_count net)) place 0 d
-    (omega (arith, length-range_with_len 0 (move_count net), inside))
-    ∙ ap (cert_line net) (get_or-range_with_len 0 (move_count net) place 0 inside ∙ zero-add place)
+    get_or-map-range_with_len (cert_line net) 0 (move_count net) place place d inside (omega arith)
 
 -- its text
 pub text_at : (net : Network) (place : ℕ) → place < move_count net

@@ -1,6 +1,6 @@
 -- The worked verdicts: each move's network evaluated by the root that its random delay takes, and then the lines.
 use Rattle.std.proofs.Common.{◌≡◌, ℕ, ◌+◌, List, [], ◌∷◌, ◌++◌, map, sum, length, codes, Option, Some, None}
-use Rattle.std.proofs.Common.{refl, ap, ◌∙◌, lit<, lit≤}
+use Rattle.std.proofs.Common.{refl, ap, ◌∙◌, lit<, lit≤, is_some, if◌then◌else◌}
 use Rattle.std.specs.Fmt.{digits}
 use Rattle.transyt_io.specs.Lines.{lines}
 use Rattle.transyt_syntax.specs.declared.code.Code.TheVariants as code
@@ -20,7 +20,7 @@ use Rattle.transyt_cert.proofs.CertificateLaws.{lines_certificate}
 use Rattle.transyt_audit.specs.declared.verdict.Verdict.{Verdict}
 use Rattle.transyt_audit.specs.declared.verdict.Verdict.TheVariants.{Yes, No}
 use Rattle.transyt_audit.specs.Given.{given_from, agrees, first_wrong, first_missing, first_lower}
-use Rattle.transyt_audit.specs.Verdict.{no_or, without_plan, verdict}
+use Rattle.transyt_audit.specs.Verdict.{no_or, verdict}
 use Rattle.transyt_audit.specs.WorkedVerdicts.{junction, bare, other, bare_lines, other_moves, agreements}
 use Rattle.transyt_audit.specs.WorkedVerdicts.{first_line, spaced_line, changed_line, note}
 
@@ -93,10 +93,10 @@ abbrev verdict_from : Option PlanValue → List CertLine → ℕ → ℕ → Lis
 verdict_from plan ls count x table line =
     let given = given_from (line + 1) (lines table) in
     let truths : List (List ℕ) = map (λ (l : CertLine). joined (move_words l)) ls ++ joined (end_words count x) ∷ [] in
-    no_or (without_plan plan line) code.NoPlan
-    (no_or (first_wrong given truths) code.OtherLine
+    if is_some plan then no_or (first_wrong given truths) code.OtherLine
     (no_or (first_missing given truths (line + 1 + length (lines table))) code.OtherLine
-    (no_or (first_lower x given ls) code.LowerIndex (Yes count x))))
+    (no_or (first_lower x given ls) code.LowerIndex (Yes count x)))
+    else No line code.NoPlan
 
 verdict_by : (net : Network) (ls : List CertLine) (count x : ℕ) (table : List ℕ) (line : ℕ)
     → cert_lines net ≡ ls → move_count net ≡ count → index net ≡ x
@@ -104,11 +104,10 @@ verdict_by : (net : Network) (ls : List CertLine) (count x : ℕ) (table : List 
 verdict_by net ls count x table line ls_is count_is x_is =
     let given = given_from (line + 1) (lines table) in
     let next = line + 1 + length (lines table) in
-    ap (λ (truths : List (List ℕ)). no_or (without_plan net.plan line) code.NoPlan
-    (no_or (first_wrong given truths) code.OtherLine
+    ap (λ (truths : List (List ℕ)). if is_some net.plan then no_or (first_wrong given truths) code.OtherLine
     (no_or (first_missing given truths next) code.OtherLine
     (no_or (first_lower (index net) given (cert_lines net)) code.LowerIndex
-    (Yes (move_count net) (index net)))))) (lines_certificate net)
+    (Yes (move_count net) (index net)))) else No line code.NoPlan) (lines_certificate net)
     ∙ (λ j. verdict_from net.plan (ls_is j) (count_is j) (x_is j) table line)
 
 on_bare : (table : List ℕ) → verdict bare table 8 ≡ verdict_from bare.plan bare_cert 6 0 table 8

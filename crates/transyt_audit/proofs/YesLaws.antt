@@ -1,16 +1,15 @@
 -- The meaning of Yes.
-use Rattle.std.proofs.Common.{◌≡◌, ℕ, zero, suc, ◌+◌, ◌<◌, ◌≤◌, Bool, true, false, nat_le, nat_lt, List}
+use Rattle.std.proofs.Common.{◌≡◌, ℕ, zero, suc, ◌+◌, ◌<◌, ◌≤◌, true, false, nat_le, nat_lt, List}
 use Rattle.std.proofs.Common.{[], ◌∷◌, map, length, get_or}
-use Rattle.std.proofs.Common.{Option, Some, None, refl, sym, ap, ◌∙◌, arith, cond, if◌then◌else◌}
+use Rattle.std.proofs.Common.{Option, Some, None, refl, sym, ap, ◌∙◌, arith, cond, inl, inr}
 use Rattle.std.specs.Str.{bytes_eq}
 use Rattle.std.proofs.lemmas.Slice.Eq.{bytes_eq-Decides}
-use Rattle.std.proofs.lemmas.Bool.{and_parts, and_from}
+use Rattle.std.proofs.lemmas.Bool.{cases_Bool, leb-true, and_parts, and_from}
 use Rattle.std.proofs.lemmas.List.{length-map}
 use Rattle.std.proofs.lemmas.List.Elements.{All-nil, All-cons, All-head, All-tail}
-use Rattle.std.proofs.Common.{All, is_some}
+use Rattle.std.proofs.Common.{All, Bool, is_some, if◌then◌else◌}
 use Rattle.transyt_syntax.specs.declared.code.Code.{Code}
 use Rattle.transyt_syntax.specs.declared.code.Code.TheVariants as code
-use Rattle.transyt_parts.specs.Parts.{PlanValue}
 use Rattle.std.proofs.lemmas.Bool.Decides.{nat_tests}
 use Rattle.transyt_io.specs.Lines.{lines, words}
 use Rattle.transyt_net.specs.Parts.{Network}
@@ -20,10 +19,10 @@ use Rattle.transyt_sweep.specs.Climb.{is_below}
 use Rattle.transyt_cert.specs.Certificate.{CertLine, cert_line, cert_lines, cert_text}
 use Rattle.transyt_cert.proofs.CertificateLaws.{lines_certificate}
 use Rattle.transyt_audit.specs.declared.verdict.Verdict.{Verdict}
-use Rattle.transyt_audit.specs.declared.verdict.Verdict.TheVariants.{Yes}
+use Rattle.transyt_audit.specs.declared.verdict.Verdict.TheVariants.{Yes, No}
 use Rattle.transyt_audit.specs.Given.{Given, given_from, same_words, agrees, first_wrong, first_missing}
 use Rattle.transyt_audit.specs.Given.{first_lower}
-use Rattle.transyt_audit.specs.Verdict.{no_or, without_plan, judged, verdict}
+use Rattle.transyt_audit.specs.Verdict.{no_or, judged, verdict}
 use Rattle.transyt_audit.specs.Certified.{IsShort, IsCertified}
 use Rattle.transyt_audit.proofs.TrueLines.{length-cert_lines, length-cert_texts, line_at, lowers_is}
 
@@ -33,14 +32,18 @@ none_found : (o : Option ℕ) (why : Code) (later : Verdict) (places x : ℕ) �
 none_found None why later places x h = (refl, h)
 none_found (Some line) why later places x h = absurd (cc)
 
+planned_yes : (b : Bool) (line : ℕ) (v : Verdict) (places x : ℕ) → (if b then v else No line code.NoPlan) ≡ Yes places x
+    → (b ≡ true) × (v ≡ Yes places x)
+planned_yes true line v places x h = (refl, h)
+planned_yes false line v places x h = absurd (cc)
+
 -- the same words are equal
 same_equal : (us vs : List (List ℕ)) → same_words us vs ≡ true → us ≡ vs
 same_equal [] [] h = refl
-same_equal [] (v ∷ vs) h = absurd (cc)
-same_equal (u ∷ us) [] h = absurd (cc)
 same_equal (u ∷ us) (v ∷ vs) h =
     let both = and_parts (bytes_eq u v) (same_words us vs) h in
     λ j. (bytes_eq-Decides u v).0 both.0 j ∷ same_equal us vs both.1 j
+same_equal us vs h = absurd (cc)
 
 -- where no given line is wrong and no true one missing, they agree line by line, and none is too long
 all_right : (gs : List Given) (truths : List (List ℕ)) (next : ℕ) → first_wrong gs truths ≡ None
@@ -52,22 +55,15 @@ all_right [] (t ∷ ts) next right there =
     absurd (cc)
 all_right (g ∷ gs) [] next right there = absurd (cc)
 all_right (g ∷ gs) (t ∷ ts) next right there =
-    by (agrees g.line t) (λ right there. all_right gs ts next right there) refl right
-  where
-    by : (b : Bool) → (first_wrong gs ts ≡ None → first_missing gs ts next ≡ None
-        → (map (λ g. words g.line) gs ≡ map words ts) × All IsShort gs)
-        → agrees g.line t ≡ b → (if b then first_wrong gs ts else Some g.number) ≡ None
-        → (map (λ g. words g.line) (g ∷ gs) ≡ map words (t ∷ ts)) × All IsShort (g ∷ gs)
-    by false more is h = absurd (cc)
-    by true more is h =
-        let same = and_parts (nat_le (length g.line) 4096) (same_words (words g.line) (words t)) is in
-        let few : length g.line ≤ 4096 = grind (arith, nat_tests, same.0) in
-        let shorter : nat_lt (length gs) (length ts)
-        ≡ nat_lt (length (g ∷ gs)) (length (t ∷ ts)) = grind (arith, nat_tests) in
-        let rest = more h (ap (λ t. cond t (Some next) None) shorter ∙ there) in
-        let here : map (λ g. words g.line) (g ∷ gs) ≡ map words (t ∷ ts) =
-        λ j. same_equal (words g.line) (words t) same.1 j ∷ rest.0 j in
-        (here, All-cons IsShort g gs few rest.1)
+    elim (cases_Bool (agrees g.line t)) [
+      | inr differs ↦ absurd (let found = rw differs at right in cc found)
+      | inl is ↦
+          let same = and_parts (nat_le (length g.line) 4096) (same_words (words g.line) (words t)) is in
+          let few : length g.line ≤ 4096 = leb-true (length g.line) 4096 same.0 in
+          let shorter : nat_lt (length (g ∷ gs)) (length (t ∷ ts)) ≡ nat_lt (length gs) (length ts) = grind (arith, nat_tests) in
+          let rest = all_right gs ts next (rw is at right) (rw shorter at there) in
+          ((λ j. same_equal (words g.line) (words t) same.1 j ∷ rest.0 j), All-cons IsShort g gs few rest.1)
+    ]
 
 -- then there are as many given lines as true ones
 as_many : (gs : List Given) (truths : List (List ℕ)) → map (λ g. words g.line) gs ≡ map words truths
@@ -80,21 +76,15 @@ none_below : (x : ℕ) (gs : List Given) (ls : List CertLine) (i : ℕ) (d : Cer
 none_below x gs [] i d none enough inside = absurd (omega arith)
 none_below x [] (l ∷ ls) i d none enough inside = absurd (omega arith)
 none_below x (g ∷ gs) (l ∷ ls) i d none enough inside =
-    by (is_below x l.tried) i (λ k none inside. none_below x gs ls k d none (omega
-    (arith, enough)) inside) refl none inside
+    elim (cases_Bool (is_below x l.tried)) [
+      | inl below ↦ absurd (let found = rw below at none in cc found)
+      | inr other ↦ later i inside other (λ k there. none_below x gs ls k d (rw other at none) (omega (arith, enough)) there)
+    ]
   where
-    by : (b : Bool) (i : ℕ) → ((k : ℕ) → first_lower x gs ls ≡ None → k < length ls
-        → is_below x (get_or ls k d).tried ≡ false)
-        → is_below x l.tried ≡ b → (if b then Some g.number else first_lower x gs ls) ≡ None
-        → i < length (l ∷ ls) → is_below x (get_or (l ∷ ls) i d).tried ≡ false
-    by true i more is h inside = absurd (cc)
-    by false zero more is h inside = is
-    by false (suc i) more is h inside = more i h (omega (arith, inside))
-
--- a test of a plan that passed
-planned_is : (plan : Option PlanValue) (line : ℕ) → without_plan plan line ≡ None → is_some plan ≡ true
-planned_is None line h = absurd (cc)
-planned_is (Some p) line h = refl
+    later : (i : ℕ) → i < length (l ∷ ls) → is_below x l.tried ≡ false
+        → ((k : ℕ) → k < length ls → is_below x (get_or ls k d).tried ≡ false) → is_below x (get_or (l ∷ ls) i d).tried ≡ false
+    later zero inside other more = other
+    later (suc i) inside other more = more i (omega (arith, inside))
 
 -- Yes proves that no listed move lowers the index
 pub yes_certifies : (net : Network) (table : List ℕ) (line places x : ℕ) → verdict net table line ≡ Yes places x
@@ -103,27 +93,21 @@ yes_certifies net table line places x is =
     let given = given_from (line + 1) (lines table) in
     let truths = lines (cert_text net) in
     let next = line + 1 + length (lines table) in
-    let planned = none_found (without_plan net.plan line) code.NoPlan (judged net given next) places x is in
-    let right = none_found (first_wrong given truths) code.OtherLine _ places x planned.1 in
+    let (planned, later) = planned_yes (is_some net.plan) line (judged net given next) places x is in
+    let right = none_found (first_wrong given truths) code.OtherLine _ places x later in
     let there = none_found (first_missing given truths next) code.OtherLine _ places x right.1 in
     let higher = none_found (first_lower (index net) given (cert_lines net)) code.LowerIndex
     (Yes (move_count net) (index net)) places x there.1 in
     let agree = all_right given truths next right.0 there.0 in
     record {
-      planned = planned_is net.plan line planned.0;
+      planned = planned;
       short = agree.1;
       same = agree.0;
       local = λ place inside.
           sym (lowers_is net place)
           ∙ ap (λ l. is_below (index net) l.tried) (sym (line_at net place (cert_line net 0) inside))
           ∙ none_below (index net) given (cert_lines net) place (cert_line net 0) higher.0
-          (omega (
-            arith,
-            as_many given truths agree.0,
-            ap length (lines_certificate net),
-            length-cert_texts net,
-            length-cert_lines net,
-          ))
+          (omega (arith, as_many given truths agree.0, ap length (lines_certificate net), length-cert_texts net, length-cert_lines net))
           (omega (arith, inside, length-cert_lines net));
       count = cc;
       present = cc;
@@ -149,16 +133,14 @@ right_from (g ∷ gs) [] short same = absurd (cc)
 right_from (g ∷ gs) (t ∷ ts) short same =
     let here : words g.line ≡ words t = cc in
     let rest : map (λ g. words g.line) gs ≡ map words ts = cc in
-    ap (λ b. cond b (first_wrong gs ts) (Some g.number))
-    (agrees_from g.line t (All-head IsShort g gs short) here)
-    ∙ right_from gs ts (All-tail IsShort g gs short) rest
+    rw (agrees_from g.line t (All-head IsShort g gs short) here) (right_from gs ts (All-tail IsShort g gs short) rest)
 
 -- and where they are as many as the true ones, none is missing
 there_from : (gs : List Given) (truths : List (List ℕ)) (next : ℕ) → length gs ≡ length truths
     → first_missing gs truths next ≡ None
 there_from gs truths next same =
     let none : nat_lt (length gs) (length truths) ≡ false = grind (arith, nat_tests, same) in
-    ap (λ b. cond b (Some next) None) none
+    rw none
 
 -- where no index is lower none is found
 higher_from : (x : ℕ) (gs : List Given) (ls : List CertLine) (d : CertLine)
@@ -166,13 +148,7 @@ higher_from : (x : ℕ) (gs : List Given) (ls : List CertLine) (d : CertLine)
 higher_from x [] ls d none = refl
 higher_from x (g ∷ gs) [] d none = refl
 higher_from x (g ∷ gs) (l ∷ ls) d none =
-    ap (λ b. cond b (Some g.number) (first_lower x gs ls)) (none 0 (omega arith))
-    ∙ higher_from x gs ls d (λ i inside. none (suc i) (omega (arith, inside)))
-
--- there is a plan: the test passes
-without_none : (plan : Option PlanValue) (line : ℕ) → is_some plan ≡ true → without_plan plan line ≡ None
-without_none None line h = absurd (cc)
-without_none (Some p) line h = refl
+    rw (none 0 (omega arith)) (higher_from x gs ls d (λ i inside. none (suc i) (omega (arith, inside))))
 
 -- and what proves it is answered Yes
 pub certified_yes : (net : Network) (table : List ℕ) (line places x : ℕ) → IsCertified net table line places x
@@ -180,18 +156,15 @@ pub certified_yes : (net : Network) (table : List ℕ) (line places x : ℕ) →
 certified_yes net table line places x c =
     let given = given_from (line + 1) (lines table) in
     let truths = lines (cert_text net) in
-    let next = line + 1 + length (lines table) in
-    let yes = Yes (move_count net) (index net) in
-    let lower = first_lower (index net) given (cert_lines net) in
     let higher = higher_from (index net) given (cert_lines net) (cert_line net 0) (λ i inside.
     let here : i < move_count net = omega (arith, inside, length-cert_lines net) in
     ap (λ l. is_below (index net) l.tried) (line_at net i (cert_line net 0) here) ∙ lowers_is net i
     ∙ c.local i here) in
-    let count = sym c.count in
-    let present = sym c.present in
-    ap (λ o. no_or o code.NoPlan (judged net given next)) (without_none net.plan line c.planned)
-    ∙ ap (λ o. no_or o code.OtherLine (no_or (first_missing given truths next) code.OtherLine (no_or lower code.LowerIndex yes)))
-    (right_from given truths c.short c.same)
-    ∙ ap (λ o. no_or o code.OtherLine (no_or lower code.LowerIndex yes)) (there_from given truths next (as_many given truths c.same))
-    ∙ ap (λ o. no_or o code.LowerIndex yes) higher
-    ∙ (λ j. Yes (count j) (present j))
+    rw (
+      c.planned,
+      right_from given truths c.short c.same,
+      there_from given truths (line + 1 + length (lines table)) (as_many given truths c.same),
+      higher,
+      c.count,
+      c.present,
+    )

@@ -21,9 +21,8 @@ given_from number (line ∷ more) =
 -- whether two lists of words are the same
 abbrev pub same_words : List (List ℕ) → List (List ℕ) → Bool
 same_words [] [] = true
-same_words [] (v ∷ vs) = false
-same_words (u ∷ us) [] = false
 same_words (u ∷ us) (v ∷ vs) = bytes_eq u v && same_words us vs
+same_words us vs = false
 
 -- whether a line has the words of a true one; a line longer than 4,096 bytes has not
 abbrev pub agrees : List ℕ → List ℕ → Bool
@@ -41,6 +40,5 @@ first_missing given truths next = if nat_lt (length given) (length truths) then 
 
 -- the number of the first given line at whose place a move stands that gives an index below this
 abbrev pub first_lower : ℕ → List Given → List CertLine → Option ℕ
-first_lower x [] ls = None
-first_lower x (g ∷ gs) [] = None
 first_lower x (g ∷ gs) (l ∷ ls) = if is_below x l.tried then Some g.number else first_lower x gs ls
+first_lower x gs ls = None

@@ -1,9 +1,8 @@
 -- The verdict of an audit, on a table of lines after a deck.
-use Rattle.std.specs.Prelude.{ℕ, ◌+◌, List, length, Option, Some, None}
+use Rattle.std.specs.Prelude.{ℕ, ◌+◌, List, length, Option, Some, None, is_some, if◌then◌else◌}
 use Rattle.transyt_io.specs.Lines.{lines}
 use Rattle.transyt_syntax.specs.declared.code.Code.{Code}
 use Rattle.transyt_syntax.specs.declared.code.Code.TheVariants as code
-use Rattle.transyt_parts.specs.Parts.{PlanValue}
 use Rattle.transyt_net.specs.Parts.{Network}
 use Rattle.transyt_moves.specs.Moves.{move_count}
 use Rattle.transyt_sweep.specs.Sweeps.{index}
@@ -17,11 +16,6 @@ abbrev pub no_or : Option ℕ → Code → Verdict → Verdict
 no_or None code later = later
 no_or (Some line) code later = No line code
 
--- this line, where there is no climb plan
-abbrev pub without_plan : Option PlanValue → ℕ → Option ℕ
-without_plan None line = Some line
-without_plan (Some plan) line = None
-
 -- the verdict on given lines, `next` being the number of the line after the table's last
 abbrev pub judged : Network → List Given → ℕ → Verdict
 judged net given next =
@@ -33,5 +27,5 @@ judged net given next =
 -- the verdict on a table after a deck whose END stands on this line
 abbrev pub verdict : Network → List ℕ → ℕ → Verdict
 verdict net table line =
-    no_or (without_plan net.plan line) code.NoPlan
-    (judged net (given_from (line + 1) (lines table)) (line + 1 + length (lines table)))
+    if is_some net.plan then judged net (given_from (line + 1) (lines table)) (line + 1 + length (lines table))
+    else No line code.NoPlan

@@ -153,6 +153,7 @@ impl Truth {
 
 /// The index with the move at a place made, or None where it is barred. The move is taken back, also where memory is
 /// wanting.
+#[tactic(auto, using(crate::proofs::TrueLines::tried_made))]
 fn try_move<L: Ledger>(
     alloc: Global,
     net: &mut Net,

@@ -1,64 +1,35 @@
 -- A certificate's text, read again.
 use Rattle.std.proofs.Common.{◌≡◌, ℕ, ◌≤◌, List, [], ◌∷◌, ◌++◌, map, length, Option, Some, None, refl}
-use Rattle.std.proofs.Common.{ap, ◌∙◌, arith, length-append, flat_map}
+use Rattle.std.proofs.Common.{ap, ◌∙◌, arith, rules, get_or, length-append, flat_map}
 use Rattle.std.proofs.lemmas.List.{append-nil}
+use Rattle.std.proofs.lemmas.List.Elements.{All-push, All-map}
 use Rattle.std.proofs.lemmas.List.Folds.{flat_map-map}
 use Rattle.std.proofs.lemmas.Grind.{flat_map-append}
 use Rattle.std.specs.List.{range_with_len}
 use Rattle.transyt_io.specs.Lines.{lines, words}
 use Rattle.transyt_net.specs.declared.edit.Edit.{Edit}
-use Rattle.transyt_net.specs.declared.edit.Edit.TheVariants.{Offset, Change, Entry, Part, Cruise, Saturation}
-use Rattle.transyt_net.specs.declared.edit.Edit.TheVariants.{Weight}
+use Rattle.transyt_net.specs.declared.edit.Edit.TheVariants.{Offset, Change}
 use Rattle.transyt_net.specs.Parts.{Network}
 use Rattle.transyt_moves.specs.Moves.{move_count}
 use Rattle.transyt_sweep.specs.Sweeps.{index}
 use Rattle.transyt_cert.specs.Texts.{joined}
 use Rattle.transyt_cert.specs.Certificate.{CertLine, cert_line, cert_lines, cert_texts, cert_text, edit_words}
 use Rattle.transyt_cert.specs.Certificate.{tried_words, move_words, end_words, place_text, last_text}
-use Rattle.transyt_cert.proofs.WordTexts.{AreWords, both_words, number_word, words_joined, AreTexts}
-use Rattle.transyt_cert.proofs.WordTexts.{both_texts, joined_text, lines_texts}
+use Rattle.transyt_cert.proofs.WordTexts.{AreWords, both_words, number_word, words_joined, IsText}
+use Rattle.transyt_cert.proofs.WordTexts.{joined_text, lines_texts}
 
+-- the words of a move, of an index, of a line are words, and few
 edit_are : (e : Edit) → AreWords (edit_words e) × (length (edit_words e) ≤ 4)
-edit_are (Offset node offset) = (
-  (
-    record { some = omega arith; few = omega arith; plain = refl },
-    (
-      number_word node,
-      (number_word offset, tt),
-    ),
-  ),
-  omega arith,
-)
-edit_are (Change node stage change) = (
-  (
-    record { some = omega arith; few = omega arith; plain = refl },
-    (
-      number_word node,
-      (
-        number_word stage,
-        (number_word change, tt),
-      ),
-    ),
-  ),
-  omega arith,
-)
-edit_are (Entry link flow) = (tt, omega arith)
-edit_are (Part link feeder flow) = (tt, omega arith)
-edit_are (Cruise link feeder seconds) = (tt, omega arith)
-edit_are (Saturation link flow) = (tt, omega arith)
-edit_are (Weight link weights) = (tt, omega arith)
+edit_are (Offset node offset) = search (rules, number_word)
+edit_are (Change node stage change) = search (rules, number_word)
+edit_are e = (tt, omega arith)
 
 tried_are : (tried : Option ℕ) → AreWords (tried_words tried) × (length (tried_words tried) ≤ 2)
-tried_are None = ((record { some = omega arith; few = omega arith; plain = refl }, tt), omega arith)
-tried_are (Some x) = (
-  (
-    record { some = omega arith; few = omega arith; plain = refl },
-    (number_word x, tt),
-  ),
-  omega arith,
-)
+tried_are None = search rules
+tried_are (Some x) = search (rules, number_word)
 
-move_are : (l : CertLine) → AreWords (move_words l) × (length (move_words l) ≤ 8)
+-- those of a place's line
+pub move_are : (l : CertLine) → AreWords (move_words l) × (length (move_words l) ≤ 8)
 move_are l =
     let edit = edit_are l.edit in
     let tried = tried_are l.tried in (
@@ -69,13 +40,9 @@ move_are l =
       omega (arith, edit.1, tried.1, length-append (edit_words l.edit) (tried_words l.tried)),
     )
 
-end_are : (count x : ℕ) → AreWords (end_words count x) × (length (end_words count x) ≤ 8)
-end_are count x =
-    let tried = tried_are (Some x) in (
-      (record { some = omega arith; few = omega arith; plain = refl }, (number_word count, tried.0)),
-      omega
-          (arith, tried.1),
-    )
+-- and those of the last line
+pub end_are : (count x : ℕ) → AreWords (end_words count x) × (length (end_words count x) ≤ 8)
+end_are count x = search (rules, number_word)
 
 -- the words of a place's line
 pub words_move : (l : CertLine) → words (joined (move_words l)) ≡ move_words l
@@ -85,20 +52,18 @@ words_move l = words_joined (move_words l) (move_are l).0
 pub words_end : (count x : ℕ) → words (joined (end_words count x)) ≡ end_words count x
 words_end count x = words_joined (end_words count x) (end_are count x).0
 
-moves_are : (ls : List CertLine) → AreTexts (map (λ l. joined (move_words l)) ls)
-moves_are [] = tt
-moves_are (l ∷ ls) =
-    let one = move_are l in (joined_text (move_words l) one.0 (omega (arith, one.1)), moves_are ls)
-
 -- the lines of a certificate's text
 pub lines_certificate : (net : Network) → lines (cert_text net) ≡ cert_texts net
 lines_certificate net =
     let last = end_are (move_count net) (index net) in
     lines_texts (cert_texts net)
-    (both_texts (map (λ l. joined (move_words l)) (cert_lines net)) (joined (end_words (move_count net)
-    (index net)) ∷ [])
-    (moves_are (cert_lines net))
-    (joined_text (end_words (move_count net) (index net)) last.0 (omega (arith, last.1)), tt))
+    (All-push IsText (map (λ l. joined (move_words l)) (cert_lines net)) (joined (end_words (move_count net) (index net)))
+    (All-map IsText (λ l. joined (move_words l)) (cert_lines net) (
+    λ i d below.
+    let l : CertLine = get_or (cert_lines net) i d in
+    joined_text (move_words l) (move_are l).0 (omega (arith, (move_are l).1))
+    ))
+    (joined_text (end_words (move_count net) (index net)) last.0 (omega (arith, last.1))))
 
 -- a certificate's text is that of each place, and then the last line
 pub text_by_place : (net : Network) → cert_text net

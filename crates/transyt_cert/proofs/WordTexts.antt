@@ -1,17 +1,18 @@
 -- Words on a line, read again: the words of the text are the words, and the lines of texts are the texts.
 use Rattle.std.proofs.Common.{◌≡◌, ℕ, zero, suc, ◌+◌, ◌-◌, ◌*◌, ◌/◌, ◌%◌, ◌<◌, ◌≤◌, ◌==◌, nat_le}
-use Rattle.std.proofs.Common.{List, [], ◌∷◌, ◌++◌, map, filter}
-use Rattle.std.proofs.Common.{length, take, Bool, true, false, cond, not, ◌&&◌, refl, ◌∙◌, ap, decimal}
+use Rattle.std.proofs.Common.{All, List, [], ◌∷◌, ◌++◌, filter}
+use Rattle.std.proofs.Common.{length, Bool, true, false, not, ◌&&◌, refl, ◌∙◌, ap, decimal}
 use Rattle.std.proofs.Common.{arith, length-append}
-use Rattle.std.proofs.Common.{append_assoc, slice_index, if◌then◌else◌}
+use Rattle.std.proofs.Common.{append_assoc, slice_index}
 use Rattle.std.specs.List.{list_all, slice_split, onto_first}
 use Rattle.std.specs.Fmt.{digits, digits_onto, digit_glyph}
 use Rattle.std.proofs.lemmas.List.{append-nil, take_all}
 use Rattle.std.proofs.lemmas.List.Folds.{list_all-append}
+use Rattle.std.proofs.lemmas.List.Elements.{All-head, All-tail}
 use Rattle.std.proofs.lemmas.Bool.Decides.{nat_tests}
-use Rattle.std.proofs.lemmas.Bool.{and_parts, and_from}
+use Rattle.std.proofs.lemmas.Bool.{and_parts, and_from, not-true, cond_both}
 use Rattle.std.proofs.Math.Nat.{mod-lt}
-use Rattle.transyt_io.specs.Lines.{is_blank, is_some_word, words, cut, lines, line_of, onto_first as onto_part}
+use Rattle.transyt_io.specs.Lines.{is_blank, is_some_word, words, cut, lines, line_of}
 use Rattle.transyt_cert.specs.Texts.{spaced, joined, lines_text}
 
 -- a byte of a word: printable ASCII, no blank
@@ -44,30 +45,24 @@ digits_plain (suc k) n acc h =
     let plain : list_all is_word_byte more ≡ true =
     and_from (is_word_byte (digit_glyph false (n % 10))) (list_all is_word_byte acc)
     (digit_plain (n % 10) (mod-lt n (omega arith))) h in
-    elim (n / 10 == 0) as (λ t. list_all is_word_byte (if t then more else digits_onto k 10 false
-    (n / 10) more) ≡ true) [
-      | true ↦ plain
-      | false ↦ digits_plain k (n / 10) more plain
-    ]
+    cond_both (n / 10 == 0) more (digits_onto k 10 false (n / 10) more) (λ ds. list_all is_word_byte ds ≡ true)
+    (λ done. plain) (λ on. digits_plain k (n / 10) more plain)
 
 digits_few : (k n : ℕ) (acc : List ℕ) → length acc ≤ length (digits_onto k 10 false n acc)
     × (length (digits_onto k 10 false n acc) ≤ k + length acc)
 digits_few zero n acc = (omega arith, omega arith)
 digits_few (suc k) n acc =
     let more = digit_glyph false (n % 10) ∷ acc in
-    elim (n / 10 == 0) as (λ t. length acc ≤ length (if t then more else digits_onto k 10 false (n / 10) more)
-    × (length (if t then more else digits_onto k 10 false (n / 10) more) ≤ suc k + length acc)) [
-      | true ↦ (omega arith, omega arith)
-      | false ↦ let rest = digits_few k (n / 10) more in (omega (arith, rest.0), omega (arith, rest.1))
-    ]
+    let rest = digits_few k (n / 10) more in
+    cond_both (n / 10 == 0) more (digits_onto k 10 false (n / 10) more)
+    (λ ds. (length acc ≤ length ds) × (length ds ≤ suc k + length acc))
+    (λ done. (omega arith, omega arith)) (λ on. (omega (arith, rest.0), omega (arith, rest.1)))
 
 digits_some : (k n : ℕ) → 0 < length (digits_onto (suc k) 10 false n [])
 digits_some k n =
     let more = digit_glyph false (n % 10) ∷ [] in
-    elim (n / 10 == 0) as (λ t. 0 < length (if t then more else digits_onto k 10 false (n / 10) more)) [
-      | true ↦ omega arith
-      | false ↦ let rest = digits_few k (n / 10) more in omega (arith, rest.0)
-    ]
+    cond_both (n / 10 == 0) more (digits_onto k 10 false (n / 10) more) (λ ds. 0 < length ds)
+    (λ done. omega arith) (λ on. omega (arith, (digits_few k (n / 10) more).0))
 
 -- the text of a number is a word
 pub number_word : (n : ℕ) → IsWord (decimal n)
@@ -81,12 +76,6 @@ number_word n = record {
 not_blank : (b : ℕ) → is_word_byte b ≡ true → is_blank b ≡ false
 not_blank b h = grind (arith, nat_tests)
 
-no_line_feed : (b : ℕ) → is_word_byte b ≡ true → (b == 10) ≡ false
-no_line_feed b h = grind (arith, nat_tests)
-
-no_return : (b : ℕ) → is_word_byte b ≡ true → (b == 13) ≡ false
-no_return b h = grind (arith, nat_tests)
-
 prepend : List ℕ → List (List ℕ) → List (List ℕ)
 prepend [] ls = ls
 prepend (b ∷ bs) ls = onto_first b (prepend bs ls)
@@ -96,26 +85,18 @@ unfolding prepend
 prepend_onto [] v ls = refl
 prepend_onto (b ∷ bs) v ls = ap (onto_first b) (prepend_onto bs v ls)
 
-by_false : {A : Type 0} (t : Bool) (a b c : A) → t ≡ false → b ≡ c → cond t a b ≡ c
-by_false true a b c h e = absurd (cc)
-by_false false a b c h e = e
-
 split_word : (word rest : List ℕ) → list_all is_word_byte word ≡ true
     → slice_split is_blank (word ++ rest) ≡ prepend word (slice_split is_blank rest)
 unfolding prepend
 split_word [] rest h = refl
 split_word (b ∷ bs) rest h =
     let both = and_parts (is_word_byte b) (list_all is_word_byte bs) h in
-    by_false (is_blank b) _ _ _ (not_blank b both.0) (ap (onto_first b) (split_word bs rest both.1))
+    rw (not_blank b both.0, split_word bs rest both.1)
 
 split_spaced : (ws : List (List ℕ)) → AreWords ws → slice_split is_blank (spaced ws) ≡ [] ∷ ws
 split_spaced [] h = refl
 split_spaced (w ∷ ws) h =
-    ap (λ (l : List (List ℕ)). [] ∷ l)
-    (split_word w (spaced ws) h.0.plain
-    ∙ ap (prepend w) (split_spaced ws h.1)
-    ∙ prepend_onto w [] ws
-    ∙ ap (λ (l : List ℕ). l ∷ ws) (append-nil w))
+    rw (split_word w (spaced ws) h.0.plain, split_spaced ws h.1, prepend_onto w [] ws, append-nil w)
 
 keep : (word : List ℕ) (more : List (List ℕ)) → 0 < length word
     → filter is_some_word (word ∷ more) ≡ word ∷ filter is_some_word more
@@ -124,39 +105,18 @@ keep (b ∷ bs) more some = refl
 
 keep_all : (ws : List (List ℕ)) → AreWords ws → filter is_some_word ws ≡ ws
 keep_all [] h = refl
-keep_all (w ∷ ws) h = keep w ws h.0.some ∙ ap (λ (l : List (List ℕ)). w ∷ l) (keep_all ws h.1)
+keep_all (w ∷ ws) h = rw (keep w ws h.0.some, keep_all ws h.1)
 
 -- the words of joined words are the words
 pub words_joined : (ws : List (List ℕ)) → AreWords ws → words (joined ws) ≡ ws
 words_joined [] h = refl
 words_joined (w ∷ ws) h =
-    ap (filter is_some_word)
-    (split_word w (spaced ws) h.0.plain
-    ∙ ap (prepend w) (split_spaced ws h.1)
-    ∙ prepend_onto w [] ws
-    ∙ ap (λ (l : List ℕ). l ∷ ws) (append-nil w))
-    ∙ keep_all (w ∷ ws) h
+    rw (split_word w (spaced ws) h.0.plain, split_spaced ws h.1, prepend_onto w [] ws, append-nil w) (keep_all (w ∷ ws) h)
 
 -- a text that is its own line: printable, and at most 4,096 bytes
 pub record IsText (text : List ℕ) : Type 0 where
   pub few : length text ≤ 4096
   pub no_end : list_all (λ b. not (b == 10) && not (b == 13)) text ≡ true
-
-abbrev pub AreTexts : List (List ℕ) → Type 0
-AreTexts [] = Unit {0}
-AreTexts (text ∷ more) = IsText text × AreTexts more
-
-pub both_texts : (us vs : List (List ℕ)) → AreTexts us → AreTexts vs → AreTexts (us ++ vs)
-both_texts [] vs a b = b
-both_texts (u ∷ us) vs a b = (a.0, both_texts us vs a.1 b)
-
-not_false : (t : Bool) → not t ≡ true → t ≡ false
-not_false true h = absurd (cc)
-not_false false h = refl
-
-true_not : (t : Bool) → t ≡ false → not t ≡ true
-true_not true h = absurd (cc)
-true_not false h = refl
 
 cut_text : (text rest : List ℕ) → list_all (λ b. not (b == 10) && not (b == 13)) text ≡ true
     → cut true (text ++ 10 ∷ rest) ≡ text ∷ cut true rest
@@ -164,36 +124,32 @@ cut_text [] rest h = refl
 cut_text (b ∷ bs) rest h =
     let both = and_parts (not (b == 10) && not (b == 13)) (list_all (λ b. not (b == 10) && not (b == 13)) bs) h in
     let one = and_parts (not (b == 10)) (not (b == 13)) both.0 in
-    by_false (b == 10) _ _ _ (not_false (b == 10) one.0) (ap (onto_part true b) (cut_text bs rest both.1))
+    rw (not-true (b == 10) one.0, cut_text bs rest both.1)
 
 no_return_at : (text : List ℕ) (i : ℕ) → list_all (λ b. not (b == 10) && not (b == 13)) text ≡ true
     → (slice_index text i == 13) ≡ false
 no_return_at [] i h = refl
 no_return_at (b ∷ bs) zero h =
     let both = and_parts (not (b == 10) && not (b == 13)) (list_all (λ b. not (b == 10) && not (b == 13)) bs) h in
-    not_false (b == 13) ((and_parts (not (b == 10)) (not (b == 13)) both.0).1)
+    not-true (b == 13) ((and_parts (not (b == 10)) (not (b == 13)) both.0).1)
 no_return_at (b ∷ bs) (suc i) h =
     no_return_at bs i ((and_parts (not (b == 10) && not (b == 13))
     (list_all (λ b. not (b == 10) && not (b == 13)) bs) h).1)
 
 line_same : (text : List ℕ) → IsText text → line_of text ≡ text
 line_same text h =
-    ap (take 4097) (by_false (slice_index text (length text - 1) == 13) (take (length text - 1) text) text text
-    (no_return_at text (length text - 1) h.no_end) refl)
-    ∙ take_all 4097 text (omega (arith, h.few))
+    rw (no_return_at text (length text - 1) h.no_end) (take_all 4097 text (omega (arith, h.few)))
 
 -- the lines of texts are the texts
-pub lines_texts : (texts : List (List ℕ)) → AreTexts texts → lines (lines_text texts) ≡ texts
+pub lines_texts : (texts : List (List ℕ)) → All IsText texts → lines (lines_text texts) ≡ texts
 lines_texts [] h = refl
 lines_texts (text ∷ more) h =
-    ap lines (append_assoc text (10 ∷ []) (lines_text more))
-    ∙ ap (map line_of) (cut_text text (lines_text more) h.0.no_end)
-    ∙ (λ j. line_same text h.0 j ∷ lines_texts more h.1 j)
+    let here = All-head IsText text more h in
+    rw (append_assoc text (10 ∷ []) (lines_text more), cut_text text (lines_text more) here.no_end)
+    (λ j. line_same text here j ∷ lines_texts more (All-tail IsText text more h) j)
 
 byte_fine : (b : ℕ) → is_word_byte b ≡ true → (not (b == 10) && not (b == 13)) ≡ true
-byte_fine b h =
-    and_from (not (b == 10)) (not (b == 13)) (true_not (b == 10) (no_line_feed b h)) (true_not (b == 13)
-    (no_return b h))
+byte_fine b h = grind (arith, nat_tests)
 
 word_fine : (word : List ℕ) → list_all is_word_byte word ≡ true
     → list_all (λ b. not (b == 10) && not (b == 13)) word ≡ true

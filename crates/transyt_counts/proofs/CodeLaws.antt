@@ -1,18 +1,17 @@
 -- The code of a key hangs on nothing that an edit sets, and a key without one can be set.
-use Rattle.std.proofs.Common.{◌≡◌, ℕ, ◌≤◌, Bool, true, false, cond, not, ◌&&◌, ◌||◌, nat_eq, nat_le, List, [], ◌∷◌, map, Option, Some, None}
-use Rattle.std.proofs.Common.{refl, sym, ◌∙◌, ap, arith}
-use Rattle.std.proofs.lemmas.Bool.{and_parts, not-false}
+use Rattle.std.proofs.Common.{◌≡◌, ℕ, ◌≤◌, true, not, ◌&&◌, ◌||◌, nat_eq, nat_le, List, [], ◌∷◌, map, Option, Some, None}
+use Rattle.std.proofs.Common.{refl, sym, ◌∙◌, ap, arith, inl, inr}
+use Rattle.std.proofs.lemmas.Bool.{cases_Bool, and_parts, not-false}
 use Rattle.std.proofs.lemmas.Bool.Decides.{nat_tests}
-use Rattle.transyt_syntax.specs.declared.code.Code.{Code}
 use Rattle.transyt_syntax.specs.declared.code.Code.TheVariants as code
 use Rattle.transyt_parts.specs.declared.link.Feed.{Feed}
 use Rattle.transyt_parts.specs.Parts.{LinkValue}
 use Rattle.transyt_parts.specs.Shape.{bare_feed, bare_link}
-use Rattle.transyt_parts.specs.Valid.{is_fed, link_number}
+use Rattle.transyt_parts.specs.Valid.{is_fed}
 use Rattle.transyt_net.specs.Parts.{Network}
 use Rattle.transyt_net.specs.Shape.{shape}
-use Rattle.transyt_net.specs.Valid.{numbered, feeds_in, feeds_at, is_among}
-use Rattle.transyt_net.specs.EditFaults.{edit_fault, is_link, range_fault, feed_fault}
+use Rattle.transyt_net.specs.Valid.{feeds_at, is_among}
+use Rattle.transyt_net.specs.EditFaults.{edit_fault, is_link}
 use Rattle.transyt_net.proofs.ShapeLaws.{same_link_numbers}
 use Rattle.transyt_net.proofs.WriteLaws.{no_fault}
 use Rattle.transyt_counts.specs.declared.key.Key.{Key}
@@ -26,14 +25,11 @@ fed_bare (f ∷ fs) feeder = ap (λ b. nat_eq feeder f.feeder || b) (fed_bare fs
 
 feeds_bare : (ls : List LinkValue) (link feeder : ℕ) → is_fed (feeds_at (map bare_link ls) link) feeder ≡ is_fed (feeds_at ls link) feeder
 feeds_bare [] link feeder = refl
-feeds_bare (l ∷ ls) link feeder = by_test (nat_eq link l.number) l ls link feeder (feeds_bare ls link feeder)
-  where
-    by_test : (b : Bool) (l : LinkValue) (ls : List LinkValue) (link feeder : ℕ)
-        → is_fed (feeds_at (map bare_link ls) link) feeder ≡ is_fed (feeds_at ls link) feeder
-        → is_fed (feeds_in (cond b (Some (bare_link l)) (numbered link_number (map bare_link ls) link))) feeder
-        ≡ is_fed (feeds_in (cond b (Some l) (numbered link_number ls link))) feeder
-    by_test true l ls link feeder rest = fed_bare l.feeds feeder
-    by_test false l ls link feeder rest = rest
+feeds_bare (l ∷ ls) link feeder =
+    elim (cases_Bool (nat_eq link l.number)) [
+      | inl here ↦ rw here (fed_bare l.feeds feeder)
+      | inr other ↦ rw other (feeds_bare ls link feeder)
+    ]
 
 fed_shape : (a b : Network) (link feeder : ℕ) → shape a ≡ shape b → is_fed (feeds_at a.links link) feeder ≡ is_fed (feeds_at b.links link) feeder
 fed_shape a b link feeder same =
@@ -53,11 +49,7 @@ fed_by_shape a b link (Some f) same = fed_shape a b link f same
 -- networks of one shape have the same codes of keys
 pub code_shape : (a b : Network) (k : Key) → shape a ≡ shape b → key_code a k ≡ key_code b k
 code_shape a b k same =
-    let code_by : Bool → Bool → Bool → Option Code = λ (link known fed : Bool).
-    cond (not (link && known)) (Some code.Unknown) (cond (not fed) (Some code.NoFeeder) None) in
-    ap (λ x. code_by x (is_known a k.feeder) (is_fed_by a k.link k.feeder)) (link_shape a b k.link same)
-    ∙ ap (λ x. code_by (is_link b k.link) x (is_fed_by a k.link k.feeder)) (known_shape a b k.feeder same)
-    ∙ ap (code_by (is_link b k.link) (is_known b k.feeder)) (fed_by_shape a b k.link k.feeder same)
+    rw (link_shape a b k.link same, known_shape a b k.feeder same, fed_by_shape a b k.link k.feeder same)
 
 -- a key without a code can be set to a flow in its range
 edit_by : (net : Network) (link : ℕ) (o : Option ℕ) (flow : ℕ) → key_code net (record { link = link; feeder = o }) ≡ None → flow ≤ 9999
@@ -65,15 +57,14 @@ edit_by : (net : Network) (link : ℕ) (o : Option ℕ) (flow : ℕ) → key_cod
 edit_by net link None flow none small =
     let known = and_parts (is_link net link) true (not-false (is_link net link && true) (no_fault (not (is_link net link && true)) code.Unknown _ none).0) in
     let fits : nat_le flow 9999 ≡ true = grind (arith, nat_tests, small) in
-    ap (λ b. range_fault b (nat_le flow 9999)) known.0 ∙ ap (range_fault true) fits
+    rw (known.0, fits)
 edit_by net link (Some f) flow none small =
     let first = no_fault (not (is_link net link && is_link net f)) code.Unknown _ none in
     let second = no_fault (not (is_fed (feeds_at net.links link) f)) code.NoFeeder None first.1 in
     let known = not-false (is_link net link && is_link net f) first.0 in
     let fed = not-false (is_fed (feeds_at net.links link) f) second.0 in
     let fits : nat_le flow 9999 ≡ true = grind (arith, nat_tests, small) in
-    ap (λ b. feed_fault b (is_fed (feeds_at net.links link) f) (nat_le flow 9999)) known
-    ∙ ap (λ b. feed_fault true b (nat_le flow 9999)) fed ∙ ap (feed_fault true true) fits
+    rw (known, fed, fits)
 
 -- the edit of a key without a code is allowed
 pub edit_allowed : (net : Network) (k : Key) (flow : ℕ) → key_code net k ≡ None → flow ≤ 9999 → edit_fault net (edit_of k flow) ≡ None

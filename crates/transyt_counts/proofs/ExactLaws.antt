@@ -1,20 +1,22 @@
 -- The edits of a table are exact: each row counts in one, each is allowed, together they set the counted flows.
 use Rattle.std.proofs.Common.{◌≡◌, ℕ, Bool, true, false, cond, ◌||◌, List, [], ◌∷◌, ◌++◌, map, length, All, Option, Some, None}
-use Rattle.std.proofs.Common.{refl, sym, ◌∙◌, ap, arith, inl, inr, subst, get_or, Ok}
+use Rattle.std.proofs.Common.{refl, sym, ◌∙◌, ap, arith, inl, inr, get_or, Ok}
 use Rattle.std.specs.List.{find, fold, list_any}
 use Rattle.std.specs.Prelude.{count_by}
-use Rattle.std.proofs.lemmas.Bool.{cases_Bool, or_parts, ltb-false}
+use Rattle.std.proofs.lemmas.Bool.{cases_Bool, cond_both, or_parts, ltb-false}
+use Rattle.std.proofs.lemmas.Simd.{map-map}
+use Rattle.std.proofs.lemmas.List.{length-map, get_or-map}
 use Rattle.std.proofs.lemmas.List.Sums.{sum_by-cons}
 use Rattle.std.proofs.lemmas.List.Elements.{All-head, All-tail, All-nil, All-cons, All-push}
 use Rattle.transyt_net.specs.Parts.{Network}
 use Rattle.transyt_net.specs.Valid.{IsValid}
-use Rattle.transyt_net.specs.declared.edit.Edit.{Edit}
 use Rattle.transyt_counts.specs.declared.key.Key.{Key}
 use Rattle.transyt_counts.specs.declared.row.Count.{Count}
+use Rattle.transyt_counts.specs.declared.tally.Totals.{Totals}
 use Rattle.transyt_counts.specs.Keys.{same_key, edit_of}
 use Rattle.transyt_counts.specs.Rows.{key_code}
-use Rattle.transyt_counts.specs.Tally.{keys_of, with_key, flow_of}
-use Rattle.transyt_counts.specs.Counts.{is_too_great, edits_of, answer_for, answer_of, read_rows, counts_of}
+use Rattle.transyt_counts.specs.Tally.{keys_of, with_key, totals_of, tally_of, flow_of}
+use Rattle.transyt_counts.specs.Counts.{is_too_great, edit_by, answer_for, answer_of, read_rows, counts_of}
 use Rattle.transyt_counts.specs.Answer.{CountsValue}
 use Rattle.transyt_counts.specs.Records.{records_of}
 use Rattle.transyt_counts.specs.Exact.{sets, AreExact}
@@ -74,44 +76,45 @@ keys_good : (net : Network) (cs : List Count) (ks : List Key) → All (IsGood ne
 keys_good net [] ks good before = before
 keys_good net (c ∷ cs) ks good before =
     keys_good net cs (with_key ks c.key) (All-tail (IsGood net) c cs good)
-    (elim (cases_Bool (list_any (same_key c.key) ks)) [
-      | inl there ↦ subst (λ (b : Bool). All (λ k. key_code net k ≡ None) (cond b ks (ks ++ c.key ∷ []))) (sym there) before
-      | inr new ↦ subst (λ (b : Bool). All (λ k. key_code net k ≡ None) (cond b ks (ks ++ c.key ∷ []))) (sym new)
-          (All-push (λ k. key_code net k ≡ None) ks c.key before (All-head (IsGood net) c cs good).key)
-    ])
+    (cond_both (list_any (same_key c.key) ks) ks (ks ++ c.key ∷ []) (λ ks. All (λ k. key_code net k ≡ None) ks) (λ there. before)
+    (λ new. All-push (λ k. key_code net k ≡ None) ks c.key before (All-head (IsGood net) c cs good).key))
 
 -- where none was found, all fail
 none_found : {A : Type 0} (test : A → Bool) (xs : List A) → find test xs ≡ None → All (λ x. test x ≡ false) xs
 none_found test [] none = All-nil (λ x. test x ≡ false)
 none_found test (x ∷ xs) none =
     elim (cases_Bool (test x)) [
-      | inl passes ↦ absurd (let some = sym (ap (λ b. cond b (Some x) (find test xs)) passes) ∙ none in cc some)
-      | inr fails ↦
-          All-cons (λ x. test x ≡ false) x xs fails
-          (none_found test xs (sym (ap (λ b. cond b (Some x) (find test xs)) fails) ∙ none))
+      | inl passes ↦ absurd (let some = rw passes at none in cc some)
+      | inr fails ↦ All-cons (λ x. test x ≡ false) x xs fails (none_found test xs (rw fails at none))
     ]
 
 -- the edits of good rows, of which no key's flow is too great
-pub edits_exact : (net : Network) (cs : List Count) → IsValid net → All (IsGood net) cs
-    → find (is_too_great cs) (keys_of cs) ≡ None → AreExact net cs (edits_of cs)
+edits_exact : (net : Network) (cs : List Count) → IsValid net → All (IsGood net) cs
+    → find is_too_great (tally_of cs) ≡ None → AreExact net cs (map edit_by (tally_of cs))
 edits_exact net cs valid good none =
-    let small = none_found (is_too_great cs) (keys_of cs) none in
+    let flow : Key → ℕ = flow_of cs in
+    let entry : Key → Key × Totals = λ k. (k, totals_of cs k) in
+    let small = none_found is_too_great (tally_of cs) none in
     let known = keys_good net cs [] good (All-nil (λ k. key_code net k ≡ None)) in
-    let both = edits_set (keys_of cs) (flow_of cs) net valid
-    (λ i d below. (known i d below, ltb-false 9999 (flow_of cs (get_or (keys_of cs) i d)) (small i d below))) in
-    record {
+    let both = edits_set (keys_of cs) flow net valid (
+    λ i d below. (
+      known i d below,
+      ltb-false 9999 (flow (get_or (keys_of cs) i d))
+          (rw (get_or-map entry (keys_of cs) i d (entry d) below) at (small i (entry d) (omega (arith, length-map (keys_of cs) entry)))),
+    )) in
+    rw (map-map edit_by entry (keys_of cs)) (record {
       once = λ i d below.
-          one_of (get_or cs i d).key (keys_of cs) (flow_of cs) (keys_of_differ cs) (row_there cs [] i d below);
+          one_of (get_or cs i d).key (keys_of cs) flow (keys_of_differ cs) (row_there cs [] i d below);
       allowed = both.0;
       after = both.1;
-    }
+    })
 
 -- an answer to rows has their number and edits, and no flow is too great
-answer_parts : (cs : List Count) (o : Option Key) (v : CountsValue) → answer_for cs o ≡ Ok v
-    → (o ≡ None) × (length cs ≡ v.rows) × (edits_of cs ≡ v.edits)
-answer_parts cs (Some k) v h = absurd (cc)
-answer_parts cs None v h =
-    let is : record { rows = length cs; edits = edits_of cs } ≡ v = cc in
+answer_parts : (rows : ℕ) (tally : List (Key × Totals)) (o : Option (Key × Totals)) (v : CountsValue) → answer_for rows tally o ≡ Ok v
+    → (o ≡ None) × (rows ≡ v.rows) × (map edit_by tally ≡ v.edits)
+answer_parts rows tally (Some k) v h = absurd (cc)
+answer_parts rows tally None v h =
+    let is : record { rows = rows; edits = map edit_by tally } ≡ v = cc in
     (refl, ap (λ (x : CountsValue). x.rows) is, ap (λ (x : CountsValue). x.edits) is)
 
 -- so an answer to a table is exact
@@ -119,5 +122,5 @@ pub table_exact : (net : Network) (table : List ℕ) (cs : List Count) (v : Coun
     → read_rows net 1 (records_of table) ≡ Ok cs → All (IsGood net) cs → counts_of net table ≡ Ok v
     → (counts : List Count) × (read_rows net 1 (records_of table) ≡ Ok counts) × (length counts ≡ v.rows) × AreExact net counts v.edits
 table_exact net table cs v valid read good answer =
-    let parts = answer_parts cs (find (is_too_great cs) (keys_of cs)) v (sym (ap answer_of read) ∙ answer) in
-    (cs, read, parts.1, subst (λ (es : List Edit). AreExact net cs es) parts.2 (edits_exact net cs valid good parts.0))
+    let parts = answer_parts (length cs) (tally_of cs) (find is_too_great (tally_of cs)) v (sym (ap answer_of read) ∙ answer) in
+    (cs, read, parts.1, rw (← parts.2) (edits_exact net cs valid good parts.0))

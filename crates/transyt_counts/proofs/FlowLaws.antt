@@ -1,15 +1,15 @@
 -- The edits of keys, one after another, set just their flows.
-use Rattle.std.proofs.Common.{◌≡◌, ℕ, ◌≤◌, Bool, true, false, cond, ◌&&◌, ◌||◌, nat_eq, List, [], ◌∷◌, map, All, Option, Some, None}
+use Rattle.std.proofs.Common.{◌≡◌, ℕ, ◌≤◌, true, false, nat_eq, List, [], ◌∷◌, map, All, Option, Some, None}
 use Rattle.std.proofs.Common.{refl, sym, ◌∙◌, ap, arith, get_or}
 use Rattle.std.specs.List.{list_any}
-use Rattle.std.proofs.lemmas.Bool.{and_from}
+use Rattle.std.proofs.lemmas.Bool.{and_from, and_left, and_right, cond_both}
 use Rattle.std.proofs.lemmas.Bool.Decides.{nat_tests}
 use Rattle.std.proofs.lemmas.List.Elements.{All-head, All-tail, All-weaker}
 use Rattle.transyt_parts.specs.declared.link.Feed.{Feed}
 use Rattle.transyt_parts.specs.Parts.{LinkValue}
 use Rattle.transyt_parts.specs.Valid.{all_differ, link_number, feeders}
 use Rattle.transyt_net.specs.Parts.{Network}
-use Rattle.transyt_net.specs.Valid.{IsValid, IsLink, on_numbered, link_numbers}
+use Rattle.transyt_net.specs.Valid.{IsValid, IsLink, link_numbers}
 use Rattle.transyt_net.specs.declared.edit.Edit.{Edit}
 use Rattle.transyt_net.specs.Edits.{with_edit, set_entry, set_part, flow_to, feeder_of}
 use Rattle.transyt_net.specs.EditFaults.{edit_fault}
@@ -24,66 +24,49 @@ use Rattle.transyt_counts.proofs.KeyLaws.{key_same}
 use Rattle.transyt_counts.proofs.CodeLaws.{code_shape, edit_allowed}
 use Rattle.transyt_counts.proofs.WrittenLaws.{written_all}
 
-and_none : (b : Bool) → (b && false) ≡ false
-and_none true = refl
-and_none false = refl
-
-and_right : (a b : Bool) → b ≡ false → (a && b) ≡ false
-and_right true b h = h
-and_right false b h = refl
-
 -- a flow of one key more, of another key
 flow_other : (k : Key) (ks : List Key) (flow : Key → ℕ) (j : Key) (before : ℕ) → same_key j k ≡ false
     → set_flow ks flow j before ≡ set_flow (k ∷ ks) flow j before
-flow_other k ks flow j before other = sym (ap (λ b. cond (b || list_any (same_key j) ks) (flow j) before) other)
+flow_other k ks flow j before other = rw other
 
 -- and of that key, once it was set
 flow_here : (k : Key) (ks : List Key) (flow : Key → ℕ) (j : Key) (before : ℕ) → same_key j k ≡ true
     → set_flow ks flow j (flow k) ≡ set_flow (k ∷ ks) flow j before
 flow_here k ks flow j before same =
-    let one : k ≡ j = sym (key_same j k same) in
-    either_flow (list_any (same_key j) ks) (flow j) (flow k) (ap flow one)
-    ∙ sym (ap (λ b. cond (b || list_any (same_key j) ks) (flow j) before) same)
-  where
-    either_flow : (b : Bool) (x y : ℕ) → y ≡ x → cond b x y ≡ x
-    either_flow true x y h = refl
-    either_flow false x y h = h
+    rw same (cond_both (list_any (same_key j) ks) (flow j) (flow k) (λ x. x ≡ flow j) (λ there. refl)
+    (λ new. ap flow (sym (key_same j k same))))
 
 -- a feed of another key
 feed_other : (k : Key) (ks : List Key) (flow : Key → ℕ) (link : ℕ) (f : Feed) → same_key (part_key link f.feeder) k ≡ false
     → set_feed ks flow link f ≡ set_feed (k ∷ ks) flow link f
-feed_other k ks flow link f other = ap (λ x. record f { flow = x }) (flow_other k ks flow (part_key link f.feeder) f.flow other)
+feed_other k ks flow link f other = rw other
 
 feeds_other : (k : Key) (ks : List Key) (flow : Key → ℕ) (link : ℕ) (fs : List Feed)
     → ((f : Feed) → same_key (part_key link f.feeder) k ≡ false)
     → map (set_feed ks flow link) fs ≡ map (set_feed (k ∷ ks) flow link) fs
 feeds_other k ks flow link [] other = refl
-feeds_other k ks flow link (f ∷ fs) other =
-    ap (λ x. x ∷ map (set_feed ks flow link) fs) (feed_other k ks flow link f (other f))
-    ∙ ap (λ xs. set_feed (k ∷ ks) flow link f ∷ xs) (feeds_other k ks flow link fs other)
+feeds_other k ks flow link (f ∷ fs) other = rw (other f, feeds_other k ks flow link fs other)
 
 -- a link of another number
 link_other : (k : Key) (ks : List Key) (flow : Key → ℕ) (l : LinkValue) → nat_eq k.link l.number ≡ false
     → set_link ks flow l ≡ set_link (k ∷ ks) flow l
 link_other k ks flow l other =
-    let swapped : nat_eq l.number k.link ≡ false = eq_swapped k.link l.number other in
-    let made : ℕ → List Feed → LinkValue = λ (e : ℕ) (fs : List Feed). record l { entry = e; feeds = fs } in
-    ap (λ e. made e (map (set_feed ks flow l.number) l.feeds))
-    (flow_other k ks flow (entry_key l.number) l.entry (ap (λ b. b && same_feeder None k.feeder) swapped))
-    ∙ ap (made (set_flow (k ∷ ks) flow (entry_key l.number) l.entry))
-    (feeds_other k ks flow l.number l.feeds (λ f. ap (λ b. b && same_feeder (Some f.feeder) k.feeder) swapped))
+    let apart : (o : Option ℕ) → same_key (record { link = l.number; feeder = o }) k ≡ false =
+    λ o. and_left (nat_eq l.number k.link) (same_feeder o k.feeder) (eq_swapped k.link l.number other) in
+    rw (
+      flow_other k ks flow (entry_key l.number) l.entry (apart None),
+      feeds_other k ks flow l.number l.feeds (λ f. apart (Some f.feeder)),
+    )
 
 -- the link of an entry flow that was set
 link_entry : (link : ℕ) (ks : List Key) (flow : Key → ℕ) (l : LinkValue) → nat_eq link l.number ≡ true
     → set_link ks flow (set_entry (flow (entry_key link)) l) ≡ set_link (entry_key link ∷ ks) flow l
 link_entry link ks flow l same =
-    let k : Key = entry_key link in
     let number : nat_eq l.number link ≡ true = grind (arith, nat_tests, same) in
-    let made : ℕ → List Feed → LinkValue = λ (e : ℕ) (fs : List Feed). record l { entry = e; feeds = fs } in
-    ap (λ e. made e (map (set_feed ks flow l.number) l.feeds))
-    (flow_here k ks flow (entry_key l.number) l.entry (ap (λ b. b && true) number))
-    ∙ ap (made (set_flow (k ∷ ks) flow (entry_key l.number) l.entry))
-    (feeds_other k ks flow l.number l.feeds (λ f. and_none (nat_eq l.number link)))
+    rw (
+      flow_here (entry_key link) ks flow (entry_key l.number) l.entry (and_from _ _ number refl),
+      feeds_other (entry_key link) ks flow l.number l.feeds (λ f. and_right (nat_eq l.number link) false refl),
+    )
 
 -- the link of a flow from a feeder that was set
 link_part : (link feeder : ℕ) (ks : List Key) (flow : Key → ℕ) (l : LinkValue) → nat_eq link l.number ≡ true
@@ -92,16 +75,15 @@ link_part : (link feeder : ℕ) (ks : List Key) (flow : Key → ℕ) (l : LinkVa
 link_part link feeder ks flow l same differ =
     let k : Key = part_key link feeder in
     let number : nat_eq l.number link ≡ true = grind (arith, nat_tests, same) in
-    let made : ℕ → List Feed → LinkValue = λ (e : ℕ) (fs : List Feed). record l { entry = e; feeds = fs } in
-    ap (λ e. made e (map (set_feed ks flow l.number) (on_numbered feeder_of (flow_to (flow k)) l.feeds feeder)))
-    (flow_other k ks flow (entry_key l.number) l.entry (and_none (nat_eq l.number link)))
-    ∙ ap (made (set_flow (k ∷ ks) flow (entry_key l.number) l.entry))
-    (written_all feeder_of (flow_to (flow k)) (set_feed ks flow l.number) (set_feed (k ∷ ks) flow l.number) l.feeds feeder differ
-    (λ i d below. λ is. let f : Feed = get_or l.feeds i d in
-    ap (λ x. record f { flow = x }) (flow_here k ks flow (part_key l.number f.feeder) f.flow
-    (and_from (nat_eq l.number link) (nat_eq f.feeder feeder) number (grind (arith, nat_tests, is)))))
-    (λ i d below. λ other. let f : Feed = get_or l.feeds i d in
-    feed_other k ks flow l.number f (and_right (nat_eq l.number link) (nat_eq f.feeder feeder) (eq_swapped feeder f.feeder other))))
+    rw (
+      flow_other k ks flow (entry_key l.number) l.entry (and_right (nat_eq l.number link) false refl),
+      written_all feeder_of (flow_to (flow k)) (set_feed ks flow l.number) (set_feed (k ∷ ks) flow l.number) l.feeds feeder differ
+          (λ i d below. λ is. let f : Feed = get_or l.feeds i d in
+          ap (λ x. record f { flow = x }) (flow_here k ks flow (part_key l.number f.feeder) f.flow
+          (and_from (nat_eq l.number link) (nat_eq f.feeder feeder) number (grind (arith, nat_tests, is)))))
+          (λ i d below. λ other. let f : Feed = get_or l.feeds i d in
+          feed_other k ks flow l.number f (and_right (nat_eq l.number link) (nat_eq f.feeder feeder) (eq_swapped feeder f.feeder other))),
+    )
 
 -- one edit, and then the flows of the other keys
 set_one : (net : Network) (link : ℕ) (o : Option ℕ) (ks : List Key) (flow : Key → ℕ) → IsValid net
@@ -128,13 +110,11 @@ set_one net link (Some feeder) ks flow valid =
 -- the flows of no key
 feeds_none : (flow : Key → ℕ) (link : ℕ) (fs : List Feed) → map (set_feed [] flow link) fs ≡ fs
 feeds_none flow link [] = refl
-feeds_none flow link (f ∷ fs) = ap (λ xs. f ∷ xs) (feeds_none flow link fs)
+feeds_none flow link (f ∷ fs) = rw (feeds_none flow link fs)
 
 links_none : (flow : Key → ℕ) (ls : List LinkValue) → map (set_link [] flow) ls ≡ ls
 links_none flow [] = refl
-links_none flow (l ∷ ls) =
-    ap (λ fs. record l { feeds = fs } ∷ map (set_link [] flow) ls) (feeds_none flow l.number l.feeds)
-    ∙ ap (λ xs. l ∷ xs) (links_none flow ls)
+links_none flow (l ∷ ls) = rw (feeds_none flow l.number l.feeds, links_none flow ls)
 
 -- the edits of keys without a code, to flows in their range: each is allowed, and together they set those flows
 pub edits_set : (ks : List Key) (flow : Key → ℕ) (net : Network) → IsValid net

@@ -3,7 +3,7 @@ use Rattle.std.proofs.Common.{◌≡◌, ℕ, Bool, true, false, cond, not, ◌&
 use Rattle.std.proofs.Common.{inl, inr, if◌then◌else◌}
 use Rattle.std.specs.List.{list_any, fold}
 use Rattle.std.specs.Map.{lookup}
-use Rattle.std.proofs.lemmas.Bool.{cases_Bool, not-true, and_parts, and_from, or_parts, or_from}
+use Rattle.std.proofs.lemmas.Bool.{cases_Bool, not-true, and_parts, and_from, or_parts, or_from, or_left, or_right, cond_both, false_from_ne_true, eqb-true}
 use Rattle.std.proofs.lemmas.Bool.Decides.{nat_tests}
 use Rattle.std.proofs.lemmas.List.Folds.{list_any-append}
 use Rattle.indexmap.specs.IndexMap.{insert_entry}
@@ -16,9 +16,8 @@ use Rattle.transyt_counts.specs.Tally.{with_key, keys_of}
 -- the same feeder, or none
 feeder_same : (a b : Option ℕ) → same_feeder a b ≡ true → a ≡ b
 feeder_same None None h = refl
-feeder_same None (Some g) h = absurd (cc)
-feeder_same (Some f) None h = absurd (cc)
 feeder_same (Some f) (Some g) h = ap (λ n. Some n) (grind (arith, nat_tests, h))
+feeder_same a b h = absurd (cc)
 
 feeder_self : (a : Option ℕ) → same_feeder a a ≡ true
 feeder_self None = refl
@@ -28,7 +27,7 @@ feeder_self (Some f) = grind (arith, nat_tests)
 pub key_same : (a b : Key) → same_key a b ≡ true → a ≡ b
 key_same a b h =
     let both = and_parts (nat_eq a.link b.link) (same_feeder a.feeder b.feeder) h in
-    let links : a.link ≡ b.link = grind (arith, nat_tests, both.0) in
+    let links : a.link ≡ b.link = eqb-true _ _ both.0 in
     let made : ℕ → Option ℕ → Key = λ (l : ℕ) (f : Option ℕ). record { link = l; feeder = f } in
     ap (λ l. made l a.feeder) links ∙ ap (made b.link) (feeder_same a.feeder b.feeder both.1)
 
@@ -39,13 +38,9 @@ key_self a = and_from (nat_eq a.link a.link) (same_feeder a.feeder a.feeder) (gr
 -- the test goes both ways
 pub key_swapped : (a b : Key) → same_key a b ≡ false → same_key b a ≡ false
 key_swapped a b h =
-    elim (cases_Bool (same_key b a)) [
-      | inr other ↦ other
-      | inl same ↦ absurd (
-          let is : same_key a b ≡ true = ap (same_key a) (key_same b a same) ∙ key_self a in
-          cc (is, h)
-          )
-    ]
+    false_from_ne_true (same_key b a) (
+    λ same. let is : same_key a b ≡ true = ap (same_key a) (key_same b a same) ∙ key_self a in cc (is, h)
+    )
 
 -- no key stands twice
 abbrev pub keys_differ : List Key → Bool
@@ -72,10 +67,8 @@ differ_push (j ∷ js) k differ new =
 -- a key more, where it is new: they still differ
 pub differ_with : (ks : List Key) (k : Key) → keys_differ ks ≡ true → keys_differ (with_key ks k) ≡ true
 differ_with ks k differ =
-    elim (cases_Bool (list_any (same_key k) ks)) [
-      | inl there ↦ ap (λ b. keys_differ (cond b ks (ks ++ k ∷ []))) there ∙ differ
-      | inr new ↦ ap (λ b. keys_differ (cond b ks (ks ++ k ∷ []))) new ∙ differ_push ks k differ new
-    ]
+    cond_both (list_any (same_key k) ks) ks (ks ++ k ∷ []) (λ xs. keys_differ xs ≡ true) (λ there. differ)
+    (λ new. differ_push ks k differ new)
 
 -- the keys of rows differ
 pub fold_differ : (cs : List Count) (ks : List Key) → keys_differ ks ≡ true → keys_differ (fold (λ keys c. with_key keys c.key) ks cs) ≡ true
@@ -86,47 +79,23 @@ fold_differ (c ∷ cs) ks differ = fold_differ cs (with_key ks c.key) (differ_wi
 pub keys_of_differ : (cs : List Count) → keys_differ (keys_of cs) ≡ true
 keys_of_differ cs = fold_differ cs [] refl
 
--- or, with what holds
-pub or_true : (b : Bool) → (b || true) ≡ true
-or_true true = refl
-or_true false = refl
-
-or_false : (b : Bool) → (b || false) ≡ b
-or_false true = refl
-or_false false = refl
-
-or_known : (a b : Bool) → (b ≡ true → a ≡ true) → a ≡ (a || b)
-or_known true b known = refl
-or_known false true known = known refl
-or_known false false known = refl
-
--- the keys that are there with one more
-pub any_more : (ks : List Key) (k j : Key) → list_any (same_key j) (with_key ks k) ≡ (list_any (same_key j) ks || same_key j k)
-any_more ks k j =
-    elim (cases_Bool (list_any (same_key k) ks)) [
-      | inl known ↦
-          ap (λ b. list_any (same_key j) (cond b ks (ks ++ k ∷ []))) known
-          ∙ or_known (list_any (same_key j) ks) (same_key j k)
-          (λ same. ap (λ x. list_any (same_key x) ks) (key_same j k same) ∙ known)
-      | inr new ↦
-          ap (λ b. list_any (same_key j) (cond b ks (ks ++ k ∷ []))) new ∙ list_any-append (same_key j) ks (k ∷ [])
-          ∙ ap (λ b. list_any (same_key j) ks || b) (or_false (same_key j k))
-    ]
-
 -- a key that is there stays
 pub any_with : (ks : List Key) (k j : Key) → list_any (same_key j) ks ≡ true → list_any (same_key j) (with_key ks k) ≡ true
-any_with ks k j there = any_more ks k j ∙ ap (λ b. b || same_key j k) there
+any_with ks k j there =
+    cond_both (list_any (same_key k) ks) ks (ks ++ k ∷ []) (λ xs. list_any (same_key j) xs ≡ true) (λ known. there)
+    (λ new. list_any-append (same_key j) ks (k ∷ []) ∙ or_left _ _ there)
 
 -- and the new one is there
 pub any_itself : (ks : List Key) (k : Key) → list_any (same_key k) (with_key ks k) ≡ true
-any_itself ks k = any_more ks k k ∙ ap (λ b. list_any (same_key k) ks || b) (key_self k) ∙ or_true (list_any (same_key k) ks)
+any_itself ks k =
+    cond_both (list_any (same_key k) ks) ks (ks ++ k ∷ []) (λ xs. list_any (same_key k) xs ≡ true) (λ known. known)
+    (λ new. list_any-append (same_key k) ks (k ∷ []) ∙ or_right _ _ (or_left _ _ (key_self k)))
 
 -- functions that agree at the keys that are there
 pub map_same : {A : Type 0} (f g : Key → A) (ks : List Key) → ((j : Key) → list_any (same_key j) ks ≡ true → f j ≡ g j) → map f ks ≡ map g ks
 map_same f g [] agree = refl
 map_same f g (k ∷ ks) agree =
-    ap (λ x. x ∷ map f ks) (agree k (ap (λ b. b || list_any (same_key k) ks) (key_self k)))
-    ∙ ap (λ xs. g k ∷ xs) (map_same f g ks (λ j there. agree j (ap (λ b. same_key j k || b) there ∙ or_true (same_key j k))))
+    rw (agree k (or_left _ _ (key_self k)), map_same f g ks (λ j there. agree j (or_right _ _ there)))
 
 cond_front : (b : Bool) (j : Key) (js : List Key) (k : Key) → cond b (j ∷ js) ((j ∷ js) ++ k ∷ []) ≡ j ∷ cond b js (js ++ k ∷ [])
 cond_front true j js k = refl
@@ -142,32 +111,20 @@ insert_over f g k v (j ∷ js) differ others is =
     elim (cases_Bool (same_key k j)) [
       | inl same ↦
           let one : k ≡ j = key_same k j same in
-          let rest : map (λ i. (i, f i)) js ≡ map (λ i. (i, g i)) js =
-          map_same (λ i. (i, f i)) (λ i. (i, g i)) js (
+          let entry : Key → Totals → Key × Totals = λ (i : Key) (w : Totals). (i, w) in
+          let rest = map_same (λ i. entry i (f i)) (λ i. entry i (g i)) js (
           λ i there.
-          let other : same_key k i ≡ false = elim (cases_Bool (same_key k i)) [
-            | inr different ↦ different
-            | inl equal ↦ absurd (
-                let at : list_any (same_key j) js ≡ true =
-                ap (λ x. list_any (same_key x) js) (sym one ∙ key_same k i equal) ∙ there in
-                cc (at, parts.0)
-                )
-          ] in
-          ap (λ w. (i, w)) (others i other)
+          rw (others i (false_from_ne_true (same_key k i) (
+          λ equal.
+          let at : list_any (same_key j) js ≡ true =
+          ap (λ x. list_any (same_key x) js) (sym one ∙ key_same k i equal) ∙ there in
+          cc (at, parts.0)
+          )))
           ) in
-          let here : v ≡ g j = is ∙ ap g one in
-          ap (λ b. cond b ((j, v) ∷ map (λ i. (i, f i)) js) ((j, f j) ∷ insert_entry same_key (map (λ i. (i, f i)) js) k v)) same
-          ∙ ap (λ w. (j, w) ∷ map (λ i. (i, f i)) js) here
-          ∙ ap (λ es. (j, g j) ∷ es) rest
-          ∙ sym (ap (λ b. map (λ i. (i, g i)) (cond (b || list_any (same_key k) js) (j ∷ js) ((j ∷ js) ++ k ∷ []))) same)
+          rw (same, is, rest) (ap (λ w. entry j w ∷ map (λ i. entry i (g i)) js) (ap g one))
       | inr other ↦
-          ap (λ b. cond b ((j, v) ∷ map (λ i. (i, f i)) js) ((j, f j) ∷ insert_entry same_key (map (λ i. (i, f i)) js) k v)) other
-          ∙ ap (λ w. (j, w) ∷ insert_entry same_key (map (λ i. (i, f i)) js) k v) (others j other)
-          ∙ ap (λ es. (j, g j) ∷ es) (insert_over f g k v js parts.1 others is)
-          ∙ sym (
-          ap (λ b. map (λ i. (i, g i)) (cond (b || list_any (same_key k) js) (j ∷ js) ((j ∷ js) ++ k ∷ []))) other
-          ∙ ap (map (λ i. (i, g i))) (cond_front (list_any (same_key k) js) j js k)
-          )
+          rw (other, others j other, insert_over f g k v js parts.1 others is)
+          (sym (ap (map (λ i. (i, g i))) (cond_front (list_any (same_key k) js) j js k)))
     ]
 
 -- what is looked up in such a list
@@ -176,12 +133,6 @@ pub lookup_over : (f : Key → Totals) (k : Key) (ks : List Key)
 lookup_over f k [] = refl
 lookup_over f k (j ∷ js) =
     elim (cases_Bool (same_key k j)) [
-      | inl same ↦
-          ap (λ b. cond b (Some (f j)) (lookup (same_key k) (map (λ j. (j, f j)) js))) same
-          ∙ ap (λ x. Some (f x)) (sym (key_same k j same))
-          ∙ sym (ap (λ b. cond (b || list_any (same_key k) js) (Some (f k)) None) same)
-      | inr other ↦
-          ap (λ b. cond b (Some (f j)) (lookup (same_key k) (map (λ j. (j, f j)) js))) other
-          ∙ lookup_over f k js
-          ∙ sym (ap (λ b. cond (b || list_any (same_key k) js) (Some (f k)) None) other)
+      | inl same ↦ rw same (ap (λ x. Some (f x)) (sym (key_same k j same)))
+      | inr other ↦ rw other (lookup_over f k js)
     ]

@@ -1,6 +1,7 @@
 -- How far a table was read: the start, one row more, and the ends.
-use Rattle.std.proofs.Common.{◌≡◌, ℕ, ◌+◌, ◌-◌, ◌≤◌, Bool, true, false, cond, List, [], ◌∷◌, ◌++◌, length, All, Option, Some, Ok, Err}
+use Rattle.std.proofs.Common.{◌≡◌, ℕ, ◌+◌, ◌-◌, ◌≤◌, true, false, List, [], ◌∷◌, ◌++◌, length, All, Option, Some, Ok}
 use Rattle.std.proofs.Common.{refl, sym, ◌∙◌, ap, arith}
+use Rattle.std.proofs.lemmas.Bool.{cond_both}
 use Rattle.std.proofs.lemmas.List.{append-nil, append_assoc, length-append}
 use Rattle.std.proofs.lemmas.List.Elements.{All-nil, All-same, All-weaker}
 use Rattle.std.specs.Map.{lookup}
@@ -18,26 +19,33 @@ use Rattle.transyt_counts.specs.declared.counts.CountStop.TheVariants as stop
 use Rattle.transyt_counts.specs.Keys.{same_key}
 use Rattle.transyt_counts.specs.Records.{records_of}
 use Rattle.transyt_counts.specs.Rows.{read_row}
-use Rattle.transyt_counts.specs.Tally.{more_totals, tally_of, AreFew, HasRoom}
-use Rattle.transyt_counts.specs.Entries.{AreCounted}
-use Rattle.transyt_counts.specs.Counts.{read_rows, answer_of, RefusesTable}
-use Rattle.transyt_counts.specs.Progress.{IsReading, HasRead, RefusesRow}
+use Rattle.transyt_counts.specs.Tally.{more_totals, tally_of, HasRoom, AreCounted}
+use Rattle.transyt_counts.specs.Counts.{read_rows, counts_of, Refuses}
+use Rattle.transyt_counts.specs.Progress.{IsReading, RefusesRow}
 use Rattle.transyt_counts.proofs.TextLaws.{records_reached, reached_few}
-use Rattle.transyt_counts.proofs.TallyLaws.{tally_push, entries_few}
+use Rattle.transyt_counts.proofs.TallyLaws.{AreFew, tally_push, entries_few}
 use Rattle.transyt_counts.proofs.RowLaws.{good_row}
 use Rattle.transyt_counts.proofs.ReadLaws.{push_ok, push_err, rows_good}
-
-either_way : (m : Bool) (a b c : ℕ) (rest : List ℕ) → length (cond m rest (a ∷ b ∷ c ∷ rest)) ≤ length (a ∷ b ∷ c ∷ rest)
-either_way true a b c rest = omega arith
-either_way false a b c rest = omega arith
 
 -- a byte order mark is bytes too
 strip_short : (xs : List ℕ) → length (strip_bom xs) ≤ length xs
 unfolding strip_bom
-strip_short [] = omega arith
-strip_short (a ∷ []) = omega arith
-strip_short (a ∷ b ∷ []) = omega arith
-strip_short (a ∷ b ∷ c ∷ rest) = either_way (is_bom a b c) a b c rest
+strip_short (a ∷ b ∷ c ∷ rest) =
+    cond_both (is_bom a b c) rest (a ∷ b ∷ c ∷ rest) (λ ys. length ys ≤ length (a ∷ b ∷ c ∷ rest)) (λ is. omega arith) (λ no. omega arith)
+strip_short xs = omega arith
+
+-- the rows before a number were read from a table, each has no code, and these are the totals of their keys
+pub record HasRead {R : Type 0} (rem : R → Option (List ℕ)) (net : Network) (table : List ℕ) (reader : Reader R) (entries : List (Key × Totals))
+    (row : ℕ) : Type 0 where
+  pub rows : List (List (List ℕ))
+  pub left : List ℕ
+  pub counts : List Count
+  pub source : source_of rem reader ≡ Some left
+  pub reached : Reached default_config st.StartRecord (strip_bom table) rows (reader_state reader) left
+  pub number : length rows + 1 ≡ row
+  pub counted : read_rows net 1 rows ≡ Ok counts
+  pub tally : entries ≡ tally_of counts
+  pub few : All (λ e. AreFew row e.1) entries
 
 module _ {R : Type 0} (rem : R → Option (List ℕ)) (net : Network) (table : List ℕ) where
   -- nothing was read yet
@@ -102,7 +110,7 @@ module _ {R : Type 0} (rem : R → Option (List ℕ)) (net : Network) (table : L
   pub read_refused : (a b : Reader R) (entries : List (Key × Totals))
       (row : ℕ) (fields : List (List ℕ)) (halt : CountStop)
       → IsReading a → HasRead rem net table a entries row → ReadRecord rem a b true fields → RefusesRow net row fields halt
-      → RefusesTable net table halt
+      → Refuses (counts_of net table) halt
   read_refused a b entries row fields stop.Memory reading has read refused = tt
   read_refused a b entries row fields (stop.Refused number code) reading has read refused =
       let (left, source, reached) = rows-more rem a b fields default_config st.StartRecord (strip_bom table) has.left has.rows
@@ -110,9 +118,7 @@ module _ {R : Type 0} (rem : R → Option (List ℕ)) (net : Network) (table : L
       let (rest, split, nothing) = records_reached default_config (strip_bom table) (has.rows ++ fields ∷ []) (reader_state b) left reached in
       let all : records_of table ≡ has.rows ++ fields ∷ rest = split ∙ append_assoc has.rows (fields ∷ []) rest in
       let at : 1 + length has.rows ≡ row = omega (arith, has.number) in
-      ap (λ rs. answer_of (read_rows net 1 rs)) all
-      ∙ ap answer_of (push_err net 1 has.rows has.counts fields code rest has.counted (ap (λ m. read_row net m fields) at ∙ refused.1))
-      ∙ ap (λ m. Err (stop.Refused m code)) (at ∙ sym refused.0)
+      rw (all, push_err net 1 has.rows has.counts fields code rest has.counted (rw (← at) at refused.1), at, refused.0)
 
   -- rows are no more than bytes
   pub read_few : (a : Reader R) (entries : List (Key × Totals)) (row : ℕ)

@@ -1,5 +1,5 @@
 -- One row more of those that were read.
-use Rattle.std.proofs.Common.{◌≡◌, ℕ, suc, ◌+◌, List, [], ◌∷◌, ◌++◌, length, All, Result, Ok, Err, refl, sym, ◌∙◌, ap, arith}
+use Rattle.std.proofs.Common.{◌≡◌, ℕ, suc, ◌+◌, List, [], ◌∷◌, ◌++◌, length, All, Result, Ok, Err, refl, sym, ap, arith}
 use Rattle.std.proofs.lemmas.List.Elements.{All-nil, All-cons, All-same}
 use Rattle.transyt_syntax.specs.declared.code.Code.{Code}
 use Rattle.transyt_net.specs.Parts.{Network}
@@ -24,13 +24,11 @@ pub push_ok : (net : Network) (n : ℕ) (done : List (List (List ℕ))) (cs : Li
 push_ok net n [] cs r c before here =
     let same : n + 0 ≡ n = omega arith in
     let none : cs ≡ [] = cc in
-    ap (λ one. with_row n one (Ok [])) (ap (λ m. read_row net m r) (sym same) ∙ here) ∙ ap (λ xs. Ok (xs ++ c ∷ [])) (sym none)
+    rw (rw same at here, none)
 push_ok net n (d ∷ ds) cs r c before here =
     let (e, es, first, rest, is) = with_ok n (read_row net n d) (read_rows net (n + 1) ds) cs before in
     let next : n + suc (length ds) ≡ n + 1 + length ds = omega arith in
-    ap (λ one. with_row n one (read_rows net (n + 1) (ds ++ r ∷ []))) first
-    ∙ ap (with_row n (Ok e)) (push_ok net (n + 1) ds es r c rest (ap (λ m. read_row net m r) (sym next) ∙ here))
-    ∙ ap (λ xs. Ok (xs ++ c ∷ [])) (sym is)
+    rw (first, push_ok net (n + 1) ds es r c rest (rw next at here)) (ap (λ xs. Ok (xs ++ c ∷ [])) (sym is))
 
 -- a row more that has one
 pub push_err : (net : Network) (n : ℕ) (done : List (List (List ℕ))) (cs : List Count) (r : List (List ℕ)) (code : Code)
@@ -39,14 +37,11 @@ pub push_err : (net : Network) (n : ℕ) (done : List (List (List ℕ))) (cs : L
     → read_rows net n (done ++ r ∷ rest) ≡ Err (stop.Refused (n + length done) code)
 push_err net n [] cs r code rest before here =
     let same : n + 0 ≡ n = omega arith in
-    ap (λ one. with_row n one (read_rows net (n + 1) rest)) (ap (λ m. read_row net m r) (sym same) ∙ here)
-    ∙ ap (λ m. Err (stop.Refused m code)) (sym same)
+    rw (rw same at here, same)
 push_err net n (d ∷ ds) cs r code rest before here =
     let (e, es, first, later, is) = with_ok n (read_row net n d) (read_rows net (n + 1) ds) cs before in
     let next : n + suc (length ds) ≡ n + 1 + length ds = omega arith in
-    ap (λ one. with_row n one (read_rows net (n + 1) (ds ++ r ∷ rest))) first
-    ∙ ap (with_row n (Ok e)) (push_err net (n + 1) ds es r code rest later (ap (λ m. read_row net m r) (sym next) ∙ here))
-    ∙ ap (λ m. Err (stop.Refused m code)) (sym next)
+    rw (first, push_err net (n + 1) ds es r code rest later (rw next at here), next)
 
 -- each row without a code is good, and counts as one
 pub rows_good : (net : Network) (n : ℕ) (rows : List (List (List ℕ))) (cs : List Count) → read_rows net n rows ≡ Ok cs

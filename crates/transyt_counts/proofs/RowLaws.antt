@@ -1,6 +1,8 @@
 -- A row by its fields one by one, and what a row without a code keeps to.
-use Rattle.std.proofs.Common.{◌≡◌, ℕ, zero, suc, ◌<◌, ◌≤◌, arith, not, ◌&&◌, nat_le, List, [], ◌∷◌, Option, Some, None, Ok, Err, refl, sym, ◌∙◌, ap}
+use Rattle.std.proofs.Common.{◌≡◌, ℕ, suc, ◌<◌, ◌≤◌, arith, not, ◌&&◌, nat_le, List, [], ◌∷◌, Option, Some, None, Ok, Err, refl, sym, ◌∙◌, ap}
 use Rattle.std.proofs.lemmas.Bool.{and_parts, leb-true, not-false}
+use Rattle.std.proofs.lemmas.Option.{same_Some}
+use Rattle.std.specs.Option.{option_or}
 use Rattle.csv.specs.Records.{field_at}
 use Rattle.transyt_syntax.specs.declared.code.Code.{Code}
 use Rattle.transyt_syntax.specs.declared.code.Code.TheVariants as code
@@ -8,7 +10,7 @@ use Rattle.transyt_parts.specs.Valid.{within}
 use Rattle.transyt_net.specs.Parts.{Network}
 use Rattle.transyt_net.proofs.WriteLaws.{no_fault, in_range}
 use Rattle.transyt_counts.specs.declared.row.Count.{Count}
-use Rattle.transyt_counts.specs.Rows.{count_of, count_code, key_code, first_code, unless, judged, read_row}
+use Rattle.transyt_counts.specs.Rows.{count_of, count_code, key_code, unless, judged, read_row}
 
 -- where one of the first four fields is wanting a row hasn't four
 pub no_field : (net : Network) (row k : ℕ) (fs : List (List ℕ)) → k < 4 → field_at fs k ≡ None → read_row net row fs ≡ Err code.WrongCount
@@ -17,40 +19,24 @@ no_field net row k [] low none = refl
 no_field net row k (a ∷ []) low none = refl
 no_field net row k (a ∷ b ∷ []) low none = refl
 no_field net row k (a ∷ b ∷ c ∷ []) low none = refl
-no_field net row zero (a ∷ b ∷ c ∷ d ∷ []) low none = absurd (cc)
-no_field net row (suc zero) (a ∷ b ∷ c ∷ d ∷ []) low none = absurd (cc)
-no_field net row (suc (suc zero)) (a ∷ b ∷ c ∷ d ∷ []) low none = absurd (cc)
-no_field net row (suc (suc (suc zero))) (a ∷ b ∷ c ∷ d ∷ []) low none = absurd (cc)
 no_field net row (suc (suc (suc (suc k)))) (a ∷ b ∷ c ∷ d ∷ []) low none = absurd (omega arith)
+no_field net row k (a ∷ b ∷ c ∷ d ∷ []) low none = absurd (cc)
 no_field net row k (a ∷ b ∷ c ∷ d ∷ e ∷ fs) low none = refl
 
 -- and where there is a fifth
 pub a_fifth : (net : Network) (row : ℕ) (fs : List (List ℕ)) (e : List ℕ) → field_at fs 4 ≡ Some e → read_row net row fs ≡ Err code.WrongCount
 unfolding field_at
-a_fifth net row [] e some = refl
-a_fifth net row (a ∷ []) e some = refl
-a_fifth net row (a ∷ b ∷ []) e some = refl
-a_fifth net row (a ∷ b ∷ c ∷ []) e some = refl
 a_fifth net row (a ∷ b ∷ c ∷ d ∷ []) e some = absurd (cc)
-a_fifth net row (a ∷ b ∷ c ∷ d ∷ f ∷ fs) e some = refl
+a_fifth net row fs e some = refl
 
 -- a row of four fields
 pub just_four : (net : Network) (row : ℕ) (fs : List (List ℕ)) (a b c d : List ℕ)
     → field_at fs 0 ≡ Some a → field_at fs 1 ≡ Some b → field_at fs 2 ≡ Some c → field_at fs 3 ≡ Some d → field_at fs 4 ≡ None
     → read_row net row fs ≡ judged net (count_of row a b c d)
 unfolding field_at
-just_four net row [] a b c d is_a is_b is_c is_d no_more = absurd (cc)
-just_four net row (p ∷ []) a b c d is_a is_b is_c is_d no_more = absurd (cc)
-just_four net row (p ∷ q ∷ []) a b c d is_a is_b is_c is_d no_more = absurd (cc)
-just_four net row (p ∷ q ∷ r ∷ []) a b c d is_a is_b is_c is_d no_more = absurd (cc)
 just_four net row (p ∷ q ∷ r ∷ s ∷ []) a b c d is_a is_b is_c is_d no_more =
-    let pa : p ≡ a = cc in
-    let qb : q ≡ b = cc in
-    let rc : r ≡ c = cc in
-    let sd : s ≡ d = cc in
-    ap (λ x. judged net (count_of row x q r s)) pa ∙ ap (λ x. judged net (count_of row a x r s)) qb
-    ∙ ap (λ x. judged net (count_of row a b x s)) rc ∙ ap (λ x. judged net (count_of row a b c x)) sd
-just_four net row (p ∷ q ∷ r ∷ s ∷ t ∷ fs) a b c d is_a is_b is_c is_d no_more = absurd (cc)
+    rw (same_Some p a is_a, same_Some q b is_b, same_Some r c is_c, same_Some s d is_d)
+just_four net row fs a b c d is_a is_b is_c is_d no_more = absurd (cc)
 
 -- what a row without a code keeps to
 pub record IsGood (net : Network) (c : Count) : Type 0 where
@@ -58,7 +44,7 @@ pub record IsGood (net : Network) (c : Count) : Type 0 where
   pub minutes : (1 ≤ c.minutes) × (c.minutes ≤ 1440)
   pub key : key_code net c.key ≡ None
 
-first_none : (a b : Option Code) → first_code a b ≡ None → (a ≡ None) × (b ≡ None)
+first_none : (a b : Option Code) → option_or a b ≡ None → (a ≡ None) × (b ≡ None)
 first_none None b h = (refl, h)
 first_none (Some code) b h = absurd (cc)
 
@@ -84,9 +70,5 @@ good_count net c none =
 
 -- a row without a code keeps to its bounds
 pub good_row : (net : Network) (row : ℕ) (fs : List (List ℕ)) (c : Count) → read_row net row fs ≡ Ok c → IsGood net c
-good_row net row [] c h = absurd (cc)
-good_row net row (p ∷ []) c h = absurd (cc)
-good_row net row (p ∷ q ∷ []) c h = absurd (cc)
-good_row net row (p ∷ q ∷ r ∷ []) c h = absurd (cc)
 good_row net row (p ∷ q ∷ r ∷ s ∷ []) c h = good_count net c (judged_ok net (count_of row p q r s) c h)
-good_row net row (p ∷ q ∷ r ∷ s ∷ t ∷ fs) c h = absurd (cc)
+good_row net row fs c h = absurd (cc)

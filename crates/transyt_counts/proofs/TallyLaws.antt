@@ -1,8 +1,7 @@
 -- One row more in the tally.
-use Rattle.std.proofs.Common.{◌≡◌, ℕ, ◌+◌, Bool, true, false, cond, List, [], ◌∷◌, ◌++◌, map, All, Some, None, refl, sym, ◌∙◌, ap}
-use Rattle.std.proofs.Common.{arith, inl, inr, IfSome, Option, subst}
+use Rattle.std.proofs.Common.{◌≡◌, ℕ, ◌+◌, ◌*◌, ◌<◌, ◌≤◌, Bool, true, false, List, [], ◌∷◌, ◌++◌, map, All, Some, None, refl, sym, ◌∙◌, ap}
+use Rattle.std.proofs.Common.{arith, inl, inr, IfSome, Option}
 use Rattle.std.specs.List.{list_any, fold, filter}
-use Rattle.std.specs.Prelude.{sum_by}
 use Rattle.std.specs.Map.{lookup}
 use Rattle.std.proofs.lemmas.Bool.{cases_Bool}
 use Rattle.std.proofs.lemmas.List.Sums.{fold_push, sum_by_push}
@@ -13,39 +12,27 @@ use Rattle.transyt_counts.specs.declared.key.Key.{Key}
 use Rattle.transyt_counts.specs.declared.row.Count.{Count}
 use Rattle.transyt_counts.specs.declared.tally.Totals.{Totals}
 use Rattle.transyt_counts.specs.Keys.{same_key}
-use Rattle.transyt_counts.specs.Tally.{is_of, rows_of, keys_of, with_key, more_totals, totals_of, tally_of, AreFew}
+use Rattle.transyt_counts.specs.Tally.{is_of, rows_of, keys_of, with_key, more_totals, totals_in, totals_of, tally_of}
 use Rattle.transyt_net.specs.Parts.{Network}
 use Rattle.transyt_counts.proofs.RowLaws.{IsGood}
 use Rattle.transyt_counts.proofs.KeyLaws.{key_same, key_self, key_swapped, keys_of_differ, insert_over, lookup_over, any_with, any_itself}
 
 -- the rows of a key, with one of that key more
 rows_more : (cs : List Count) (c : Count) (k : Key) → same_key k c.key ≡ true → rows_of (cs ++ c ∷ []) k ≡ rows_of cs k ++ c ∷ []
-rows_more cs c k same =
-    filter-append (is_of k) cs (c ∷ []) ∙ ap (λ b. rows_of cs k ++ cond b (c ∷ []) []) same
+rows_more cs c k same = rw (filter-append (is_of k) cs (c ∷ []), same)
 
 -- and with one of another
 rows_other : (cs : List Count) (c : Count) (k : Key) → same_key k c.key ≡ false → rows_of (cs ++ c ∷ []) k ≡ rows_of cs k
-rows_other cs c k other =
-    filter-append (is_of k) cs (c ∷ []) ∙ ap (λ b. rows_of cs k ++ cond b (c ∷ []) []) other ∙ append-nil (rows_of cs k)
-
-abbrev totals_in : List Count → Totals
-totals_in rows = record {
-  vehicles = sum_by (λ c. c.vehicles) rows;
-  minutes = sum_by (λ c. c.minutes) rows;
-  last = fold (λ last c. c.row) 0 rows;
-}
+rows_other cs c k other = rw (filter-append (is_of k) cs (c ∷ []), other, append-nil (rows_of cs k))
 
 -- the totals of a row more
 totals_push : (rows : List Count) (c : Count) → totals_in (rows ++ c ∷ []) ≡ more_totals c (Some (totals_in rows))
 totals_push rows c =
-    let made : ℕ → ℕ → ℕ → Totals = λ (v m l : ℕ). record { vehicles = v; minutes = m; last = l } in
-    let all : List Count = rows ++ c ∷ [] in
-    let v : ℕ = sum_by (λ (c : Count). c.vehicles) rows + c.vehicles in
-    let m : ℕ = sum_by (λ (c : Count). c.minutes) rows + c.minutes in
-    ap (λ x. made x (sum_by (λ (c : Count). c.minutes) all) (fold (λ (last : ℕ) (c : Count). c.row) 0 all))
-    (sum_by_push (λ (c : Count). c.vehicles) rows c)
-    ∙ ap (λ x. made v x (fold (λ (last : ℕ) (c : Count). c.row) 0 all)) (sum_by_push (λ (c : Count). c.minutes) rows c)
-    ∙ ap (made v m) (fold_push (λ (last : ℕ) (c : Count). c.row) 0 rows c)
+    rw (
+      sum_by_push (λ (c : Count). c.vehicles) rows c,
+      sum_by_push (λ (c : Count). c.minutes) rows c,
+      fold_push (λ (last : ℕ) (c : Count). c.row) 0 rows c,
+    )
 
 -- a key that is there stays there
 pub keys_stay : (cs : List Count) (ks : List Key) (k : Key) → list_any (same_key k) ks ≡ true
@@ -64,20 +51,14 @@ none_there (c ∷ cs) ks k none =
           let stays = keys_stay cs (with_key ks c.key) k at in
           cc (stays, none)
           )
-      | inr other ↦
-          ap (λ b. cond b (c ∷ filter (is_of k) cs) (filter (is_of k) cs)) other ∙ none_there cs (with_key ks c.key) k none
+      | inr other ↦ rw other (none_there cs (with_key ks c.key) k none)
     ]
-
--- a key that isn't among those of rows has none
-no_rows : (cs : List Count) (k : Key) → list_any (same_key k) (keys_of cs) ≡ false → rows_of cs k ≡ []
-no_rows cs k none = none_there cs [] k none
 
 first_totals : (c : Count) → more_totals c None ≡ more_totals c (Some (record { vehicles = 0; minutes = 0; last = 0 }))
 first_totals c =
-    let made : ℕ → ℕ → Totals = λ (v m : ℕ). record { vehicles = v; minutes = m; last = c.row } in
-    let v : c.vehicles ≡ 0 + c.vehicles = omega arith in
-    let m : c.minutes ≡ 0 + c.minutes = omega arith in
-    ap (λ x. made x c.minutes) v ∙ ap (made (0 + c.vehicles)) m
+    let v : 0 + c.vehicles ≡ c.vehicles = omega arith in
+    let m : 0 + c.minutes ≡ c.minutes = omega arith in
+    rw (v, m)
 
 -- the totals of the key of a row more
 totals_new : (cs : List Count) (c : Count)
@@ -87,15 +68,10 @@ totals_new cs c =
     let now : totals_of (cs ++ c ∷ []) k ≡ more_totals c (Some (totals_of cs k)) =
     ap totals_in (rows_more cs c k (key_self k)) ∙ totals_push (rows_of cs k) c in
     elim (cases_Bool (list_any (same_key k) (keys_of cs))) [
-      | inl there ↦
-          ap (more_totals c) (lookup_over (totals_of cs) k (keys_of cs) ∙ ap (λ b. cond b (Some (totals_of cs k)) None) there)
-          ∙ sym now
+      | inl there ↦ rw (lookup_over (totals_of cs) k (keys_of cs), there) (sym now)
       | inr new ↦
-          let empty : totals_of cs k ≡ record { vehicles = 0; minutes = 0; last = 0 } = ap totals_in (no_rows cs k new) in
-          ap (more_totals c) (lookup_over (totals_of cs) k (keys_of cs) ∙ ap (λ b. cond b (Some (totals_of cs k)) None) new)
-          ∙ first_totals c
-          ∙ ap (λ t. more_totals c (Some t)) (sym empty)
-          ∙ sym now
+          rw (lookup_over (totals_of cs) k (keys_of cs), new)
+          (first_totals c ∙ ap (λ rows. more_totals c (Some (totals_in rows))) (sym (none_there cs [] k new)) ∙ sym now)
     ]
 
 -- the tally with a row more
@@ -115,11 +91,8 @@ insert_has P (e ∷ es) k v all here =
     let Q : Key × Totals → Type 0 = λ e. P e.1 in
     let rest = All-tail Q e es all in
     elim (cases_Bool (same_key k e.0)) [
-      | inl same ↦
-          subst (λ (b : Bool). All Q (cond b ((e.0, v) ∷ es) (e ∷ insert_entry same_key es k v))) (sym same)
-          (All-cons Q (e.0, v) es here rest)
-      | inr other ↦
-          subst (λ (b : Bool). All Q (cond b ((e.0, v) ∷ es) (e ∷ insert_entry same_key es k v))) (sym other)
+      | inl same ↦ rw same (All-cons Q (e.0, v) es here rest)
+      | inr other ↦ rw other
           (All-cons Q e (insert_entry same_key es k v) (All-head Q e es all) (insert_has P es k v rest here))
     ]
 
@@ -129,13 +102,14 @@ pub lookup_has : (P : Totals → Type 0) (test : Key → Bool) (es : List (Key �
 lookup_has P test [] all = tt
 lookup_has P test (e ∷ es) all =
     elim (cases_Bool (test e.0)) [
-      | inl passes ↦
-          subst (λ (b : Bool). IfSome (cond b (Some e.1) (lookup test es)) P) (sym passes)
-          (All-head (λ (e : Key × Totals). P e.1) e es all)
-      | inr fails ↦
-          subst (λ (b : Bool). IfSome (cond b (Some e.1) (lookup test es)) P) (sym fails)
-          (lookup_has P test es (All-tail (λ (e : Key × Totals). P e.1) e es all))
+      | inl passes ↦ rw passes (All-head (λ (e : Key × Totals). P e.1) e es all)
+      | inr fails ↦ rw fails (lookup_has P test es (All-tail (λ (e : Key × Totals). P e.1) e es all))
     ]
+
+-- totals of a row or more, and of no more than so many
+pub record AreFew (n : ℕ) (t : Totals) : Type 0 where
+  pub vehicles : t.vehicles ≤ 999999 * n
+  pub minutes : (0 < t.minutes) × (t.minutes ≤ 1440 * n)
 
 -- totals of a row more
 totals_few : (net : Network) (n : ℕ) (c : Count) (o : Option Totals) → IsGood net c → IfSome o (AreFew n)

@@ -1,7 +1,8 @@
 -- The records of a text as a list: those that were reached, and then the rest.
-use Rattle.std.proofs.Common.{◌≡◌, ℕ, zero, suc, ◌+◌, ◌-◌, ◌<◌, ◌≤◌, ◌==◌, ◌&&◌, Bool, true, false, cond, List, [], ◌∷◌, ◌++◌, Option, Some, None, length, refl, sym, ◌∙◌, ap}
+use Rattle.std.proofs.Common.{◌≡◌, ℕ, zero, suc, ◌+◌, ◌-◌, ◌<◌, ◌≤◌, ◌==◌, ◌&&◌, Bool, true, false, cond, List, [], ◌∷◌, ◌++◌, Some, None, length, refl, sym, ◌∙◌, ap}
 use Rattle.std.proofs.Common.{arith, inl, inr}
 use Rattle.std.proofs.lemmas.Bool.{cases_Bool}
+use Rattle.std.proofs.lemmas.Option.{same_Some, cond_some}
 use Rattle.csv.specs.declared.parser.Config.{Config}
 use Rattle.csv.specs.declared.parser.State.{State}
 use Rattle.csv.specs.declared.parser.State.TheVariants as st
@@ -57,9 +58,6 @@ step_quiet cfg st.InComment c =
 step_quiet cfg st.AfterCr c =
     chosen (c == 10) (st.StartRecord, act.Skip) (start_record cfg c) (λ e. absurd (cc e)) (start_record_quiet cfg c)
 
-some_same : {A : Type 0} (a b : A) → Some a ≡ Some b → a ≡ b
-some_same a b h = cc
-
 -- a record leaves a state at which the text may end, and no more of the text than there was; from such a state it takes
 -- a byte at least
 pub record_parts : (cfg : Config) (s : State) (fields : List (List ℕ)) (field xs : List ℕ) (r : Read)
@@ -67,22 +65,15 @@ pub record_parts : (cfg : Config) (s : State) (fields : List (List ℕ)) (field 
     → (ends_at_end r.1 ≡ false) × (length r.2 ≤ length xs) × (ends_at_end s ≡ false → length r.2 < length xs)
 unfolding next_record
 record_parts cfg s fields field [] r h =
-    let last : Read = (fields ++ (field ∷ []), st.StartRecord, []) in
-    elim (cases_Bool (ends_at_end s)) [
-      | inl ends ↦
-          let is : last ≡ r = some_same last r (ap (λ b. cond b (Some last) None) (sym ends) ∙ h) in (
-            ap (λ (q : Read). ends_at_end q.1) (sym is),
-            omega (arith, ap (λ (q : Read). length q.2) is),
-            λ quiet. absurd (cc (ends, quiet)),
-          )
-      | inr goes ↦ absurd (let none = ap (λ b. cond b (Some last) None) (sym goes) ∙ h in cc none)
-    ]
+    let (ends, is) = cond_some (ends_at_end s) (fields ++ field ∷ [], st.StartRecord, []) r h in (
+      ap (λ (q : Read). ends_at_end q.1) (sym is),
+      omega (arith, ap (λ (q : Read). length q.2) is),
+      λ quiet. absurd (cc (ends, quiet)),
+    )
 record_parts cfg s fields field (c ∷ rest) r h =
-    let here : Read = (fields_after (step cfg s c).1 fields field, (step cfg s c).0, rest) in
-    let later : Option Read = next_record cfg (step cfg s c).0 (fields_after (step cfg s c).1 fields field) (field_after (step cfg s c).1 c field) rest in
     elim (cases_Bool (is_end (step cfg s c).1)) [
       | inl ends ↦
-          let is : here ≡ r = some_same here r (ap (λ b. cond b (Some here) later) (sym ends) ∙ h) in
+          let is : (fields_after (step cfg s c).1 fields field, (step cfg s c).0, rest) ≡ r = same_Some _ r (rw ends at h) in
           let left = ap (λ (q : Read). length q.2) is in (
             ap (λ (q : Read). ends_at_end q.1) (sym is) ∙ step_quiet cfg s c ends,
             omega (arith, left),
@@ -90,7 +81,7 @@ record_parts cfg s fields field (c ∷ rest) r h =
           )
       | inr goes ↦
           let rec = record_parts cfg (step cfg s c).0 (fields_after (step cfg s c).1 fields field) (field_after (step cfg s c).1 c field) rest r
-          (ap (λ b. cond b (Some here) later) (sym goes) ∙ h) in
+          (rw goes at h) in
           (rec.0, omega (arith, rec.1), λ quiet. omega (arith, rec.1))
     ]
 
@@ -110,14 +101,11 @@ pub records_split : (cfg : Config) (s : State) (xs : List ℕ) (rows : List (Lis
 unfolding Reached records_from
 records_split cfg s xs [] s2 ys n h =
     let same : 0 + n ≡ n = omega arith in
-    ap (λ m. records_from cfg m s xs) same ∙ ap (λ t. records_from cfg n t xs) h.0 ∙ ap (records_from cfg n s2) h.1
+    rw (same, h.0, h.1)
 records_split cfg s xs (r ∷ rs) s2 ys n h =
     let (p, at, same, rest) = h in
     let more : suc (length rs) + n ≡ suc (length rs + n) = omega arith in
-    ap (λ m. records_from cfg m s xs) more
-    ∙ ap (records_next (records_from cfg (length rs + n))) at
-    ∙ ap (λ ts. p.0 ∷ ts) (records_split cfg p.1 p.2 rs s2 ys n rest)
-    ∙ ap (λ t. t ∷ (rs ++ records_from cfg n s2 ys)) (sym same)
+    rw (more, at, records_split cfg p.1 p.2 rs s2 ys n rest, same)
 
 -- no record is left where the next read finds none
 pub records_none : (cfg : Config) (s : State) (ys : List ℕ) (n : ℕ) → next_record cfg s [] [] ys ≡ None → records_from cfg n s ys ≡ []

@@ -1,17 +1,11 @@
 -- A write to the first of a number, and then a change of each, is one change of each.
-use Rattle.std.proofs.Common.{◌≡◌, ℕ, true, false, cond, not, nat_eq, List, [], ◌∷◌, map, All}
-use Rattle.std.proofs.Common.{refl, ◌∙◌, ap, arith, inl, inr}
+use Rattle.std.proofs.Common.{◌≡◌, ℕ, true, false, not, nat_eq, List, [], ◌∷◌, map, All}
+use Rattle.std.proofs.Common.{refl, inl, inr}
 use Rattle.std.specs.List.{list_any}
-use Rattle.std.proofs.lemmas.Bool.{cases_Bool, not-true, and_parts, or_parts}
-use Rattle.std.proofs.lemmas.Bool.Decides.{nat_tests}
+use Rattle.std.proofs.lemmas.Bool.{cases_Bool, eqb-true, not-true, and_parts, or_parts}
 use Rattle.std.proofs.lemmas.List.Elements.{All-head, All-tail}
 use Rattle.transyt_parts.specs.Valid.{all_differ}
 use Rattle.transyt_net.specs.Valid.{on_numbered}
-
--- what isn't among numbers
-number_gone : {A : Type 0} (key : A → ℕ) (xs : List A) (k j : ℕ) → k ≡ j → list_any (nat_eq j) (map key xs) ≡ false
-    → list_any (nat_eq k) (map key xs) ≡ false
-number_gone key xs k j same none = ap (λ n. list_any (nat_eq n) (map key xs)) same ∙ none
 
 -- changes that agree where the number is another
 rest_same : {A B : Type 0} (key : A → ℕ) (g h : A → B) (xs : List A) (k : ℕ) → list_any (nat_eq k) (map key xs) ≡ false
@@ -20,8 +14,7 @@ rest_same key g h [] k none others = refl
 rest_same {A} key g h (x ∷ xs) k none others =
     let Other : A → Type 0 = λ x. nat_eq k (key x) ≡ false → g x ≡ h x in
     let parts = or_parts (nat_eq k (key x)) (list_any (nat_eq k) (map key xs)) none in
-    ap (λ y. y ∷ map g xs) (All-head Other x xs others parts.0)
-    ∙ ap (λ ys. h x ∷ ys) (rest_same key g h xs k parts.1 (All-tail Other x xs others))
+    rw (All-head Other x xs others parts.0, rest_same key g h xs k parts.1 (All-tail Other x xs others))
 
 -- a write to the first of a number, and then a change of each, is one change of each
 pub written_all : {A B : Type 0} (key : A → ℕ) (f : A → A) (g h : A → B) (xs : List A) (k : ℕ) → all_differ (map key xs) ≡ true
@@ -34,12 +27,12 @@ written_all {A} key f g h (x ∷ xs) k differ here others =
     let Other : A → Type 0 = λ x. nat_eq k (key x) ≡ false → g x ≡ h x in
     elim (cases_Bool (nat_eq k (key x))) [
       | inl same ↦
-          ap (λ b. map g (cond b (f x ∷ xs) (x ∷ on_numbered key f xs k))) same
-          ∙ ap (λ y. y ∷ map g xs) (All-head Here x xs here same)
-          ∙ ap (λ ys. h x ∷ ys) (rest_same key g h xs k (number_gone key xs k (key x) (grind (arith, nat_tests, same)) (not-true _ parts.0))
-          (All-tail Other x xs others))
+          let gone : list_any (nat_eq k) (map key xs) ≡ false = rw (eqb-true k (key x) same) (not-true _ parts.0) in
+          rw (same, All-head Here x xs here same, rest_same key g h xs k gone (All-tail Other x xs others))
       | inr other ↦
-          ap (λ b. map g (cond b (f x ∷ xs) (x ∷ on_numbered key f xs k))) other
-          ∙ ap (λ y. y ∷ map g (on_numbered key f xs k)) (All-head Other x xs others other)
-          ∙ ap (λ ys. h x ∷ ys) (written_all key f g h xs k parts.1 (All-tail Here x xs here) (All-tail Other x xs others))
+          rw (
+            other,
+            All-head Other x xs others other,
+            written_all key f g h xs k parts.1 (All-tail Here x xs here) (All-tail Other x xs others),
+          )
     ]

@@ -7,13 +7,14 @@ use Rattle.transyt_net.specs.Parts.{Network}
 use Rattle.transyt_net.specs.declared.edit.Edit.{Edit}
 use Rattle.transyt_counts.specs.declared.key.Key.{Key}
 use Rattle.transyt_counts.specs.declared.row.Count.{Count}
+use Rattle.transyt_counts.specs.declared.tally.Totals.{Totals}
 use Rattle.transyt_counts.specs.declared.counts.CountStop.{CountStop}
 use Rattle.transyt_counts.specs.declared.counts.CountStop.TheVariants as stop
 use Rattle.transyt_counts.specs.Keys.{edit_of}
 use Rattle.transyt_counts.specs.Answer.{CountsValue}
 use Rattle.transyt_counts.specs.Records.{records_of}
 use Rattle.transyt_counts.specs.Rows.{read_row}
-use Rattle.transyt_counts.specs.Tally.{keys_of, flow_of, last_row}
+use Rattle.transyt_counts.specs.Tally.{flow_by, tally_of}
 
 -- the rows with one before them; a code of it comes first
 abbrev pub with_row : ℕ → Result Count Code → Result (List Count) CountStop → Result (List Count) CountStop
@@ -26,29 +27,33 @@ abbrev pub read_rows : Network → ℕ → List (List (List ℕ)) → Result (Li
 read_rows net row [] = Ok []
 read_rows net row (r ∷ rs) = with_row row (read_row net row r) (read_rows net (row + 1) rs)
 
--- whether the flow of a key is too great
-abbrev pub is_too_great : List Count → Key → Bool
-is_too_great counts k = nat_lt 9999 (flow_of counts k)
+-- whether the flow of a key's totals is too great
+abbrev pub is_too_great : (Key × Totals) → Bool
+is_too_great e = nat_lt 9999 (flow_by e.1)
 
--- an edit for each key
-abbrev pub edits_of : List Count → List Edit
-edits_of counts = map (λ k. edit_of k (flow_of counts k)) (keys_of counts)
+-- the edit of a key's totals
+abbrev pub edit_by : (Key × Totals) → Edit
+edit_by e = edit_of e.0 (flow_by e.1)
 
--- the answer for rows without a code, of which this is the first key whose flow is too great
-abbrev pub answer_for : List Count → Option Key → Result CountsValue CountStop
-answer_for counts (Some k) = Err (stop.Refused (last_row counts k) code.CountedFlow)
-answer_for counts None = Ok (record { rows = length counts; edits = edits_of counts })
+-- the answer for so many rows and these totals, of which this is the first key whose flow is too great
+abbrev pub answer_for : ℕ → List (Key × Totals) → Option (Key × Totals) → Result CountsValue CountStop
+answer_for rows tally (Some e) = Err (stop.Refused e.1.last code.CountedFlow)
+answer_for rows tally None = Ok (record { rows = rows; edits = map edit_by tally })
+
+-- the answer for so many rows and these totals
+abbrev pub tally_answer : ℕ → List (Key × Totals) → Result CountsValue CountStop
+tally_answer rows tally = answer_for rows tally (find is_too_great tally)
 
 -- the answer for rows that were read
 abbrev pub answer_of : Result (List Count) CountStop → Result CountsValue CountStop
 answer_of (Err other) = Err other
-answer_of (Ok counts) = answer_for counts (find (is_too_great counts) (keys_of counts))
+answer_of (Ok counts) = tally_answer (length counts) (tally_of counts)
 
 -- the answer to a table
 abbrev pub counts_of : Network → List ℕ → Result CountsValue CountStop
 counts_of net table = answer_of (read_rows net 1 (records_of table))
 
--- a refusal is that of the table; want of memory may come at any time
-abbrev pub RefusesTable : Network → List ℕ → CountStop → Type 0
-RefusesTable net table (stop.Refused row code) = counts_of net table ≡ Err (stop.Refused row code)
-RefusesTable net table stop.Memory = Unit {0}
+-- a refusal is that of the answer; want of memory may come at any time
+abbrev pub Refuses : Result CountsValue CountStop → CountStop → Type 0
+Refuses answer (stop.Refused row code) = answer ≡ Err (stop.Refused row code)
+Refuses answer stop.Memory = Unit {0}

@@ -16,9 +16,8 @@ edit_of k flow = flow_edit k.link k.feeder flow
 -- whether two keys have the same feeder, or none
 abbrev pub same_feeder : Option ℕ → Option ℕ → Bool
 same_feeder None None = true
-same_feeder None (Some g) = false
-same_feeder (Some f) None = false
 same_feeder (Some f) (Some g) = nat_eq f g
+same_feeder a b = false
 
 -- whether two keys are the same flow
 abbrev pub same_key : Key → Key → Bool

@@ -5,6 +5,5 @@ pub mod Rows
 pub mod Tally
 pub mod Counts
 pub mod Progress
-pub mod Entries
 pub mod Exact
 pub mod WorkedTables

@@ -1,6 +1,6 @@
 -- A row of a table: what it counts, or its code.
 use Rattle.std.specs.Prelude.{ℕ, Bool, true, ◌&&◌, not, nat_le, List, [], ◌∷◌, Option, Some, None, Result, Ok, Err, if◌then◌else◌}
-use Rattle.std.specs.Option.{option_map}
+use Rattle.std.specs.Option.{option_map, option_or}
 use Rattle.transyt_syntax.specs.declared.code.Code.{Code}
 use Rattle.transyt_syntax.specs.declared.code.Code.TheVariants as code
 use Rattle.transyt_num.specs.Number.{number_of}
@@ -20,10 +20,7 @@ feeder_of (b ∷ bs) = option_map (λ f. Some f) (number_of (b ∷ bs))
 abbrev pub made_count : ℕ → Option ℕ → Option (Option ℕ) → Option ℕ → Option ℕ → Option Count
 made_count row (Some link) (Some feeder) (Some vehicles) (Some minutes) =
     Some (record { row = row; key = record { link = link; feeder = feeder }; vehicles = vehicles; minutes = minutes })
-made_count row None feeder vehicles minutes = None
-made_count row (Some link) None vehicles minutes = None
-made_count row (Some link) (Some feeder) None minutes = None
-made_count row (Some link) (Some feeder) (Some vehicles) None = None
+made_count row link feeder vehicles minutes = None
 
 -- the count of a row of these four fields; none where one isn't a number
 abbrev pub count_of : ℕ → List ℕ → List ℕ → List ℕ → List ℕ → Option Count
@@ -47,15 +44,10 @@ key_code net k =
     else if not (is_fed_by net k.link k.feeder) then Some code.NoFeeder
     else None
 
--- the first code that is there
-abbrev pub first_code : Option Code → Option Code → Option Code
-first_code None later = later
-first_code (Some code) later = Some code
-
 -- the code of what a row counts: that of its key, a number out of its range
 abbrev pub count_code : Network → Count → Option Code
 count_code net c =
-    first_code (key_code net c.key) (if not (nat_le c.vehicles 999999 && within 1 1440 c.minutes) then Some code.Range else None)
+    option_or (key_code net c.key) (if not (nat_le c.vehicles 999999 && within 1 1440 c.minutes) then Some code.Range else None)
 
 -- the count where there is no code
 abbrev pub unless : Option Code → Count → Result Count Code
@@ -69,9 +61,5 @@ judged net (Some c) = unless (count_code net c) c
 
 -- the count of a row with its number, or its code; a wrong count where it hasn't four fields
 abbrev pub read_row : Network → ℕ → List (List ℕ) → Result Count Code
-read_row net row [] = Err code.WrongCount
-read_row net row (a ∷ []) = Err code.WrongCount
-read_row net row (a ∷ b ∷ []) = Err code.WrongCount
-read_row net row (a ∷ b ∷ c ∷ []) = Err code.WrongCount
 read_row net row (a ∷ b ∷ c ∷ d ∷ []) = judged net (count_of row a b c d)
-read_row net row (a ∷ b ∷ c ∷ d ∷ e ∷ more) = Err code.WrongCount
+read_row net row fields = Err code.WrongCount

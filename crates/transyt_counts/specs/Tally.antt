@@ -1,5 +1,5 @@
 -- The sums of the rows, key by key.
-use Rattle.std.specs.Prelude.{ℕ, ◌+◌, ◌*◌, ◌/◌, ◌<◌, ◌≤◌, ◌^◌, Bool, List, [], ◌∷◌, ◌++◌, map, sum_by, Option, Some, None, if◌then◌else◌}
+use Rattle.std.specs.Prelude.{ℕ, ◌+◌, ◌*◌, ◌/◌, ◌<◌, ◌^◌, Bool, List, [], ◌∷◌, ◌++◌, map, sum_by, Option, Some, None, if◌then◌else◌}
 use Rattle.std.specs.List.{filter, fold, list_any}
 use Rattle.transyt_counts.specs.declared.key.Key.{Key}
 use Rattle.transyt_counts.specs.declared.row.Count.{Count}
@@ -14,20 +14,25 @@ is_of k c = same_key k c.key
 abbrev pub rows_of : List Count → Key → List Count
 rows_of counts k = filter (is_of k) counts
 
--- the vehicles of a key, and the minutes in which they were counted
-abbrev pub vehicles_of : List Count → Key → ℕ
-vehicles_of counts k = sum_by (λ c. c.vehicles) (rows_of counts k)
+-- the vehicles of rows, the minutes in which they were counted, and the number of the last of them
+abbrev pub totals_in : List Count → Totals
+totals_in rows = record {
+  vehicles = sum_by (λ c. c.vehicles) rows;
+  minutes = sum_by (λ c. c.minutes) rows;
+  last = fold (λ last c. c.row) 0 rows;
+}
 
-abbrev pub minutes_of : List Count → Key → ℕ
-minutes_of counts k = sum_by (λ c. c.minutes) (rows_of counts k)
+-- the totals of a key
+abbrev pub totals_of : List Count → Key → Totals
+totals_of counts k = totals_in (rows_of counts k)
 
--- the number of the last row of a key
-abbrev pub last_row : List Count → Key → ℕ
-last_row counts k = fold (λ last c. c.row) 0 (rows_of counts k)
+-- the flow of totals in vehicles per hour, rounded down
+abbrev pub flow_by : Totals → ℕ
+flow_by t = 60 * t.vehicles / t.minutes
 
--- the flow of a key in vehicles per hour, rounded down
+-- the flow of a key
 abbrev pub flow_of : List Count → Key → ℕ
-flow_of counts k = 60 * vehicles_of counts k / minutes_of counts k
+flow_of counts k = flow_by (totals_of counts k)
 
 -- the keys with one more, the last, where it is new
 abbrev pub with_key : List Key → Key → List Key
@@ -42,20 +47,14 @@ abbrev pub more_totals : Count → Option Totals → Totals
 more_totals c None = record { vehicles = c.vehicles; minutes = c.minutes; last = c.row }
 more_totals c (Some t) = record { vehicles = t.vehicles + c.vehicles; minutes = t.minutes + c.minutes; last = c.row }
 
--- the totals of a key. No public clause cites them.
-abbrev pub totals_of : List Count → Key → Totals
-totals_of counts k =
-    record { vehicles = vehicles_of counts k; minutes = minutes_of counts k; last = last_row counts k }
-
--- each key with its totals. No public clause cites them.
+-- each key with its totals
 abbrev pub tally_of : List Count → List (Key × Totals)
 tally_of counts = map (λ k. (k, totals_of counts k)) (keys_of counts)
-
--- totals of a row or more, and of no more than so many. No public clause cites them.
-pub record AreFew (n : ℕ) (t : Totals) : Type 0 where
-  pub vehicles : t.vehicles ≤ 999999 * n
-  pub minutes : (0 < t.minutes) × (t.minutes ≤ 1440 * n)
 
 -- totals to which a row can be added. No public clause cites them.
 abbrev pub HasRoom : Totals → Type 0
 HasRoom t = (t.vehicles < 2 ^ 63) × (t.minutes < 2 ^ 63)
+
+-- totals that come from rows. No public clause cites them.
+abbrev pub AreCounted : Totals → Type 0
+AreCounted t = (0 < t.minutes) × (t.vehicles < 2 ^ 56)

@@ -5,14 +5,13 @@ ghost use Rattle.indexmap.specs.IndexMap.{get, insert_entry};
 ghost use Rattle.csv.specs.Reading.{ReadRecord, source_of, strip_bom, reader_state};
 ghost use Rattle.csv.specs.declared.parser.State.TheVariants as st;
 ghost use Rattle.transyt_counts.specs.Records.{records_of};
-ghost use Rattle.transyt_counts.specs.Counts.{read_rows, counts_of, RefusesTable};
+ghost use Rattle.transyt_counts.specs.Counts.{read_rows, counts_of, tally_answer, Refuses};
 ghost use Rattle.transyt_counts.specs.Exact.{AreExact};
-ghost use Rattle.transyt_counts.specs.Entries.{flow_by, AreCounted, entries_answer, RefusesEntries};
 ghost use Rattle.csv.specs.Records.{fields_of};
 ghost use Rattle.transyt_counts.specs.Keys.{same_key};
 ghost use Rattle.transyt_counts.specs.Rows.{read_row};
-ghost use Rattle.transyt_counts.specs.Tally.{more_totals, tally_of, HasRoom};
-ghost use Rattle.transyt_counts.specs.Progress.{IsReading, HasRead, RefusesRow};
+ghost use Rattle.transyt_counts.specs.Tally.{flow_by, more_totals, tally_of, HasRoom, AreCounted};
+ghost use Rattle.transyt_counts.specs.Progress.{IsReading, RefusesRow};
 ghost use Rattle.transyt_counts.specs.declared.row.Count.{Count};
 
 use crate::counts::{CountStop, Counts};
@@ -47,6 +46,7 @@ fn next_record(reader: &mut Reader<&[u8]>, fields: &mut ByteRecord) -> Result<bo
 }
 
 /// Adds a row to the tally, or refuses it.
+#[tactic(auto, using(crate::proofs::TallyLaws::lookup_has))]
 fn take_row(
     net: &Net,
     row: u32,
@@ -85,7 +85,7 @@ fn tally_rows(
         × (read_rows net.now 1 (records_of table.now) ≡ Ok counts)
         × (length counts ≡ rows) × (tally.new.entries ≡ tally_of counts)) }
     ensures counted { IfOk result (λ _. All (λ e. AreCounted e.1) tally.new.entries) }
-    ensures err { IfErr result (RefusesTable net.now table.now) }
+    ensures err { IfErr result (Refuses (counts_of net.now table.now)) }
 {
     for row in 1..table.len() as u32 + 2 {
         if !next_record(reader, fields)? {
@@ -109,8 +109,8 @@ fn flow_by(totals: &Totals) -> u64
 /// An edit for each entry of a tally of so many rows, or the first whose flow is too great.
 fn edits_by(alloc: Global, rows: u32, tally: &IndexMap<Key, Totals>) -> Result<Counts, CountStop>
     requires { All (λ e. AreCounted e.1) tally.now.entries }
-    ensures counts { IfOk result (λ c. entries_answer rows tally.now.entries ≡ Ok c) }
-    ensures refused { IfErr result (RefusesEntries rows tally.now.entries) }
+    ensures counts { IfOk result (λ c. tally_answer rows tally.now.entries ≡ Ok c) }
+    ensures refused { IfErr result (Refuses (tally_answer rows tally.now.entries)) }
 {
     let mut edits = Vec::new(alloc);
     for place in 0..tally.len() {
@@ -138,7 +138,7 @@ fn edits_by(alloc: Global, rows: u32, tally: &IndexMap<Key, Totals>) -> Result<C
 pub fn read_counts(alloc: Global, table: &[u8], net: &Net) -> Result<Counts, CountStop>
     requires { length table.now ≤ 4194304 }
     ensures counts { IfOk result (λ c. counts_of net.now table.now ≡ Ok c) }
-    ensures refused { IfErr result (RefusesTable net.now table.now) }
+    ensures refused { IfErr result (Refuses (counts_of net.now table.now)) }
     ensures exact { IfOk result (λ c. (counts : List Count)
         × (read_rows net.now 1 (records_of table.now) ≡ Ok counts)
         × (length counts ≡ c.rows) × AreExact net.now counts c.edits) }

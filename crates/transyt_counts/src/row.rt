@@ -94,8 +94,8 @@ fn judge(net: &Net, row: u32, fields: &Fields) -> Result<Count, Code>
 }
 
 /// The flow that a row counts, or its code.
-pub fn read_row(net: &Net, row: u32, fields: &ByteRecord) -> Result<Count, Code>
-    ensures { result ≡ read_row net.now row (fields_of fields.now) }
+pub fn read_row(net: &Net, line: u32, fields: &ByteRecord) -> Result<Count, Code>
+    ensures { result ≡ read_row net.now line (fields_of fields.now) }
 {
     let (Some(link), Some(feeder), Some(vehicles), Some(minutes), None) = (
         fields.get(0),
@@ -112,5 +112,5 @@ pub fn read_row(net: &Net, row: u32, fields: &ByteRecord) -> Result<Count, Code>
         vehicles,
         minutes,
     };
-    judge(net, row, &fields)
+    judge(net, line, &fields)
 }

@@ -1,27 +1,26 @@
 -- What holds of the link that asks most of a stage holds of each of its counted links.
-use Rattle.std.proofs.Common.{◌≡◌, ℕ, ◌*◌, ◌<◌, ◌≤◌, Bool, true, false, cond, not, ◌&&◌, List, [], ◌∷◌, All, arith}
+use Rattle.std.proofs.Common.{◌≡◌, ℕ, ◌*◌, ◌<◌, ◌≤◌, Bool, true, false, not, ◌&&◌, List, [], ◌∷◌, ◌++◌, ◌+◌, All, arith}
 use Rattle.std.proofs.Common.{sym, ◌∙◌, ap, refl, inl, inr}
 use Rattle.std.specs.List.{list_all, filter, fold}
-use Rattle.std.proofs.Math.Nat.{mul-le-mul_left}
-use Rattle.std.proofs.lemmas.Bool.{cases_Bool, ltb-true, ltb-false, not-true}
+use Rattle.std.proofs.Math.Nat.{mul-le-mul_left, mul-pos}
+use Rattle.std.proofs.lemmas.Bool.{cases_Bool, ltb-false, not-true}
+use Rattle.std.proofs.lemmas.Bool.Decides.{nat_tests}
 use Rattle.std.proofs.lemmas.List.Elements.{All-head, All-tail}
+use Rattle.std.proofs.lemmas.List.FromFn.{map-range_with_len_more}
 use Rattle.transyt_parts.specs.Parts.{LinkValue}
+use Rattle.transyt_parts.specs.Flow.{total_flow}
 use Rattle.transyt_net.specs.Parts.{Network}
 use Rattle.transyt_equisat.specs.declared.fraction.Fraction.{Fraction}
 use Rattle.transyt_equisat.specs.declared.demand.Demand.{Demand}
 use Rattle.transyt_equisat.specs.Fractions.{is_above}
-use Rattle.transyt_equisat.specs.Degrees.{counts_in, counted_in, degree}
-use Rattle.transyt_equisat.specs.Demands.{demand_of, degree_of, heavier, heavier_of, demand_in, no_demand}
+use Rattle.transyt_equisat.specs.Degrees.{counts_in, degree}
+use Rattle.transyt_equisat.specs.Demands.{demand_of, degree_of, heavier, heavier_of, demand_in, demands_of, no_demand}
 use Rattle.transyt_equisat.proofs.FractionLaws.{not_above, not_above-trans}
 
 -- a test that lesser fractions pass too, and what nothing asks of a green
 pub record IsLower (test : Fraction → Bool) : Type 0 where
   pub lesser : (a b : Fraction) → 0 < a.base → 0 < b.base → is_above a b ≡ false → test b ≡ true → test a ≡ true
   pub none : (steps e : ℕ) → 0 < e → test (degree_of steps no_demand e) ≡ true
-
--- a product of positive numbers
-pub positive : (a b : ℕ) → 0 < a → 0 < b → 0 < a * b
-positive a b x y = let one : 1 ≤ b = y in omega (arith, mul-le-mul_left a one)
 
 -- what asks for no more has no greater degree
 pub degree_orders : (steps e : ℕ) (a b : Demand) → a.flow * b.saturation ≤ b.flow * a.saturation
@@ -41,44 +40,30 @@ dropped false true true more = more refl
 dropped false true false more = refl
 dropped false false y more = refl
 
--- one link more
-link_more : (test : Fraction → Bool) (steps number stage e : ℕ) (l : LinkValue) (ls : List LinkValue) (d : Demand) (c h : Bool)
-    → (h ≡ true → test (degree steps l e) ≡ true → test (degree_of steps d e) ≡ true)
-    → (h ≡ false → test (degree_of steps d e) ≡ true → test (degree steps l e) ≡ true)
-    → ((f : Demand) → 0 < f.saturation
-    → (list_all (λ l. test (degree steps l e)) (filter (counts_in number stage) ls) && test (degree_of steps f e))
-    ≡ test (degree_of steps (fold (heavier_of number stage) f ls) e))
-    → 0 < l.saturation → 0 < d.saturation
-    → (list_all (λ l. test (degree steps l e))
-    (cond c (l ∷ filter (counts_in number stage) ls) (filter (counts_in number stage) ls)) && test (degree_of steps d e))
-    ≡ test (degree_of steps (fold (heavier_of number stage) (cond (c && h) (demand_of l) d) ls) e)
-link_more test steps number stage e l ls d false h up down rest live alive = rest d alive
-link_more test steps number stage e l ls d true true up down rest live alive =
-    moved (test (degree steps l e)) (list_all (λ l. test (degree steps l e)) (filter (counts_in number stage) ls))
-    (test (degree_of steps d e)) (up refl)
-    ∙ rest (demand_of l) live
-link_more test steps number stage e l ls d true false up down rest live alive =
-    dropped (test (degree steps l e)) (list_all (λ l. test (degree steps l e)) (filter (counts_in number stage) ls))
-    (test (degree_of steps d e)) (down refl)
-    ∙ rest d alive
-
 -- the links passed and the demand so far pass where the demand after them does
-pub all_tested : (test : Fraction → Bool) → IsLower test → (steps number stage e : ℕ) → 0 < e
+all_tested : (test : Fraction → Bool) → IsLower test → (steps number stage e : ℕ) → 0 < e
     → (ls : List LinkValue) → All (λ l. 0 < l.saturation) ls → (d : Demand) → 0 < d.saturation
     → (list_all (λ l. test (degree steps l e)) (filter (counts_in number stage) ls) && test (degree_of steps d e))
     ≡ test (degree_of steps (fold (heavier_of number stage) d ls) e)
 all_tested test lower steps number stage e some [] live d alive = refl
 all_tested test lower steps number stage e some (l ∷ ls) live d alive =
     let here : 0 < l.saturation = All-head (λ l. 0 < l.saturation) l ls live in
-    let l_base : 0 < (degree steps l e).base = positive l.saturation e here some in
-    let d_base : 0 < (degree_of steps d e).base = positive d.saturation e alive some in
-    link_more test steps number stage e l ls d (counts_in number stage l) (heavier (demand_of l) d)
-    (λ h. lower.lesser (degree_of steps d e) (degree steps l e) d_base l_base
-    (degree_orders steps e d (demand_of l) (let more = ltb-true (d.flow * (demand_of l).saturation) ((demand_of l).flow * d.saturation) h in omega arith)))
-    (λ h. lower.lesser (degree steps l e) (degree_of steps d e) l_base d_base
-    (degree_orders steps e (demand_of l) d (ltb-false (d.flow * (demand_of l).saturation) ((demand_of l).flow * d.saturation) h)))
-    (λ f f_alive. all_tested test lower steps number stage e some ls (All-tail (λ l. 0 < l.saturation) l ls live) f f_alive)
-    here alive
+    let rest = all_tested test lower steps number stage e some ls (All-tail (λ l. 0 < l.saturation) l ls live) in
+    let l_base : 0 < l.saturation * e = mul-pos here some in
+    let d_base : 0 < d.saturation * e = mul-pos alive some in
+    elim (cases_Bool (counts_in number stage l)) [
+      | inr left ↦ rw (fold, left) (rest d alive)
+      | inl counts ↦ elim (cases_Bool (heavier (demand_of l) d)) [
+        | inl more ↦
+            let less : d.flow * l.saturation ≤ total_flow l * d.saturation = grind (arith, nat_tests, more) in
+            rw (fold, counts, more) (moved _ _ _ (lower.lesser (degree_of steps d e) (degree steps l e) d_base l_base
+            (degree_orders steps e d (demand_of l) less)) ∙ rest (demand_of l) here)
+        | inr fails ↦
+            let less : total_flow l * d.saturation ≤ d.flow * l.saturation = grind (arith, nat_tests, fails) in
+            rw (fold, counts, fails) (dropped _ _ _ (lower.lesser (degree steps l e) (degree_of steps d e) l_base d_base
+            (degree_orders steps e (demand_of l) d less)) ∙ rest d alive)
+      ]
+    ]
 
 and_true : (a b : Bool) → b ≡ true → (a && b) ≡ a
 and_true true b h = h
@@ -87,10 +72,10 @@ and_true false b h = refl
 -- the counted links of a stage pass where the one that asks most does
 pub stage_tested : (test : Fraction → Bool) → IsLower test → (net : Network) (number stage e : ℕ) → 0 < e
     → All (λ l. 0 < l.saturation) net.links
-    → list_all (λ l. test (degree net.frame.step_count l e)) (counted_in net number stage)
+    → list_all (λ l. test (degree net.frame.step_count l e)) (filter (counts_in number stage) net.links)
     ≡ test (degree_of net.frame.step_count (demand_in net number stage) e)
 stage_tested test lower net number stage e some live =
-    sym (and_true (list_all (λ l. test (degree net.frame.step_count l e)) (counted_in net number stage))
+    sym (and_true (list_all (λ l. test (degree net.frame.step_count l e)) (filter (counts_in number stage) net.links))
     (test (degree_of net.frame.step_count no_demand e)) (lower.none net.frame.step_count e some))
     ∙ all_tested test lower net.frame.step_count number stage e some net.links live no_demand (omega arith)
 
@@ -112,8 +97,12 @@ below_lower v above = record {
     | inl is ↦ is
     | inr fails ↦ absurd (
         let less = ltb-false ((degree_of steps no_demand e).top * v.base) (v.top * (degree_of steps no_demand e).base) fails in
-        let more = positive v.top e above some in
+        let more = mul-pos above some in
         omega arith
         )
   ];
 }
+
+-- the demands of one stage more
+pub demands_more : (net : Network) (number n : ℕ) → demands_of net number (n + 1) ≡ demands_of net number n ++ demand_in net number (n + 1) ∷ []
+demands_more net number n = map-range_with_len_more (λ k. demand_in net number (k + 1)) 0 n n (omega arith)

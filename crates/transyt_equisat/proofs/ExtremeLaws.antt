@@ -1,16 +1,15 @@
 -- Laws of the greatest and of the least of fractions.
-use Rattle.std.proofs.Common.{◌≡◌, ◌<◌, Bool, true, false, cond, List, [], ◌∷◌, All, arith, ◌∙◌, ap, length, if◌then◌else◌}
-use Rattle.std.proofs.Common.{inl, inr}
+use Rattle.std.proofs.Common.{◌≡◌, ◌<◌, Bool, true, false, List, [], ◌∷◌, All, arith, length, if◌then◌else◌, inl, inr}
 use Rattle.std.specs.List.{fold}
-use Rattle.std.proofs.lemmas.Bool.{cases_Bool}
+use Rattle.std.proofs.lemmas.Bool.{cases_Bool, cond_both}
 use Rattle.std.proofs.lemmas.List.Elements.{All-head, All-tail, All-nil, All-cons}
 use Rattle.transyt_equisat.specs.declared.fraction.Fraction.{Fraction}
-use Rattle.transyt_equisat.specs.Fractions.{is_above, greater, nothing}
+use Rattle.transyt_equisat.specs.Fractions.{is_above, greatest, nothing}
 use Rattle.transyt_equisat.specs.Balance.{least_of}
 use Rattle.transyt_equisat.proofs.FractionLaws.{not_above, not_above-trans, above_not}
 
 -- a fraction isn't above itself
-pub not_above-self : (a : Fraction) → is_above a a ≡ false
+not_above-self : (a : Fraction) → is_above a a ≡ false
 not_above-self a = not_above a a (omega arith)
 
 -- a test of two fractions that orders them
@@ -35,59 +34,44 @@ below = record {
 abbrev over_of : (Fraction → Fraction → Bool) → Fraction → Fraction → Fraction
 over_of over a d = if over d a then d else a
 
--- a choice of two has what both have
-chosen : (P : Fraction → Type 0) (b : Bool) (x y : Fraction) → P x → P y → P (cond b x y)
-chosen P true x y px py = px
-chosen P false x y px py = py
-
 -- what all and the first have, the one over them has
 pub extreme_has : (over : Fraction → Fraction → Bool) (P : Fraction → Type 0) (ds : List Fraction) (a : Fraction) → P a → All P ds
     → P (fold (over_of over) a ds)
 extreme_has over P [] a pa all = pa
 extreme_has over P (d ∷ ds) a pa all =
-    extreme_has over P ds (over_of over a d) (chosen P (over d a) d a (All-head P d ds all) pa) (All-tail P d ds all)
+    extreme_has over P ds (over_of over a d) (cond_both (over d a) d a P (λ is. All-head P d ds all) (λ not_so. pa))
+    (All-tail P d ds all)
 
 -- neither is over the one chosen
-first_under : (over : Fraction → Fraction → Bool) → IsOrder over → (a d : Fraction) → over a (over_of over a d) ≡ false
-first_under over order a d =
+neither_over : (over : Fraction → Fraction → Bool) → IsOrder over → (a d : Fraction)
+    → (over a (over_of over a d) ≡ false) × (over d (over_of over a d) ≡ false)
+neither_over over order a d =
     elim (cases_Bool (over d a)) [
-      | inl is ↦ ap (λ b. over a (cond b d a)) is ∙ order.one_way d a is
-      | inr not_so ↦ ap (λ b. over a (cond b d a)) not_so ∙ order.self a
-    ]
-
-second_under : (over : Fraction → Fraction → Bool) → IsOrder over → (a d : Fraction) → over d (over_of over a d) ≡ false
-second_under over order a d =
-    elim (cases_Bool (over d a)) [
-      | inl is ↦ ap (λ b. over d (cond b d a)) is ∙ order.self d
-      | inr not_so ↦ ap (λ b. over d (cond b d a)) not_so ∙ not_so
+      | inl is ↦ rw is (order.one_way d a is, order.self d)
+      | inr not_so ↦ rw not_so (order.self a, not_so)
     ]
 
 abbrev HasBase : Fraction → Type 0
 HasBase d = 0 < d.base
 
 -- neither the first nor any of the others is over the one that is over them
-pub none_over : (over : Fraction → Fraction → Bool) → IsOrder over → (ds : List Fraction) (a : Fraction) → 0 < a.base
+none_over : (over : Fraction → Fraction → Bool) → IsOrder over → (ds : List Fraction) (a : Fraction) → 0 < a.base
     → All (λ d. 0 < d.base) ds
     → (over a (fold (over_of over) a ds) ≡ false) × All (λ d. over d (fold (over_of over) a ds) ≡ false) ds
 none_over over order [] a base bases = (order.self a, All-nil (λ d. over d a ≡ false))
 none_over over order (d ∷ ds) a base bases =
     let next : Fraction = over_of over a d in
     let end : Fraction = fold (over_of over) a (d ∷ ds) in
-    let next_base : 0 < next.base = chosen HasBase (over d a) d a (All-head HasBase d ds bases) base in
-    let rest = none_over over order ds next next_base (All-tail HasBase d ds bases) in (
-      order.trans a next end next_base (first_under over order a d) rest.0,
-      All-cons (λ x. over x end ≡ false) d ds
-          (order.trans d next end next_base (second_under over order a d) rest.0) rest.1,
+    let next_base = cond_both (over d a) d a HasBase (λ is. All-head HasBase d ds bases) (λ not_so. base) in
+    let rest = none_over over order ds next next_base (All-tail HasBase d ds bases) in
+    let two = neither_over over order a d in (
+      order.trans a next end next_base two.0 rest.0,
+      All-cons (λ x. over x end ≡ false) d ds (order.trans d next end next_base two.1 rest.0) rest.1,
     )
 
--- what all and the first have, the greatest has
-pub greatest_from : (P : Fraction → Type 0) (ds : List Fraction) (a : Fraction) → P a → All P ds → P (fold greater a ds)
-greatest_from P ds a pa all = extreme_has is_above P ds a pa all
-
 -- none is above the greatest
-pub all_under : (ds : List Fraction) (a : Fraction) → 0 < a.base → All (λ d. 0 < d.base) ds
-    → All (λ d. is_above d (fold greater a ds) ≡ false) ds
-all_under ds a base bases = (none_over is_above above ds a base bases).1
+pub all_under : (ds : List Fraction) → All (λ d. 0 < d.base) ds → All (λ d. is_above d (greatest ds) ≡ false) ds
+all_under ds bases = (none_over is_above above ds nothing (omega arith) bases).1
 
 -- the least of some has what all have
 pub least_of_some : (P : Fraction → Type 0) (ds : List Fraction) → 0 < length ds → All P ds → P (least_of ds)

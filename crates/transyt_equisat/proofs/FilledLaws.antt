@@ -1,8 +1,10 @@
 -- Greens with what is left of the cycle given to the first stage.
-use Rattle.std.proofs.Common.{◌≡◌, ℕ, ◌+◌, ◌-◌, ◌<◌, ◌≤◌, Bool, true, false, ◌&&◌, List, [], ◌∷◌, All, length, sum}
-use Rattle.std.proofs.Common.{sym, subst, arith, get_or, inl, inr, cond}
+use Rattle.std.proofs.Common.{◌≡◌, ℕ, ◌+◌, ◌-◌, ◌<◌, ◌≤◌, Bool, true, ◌&&◌, List, [], ◌∷◌, All, length, sum}
+use Rattle.std.proofs.Common.{sym, subst, arith, get_or}
 use Rattle.std.specs.List.{fold}
-use Rattle.std.proofs.lemmas.List.{get_or-set_other, length-set}
+use Rattle.std.proofs.Math.Nat.{mul-pos}
+use Rattle.std.proofs.lemmas.Bool.{cond_both}
+use Rattle.std.proofs.lemmas.List.{length-set}
 use Rattle.std.proofs.lemmas.List.Sums.{sum_by-set}
 use Rattle.std.proofs.lemmas.List.Elements.{All-head, All-tail}
 use Rattle.transyt_parts.specs.Parts.{NodeValue, LinkValue}
@@ -16,10 +18,10 @@ use Rattle.transyt_equisat.specs.Demands.{heavier, heavier_of, demand_of, degree
 use Rattle.transyt_equisat.specs.Peaks.{Fits, lost}
 use Rattle.transyt_equisat.specs.Balance.{first_more}
 use Rattle.transyt_equisat.specs.Asked.{asked_of}
-use Rattle.transyt_equisat.specs.Sharing.{IsSetting}
+use Rattle.transyt_equisat.proofs.SettingLaws.{IsSetting}
 use Rattle.transyt_equisat.proofs.DegreeLaws.{degree_falls}
-use Rattle.transyt_equisat.proofs.DemandLaws.{IsLower, positive}
-use Rattle.transyt_equisat.proofs.SharingLaws.{least_more, more_same, same_or_not}
+use Rattle.transyt_equisat.proofs.DemandLaws.{IsLower}
+use Rattle.transyt_equisat.proofs.SharingLaws.{more_least}
 use Rattle.transyt_equisat.proofs.PeakLaws.{demand_there, StagesPass}
 
 -- greens with what is left of the cycle given to the first fill it
@@ -31,38 +33,28 @@ filled steps stages es count some least room =
     let left : ℕ = steps - (sum es + lost stages) in
     record {
       count = omega (arith, length-set es 0 (get_or es 0 0 + left));
-      least = least_more stages es 0 left count least;
+      least = λ k below. omega (arith, least k below, more_least es 0 left k (omega arith));
       fills = omega (arith, sum_by-set (λ n. n) es 0 (get_or es 0 0 + left) 0 (omega arith));
     }
 
 -- a lower test that a stage's degree passes, it passes with more steps for the first stage too
-pub more_passes : (test : Fraction → Bool) → IsLower test → (steps : ℕ) (d : Demand) (es : List ℕ) (x k : ℕ)
+more_passes : (test : Fraction → Bool) → IsLower test → (steps : ℕ) (d : Demand) (es : List ℕ) (x k : ℕ)
     → 0 < d.saturation → 0 < length es → 0 < get_or es k 0
     → test (degree_of steps d (get_or es k 0)) ≡ true → test (degree_of steps d (get_or (first_more x es) k 0)) ≡ true
 more_passes test lower steps d es x k live some alive passes =
-    elim (same_or_not k 0) [
-      | inl same ↦
-          let now = more_same es 0 x k some same in
-          subst (λ (e : ℕ). test (degree_of steps d e) ≡ true) (sym now)
-          (lower.lesser (degree_of steps d (get_or es k 0 + x)) (degree_of steps d (get_or es k 0))
-          (positive d.saturation (get_or es k 0 + x) live (omega arith)) (positive d.saturation (get_or es k 0) live alive)
-          (degree_falls steps d (get_or es k 0) (get_or es k 0 + x) (omega arith)) passes)
-      | inr other ↦
-          subst (λ (e : ℕ). test (degree_of steps d e) ≡ true) (sym (get_or-set_other es 0 k (get_or es 0 0 + x) 0 other)) passes
-    ]
-
-picked_live : (b : Bool) (x y : Demand) → 0 < x.saturation → 0 < y.saturation → 0 < (cond b x y).saturation
-picked_live true x y px py = px
-picked_live false x y px py = py
+    let more = more_least es 0 x k some in
+    lower.lesser (degree_of steps d (get_or (first_more x es) k 0)) (degree_of steps d (get_or es k 0))
+    (mul-pos {n = get_or (first_more x es) k 0} live (omega (arith, more))) (mul-pos live alive)
+    (degree_falls steps d (get_or es k 0) (get_or (first_more x es) k 0) more) passes
 
 -- what asks most has a saturation flow
-pub fold_live : (number stage : ℕ) (ls : List LinkValue) (d : Demand) → All (λ l. 0 < l.saturation) ls → 0 < d.saturation
+fold_live : (number stage : ℕ) (ls : List LinkValue) (d : Demand) → All (λ l. 0 < l.saturation) ls → 0 < d.saturation
     → 0 < (fold (heavier_of number stage) d ls).saturation
 fold_live number stage [] d live alive = alive
 fold_live number stage (l ∷ ls) d live alive =
     fold_live number stage ls (heavier_of number stage d l) (All-tail (λ l. 0 < l.saturation) l ls live)
-    (picked_live (counts_in number stage l && heavier (demand_of l) d) (demand_of l) d
-    (All-head (λ l. 0 < l.saturation) l ls live) alive)
+    (cond_both (counts_in number stage l && heavier (demand_of l) d) (demand_of l) d (λ f. 0 < f.saturation)
+    (λ heavy. All-head (λ l. 0 < l.saturation) l ls live) (λ light. alive))
 
 -- what a stage asks has a saturation flow
 pub demand_live : (net : Network) (n : NodeValue) (k : ℕ) → IsSetting net n → k < length n.stages

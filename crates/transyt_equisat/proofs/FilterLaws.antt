@@ -1,9 +1,8 @@
 -- Laws of what passes a test among what another test picks.
-use Rattle.std.proofs.Common.{◌≡◌, Bool, true, cond, List, [], ◌∷◌, All, map, subst, arith, inl, inr}
-use Rattle.std.specs.List.{list_all, filter}
+use Rattle.std.proofs.Common.{◌≡◌, Bool, true, List, [], ◌∷◌, All, map, subst, arith, inl, inr}
+use Rattle.std.specs.List.{filter}
 use Rattle.std.proofs.lemmas.Bool.{cases_Bool}
 use Rattle.std.proofs.lemmas.List.{get_or-map, length-map}
-use Rattle.std.proofs.lemmas.List.Sums.{AllPass-from_list_all, list_all-from_AllPass}
 use Rattle.std.proofs.lemmas.List.Elements.{All-head, All-tail, All-nil, All-cons, All-filter, All-map, filter_passes}
 
 -- what holds of all that are picked: it holds of each that is picked
@@ -14,11 +13,9 @@ picked_each {A} P pick (x ∷ xs) h =
     let Q : A → Type 0 = λ x. pick x ≡ true → P x in
     elim (cases_Bool (pick x)) [
       | inl picked ↦
-          let here = subst (λ (b : Bool). All P (cond b (x ∷ filter pick xs) (filter pick xs))) picked h in
+          let here = rw picked at h in
           All-cons Q x xs (λ p. All-head P x (filter pick xs) here) (picked_each P pick xs (All-tail P x (filter pick xs) here))
-      | inr left ↦
-          let here = subst (λ (b : Bool). All P (cond b (x ∷ filter pick xs) (filter pick xs))) left h in
-          All-cons Q x xs (λ p. absurd (cc (p, left))) (picked_each P pick xs here)
+      | inr left ↦ All-cons Q x xs (λ p. absurd (cc (p, left))) (picked_each P pick xs (rw left at h))
     ]
 
 -- and the other way round
@@ -26,16 +23,6 @@ pub each_picked : {A : Type 0} (P : A → Type 0) (pick : A → Bool) (xs : List
     → All P (filter pick xs)
 each_picked P pick xs h = λ i d below.
     All-filter pick (λ x. pick x ≡ true → P x) xs h i d below (filter_passes pick xs i d below)
-
--- all that are picked pass: each that is picked passes
-pub all_picked : {A : Type 0} (test pick : A → Bool) (xs : List A) → list_all test (filter pick xs) ≡ true
-    → All (λ x. pick x ≡ true → test x ≡ true) xs
-all_picked test pick xs h = picked_each (λ x. test x ≡ true) pick xs (AllPass-from_list_all test (filter pick xs) h)
-
--- and the other way round
-pub picked_all : {A : Type 0} (test pick : A → Bool) (xs : List A) → All (λ x. pick x ≡ true → test x ≡ true) xs
-    → list_all test (filter pick xs) ≡ true
-picked_all test pick xs h = list_all-from_AllPass test (filter pick xs) (each_picked (λ x. test x ≡ true) pick xs h)
 
 -- what holds of f of all that are picked
 pub all_mapped : {A B : Type 0} (P : B → Type 0) (f : A → B) (pick : A → Bool) (xs : List A)

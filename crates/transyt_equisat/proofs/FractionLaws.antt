@@ -1,7 +1,7 @@
 -- Laws of fractions compared by cross-multiplication.
-use Rattle.std.proofs.Common.{◌≡◌, ◌*◌, ◌<◌, true, false, arith, inl, inr}
+use Rattle.std.proofs.Common.{◌≡◌, ◌*◌, ◌<◌, true, false, arith}
 use Rattle.std.proofs.Math.Nat.{mul-le-mul_left, le_of_mul-le-mul_right}
-use Rattle.std.proofs.lemmas.Bool.{ltb-true, ltb-false, cases_Bool}
+use Rattle.std.proofs.lemmas.Bool.{ltb-true, ltb-false, le-ltb}
 use Rattle.transyt_equisat.specs.declared.fraction.Fraction.{Fraction}
 use Rattle.transyt_equisat.specs.Fractions.{is_above, AtMost}
 
@@ -11,11 +11,7 @@ at_most a b h = ltb-false (b.top * a.base) (a.top * b.base) h
 
 -- and the other way round
 pub not_above : (a b : Fraction) → AtMost a b → is_above a b ≡ false
-not_above a b h =
-    elim (cases_Bool (is_above a b)) [
-      | inl above ↦ absurd (let more = ltb-true (b.top * a.base) (a.top * b.base) above in omega arith)
-      | inr below ↦ below
-    ]
+not_above a b h = le-ltb (b.top * a.base) (a.top * b.base) h
 
 -- at most what is at most a third
 pub at_most-trans : (a b c : Fraction) → 0 < b.base → AtMost a b → AtMost b c → AtMost a c

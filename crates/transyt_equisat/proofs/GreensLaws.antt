@@ -1,26 +1,24 @@
 -- The greens of the answer fill the cycle, and their peak is the peak.
-use Rattle.std.proofs.Common.{◌≡◌, ℕ, ◌+◌, ◌-◌, ◌<◌, ◌≤◌, Bool, true, not, List, length, sum}
-use Rattle.std.proofs.Common.{◌∙◌, ap, arith, get_or}
+use Rattle.std.proofs.Common.{◌≡◌, ℕ, ◌+◌, ◌<◌, ◌≤◌, true, not, List, length, sum}
+use Rattle.std.proofs.Common.{ap, arith, get_or}
 use Rattle.std.proofs.lemmas.List.FromFn.{length-map-range_with_len, get_or-map-range_with_len}
 use Rattle.std.proofs.lemmas.Bool.{not-true}
 use Rattle.transyt_parts.specs.Parts.{NodeValue}
 use Rattle.transyt_parts.specs.Plan.{stage_of}
 use Rattle.transyt_net.specs.Parts.{Network}
 use Rattle.transyt_equisat.specs.declared.fraction.Fraction.{Fraction}
-use Rattle.transyt_equisat.specs.declared.demand.Demand.{Demand}
 use Rattle.transyt_equisat.specs.Fractions.{is_above, IsSame}
-use Rattle.transyt_equisat.specs.Demands.{degree_of, no_demand}
 use Rattle.transyt_equisat.specs.Peaks.{Fits, peak, lost}
-use Rattle.transyt_equisat.specs.Balance.{first_from, least_green, least_greens, greens_at}
+use Rattle.transyt_equisat.specs.Balance.{least_green, least_greens, greens_at}
 use Rattle.transyt_equisat.specs.Asked.{asked_of}
-use Rattle.transyt_equisat.specs.Sharing.{degree_at, IsUnder, IsSetting, IsLeastPeak}
+use Rattle.transyt_equisat.specs.Sharing.{degree_at, IsUnder, IsLeastPeak}
+use Rattle.transyt_equisat.proofs.SettingLaws.{IsSetting}
 use Rattle.transyt_equisat.proofs.FractionLaws.{at_most}
 use Rattle.transyt_equisat.proofs.DemandLaws.{not_above_lower}
-use Rattle.transyt_equisat.proofs.SearchLaws.{first_bounds, first_least}
 use Rattle.transyt_equisat.proofs.SharingLaws.{sum_pointwise}
 use Rattle.transyt_equisat.proofs.PeakLaws.{peak_base, under_peak, peak_under}
 use Rattle.transyt_equisat.proofs.PlanFits.{one_shorter}
-use Rattle.transyt_equisat.proofs.AskedLaws.{green_asked}
+use Rattle.transyt_equisat.proofs.AskedLaws.{first_parts}
 use Rattle.transyt_equisat.proofs.FilledLaws.{filled_passes}
 
 -- the greens of the answer: they fill the cycle, and no stage is above the peak
@@ -35,16 +33,11 @@ module _ (net : Network) (n : NodeValue) (v : Fraction) (setting : IsSetting net
       × (not (is_above (degree_at (asked_of net n) (least_greens net n v) k) v) ≡ true)
   least_parts es k fits under inside =
       let steps = net.frame.step_count in
-      let asks : Demand = get_or (asked_of net n).demands k no_demand in
-      let least : ℕ = (stage_of n.stages k).least in
-      let test : ℕ → Bool = λ e. not (is_above (degree_of steps asks e) v) in
-      let at : get_or (least_greens net n v) k 0 ≡ first_from test least (steps - least) =
-      get_or-map-range_with_len (least_green net n v) 0 (length n.stages) k k 0 inside (omega arith)
-      ∙ green_asked net n v k setting inside in
+      let at : get_or (least_greens net n v) k 0 ≡ least_green net n v k =
+      get_or-map-range_with_len (least_green net n v) 0 (length n.stages) k k 0 inside (omega arith) in
       let short = one_shorter steps n.stages es k fits setting.stages.0 setting.least inside in
-      let first = first_least test least (steps - least) (get_or es k 0) (fits.least k inside) (omega arith) (ap not (under k inside)) in
-      let low = first_bounds test least (steps - least) in
-      (omega (arith, at, low.0), omega (arith, at, first.0), ap test at ∙ first.1)
+      rw at (first_parts net n setting (λ d. not (is_above d v)) (not_above_lower v) k (get_or es k 0) inside
+      (fits.least k inside) (omega arith) (ap not (under k inside)))
 
   -- a least green for each stage
   least_count : length (least_greens net n v) ≡ length n.stages

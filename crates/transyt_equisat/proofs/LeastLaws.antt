@@ -2,6 +2,7 @@
 use Rattle.std.proofs.Common.{◌≡◌, ℕ, ◌<◌, false, List, All, map, length}
 use Rattle.std.proofs.Common.{arith}
 use Rattle.std.specs.List.{Contains}
+use Rattle.std.proofs.lemmas.List.{length-map}
 use Rattle.std.proofs.lemmas.List.Elements.{All-map, All-weaker, All-contains}
 use Rattle.transyt_parts.specs.Parts.{NodeValue}
 use Rattle.transyt_net.specs.Parts.{Network}
@@ -10,15 +11,12 @@ use Rattle.transyt_equisat.specs.Fractions.{is_above, IsSame}
 use Rattle.transyt_equisat.specs.Peaks.{Fits, peak, greens_of}
 use Rattle.transyt_equisat.specs.Balance.{all_greens, least_of, least_peak}
 use Rattle.transyt_equisat.specs.Asked.{AskedValue, asked_of}
-use Rattle.transyt_equisat.specs.Sharing.{IsUnder, IsLeastPeak, IsSetting}
+use Rattle.transyt_equisat.specs.Sharing.{IsUnder, IsLeastPeak}
+use Rattle.transyt_equisat.proofs.SettingLaws.{IsSetting}
 use Rattle.transyt_equisat.proofs.FractionLaws.{at_most, not_above-trans}
 use Rattle.transyt_equisat.proofs.ExtremeLaws.{least_under, least_of_some}
 use Rattle.transyt_equisat.proofs.PeakLaws.{peak_base, under_peak, peak_under}
 use Rattle.transyt_equisat.proofs.EnumLaws.{all_fit, fits_listed, Contains_map}
-
--- a list in which something stands
-some_listed : {A : Type 0} (xs : List A) (x : A) → Contains xs x → 0 < length xs
-some_listed xs x (k, inside, same) = omega arith
 
 -- what all peaks of fitting greens have
 all_peaks : (net : Network) (n : NodeValue) (P : Fraction → Type 0)
@@ -37,9 +35,7 @@ least_is_least net n setting =
     let peaks : List Fraction = map (peak net n.number) (all_greens n.stages steps) in
     let own : Contains (all_greens n.stages steps) (greens_of steps n.stages) =
     fits_listed n.stages steps (greens_of steps n.stages) setting.own in
-    let some : 0 < length peaks =
-    some_listed peaks (peak net n.number (greens_of steps n.stages))
-    (Contains_map (peak net n.number) (all_greens n.stages steps) (greens_of steps n.stages) own) in
+    let some : 0 < length peaks = omega (arith, length-map (all_greens n.stages steps) (peak net n.number), own.1) in
     let based = all_peaks net n (λ d. 0 < d.base) (λ es. peak_base net n setting es) in
     record {
       base = least_of_some (λ d. 0 < d.base) peaks some based;

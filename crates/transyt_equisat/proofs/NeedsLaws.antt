@@ -1,9 +1,9 @@
 -- The needs of the stages with the intergreens do not fit into the cycle.
 use Rattle.std.proofs.Common.{◌≡◌, ℕ, ◌+◌, ◌-◌, ◌*◌, ◌<◌, ◌≤◌, Bool, true, false, nat_eq, List, map, length, sum}
-use Rattle.std.proofs.Common.{◌∙◌, ap, arith, get_or, inl, inr, cond}
+use Rattle.std.proofs.Common.{◌∙◌, ap, arith, get_or, inl, inr}
 use Rattle.std.specs.List.{range_with_len}
-use Rattle.std.proofs.Math.Nat.{mul-le-mul_left}
-use Rattle.std.proofs.lemmas.Bool.{cases_Bool}
+use Rattle.std.proofs.Math.Nat.{mul-le-mul_left, mul-pos, eq-zero-or-pos}
+use Rattle.std.proofs.lemmas.Bool.{cases_Bool, cases_lt}
 use Rattle.std.proofs.lemmas.Bool.Decides.{nat_tests}
 use Rattle.std.proofs.lemmas.List.FromFn.{length-map-range_with_len, get_or-map-range_with_len}
 use Rattle.transyt_parts.specs.Parts.{NodeValue}
@@ -14,16 +14,15 @@ use Rattle.transyt_equisat.specs.declared.demand.Demand.{Demand}
 use Rattle.transyt_equisat.specs.Fractions.{is_above, AtMost}
 use Rattle.transyt_equisat.specs.Demands.{degree_of, no_demand}
 use Rattle.transyt_equisat.specs.Peaks.{Fits, peak, lost}
-use Rattle.transyt_equisat.specs.Balance.{first_from, first_more, need_at}
+use Rattle.transyt_equisat.specs.Balance.{first_green, first_more, need_at}
 use Rattle.transyt_equisat.specs.Asked.{asked_of}
-use Rattle.transyt_equisat.specs.Sharing.{degree_at, IsUnder, IsSetting, IsLeastPeak}
+use Rattle.transyt_equisat.specs.Sharing.{degree_at, IsUnder, IsLeastPeak}
+use Rattle.transyt_equisat.proofs.SettingLaws.{IsSetting}
 use Rattle.transyt_equisat.proofs.FractionLaws.{at_most, at_most-trans}
-use Rattle.transyt_equisat.proofs.DemandLaws.{positive, below_lower}
-use Rattle.transyt_equisat.proofs.SearchLaws.{first_bounds, first_least}
-use Rattle.transyt_equisat.proofs.SharingLaws.{le_or_lt}
-use Rattle.transyt_equisat.proofs.PeakLaws.{peak_passes, peak_base, under_peak}
-use Rattle.transyt_equisat.proofs.PlanFits.{zero_or_more, one_shorter}
-use Rattle.transyt_equisat.proofs.AskedLaws.{need_asked}
+use Rattle.transyt_equisat.proofs.DemandLaws.{below_lower}
+use Rattle.transyt_equisat.proofs.PeakLaws.{links_pass, peak_passes, peak_base, under_peak}
+use Rattle.transyt_equisat.proofs.PlanFits.{one_shorter}
+use Rattle.transyt_equisat.proofs.AskedLaws.{first_parts}
 use Rattle.transyt_equisat.proofs.FilledLaws.{filled_passes, demand_live}
 
 -- the needs of the stages
@@ -52,11 +51,11 @@ module _ (net : Network) (n : NodeValue) (v : Fraction) (setting : IsSetting net
             let more = mul-le-mul_left (d.flow * steps * d.saturation) longer in
             let none : d.flow * steps * d.saturation ≡ 0 = omega (arith, all, more) in
             let top : v.top * (d.saturation * steps) ≤ d.flow * steps * v.base = up in
-            let some = positive v.top (d.saturation * steps) above (positive d.saturation steps live setting.steps.0) in
+            let some = mul-pos above (mul-pos live setting.steps.0) in
             let flow : 0 < d.flow * steps * v.base = omega (arith, top, some) in
-            elim (zero_or_more (d.flow * steps)) [
-              | inl no_flow ↦ let product = ap (λ m. m * v.base) no_flow in omega arith
-              | inr some_flow ↦ let product = positive (d.flow * steps) d.saturation some_flow live in omega arith
+            elim (eq-zero-or-pos (d.flow * steps)) [
+              | inl no_flow ↦ omega (arith, ap (λ m. m * v.base) no_flow)
+              | inr some_flow ↦ omega (arith, mul-pos some_flow live)
             ]
             )
       ]
@@ -67,32 +66,29 @@ module _ (net : Network) (n : NodeValue) (v : Fraction) (setting : IsSetting net
       × (is_above v (degree_at (asked_of net n) (needs_of net n v) k) ≡ true)
   need_parts es k fits under inside =
       let steps = net.frame.step_count in
-      let asks : Demand = get_or (asked_of net n).demands k no_demand in
-      let least : ℕ = (stage_of n.stages k).least in
-      let test : ℕ → Bool = λ e. is_above v (degree_of steps asks e) in
+      let test : Fraction → Bool = λ d. is_above v d in
       let some : nat_eq v.top 0 ≡ false = grind (arith, nat_tests, above) in
-      let at : get_or (needs_of net n v) k 0 ≡ first_from test least (steps - least) =
-      get_or-map-range_with_len (need_at net n v) 0 (length n.stages) k k 0 inside (omega arith)
-      ∙ need_asked net n v k setting inside ∙ ap (λ b. cond b 0 (first_from test least (steps - least))) some in
+      let at : get_or (needs_of net n v) k 0 ≡ first_green net n test k =
+      get_or-map-range_with_len (need_at net n v) 0 (length n.stages) k k 0 inside (omega arith) ∙ rw some in
       let short = one_shorter steps n.stages es k fits setting.stages.0 setting.least inside in
-      let low : least ≤ steps = omega (arith, fits.least k inside, short) in
-      let first = first_least test least (steps - least) steps low (omega arith) (whole_below es k fits under inside) in
-      let bounds = first_bounds test least (steps - least) in
-      (omega (arith, at, bounds.0), ap test at ∙ first.1)
+      let first = first_parts net n setting test (below_lower v above) k steps inside
+      (omega (arith, fits.least k inside, short)) (omega arith) (whole_below es k fits under inside) in
+      rw at (first.0, first.2)
 
   -- needs and intergreens don't fit into the cycle
   pub needs_exceed : net.frame.step_count < sum (needs_of net n v) + lost n.stages
   needs_exceed =
       let (es, fits, under) = peak_is.reached in
       let ms : List ℕ = needs_of net n v in
-      elim (le_or_lt (sum ms + lost n.stages) net.frame.step_count) [
-        | inr more ↦ more
-        | inl room ↦ absurd (
+      elim (cases_lt net.frame.step_count (sum ms + lost n.stages)) [
+        | inl more ↦ more
+        | inr room ↦ absurd (
             let gs : List ℕ = first_more (net.frame.step_count - (sum ms + lost n.stages)) ms in
             let (full, below) = filled_passes net n setting (λ d. is_above v d) (below_lower v above) ms
             (length-map-range_with_len (need_at net n v) 0 (length n.stages))
             (λ k inside. (need_parts es k fits under inside).0) (λ k inside. (need_parts es k fits under inside).1) room in
-            let low = peak_passes net n setting (λ d. is_above v d) (below_lower v above) gs full below in
+            let low = peak_passes net n setting (λ d. is_above v d) (below_lower v above) gs
+            (links_pass net n setting (λ d. is_above v d) (below_lower v above) gs full below) in
             let high = peak_is.least (peak net n.number gs) gs (peak_base net n setting gs full) full (under_peak net n setting gs full) in
             cc (low, high)
             )

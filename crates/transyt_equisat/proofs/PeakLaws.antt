@@ -1,8 +1,10 @@
 -- The peak over the counted links is that over what the stages ask.
 use Rattle.std.proofs.Common.{◌≡◌, ℕ, ◌+◌, ◌-◌, ◌<◌, ◌≤◌, Bool, true, false, not, nat_eq, List, All, map, length}
 use Rattle.std.proofs.Common.{sym, ◌∙◌, ap, arith, get_or}
+use Rattle.std.proofs.Math.Nat.{mul-pos}
 use Rattle.std.proofs.lemmas.Bool.{not-true, and_parts, and_from}
-use Rattle.std.proofs.lemmas.List.Elements.{All-weaker}
+use Rattle.std.specs.List.{filter}
+use Rattle.std.proofs.lemmas.List.Sums.{AllPass-from_list_all, list_all-from_AllPass}
 use Rattle.std.proofs.lemmas.List.FromFn.{get_or-map-range_with_len, length-map-range_with_len}
 use Rattle.std.proofs.lemmas.Bool.Decides.{nat_tests}
 use Rattle.transyt_parts.specs.Parts.{LinkValue, NodeValue}
@@ -10,14 +12,15 @@ use Rattle.transyt_net.specs.Parts.{Network}
 use Rattle.transyt_equisat.specs.declared.fraction.Fraction.{Fraction}
 use Rattle.transyt_equisat.specs.declared.demand.Demand.{Demand}
 use Rattle.transyt_equisat.specs.Fractions.{is_above, nothing}
-use Rattle.transyt_equisat.specs.Degrees.{is_counted, counts_in, counted, degree, first_stage}
+use Rattle.transyt_equisat.specs.Degrees.{is_counted, counts_in, degree, first_stage}
 use Rattle.transyt_equisat.specs.Demands.{degree_of, demand_in, demands_of, no_demand}
 use Rattle.transyt_equisat.specs.Peaks.{Fits, green_of, peak}
 use Rattle.transyt_equisat.specs.Asked.{asked_of}
-use Rattle.transyt_equisat.specs.Sharing.{degree_at, IsUnder, IsSetting}
-use Rattle.transyt_equisat.proofs.DemandLaws.{IsLower, positive, stage_tested, not_above_lower}
-use Rattle.transyt_equisat.proofs.ExtremeLaws.{greatest_from, all_under}
-use Rattle.transyt_equisat.proofs.FilterLaws.{all_picked, picked_all, all_mapped, mapped_all}
+use Rattle.transyt_equisat.specs.Sharing.{degree_at, IsUnder}
+use Rattle.transyt_equisat.proofs.SettingLaws.{IsSetting}
+use Rattle.transyt_equisat.proofs.DemandLaws.{IsLower, stage_tested, not_above_lower}
+use Rattle.transyt_equisat.proofs.ExtremeLaws.{extreme_has, all_under}
+use Rattle.transyt_equisat.proofs.FilterLaws.{picked_each, each_picked, all_mapped, mapped_all}
 
 -- what the stage at a place asks
 pub demand_there : (net : Network) (number count k : ℕ) → k < count
@@ -70,8 +73,9 @@ module _ (net : Network) (n : NodeValue) (setting : IsSetting net n) where
       let asked : test (degree_of net.frame.step_count (demand_in net n.number (k + 1)) e) ≡ true =
       ap (λ (d : Demand). test (degree_of net.frame.step_count d e)) (sym (demand_there net n.number (length n.stages) k inside))
       ∙ pass k inside in
-      all_picked (λ l. test (degree net.frame.step_count l e)) (counts_in n.number (k + 1)) net.links
-      (stage_tested test lower net n.number (k + 1) e (green_alive es fits k inside) setting.live ∙ asked)
+      picked_each (λ l. test (degree net.frame.step_count l e) ≡ true) (counts_in n.number (k + 1)) net.links
+      (AllPass-from_list_all (λ l. test (degree net.frame.step_count l e)) (filter (counts_in n.number (k + 1)) net.links)
+      (stage_tested test lower net n.number (k + 1) e (green_alive es fits k inside) setting.live ∙ asked))
       i d there (counts_there n.number l counts stage.0)
 
   -- and the other way round
@@ -87,32 +91,33 @@ module _ (net : Network) (n : NodeValue) (setting : IsSetting net n) where
       ap (λ j. test (degree net.frame.step_count l (get_or es j 0))) (sym place) ∙ pass i d there both.0 in
       ap (λ (d : Demand). test (degree_of net.frame.step_count d e)) (demand_there net n.number (length n.stages) k inside)
       ∙ sym (stage_tested test lower net n.number (k + 1) e (green_alive es fits k inside) setting.live)
-      ∙ picked_all (λ l. test (degree net.frame.step_count l e)) (counts_in n.number (k + 1)) net.links each
+      ∙ list_all-from_AllPass (λ l. test (degree net.frame.step_count l e)) (filter (counts_in n.number (k + 1)) net.links)
+      (each_picked (λ l. test (degree net.frame.step_count l e) ≡ true) (counts_in n.number (k + 1)) net.links each)
 
-  -- a lower test that each stage passes, the peak passes
-  pub peak_passes : (test : Fraction → Bool) → IsLower test → (es : List ℕ) → Fits net.frame.step_count n.stages es
-      → StagesPass test net n es → test (peak net n.number es) ≡ true
-  peak_passes test lower es fits pass =
+  -- a lower test that each counted link passes, the peak passes
+  pub peak_passes : (test : Fraction → Bool) → IsLower test → (es : List ℕ) → LinksPass test net n es
+      → test (peak net n.number es) ≡ true
+  peak_passes test lower es pass =
       let deg : LinkValue → Fraction = λ l. degree net.frame.step_count l (green_of es l) in
-      greatest_from (λ d. test d ≡ true) (map deg (counted net n.number)) nothing (lower.none 0 1 (omega arith))
-      (all_mapped (λ d. test d ≡ true) deg (is_counted n.number) net.links (links_pass test lower es fits pass))
+      extreme_has is_above (λ d. test d ≡ true) (map deg (filter (is_counted n.number) net.links)) nothing (lower.none 0 1 (omega arith))
+      (all_mapped (λ d. test d ≡ true) deg (is_counted n.number) net.links pass)
 
   -- the degrees of counted links have positive bases
   bases : (es : List ℕ) → Fits net.frame.step_count n.stages es
-      → All (λ d. 0 < d.base) (map (λ l. degree net.frame.step_count l (green_of es l)) (counted net n.number))
+      → All (λ d. 0 < d.base) (map (λ l. degree net.frame.step_count l (green_of es l)) (filter (is_counted n.number) net.links))
   bases es fits =
       all_mapped (λ d. 0 < d.base) (λ l. degree net.frame.step_count l (green_of es l)) (is_counted n.number) net.links (
       λ i d below. λ counts.
       let l : LinkValue = get_or net.links i d in
       let stage = setting.within i d below counts in
-      positive l.saturation (green_of es l) (setting.live i d below)
+      mul-pos {n = green_of es l} (setting.live i d below)
       (green_alive es fits (first_stage l - 1) (omega (arith, stage.0, stage.1)))
       )
 
   -- the base of a peak is positive
   pub peak_base : (es : List ℕ) → Fits net.frame.step_count n.stages es → 0 < (peak net n.number es).base
   peak_base es fits =
-      greatest_from (λ d. 0 < d.base) (map (λ l. degree net.frame.step_count l (green_of es l)) (counted net n.number)) nothing
+      extreme_has is_above (λ d. 0 < d.base) (map (λ l. degree net.frame.step_count l (green_of es l)) (filter (is_counted n.number) net.links)) nothing
       (omega arith) (bases es fits)
 
   -- no stage is above the peak
@@ -122,15 +127,13 @@ module _ (net : Network) (n : NodeValue) (setting : IsSetting net n) where
       let deg : LinkValue → Fraction = λ l. degree net.frame.step_count l (green_of es l) in
       not-true (is_above (degree_at (asked_of net n) es k) top)
       (stages_pass (λ d. not (is_above d top)) (not_above_lower top) es fits
-      (mapped_all (λ d. not (is_above d top) ≡ true) deg (is_counted n.number) net.links
-      (All-weaker (λ d. is_above d top ≡ false) (λ d. not (is_above d top) ≡ true) (λ d is. ap not is)
-      (map deg (counted net n.number))
-      (all_under (map deg (counted net n.number)) nothing (omega arith) (bases es fits)))) k inside)
+      (λ i d there. λ counts. ap not (mapped_all (λ d. is_above d top ≡ false) deg (is_counted n.number) net.links
+      (all_under (map deg (filter (is_counted n.number) net.links)) (bases es fits)) i d there counts)) k inside)
 
   -- where no stage is above v, the peak isn't
   pub peak_under : (es : List ℕ) (v : Fraction) → Fits net.frame.step_count n.stages es → IsUnder (asked_of net n) es v
       → is_above (peak net n.number es) v ≡ false
   peak_under es v fits under =
       not-true (is_above (peak net n.number es) v)
-      (peak_passes (λ d. not (is_above d v)) (not_above_lower v) es fits
-      (λ k inside. ap not (under k inside)))
+      (peak_passes (λ d. not (is_above d v)) (not_above_lower v) es (links_pass (λ d. not (is_above d v)) (not_above_lower v) es fits
+      (λ k inside. ap not (under k inside))))

@@ -1,7 +1,8 @@
 -- The greens of an allowed plan fill the cycle.
 use Rattle.std.proofs.Common.{◌≡◌, ◌≢◌, ℕ, zero, suc, ◌+◌, ◌<◌, ◌≤◌, Bool, true, not, List, [], ◌∷◌, map, length, sum, get_or}
-use Rattle.std.proofs.Common.{sym, ◌∙◌, ap, refl, arith, inl, inr, ◌⊎◌, take, set, None, nat_le, ◌==◌}
+use Rattle.std.proofs.Common.{sym, ◌∙◌, ap, refl, arith, inl, inr, take, set, None, nat_le, ◌==◌}
 use Rattle.std.specs.List.{list_all, range_with_len}
+use Rattle.std.proofs.Math.Nat.{eq-zero-or-pos}
 use Rattle.std.proofs.lemmas.Bool.{leb-true, not-false}
 use Rattle.std.proofs.lemmas.Bool.Decides.{nat_tests}
 use Rattle.std.proofs.lemmas.List.{get_or-map, length-map, take_all, length-set, get_or-set_other}
@@ -106,11 +107,6 @@ all_places test n each =
     ap test (get_or-range_with_len 0 n k d inside ∙ omega arith) ∙ each k inside
     )
 
--- a number is 0 or positive
-pub zero_or_more : (k : ℕ) → (k ≡ 0) ⊎ (0 < k)
-zero_or_more zero = inl refl
-zero_or_more (suc k) = inr (omega arith)
-
 -- a green leaves room for another one
 one_beside : (steps : ℕ) (stages : List Stage) (gs : List ℕ) (k j : ℕ) → Fits steps stages gs → j ≢ k → k < length stages
     → j < length stages → 0 < (stage_of stages j).least → get_or gs k 0 + (stage_of stages k).intergreen < steps
@@ -131,7 +127,7 @@ pub one_shorter : (steps : ℕ) (stages : List Stage) (gs : List ℕ) (k : ℕ) 
     → ((j : ℕ) → j < length stages → 0 < (stage_of stages j).least) → k < length stages
     → get_or gs k 0 + (stage_of stages k).intergreen < steps
 one_shorter steps stages gs k fits two some inside =
-    elim (zero_or_more k) [
+    elim (eq-zero-or-pos k) [
       | inl first ↦
           one_beside steps stages gs k 1 fits (λ same. omega arith) inside (omega arith) (some 1 (omega arith))
       | inr later ↦

@@ -1,18 +1,29 @@
 -- What the balance of a node stands on holds in a valid network.
-use Rattle.std.proofs.Common.{◌≡◌, ℕ, zero, suc, ◌<◌, true, false, not, nat_eq, List, [], ◌∷◌, length, get_or, cond}
+use Rattle.std.proofs.Common.{◌≡◌, ℕ, zero, suc, ◌<◌, ◌≤◌, All, true, false, not, nat_eq, List, [], ◌∷◌, length, get_or}
 use Rattle.std.proofs.Common.{◌∙◌, ap, refl, arith, Some, None}
 use Rattle.std.specs.List.{list_any}
 use Rattle.std.proofs.lemmas.Bool.{not-true, and_parts, or_parts}
 use Rattle.std.proofs.lemmas.Bool.Decides.{nat_tests}
 use Rattle.transyt_parts.specs.Parts.{NodeValue, LinkValue}
-use Rattle.transyt_parts.specs.Plan.{plan_fault, no_stage}
+use Rattle.transyt_parts.specs.Plan.{stage_of, plan_fault, no_stage}
 use Rattle.transyt_parts.specs.Valid.{all_differ, node_number, IsNode}
 use Rattle.transyt_net.specs.Parts.{Network, node_of, no_node}
 use Rattle.transyt_net.specs.Valid.{IsValid, IsLink, numbered, stages_at, stage_total, node_numbers, link_numbers}
 use Rattle.transyt_net.proofs.PlaceLaws.{eq_swapped}
 use Rattle.transyt_equisat.specs.Degrees.{is_counted}
-use Rattle.transyt_equisat.specs.Sharing.{IsSetting}
+use Rattle.transyt_equisat.specs.Peaks.{Fits, greens_of}
+use Rattle.transyt_equisat.specs.Sharing.{AreWithin}
 use Rattle.transyt_equisat.proofs.PlanFits.{plan_fits, plan_parts}
+
+-- the conditions of a node's balance in a valid network
+pub record IsSetting (net : Network) (n : NodeValue) : Type 0 where
+  pub steps : (0 < net.frame.step_count) × (net.frame.step_count ≤ 120)
+  pub stages : (2 ≤ length n.stages) × (length n.stages ≤ 8)
+  pub change : (stage_of n.stages 0).change < net.frame.step_count
+  pub least : (k : ℕ) → k < length n.stages → 0 < (stage_of n.stages k).least
+  pub live : All (λ l. 0 < l.saturation) net.links
+  pub within : AreWithin n.number (length n.stages) net.links
+  pub own : Fits net.frame.step_count n.stages (greens_of net.frame.step_count n.stages)
 
 -- a number that is none of these differs from each
 differs : (nodes : List NodeValue) (k p : ℕ) (d : NodeValue) → list_any (nat_eq k) (node_numbers nodes) ≡ false → p < length nodes
@@ -28,13 +39,12 @@ pub numbered_self : (nodes : List NodeValue) (p : ℕ) (d : NodeValue) → all_d
 numbered_self [] p d differ inside = absurd (omega arith)
 numbered_self (n ∷ ns) zero d differ inside =
     let same : nat_eq n.number n.number ≡ true = grind (arith, nat_tests) in
-    ap (λ b. cond b (Some n) (numbered node_number ns n.number)) same
+    rw same
 numbered_self (n ∷ ns) (suc p) d differ inside =
     let both = and_parts (not (list_any (nat_eq n.number) (node_numbers ns))) (all_differ (node_numbers ns)) differ in
     let other = eq_swapped n.number (get_or ns p d).number
     (differs ns n.number p d (not-true (list_any (nat_eq n.number) (node_numbers ns)) both.0) (omega arith)) in
-    ap (λ b. cond b (Some n) (numbered node_number ns (get_or ns p d).number)) other
-    ∙ numbered_self ns p d both.1 (omega arith)
+    rw other (numbered_self ns p d both.1 (omega arith))
 
 -- a counted link has one stage, and runs at the node
 counted_parts : (number : ℕ) (l : LinkValue) → is_counted number l ≡ true → (l.node ≡ number) × (length l.stages ≡ 1)

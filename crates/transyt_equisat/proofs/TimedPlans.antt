@@ -1,16 +1,14 @@
 -- Greens that fill the cycle are those of an allowed plan: its changes come one length after another.
-use Rattle.std.proofs.Common.{◌≡◌, ◌≢◌, ℕ, zero, suc, ◌+◌, ◌%◌, ◌<◌, ◌≤◌, Bool, true, false, not, List, map, length, sum, get_or}
-use Rattle.std.proofs.Common.{sym, ◌∙◌, ap, refl, subst, arith, inl, inr, take, None, Some, nat_le, cond, ◌==◌, if◌then◌else◌}
-use Rattle.std.proofs.lemmas.Bool.{cases_Bool}
+use Rattle.std.proofs.Common.{◌≡◌, ℕ, zero, suc, ◌+◌, ◌%◌, ◌<◌, ◌≤◌, true, List, map, length, sum, get_or}
+use Rattle.std.proofs.Common.{sym, ◌∙◌, ap, arith, inl, inr, take, nat_le, ◌==◌}
+use Rattle.std.proofs.lemmas.Bool.{cases_Bool, le-leb, eq-eqb}
 use Rattle.std.proofs.lemmas.Bool.Decides.{nat_tests}
 use Rattle.std.proofs.lemmas.List.{take_all}
 use Rattle.std.proofs.lemmas.List.Sums.{sum_by_more}
 use Rattle.std.proofs.lemmas.List.FromFn.{fill_by_all}
 use Rattle.std.proofs.Math.Nat.{mod-add-mod, add-mod_right, mod-eq_of_lt}
-use Rattle.transyt_cycle.specs.Cycle.{minus_mod}
 use Rattle.transyt_cycle.proofs.CycleLaws.{minus_mod-of_add}
 use Rattle.transyt_parts.specs.declared.node.Stage.{Stage}
-use Rattle.transyt_parts.specs.declared.stage_plan.PlanFault.TheVariants.{FewStages, StageOrder, LeastGreen}
 use Rattle.transyt_parts.specs.Shape.{bare_stage}
 use Rattle.transyt_parts.specs.Plan.{stage_of, no_stage, length_at, stage_lengths, in_order, has_green, have_greens, place_after}
 use Rattle.transyt_equisat.specs.Peaks.{Fits, lost, green_at, greens_of, IsPlanOf}
@@ -35,10 +33,7 @@ change_sum steps stages gs (suc k) count first inside =
     ≡ before % steps + (get_or gs k 0 + (stage_of stages k).intergreen) = omega arith in
     let all : before + (get_or gs k 0 + (stage_of stages k).intergreen)
     ≡ c + (sum (take (suc k) gs) + lost (take (suc k) stages)) = omega (arith, greens, gaps) in
-    ap (λ n. (n + get_or gs k 0 + (stage_of stages k).intergreen) % steps) here
-    ∙ ap (λ n. n % steps) split
-    ∙ mod-add-mod before steps (get_or gs k 0 + (stage_of stages k).intergreen)
-    ∙ ap (λ n. n % steps) all
+    rw (here, split) (mod-add-mod before steps (get_or gs k 0 + (stage_of stages k).intergreen) ∙ ap (λ n. n % steps) all)
 
 -- behind the last stage stands the change of the first
 pub change_round : (steps : ℕ) (stages : List Stage) (gs : List ℕ) → Fits steps stages gs
@@ -60,9 +55,8 @@ change_after steps stages gs k fits first inside =
     elim (cases_Bool (k + 1 == length stages)) [
       | inl last ↦
           let same : k + 1 ≡ length stages = grind (arith, nat_tests, last) in
-          ap (λ b. change_at steps stages gs (cond b 0 (k + 1))) last
-          ∙ sym (change_round steps stages gs fits first) ∙ ap (change_at steps stages gs) (sym same)
-      | inr before ↦ ap (λ b. change_at steps stages gs (cond b 0 (k + 1))) before
+          rw (last, same) (sym (change_round steps stages gs fits first))
+      | inr before ↦ rw before
     ]
 
 -- stages whose changes are those of greens
@@ -72,13 +66,7 @@ pub record AreTimed (steps : ℕ) (stages : List Stage) (gs : List ℕ) (plan : 
       → stage_of plan k ≡ record (stage_of stages k) { change = change_at steps stages gs k }
 
 place_after_inside : (count k : ℕ) → k < count → place_after count k < count
-place_after_inside count k inside =
-    elim (cases_Bool (k + 1 == count)) [
-      | inl last ↦ subst (λ (b : Bool). cond b 0 (k + 1) < count) (sym last) (omega arith)
-      | inr before ↦
-          let other : k + 1 ≢ count = grind (arith, nat_tests, before) in
-          subst (λ (b : Bool). cond b 0 (k + 1) < count) (sym before) (omega arith)
-    ]
+place_after_inside count k inside = grind (arith, nat_tests)
 
 -- the length of a stage of such a plan
 pub timed_length : (steps : ℕ) (stages : List Stage) (gs : List ℕ) (plan : List Stage) (k : ℕ) → AreTimed steps stages gs plan
@@ -89,18 +77,14 @@ timed_length steps stages gs plan k timed fits two first some inside =
     let len : ℕ = get_or gs k 0 + (stage_of stages k).intergreen in
     let short = one_shorter steps stages gs k fits two some inside in
     let next : ℕ = place_after (length stages) k in
-    let to : (stage_of plan (place_after (length plan) k)).change ≡ change_at steps stages gs (k + 1) =
-    ap (λ n. (stage_of plan (place_after n k)).change) timed.count
-    ∙ ap (λ (s : Stage). s.change) (timed.each next (place_after_inside (length stages) k inside))
+    let to : (stage_of plan next).change ≡ change_at steps stages gs (k + 1) =
+    ap (λ (s : Stage). s.change) (timed.each next (place_after_inside (length stages) k inside))
     ∙ change_after steps stages gs k fits first inside in
-    let from : (stage_of plan k).change ≡ change_at steps stages gs k =
-    ap (λ (s : Stage). s.change) (timed.each k inside) in
+    let from : (stage_of plan k).change ≡ change_at steps stages gs k = ap (λ (s : Stage). s.change) (timed.each k inside) in
     let suc_k : k + 1 ≡ suc k = omega arith in
     let split : (change_at steps stages gs k + get_or gs k 0 + (stage_of stages k).intergreen)
     ≡ len + change_at steps stages gs k = omega arith in
-    ap (λ a. minus_mod steps a (stage_of plan k).change) (to ∙ ap (change_at steps stages gs) suc_k ∙ ap (λ n. n % steps) split)
-    ∙ ap (minus_mod steps ((len + change_at steps stages gs k) % steps)) from
-    ∙ minus_mod-of_add steps len (change_at steps stages gs k) short
+    rw (timed.count, to, from, suc_k, split) (minus_mod-of_add steps len (change_at steps stages gs k) short)
 
 -- such a plan has these greens
 pub timed_greens : (steps : ℕ) (stages : List Stage) (gs : List ℕ) (plan : List Stage) → AreTimed steps stages gs plan
@@ -115,19 +99,6 @@ timed_greens steps stages gs plan timed fits two first some =
     let gap = ap (λ (s : Stage). s.intergreen) (timed.each k inside) in
     omega (arith, len, gap)
     ))
-
-true_le : (a b : ℕ) → a ≤ b → nat_le a b ≡ true
-true_le a b h = grind (arith, nat_tests, h)
-
-true_eq : (a b : ℕ) → a ≡ b → (a == b) ≡ true
-true_eq a b h = grind (arith, nat_tests, h)
-
-no_fault_here : (few order long : Bool) → few ≡ true → order ≡ true → long ≡ true
-    → (if not few then Some FewStages else if not order then Some StageOrder else if not long then Some LeastGreen else None) ≡ None
-no_fault_here true true true a b c = refl
-no_fault_here true true false a b c = absurd (cc)
-no_fault_here true false long a b c = absurd (cc)
-no_fault_here false order long a b c = absurd (cc)
 
 -- and is allowed
 pub timed_allowed : (steps : ℕ) (stages : List Stage) (gs : List ℕ) (plan : List Stage) → AreTimed steps stages gs plan
@@ -146,11 +117,8 @@ timed_allowed steps stages gs plan timed fits two first some same =
     let gaps : lost plan ≡ lost stages = sym (lost_bare plan) ∙ ap lost same ∙ lost_bare stages in
     let total : sum (stage_lengths steps plan) ≡ steps =
     omega (arith, lengths_sum steps plan (λ k inside. omega (arith, room k inside)), ap sum greens, gaps, fits.fills) in
-    let few : nat_le 2 (length plan) ≡ true = true_le 2 (length plan) (omega (arith, timed.count)) in
-    let order : in_order steps plan ≡ true = true_eq (sum (stage_lengths steps plan)) steps total in
+    let few : nat_le 2 (length plan) ≡ true = le-leb 2 (length plan) (omega (arith, timed.count)) in
+    let order : in_order steps plan ≡ true = eq-eqb (sum (stage_lengths steps plan)) steps total in
     let long : have_greens steps plan ≡ true =
-    all_places (has_green steps plan) (length plan) (λ k below. true_le _ _ (room k below)) in
-    record {
-      same = same;
-      allowed = no_fault_here (nat_le 2 (length plan)) (in_order steps plan) (have_greens steps plan) few order long;
-    }
+    all_places (has_green steps plan) (length plan) (λ k below. le-leb _ _ (room k below)) in
+    record { same = same; allowed = rw (few, order, long) }

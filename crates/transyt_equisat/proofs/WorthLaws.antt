@@ -2,6 +2,7 @@
 use Rattle.std.proofs.Common.{◌≡◌, ℕ, ◌*◌, ◌<◌, List, map, length, sum}
 use Rattle.std.proofs.Common.{sym, ◌∙◌, ap, refl, subst, arith, get_or, inl, inr}
 use Rattle.std.specs.List.{range_with_len}
+use Rattle.std.proofs.Math.Nat.{mul-pos, eq-zero-or-pos}
 use Rattle.std.proofs.lemmas.List.{ext_get_or, length-map, get_or-map}
 use Rattle.std.proofs.lemmas.Simd.{map-map}
 use Rattle.std.proofs.lemmas.List.FromFn.{fill_by_all, length-map-range_with_len, get_or-map-range_with_len}
@@ -17,15 +18,14 @@ use Rattle.transyt_equisat.specs.Fractions.{AtMost, IsSame}
 use Rattle.transyt_equisat.specs.Peaks.{peak, greens_of}
 use Rattle.transyt_equisat.specs.Balance.{greens_at, share_at, balance_at, balance, least_peak, timed, no_share, peak_told, IsBalanced}
 use Rattle.transyt_equisat.specs.Asked.{asked_of}
-use Rattle.transyt_equisat.specs.Sharing.{IsSetting, IsLeastPeak}
+use Rattle.transyt_equisat.specs.Sharing.{IsLeastPeak}
 use Rattle.transyt_equisat.proofs.FractionLaws.{at_most, at_most-trans}
-use Rattle.transyt_equisat.proofs.DemandLaws.{positive}
 use Rattle.transyt_equisat.proofs.PeakLaws.{peak_base, under_peak}
-use Rattle.transyt_equisat.proofs.PlanFits.{plan_fits, zero_or_more}
+use Rattle.transyt_equisat.proofs.PlanFits.{plan_fits}
 use Rattle.transyt_equisat.proofs.TimedPlans.{AreTimed, timed_greens, timed_allowed}
 use Rattle.transyt_equisat.proofs.LeastLaws.{least_is_least, least_same}
 use Rattle.transyt_equisat.proofs.AlikeLaws.{one_answer}
-use Rattle.transyt_equisat.proofs.SettingLaws.{setting_of}
+use Rattle.transyt_equisat.proofs.SettingLaws.{IsSetting, setting_of}
 use Rattle.transyt_equisat.proofs.GreensLaws.{greens_hold, greens_peak, AreGreens}
 use Rattle.transyt_equisat.proofs.ReachedLaws.{told, same-trans}
 use Rattle.transyt_equisat.proofs.NeedsLaws.{needs_exceed, needs_of}
@@ -75,8 +75,8 @@ needs_told net n v =
 
 top_above : (a b : Fraction) → IsSame a b → 0 < b.base → 0 < a.top → 0 < b.top
 top_above a b same base above =
-    elim (zero_or_more b.top) [
-      | inl none ↦ absurd (let more = positive a.top b.base above base in omega (arith, same, ap (λ n. n * a.base) none))
+    elim (eq-zero-or-pos b.top) [
+      | inl none ↦ absurd (omega (arith, mul-pos above base, same, ap (λ n. n * a.base) none))
       | inr some ↦ some
     ]
 

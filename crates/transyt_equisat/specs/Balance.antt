@@ -1,15 +1,17 @@
 -- The balance of a node: the plan whose greatest degree of saturation is least. Times are in steps.
-use Rattle.std.specs.Prelude.{ℕ, zero, suc, ◌+◌, ◌-◌, ◌*◌, ◌%◌, Bool, not, nat_eq, List, [], ◌∷◌, map, sum, length}
+use Rattle.std.specs.Prelude.{ℕ, zero, suc, ◌+◌, ◌-◌, ◌*◌, ◌%◌, Bool, not, ◌&&◌, nat_eq, List, [], ◌∷◌, map, sum, length}
 use Rattle.std.specs.Prelude.{◌≡◌, ◌<◌, slice_index, slice_index_or, slice_set, Option, Some, None, if◌then◌else◌}
-use Rattle.std.specs.List.{list_all, range_with_len, find, fold, flat_map}
+use Rattle.std.specs.List.{list_all, filter, range_with_len, find, fold, flat_map}
 use Rattle.transyt_parts.specs.declared.node.Stage.{Stage}
 use Rattle.transyt_parts.specs.Parts.{NodeValue, LinkValue}
 use Rattle.transyt_parts.specs.Plan.{stage_of}
+use Rattle.transyt_parts.specs.Flow.{total_flow}
 use Rattle.transyt_net.specs.Parts.{Network, node_of}
 use Rattle.transyt_equisat.specs.declared.fraction.Fraction.{Fraction}
 use Rattle.transyt_equisat.specs.declared.greens.Share.{Share}
+use Rattle.transyt_equisat.specs.declared.balancing.Told.{Told}
 use Rattle.transyt_equisat.specs.Fractions.{is_above, nothing, AtMost, IsSame}
-use Rattle.transyt_equisat.specs.Degrees.{counted, counted_in, degree}
+use Rattle.transyt_equisat.specs.Degrees.{is_counted, counts_in, degree}
 use Rattle.transyt_equisat.specs.Peaks.{lost, green_of, peak, greens_of, IsPlanOf}
 use Rattle.transyt_equisat.specs.Answer.{GreensValue}
 
@@ -21,14 +23,10 @@ all_greens (s ∷ ss) left =
     flat_map (λ e. map (λ es. e ∷ es) (all_greens ss (left - (e + s.intergreen))))
     (range_with_len s.least (left + 1 - (s.least + s.intergreen)))
 
--- the lesser of two fractions, the first where they are equal
-abbrev pub lesser : Fraction → Fraction → Fraction
-lesser a b = if is_above a b then b else a
-
--- the least of these
+-- the least of these, the first where some are equal
 abbrev pub least_of : List Fraction → Fraction
 least_of [] = nothing
-least_of (d ∷ ds) = fold lesser d ds
+least_of (d ∷ ds) = fold (λ a b. if is_above a b then b else a) d ds
 
 -- the least peak of all greens that fill the cycle
 abbrev pub least_peak : Network → NodeValue → Fraction
@@ -39,11 +37,15 @@ abbrev pub first_from : (ℕ → Bool) → ℕ → ℕ → ℕ
 first_from test e zero = e
 first_from test e (suc n) = if test e then e else first_from test (e + 1) n
 
+-- the first green of the stage at a place, from its least on, at which the degree of each of its counted links passes
+abbrev pub first_green : Network → NodeValue → (Fraction → Bool) → ℕ → ℕ
+first_green net n test k =
+    first_from (λ e. list_all (λ l. test (degree net.frame.step_count l e)) (filter (counts_in n.number (k + 1)) net.links))
+    (stage_of n.stages k).least (net.frame.step_count - (stage_of n.stages k).least)
+
 -- the least green of the stage at a place at which none of its counted links is above v
 abbrev pub least_green : Network → NodeValue → Fraction → ℕ → ℕ
-least_green net n v k =
-    first_from (λ e. list_all (λ l. not (is_above (degree net.frame.step_count l e) v)) (counted_in net n.number (k + 1)))
-    (stage_of n.stages k).least (net.frame.step_count - (stage_of n.stages k).least)
+least_green net n v k = first_green net n (λ d. not (is_above d v)) k
 
 -- these greens, with so many steps more for the first
 abbrev pub first_more : ℕ → List ℕ → List ℕ
@@ -60,10 +62,7 @@ greens_at net n v =
 
 -- the need of the stage at a place: the least green at which each of its counted links is below v; 0 where v is 0
 abbrev pub need_at : Network → NodeValue → Fraction → ℕ → ℕ
-need_at net n v k =
-    if nat_eq v.top 0 then 0
-    else first_from (λ e. list_all (λ l. is_above v (degree net.frame.step_count l e)) (counted_in net n.number (k + 1)))
-    (stage_of n.stages k).least (net.frame.step_count - (stage_of n.stages k).least)
+need_at net n v k = if nat_eq v.top 0 then 0 else first_green net n (λ d. is_above v d) k
 
 -- the change of the stage at a place: that of the first stays, each other comes a length behind the one before
 abbrev pub change_at : ℕ → List Stage → List ℕ → ℕ → ℕ
@@ -75,36 +74,35 @@ change_at steps stages greens (suc k) =
 abbrev pub is_same : Fraction → Fraction → Bool
 is_same a b = nat_eq (a.top * b.base) (b.top * a.base)
 
--- the first counted link whose degree at its green is v; none where v is 0
-abbrev pub reaching : Network → NodeValue → Fraction → List ℕ → Option LinkValue
-reaching net n v greens =
-    if nat_eq v.top 0 then None
-    else find (λ l. is_same (degree net.frame.step_count l (green_of greens l)) v) (counted net n.number)
+-- whether a link counts at the node of a number, and has the degree v at its green
+abbrev pub reaches : Network → ℕ → Fraction → List ℕ → LinkValue → Bool
+reaches net number v greens l = is_counted number l && is_same (degree net.frame.step_count l (green_of greens l)) v
 
--- the degree of a link that was found; 0 where none was
-abbrev pub degree_found : ℕ → List ℕ → Option LinkValue → Fraction
-degree_found steps greens None = nothing
-degree_found steps greens (Some l) = degree steps l (green_of greens l)
+-- the first link that reaches v; none where v is 0
+abbrev pub reaching : Network → ℕ → Fraction → List ℕ → Option LinkValue
+reaching net number v greens = if nat_eq v.top 0 then None else find (reaches net number v greens) net.links
 
--- the number of a link that was found; 0 where none was
-abbrev pub number_found : Option LinkValue → ℕ
-number_found None = 0
-number_found (Some l) = l.number
+-- the degree and number of a link that was found; 0 where none was
+abbrev pub told_of : ℕ → List ℕ → Option LinkValue → Told
+told_of steps greens None = record { top = 0; base = 1; link = 0 }
+told_of steps greens (Some l) =
+    record { top = total_flow l * steps; base = l.saturation * green_of greens l; link = l.number }
 
--- the share of the stage at a place
+-- the share of the stage at a place, with these greens and needs
+abbrev pub share_of : ℕ → List Stage → List ℕ → (ℕ → ℕ) → ℕ → Share
+share_of steps stages greens need k =
+    record { change = change_at steps stages greens k; green = slice_index greens k; need = need k }
+
+-- its share for a peak and greens
 abbrev pub share_at : Network → NodeValue → Fraction → List ℕ → ℕ → Share
-share_at net n v greens k = record {
-  change = change_at net.frame.step_count n.stages greens k;
-  green = slice_index greens k;
-  need = need_at net n v k;
-}
+share_at net n v greens k = share_of net.frame.step_count n.stages greens (need_at net n v) k
 
 -- the answer for a peak and greens
 abbrev pub answer_of : Network → NodeValue → Fraction → List ℕ → GreensValue
 answer_of net n v greens = record {
-  top = (degree_found net.frame.step_count greens (reaching net n v greens)).top;
-  base = (degree_found net.frame.step_count greens (reaching net n v greens)).base;
-  link = number_found (reaching net n v greens);
+  top = (told_of net.frame.step_count greens (reaching net n.number v greens)).top;
+  base = (told_of net.frame.step_count greens (reaching net n.number v greens)).base;
+  link = (told_of net.frame.step_count greens (reaching net n.number v greens)).link;
   stages = map (share_at net n v greens) (range_with_len 0 (length n.stages));
 }
 

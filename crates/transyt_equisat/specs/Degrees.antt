@@ -1,9 +1,7 @@
 -- The links that count at a node, and their degrees of saturation.
-use Rattle.std.specs.Prelude.{ℕ, ◌*◌, Bool, ◌&&◌, nat_eq, List, length, slice_index_or}
-use Rattle.std.specs.List.{filter}
+use Rattle.std.specs.Prelude.{ℕ, ◌*◌, Bool, ◌&&◌, nat_eq, length, slice_index_or}
 use Rattle.transyt_parts.specs.Parts.{LinkValue}
 use Rattle.transyt_parts.specs.Flow.{total_flow}
-use Rattle.transyt_net.specs.Parts.{Network}
 use Rattle.transyt_equisat.specs.declared.fraction.Fraction.{Fraction}
 
 -- whether a link counts at the node of a number: it runs there, and in exactly one stage
@@ -17,14 +15,6 @@ first_stage l = slice_index_or l.stages 0 0
 -- whether a link counts in a stage of the node of a number
 abbrev pub counts_in : ℕ → ℕ → LinkValue → Bool
 counts_in number stage l = is_counted number l && nat_eq (first_stage l) stage
-
--- the counted links of a node, in card order
-abbrev pub counted : Network → ℕ → List LinkValue
-counted net number = filter (is_counted number) net.links
-
--- the counted links of a stage, in card order
-abbrev pub counted_in : Network → ℕ → ℕ → List LinkValue
-counted_in net number stage = filter (counts_in number stage) net.links
 
 -- the degree of saturation of a link at a green, in a cycle of so many steps
 abbrev pub degree : ℕ → LinkValue → ℕ → Fraction

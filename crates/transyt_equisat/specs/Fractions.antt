@@ -11,13 +11,9 @@ nothing = record { top = 0; base = 1 }
 abbrev pub is_above : Fraction → Fraction → Bool
 is_above a b = nat_lt (b.top * a.base) (a.top * b.base)
 
--- the greater of two, the first where they are equal
-abbrev pub greater : Fraction → Fraction → Fraction
-greater a b = if is_above b a then b else a
-
--- the greatest of these; 0 where there is none
+-- the greatest of these, the first where some are equal; 0 where there is none
 abbrev pub greatest : List Fraction → Fraction
-greatest ds = fold greater nothing ds
+greatest ds = fold (λ a b. if is_above b a then b else a) nothing ds
 
 -- a is at most b
 abbrev pub AtMost : Fraction → Fraction → Type 0

@@ -1,6 +1,6 @@
 -- The plans of a node by their greens, and their peaks. Greens, intergreens and lengths are in steps.
 use Rattle.std.specs.Prelude.{ℕ, ◌+◌, ◌-◌, ◌≡◌, ◌<◌, ◌≤◌, List, length, map, sum, sum_by, slice_index, None}
-use Rattle.std.specs.List.{range_with_len}
+use Rattle.std.specs.List.{filter, range_with_len}
 use Rattle.transyt_parts.specs.declared.node.Stage.{Stage}
 use Rattle.transyt_parts.specs.Parts.{LinkValue}
 use Rattle.transyt_parts.specs.Plan.{stage_of, length_at, plan_fault}
@@ -8,7 +8,7 @@ use Rattle.transyt_parts.specs.Shape.{bare_stage}
 use Rattle.transyt_net.specs.Parts.{Network}
 use Rattle.transyt_equisat.specs.declared.fraction.Fraction.{Fraction}
 use Rattle.transyt_equisat.specs.Fractions.{greatest}
-use Rattle.transyt_equisat.specs.Degrees.{first_stage, counted, degree}
+use Rattle.transyt_equisat.specs.Degrees.{is_counted, first_stage, degree}
 
 -- the steps of the cycle that intergreens take
 abbrev pub lost : List Stage → ℕ
@@ -27,7 +27,7 @@ green_of greens l = slice_index greens (first_stage l - 1)
 -- the peak of greens at the node of a number: the greatest degree of its counted links, 0 where there is none
 abbrev pub peak : Network → ℕ → List ℕ → Fraction
 peak net number greens =
-    greatest (map (λ l. degree net.frame.step_count l (green_of greens l)) (counted net number))
+    greatest (map (λ l. degree net.frame.step_count l (green_of greens l)) (filter (is_counted number) net.links))
 
 -- the green of the stage at a place: its length less its intergreen
 abbrev pub green_at : ℕ → List Stage → ℕ → ℕ

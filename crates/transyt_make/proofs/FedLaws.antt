@@ -1,32 +1,18 @@
 -- The feeds, link by link.
 use Rattle.std.proofs.Common.{◌≡◌, ℕ, suc, zero, ◌+◌, ◌-◌, ◌*◌, ◌<◌, ◌≤◌, true, false, List, [], ◌∷◌, ◌++◌, map}
-use Rattle.std.proofs.Common.{sym, ap, ◌∙◌}
-use Rattle.std.proofs.Common.{arith, nat_le, append_assoc, Option, Some, None, is_some, if◌then◌else◌}
+use Rattle.std.proofs.Common.{ap, ◌∙◌, arith, append_assoc, Some, None, is_some}
+use Rattle.std.proofs.lemmas.Bool.{cond_both}
+use Rattle.std.proofs.lemmas.Bool.Decides.{nat_tests}
 use Rattle.std.proofs.lemmas.List.FromFn.{map-range_with_len_more}
 use Rattle.std.specs.List.{range_with_len}
 use Rattle.transyt_parts.specs.declared.link.Feed.{Feed}
 use Rattle.transyt_parts.specs.Parts.{LinkValue}
 use Rattle.transyt_parts.specs.Valid.{link_number}
 use Rattle.transyt_net.specs.Parts.{Network}
-use Rattle.transyt_net.specs.Valid.{is_among, link_numbers, feeds_at, feeds_in}
+use Rattle.transyt_net.specs.Valid.{is_among, link_numbers, feeds_at}
 use Rattle.transyt_net.specs.Faults.{with_feed}
-use Rattle.transyt_make.specs.Made.{
-  number_at,
-  side_at,
-  turning,
-  neighbour,
-  bare_link,
-  made_link,
-  bare_from,
-  with_links,
-  with_feeds,
-  with_three,
-  all_names,
-  fed_before,
-  taken_by,
-  feeds_from,
-  feeds_of,
-}
+use Rattle.transyt_make.specs.Made.{number_at, side_at, turning, neighbour, bare_link, made_link, bare_from, with_links}
+use Rattle.transyt_make.specs.Made.{with_feeds, with_three, all_names, fed_before, feeds_from}
 use Rattle.transyt_make.proofs.PlaceLaws.{among, not_among, numbered_last}
 use Rattle.transyt_make.proofs.LinkLaws.{numbers_apart}
 use Rattle.transyt_make.proofs.FeedLaws.{three_middle, numbers_after}
@@ -36,18 +22,12 @@ pub fed_most : (n k : ℕ) → fed_before n k ≤ k
 fed_most n zero = omega arith
 fed_most n (suc k) =
     let before = fed_most n k in
-    (elim (is_some (neighbour n k)) as (λ b. fed_before n k + (if b then 1 else 0) ≤ suc k) [
-      | true ↦ omega (arith, before)
-      | false ↦ omega (arith, before)
-    ])
+    cond_both (is_some (neighbour n k)) 1 0 (λ m. fed_before n k + m ≤ suc k) (λ some. omega (arith, before))
+    (λ none. omega (arith, before))
 
 -- the link that a turn comes from stands first or third
 pub turning_within : (side : ℕ) → (1 ≤ turning side) × (turning side ≤ 3)
-turning_within side =
-    (elim (nat_le side 2) as (λ b. (1 ≤ (if b then 3 else 1)) × ((if b then 3 else 1) ≤ 3)) [
-      | true ↦ (omega arith, omega arith)
-      | false ↦ (omega arith, omega arith)
-    ])
+turning_within side = (grind (arith, nat_tests), grind (arith, nat_tests))
 
 -- a link of a node is there
 pub link_there : (seed n j side k : ℕ) → 1 ≤ j → j ≤ n → 1 ≤ side → side ≤ 4 → k ≡ 10 * j + side
@@ -55,27 +35,22 @@ pub link_there : (seed n j side k : ℕ) → 1 ≤ j → j ≤ n → 1 ≤ side 
 link_there seed n j side k some most first last is =
     among link_number (bare_link seed n) (4 * n) (4 * (j - 1) + (side - 1)) k (omega arith) (grind (arith, is))
 
--- the links from a place on are that one, and those after it
-bare_next : (seed n k : ℕ) → k < 4 * n → bare_from seed n k ≡ bare_link seed n k ∷ bare_from seed n (k + 1)
-bare_next seed n k inside =
-    let count : 4 * n - k ≡ suc (4 * n - (k + 1)) = omega arith in
-    ap (λ m. map (bare_link seed n) (range_with_len k m)) count
-
 -- the link whose feeds come next stands after those that have theirs
 pub links_at : (seed n k : ℕ) → k < 4 * n
     → (with_feeds seed n k).links
     ≡ map (made_link seed n) (range_with_len 0 k) ++ bare_link seed n k ∷ bare_from seed n (k + 1)
 links_at seed n k inside =
-    ap (λ (ls : List LinkValue). map (made_link seed n) (range_with_len 0 k) ++ ls) (bare_next seed n k inside)
+    let count : 4 * n - k ≡ suc (4 * n - (k + 1)) = omega arith in
+    rw count
 
 -- with its feeds it is one of these
 seam : (seed n k : ℕ) → map (made_link seed n) (range_with_len 0 k) ++ made_link seed n k ∷ bare_from seed n (k + 1)
     ≡ (with_feeds seed n (k + 1)).links
 seam seed n k =
-    let us = map (made_link seed n) (range_with_len 0 k) in
-    sym (append_assoc us (made_link seed n k ∷ []) (bare_from seed n (k + 1)))
-    ∙ ap (λ (ls : List LinkValue). ls ++ bare_from seed n (k + 1))
-    (sym (map-range_with_len_more (made_link seed n) 0 k k (omega arith)))
+    rw (
+      map-range_with_len_more (made_link seed n) 0 k k (omega arith),
+      append_assoc (map (made_link seed n) (range_with_len 0 k)) (made_link seed n k ∷ []) (bare_from seed n (k + 1)),
+    )
 
 -- its number is that of none of them
 fresh : (seed n k : ℕ) → is_among (link_numbers (map (made_link seed n) (range_with_len 0 k))) (number_at k) ≡ false
@@ -84,47 +59,35 @@ fresh seed n k = not_among link_number (made_link seed n) k (number_at k) (λ i 
 -- it has no feed yet
 pub unfed_at : (seed n k : ℕ) → k < 4 * n → feeds_at (with_feeds seed n k).links (number_at k) ≡ []
 unfed_at seed n k inside =
-    ap (λ (ls : List LinkValue). feeds_at ls (number_at k)) (links_at seed n k inside)
-    ∙ ap feeds_in
-    (numbered_last link_number (map (made_link seed n) (range_with_len 0 k)) (bare_from seed n (k + 1)) (bare_link seed n k)
-    (fresh seed n k))
-
--- a link with its feeds is the one that is made
-link_made : (seed n k from taken : ℕ) (fs : List Feed) → neighbour n k ≡ Some from → taken ≡ taken_by n k
-    → feeds_from seed taken (side_at k) from ≡ fs → record (bare_link seed n k) { feeds = fs } ≡ made_link seed n k
-link_made seed n k from taken fs beside drawn value =
-    ap (λ (gs : List Feed). record (bare_link seed n k) { feeds = gs })
-    (sym value ∙ ap (λ t. feeds_from seed t (side_at k) from) drawn
-    ∙ ap (feeds_of seed (taken_by n k) (side_at k)) (sym beside))
+    rw (
+      links_at seed n k inside,
+      numbered_last link_number (map (made_link seed n) (range_with_len 0 k)) (bare_from seed n (k + 1)) (bare_link seed n k)
+          (fresh seed n k),
+    )
 
 -- the network with the feeds of one link more
 pub fed_draft : (seed n k from taken number : ℕ) (d e : Network) (f s t : Feed) → k < 4 * n → d ≡ with_feeds seed n k
-    → number ≡ number_at k → neighbour n k ≡ Some from → taken ≡ taken_by n k
+    → number ≡ number_at k → neighbour n k ≡ Some from → taken ≡ 6 * n + 4 * fed_before n k
     → feeds_from seed taken (side_at k) from ≡ f ∷ s ∷ t ∷ [] → e ≡ with_three d number f s t
     → e ≡ with_feeds seed n (k + 1)
 fed_draft seed n k from taken number d e f s t inside before named beside drawn value more =
     let us = map (made_link seed n) (range_with_len 0 k) in
     let vs = bare_from seed n (k + 1) in
     let net = with_feeds seed n k in
-    more ∙ (λ j. with_three (before j) (named j) f s t)
-    ∙ three_middle net us vs (bare_link seed n k) f s t (fresh seed n k) (links_at seed n k inside)
-    ∙ ap (λ (l : LinkValue). record net { links = us ++ l ∷ vs })
-    (link_made seed n k from taken (f ∷ s ∷ t ∷ []) beside drawn value)
-    ∙ ap (λ (ls : List LinkValue). record net { links = ls }) (seam seed n k)
+    let made : record (bare_link seed n k) { feeds = f ∷ s ∷ t ∷ [] } ≡ made_link seed n k = rw (beside, ← drawn) (rw value) in
+    rw (more, before, named, three_middle net us vs (bare_link seed n k) f s t (fresh seed n k) (links_at seed n k inside))
+    (ap (λ (l : LinkValue). record net { links = us ++ l ∷ vs }) made
+    ∙ ap (λ (ls : List LinkValue). record net { links = ls }) (seam seed n k))
 
 -- a link that has no neighbour is made already
 pub unfed_draft : (seed n k : ℕ) → k < 4 * n → neighbour n k ≡ None → with_feeds seed n k ≡ with_feeds seed n (k + 1)
 unfed_draft seed n k inside alone =
-    let us = map (made_link seed n) (range_with_len 0 k) in
-    let vs = bare_from seed n (k + 1) in
-    let net = with_feeds seed n k in
-    ap (λ (ls : List LinkValue). record net { links = ls }) (links_at seed n k inside)
-    ∙ ap (λ (o : Option ℕ). record net {
-      links = us ++ record (bare_link seed n k) {
-        feeds = feeds_of seed (taken_by n k) (side_at k) o;
-      } ∷ vs;
-    }) (sym alone)
-    ∙ ap (λ (ls : List LinkValue). record net { links = ls }) (seam seed n k)
+    let made : bare_link seed n k ≡ made_link seed n k = rw alone in
+    ap (λ (ls : List LinkValue). record (with_feeds seed n k) { links = ls }) (
+    links_at seed n k inside
+    ∙ ap (λ (l : LinkValue). map (made_link seed n) (range_with_len 0 k) ++ l ∷ bare_from seed n (k + 1)) made
+    ∙ seam seed n k
+    )
 
 -- three feeds keep the numbers
 pub three_names : (net : Network) (link : ℕ) (a b c : Feed)

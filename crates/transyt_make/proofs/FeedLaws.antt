@@ -1,14 +1,13 @@
 -- One feed more has no fault.
-use Rattle.std.proofs.Common.{◌≡◌, ℕ, ◌<◌, true, false, not, cond, List, [], ◌∷◌, ◌++◌, length, map, refl, ap, ◌∙◌}
-use Rattle.std.proofs.Common.{arith, nat_eq, nat_le, Option, Some, None, is_some, ◌||◌, if◌then◌else◌}
-use Rattle.std.proofs.lemmas.Bool.{and_from, or_from, or_parts}
+use Rattle.std.proofs.Common.{◌≡◌, ℕ, ◌<◌, true, false, List, [], ◌∷◌, ◌++◌, length, map, refl, ap, ◌∙◌}
+use Rattle.std.proofs.Common.{arith, nat_eq, nat_le, Option, Some, None, is_some, inl, inr}
+use Rattle.std.proofs.lemmas.Bool.{cases_Bool, and_from, or_from, or_parts}
 use Rattle.std.proofs.lemmas.Bool.Decides.{nat_tests}
 use Rattle.std.specs.Option.{option_map}
 use Rattle.transyt_parts.specs.declared.link.Feed.{Feed}
 use Rattle.transyt_parts.specs.Parts.{LinkValue}
 use Rattle.transyt_parts.specs.Valid.{link_number, is_fed, feed_in_range}
 use Rattle.transyt_parts.specs.Made.{add_feed}
-use Rattle.transyt_net.specs.declared.draft.DraftFault.TheVariants.{Twice, Unknown, Range, TooMany}
 use Rattle.transyt_net.specs.Parts.{Network}
 use Rattle.transyt_net.specs.Valid.{is_among, link_numbers, numbered, on_numbered, feeds_at, feeds_in}
 use Rattle.transyt_net.specs.Faults.{feed_fault, with_feed, are_links}
@@ -24,34 +23,26 @@ pub feed_free : (net : Network) (link : ℕ) (f : Feed) (fs : List Feed) → fee
 feed_free net link f fs at fresh here there range few =
     let room : nat_le 8 (length fs) ≡ false = grind (arith, nat_tests) in
     let both : are_links net link f.feeder ≡ true = and_from _ _ here there in
-    (λ j. if is_fed (at j) f.feeder then Some Twice
-    else if not (both j) then Some Unknown
-    else if not (range j) then Some Range
-    else if nat_le 8 (length (at j)) then Some TooMany
-    else None)
-    ∙ (λ j. if fresh j then Some Twice else if room j then Some TooMany else None)
+    rw (at, fresh, both, range, room)
 
 -- what a number names after a write to it
 named_after : {A : Type 0} (key : A → ℕ) (g : A → A) (same : (x : A) → key (g x) ≡ key x) (xs : List A) (k : ℕ)
     → numbered key (on_numbered key g xs k) k ≡ option_map g (numbered key xs k)
 named_after key g same [] k = refl
 named_after key g same (x ∷ xs) k =
-    (elim (nat_eq k (key x)) as (λ b. nat_eq k (key x) ≡ b
-    → numbered key (cond b (g x ∷ xs) (x ∷ on_numbered key g xs k)) k
-    ≡ option_map g (cond b (Some x) (numbered key xs k))) [
-      | true ↦ λ here. ap (λ b. cond b (Some (g x)) (numbered key xs k)) (ap (nat_eq k) (same x) ∙ here)
-      | false ↦ λ there. ap (λ b. cond b (Some x) (numbered key (on_numbered key g xs k) k)) there
-          ∙ named_after key g same xs k
-    ]) refl
+    elim (cases_Bool (nat_eq k (key x))) [
+      | inl here ↦ rw here (rw (same x, here))
+      | inr other ↦ rw (other, other, named_after key g same xs k)
+    ]
 
 -- a number is among the keys exactly where it names something
 named_some : {A : Type 0} (key : A → ℕ) (xs : List A) (k : ℕ) → is_some (numbered key xs k) ≡ is_among (map key xs) k
 named_some key [] k = refl
 named_some key (x ∷ xs) k =
-    (elim (nat_eq k (key x)) as (λ b. is_some (cond b (Some x) (numbered key xs k)) ≡ (b || is_among (map key xs) k)) [
-      | true ↦ refl
-      | false ↦ named_some key xs k
-    ])
+    elim (cases_Bool (nat_eq k (key x))) [
+      | inl here ↦ rw here
+      | inr other ↦ rw other (named_some key xs k)
+    ]
 
 -- the feeds of a link that is there, with one more
 feeds_more : (o : Option LinkValue) (f : Feed) → is_some o ≡ true → feeds_in (option_map (add_feed f) o) ≡ feeds_in o ++ f ∷ []
@@ -76,10 +67,9 @@ pub second_free : (d0 d1 : Network) (link : ℕ) (a b : Feed) → d1 ≡ with_fe
     → feed_in_range b ≡ true → nat_eq b.feeder a.feeder ≡ false → feed_fault d1 link b ≡ None
 second_free d0 d1 link a b made unfed here there range apart =
     let kept = numbers_after d0 link a in
-    ap (λ (d : Network). feed_fault d link b) made
-    ∙ feed_free (with_feed d0 link a) link b (a ∷ [])
+    rw made (feed_free (with_feed d0 link a) link b (a ∷ [])
     (fed_once d0 link a here ∙ ap (λ (fs : List Feed). fs ++ a ∷ []) unfed) (or_from _ _ apart refl)
-    (ap (λ ns. is_among ns link) kept ∙ here) (ap (λ ns. is_among ns b.feeder) kept ∙ there) range (omega arith)
+    (ap (λ ns. is_among ns link) kept ∙ here) (ap (λ ns. is_among ns b.feeder) kept ∙ there) range (omega arith))
 
 -- nor has a third
 pub third_free : (d0 d1 d2 : Network) (link : ℕ) (a b c : Feed) → d1 ≡ with_feed d0 link a → d2 ≡ with_feed d1 link b
@@ -91,30 +81,26 @@ third_free d0 d1 d2 link a b c made more unfed here there range apart other =
     let kept = numbers_after e link b ∙ numbers_after d0 link a in
     let first = fed_once d0 link a here ∙ ap (λ (fs : List Feed). fs ++ a ∷ []) unfed in
     let still = ap (λ ns. is_among ns link) (numbers_after d0 link a) ∙ here in
-    ap (λ (d : Network). feed_fault d link c) (more ∙ ap (λ (d : Network). with_feed d link b) made)
-    ∙ feed_free (with_feed e link b) link c (a ∷ b ∷ [])
+    rw (more, made) (feed_free (with_feed e link b) link c (a ∷ b ∷ [])
     (fed_once e link b still ∙ ap (λ (fs : List Feed). fs ++ b ∷ []) first) (or_from _ _ apart (or_from _ _ other refl))
-    (ap (λ ns. is_among ns link) kept ∙ here) (ap (λ ns. is_among ns c.feeder) kept ∙ there) range (omega arith)
+    (ap (λ ns. is_among ns link) kept ∙ here) (ap (λ ns. is_among ns c.feeder) kept ∙ there) range (omega arith))
 
 -- a write to one in the middle
 on_middle : {A : Type 0} (key : A → ℕ) (g : A → A) (xs ys : List A) (x : A) → is_among (map key xs) (key x) ≡ false
     → on_numbered key g (xs ++ x ∷ ys) (key x) ≡ xs ++ g x ∷ ys
-on_middle key g [] ys x h =
-    ap (λ b. cond b (g x ∷ ys) (x ∷ on_numbered key g ys (key x))) (is_itself (key x) (key x) refl)
+on_middle key g [] ys x h = rw (is_itself (key x) (key x) refl)
 on_middle key g (y ∷ xs) ys x h =
     let parts = or_parts (nat_eq (key x) (key y)) (is_among (map key xs) (key x)) h in
-    ap (λ b. cond b (g y ∷ (xs ++ x ∷ ys)) (y ∷ on_numbered key g (xs ++ x ∷ ys) (key x))) parts.0
-    ∙ ap (λ l. y ∷ l) (on_middle key g xs ys x parts.1)
+    rw (parts.0, on_middle key g xs ys x parts.1)
 
 -- three feeds of a link in the middle
 pub three_middle : (net : Network) (us vs : List LinkValue) (l : LinkValue) (a b c : Feed)
     → is_among (link_numbers us) l.number ≡ false → net.links ≡ us ++ l ∷ vs
     → with_three net l.number a b c ≡ record net { links = us ++ add_feed c (add_feed b (add_feed a l)) ∷ vs }
 three_middle net us vs l a b c fresh is =
-    let on : Feed → List LinkValue → List LinkValue = λ f ls. on_numbered link_number (add_feed f) ls l.number in
-    ap (λ (ls : List LinkValue). record net { links = on c (on b (on a ls)) }) is
-    ∙ ap (λ (ls : List LinkValue). record net { links = on c (on b ls) }) (on_middle link_number (add_feed a) us vs l fresh)
-    ∙ ap (λ (ls : List LinkValue). record net { links = on c ls })
-    (on_middle link_number (add_feed b) us vs (add_feed a l) fresh)
-    ∙ ap (λ (ls : List LinkValue). record net { links = ls })
-    (on_middle link_number (add_feed c) us vs (add_feed b (add_feed a l)) fresh)
+    rw (
+      is,
+      on_middle link_number (add_feed a) us vs l fresh,
+      on_middle link_number (add_feed b) us vs (add_feed a l) fresh,
+      on_middle link_number (add_feed c) us vs (add_feed b (add_feed a l)) fresh,
+    )

@@ -1,10 +1,9 @@
 -- The links, place by place.
-use Rattle.std.proofs.Common.{◌≡◌, ℕ, ◌+◌, ◌*◌, ◌/◌, ◌<◌, Bool, true, false, List, [], ◌∷◌, map, refl, sym, ap, ◌∙◌}
+use Rattle.std.proofs.Common.{◌≡◌, ℕ, ◌+◌, ◌*◌, ◌/◌, ◌<◌, Bool, true, false, [], ◌∷◌, map, refl, ap}
 use Rattle.std.proofs.Common.{arith, nat_eq, is_some, Option}
 use Rattle.std.proofs.lemmas.Bool.Decides.{nat_tests}
 use Rattle.std.specs.List.{range_with_len}
 use Rattle.std.proofs.lemmas.List.FromFn.{map-range_with_len_more}
-use Rattle.transyt_parts.specs.Parts.{LinkValue}
 use Rattle.transyt_parts.specs.Valid.{node_number}
 use Rattle.transyt_parts.specs.Made.{new_link}
 use Rattle.transyt_net.specs.Parts.{Network}
@@ -36,14 +35,11 @@ pub one_link : (seed n place entry : ℕ) (d e : Network) → entry ≡ made_ent
     → e ≡ with_link d (new_link (number_at place) (node_at place) entry 1800 1 1 0 0 (stage_at place ∷ []))
     → e ≡ with_links seed n (place + 1)
 one_link seed n place entry d e drawn before more =
-    more
-    ∙ (λ j. with_link (before j) (new_link (number_at place) (node_at place) (drawn j) 1800 1 1 0 0 (stage_at place ∷ [])))
-    ∙ ap (λ (links : List LinkValue). record (with_links seed n place) { links = links })
-    (sym (map-range_with_len_more (bare_link seed n) 0 place place (omega arith)))
+    rw (more, before, drawn, map-range_with_len_more (bare_link seed n) 0 place place (omega arith))
 
 -- the entry flow that was drawn
 pub entry_at : (d : DrawsValue) (seed n place v : ℕ) (fed : Bool) (o : Option ℕ) → d.seed ≡ seed
     → d.taken ≡ 2 * n + place → o ≡ neighbour n place → fed ≡ is_some o → v ≡ entry_from d.seed d.taken fed
     → v ≡ made_entry seed n place
 entry_at d seed n place v fed o same taken from some is =
-    is ∙ (λ j. entry_from (same j) (taken j) ((some ∙ ap is_some from) j))
+    rw (is, same, taken, some, from)

@@ -1,16 +1,15 @@
 -- One node more has no fault.
-use Rattle.std.proofs.Common.{◌≡◌, ℕ, ◌+◌, ◌-◌, ◌*◌, ◌<◌, true, false, not, List, [], ◌∷◌, ◌++◌, length}
-use Rattle.std.proofs.Common.{Result, Ok, Err, OnOk, Some, None, slice_get, nat_le, nat_eq, refl, sym, ap, ◌∙◌}
-use Rattle.std.proofs.Common.{arith, length-append, if◌then◌else◌}
+use Rattle.std.proofs.Common.{◌≡◌, ℕ, ◌+◌, ◌-◌, ◌*◌, ◌<◌, true, false, List, [], ◌∷◌, ◌++◌, length}
+use Rattle.std.proofs.Common.{Some, None, slice_get, nat_le, nat_eq, refl, ap, ◌∙◌}
+use Rattle.std.proofs.Common.{arith, length-append}
 use Rattle.std.proofs.lemmas.Bool.Decides.{nat_tests}
 use Rattle.std.proofs.lemmas.List.FromFn.{map-range_with_len_more}
 use Rattle.transyt_parts.specs.declared.node.Stage.{Stage}
 use Rattle.transyt_parts.specs.Parts.{NodeValue}
 use Rattle.transyt_parts.specs.Valid.{node_in_range, stage_in_range}
 use Rattle.transyt_parts.specs.Made.{new_node, new_stage, add_stage}
-use Rattle.transyt_net.specs.declared.draft.DraftFault.TheVariants.{Twice, Range, TooMany}
 use Rattle.transyt_net.specs.Parts.{Network}
-use Rattle.transyt_net.specs.Valid.{is_among, node_numbers, on_place, stage_total}
+use Rattle.transyt_net.specs.Valid.{is_among, node_numbers, on_place}
 use Rattle.transyt_net.specs.Faults.{node_fault, with_node, stage_fault, with_stage, last_place}
 use Rattle.transyt_make.specs.Draws.{DrawsValue, draw, further}
 use Rattle.transyt_make.specs.Made.{node_with, plus_node, made_node, with_nodes}
@@ -22,10 +21,7 @@ pub node_free : (net : Network) (place offset : ℕ) → net.frame.step_count �
 node_free net place offset steps fresh few low at =
     let range : node_in_range net.frame.step_count (place + 1) offset ≡ true = grind (arith, nat_tests) in
     let room : nat_le 200 (length net.nodes) ≡ false = grind (arith, nat_tests) in
-    λ j. if fresh j then Some Twice
-    else if not (range j) then Some Range
-    else if room j then Some TooMany
-    else None
+    rw (fresh, range, room)
 
 -- the last of a list by its place
 on_last : {A : Type 0} (f : A → A) (done : List A) (x : A)
@@ -52,24 +48,21 @@ stage_free net done n change steps last few at =
     let there : slice_get net.nodes (last_place net.nodes) ≡ Some n =
     ap (λ (nodes : List NodeValue). slice_get nodes (last_place nodes)) last
     ∙ ap (slice_get (done ++ n ∷ [])) (last_is done n) ∙ get_last done n in
-    (λ j. if not (range j) then Some Range else if nat_le 8 (stage_total (there j)) then Some TooMany else None)
-    ∙ (λ j. if room j then Some TooMany else None)
+    rw (range, there, room)
 
 -- the network with that stage
 pub stage_added : (net : Network) (done : List NodeValue) (n : NodeValue) (s : Stage) → net.nodes ≡ done ++ n ∷ []
     → with_stage net s ≡ record net { nodes = done ++ add_stage s n ∷ [] }
 stage_added net done n s last =
-    ap (λ (nodes : List NodeValue). record net { nodes = on_place (add_stage s) nodes (last_place nodes) }) last
-    ∙ ap (λ p. record net { nodes = on_place (add_stage s) (done ++ n ∷ []) p }) (last_is done n)
-    ∙ ap (λ nodes. record net { nodes = nodes }) (on_last (add_stage s) done n)
+    rw (last, last_is done n, on_last (add_stage s) done n)
 
 -- a new node and its first stage
 pub first_stage : (d0 d1 d2 : Network) (place offset : ℕ) → d1 ≡ with_node d0 (place + 1) offset
     → d2 ≡ with_stage d1 (new_stage 0 3 4)
     → d2 ≡ plus_node d0 (add_stage (new_stage 0 3 4) (new_node (place + 1) offset))
 first_stage d0 d1 d2 place offset node stage =
-    stage ∙ ap (λ (d : Network). with_stage d (new_stage 0 3 4)) node
-    ∙ stage_added (with_node d0 (place + 1) offset) d0.nodes (new_node (place + 1) offset) (new_stage 0 3 4) refl
+    rw (stage, node)
+    (stage_added (with_node d0 (place + 1) offset) d0.nodes (new_node (place + 1) offset) (new_stage 0 3 4) refl)
 
 -- and its second
 pub second_stage : (d0 d2 d3 : Network) (place offset change : ℕ)
@@ -78,13 +71,7 @@ pub second_stage : (d0 d2 d3 : Network) (place offset change : ℕ)
     → d3 ≡ plus_node d0 (node_with place offset change)
 second_stage d0 d2 d3 place offset change before stage =
     let n = add_stage (new_stage 0 3 4) (new_node (place + 1) offset) in
-    stage ∙ ap (λ (d : Network). with_stage d (new_stage change 3 4)) before
-    ∙ stage_added (plus_node d0 n) d0.nodes n (new_stage change 3 4) refl
-
--- what holds of an answer that went well
-pub on_ok : {T E X Y : Type 0} (r : Result T E) → (X → Y) → OnOk r X → OnOk r Y
-on_ok (Ok v) f x = f x
-on_ok (Err e) f x = tt
+    rw (stage, before) (stage_added (plus_node d0 n) d0.nodes n (new_stage change 3 4) refl)
 
 -- numbers of places are apart
 pub apart : (i place : ℕ) → i < place → nat_eq (place + 1) (i + 1) ≡ false
@@ -95,15 +82,12 @@ pub one_node : (seed place : ℕ) (d e : Network) (o c : ℕ) → o ≡ draw see
     → c ≡ draw seed (2 * place + 1) 21 → d ≡ with_nodes seed place → e ≡ plus_node d (node_with place o (15 + c))
     → e ≡ with_nodes seed (place + 1)
 one_node seed place d e o c first second before more =
-    more ∙ ap (λ (d : Network). plus_node d (node_with place o (15 + c))) before
-    ∙ (λ j. plus_node (with_nodes seed place) (node_with place (first j) (15 + second j)))
-    ∙ ap (λ (nodes : List NodeValue). record (with_nodes seed place) { nodes = nodes })
-    (sym (map-range_with_len_more (made_node seed) 0 place place (omega arith)))
+    rw (more, before, first, second, map-range_with_len_more (made_node seed) 0 place place (omega arith))
 
 -- a draw, by how many were taken
 pub drawn_at : (d : DrawsValue) (seed k a v : ℕ) → d.seed ≡ seed → d.taken ≡ k → v ≡ draw d.seed d.taken a
     → v ≡ draw seed k a
-drawn_at d seed k a v same taken is = is ∙ (λ j. draw (same j) (taken j) a)
+drawn_at d seed k a v same taken is = rw (is, same, taken)
 
 -- so many draws more, and then one
 pub one_further : (d e f : DrawsValue) (k m : ℕ) → e ≡ further d k → f ≡ further e 1 → k + 1 ≡ m → f ≡ further d m

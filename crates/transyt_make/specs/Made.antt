@@ -1,7 +1,6 @@
 -- The network that is made from a seed. Places of nodes and links count from 0, in card order.
 use Rattle.std.specs.Prelude.{ℕ, zero, suc, ◌+◌, ◌-◌, ◌*◌, ◌/◌, ◌%◌, ◌==◌, Bool, ◌&&◌, nat_le, nat_lt, List, []}
-use Rattle.std.specs.Prelude.{◌∷◌, ◌++◌}
-use Rattle.std.specs.Prelude.{map, Option, Some, None, is_some, if◌then◌else◌}
+use Rattle.std.specs.Prelude.{◌∷◌, ◌++◌, map, Option, Some, None, is_some, if◌then◌else◌}
 use Rattle.std.specs.List.{range_with_len}
 use Rattle.transyt_parts.specs.declared.frame.Frame.{Frame}
 use Rattle.transyt_parts.specs.declared.link.Feed.{Feed}
@@ -18,11 +17,8 @@ made_frame = record { cycle = 100; step_count = 50; sweeps = 3; period = 60; sto
 
 -- the node at a place, of this offset, whose second stage begins at this change
 abbrev pub node_with : ℕ → ℕ → ℕ → NodeValue
-node_with place offset change = record {
-  number = place + 1;
-  offset = offset;
-  stages = new_stage 0 3 4 ∷ new_stage change 3 4 ∷ [];
-}
+node_with place offset change =
+    record { number = place + 1; offset = offset; stages = new_stage 0 3 4 ∷ new_stage change 3 4 ∷ [] }
 
 -- the node at a place: two draws each, in order
 abbrev pub made_node : ℕ → ℕ → NodeValue
@@ -115,44 +111,30 @@ made seed n = record {
 abbrev pub plus_node : Network → NodeValue → Network
 plus_node net n = record net { nodes = net.nodes ++ n ∷ [] }
 
--- the network while its nodes are made: so many of them
-abbrev pub with_nodes : ℕ → ℕ → Network
-with_nodes seed k = record {
-  frame = made_frame;
-  nodes = map (made_node seed) (range_with_len 0 k);
-  links = [];
-  plan = None;
-}
+-- the network while it is made: so many nodes, and these links
+abbrev pub so_far : ℕ → ℕ → List LinkValue → Network
+so_far seed n links =
+    record { frame = made_frame; nodes = map (made_node seed) (range_with_len 0 n); links = links; plan = None }
 
--- the network while its links are made: all nodes, and so many links without their feeds
+-- so many nodes, and no link yet
+abbrev pub with_nodes : ℕ → ℕ → Network
+with_nodes seed k = so_far seed k []
+
+-- all nodes, and so many links without their feeds
 abbrev pub with_links : ℕ → ℕ → ℕ → Network
-with_links seed n k = record {
-  frame = made_frame;
-  nodes = map (made_node seed) (range_with_len 0 n);
-  links = map (bare_link seed n) (range_with_len 0 k);
-  plan = None;
-}
+with_links seed n k = so_far seed n (map (bare_link seed n) (range_with_len 0 k))
 
 -- the links from a place on, without their feeds
 abbrev pub bare_from : ℕ → ℕ → ℕ → List LinkValue
 bare_from seed n k = map (bare_link seed n) (range_with_len k (4 * n - k))
 
--- the network while its feeds are made: those of so many links
+-- the feeds of so many links too
 abbrev pub with_feeds : ℕ → ℕ → ℕ → Network
-with_feeds seed n k = record {
-  frame = made_frame;
-  nodes = map (made_node seed) (range_with_len 0 n);
-  links = map (made_link seed n) (range_with_len 0 k) ++ bare_from seed n k;
-  plan = None;
-}
-
--- how many draws are taken when the feeds of so many links are made
-abbrev pub taken_by : ℕ → ℕ → ℕ
-taken_by n k = 6 * n + 4 * fed_before n k
+with_feeds seed n k = so_far seed n (map (made_link seed n) (range_with_len 0 k) ++ bare_from seed n k)
 
 -- a seed and the draws that are taken when the feeds of so many links are made
 abbrev pub draws_by : ℕ → ℕ → ℕ → DrawsValue
-draws_by seed n k = record { seed = seed; taken = taken_by n k }
+draws_by seed n k = record { seed = seed; taken = 6 * n + 4 * fed_before n k }
 
 -- the network with three feeds more of a link
 abbrev pub with_three : Network → ℕ → Feed → Feed → Feed → Network

@@ -6,7 +6,7 @@ ghost use Rattle.transyt_net.specs.Valid.{is_among, link_numbers, feeds_at};
 ghost use Rattle.transyt_net.specs.Faults.{with_feed};
 ghost use Rattle.transyt_make.specs.Draws.{further, draw};
 ghost use Rattle.transyt_make.specs.Made.{neighbour, side_at, number_at, turning, feeds_from, with_links};
-ghost use Rattle.transyt_make.specs.Made.{with_feeds, taken_by, draws_by, fed_before, with_three, all_names};
+ghost use Rattle.transyt_make.specs.Made.{with_feeds, draws_by, fed_before, with_three, all_names};
 
 use crate::draws::Draws;
 use crate::granted::grant_feed;
@@ -69,6 +69,7 @@ fn draw_feeds(side: u32, from: u32, draws: &mut Draws) -> Three
 }
 
 /// Adds three feeds to a link that has none.
+#[tactic(auto, using(crate::proofs::FeedLaws::second_free, crate::proofs::FeedLaws::third_free))]
 fn put_three(
     draft: &mut Draft,
     link: u32,
@@ -123,6 +124,7 @@ fn put_from(
 }
 
 /// Adds the feeds of the link at a place, if it has a neighbour.
+#[tactic(auto, using(crate::proofs::FedLaws::unfed_draft))]
 fn put_feeds_of(
     nodes: u32,
     place: u32,

@@ -1,6 +1,7 @@
 -- The rows before the number were read.
 use Rattle.std.proofs.Common.{Some}
-use Rattle.transyt_counts.specs.Progress.{IsReading, HasRead}
+use Rattle.transyt_counts.specs.Progress.{IsReading}
+use Rattle.transyt_counts.proofs.ProgressLaws.{HasRead}
 use Rattle.transyt_counts.proofs.counting.tally_rows.Given as goal
 
 abbrev pub invariant-loop-row : goal.invariant-loop-row

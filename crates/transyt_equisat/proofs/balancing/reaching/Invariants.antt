@@ -1,7 +1,7 @@
 -- What is left to search from here is what was to search from the start.
 use Rattle.std.proofs.Common.{◌≡◌, drop}
 use Rattle.std.specs.List.{find}
-use Rattle.transyt_equisat.specs.Sharing.{reaches}
+use Rattle.transyt_equisat.specs.Balance.{reaches}
 use Rattle.transyt_equisat.proofs.balancing.reaching.Given as goal
 
 abbrev pub invariant-loop-place : goal.invariant-loop-place

@@ -1,10 +1,7 @@
 -- The demands of the stages before the place.
-use Rattle.std.proofs.Common.{◌≡◌, ◌<◌, All}
+use Rattle.std.proofs.Common.{◌≡◌}
 use Rattle.transyt_equisat.specs.Demands.{demands_of}
 use Rattle.transyt_equisat.proofs.demand.demands_of.Given as goal
 
 abbrev pub invariant-loop-place : goal.invariant-loop-place
-invariant-loop-place l = record {
-  so_far : l.demands.items ≡ demands_of l.net l.number l.place;
-  live : All (λ d. 0 < d.saturation) l.demands.items;
-}
+invariant-loop-place l = l.demands.items ≡ demands_of l.net l.number l.place

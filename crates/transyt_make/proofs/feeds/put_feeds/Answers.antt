@@ -1,9 +1,9 @@
 -- The feeds of a link more are those of the next draws.
-use Rattle.std.proofs.Common.{◌≡◌, ℕ, ◌+◌, ◌*◌, ap, sym, ◌∙◌, arith}
+use Rattle.std.proofs.Common.{◌≡◌, ◌*◌, ap, sym, ◌∙◌, arith}
 use Rattle.transyt_net.specs.Parts.{Network}
 use Rattle.transyt_net.specs.Valid.{link_numbers}
 use Rattle.transyt_make.specs.Draws.{DrawsValue}
-use Rattle.transyt_make.specs.Made.{with_feeds, draws_by, all_names}
+use Rattle.transyt_make.specs.Made.{draws_by}
 use Rattle.transyt_make.proofs.FedLaws.{feeds_begin}
 use Rattle.transyt_make.proofs.feeds.put_feeds.Goals as goal
 
@@ -22,35 +22,29 @@ loop-place-init c =
 -- the seed stays
 pub put_feeds_of-requires-clause-draws : goal.put_feeds_of-requires-clause-draws
 put_feeds_of-requires-clause-draws c =
-    let l = c.loop-place in
-    let same = ap (λ (d : DrawsValue). d.seed) l.invariant.draws in
-    l.invariant.draws ∙ ap (λ (s : ℕ). draws_by s c.args.nodes l.place) (sym same)
+    let same = ap (λ (d : DrawsValue). d.seed) c.loop-place.invariant.draws in
+    c.loop-place.invariant.draws ∙ ap (λ s. draws_by s c.args.nodes c.loop-place.place) (sym same)
 
 -- and the numbers
 pub put_feeds_of-requires-clause-names : goal.put_feeds_of-requires-clause-names
 put_feeds_of-requires-clause-names c =
-    let l = c.loop-place in
-    let same = ap (λ (d : DrawsValue). d.seed) l.invariant.draws in
-    l.invariant.names ∙ ap (λ (s : ℕ). all_names s c.args.nodes) (sym same)
+    rw (ap (λ (d : DrawsValue). d.seed) c.loop-place.invariant.draws) c.loop-place.invariant.names
 
 -- the links before have their feeds
 pub put_feeds_of-requires-clause-draft : goal.put_feeds_of-requires-clause-draft
 put_feeds_of-requires-clause-draft c =
-    let l = c.loop-place in
-    let same = ap (λ (d : DrawsValue). d.seed) l.invariant.draws in
-    l.invariant.draft ∙ ap (λ (s : ℕ). with_feeds s c.args.nodes l.place) (sym same)
+    rw (ap (λ (d : DrawsValue). d.seed) c.loop-place.invariant.draws) c.loop-place.invariant.draft
 
 -- one link more
 pub loop-place-preserved : goal.loop-place-preserved
 loop-place-preserved c =
-    let l = c.loop-place in
-    let same = ap (λ (d : DrawsValue). d.seed) l.invariant.draws in
+    let same = ap (λ (d : DrawsValue). d.seed) c.loop-place.invariant.draws in
     record {
-      draft = c.in_ok-put_feeds_of.ensures.draft ∙ ap (λ (s : ℕ). with_feeds s c.args.nodes (l.place + 1)) same;
-      draws = c.in_ok-put_feeds_of.ensures.draws ∙ ap (λ (s : ℕ). draws_by s c.args.nodes (l.place + 1)) same;
-      names = c.in_ok-put_feeds_of.ensures.names ∙ ap (λ (s : ℕ). all_names s c.args.nodes) same;
+      draft = rw same at c.in_ok-put_feeds_of.ensures.draft;
+      draws = rw same at c.in_ok-put_feeds_of.ensures.draws;
+      names = rw same at c.in_ok-put_feeds_of.ensures.names;
       within = omega (arith, c.loop-place-test.true);
-      end = l.invariant.end;
+      end = c.loop-place.invariant.end;
     }
 
 -- all links have their feeds
@@ -58,4 +52,4 @@ pub returns : goal.returns
 returns c =
     let l = c.loop-place in
     let all : l.place ≡ 4 * c.args.nodes = omega (arith, c.loop-place-test.false, l.invariant.within, l.invariant.end) in
-    l.invariant.draft ∙ ap (λ (k : ℕ). with_feeds c.args.draws.now.seed c.args.nodes k) all
+    rw all at l.invariant.draft

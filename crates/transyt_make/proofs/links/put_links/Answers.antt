@@ -1,11 +1,10 @@
 -- The entry flow of a link more is the next draw, and its number is above those before.
-use Rattle.std.proofs.Common.{◌+◌, length, ap, ◌∙◌, arith}
+use Rattle.std.proofs.Common.{◌+◌, length, ap, arith}
 use Rattle.std.proofs.lemmas.List.FromFn.{length-map-range_with_len}
 use Rattle.transyt_parts.specs.Valid.{link_number}
 use Rattle.transyt_net.specs.Parts.{Network}
-use Rattle.transyt_net.specs.Valid.{is_among, node_numbers, link_numbers, stages_at}
 use Rattle.transyt_make.specs.Draws.{DrawsValue}
-use Rattle.transyt_make.specs.Made.{node_at, number_at, bare_link}
+use Rattle.transyt_make.specs.Made.{number_at, bare_link}
 use Rattle.transyt_make.proofs.PlaceLaws.{not_among}
 use Rattle.transyt_make.proofs.NodeLaws.{one_further}
 use Rattle.transyt_make.proofs.LinkLaws.{numbers_apart, node_there, two_stages, one_link, entry_at}
@@ -27,9 +26,9 @@ draw_entry-entry-requires c =
 pub put_link-requires-clause-fresh : goal.put_link-requires-clause-fresh
 put_link-requires-clause-fresh c =
     let place = c.loop-place.place in
-    let seed = c.args.draws.now.seed in
-    ap (λ (d : Network). is_among (link_numbers d.links) (number_at place)) c.loop-place.invariant.draft
-    ∙ not_among link_number (bare_link seed c.args.nodes) place (number_at place) (λ i before. numbers_apart i place before)
+    rw c.loop-place.invariant.draft
+    (not_among link_number (bare_link c.args.draws.now.seed c.args.nodes) place (number_at place)
+    (λ i before. numbers_apart i place before))
 
 -- and there are as many as places before this one
 pub put_link-requires-clause-few : goal.put_link-requires-clause-few
@@ -46,18 +45,14 @@ put_link-requires-clause-few c =
 -- the link's node is there
 pub put_link-requires-clause-node : goal.put_link-requires-clause-node
 put_link-requires-clause-node c =
-    let place = c.loop-place.place in
-    ap (λ (d : Network). is_among (node_numbers d.nodes) (node_at place)) c.loop-place.invariant.draft
-    ∙ node_there c.args.draws.now.seed c.args.nodes place
-    (omega (arith, c.loop-place.invariant.end, c.loop-place-test.true))
+    rw c.loop-place.invariant.draft
+    (node_there c.args.draws.now.seed c.args.nodes c.loop-place.place (omega (arith, c.loop-place.invariant.end, c.loop-place-test.true)))
 
 -- with two stages
 pub put_link-requires-clause-stages : goal.put_link-requires-clause-stages
 put_link-requires-clause-stages c =
-    let place = c.loop-place.place in
-    ap (λ (d : Network). stages_at d.nodes (node_at place)) c.loop-place.invariant.draft
-    ∙ two_stages c.args.draws.now.seed c.args.nodes place
-    (omega (arith, c.loop-place.invariant.end, c.loop-place-test.true))
+    rw c.loop-place.invariant.draft
+    (two_stages c.args.draws.now.seed c.args.nodes c.loop-place.place (omega (arith, c.loop-place.invariant.end, c.loop-place-test.true)))
 
 -- one link more, by a draw
 pub loop-place-preserved : goal.loop-place-preserved

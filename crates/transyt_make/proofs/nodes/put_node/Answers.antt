@@ -1,8 +1,9 @@
 -- The draft ends in the new node, which takes its two stages.
 use Rattle.std.proofs.Common.{length, ap, ◌∙◌, ◌+◌, arith, length-append, ◌∷◌, []}
+use Rattle.std.proofs.lemmas.Result.{on_ok_weaker}
 use Rattle.transyt_parts.specs.Made.{new_node, new_stage, add_stage}
 use Rattle.transyt_net.specs.Parts.{Network}
-use Rattle.transyt_make.proofs.NodeLaws.{stage_free, first_stage, second_stage, on_ok}
+use Rattle.transyt_make.proofs.NodeLaws.{stage_free, first_stage, second_stage}
 use Rattle.transyt_make.proofs.nodes.put_node.Goals as goal
 
 -- there is a node
@@ -28,5 +29,5 @@ pub returns : goal.returns
 returns c =
     let before = c.args.draft.now in
     let so_far = first_stage before _ _ c.args.place c.args.offset c.in_ok-grant_node.ensures c.in_ok-grant_stage.ensures in
-    on_ok c.grant_stage-2.result (second_stage before _ _ c.args.place c.args.offset c.args.change so_far)
+    on_ok_weaker c.grant_stage-2.result (second_stage before _ _ c.args.place c.args.offset c.args.change so_far)
     c.grant_stage-2.ensures

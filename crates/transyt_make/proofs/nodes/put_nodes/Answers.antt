@@ -1,9 +1,8 @@
 -- The number of a node more is above those before, and its offset and change are the next two draws.
-use Rattle.std.proofs.Common.{◌+◌, ◌*◌, length, ap, ◌∙◌, arith}
+use Rattle.std.proofs.Common.{◌+◌, ◌*◌, length, ap, arith}
 use Rattle.std.proofs.lemmas.List.FromFn.{length-map-range_with_len}
 use Rattle.transyt_parts.specs.Valid.{node_number}
 use Rattle.transyt_net.specs.Parts.{Network}
-use Rattle.transyt_net.specs.Valid.{is_among, node_numbers}
 use Rattle.transyt_make.specs.Draws.{DrawsValue}
 use Rattle.transyt_make.specs.Made.{made_node}
 use Rattle.transyt_make.proofs.PlaceLaws.{not_among}
@@ -14,8 +13,8 @@ use Rattle.transyt_make.proofs.nodes.put_nodes.Goals as goal
 pub put_node-requires-clause-fresh : goal.put_node-requires-clause-fresh
 put_node-requires-clause-fresh c =
     let place = c.loop-place.place in
-    ap (λ (d : Network). is_among (node_numbers d.nodes) (place + 1)) c.loop-place.invariant.draft
-    ∙ not_among node_number (made_node c.args.draws.now.seed) place (place + 1) (λ i before. apart i place before)
+    rw c.loop-place.invariant.draft
+    (not_among node_number (made_node c.args.draws.now.seed) place (place + 1) (λ i before. apart i place before))
 
 -- and there are as many as places before this one
 pub put_node-requires-clause-few : goal.put_node-requires-clause-few

@@ -1,13 +1,10 @@
 -- After the list of moves stands the last line.
-use Rattle.std.proofs.Common.{◌≡◌, false, ◌&&◌, nat_lt, cond, ap, sym, ◌∙◌, arith}
+use Rattle.std.proofs.Common.{◌≡◌, false, nat_lt, ap, sym, ◌∙◌, arith}
 use Rattle.std.proofs.lemmas.Bool.Decides.{nat_tests}
 use Rattle.transyt_moves.specs.Moves.{move_count}
 use Rattle.transyt_sweep.specs.Sweeps.{index}
-use Rattle.transyt_sweep.specs.Climb.{lowers}
 use Rattle.transyt_cert.specs.Texts.{joined}
 use Rattle.transyt_cert.specs.Certificate.{end_words}
-use Rattle.transyt_audit.specs.declared.truth.Finding.TheVariants.{Wrong}
-use Rattle.transyt_audit.specs.Given.{agrees}
 use Rattle.transyt_audit.specs.Findings.{finding_of}
 use Rattle.transyt_audit.proofs.TrueLines.{text_last}
 use Rattle.transyt_audit.proofs.truth.Truth.judge.Goals as goal
@@ -23,8 +20,4 @@ returns-clause-finding g c =
     ∙ sym (text_last net place last) in
     let there : nat_lt (move_count net) place ≡ false = grind (arith, nat_tests) in
     let no_move : nat_lt place (move_count net) ≡ false = grind (arith, nat_tests) in
-    let same = c.agrees.ensures ∙ ap (agrees c.args.line.now) text in
-    let from_there = sym there in
-    let from_no_move = sym no_move in
-    c.finding_of.ensures
-    ∙ (λ j. cond (from_there j) Wrong (finding_of (same j) (from_no_move j && lowers net place)))
+    rw (there, no_move, ← text) (c.finding_of.ensures ∙ ap (λ b. finding_of b false) c.agrees.ensures)

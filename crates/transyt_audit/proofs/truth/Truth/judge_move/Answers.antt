@@ -3,11 +3,9 @@ use Rattle.std.proofs.Common.{◌≡◌, ap, sym, ◌∙◌}
 use Rattle.transyt_net.specs.Parts.{Network}
 use Rattle.transyt_moves.specs.Moves.{move}
 use Rattle.transyt_sweep.specs.Sweeps.{index}
-use Rattle.transyt_sweep.specs.Climb.{is_below, lowers, tried_at}
+use Rattle.transyt_sweep.specs.Climb.{tried_at}
 use Rattle.transyt_cert.specs.Texts.{joined}
 use Rattle.transyt_cert.specs.Certificate.{new_line, move_words}
-use Rattle.transyt_audit.specs.Given.{agrees}
-use Rattle.transyt_audit.specs.Findings.{finding_of}
 use Rattle.transyt_audit.proofs.TrueLines.{text_at, lowers_is}
 use Rattle.transyt_audit.proofs.truth.Truth.judge_move.Goals as goal
 
@@ -22,6 +20,4 @@ returns-clause-finding g c =
     let present : c.self.inside.present ≡ index net = c.self.invariant.1 ∙ ap index c.self.view_is in
     let text = c.bytes.ensures.bytes ∙ c.put_move.ensures.text
     ∙ (λ j. joined (move_words (new_line place (edit j) (tried j)))) ∙ sym (text_at net place c.requires.place) in
-    let low : c.is_below-lowers.result ≡ lowers net place =
-    c.is_below-lowers.ensures ∙ (λ j. is_below (present j) (tried j)) ∙ lowers_is net place in
-    c.finding_of.ensures ∙ (λ j. finding_of ((c.agrees.ensures ∙ ap (agrees c.args.line.now) text) j) (low j))
+    rw (c.finding_of.ensures, c.agrees.ensures, text, c.is_below-lowers.ensures, present, tried, lowers_is net place)
