@@ -3,7 +3,6 @@ use Rattle.std.proofs.Common.{◌≡◌, ℕ, ◌-◌, ◌≤◌, Bool, true, no
 use Rattle.std.proofs.Common.{All, map, ◌∙◌, arith, nat_le, nat_lt, if◌then◌else◌}
 use Rattle.std.proofs.lemmas.Bool.Decides.{nat_tests}
 use Rattle.std.proofs.lemmas.Bool.{and_parts, not-false, leb-true, ltb-true, le-leb}
-use Rattle.std.proofs.lemmas.List.{length-map}
 use Rattle.transyt_parts.specs.declared.node.Stage.{Stage}
 use Rattle.transyt_parts.specs.declared.link.Feed.{Feed}
 use Rattle.transyt_net.specs.declared.edit.Edit.{Edit}
@@ -19,7 +18,8 @@ use Rattle.transyt_parts.specs.Plan.{plan_fault, in_order, have_greens}
 use Rattle.transyt_net.specs.Edits.{with_edit, set_offset, set_change, change_to, set_entry, set_saturation}
 use Rattle.transyt_net.specs.Edits.{set_weights, set_part, set_cruise, feeder_of, flow_to, cruise_to, node_in}
 use Rattle.transyt_net.specs.EditFaults.{edit_fault, range_fault, feed_fault, order_fault, has_stage, is_link}
-use Rattle.transyt_net.proofs.PlaceLaws.{keys_kept, keys_kept_at, all_on_numbered, all_on_place, length_kept}
+use Rattle.transyt_net.proofs.PlaceLaws.{keys_kept, length_kept, length_kept_at, all_on_numbered, all_on_place}
+use Rattle.transyt_net.proofs.ShapeLaws.{change_bare}
 use Rattle.transyt_net.proofs.WriteLaws.{KeepsLink, no_fault, in_range, links_written, nodes_written}
 
 -- what a range test without a fault tells
@@ -95,7 +95,7 @@ feeds_written : (numbers : List ℕ) (f : Feed → Feed) (same : (x : Feed) → 
     → ((x : Feed) → IsFeed numbers x → IsFeed numbers (f x))
     → IsLink steps nodes numbers (record l { feeds = on_numbered feeder_of f l.feeds feeder })
 feeds_written numbers f same steps nodes feeder l old good =
-    let len = length_kept feeder_of f same l.feeds feeder in
+    let len = length_kept feeder_of f l.feeds feeder in
     let differ : all_differ (map feeder_of (on_numbered feeder_of f l.feeds feeder)) ≡ true =
     ap all_differ (keys_kept feeder_of f same l.feeds feeder) ∙ old.feeders_differ in
     let fed_still : All (IsFeed numbers) (on_numbered feeder_of f l.feeds feeder) =
@@ -107,13 +107,7 @@ pub valid_edit : (net : Network) (e : Edit) → IsValid net → edit_fault net e
 valid_edit net (Offset node offset) h none =
     let both = ranged (is_among (node_numbers net.nodes) node) (nat_lt offset net.frame.step_count) none in
     record {
-      sound = nodes_written net (set_offset offset) (λ n. refl) (λ n. refl) node h.sound
-          (λ n at old. record {
-            number = old.number;
-            offset = ltb-true offset net.frame.step_count both.1;
-            stage_count = old.stage_count;
-            stages = old.stages;
-          });
+      sound = nodes_written net (set_offset offset) (λ n. refl) node h.sound (λ n at old. grind (arith, nat_tests));
       planned =
           all_on_numbered (λ n. plan_fault net.frame.step_count n.stages ≡ None) node_number (set_offset offset)
           net.nodes node (λ n at p. p) h.planned;
@@ -123,18 +117,14 @@ valid_edit net (Change node stage change) h none =
     let known = no_fault (not (has_stage net node stage)) Unknown _ none in
     let fits = no_fault (not (nat_lt change steps)) Range _ known.1 in
     let below = ltb-true change steps (not-false _ fits.0) in
-    let kept : (n : NodeValue) → length (set_change stage change n).stages ≡ length n.stages =
-    λ n. sym (length-map (on_place (change_to change) n.stages (stage - 1)) (λ s. s.least))
-    ∙ ap length (keys_kept_at (λ s. s.least) (change_to change) (λ s. refl) n.stages (stage - 1))
-    ∙ length-map n.stages (λ s. s.least) in
+    let kept = λ (n : NodeValue). length_kept_at (change_to change) n.stages (stage - 1) in
     record {
-      sound = nodes_written net (set_change stage change) (λ n. refl) kept node h.sound
+      sound = nodes_written net (set_change stage change) (change_bare stage change) node h.sound
           (λ n at old.
-          let len = kept n in
           record {
             number = old.number;
             offset = old.offset;
-            stage_count = omega (arith, old.stage_count);
+            stage_count = omega (arith, old.stage_count, kept n);
             stages =
                 all_on_place (IsStage steps) (change_to change) n.stages (stage - 1)
                 (λ s here is. record { change = below; intergreen = is.intergreen; least = is.least }) old.stages;
@@ -142,9 +132,7 @@ valid_edit net (Change node stage change) h none =
       planned =
           all_on_numbered (λ n. plan_fault steps n.stages ≡ None) node_number (set_change stage change) net.nodes node
           (λ n at p.
-          let two = (plan_parts steps n.stages p).0 in
-          let len = kept n in
-          plan_is steps (set_change stage change n).stages (omega arith)
+          plan_is steps (set_change stage change n).stages (omega (arith, (plan_parts steps n.stages p).0, kept n))
           (ap (λ o. order_fault steps (set_change stage change (node_in o)).stages) (sym at) ∙ fits.1))
           h.planned;
     }

@@ -27,8 +27,7 @@ use Rattle.transyt_net.specs.Faults.{node_fault, with_node, last_place, stage_fa
 use Rattle.transyt_net.specs.Faults.{are_links, feed_fault, with_feed, rule_fault, with_rule, climb_fault, with_plan, empty}
 use Rattle.transyt_net.specs.There.{HasLink}
 use Rattle.transyt_net.proofs.PlaceLaws.{eq_swapped, on_place_here, keys_kept}
-use Rattle.transyt_net.proofs.EditLaws.{all_numbered}
-use Rattle.transyt_net.proofs.FoundLaws.{among_there, there_among, some_numbered, numbered_after, fed_is, within_true}
+use Rattle.transyt_net.proofs.FoundLaws.{written_is, fed_is, within_true}
 use Rattle.transyt_net.proofs.WriteLaws.{no_fault, in_range, all_in_range}
 use Rattle.std.proofs.lemmas.Bool.{not-false}
 use Rattle.transyt_net.proofs.SoundNodes.{sound_node, sound_stage}
@@ -142,29 +141,23 @@ link_exactly net l h count no_feeds no_rule = (sound_link net l h count no_feeds
 feed_free : (net : Network) (link : ℕ) (f : Feed) → HasLink net link → IsSound (with_feed net link f)
     → feed_fault net link f ≡ None
 feed_free net link f there s =
-    let steps = net.frame.step_count in
     let numbers = link_numbers net.links in
-    let is_there : is_among numbers link ≡ true = among_there numbers link there in
-    let at = some_numbered link_number net.links link is_there in
-    let l : LinkValue = at.0 in
     let links = on_numbered link_number (add_feed f) net.links link in
     let keys : link_numbers links ≡ numbers = keys_kept link_number (add_feed f) (λ m. refl) net.links link in
-    let good : IsLink steps net.nodes (link_numbers links) (add_feed f l) =
-    all_numbered (IsLink steps net.nodes (link_numbers links)) link_number links link (add_feed f l) s.links
-    (numbered_after link_number (add_feed f) (λ m. refl) net.links link l at.1) in
-    let apart : is_among (feeders l.feeds) f.feeder ≡ false =
-    last_apart (feeders l.feeds) f.feeder
-    (ap all_differ (sym (map-append (λ x. x.feeder) l.feeds (f ∷ []))) ∙ good.feeders_differ) in
+    let is = written_is (IsLink net.frame.step_count net.nodes (link_numbers links)) link_number (add_feed f) (λ m. refl)
+    net.links link there s.links in
+    let feeds = is.0.feeds in
+    let apart : is_among (feeders feeds) f.feeder ≡ false =
+    last_apart (feeders feeds) f.feeder (ap all_differ (sym (map-append (λ x. x.feeder) feeds (f ∷ []))) ∙ is.2.feeders_differ) in
     let twice : is_fed (feeds_at net.links link) f.feeder ≡ false =
-    ap (λ o. is_fed (feeds_in o) f.feeder) at.1 ∙ fed_is l.feeds f.feeder ∙ apart in
-    let feed : IsFeed (link_numbers links) f = all_last (IsFeed (link_numbers links)) l.feeds f good.feeds in
+    ap (λ o. is_fed (feeds_in o) f.feeder) is.1 ∙ fed_is feeds f.feeder ∙ apart in
+    let feed : IsFeed (link_numbers links) f = all_last (IsFeed (link_numbers links)) feeds f is.2.feeds in
     let known : are_links net link f.feeder ≡ true =
-    and_from _ _ is_there (subst (λ ks. is_among ks f.feeder ≡ true) keys feed.feeder) in
+    and_from _ _ there (subst (λ ks. is_among ks f.feeder ≡ true) keys feed.feeder) in
     let range : feed_in_range f ≡ true = grind (arith, nat_tests) in
-    let longer = length-append l.feeds (f ∷ []) in
+    let longer = length-append feeds (f ∷ []) in
     let room : nat_le 8 (length (feeds_at net.links link)) ≡ false =
-    ap (λ o. nat_le 8 (length (feeds_in o))) at.1
-    ∙ lt-leb 8 (length l.feeds) (omega (arith, good.feed_count, longer)) in
+    ap (λ o. nat_le 8 (length (feeds_in o))) is.1 ∙ lt-leb 8 (length feeds) (omega (arith, is.2.feed_count, longer)) in
     (λ j. if twice j then Some Twice else if not (known j) then Some Unknown
     else if not (range j) then Some Range else if room j then Some TooMany else None)
 
@@ -177,25 +170,20 @@ feed_exactly net link f h = (
       let unknown = no_fault (not (are_links net link f.feeder)) Unknown _ once.1 in
       let both = and_parts (is_among (link_numbers net.links) link) (is_among (link_numbers net.links) f.feeder)
       (not-false _ unknown.0) in
-      (there_among (link_numbers net.links) link both.0, sound_feed net link f h none)),
+      (both.0, sound_feed net link f h none)),
   (λ both. feed_free net link f both.0 both.1),
 )
 
 rule_free : (net : Network) (link : ℕ) (r : GiveWay) → HasLink net link → rule_at net.links link ≡ None
     → IsSound (with_rule net link r) → rule_fault net link r ≡ None
 rule_free net link r there none s =
-    let steps = net.frame.step_count in
-    let numbers = link_numbers net.links in
-    let is_there : is_among numbers link ≡ true = among_there numbers link there in
-    let at = some_numbered link_number net.links link is_there in
     let links = on_numbered link_number (set_rule r) net.links link in
-    let keys : link_numbers links ≡ numbers = keys_kept link_number (set_rule r) (λ m. refl) net.links link in
-    let good : IsLink steps net.nodes (link_numbers links) (set_rule r at.0) =
-    all_numbered (IsLink steps net.nodes (link_numbers links)) link_number links link (set_rule r at.0) s.links
-    (numbered_after link_number (set_rule r) (λ m. refl) net.links link at.0 at.1) in
-    let rule : IsRule (link_numbers links) r = good.rule in
+    let is = written_is (IsLink net.frame.step_count net.nodes (link_numbers links)) link_number (set_rule r) (λ m. refl)
+    net.links link there s.links in
+    let rule : IsRule (link_numbers links) r = is.2.rule in
     let known : are_links net link r.other ≡ true =
-    and_from _ _ is_there (subst (λ ks. is_among ks r.other ≡ true) keys rule.other) in
+    and_from _ _ there (subst (λ ks. is_among ks r.other ≡ true)
+    (keys_kept link_number (set_rule r) (λ m. refl) net.links link) rule.other) in
     let range : nat_le r.percent 400 ≡ true = grind (arith, nat_tests) in
     (λ j. if is_some (none j) then Some Twice else if not (known j) then Some Unknown
     else if not (range j) then Some Range else None)
@@ -214,7 +202,7 @@ rule_exactly net link r h = (
       let unknown = no_fault (not (are_links net link r.other)) Unknown _ once.1 in
       let both = and_parts (is_among (link_numbers net.links) link) (is_among (link_numbers net.links) r.other)
       (not-false _ unknown.0) in (
-        there_among (link_numbers net.links) link both.0,
+        both.0,
         no_rule (rule_at net.links link) once.0,
         sound_rule net link r h none,
       )),

@@ -1,38 +1,17 @@
 -- What a number finds where it is there, and after a write to that.
 use Rattle.std.proofs.Common.{◌≡◌, ℕ, ◌<◌, ◌≤◌, Bool, true, false, not, cond, List, [], ◌∷◌, length, map, zero, suc}
 use Rattle.std.proofs.Common.{Option, Some, None, refl, sym, ap, ◌∙◌, arith, nat_eq, if◌then◌else◌}
-use Rattle.std.proofs.Common.{◌⊎◌, inl, inr, get_or}
-use Rattle.std.proofs.lemmas.Bool.{and_from, le-leb, or_cases, true≢false, eqb-true, eq-eqb}
-use Rattle.std.proofs.lemmas.Bool.Decides.{nat_tests}
-use Rattle.std.proofs.lemmas.Map.Views.{list_any-from_Contains, Contains-from_any}
-use Rattle.std.specs.List.{Contains}
-use Rattle.std.specs.Cmp.{IsEquivalence}
+use Rattle.std.proofs.Common.{◌⊎◌, inl, inr, get_or, All}
+use Rattle.std.proofs.lemmas.Bool.{and_from, le-leb, or_cases, true≢false, eqb-true}
 use Rattle.transyt_parts.specs.declared.node.Stage.{Stage}
 use Rattle.transyt_parts.specs.declared.link.Feed.{Feed}
 use Rattle.transyt_net.specs.declared.edit.EditFault.TheVariants.{Unknown, NoFeeder, Range}
-use Rattle.transyt_parts.specs.Parts.{NodeValue, LinkValue}
-use Rattle.transyt_net.specs.Parts.{Network}
-use Rattle.transyt_parts.specs.Valid.{within, is_fed, feeders, link_number}
-use Rattle.transyt_net.specs.Valid.{is_among, numbered, on_numbered, on_place, link_numbers, stage_total, feeds_in, IsLink, IsValid}
-use Rattle.transyt_net.specs.Edits.{change_to, node_in, link_in}
+use Rattle.transyt_parts.specs.Valid.{within, is_fed, feeders}
+use Rattle.transyt_net.specs.Valid.{is_among, numbered, on_numbered, on_place}
+use Rattle.transyt_net.specs.Edits.{change_to}
 use Rattle.transyt_net.specs.EditFaults.{range_fault, feed_fault}
-use Rattle.transyt_net.proofs.PlaceLaws.{list_any_map}
+use Rattle.transyt_net.proofs.PlaceLaws.{list_any_map, keys_kept}
 use Rattle.transyt_net.proofs.EditLaws.{all_numbered}
-
-same_numbers : IsEquivalence nat_eq
-same_numbers = record {
-  refl = λ x. eq-eqb x x refl;
-  symm = λ x y. grind (arith, nat_tests);
-  congr = λ x y z h. ap (λ k. nat_eq k z) (eqb-true x y h);
-}
-
--- a number that is found is there
-pub there_among : (xs : List ℕ) (k : ℕ) → is_among xs k ≡ true → Contains xs k
-there_among xs k h = Contains-from_any eqb-true k xs h
-
--- a number that is there is found
-pub among_there : (xs : List ℕ) (k : ℕ) → Contains xs k → is_among xs k ≡ true
-among_there xs k h = list_any-from_Contains same_numbers k xs h
 
 -- a number that is there has its element
 pub some_numbered : {A : Type 0} (key : A → ℕ) (xs : List A) (k : ℕ) → is_among (map key xs) k ≡ true
@@ -89,16 +68,6 @@ changed_at [] p change d h = absurd (omega arith)
 changed_at (s ∷ ss) zero change d h = refl
 changed_at (s ∷ ss) (suc p) change d h = changed_at ss p change d (omega arith)
 
--- how many stages the node that was found has
-pub stages_in : (o : Option NodeValue) → stage_total o ≡ length (node_in o).stages
-stages_in None = refl
-stages_in (Some n) = refl
-
--- the feeds of the link that was found
-pub feeds_of : (o : Option LinkValue) → feeds_in o ≡ (link_in o).feeds
-feeds_of None = refl
-feeds_of (Some l) = refl
-
 -- a link is fed by the feeders of its feeds
 pub fed_is : (feeds : List Feed) (feeder : ℕ) → is_fed feeds feeder ≡ is_among (feeders feeds) feeder
 fed_is feeds feeder = sym (list_any_map (λ f. f.feeder) (nat_eq feeder) feeds)
@@ -119,9 +88,15 @@ feed_none known feeds fits a b c =
 pub within_true : (low high n : ℕ) → (low ≤ n) × (n ≤ high) → within low high n ≡ true
 within_true low high n h = and_from _ _ (le-leb low n h.0) (le-leb n high h.1)
 
--- a link of a valid network keeps to its ranges
-pub good_link : (net : Network) (link : ℕ) (l : LinkValue) → IsValid net
-    → numbered link_number net.links link ≡ Some l → IsLink net.frame.step_count net.nodes (link_numbers net.links) l
-good_link net link l h at =
-    all_numbered (IsLink net.frame.step_count net.nodes (link_numbers net.links)) link_number net.links link l
-    h.sound.links at
+-- the one of a number that is there, and what holds of all after a write to it
+pub written_is : {A : Type 0} (P : A → Type 0) (key : A → ℕ) (f : A → A) (same : (x : A) → key (f x) ≡ key x) (xs : List A)
+    (k : ℕ)
+    → is_among (map key xs) k ≡ true → All P (on_numbered key f xs k) → (x : A) × (numbered key xs k ≡ Some x) × P (f x)
+written_is P key f same xs k there all =
+    let at = some_numbered key xs k there in
+    (at.0, at.1, all_numbered P key (on_numbered key f xs k) k (f at.0) all (numbered_after key f same xs k at.0 at.1))
+
+-- a number that is there is there after a write
+pub still : {A : Type 0} (key : A → ℕ) (f : A → A) (same : (x : A) → key (f x) ≡ key x) (xs : List A) (k j : ℕ)
+    → is_among (map key xs) j ≡ true → is_among (map key (on_numbered key f xs k)) j ≡ true
+still key f same xs k j there = ap (λ ks. is_among ks j) (keys_kept key f same xs k) ∙ there

@@ -14,6 +14,7 @@ use Rattle.transyt_net.specs.Valid.{is_among, numbered, on_numbered, on_place, p
 use Rattle.transyt_net.specs.Valid.{link_place}
 use Rattle.transyt_net.specs.Named.{IsPlace}
 use Rattle.transyt_parts.specs.Valid.{all_differ, link_number}
+use Rattle.transyt_parts.proofs.CopyLaws.{same_length}
 
 -- a number that is among these is among more
 pub among_more : (xs ys : List ℕ) (k : ℕ) → is_among xs k ≡ true → is_among (xs ++ ys) k ≡ true
@@ -47,6 +48,10 @@ place_is key xs k p h =
       first = λ d i less. ap (nat_eq k) (sym (get_or-map key xs i d 0 (omega arith))) ∙ at.2 i less;
     }
 
+-- it is inside the list
+pub place_inside : {A : Type 0} (key : A → ℕ) (xs : List A) (k p : ℕ) → place_of (map key xs) k ≡ Some p → p < length xs
+place_inside key xs k p at = (place_is key xs k p at).inside
+
 -- where there are links, each number is given the place of one
 pub link_place-lt : (net : Network) (number : ℕ) → 0 < length net.links → link_place net number < length net.links
 link_place-lt net number some = by (place_of (link_numbers net.links) number) refl
@@ -77,6 +82,11 @@ pub found_here : {A : Type 0} (key : A → ℕ) (xs : List A) (k p : ℕ) (x : A
     → x ≡ get_or xs p x → numbered key xs k ≡ Some x
 found_here key xs k p x place read = numbered_here key xs k p x place ∙ ap (λ y. Some y) (sym read)
 
+-- the same at a place that was found
+pub found_at : {A : Type 0} (key : A → ℕ) (xs : List A) (k p : ℕ) (x : A) → place_of (map key xs) k ≡ Some p
+    → x ≡ get_or xs p x → numbered key xs k ≡ Some x
+found_at key xs k p x at read = found_here key xs k p x (place_is key xs k p at) read
+
 -- a write by number is a write at the place of the number
 pub on_numbered_here : {A : Type 0} (key : A → ℕ) (f : A → A) (xs : List A) (k p : ℕ) (d : A) → IsPlace key xs k p
     → on_numbered key f xs k ≡ set xs p (f (get_or xs p d))
@@ -101,37 +111,35 @@ numbered_none key (x ∷ xs) k h =
     let parts = or_parts (nat_eq k (key x)) (is_among (map key xs) k) h in
     ap (λ b. cond b (Some x) (numbered key xs k)) parts.0 ∙ numbered_none key xs k parts.1
 
+-- a write by number that h can't see
+pub map_kept : {A B : Type 0} (key : A → ℕ) (f : A → A) (h : A → B) (same : (x : A) → h (f x) ≡ h x) (xs : List A) (k : ℕ)
+    → map h (on_numbered key f xs k) ≡ map h xs
+map_kept key f h same [] k = refl
+map_kept key f h same (x ∷ xs) k =
+    (elim (nat_eq k (key x)) as (λ b. map h (cond b (f x ∷ xs) (x ∷ on_numbered key f xs k)) ≡ h x ∷ map h xs) [
+      | true ↦ ap (λ y. y ∷ map h xs) (same x)
+      | false ↦ ap (λ ys. h x ∷ ys) (map_kept key f h same xs k)
+    ])
+
 -- a write that keeps the key keeps the keys
 pub keys_kept : {A : Type 0} (key : A → ℕ) (f : A → A) (same : (x : A) → key (f x) ≡ key x) (xs : List A) (k : ℕ)
     → map key (on_numbered key f xs k) ≡ map key xs
-keys_kept key f same [] k = refl
-keys_kept key f same (x ∷ xs) k =
-    (elim (nat_eq k (key x)) as (λ b. map key (cond b (f x ∷ xs) (x ∷ on_numbered key f xs k)) ≡ key x ∷ map key xs) [
-      | true ↦ ap (λ n. n ∷ map key xs) (same x)
-      | false ↦ ap (λ ns. key x ∷ ns) (keys_kept key f same xs k)
-    ])
+keys_kept key f same = map_kept key f key same
 
--- the same at a place
-pub keys_kept_at : {A : Type 0} (key : A → ℕ) (f : A → A) (same : (x : A) → key (f x) ≡ key x) (xs : List A)
-    (p : ℕ)
-    → map key (on_place f xs p) ≡ map key xs
-keys_kept_at key f same [] p = refl
-keys_kept_at key f same (x ∷ xs) zero = ap (λ n. n ∷ map key xs) (same x)
-keys_kept_at key f same (x ∷ xs) (suc p) = ap (λ ns. key x ∷ ns) (keys_kept_at key f same xs p)
+-- a write by place that h can't see
+pub map_kept_at : {A B : Type 0} (f : A → A) (h : A → B) (same : (x : A) → h (f x) ≡ h x) (xs : List A) (p : ℕ)
+    → map h (on_place f xs p) ≡ map h xs
+map_kept_at f h same [] p = refl
+map_kept_at f h same (x ∷ xs) zero = ap (λ y. y ∷ map h xs) (same x)
+map_kept_at f h same (x ∷ xs) (suc p) = ap (λ ys. h x ∷ ys) (map_kept_at f h same xs p)
 
 -- a write by number keeps the count
-pub length_kept : {A : Type 0} (key : A → ℕ) (f : A → A) (same : (x : A) → key (f x) ≡ key x) (xs : List A)
-    (k : ℕ)
-    → length (on_numbered key f xs k) ≡ length xs
-length_kept key f same xs k =
-    sym (length-map (on_numbered key f xs k) key) ∙ ap length (keys_kept key f same xs k) ∙ length-map xs key
+pub length_kept : {A : Type 0} (key : A → ℕ) (f : A → A) (xs : List A) (k : ℕ) → length (on_numbered key f xs k) ≡ length xs
+length_kept {A} key f xs k = same_length {A = A} {B = ℕ} (λ x. 0) (on_numbered key f xs k) xs (map_kept key f (λ x. 0) (λ x. refl) xs k)
 
 -- a write by place keeps the count
-pub length_kept_at : {A : Type 0} (key : A → ℕ) (f : A → A) (same : (x : A) → key (f x) ≡ key x) (xs : List A)
-    (p : ℕ)
-    → length (on_place f xs p) ≡ length xs
-length_kept_at key f same xs p =
-    sym (length-map (on_place f xs p) key) ∙ ap length (keys_kept_at key f same xs p) ∙ length-map xs key
+pub length_kept_at : {A : Type 0} (f : A → A) (xs : List A) (p : ℕ) → length (on_place f xs p) ≡ length xs
+length_kept_at {A} f xs p = same_length {A = A} {B = ℕ} (λ x. 0) (on_place f xs p) xs (map_kept_at f (λ x. 0) (λ x. refl) xs p)
 
 -- what holds of each element holds after a write that keeps it
 pub all_on_numbered : {A : Type 0} (P : A → Type 0) (key : A → ℕ) (f : A → A) (xs : List A) (k : ℕ)
@@ -180,22 +188,17 @@ pub record IsPut {A : Type 0} (key : A → ℕ) (f : A → A) (xs : List A) (k p
   pub put : set xs p new ≡ on_numbered key f xs k
   pub keys : map key xs ≡ map key (set xs p new)
 
+-- a write at the place of a number
+pub written_here : {A : Type 0} (key : A → ℕ) (f : A → A) (xs : List A) (k p : ℕ) (old new : A)
+    → IsPlace key xs k p → old ≡ get_or xs p old → new ≡ f old → set xs p new ≡ on_numbered key f xs k
+written_here key f xs k p old new place read made =
+    ap (λ x. set xs p x) (made ∙ ap f read) ∙ sym (on_numbered_here key f xs k p old place)
+
 -- a write at the place that was found for a number
 pub put_there : {A : Type 0} (key : A → ℕ) (f : A → A) (same : (x : A) → key (f x) ≡ key x) (xs : List A) (k p : ℕ)
     (old new : A)
     → place_of (map key xs) k ≡ Some p → old ≡ get_or xs p old → new ≡ f old → IsPut key f xs k p old new
 put_there key f same xs k p old new at read made =
     let place : IsPlace key xs k p = place_is key xs k p at in
-    let put : set xs p new ≡ on_numbered key f xs k =
-    ap (λ x. set xs p x) (made ∙ ap f read) ∙ sym (on_numbered_here key f xs k p old place) in
-    record {
-      found = found_here key xs k p old place read;
-      put = put;
-      keys = sym (ap (map key) put ∙ keys_kept key f same xs k);
-    }
-
--- a write at the place of a number
-pub written_here : {A : Type 0} (key : A → ℕ) (f : A → A) (xs : List A) (k p : ℕ) (old new : A)
-    → IsPlace key xs k p → old ≡ get_or xs p old → new ≡ f old → set xs p new ≡ on_numbered key f xs k
-written_here key f xs k p old new place read made =
-    ap (λ x. set xs p x) (made ∙ ap f read) ∙ sym (on_numbered_here key f xs k p old place)
+    let put = written_here key f xs k p old new place read made in
+    record { found = found_here key xs k p old place read; put = put; keys = sym (ap (map key) put ∙ keys_kept key f same xs k) }

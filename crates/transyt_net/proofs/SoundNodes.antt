@@ -15,7 +15,7 @@ use Rattle.transyt_parts.specs.Valid.{all_differ, within, node_number, IsNode, I
 use Rattle.transyt_parts.specs.Valid.{node_in_range, stage_in_range}
 use Rattle.transyt_net.specs.Faults.{node_fault, with_node, last_place, stage_fault, with_stage}
 use Rattle.transyt_parts.specs.Made.{new_node, add_stage}
-use Rattle.transyt_net.proofs.PlaceLaws.{among_more, all_differ-push, keys_kept_at, length_kept_at, all_on_place}
+use Rattle.transyt_net.proofs.PlaceLaws.{among_more, all_differ-push, map_kept_at, length_kept_at, all_on_place}
 use Rattle.transyt_net.proofs.WriteLaws.{no_fault, in_range, stages_more, stages_more_at}
 use Rattle.transyt_net.proofs.WriteLaws.{link_with_more_nodes}
 
@@ -81,10 +81,10 @@ sound_stage net s h none =
     let room = no_fault (nat_le 8 (stage_total (slice_get net.nodes p))) TooMany _ ranged.1 in
     let after = on_place (add_stage s) net.nodes p in
     let numbers : node_numbers after ≡ node_numbers net.nodes =
-    keys_kept_at node_number (add_stage s) (λ x. refl) net.nodes p in
+    map_kept_at (add_stage s) node_number (λ x. refl) net.nodes p in
     let among : (k : ℕ) → is_among (node_numbers net.nodes) k ≡ true → is_among (node_numbers after) k ≡ true =
     λ k a. subst (λ ks. is_among ks k ≡ true) (sym numbers) a in
-    let len = length_kept_at node_number (add_stage s) (λ x. refl) net.nodes p in
+    let len = length_kept_at (add_stage s) net.nodes p in
     record {
       frame = h.frame;
       node_count = omega arith;

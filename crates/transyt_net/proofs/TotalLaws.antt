@@ -1,4 +1,4 @@
--- Total flows of links, kept beside them.
+-- Links that were written, and their total flows, which are kept beside them.
 use Rattle.std.proofs.Common.{◌≡◌, ℕ, ◌<◌, ◌≤◌, List, length, map, get_or, set, sym, ap, ◌∙◌, subst, arith, All}
 use Rattle.std.proofs.lemmas.List.{map-set, get_or-map, get_or-set_same, length-set}
 use Rattle.std.proofs.lemmas.List.Elements.{All-get_or}
@@ -7,7 +7,8 @@ use Rattle.transyt_parts.specs.declared.link.Feed.{Feed}
 use Rattle.transyt_parts.specs.Parts.{NodeValue, LinkValue}
 use Rattle.transyt_parts.specs.Flow.{total_flow}
 use Rattle.transyt_net.specs.Parts.{Network}
-use Rattle.transyt_net.specs.Valid.{link_numbers, IsSound, IsLink}
+use Rattle.transyt_parts.specs.Valid.{link_number}
+use Rattle.transyt_net.specs.Valid.{link_numbers, on_numbered, IsSound, IsLink}
 
 -- the total flow of a link, by the limits of its flows
 pub total_small : (steps : ℕ) (nodes : List NodeValue) (numbers : List ℕ) (l : LinkValue)
@@ -37,3 +38,11 @@ link_set net p new sound inside =
     let there : p < length links = omega (arith, length-set net.links p new) in
     subst (IsLink net.frame.step_count net.nodes (link_numbers links)) (get_or-set_same net.links p new new inside)
     (All-get_or (IsLink net.frame.step_count net.nodes (link_numbers links)) links p new there sound.links)
+
+-- the network with these links is the one with the link of a number written
+pub links_put : (net now : Network) (links : List LinkValue) (k : ℕ) (f : LinkValue → LinkValue) → net ≡ now
+    → links ≡ on_numbered link_number f net.links k
+    → record net { links = links } ≡ record now { links = on_numbered link_number f now.links k }
+links_put net now links k f same put =
+    ap (λ (ls : List LinkValue). record net { links = ls }) put
+    ∙ ap (λ (n : Network). record n { links = on_numbered link_number f n.links k }) same

@@ -1,6 +1,6 @@
 -- Writes to nodes and links, and more of them, that keep a network sound.
 use Rattle.std.proofs.Common.{[], ◌≡◌, ℕ, suc, zero, ◌≤◌, Bool, true, false, cond, List, ◌∷◌, ◌++◌, length, Option}
-use Rattle.std.proofs.Common.{Some, None, refl, sym, subst, arith, nat_eq, nat_le, length-append, All, IfSome}
+use Rattle.std.proofs.Common.{Some, None, refl, sym, ap, ◌∙◌, subst, arith, nat_eq, nat_le, length-append, All, IfSome}
 use Rattle.std.proofs.Common.{if◌then◌else◌}
 use Rattle.std.specs.List.{list_all}
 use Rattle.std.proofs.lemmas.Bool.Decides.{nat_tests}
@@ -14,7 +14,9 @@ use Rattle.transyt_net.specs.Valid.{is_among, numbered, on_numbered, on_place, n
 use Rattle.transyt_net.specs.Valid.{stage_total, IsSound, IsLink, IsFeed, IsRule}
 use Rattle.transyt_parts.specs.Valid.{all_differ, within, node_number, link_number, IsNode}
 use Rattle.transyt_parts.specs.Made.{add_stage}
-use Rattle.transyt_net.proofs.PlaceLaws.{keys_kept, length_kept, all_on_numbered}
+use Rattle.transyt_parts.specs.Shape.{bare_node}
+use Rattle.transyt_net.proofs.PlaceLaws.{keys_kept, map_kept, length_kept, all_on_numbered}
+use Rattle.transyt_net.proofs.ShapeLaws.{same_numbers, same_stages_at}
 
 -- a chain of tests that finds no fault has none that holds
 pub no_fault : {F : Type 0} (b : Bool) (f : F) (rest : Option F) → (if b then Some f else rest) ≡ None
@@ -114,16 +116,14 @@ pub links_written : (net : Network) (f : LinkValue → LinkValue) (same : (l : L
 links_written net f same link h keeps =
     let steps = net.frame.step_count in
     let after = on_numbered link_number f net.links link in
-    let numbers : link_numbers after ≡ link_numbers net.links =
-    keys_kept link_number f same net.links link in
-    let len = length_kept link_number f same net.links link in
+    let numbers : link_numbers after ≡ link_numbers net.links = keys_kept link_number f same net.links link in
     record {
       frame = h.frame;
       node_count = h.node_count;
       nodes_differ = h.nodes_differ;
       nodes = h.nodes;
-      link_count = omega arith;
-      links_differ = subst (λ ks. all_differ ks ≡ true) (sym numbers) h.links_differ;
+      link_count = omega (arith, h.link_count, length_kept link_number f net.links link);
+      links_differ = ap all_differ numbers ∙ h.links_differ;
       links =
           subst (λ ks. All (IsLink steps net.nodes ks) after) (sym numbers)
           (all_on_numbered (IsLink steps net.nodes (link_numbers net.links)) link_number f net.links link
@@ -131,55 +131,28 @@ links_written net f same link h keeps =
       plan = h.plan;
     }
 
--- a network whose nodes were written, each keeping its number and the count of its stages
-pub nodes_written : (net : Network) (f : NodeValue → NodeValue) (same : (n : NodeValue) → (f n).number ≡ n.number)
-    (count : (n : NodeValue) → length (f n).stages ≡ length n.stages) (node : ℕ)
+-- a network whose nodes were written, each keeping its shape
+pub nodes_written : (net : Network) (f : NodeValue → NodeValue) (same : (n : NodeValue) → bare_node (f n) ≡ bare_node n)
+    (node : ℕ)
     → IsSound net
     → KeepsNode net node f
     → IsSound (record net { nodes = on_numbered node_number f net.nodes node })
-nodes_written net f same count node h keeps =
+nodes_written net f same node h keeps =
     let steps = net.frame.step_count in
     let after = on_numbered node_number f net.nodes node in
-    let numbers : node_numbers after ≡ node_numbers net.nodes = keys_kept node_number f same net.nodes node in
-    let len = length_kept node_number f same net.nodes node in
+    let bare = map_kept node_number f bare_node same net.nodes node in
+    let numbers : node_numbers after ≡ node_numbers net.nodes = same_numbers after net.nodes bare in
     record {
       frame = h.frame;
-      node_count = omega arith;
-      nodes_differ = subst (λ ks. all_differ ks ≡ true) (sym numbers) h.nodes_differ;
+      node_count = omega (arith, h.node_count, length_kept node_number f net.nodes node);
+      nodes_differ = ap all_differ numbers ∙ h.nodes_differ;
       nodes = all_on_numbered (IsNode steps) node_number f net.nodes node keeps h.nodes;
       link_count = h.link_count;
       links_differ = h.links_differ;
       links = All-weaker _ (IsLink steps after (link_numbers net.links))
           (λ l. link_with_more_nodes steps net.nodes after (link_numbers net.links)
-          (λ k a. subst (λ ks. is_among ks k ≡ true) (sym numbers) a)
-          (λ k. stages_as_many net.nodes f same count node k) l)
+          (λ k a. ap (λ ks. is_among ks k) numbers ∙ a)
+          (λ k. omega (arith, same_stages_at after net.nodes k bare)) l)
           net.links h.links;
       plan = h.plan;
     }
-  where
-    stages_as_many : (nodes : List NodeValue) (f : NodeValue → NodeValue)
-        (same : (n : NodeValue) → (f n).number ≡ n.number)
-        (count : (n : NodeValue) → length (f n).stages ≡ length n.stages) (node k : ℕ)
-        → stages_at nodes k ≤ stages_at (on_numbered node_number f nodes node) k
-    stages_as_many [] f same count node k = omega arith
-    stages_as_many (x ∷ xs) f same count node k =
-        let longer = count x in
-        let y = f x in
-        let after = on_numbered node_number f xs node in
-        let rest = numbered node_number xs k in
-        let more = numbered node_number after k in
-        let here : stages_at (x ∷ xs) k ≤ stages_at (y ∷ xs) k =
-        subst (λ m. stages_at (x ∷ xs) k ≤ stage_total (if nat_eq k m then Some y else rest)) (sym (same x))
-        (elim (nat_eq k x.number) as (λ b. stage_total (cond b (Some x) rest) ≤ stage_total (cond b (Some y) rest)) [
-          | true ↦ omega arith
-          | false ↦ omega arith
-        ]) in
-        let there : stages_at (x ∷ xs) k ≤ stages_at (x ∷ after) k =
-        (elim (nat_eq k x.number) as (λ b. stage_total (cond b (Some x) rest) ≤ stage_total (cond b (Some x) more)) [
-          | true ↦ omega arith
-          | false ↦ stages_as_many xs f same count node k
-        ]) in
-        (elim (nat_eq node x.number) as (λ b. stages_at (x ∷ xs) k ≤ stages_at (cond b (y ∷ xs) (x ∷ after)) k) [
-          | true ↦ here
-          | false ↦ there
-        ])
