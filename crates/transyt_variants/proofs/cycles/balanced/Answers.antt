@@ -1,10 +1,7 @@
 -- The balanced network is valid, and its nodes have the numbers that they had.
-use Rattle.std.proofs.Common.{List, subst, sym, ap, ◌∙◌}
-use Rattle.transyt_parts.specs.declared.frame.Frame.{Frame}
-use Rattle.transyt_parts.specs.Parts.{NodeValue}
-use Rattle.transyt_net.specs.Parts.{with_signals}
-use Rattle.transyt_net.specs.Valid.{IsValid, node_numbers}
-use Rattle.transyt_variants.proofs.BareLaws.{balanced_numbers, balanced_valid}
+use Rattle.std.proofs.Common.{ap, ◌∙◌}
+use Rattle.transyt_net.specs.Valid.{node_numbers}
+use Rattle.transyt_variants.proofs.BalancedLaws.{balanced_numbers, balanced_valid}
 use Rattle.transyt_variants.proofs.cycles.balanced.Goals as goal
 
 pub with_signals-made-requires-clause-numbers : goal.with_signals-made-requires-clause-numbers
@@ -13,7 +10,5 @@ with_signals-made-requires-clause-numbers c =
 
 pub with_signals-made-requires-clause-valid : goal.with_signals-made-requires-clause-valid
 with_signals-made-requires-clause-valid c =
-    let net = c.args.net.now in
-    subst (λ (f : Frame). IsValid (with_signals net f c.deref.result.now)) (sym c.frame.ensures.value)
-    (subst (λ (ns : List NodeValue). IsValid (with_signals net net.frame ns))
-    (sym (c.deref.ensures.value ∙ c.in_default.ensures)) (balanced_valid net c.frame.ensures.valid))
+    rw (c.frame.ensures.value, c.deref.ensures.value ∙ c.in_default.ensures)
+    (balanced_valid c.args.net.now c.frame.ensures.valid)

@@ -4,7 +4,7 @@ use Rattle.std.proofs.lemmas.List.{get_or_default}
 use Rattle.transyt_parts.specs.Parts.{NodeValue}
 use Rattle.transyt_net.specs.Parts.{node_of, no_node}
 use Rattle.transyt_equisat.specs.Answer.{GreensValue}
-use Rattle.transyt_variants.proofs.BareLaws.{balance_count}
+use Rattle.transyt_variants.proofs.BalancedLaws.{balance_count}
 use Rattle.transyt_variants.proofs.cycles.balanced_node.Goals as goal
 
 pub timed-requires : goal.timed-requires
