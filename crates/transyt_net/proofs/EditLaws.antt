@@ -4,6 +4,7 @@ use Rattle.std.proofs.Common.{get_or, set, Some, refl, sym, ap, subst, ◌∙◌
 use Rattle.std.proofs.Math.Seq.{take-length}
 use Rattle.std.proofs.lemmas.List.{set-append_left, take-append-le, length-set, get_or_append_left}
 use Rattle.std.proofs.lemmas.List.Elements.{All-head, All-tail}
+use Rattle.std.proofs.lemmas.Bool.Decides.{nat_tests}
 use Rattle.transyt_net.specs.Valid.{numbered, on_numbered, on_place}
 use Rattle.transyt_net.specs.Named.{IsPlace}
 use Rattle.transyt_parts.specs.declared.node.Stage.{Stage}
@@ -17,14 +18,7 @@ pub all_numbered : {A : Type 0} (P : A → Type 0) (key : A → ℕ) (xs : List 
     → numbered key xs k ≡ Some y → P y
 all_numbered P key [] k y all at = absurd (cc)
 all_numbered P key (x ∷ xs) k y all at =
-    by (nat_eq k (key x)) refl (λ rest. all_numbered P key xs k y (All-tail P x xs all) rest)
-  where
-    by : (b : Bool) → nat_eq k (key x) ≡ b → (numbered key xs k ≡ Some y → P y) → P y
-    by true e rest =
-        let here : Some x ≡ Some y = sym (ap (λ b. cond b (Some x) (numbered key xs k)) e) ∙ at in
-        let same : x ≡ y = cc in
-        subst P same (All-head P x xs all)
-    by false e rest = rest (sym (ap (λ b. cond b (Some x) (numbered key xs k)) e) ∙ at)
+    grind (arith, nat_tests, All-head P x xs all, all_numbered P key xs k y (All-tail P x xs all))
 
 -- a link, with the feed at the place of a feeder written
 pub feed_written : {l was : LinkValue} (f : Feed → Feed) (feeder p : ℕ) (old : Feed) → l ≡ was

@@ -2,7 +2,7 @@
 use Rattle.std.proofs.lemmas.List.Elements.{All-nil, All-cons, All-head, All-tail}
 use Rattle.std.proofs.Common.{IfSome, All, slice_get, ◌≡◌, ℕ, suc, zero, ◌<◌, Bool, true, false, not, cond, ◌||◌, List}
 use Rattle.std.proofs.Common.{[], ◌∷◌, ◌++◌, length, map, get_or, set, Option, Some, None, refl, sym, ap, subst, ◌∙◌}
-use Rattle.std.proofs.Common.{arith, nat_eq, if◌then◌else◌}
+use Rattle.std.proofs.Common.{arith, nat_eq, if◌then◌else◌, ◌&&◌}
 use Rattle.std.specs.List.{list_any}
 use Rattle.std.proofs.lemmas.Bool.{and_parts, and_from, or_left, or_parts, or_from, not_from_false, not-true, eqb-true}
 use Rattle.std.proofs.lemmas.Bool.Decides.{nat_tests}
@@ -24,17 +24,10 @@ among_more xs ys k h = list_any-append (nat_eq k) xs ys ∙ or_left _ _ h
 pub eq_swapped : (a b : ℕ) → nat_eq a b ≡ false → nat_eq b a ≡ false
 eq_swapped a b h = grind (arith, nat_tests)
 
--- a number that isn't there yet goes last
-pub all_differ-push : (xs : List ℕ) (y : ℕ) → all_differ xs ≡ true → is_among xs y ≡ false
-    → all_differ (xs ++ y ∷ []) ≡ true
-all_differ-push [] y d a = refl
-all_differ-push (x ∷ xs) y d a =
-    let parts = and_parts (not (list_any (nat_eq x) xs)) (all_differ xs) d in
-    let apart = or_parts (nat_eq y x) (list_any (nat_eq y) xs) a in
-    let absent : list_any (nat_eq x) (xs ++ y ∷ []) ≡ false =
-    list_any-append (nat_eq x) xs (y ∷ [])
-    ∙ or_from _ _ (not-true _ parts.0) (or_from _ _ (eq_swapped y x apart.0) refl) in
-    and_from _ _ (not_from_false _ absent) (all_differ-push xs y parts.1 apart.1)
+-- where one number more stands last
+pub all_differ-push : (xs : List ℕ) (y : ℕ) → all_differ (xs ++ y ∷ []) ≡ (all_differ xs && not (is_among xs y))
+all_differ-push [] y = refl
+all_differ-push (x ∷ xs) y = grind (arith, nat_tests, list_any-append (nat_eq x) xs (y ∷ []), all_differ-push xs y)
 
 -- the place that is found is the place of the number
 pub place_is : {A : Type 0} (key : A → ℕ) (xs : List A) (k p : ℕ) → place_of (map key xs) k ≡ Some p
@@ -107,19 +100,13 @@ on_place_here f (x ∷ xs) (suc p) d h = ap (λ ys. x ∷ ys) (on_place_here f x
 pub numbered_none : {A : Type 0} (key : A → ℕ) (xs : List A) (k : ℕ) → is_among (map key xs) k ≡ false
     → numbered key xs k ≡ None
 numbered_none key [] k h = refl
-numbered_none key (x ∷ xs) k h =
-    let parts = or_parts (nat_eq k (key x)) (is_among (map key xs) k) h in
-    ap (λ b. cond b (Some x) (numbered key xs k)) parts.0 ∙ numbered_none key xs k parts.1
+numbered_none key (x ∷ xs) k h = grind (arith, nat_tests, numbered_none key xs k)
 
 -- a write by number that h can't see
 pub map_kept : {A B : Type 0} (key : A → ℕ) (f : A → A) (h : A → B) (same : (x : A) → h (f x) ≡ h x) (xs : List A) (k : ℕ)
     → map h (on_numbered key f xs k) ≡ map h xs
 map_kept key f h same [] k = refl
-map_kept key f h same (x ∷ xs) k =
-    (elim (nat_eq k (key x)) as (λ b. map h (cond b (f x ∷ xs) (x ∷ on_numbered key f xs k)) ≡ h x ∷ map h xs) [
-      | true ↦ ap (λ y. y ∷ map h xs) (same x)
-      | false ↦ ap (λ ys. h x ∷ ys) (map_kept key f h same xs k)
-    ])
+map_kept key f h same (x ∷ xs) k = grind (arith, nat_tests, same x, map_kept key f h same xs k)
 
 -- a write that keeps the key keeps the keys
 pub keys_kept : {A : Type 0} (key : A → ℕ) (f : A → A) (same : (x : A) → key (f x) ≡ key x) (xs : List A) (k : ℕ)
@@ -145,20 +132,8 @@ length_kept_at {A} f xs p = same_length {A = A} {B = ℕ} (λ x. 0) (on_place f 
 pub all_on_numbered : {A : Type 0} (P : A → Type 0) (key : A → ℕ) (f : A → A) (xs : List A) (k : ℕ)
     → ((x : A) → numbered key xs k ≡ Some x → P x → P (f x)) → All P xs → All P (on_numbered key f xs k)
 all_on_numbered P key f [] k h all = All-nil P
-all_on_numbered {A} P key f (x ∷ xs) k h all =
-    by (nat_eq k (key x)) refl (λ none. all_on_numbered P key f xs k (later none) (All-tail P x xs all))
-  where
-    later : nat_eq k (key x) ≡ false → (y : A) → numbered key xs k ≡ Some y → P y → P (f y)
-    later none y at good = h y (ap (λ b. cond b (Some x) (numbered key xs k)) none ∙ at) good
-
-    by : (b : Bool) → nat_eq k (key x) ≡ b → (nat_eq k (key x) ≡ false → All P (on_numbered key f xs k))
-        → All P (if nat_eq k (key x) then f x ∷ xs else x ∷ on_numbered key f xs k)
-    by true e rest =
-        let found : numbered key (x ∷ xs) k ≡ Some x = ap (λ b. cond b (Some x) (numbered key xs k)) e in
-        subst (λ b. All P (cond b (f x ∷ xs) (x ∷ on_numbered key f xs k))) (sym e)
-        (All-cons P (f x) xs (h x found (All-head P x xs all)) (All-tail P x xs all))
-    by false e rest = subst (λ b. All P (cond b (f x ∷ xs) (x ∷ on_numbered key f xs k))) (sym e)
-        (All-cons P x (on_numbered key f xs k) (All-head P x xs all) (rest e))
+all_on_numbered P key f (x ∷ xs) k h all =
+    grind (arith, nat_tests, All-cons P, All-head P x xs all, All-tail P x xs all, h, all_on_numbered P key f xs k)
 
 -- what holds of each holds after a write by place that keeps it
 pub all_on_place : {A : Type 0} (P : A → Type 0) (f : A → A) (xs : List A) (p : ℕ)

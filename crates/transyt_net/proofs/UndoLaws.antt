@@ -1,6 +1,7 @@
 -- The inverse takes an edit back.
 use Rattle.std.proofs.Common.{◌≡◌, ℕ, suc, zero, ◌-◌, Bool, true, false, cond, List, [], ◌∷◌, Option, Some, refl, sym, ap, ◌∙◌}
-use Rattle.std.proofs.Common.{nat_eq, if◌then◌else◌}
+use Rattle.std.proofs.Common.{nat_eq, if◌then◌else◌, arith}
+use Rattle.std.proofs.lemmas.Bool.Decides.{nat_tests}
 use Rattle.transyt_parts.specs.declared.node.Stage.{Stage}
 use Rattle.transyt_net.specs.declared.edit.Edit.{Edit}
 use Rattle.transyt_net.specs.declared.edit.Edit.TheVariants.{Offset, Change, Entry, Part, Cruise, Saturation, Weight}
@@ -13,48 +14,14 @@ use Rattle.transyt_net.specs.Edits.{with_edit, inverse, set_offset, set_change, 
 use Rattle.transyt_net.specs.Edits.{set_weights, set_part, set_cruise, feeder_of, flow_to, cruise_to, node_in, link_in}
 use Rattle.transyt_net.specs.Edits.{feed_in, the_feed}
 
--- two writes at one number are one
-pub twice : {A : Type 0} (key : A → ℕ) (f g : A → A) (same : (x : A) → key (f x) ≡ key x) (xs : List A) (k : ℕ)
-    → on_numbered key g (on_numbered key f xs k) k ≡ on_numbered key (λ x. g (f x)) xs k
-twice key f g same [] k = refl
-twice key f g same (x ∷ xs) k = by (nat_eq k (key x)) refl (twice key f g same xs k)
-  where
-    by : (b : Bool) → nat_eq k (key x) ≡ b
-        → on_numbered key g (on_numbered key f xs k) k ≡ on_numbered key (λ x. g (f x)) xs k
-        → on_numbered key g (if nat_eq k (key x) then f x ∷ xs else x ∷ on_numbered key f xs k) k
-        ≡ (if nat_eq k (key x) then g (f x) ∷ xs else x ∷ on_numbered key (λ x. g (f x)) xs k)
-    by true e rest =
-        ap (λ b. on_numbered key g (cond b (f x ∷ xs) (x ∷ on_numbered key f xs k)) k) e
-        ∙ ap (λ b. cond b (g (f x) ∷ xs) (f x ∷ on_numbered key g xs k)) (ap (nat_eq k) (same x) ∙ e)
-        ∙ sym (ap (λ b. cond b (g (f x) ∷ xs) (x ∷ on_numbered key (λ x. g (f x)) xs k)) e)
-    by false e rest =
-        ap (λ b. on_numbered key g (cond b (f x ∷ xs) (x ∷ on_numbered key f xs k)) k) e
-        ∙ ap (λ b. cond b (g x ∷ on_numbered key f xs k) (x ∷ on_numbered key g (on_numbered key f xs k) k)) e
-        ∙ ap (λ ys. x ∷ ys) rest
-        ∙ sym (ap (λ b. cond b (g (f x) ∷ xs) (x ∷ on_numbered key (λ x. g (f x)) xs k)) e)
-
--- a write that leaves the one of the number leaves all
-pub leaves : {A : Type 0} (key : A → ℕ) (h : A → A) (xs : List A) (k : ℕ)
-    → ((x : A) → numbered key xs k ≡ Some x → h x ≡ x) → on_numbered key h xs k ≡ xs
-leaves key h [] k same = refl
-leaves key h (x ∷ xs) k same =
-    by (nat_eq k (key x)) refl
-    (λ e. leaves key h xs k (λ y at. same y (ap (λ b. cond b (Some x) (numbered key xs k)) e ∙ at)))
-  where
-    by : (b : Bool) → nat_eq k (key x) ≡ b → (nat_eq k (key x) ≡ false → on_numbered key h xs k ≡ xs)
-        → (if nat_eq k (key x) then h x ∷ xs else x ∷ on_numbered key h xs k) ≡ x ∷ xs
-    by true e rest =
-        ap (λ b. cond b (h x ∷ xs) (x ∷ on_numbered key h xs k)) e
-        ∙ ap (λ y. y ∷ xs) (same x (ap (λ b. cond b (Some x) (numbered key xs k)) e))
-    by false e rest = ap (λ b. cond b (h x ∷ xs) (x ∷ on_numbered key h xs k)) e ∙ ap (λ ys. x ∷ ys) (rest e)
-
--- so a write, and a second that puts back what stood there, leave all
-pub put_back : {A : Type 0} (key : A → ℕ) (f g : A → A) (same : (x : A) → key (f x) ≡ key x) (xs : List A) (k : ℕ)
+-- a write, and a second that puts back what stood there, leave all
+put_back : {A : Type 0} (key : A → ℕ) (f g : A → A) (same : (x : A) → key (f x) ≡ key x) (xs : List A) (k : ℕ)
     → ((x : A) → numbered key xs k ≡ Some x → g (f x) ≡ x) → on_numbered key g (on_numbered key f xs k) k ≡ xs
-put_back key f g same xs k back = twice key f g same xs k ∙ leaves key (λ x. g (f x)) xs k back
+put_back key f g same [] k back = refl
+put_back key f g same (x ∷ xs) k back = grind (arith, nat_tests, same x, back, put_back key f g same xs k)
 
 -- the same at a place
-pub put_back_at : (ss : List Stage) (p change : ℕ)
+put_back_at : (ss : List Stage) (p change : ℕ)
     → on_place (change_to (stage_of ss p).change) (on_place (change_to change) ss p) p ≡ ss
 put_back_at [] p change = refl
 put_back_at (s ∷ ss) zero change = refl

@@ -4,8 +4,8 @@ use Rattle.std.proofs.Common.{Some, None, refl, sym, ap, ◌∙◌, subst, arith
 use Rattle.std.proofs.Common.{if◌then◌else◌}
 use Rattle.std.specs.List.{list_all}
 use Rattle.std.proofs.lemmas.Bool.Decides.{nat_tests}
-use Rattle.std.proofs.lemmas.Bool.{and_parts, leb-true}
-use Rattle.std.proofs.lemmas.List.Elements.{All-cons, All-weaker, All-nil}
+use Rattle.std.proofs.lemmas.List.Elements.{All-weaker}
+use Rattle.std.proofs.lemmas.List.Sums.{AllPass-from_list_all}
 use Rattle.transyt_parts.specs.declared.node.Stage.{Stage}
 use Rattle.transyt_parts.specs.declared.link.GiveWay.{GiveWay}
 use Rattle.transyt_parts.specs.Parts.{NodeValue, LinkValue}
@@ -24,49 +24,28 @@ pub no_fault : {F : Type 0} (b : Bool) (f : F) (rest : Option F) → (if b then 
 no_fault true f rest h = absurd (cc)
 no_fault false f rest h = (refl, h)
 
--- the tests of ranges, as facts
+-- the test of a range, as a fact
 pub in_range : (low high n : ℕ) → within low high n ≡ true → (low ≤ n) × (n ≤ high)
-in_range low high n h =
-    let parts = and_parts (nat_le low n) (nat_le n high) h in (leb-true low n parts.0, leb-true n high parts.1)
+in_range low high n h = grind (arith, nat_tests)
 
 -- the same of each of a list
 pub all_in_range : (low high : ℕ) (xs : List ℕ) → list_all (within low high) xs ≡ true
     → All (λ k. (low ≤ k) × (k ≤ high)) xs
-all_in_range low high [] h = All-nil (λ k. (low ≤ k) × (k ≤ high))
-all_in_range low high (x ∷ xs) h =
-    let parts = and_parts (within low high x) (list_all (within low high) xs) h in
-    All-cons (λ k. (low ≤ k) × (k ≤ high)) x xs (in_range low high x parts.0) (all_in_range low high xs parts.1)
+all_in_range low high xs h =
+    All-weaker (λ k. within low high k ≡ true) (λ k. (low ≤ k) × (k ≤ high)) (in_range low high) xs
+    (AllPass-from_list_all (within low high) xs h)
 
 -- a new node leaves what a node's number finds
 pub stages_more : (nodes : List NodeValue) (n : NodeValue) (k : ℕ) → stages_at nodes k ≤ stages_at (nodes ++ n ∷ []) k
 stages_more [] n k = omega arith
-stages_more (x ∷ xs) n k =
-    let rest = numbered node_number xs k in
-    let more = numbered node_number (xs ++ n ∷ []) k in
-    (elim (nat_eq k x.number) as (λ b. stage_total (cond b (Some x) rest) ≤ stage_total (cond b (Some x) more)) [
-      | true ↦ omega arith
-      | false ↦ stages_more xs n k
-    ])
+stages_more (x ∷ xs) n k = grind (arith, nat_tests, stages_more xs n k)
 
 -- and so does a new stage
 pub stages_more_at : (nodes : List NodeValue) (s : Stage) (p k : ℕ)
     → stages_at nodes k ≤ stages_at (on_place (add_stage s) nodes p) k
 stages_more_at [] s p k = omega arith
-stages_more_at (x ∷ xs) s zero k =
-    let longer = length-append x.stages (s ∷ []) in
-    let rest = numbered node_number xs k in
-    let y = add_stage s x in
-    (elim (nat_eq k x.number) as (λ b. stage_total (cond b (Some x) rest) ≤ stage_total (cond b (Some y) rest)) [
-      | true ↦ omega arith
-      | false ↦ omega arith
-    ])
-stages_more_at (x ∷ xs) s (suc p) k =
-    let rest = numbered node_number xs k in
-    let more = numbered node_number (on_place (add_stage s) xs p) k in
-    (elim (nat_eq k x.number) as (λ b. stage_total (cond b (Some x) rest) ≤ stage_total (cond b (Some x) more)) [
-      | true ↦ omega arith
-      | false ↦ stages_more_at xs s p k
-    ])
+stages_more_at (x ∷ xs) s zero k = grind (arith, nat_tests, length-append x.stages (s ∷ []))
+stages_more_at (x ∷ xs) s (suc p) k = grind (arith, nat_tests, stages_more_at xs s p k)
 
 -- more nodes and stages hurt no link
 pub link_with_more_nodes : (steps : ℕ) (nodes more : List NodeValue) (numbers : List ℕ)
