@@ -1,14 +1,14 @@
 -- An edit is allowed exactly where what it names is there and the network with it is valid.
-use Rattle.std.proofs.Common.{◌≡◌, ℕ, ◌-◌, ◌<◌, true, not, length, All, Some, None, refl, sym, ap, subst, ◌∙◌, ◌↔◌}
-use Rattle.std.proofs.Common.{arith, nat_le, nat_lt, if◌then◌else◌, IsTrue}
+use Rattle.std.proofs.Common.{◌≡◌, ℕ, ◌-◌, ◌<◌, true, length, All, None, refl, sym, ap, subst, ◌∙◌, ◌↔◌}
+use Rattle.std.proofs.Common.{arith, IsTrue}
 use Rattle.std.proofs.lemmas.Bool.Decides.{nat_tests}
 use Rattle.transyt_parts.specs.declared.link.Feed.{Feed}
 use Rattle.transyt_net.specs.declared.edit.Edit.{Edit}
 use Rattle.transyt_net.specs.declared.edit.Edit.TheVariants.{Offset, Change, Entry, Part, Cruise, Saturation, Weight}
 use Rattle.transyt_parts.specs.Parts.{NodeValue, LinkValue}
 use Rattle.transyt_net.specs.Parts.{Network}
-use Rattle.transyt_parts.specs.Valid.{within, is_fed, node_number, link_number, weights_in_range, IsNode}
-use Rattle.transyt_net.specs.Valid.{is_among, on_numbered, node_numbers, link_numbers, stages_at, IsLink, IsFeed, IsValid}
+use Rattle.transyt_parts.specs.Valid.{is_fed, node_number, link_number, IsNode}
+use Rattle.transyt_net.specs.Valid.{on_numbered, link_numbers, IsLink, IsFeed, IsValid}
 use Rattle.transyt_parts.specs.Plan.{plan_fault, no_stage}
 use Rattle.transyt_net.specs.Edits.{with_edit, set_offset, set_change, change_to, set_entry, set_saturation, set_weights}
 use Rattle.transyt_net.specs.Edits.{feeder_of, flow_to, cruise_to, node_in, link_in, the_link}

@@ -1,26 +1,22 @@
 -- What an allowed edit does: a valid network stays valid.
-use Rattle.std.proofs.Common.{◌≡◌, ℕ, ◌-◌, ◌≤◌, Bool, true, not, ◌&&◌, List, length, Some, None, refl, sym, ap}
-use Rattle.std.proofs.Common.{◌<◌, All, map, ◌∙◌, arith, nat_le, nat_lt, if◌then◌else◌}
+use Rattle.std.proofs.Common.{◌≡◌, ℕ, ◌-◌, true, List, None, refl, sym, ap}
+use Rattle.std.proofs.Common.{◌<◌, All, map, ◌∙◌, arith}
 use Rattle.std.proofs.lemmas.Bool.Decides.{nat_tests}
-use Rattle.std.proofs.lemmas.Bool.{and_parts, not-false, leb-true, ltb-true, le-leb}
-use Rattle.transyt_parts.specs.declared.node.Stage.{Stage}
 use Rattle.transyt_parts.specs.declared.link.Feed.{Feed}
 use Rattle.transyt_net.specs.declared.edit.Edit.{Edit}
 use Rattle.transyt_net.specs.declared.edit.Edit.TheVariants.{Offset, Change, Entry, Part, Cruise, Saturation, Weight}
-use Rattle.transyt_net.specs.declared.edit.EditFault.TheVariants.{Unknown, NoFeeder, Range, StageOrder, LeastGreen}
-use Rattle.transyt_parts.specs.declared.stage_plan.PlanFault.TheVariants as plan
 use Rattle.transyt_parts.specs.Parts.{NodeValue, LinkValue}
 use Rattle.transyt_net.specs.Parts.{Network}
-use Rattle.transyt_parts.specs.Valid.{within, is_fed, node_number, link_number, all_differ, weights_in_range, IsStage}
-use Rattle.transyt_net.specs.Valid.{is_among, on_numbered, on_place, node_numbers, link_numbers}
-use Rattle.transyt_net.specs.Valid.{feeds_at, IsLink, IsFeed, IsValid}
-use Rattle.transyt_parts.specs.Plan.{plan_fault, in_order, have_greens}
+use Rattle.transyt_parts.specs.Valid.{node_number, link_number, all_differ, IsStage}
+use Rattle.transyt_net.specs.Valid.{on_numbered, link_numbers}
+use Rattle.transyt_net.specs.Valid.{IsLink, IsFeed, IsValid}
+use Rattle.transyt_parts.specs.Plan.{plan_fault}
 use Rattle.transyt_net.specs.Edits.{with_edit, set_offset, set_change, change_to, set_entry, set_saturation}
 use Rattle.transyt_net.specs.Edits.{set_weights, set_part, set_cruise, feeder_of, flow_to, cruise_to, node_in}
 use Rattle.transyt_net.specs.EditFaults.{edit_fault, order_fault, changed}
 use Rattle.transyt_net.proofs.PlaceLaws.{keys_kept, length_kept, length_kept_at, all_on_numbered, all_on_place}
 use Rattle.transyt_net.proofs.ShapeLaws.{change_bare}
-use Rattle.transyt_net.proofs.WriteLaws.{KeepsLink, no_fault, in_range, links_written, nodes_written}
+use Rattle.transyt_net.proofs.WriteLaws.{KeepsLink, links_written, nodes_written}
 
 -- a write to a link keeps a network valid
 link_valid : (net : Network) (f : LinkValue → LinkValue) (same : (l : LinkValue) → (f l).number ≡ l.number)

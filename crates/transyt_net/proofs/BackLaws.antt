@@ -13,7 +13,6 @@ use Rattle.transyt_net.specs.EditFaults.{edit_fault}
 use Rattle.transyt_net.specs.There.{Takes, IsThere}
 use Rattle.transyt_net.proofs.PlaceLaws.{keys_kept, length_kept_at}
 use Rattle.transyt_net.proofs.UndoLaws.{undone}
-use Rattle.transyt_net.proofs.ApplyLaws.{valid_edit}
 use Rattle.transyt_net.proofs.FoundLaws.{some_numbered, numbered_after, fed_is, still}
 use Rattle.transyt_net.proofs.AllowedLaws.{there, allowed}
 

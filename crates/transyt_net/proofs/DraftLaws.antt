@@ -1,8 +1,8 @@
 -- A call of a draft has no fault exactly where the draft after it is sound.
-use Rattle.std.proofs.Common.{◌≡◌, ◌↔◌, ℕ, zero, suc, ◌<◌, ◌≤◌, true, false, not, ◌&&◌, ◌||◌, List, []}
-use Rattle.std.proofs.Common.{◌∷◌, ◌++◌, length, All, Option, None, Some, refl, sym, ap, subst, ◌∙◌, arith}
-use Rattle.std.proofs.Common.{nat_eq, nat_le, IsTrue, ◌-◌, is_some, slice_get, get_or, set, length-append, if◌then◌else◌}
-use Rattle.std.specs.List.{list_any, list_all}
+use Rattle.std.proofs.Common.{◌≡◌, ◌↔◌, ℕ, zero, suc, ◌<◌, ◌≤◌, true, List, []}
+use Rattle.std.proofs.Common.{◌∷◌, ◌++◌, length, All, None, Some, refl, subst, arith}
+use Rattle.std.proofs.Common.{IsTrue, ◌-◌, slice_get, get_or, set, length-append}
+use Rattle.std.specs.List.{list_all}
 use Rattle.std.proofs.Math.Seq.{lt-length-set}
 use Rattle.std.proofs.lemmas.Bool.Decides.{nat_tests}
 use Rattle.std.proofs.lemmas.List.{map-append}
@@ -14,15 +14,14 @@ use Rattle.transyt_parts.specs.declared.link.GiveWay.{GiveWay}
 use Rattle.transyt_parts.specs.declared.frame.Frame.{Frame}
 use Rattle.transyt_parts.specs.Parts.{NodeValue, LinkValue, PlanValue}
 use Rattle.transyt_parts.specs.Ranges.{is_in, IsWithin, budget_range, most_sizes}
-use Rattle.transyt_parts.specs.Valid.{within, all_differ, is_fed, feeders, link_number, node_number, IsNode, IsStage}
+use Rattle.transyt_parts.specs.Valid.{within, feeders, link_number, node_number, IsNode, IsStage}
 use Rattle.transyt_parts.specs.Valid.{is_frame, IsFrame, IsPlan}
-use Rattle.transyt_parts.specs.Valid.{node_in_range, stage_in_range, link_in_range, feed_in_range}
 use Rattle.transyt_parts.specs.Made.{new_node, add_stage, add_feed, set_rule}
 use Rattle.transyt_net.specs.Parts.{Network, no_node}
-use Rattle.transyt_net.specs.Valid.{is_among, on_numbered, on_place, node_numbers, link_numbers, stages_at}
-use Rattle.transyt_net.specs.Valid.{stage_total, feeds_at, feeds_in, rule_at, IsSound, IsLink, IsFeed, IsRule}
+use Rattle.transyt_net.specs.Valid.{on_numbered, on_place, node_numbers, link_numbers, stages_at}
+use Rattle.transyt_net.specs.Valid.{rule_at, IsSound, IsLink, IsFeed, IsRule}
 use Rattle.transyt_net.specs.Faults.{node_fault, with_node, last_place, stage_fault, with_stage, link_fault, with_link}
-use Rattle.transyt_net.specs.Faults.{are_links, feed_fault, with_feed, rule_fault, with_rule, climb_fault, with_plan, empty}
+use Rattle.transyt_net.specs.Faults.{feed_fault, with_feed, rule_fault, with_rule, climb_fault, with_plan, empty}
 use Rattle.transyt_net.specs.There.{HasLink}
 use Rattle.transyt_net.proofs.PlaceLaws.{all_differ-push, on_place_here, keys_kept}
 use Rattle.transyt_net.proofs.FoundLaws.{written_is, fed_is}

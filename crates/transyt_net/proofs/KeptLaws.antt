@@ -1,15 +1,14 @@
 -- An edit keeps the shape.
-use Rattle.std.proofs.Common.{◌≡◌, ℕ, suc, zero, ◌-◌, true, false, cond, List, [], ◌∷◌, map, refl, ap, nat_eq}
-use Rattle.transyt_parts.specs.declared.node.Stage.{Stage}
+use Rattle.std.proofs.Common.{◌≡◌, ℕ, map, refl, ap}
 use Rattle.transyt_net.specs.declared.edit.Edit.{Edit}
 use Rattle.transyt_net.specs.declared.edit.Edit.TheVariants.{Offset, Change, Entry, Part, Cruise, Saturation, Weight}
 use Rattle.transyt_parts.specs.Parts.{NodeValue, LinkValue}
 use Rattle.transyt_net.specs.Parts.{Network}
-use Rattle.transyt_net.specs.Valid.{on_numbered, on_place}
+use Rattle.transyt_net.specs.Valid.{on_numbered}
 use Rattle.transyt_parts.specs.Valid.{node_number, link_number}
-use Rattle.transyt_net.specs.Edits.{with_edit, set_offset, set_change, change_to, set_entry, set_saturation}
+use Rattle.transyt_net.specs.Edits.{with_edit, set_offset, set_change, set_entry, set_saturation}
 use Rattle.transyt_net.specs.Edits.{set_weights, set_part, set_cruise, feeder_of, flow_to, cruise_to}
-use Rattle.transyt_parts.specs.Shape.{bare_stage, bare_node, bare_feed, bare_link}
+use Rattle.transyt_parts.specs.Shape.{bare_node, bare_feed, bare_link}
 use Rattle.transyt_net.specs.Shape.{shape}
 use Rattle.transyt_net.proofs.PlaceLaws.{map_kept}
 use Rattle.transyt_net.proofs.ShapeLaws.{change_bare}

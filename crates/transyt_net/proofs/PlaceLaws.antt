@@ -2,9 +2,9 @@
 use Rattle.std.proofs.lemmas.List.Elements.{All-nil, All-cons, All-head, All-tail}
 use Rattle.std.proofs.Common.{IfSome, All, slice_get, ◌≡◌, ℕ, suc, zero, ◌<◌, Bool, true, false, not, cond, ◌||◌, List}
 use Rattle.std.proofs.Common.{[], ◌∷◌, ◌++◌, length, map, get_or, set, Option, Some, None, refl, sym, ap, subst, ◌∙◌}
-use Rattle.std.proofs.Common.{arith, nat_eq, if◌then◌else◌, ◌&&◌}
+use Rattle.std.proofs.Common.{arith, nat_eq, ◌&&◌}
 use Rattle.std.specs.List.{list_any}
-use Rattle.std.proofs.lemmas.Bool.{and_parts, and_from, or_left, or_parts, or_from, not_from_false, not-true, eqb-true}
+use Rattle.std.proofs.lemmas.Bool.{or_left, eqb-true}
 use Rattle.std.proofs.lemmas.Bool.Decides.{nat_tests}
 use Rattle.std.proofs.lemmas.List.Folds.{list_any-append}
 use Rattle.std.proofs.lemmas.List.Quantifiers.{position-Some}

@@ -1,6 +1,6 @@
 -- A draft stays sound with a new link, feed and give-way rule.
 use Rattle.std.proofs.Common.{◌<◌, [], ◌≡◌, ℕ, ◌≤◌, true, false, not, ◌&&◌, ◌||◌, ◌∷◌, ◌++◌, length, None, refl}
-use Rattle.std.proofs.Common.{sym, ap, subst, ◌∙◌, arith, nat_eq, nat_le, is_some, length-append, All, IfSome}
+use Rattle.std.proofs.Common.{sym, ap, subst, ◌∙◌, arith, nat_eq, nat_le, length-append, All, IfSome}
 use Rattle.std.proofs.Common.{Bool, Some, if◌then◌else◌}
 use Rattle.std.specs.List.{list_all}
 use Rattle.std.proofs.lemmas.Bool.{and_from, and_parts, or_parts, leb-false, not-false}
@@ -11,17 +11,17 @@ use Rattle.transyt_parts.specs.declared.link.GiveWay.{GiveWay}
 use Rattle.transyt_net.specs.declared.draft.DraftFault.TheVariants.{Twice, Unknown, Range, TooMany}
 use Rattle.transyt_parts.specs.Parts.{LinkValue}
 use Rattle.transyt_net.specs.Parts.{Network}
-use Rattle.transyt_net.specs.Valid.{is_among, node_numbers, link_numbers, stages_at, feeds_at}
-use Rattle.transyt_net.specs.Valid.{feeds_in, rule_at, IsSound, IsLink, IsFeed, IsRule}
+use Rattle.transyt_net.specs.Valid.{is_among, node_numbers, link_numbers, stages_at}
+use Rattle.transyt_net.specs.Valid.{IsSound, IsLink, IsFeed, IsRule}
 use Rattle.transyt_parts.specs.Valid.{all_differ, within, link_number, is_fed, feeders}
-use Rattle.transyt_parts.specs.Valid.{link_in_range, feed_in_range, AreWeights}
+use Rattle.transyt_parts.specs.Valid.{link_in_range, AreWeights}
 use Rattle.transyt_net.specs.Faults.{link_fault, with_link}
-use Rattle.transyt_net.specs.Faults.{are_links, feed_fault, with_feed, rule_fault, with_rule}
+use Rattle.transyt_net.specs.Faults.{feed_fault, with_feed, rule_fault, with_rule}
 use Rattle.transyt_parts.specs.Made.{add_feed, set_rule}
 use Rattle.std.proofs.lemmas.Bool.Decides.{nat_tests}
 use Rattle.transyt_net.proofs.PlaceLaws.{among_more, all_differ-push}
 use Rattle.transyt_net.proofs.PlaceLaws.{list_any_map}
-use Rattle.transyt_net.proofs.WriteLaws.{no_fault, in_range, all_in_range}
+use Rattle.transyt_net.proofs.WriteLaws.{all_in_range}
 use Rattle.transyt_net.proofs.WriteLaws.{link_with_more_numbers, links_written}
 
 -- a new link without a fault passes each test

@@ -1,22 +1,19 @@
 -- A draft stays sound with a new node and a new stage.
-use Rattle.std.proofs.Common.{[], ◌≡◌, ℕ, ◌<◌, true, not, ◌&&◌, ◌∷◌, ◌++◌, length, None, refl}
-use Rattle.std.proofs.Common.{sym, ap, subst, ◌∙◌, arith, nat_le, nat_lt, length-append}
-use Rattle.std.proofs.Common.{slice_get, ◌≤◌, All}
-use Rattle.std.proofs.lemmas.Bool.{and_parts, leb-true, leb-false, ltb-true, not-false}
+use Rattle.std.proofs.Common.{[], ◌≡◌, ℕ, true, ◌∷◌, ◌++◌, length, None, refl}
+use Rattle.std.proofs.Common.{ap, ◌∙◌, arith, length-append}
+use Rattle.std.proofs.Common.{◌≤◌, All}
 use Rattle.std.proofs.lemmas.Bool.Decides.{nat_tests}
 use Rattle.std.proofs.lemmas.List.{map-append}
 use Rattle.std.proofs.lemmas.List.Elements.{All-push, All-weaker, All-nil}
 use Rattle.transyt_parts.specs.declared.node.Stage.{Stage}
-use Rattle.transyt_net.specs.declared.draft.DraftFault.TheVariants.{Twice, Range, TooMany}
 use Rattle.transyt_net.specs.Parts.{Network}
-use Rattle.transyt_net.specs.Valid.{is_among, on_place, node_numbers, link_numbers, stage_total}
+use Rattle.transyt_net.specs.Valid.{is_among, on_place, node_numbers, link_numbers}
 use Rattle.transyt_net.specs.Valid.{IsSound, IsLink}
-use Rattle.transyt_parts.specs.Valid.{all_differ, within, node_number, IsNode, IsStage}
-use Rattle.transyt_parts.specs.Valid.{node_in_range, stage_in_range}
+use Rattle.transyt_parts.specs.Valid.{all_differ, node_number, IsNode, IsStage}
 use Rattle.transyt_net.specs.Faults.{node_fault, with_node, last_place, stage_fault, with_stage}
 use Rattle.transyt_parts.specs.Made.{new_node, add_stage}
 use Rattle.transyt_net.proofs.PlaceLaws.{among_more, all_differ-push, map_kept_at, length_kept_at, all_on_place}
-use Rattle.transyt_net.proofs.WriteLaws.{no_fault, in_range, stages_more, stages_more_at}
+use Rattle.transyt_net.proofs.WriteLaws.{stages_more, stages_more_at}
 use Rattle.transyt_net.proofs.WriteLaws.{link_with_more_nodes}
 
 -- a draft with a new node is sound

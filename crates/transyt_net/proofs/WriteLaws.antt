@@ -1,6 +1,6 @@
 -- Writes to nodes and links, and more of them, that keep a network sound.
-use Rattle.std.proofs.Common.{[], ◌≡◌, ℕ, suc, zero, ◌≤◌, Bool, true, false, cond, List, ◌∷◌, ◌++◌, length, Option}
-use Rattle.std.proofs.Common.{Some, None, refl, sym, ap, ◌∙◌, subst, arith, nat_eq, nat_le, length-append, All, IfSome}
+use Rattle.std.proofs.Common.{[], ◌≡◌, ℕ, suc, zero, ◌≤◌, Bool, true, false, List, ◌∷◌, ◌++◌, Option}
+use Rattle.std.proofs.Common.{Some, None, refl, sym, ap, ◌∙◌, subst, arith, length-append, All, IfSome}
 use Rattle.std.proofs.Common.{if◌then◌else◌}
 use Rattle.std.specs.List.{list_all}
 use Rattle.std.proofs.lemmas.Bool.Decides.{nat_tests}
@@ -11,7 +11,7 @@ use Rattle.transyt_parts.specs.declared.link.GiveWay.{GiveWay}
 use Rattle.transyt_parts.specs.Parts.{NodeValue, LinkValue}
 use Rattle.transyt_net.specs.Parts.{Network}
 use Rattle.transyt_net.specs.Valid.{is_among, numbered, on_numbered, on_place, node_numbers, link_numbers, stages_at}
-use Rattle.transyt_net.specs.Valid.{stage_total, IsSound, IsLink, IsFeed, IsRule}
+use Rattle.transyt_net.specs.Valid.{IsSound, IsLink, IsFeed, IsRule}
 use Rattle.transyt_parts.specs.Valid.{all_differ, within, node_number, link_number, IsNode}
 use Rattle.transyt_parts.specs.Made.{add_stage}
 use Rattle.transyt_parts.specs.Shape.{bare_node}
