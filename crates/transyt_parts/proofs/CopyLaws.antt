@@ -1,7 +1,6 @@
 -- Lists that are made equal place by place.
 use Rattle.std.proofs.Common.{◌≡◌, ℕ, suc, ◌+◌, ◌<◌, List, [], ◌∷◌, map, length, get_or, set, refl, sym, ap, ◌∙◌, arith}
-use Rattle.std.proofs.Common.{◌⊎◌, inl, inr, ◌≢◌}
-use Rattle.std.proofs.lemmas.Bool.{cases_eq}
+use Rattle.std.proofs.lemmas.Bool.Decides.{nat_tests}
 use Rattle.std.proofs.lemmas.List.{map-set, set-get_or, get_or-map, length-map, get_or-set_other, get_or_default}
 use Rattle.std.proofs.lemmas.Grind.{get_or-set_at}
 
@@ -23,12 +22,7 @@ same_length f xs ys same = sym (length-map xs f) ∙ ap length same ∙ length-m
 pub same_at : {A B : Type 0} (f : A → B) (xs ys : List A) (i : ℕ) (x y : A) → map f xs ≡ map f ys → i < length ys
     → x ≡ get_or xs i x → y ≡ get_or ys i y → f x ≡ f y
 same_at f xs ys i x y same there at_x at_y =
-    let len : length xs ≡ length ys = same_length f xs ys same in
-    ap f at_x
-    ∙ sym (get_or-map f xs i x (f x) (omega arith))
-    ∙ ap (λ zs. get_or zs i (f x)) same
-    ∙ get_or-map f ys i y (f x) there
-    ∙ ap f (sym at_y)
+    grind (arith, nat_tests, same_length f xs ys same, get_or-map f xs i x (f x), get_or-map f ys i y (f x))
 
 -- a write of what stands in the other keeps the shape
 pub shape_more : {A B : Type 0} (f : A → B) (xs ys : List A) (i : ℕ) (v y : A) → map f xs ≡ map f ys
@@ -44,12 +38,13 @@ shape_more f xs ys i v y same is at =
 pub agree_more : {A B : Type 0} (f : A → B) (xs ys : List A) (i : ℕ) (v y : A) → map f xs ≡ map f ys → i < length ys
     → ((k : ℕ) (d : A) → k < i → get_or xs k d ≡ get_or ys k d) → v ≡ y → y ≡ get_or ys i y
     → (k : ℕ) (d : A) → k < i + 1 → get_or (set xs i v) k d ≡ get_or ys k d
-agree_more f xs ys i v y same there before is at k d less = by (cases_eq k i)
-  where
-    by : (k ≡ i) ⊎ (k ≡ i → ⊥) → get_or (set xs i v) k d ≡ get_or ys k d
-    by (inl here) =
-        get_or-set_at xs i k v d here (omega (arith, same_length f xs ys same)) ∙ is ∙ at ∙ get_or_default ys i y d there
-        ∙ ap (λ m. get_or ys m d) (sym here)
-    by (inr other) =
-        let apart : k ≢ i = other in let lower : k < i = omega arith in get_or-set_other xs i k v d apart
-        ∙ before k d lower
+agree_more f xs ys i v y same there before is at k d less =
+    grind (
+      arith,
+      nat_tests,
+      same_length f xs ys same,
+      before k d,
+      get_or-set_at xs i k v d,
+      get_or-set_other xs i k v d,
+      get_or_default ys i y d there,
+    )
