@@ -64,14 +64,13 @@ pub link_with_more_numbers : (steps : ℕ) (nodes : List NodeValue) (numbers mor
     → (l : LinkValue) → IsLink steps nodes numbers l → IsLink steps nodes more l
 link_with_more_numbers steps nodes numbers more among l h =
     let feeds : All (IsFeed more) l.feeds = All-weaker (IsFeed numbers) (IsFeed more)
-    (λ f good. record { feeder = among f.feeder good.feeder; flow = good.flow; cruise = good.cruise }) l.feeds
-    h.feeds in
+    (λ f good. grind (arith, nat_tests, among f.feeder)) l.feeds h.feeds in
     let given = rule l.gives_way h.rule in
     grind (arith, nat_tests)
   where
     rule : (o : Option GiveWay) → IfSome o (IsRule numbers) → IfSome o (IsRule more)
     rule None given = given
-    rule (Some r) given = record { other = among r.other given.other; percent = given.percent }
+    rule (Some r) given = grind (arith, nat_tests, among r.other)
 
 -- a link of a number that is written stays a link of the network
 abbrev pub KeepsLink : Network → ℕ → (LinkValue → LinkValue) → Type 0

@@ -281,6 +281,7 @@ impl Draft {
 
     /// The first fault of the nodes' plans, node by node in order; none exactly where the draft is
     /// a valid network.
+    #[tactic(auto, using(transyt_parts::proofs::PlanLaws::all_planned, transyt_parts::proofs::PlanLaws::none_first))]
     pub fn judge(&self) -> Option<PlanFault>
         ensures value { result ≡ first_fault self.now.frame.step_count self.now.nodes }
         ensures valid { result ≡ None ↔ IsValid self.now }
@@ -310,6 +311,7 @@ impl Draft {
     }
 
     /// The network that was made. It takes no memory.
+    #[tactic(auto, using(transyt_parts::proofs::PlanLaws::all_planned))]
     pub fn close(self) -> Net
         requires { first_fault self.frame.step_count self.nodes ≡ None }
         ensures { result ≡ self }

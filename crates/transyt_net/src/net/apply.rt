@@ -14,6 +14,7 @@ impl Net {
     /// Makes an edit, and gives its inverse, which is allowed then and gives the network before.
     ///
     /// It refuses exactly as `judge` does, and a refusal changes nothing. It takes no memory.
+    #[tactic(auto, using(crate::proofs::UndoLaws::undone, crate::proofs::BackLaws::back_allowed, crate::proofs::KeptLaws::shape_kept, crate::proofs::ApplyLaws::valid_edit))]
     pub fn apply(&mut self, e: Edit) -> Result<Edit, EditFault>
         ensures fault { IfSome (edit_fault self.old e) (λ fault. IsErrOf result fault) }
         ensures none { IfNone (edit_fault self.old e) (IsOk result) }
