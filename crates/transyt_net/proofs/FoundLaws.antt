@@ -5,7 +5,8 @@ use Rattle.std.proofs.Common.{get_or, All}
 use Rattle.std.proofs.lemmas.Bool.Decides.{nat_tests}
 use Rattle.transyt_parts.specs.declared.node.Stage.{Stage}
 use Rattle.transyt_parts.specs.declared.link.Feed.{Feed}
-use Rattle.transyt_parts.specs.Valid.{is_fed, feeders}
+use Rattle.transyt_parts.specs.Parts.{NodeValue}
+use Rattle.transyt_parts.specs.Valid.{is_fed, feeders, node_number, IsNode}
 use Rattle.transyt_net.specs.Valid.{is_among, numbered, on_numbered, on_place}
 use Rattle.transyt_net.specs.Edits.{change_to}
 use Rattle.transyt_net.proofs.PlaceLaws.{list_any_map, keys_kept}
@@ -59,3 +60,8 @@ written_is P key f same xs k there all =
 pub still : {A : Type 0} (key : A → ℕ) (f : A → A) (same : (x : A) → key (f x) ≡ key x) (xs : List A) (k j : ℕ)
     → is_among (map key xs) j ≡ true → is_among (map key (on_numbered key f xs k)) j ≡ true
 still key f same xs k j there = ap (λ ks. is_among ks j) (keys_kept key f same xs k) ∙ there
+
+-- a node that is found keeps to its ranges
+pub node_good : (steps : ℕ) (nodes : List NodeValue) (k : ℕ) (n : NodeValue) → All (IsNode steps) nodes
+    → numbered node_number nodes k ≡ Some n → IsNode steps n
+node_good steps nodes k n all at = all_numbered (IsNode steps) node_number nodes k n all at

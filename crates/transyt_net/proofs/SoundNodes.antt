@@ -16,6 +16,9 @@ use Rattle.transyt_net.proofs.PlaceLaws.{among_more, all_differ-push, map_kept_a
 use Rattle.transyt_net.proofs.WriteLaws.{stages_more, stages_more_at}
 use Rattle.transyt_net.proofs.WriteLaws.{link_with_more_nodes}
 
+-- lists with one more at their end
+pub ruleset one_more = (map-append)
+
 -- a draft with a new node is sound
 pub sound_node : (net : Network) (number offset : ℕ) → IsSound net → node_fault net number offset ≡ None
     → IsSound (with_node net number offset)

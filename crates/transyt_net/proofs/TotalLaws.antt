@@ -6,16 +6,17 @@ use Rattle.std.proofs.lemmas.List.Sums.{sum_by-le}
 use Rattle.transyt_parts.specs.declared.link.Feed.{Feed}
 use Rattle.transyt_parts.specs.Parts.{NodeValue, LinkValue}
 use Rattle.transyt_parts.specs.Flow.{total_flow}
-use Rattle.transyt_net.specs.Parts.{Network}
+use Rattle.transyt_net.specs.Parts.{Network, link_of, no_link}
 use Rattle.transyt_parts.specs.Valid.{link_number}
-use Rattle.transyt_net.specs.Valid.{link_numbers, on_numbered, IsSound, IsLink}
+use Rattle.transyt_net.specs.Valid.{link_numbers, on_numbered, IsSound, IsLink, IsValid}
 
 -- the total flow of a link, by the limits of its flows
-pub total_small : (steps : ℕ) (nodes : List NodeValue) (numbers : List ℕ) (l : LinkValue)
-    → IsLink steps nodes numbers l → total_flow l ≤ 89991
-total_small steps nodes numbers l is =
-    let each : All (λ (f : Feed). f.flow ≤ 9999) l.feeds = λ k d inside. (is.feeds k d inside).flow in
-    omega (arith, sum_by-le (λ (f : Feed). f.flow) 9999 l.feeds each, is.entry, is.feed_count)
+pub total_small : (net : Network) (p : ℕ) → IsValid net → p < length net.links → total_flow (link_of net p) ≤ 89991
+total_small net p valid inside =
+    let is = All-get_or (IsLink net.frame.step_count net.nodes (link_numbers net.links)) net.links p no_link inside
+    valid.sound.links in
+    let each : All (λ (f : Feed). f.flow ≤ 9999) (link_of net p).feeds = λ k d within. (is.feeds k d within).flow in
+    omega (arith, sum_by-le (λ (f : Feed). f.flow) 9999 (link_of net p).feeds each, is.entry, is.feed_count)
 
 -- the total that stands at a place
 pub total_at : (totals : List ℕ) (links : List LinkValue) (p t : ℕ) (d : LinkValue) → totals ≡ map total_flow links

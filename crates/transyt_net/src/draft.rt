@@ -120,6 +120,7 @@ impl Draft {
     /// Adds a node, which has no stage yet. `offset` is in steps.
     ///
     /// Twice where a node has this number, Range, TooMany where there are 200 nodes, in this order.
+    #[tactic(auto, using(crate::proofs::SoundNodes::sound_node, crate::proofs::SoundNodes::one_more))]
     pub fn node(&mut self, number: u32, offset: u32) -> Result<(), DraftFault>
         ensures refuses { Refuses result (node_fault self.old number offset)
             (Some DraftFault.Memory) }
@@ -175,6 +176,7 @@ impl Draft {
     /// which it runs, each from 1. Twice where a link has this number or a stage stands twice;
     /// Unknown where there is no such node, or it hasn't one of the stages; Range; TooMany where
     /// there are 1,000 links; in this order.
+    #[tactic(auto, using(crate::proofs::SoundLinks::sound_link, crate::proofs::SoundNodes::one_more))]
     pub fn link(&mut self, link: NewLink, stages: &[u32]) -> Result<(), DraftFault>
         requires some { 1 ≤ length stages.now }
         requires most { length stages.now ≤ 8 }
@@ -262,6 +264,7 @@ impl Draft {
     /// Sets the climb plan. `sizes` are in steps, each from 1 and below the number of steps.
     ///
     /// Range where the budget or a size isn't in its range.
+    #[tactic(auto, using(crate::proofs::DraftLaws::plan_exactly))]
     pub fn plan(&mut self, budget: u32, sizes: &[u32]) -> Result<(), DraftFault>
         requires unset { self.old.plan ≡ None }
         requires some { 1 ≤ length sizes.now }

@@ -137,6 +137,7 @@ fn feed_place(feeds: &[Feed], feeder: u32) -> usize
 }
 
 /// Sets the flow of a feed, and gives the one before.
+#[tactic(auto, using(crate::proofs::EditLaws::feed_found))]
 fn set_part(link: &mut Link, feeder: u32, flow: u32) -> u32
     requires { is_fed link.old.feeds feeder ≡ true }
     ensures value { link.new ≡ set_part feeder flow link.old }
@@ -149,6 +150,7 @@ fn set_part(link: &mut Link, feeder: u32, flow: u32) -> u32
 }
 
 /// Sets the cruise time of a feed, and gives the one before.
+#[tactic(auto, using(crate::proofs::EditLaws::feed_found))]
 fn set_cruise(link: &mut Link, feeder: u32, seconds: u32) -> u32
     requires { is_fed link.old.feeds feeder ≡ true }
     ensures value { link.new ≡ set_cruise feeder seconds link.old }
