@@ -147,6 +147,7 @@ impl Draft {
     /// Adds a stage to the last node. All three are in steps.
     ///
     /// Range, or else TooMany where the node has 8 stages.
+    #[tactic(auto, using(crate::proofs::PlaceLaws::put_again))]
     pub fn stage(&mut self, change: u32, intergreen: u32, least: u32) -> Result<(), DraftFault>
         requires { 0 < length self.old.nodes }
         ensures refuses { Refuses result (stage_fault self.old (new_stage change intergreen least))
@@ -216,6 +217,7 @@ impl Draft {
     ///
     /// Twice where this feeder feeds the link already, Unknown where one of the two is no link,
     /// Range, TooMany where the link has 8 feeds, in this order.
+    #[tactic(auto, using(crate::proofs::PlaceLaws::put_again, crate::proofs::PlaceLaws::place_inside))]
     pub fn feed(&mut self, link: u32, feeder: u32, flow: u32, cruise: u32) -> Result<(), DraftFault>
         ensures refuses { Refuses result (feed_fault self.old link (new_feed feeder flow cruise))
             (Some DraftFault.Memory) }
@@ -244,6 +246,7 @@ impl Draft {
     ///
     /// Twice where the link has a rule already, Unknown where one of the two is no link, Range
     /// where `percent` is above 400, in this order.
+    #[tactic(auto, using(crate::proofs::PlaceLaws::place_inside))]
     pub fn give_way(&mut self, link: u32, other: u32, percent: u32) -> Result<(), DraftFault>
         ensures refuses { Refuses result (rule_fault self.old link (new_rule other percent)) None }
         ensures ok { OnOk result (self.new ≡ with_rule self.old link (new_rule other percent)) }

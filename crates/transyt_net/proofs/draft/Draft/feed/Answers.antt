@@ -48,31 +48,3 @@ invariant_of-self-2 c =
       total_set c.self.inside.totals.items c.self.inside.links.items c.in-Some-get_index_of.place c.all_flow.result
           c.add_feed.new.link c.self.invariant.3 c.all_flow.ensures.value,
     )
-
--- the place is that of a link
-pub index_mut-owner-requires : goal.index_mut-owner-requires
-index_mut-owner-requires c =
-    omega (
-      arith,
-      c.self.inside.links.ok.0,
-      place_inside link_number c.self.inside.links.items c.args.link c.in-Some-get_index_of.place (search rules),
-    )
-
--- where there is no memory, the links are as they were
-kept : (c : goal.After-from_residual)
-    → set c.self.inside.links.items c.in-Some-get_index_of.place c.add_feed.new.link ≡ c.self.inside.links.items
-kept c =
-    ap (set c.self.inside.links.items c.in-Some-get_index_of.place)
-    (c.in_err-add_feed.ensures.err ∙ c.index_mut-owner.ensures.value)
-    ∙ set-get_or c.self.inside.links.items c.in-Some-get_index_of.place c.index_mut-owner.result.now
-
--- so the draft is sound
-pub invariant_of-self : goal.invariant_of-self
-invariant_of-self c = rw (kept c) c.self.invariant
-
--- and the network is as it was
-pub returns-in_err-add_feed-clause-err : goal.returns-in_err-add_feed-clause-err
-returns-in_err-add_feed-clause-err c =
-    let same = ap (λ (ls : List LinkValue). network_of c.self.inside.frame c.self.inside.nodes.items ls c.self.inside.plan)
-    (kept c) ∙ c.self.view_is in
-    search rules

@@ -38,12 +38,3 @@ invariant_of-self c =
           ∙ sym (map-set_same total_flow c.self.inside.links.items c.in-Some-get_index_of.place c.set_rule.new.link
           c.index_mut-owner.result.now same),
     )
-
--- the place is that of a link
-pub index_mut-owner-requires : goal.index_mut-owner-requires
-index_mut-owner-requires c =
-    omega (
-      arith,
-      c.self.inside.links.ok.0,
-      place_inside link_number c.self.inside.links.items c.args.link c.in-Some-get_index_of.place (search rules),
-    )

@@ -56,22 +56,3 @@ returns-clause-count c =
     let nodes : List NodeValue = c.args.self.now.nodes in
     let stage : Stage = new_stage c.args.change c.args.intergreen c.args.least in
     ap (λ (n : Network). length n.nodes) (returns-clause-ok c) ∙ length_kept_at (add_stage stage) nodes (last_place nodes)
-
--- where there is no memory, the nodes are as they were
-kept : (c : goal.After-from_residual)
-    → set c.self.inside.nodes.items (c.len-last.result - 1) c.add_stage.new.node ≡ c.self.inside.nodes.items
-kept c =
-    ap (set c.self.inside.nodes.items (c.len-last.result - 1))
-    (c.in_err-add_stage.ensures.err ∙ c.index_mut-node.ensures.value)
-    ∙ set-get_or c.self.inside.nodes.items (c.len-last.result - 1) c.index_mut-node.result.now
-
--- so the draft is sound
-pub invariant_of-self : goal.invariant_of-self
-invariant_of-self c = rw (kept c) c.self.invariant
-
--- and the network is as it was
-pub returns-in_err-add_stage-clause-err : goal.returns-in_err-add_stage-clause-err
-returns-in_err-add_stage-clause-err c =
-    let same = ap (λ (ns : List NodeValue). network_of c.self.inside.frame ns c.self.inside.links.items c.self.inside.plan)
-    (kept c) ∙ c.self.view_is in
-    search rules
