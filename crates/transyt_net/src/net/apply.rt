@@ -52,6 +52,7 @@ impl Net {
     }
 
     /// Makes an allowed edit of this node, and gives its inverse.
+    #[tactic(auto, using(crate::proofs::PlaceLaws::place_inside, crate::proofs::PlaceLaws::found_at, crate::proofs::NamedLaws::takes, crate::proofs::NamedLaws::node_back_done))]
     fn change_node(&mut self, number: u32, e: &Edit) -> Edit
         requires names { named e.now ≡ NamesNode number }
         requires allowed { edit_fault self.old e.now ≡ None }
@@ -66,6 +67,7 @@ impl Net {
     }
 
     /// Makes an allowed edit of this link, and gives its inverse.
+    #[tactic(auto, using(crate::proofs::PlaceLaws::place_inside, crate::proofs::PlaceLaws::found_at, crate::proofs::NamedLaws::takes, crate::proofs::NamedLaws::link_back_done))]
     fn change_link(&mut self, number: u32, e: &Edit) -> Edit
         requires names { named e.now ≡ NamesLink number }
         requires allowed { edit_fault self.old e.now ≡ None }

@@ -11,29 +11,6 @@ use Rattle.transyt_net.proofs.TotalLaws.{total_set, link_set}
 use Rattle.transyt_net.proofs.NamedLaws.{takes, link_done, link_back_done, link_numbers_kept}
 use Rattle.transyt_net.proofs.net.Net.change_link.Goals as goal
 
--- the link that an allowed edit names is there
-pub unreachable-requires : goal.unreachable-requires
-unreachable-requires c =
-    let known : is_among (link_numbers c.self.inside.links.items) c.args.number ≡ true =
-    (takes _ _ c.args.e.now _ c.self.view_is c.requires.names c.requires.allowed).0 in
-    search rules
-
--- the place is that of a link
-pub index_mut-link-requires : goal.index_mut-link-requires
-index_mut-link-requires c =
-    omega (
-      arith,
-      c.self.inside.links.ok.0,
-      place_inside link_number c.self.inside.links.items c.args.number c.in-Some.place (search rules),
-    )
-
--- the link takes the edit
-pub edit_link-back-requires : goal.edit_link-back-requires
-edit_link-back-requires c =
-    subst (λ o. LinkTakes c.args.e.now (link_in o))
-    (found_at link_number c.self.inside.links.items c.args.number c.in-Some.place c.index_mut-link.result.now (search rules)
-    c.index_mut-link.ensures.value) (takes _ _ c.args.e.now _ c.self.view_is c.requires.names c.requires.allowed).1
-
 -- the link is written at the place of its number
 put : (c : goal.After-self-2-1) → IsPut link_number (link_edit c.args.e.now) c.self.inside.links.items c.args.number
     c.in-Some.place c.index_mut-link.result.now c.edit_link-back.new.link
@@ -70,9 +47,3 @@ all_flow-requires c =
     let sound = link_set _ c.in-Some.place c.edit_link-back.new.link valid.sound
     (place_inside link_number c.self.inside.links.items c.args.number c.in-Some.place (search rules)) in
     record { entry = sound.entry; flows = λ k d inside. (sound.feeds k d inside).flow; few = sound.feed_count }
-
--- what is given back is the inverse
-pub returns-clause-back : goal.returns-clause-back
-returns-clause-back c =
-    c.edit_link-back.ensures.back
-    ∙ link_back_done _ _ c.args.e.now c.args.number _ c.self.view_is c.requires.names (put c).found

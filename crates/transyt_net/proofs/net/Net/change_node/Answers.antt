@@ -9,29 +9,6 @@ use Rattle.transyt_net.proofs.ApplyLaws.{valid_edit}
 use Rattle.transyt_net.proofs.NamedLaws.{takes, node_done, node_back_done, node_numbers_kept}
 use Rattle.transyt_net.proofs.net.Net.change_node.Goals as goal
 
--- the node that an allowed edit names is there
-pub unreachable-requires : goal.unreachable-requires
-unreachable-requires c =
-    let known : is_among (node_numbers c.self.inside.nodes.items) c.args.number ≡ true =
-    (takes _ _ c.args.e.now _ c.self.view_is c.requires.names c.requires.allowed).0 in
-    search rules
-
--- the place is that of a node
-pub index_mut-node-requires : goal.index_mut-node-requires
-index_mut-node-requires c =
-    omega (
-      arith,
-      c.self.inside.nodes.ok.0,
-      place_inside node_number c.self.inside.nodes.items c.args.number c.in-Some.place (search rules),
-    )
-
--- the node takes the edit
-pub edit_node-requires : goal.edit_node-requires
-edit_node-requires c =
-    subst (λ o. NodeTakes c.args.e.now (node_in o))
-    (found_at node_number c.self.inside.nodes.items c.args.number c.in-Some.place c.index_mut-node.result.now (search rules)
-    c.index_mut-node.ensures.value) (takes _ _ c.args.e.now _ c.self.view_is c.requires.names c.requires.allowed).1
-
 -- the node is written at the place of its number
 put : (c : goal.After-self-1) → IsPut node_number (node_edit c.args.e.now) c.self.inside.nodes.items c.args.number
     c.in-Some.place c.index_mut-node.result.now c.edit_node.new.node
@@ -54,9 +31,3 @@ invariant_of-self c =
       c.self.invariant.2,
       c.self.invariant.3,
     )
-
--- what is given back is the inverse
-pub returns-clause-back : goal.returns-clause-back
-returns-clause-back c =
-    c.edit_node.ensures.back
-    ∙ node_back_done _ _ c.args.e.now c.args.number _ c.self.view_is c.requires.names (put c).found
