@@ -1,9 +1,9 @@
 -- The steps at which a link is shown.
 use Rattle.std.proofs.Common.{◌≡◌, ◌≢◌, ℕ, ◌+◌, ◌%◌, ◌<◌, ◌≤◌, Bool, true, false, ◌&&◌, ◌||◌, List, length, get_or, set}
-use Rattle.std.proofs.Common.{nat_lt, nat_le, ap, sym, ◌∙◌, arith, ◌⊎◌, inl, inr, refl, subst, map, replicate, if◌then◌else◌}
+use Rattle.std.proofs.Common.{nat_lt, nat_le, ap, sym, ◌∙◌, arith, ◌⊎◌, inl, inr, map, replicate, if◌then◌else◌}
 use Rattle.std.specs.List.{range_with_len}
 use Rattle.std.proofs.lemmas.List.FromFn.{fill_by_all, get_or-map-range_with_len, length-map-range_with_len}
-use Rattle.std.proofs.lemmas.Bool.{cases_eq, cases_lt, cond-true, cond_both}
+use Rattle.std.proofs.lemmas.Bool.{cases_eq}
 use Rattle.std.proofs.lemmas.Bool.Decides.{nat_tests}
 use Rattle.std.proofs.lemmas.List.{get_or-set_other, get_or-replicate}
 use Rattle.std.proofs.lemmas.Grind.{get_or-set_at}
@@ -69,10 +69,7 @@ module _ (steps : ℕ) (node : NodeValue) (stages : List ℕ) (room : ℕ) (clea
     → get_or out i d ≡ (if is_shown steps node stages i then room else get_or clear i d)) where
   -- each step has the one or the other
   passes : (i : ℕ) (d : ℕ) → i < steps → get_or out i d ≡ (if is_shown steps node stages i then room else 0)
-  passes i d below =
-      each i d below
-      ∙ ap (λ n. if is_shown steps node stages i then room else n)
-      (ap (λ xs. get_or xs i d) none ∙ get_or-replicate steps i 0 d below)
+  passes i d below = grind (arith, nat_tests, each i d below, get_or-replicate steps i 0 d below)
 
   -- the list is the definition's
   pub passed_without_lags : (start_lag end_lag : ℕ) → start_lag ≡ 0 → end_lag ≡ 0
@@ -87,6 +84,4 @@ module _ (steps : ℕ) (node : NodeValue) (stages : List ℕ) (room : ℕ) (clea
 
   -- each number is below a limit of `room`
   pub passed_below : (limit : ℕ) → room < limit → (i : ℕ) (d : ℕ) → i < length out → get_or out i d < limit
-  passed_below limit small i d below =
-      subst (λ (n : ℕ). n < limit) (sym (passes i d (omega (arith, below, long))))
-      (cond_both (is_shown steps node stages i) room 0 (λ (n : ℕ). n < limit) (λ _. small) (λ _. omega (arith, small)))
+  passed_below limit small i d below = grind (arith, nat_tests, passes i d)

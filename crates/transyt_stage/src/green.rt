@@ -256,6 +256,7 @@ fn first_shown(stages: &[u32], before: usize, intergreen: u32) -> u32
 }
 
 /// Gives `value` to the steps that come at least `from` and fewer than `to` steps after the change.
+#[tactic(auto, using(crate::proofs::ShownLaws::between_end))]
 fn show_steps<T: Copy>(change: u32, from: u32, to: u32, value: T, out: &mut [T])
     requires some { 0 < length out.old }
     requires most { length out.old ≤ 120 }

@@ -1,5 +1,5 @@
 -- It is shown at the step reached.
-use Rattle.std.proofs.Common.{◌+◌, sym, arith, rules}
+use Rattle.std.proofs.Common.{◌+◌, sym, rules}
 use Rattle.transyt_stage.specs.Green.{shown_back}
 use Rattle.transyt_parts.proofs.BelowLaws.{some_below}
 use Rattle.transyt_stage.proofs.green.is_held.Goals as goal

@@ -1,5 +1,5 @@
 -- The step reached opens it.
-use Rattle.std.proofs.Common.{length, sym, arith, rules}
+use Rattle.std.proofs.Common.{length, sym, rules}
 use Rattle.transyt_cycle.specs.Cycle.{minus_mod}
 use Rattle.transyt_stage.specs.Green.{opens}
 use Rattle.transyt_parts.proofs.BelowLaws.{some_below}
