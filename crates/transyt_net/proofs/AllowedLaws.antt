@@ -5,8 +5,7 @@ use Rattle.std.proofs.lemmas.Bool.Decides.{nat_tests}
 use Rattle.transyt_parts.specs.declared.link.Feed.{Feed}
 use Rattle.transyt_net.specs.declared.edit.Edit.{Edit}
 use Rattle.transyt_net.specs.declared.edit.Edit.TheVariants.{Offset, Change, Entry, Part, Cruise, Saturation, Weight}
-use Rattle.transyt_parts.specs.Parts.{NodeValue, LinkValue}
-use Rattle.transyt_net.specs.Parts.{Network}
+use Rattle.transyt_net.specs.Parts.{Network, NodeValue, LinkValue}
 use Rattle.transyt_parts.specs.Valid.{is_fed, node_number, link_number, IsNode}
 use Rattle.transyt_net.specs.Valid.{on_numbered, link_numbers, IsLink, IsFeed, IsValid}
 use Rattle.transyt_parts.specs.Plan.{plan_fault, no_stage}

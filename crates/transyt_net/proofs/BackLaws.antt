@@ -3,10 +3,8 @@ use Rattle.std.proofs.Common.{◌≡◌, ℕ, ◌-◌, length, None, refl, sym, 
 use Rattle.transyt_parts.specs.declared.link.Feed.{Feed}
 use Rattle.transyt_net.specs.declared.edit.Edit.{Edit}
 use Rattle.transyt_net.specs.declared.edit.Edit.TheVariants.{Offset, Change, Entry, Part, Cruise, Saturation, Weight}
-use Rattle.transyt_parts.specs.Parts.{LinkValue}
-use Rattle.transyt_net.specs.Parts.{Network}
-use Rattle.transyt_parts.specs.Valid.{node_number, link_number, is_fed}
-use Rattle.transyt_net.specs.Valid.{is_among, on_numbered, IsValid}
+use Rattle.transyt_net.specs.Parts.{Network, LinkValue}
+use Rattle.transyt_net.specs.Valid.{is_among, on_numbered, IsValid, node_number, link_number, is_fed}
 use Rattle.transyt_net.specs.Edits.{with_edit, inverse, set_offset, set_change, change_to, set_entry, set_saturation}
 use Rattle.transyt_net.specs.Edits.{set_weights, feeder_of, flow_to, cruise_to, node_in, link_in, NamesLink}
 use Rattle.transyt_net.specs.EditFaults.{edit_fault}

@@ -12,14 +12,12 @@ use Rattle.transyt_parts.specs.declared.node.Stage.{Stage}
 use Rattle.transyt_parts.specs.declared.link.Feed.{Feed}
 use Rattle.transyt_parts.specs.declared.link.GiveWay.{GiveWay}
 use Rattle.transyt_parts.specs.declared.frame.Frame.{Frame}
-use Rattle.transyt_parts.specs.Parts.{NodeValue, LinkValue, PlanValue}
+use Rattle.transyt_net.specs.Parts.{Network, no_node, NodeValue, LinkValue, PlanValue}
 use Rattle.transyt_parts.specs.Ranges.{is_in, IsWithin, budget_range, most_sizes}
-use Rattle.transyt_parts.specs.Valid.{within, feeders, link_number, node_number, IsNode, IsStage}
-use Rattle.transyt_parts.specs.Valid.{is_frame, IsFrame, IsPlan}
+use Rattle.transyt_net.specs.Valid.{on_numbered, on_place, node_numbers, link_numbers, stages_at, rule_at, IsSound}
+use Rattle.transyt_net.specs.Valid.{IsLink, IsFeed, IsRule, within, feeders, link_number, node_number, IsNode, IsStage}
+use Rattle.transyt_net.specs.Valid.{is_frame, IsFrame, IsPlan}
 use Rattle.transyt_parts.specs.Made.{new_node, add_stage, add_feed, set_rule}
-use Rattle.transyt_net.specs.Parts.{Network, no_node}
-use Rattle.transyt_net.specs.Valid.{on_numbered, on_place, node_numbers, link_numbers, stages_at}
-use Rattle.transyt_net.specs.Valid.{rule_at, IsSound, IsLink, IsFeed, IsRule}
 use Rattle.transyt_net.specs.Faults.{node_fault, with_node, last_place, stage_fault, with_stage, link_fault, with_link}
 use Rattle.transyt_net.specs.Faults.{feed_fault, with_feed, rule_fault, with_rule, climb_fault, with_plan, empty}
 use Rattle.transyt_net.specs.There.{HasLink}

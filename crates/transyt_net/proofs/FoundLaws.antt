@@ -6,8 +6,7 @@ use Rattle.std.proofs.lemmas.Bool.Decides.{nat_tests}
 use Rattle.transyt_parts.specs.declared.node.Stage.{Stage}
 use Rattle.transyt_parts.specs.declared.link.Feed.{Feed}
 use Rattle.transyt_parts.specs.Parts.{NodeValue}
-use Rattle.transyt_parts.specs.Valid.{is_fed, feeders, node_number, IsNode}
-use Rattle.transyt_net.specs.Valid.{is_among, numbered, on_numbered, on_place}
+use Rattle.transyt_net.specs.Valid.{is_among, numbered, on_numbered, on_place, is_fed, feeders, node_number, IsNode}
 use Rattle.transyt_net.specs.Edits.{change_to}
 use Rattle.transyt_net.proofs.PlaceLaws.{list_any_map, keys_kept}
 use Rattle.transyt_net.proofs.EditLaws.{all_numbered}

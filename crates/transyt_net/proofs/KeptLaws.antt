@@ -2,10 +2,8 @@
 use Rattle.std.proofs.Common.{◌≡◌, ℕ, map, refl, ap}
 use Rattle.transyt_net.specs.declared.edit.Edit.{Edit}
 use Rattle.transyt_net.specs.declared.edit.Edit.TheVariants.{Offset, Change, Entry, Part, Cruise, Saturation, Weight}
-use Rattle.transyt_parts.specs.Parts.{NodeValue, LinkValue}
-use Rattle.transyt_net.specs.Parts.{Network}
-use Rattle.transyt_net.specs.Valid.{on_numbered}
-use Rattle.transyt_parts.specs.Valid.{node_number, link_number}
+use Rattle.transyt_net.specs.Parts.{Network, NodeValue, LinkValue}
+use Rattle.transyt_net.specs.Valid.{on_numbered, node_number, link_number}
 use Rattle.transyt_net.specs.Edits.{with_edit, set_offset, set_change, set_entry, set_saturation}
 use Rattle.transyt_net.specs.Edits.{set_weights, set_part, set_cruise, feeder_of, flow_to, cruise_to}
 use Rattle.transyt_parts.specs.Shape.{bare_node, bare_feed, bare_link}

@@ -2,10 +2,8 @@
 use Rattle.std.proofs.Common.{◌≡◌, ℕ, List, Some, None, refl, sym, ap, subst, ◌∙◌}
 use Rattle.transyt_net.specs.declared.edit.Edit.{Edit}
 use Rattle.transyt_net.specs.declared.edit.Edit.TheVariants.{Offset, Change, Entry, Part, Cruise, Saturation, Weight}
-use Rattle.transyt_parts.specs.Parts.{NodeValue, LinkValue}
-use Rattle.transyt_net.specs.Parts.{Network}
-use Rattle.transyt_parts.specs.Valid.{node_number, link_number}
-use Rattle.transyt_net.specs.Valid.{numbered, on_numbered}
+use Rattle.transyt_net.specs.Parts.{Network, NodeValue, LinkValue}
+use Rattle.transyt_net.specs.Valid.{numbered, on_numbered, node_number, link_number}
 use Rattle.transyt_net.specs.Edits.{with_edit, inverse, node_in, link_in, Named, named, NamesNode, NamesLink, edited, back_to}
 use Rattle.transyt_net.specs.Edits.{node_edit, link_edit, node_back, link_back}
 use Rattle.transyt_net.specs.EditFaults.{edit_fault}

@@ -9,12 +9,9 @@ use Rattle.std.proofs.lemmas.List.Elements.{All-push, All-weaker, All-nil}
 use Rattle.transyt_parts.specs.declared.link.Feed.{Feed}
 use Rattle.transyt_parts.specs.declared.link.GiveWay.{GiveWay}
 use Rattle.transyt_net.specs.declared.draft.DraftFault.TheVariants.{Twice, Unknown, Range, TooMany}
-use Rattle.transyt_parts.specs.Parts.{LinkValue}
-use Rattle.transyt_net.specs.Parts.{Network}
-use Rattle.transyt_net.specs.Valid.{is_among, node_numbers, link_numbers, stages_at}
-use Rattle.transyt_net.specs.Valid.{IsSound, IsLink, IsFeed, IsRule}
-use Rattle.transyt_parts.specs.Valid.{all_differ, within, link_number, is_fed, feeders}
-use Rattle.transyt_parts.specs.Valid.{link_in_range, AreWeights}
+use Rattle.transyt_net.specs.Parts.{Network, LinkValue}
+use Rattle.transyt_net.specs.Valid.{is_among, node_numbers, link_numbers, stages_at, IsSound, IsLink, IsFeed, IsRule}
+use Rattle.transyt_net.specs.Valid.{all_differ, within, link_number, is_fed, feeders, link_in_range, AreWeights}
 use Rattle.transyt_net.specs.Faults.{link_fault, with_link}
 use Rattle.transyt_net.specs.Faults.{feed_fault, with_feed, rule_fault, with_rule}
 use Rattle.transyt_parts.specs.Made.{add_feed, set_rule}

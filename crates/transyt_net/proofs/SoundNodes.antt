@@ -7,9 +7,8 @@ use Rattle.std.proofs.lemmas.List.{map-append}
 use Rattle.std.proofs.lemmas.List.Elements.{All-push, All-weaker, All-nil}
 use Rattle.transyt_parts.specs.declared.node.Stage.{Stage}
 use Rattle.transyt_net.specs.Parts.{Network}
-use Rattle.transyt_net.specs.Valid.{is_among, on_place, node_numbers, link_numbers}
-use Rattle.transyt_net.specs.Valid.{IsSound, IsLink}
-use Rattle.transyt_parts.specs.Valid.{all_differ, node_number, IsNode, IsStage}
+use Rattle.transyt_net.specs.Valid.{is_among, on_place, node_numbers, link_numbers, IsSound, IsLink, all_differ}
+use Rattle.transyt_net.specs.Valid.{node_number, IsNode, IsStage}
 use Rattle.transyt_net.specs.Faults.{node_fault, with_node, last_place, stage_fault, with_stage}
 use Rattle.transyt_parts.specs.Made.{new_node, add_stage}
 use Rattle.transyt_net.proofs.PlaceLaws.{among_more, all_differ-push, map_kept_at, length_kept_at, all_on_place}

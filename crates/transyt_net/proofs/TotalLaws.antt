@@ -4,11 +4,9 @@ use Rattle.std.proofs.lemmas.List.{map-set, get_or-map, get_or-set_same, length-
 use Rattle.std.proofs.lemmas.List.Elements.{All-get_or}
 use Rattle.std.proofs.lemmas.List.Sums.{sum_by-le}
 use Rattle.transyt_parts.specs.declared.link.Feed.{Feed}
-use Rattle.transyt_parts.specs.Parts.{NodeValue, LinkValue}
+use Rattle.transyt_net.specs.Parts.{Network, link_of, no_link, NodeValue, LinkValue}
 use Rattle.transyt_parts.specs.Flow.{total_flow}
-use Rattle.transyt_net.specs.Parts.{Network, link_of, no_link}
-use Rattle.transyt_parts.specs.Valid.{link_number}
-use Rattle.transyt_net.specs.Valid.{link_numbers, on_numbered, IsSound, IsLink, IsValid}
+use Rattle.transyt_net.specs.Valid.{link_numbers, on_numbered, IsSound, IsLink, IsValid, link_number}
 
 -- the total flow of a link, by the limits of its flows
 pub total_small : (net : Network) (p : ℕ) → IsValid net → p < length net.links → total_flow (link_of net p) ≤ 89991

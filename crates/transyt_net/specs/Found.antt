@@ -1,11 +1,9 @@
 -- The node, the link and the feed that a card number names.
 use Rattle.std.specs.Prelude.{ℕ, Option, Some, None}
 use Rattle.transyt_parts.specs.declared.link.Feed.{Feed}
-use Rattle.transyt_parts.specs.Parts.{NodeValue, LinkValue}
-use Rattle.transyt_parts.specs.Valid.{node_number, link_number}
+use Rattle.transyt_net.specs.Parts.{Network, NodeValue, LinkValue}
+use Rattle.transyt_net.specs.Valid.{numbered, node_number, link_number}
 pub use Rattle.transyt_net.specs.Parts.{node_in, link_in}
-use Rattle.transyt_net.specs.Parts.{Network}
-use Rattle.transyt_net.specs.Valid.{numbered}
 
 -- a feed's feeder
 abbrev pub feeder_of : Feed → ℕ

@@ -1,7 +1,7 @@
 -- A network of its parts, as contracts see it.
 use Rattle.std.specs.Prelude.{ℕ, List, [], Option, Some, None, slice_index_or}
 use Rattle.transyt_parts.specs.declared.frame.Frame.{Frame}
-use Rattle.transyt_parts.specs.Parts.{NodeValue, LinkValue, PlanValue}
+pub use Rattle.transyt_parts.specs.Parts.{LinkValue, NodeValue, PlanValue}
 use Rattle.transyt_parts.specs.Made.{new_node, new_link}
 
 -- a network: its nodes and links in card order, and its climb plan if there is one

@@ -2,10 +2,8 @@
 use Rattle.std.specs.Prelude.{⊤, ℕ, ◌≤◌, length, IsTrue}
 use Rattle.transyt_net.specs.declared.edit.Edit.{Edit}
 use Rattle.transyt_net.specs.declared.edit.Edit.TheVariants.{Change, Part, Cruise}
-use Rattle.transyt_parts.specs.Parts.{NodeValue, LinkValue}
-use Rattle.transyt_parts.specs.Valid.{is_fed}
-use Rattle.transyt_net.specs.Parts.{Network}
-use Rattle.transyt_net.specs.Valid.{is_among, node_numbers, link_numbers}
+use Rattle.transyt_net.specs.Parts.{Network, NodeValue, LinkValue}
+use Rattle.transyt_net.specs.Valid.{is_among, node_numbers, link_numbers, is_fed}
 use Rattle.transyt_net.specs.Edits.{Named, NamesNode, NamesLink, named, the_node, the_link}
 
 -- there is a link of this number

@@ -4,12 +4,13 @@ use Rattle.std.specs.Prelude.{Option, Some, None, IfSome, All, position, IsTrue,
 use Rattle.std.specs.List.{list_any}
 use Rattle.transyt_parts.specs.declared.link.Feed.{Feed}
 use Rattle.transyt_parts.specs.declared.link.GiveWay.{GiveWay}
-use Rattle.transyt_parts.specs.Parts.{NodeValue, LinkValue}
-use Rattle.transyt_net.specs.Parts.{Network, node_in, link_in}
+use Rattle.transyt_net.specs.Parts.{Network, node_in, link_in, NodeValue, LinkValue}
 use Rattle.transyt_parts.specs.Plan.{plan_fault}
 use Rattle.transyt_parts.specs.Ranges.{IsIn, IsWithin, number_range, most_flow, saturation_range}
 use Rattle.transyt_parts.specs.Ranges.{cruise_range, most_percent, most_stages}
-use Rattle.transyt_parts.specs.Valid.{node_number, link_number, all_differ, feeders, AreWeights, IsNode, IsPlan, IsFrame}
+pub use Rattle.transyt_parts.specs.Valid.{AreWeights, IsFrame, IsNode, IsPlan, IsStage, all_differ, feed_in_range}
+pub use Rattle.transyt_parts.specs.Valid.{feeders, is_fed, is_frame, link_in_range, link_number, node_in_range}
+pub use Rattle.transyt_parts.specs.Valid.{node_number, stage_in_range, within}
 
 -- the nodes' card numbers in order
 abbrev pub node_numbers : List NodeValue → List ℕ

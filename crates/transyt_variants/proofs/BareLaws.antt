@@ -159,21 +159,7 @@ bare_is before after n has some =
 room_of : (steps : ℕ) (ns : List NodeValue) → first_barred steps ns ≡ None → All (λ n. least_length n.stages ≤ steps) ns
 room_of steps [] none = All-nil (λ (n : NodeValue). least_length n.stages ≤ steps)
 room_of steps (n ∷ ns) none =
-    let rest = find (λ (n : NodeValue). nat_lt steps (least_length n.stages)) ns in
-    let both = by (nat_lt steps (least_length n.stages)) rest none in
-    All-cons (λ (n : NodeValue). least_length n.stages ≤ steps) n ns (grind (arith, nat_tests, both.0)) (room_of steps ns both.1)
-  where
-    by : (b : Bool) (rest : Option NodeValue) → option_map (λ (n : NodeValue). n.number) (cond b (Some n) rest) ≡ None
-        → (b ≡ false) × (option_map (λ (n : NodeValue). n.number) rest ≡ None)
-    by true rest none = absurd (cc)
-    by false rest none = (refl, none)
-
--- the conditions of a cycle time that may be had
-record MayHave (net : Network) (steps : ℕ) : Type 0 where
-  pub low : 10 ≤ steps
-  pub high : steps ≤ 120
-  pub lags : All (HasShortLags steps) net.links
-  pub plan : IfSome net.plan (IsPlan steps)
+    grind (arith, nat_tests, All-cons (λ (n : NodeValue). least_length n.stages ≤ steps) n ns, room_of steps ns)
 
 plan_again : (before after : ℕ) (o : Option PlanValue) → IfSome o (IsPlan before) → has_short_sizes after o ≡ true → IfSome o (IsPlan after)
 plan_again before after None is short = tt
@@ -185,20 +171,9 @@ plan_again before after (Some p) is short =
       sizes = λ i d below. ((is.sizes i d below).0, grind (arith, nat_tests, each i d below));
     }
 
-may_be : (net : Network) (steps : ℕ) → IsValid net → may_have steps net ≡ true → MayHave net steps
-may_be net steps valid may =
-    let all = and_parts (nat_le 10 steps && nat_le steps 120 && list_all (has_short_lags steps) net.links) (has_short_sizes steps net.plan) may in
-    let front = and_parts (nat_le 10 steps && nat_le steps 120) (list_all (has_short_lags steps) net.links) all.0 in
-    let range = and_parts (nat_le 10 steps) (nat_le steps 120) front.0 in
-    let lags = AllPass-from_list_all (has_short_lags steps) net.links front.1 in
-    record {
-      low = grind (arith, nat_tests, range.0);
-      high = grind (arith, nat_tests, range.1);
-      lags = λ i d below.
-          let both = and_parts (nat_lt (get_or net.links i d).start_lag steps) (nat_lt (get_or net.links i d).end_lag steps) (lags i d below) in
-          record { start_lag = grind (arith, nat_tests, both.0); end_lag = grind (arith, nat_tests, both.1) };
-      plan = plan_again net.frame.step_count steps net.plan valid.sound.plan all.1;
-    }
+may_facts : (net : Network) (steps : ℕ) → may_have steps net ≡ true → (10 ≤ steps) × (steps ≤ 120)
+    × (list_all (has_short_lags steps) net.links ≡ true) × (has_short_sizes steps net.plan ≡ true)
+may_facts net steps may = grind (arith, nat_tests)
 
 -- each node has a bare plan
 have_plans : (net : Network) (cycle : ℕ) → IsValid net → CanHave net cycle
@@ -211,26 +186,20 @@ have_plans net cycle valid can =
       room = room k d inside;
     }
 
--- the steps of a cycle time that can be had
-pub steps_in : (net : Network) (cycle : ℕ) → IsValid net → CanHave net cycle
-    → (0 < steps_of net cycle) × (steps_of net cycle ≤ 120)
-steps_in net cycle valid can =
-    let may = may_be net (steps_of net cycle) valid can.may in
-    (omega (arith, may.low), may.high)
-
 -- the bare network is valid
 pub bare_valid : (net : Network) (cycle : ℕ) → IsValid net → CanHave net cycle → IsValid (bare_net net cycle)
 bare_valid net cycle valid can =
     let before = net.frame.step_count in
     let after = steps_of net cycle in
-    let may = may_be net after valid can.may in
-    let some : 0 < after = omega (arith, may.low) in
+    let may = may_facts net after can.may in
+    let some : 0 < after = omega (arith, may.0) in
+    let lags = AllPass-from_list_all (has_short_lags after) net.links may.2 in
     let frame = valid.sound.frame in
     let all = have_plans net cycle valid can in
     valid_signals net (frame_at net cycle) (map (bare_plan before after) net.nodes) valid (record {
       framed = record {
         cycle = (can.low, can.high);
-        step_count = (may.low, may.high);
+        step_count = (may.0, may.1);
         sweeps = frame.sweeps;
         period = frame.period;
         stop_penalty = frame.stop_penalty;
@@ -243,8 +212,8 @@ bare_valid net cycle valid can =
       planned = All-map (λ n. plan_fault after n.stages ≡ None) (bare_plan before after) net.nodes
           (All-weaker (HasBarePlan before after) (λ n. plan_fault after (bare_stages before after n.stages) ≡ None)
           (λ n has. (bare_is before after n has some).1) net.nodes all);
-      lags = may.lags;
-      plan = may.plan;
+      lags = λ i d below. grind (arith, nat_tests, lags i d below);
+      plan = plan_again before after net.plan valid.sound.plan may.3;
     })
 
 -- no least green is above 120

@@ -2,10 +2,8 @@
 use Rattle.std.proofs.Common.{rules, ◌≡◌, ℕ, List, ◌<◌, ◌-◌, refl, sym, ap, ◌∙◌, subst, length, set, get_or}
 use Rattle.std.proofs.lemmas.List.{set-get_or}
 use Rattle.transyt_parts.specs.declared.node.Stage.{Stage}
-use Rattle.transyt_parts.specs.Parts.{NodeValue}
-use Rattle.transyt_net.specs.Parts.{Network, network_of}
-use Rattle.transyt_net.specs.Valid.{IsSound, node_numbers, on_place}
-use Rattle.transyt_parts.specs.Valid.{node_number}
+use Rattle.transyt_net.specs.Parts.{Network, network_of, NodeValue}
+use Rattle.transyt_net.specs.Valid.{IsSound, node_numbers, on_place, node_number}
 use Rattle.transyt_net.specs.Faults.{with_stage, last_place}
 use Rattle.transyt_parts.specs.Made.{new_stage, add_stage}
 use Rattle.transyt_net.proofs.PlaceLaws.{on_place_here, map_kept_at, length_kept_at}

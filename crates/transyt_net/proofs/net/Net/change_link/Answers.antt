@@ -1,8 +1,7 @@
 -- The link that an edit names is there and takes it; the network is then the edited one, stays valid, and has the
 -- link's new total.
 use Rattle.std.proofs.Common.{rules, ◌≡◌, sym, ◌∙◌, subst, true, arith}
-use Rattle.transyt_parts.specs.Valid.{link_number}
-use Rattle.transyt_net.specs.Valid.{link_numbers, is_among, IsValid}
+use Rattle.transyt_net.specs.Valid.{link_numbers, is_among, IsValid, link_number}
 use Rattle.transyt_net.specs.Edits.{link_edit, link_in}
 use Rattle.transyt_net.specs.There.{LinkTakes}
 use Rattle.transyt_net.proofs.PlaceLaws.{place_inside, found_at, IsPut, put_there}

@@ -1,7 +1,6 @@
 -- The node that an edit names is there and takes it; the network is then the edited one, and stays valid.
 use Rattle.std.proofs.Common.{rules, ◌≡◌, sym, ◌∙◌, subst, true, arith}
-use Rattle.transyt_parts.specs.Valid.{node_number}
-use Rattle.transyt_net.specs.Valid.{node_numbers, is_among, IsValid}
+use Rattle.transyt_net.specs.Valid.{node_numbers, is_among, IsValid, node_number}
 use Rattle.transyt_net.specs.Edits.{node_edit, node_in}
 use Rattle.transyt_net.specs.There.{NodeTakes}
 use Rattle.transyt_net.proofs.PlaceLaws.{place_inside, found_at, IsPut, put_there}
