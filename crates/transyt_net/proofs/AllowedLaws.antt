@@ -3,14 +3,13 @@ use Rattle.std.proofs.Common.{◌≡◌, ℕ, ◌-◌, ◌<◌, true, length, Al
 use Rattle.std.proofs.Common.{arith, IsTrue}
 use Rattle.std.proofs.lemmas.Bool.Decides.{nat_tests}
 use Rattle.transyt_parts.specs.declared.link.Feed.{Feed}
-use Rattle.transyt_net.specs.declared.edit.Edit.{Edit}
-use Rattle.transyt_net.specs.declared.edit.Edit.TheVariants.{Offset, Change, Entry, Part, Cruise, Saturation, Weight}
+use Rattle.transyt_net.specs.Edits.{Edit, Offset, Change, Entry, Part, Cruise, Saturation, Weight, with_edit}
+use Rattle.transyt_net.specs.Edits.{set_offset, set_change, change_to, set_entry, set_saturation, set_weights}
+use Rattle.transyt_net.specs.Edits.{feeder_of, flow_to, cruise_to, node_in, link_in, the_link}
 use Rattle.transyt_net.specs.Parts.{Network, NodeValue, LinkValue}
 use Rattle.transyt_parts.specs.Valid.{is_fed, node_number, link_number, IsNode}
 use Rattle.transyt_net.specs.Valid.{on_numbered, link_numbers, IsLink, IsFeed, IsValid}
 use Rattle.transyt_parts.specs.Plan.{plan_fault, no_stage}
-use Rattle.transyt_net.specs.Edits.{with_edit, set_offset, set_change, change_to, set_entry, set_saturation, set_weights}
-use Rattle.transyt_net.specs.Edits.{feeder_of, flow_to, cruise_to, node_in, link_in, the_link}
 use Rattle.transyt_net.specs.EditFaults.{edit_fault, order_fault, changed, is_link}
 use Rattle.transyt_net.specs.There.{HasLink, IsThere}
 use Rattle.transyt_net.proofs.PlaceLaws.{keys_kept, length_kept_at}
@@ -18,7 +17,7 @@ use Rattle.transyt_net.proofs.EditLaws.{all_numbered}
 use Rattle.transyt_net.proofs.ApplyLaws.{valid_edit}
 use Rattle.transyt_net.proofs.FoundLaws.{some_numbered, numbered_after, numbered_key, written_is, changed_at, fed_is}
 
--- what an allowed edit names is there
+-- the part of an allowed edit is there
 pub there : (net : Network) (e : Edit) → edit_fault net e ≡ None → IsThere net e
 there net (Offset node offset) none = (grind (arith, nat_tests), tt)
 there net (Change node stage change) none = (grind (arith, nat_tests), (grind (arith, nat_tests), grind (arith, nat_tests)))

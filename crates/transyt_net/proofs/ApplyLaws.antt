@@ -1,16 +1,15 @@
--- What an allowed edit does: a valid network stays valid.
+-- An allowed edit keeps a valid network valid.
 use Rattle.std.proofs.Common.{◌≡◌, ℕ, ◌-◌, true, List, None, refl, sym, ap}
 use Rattle.std.proofs.Common.{◌<◌, All, map, ◌∙◌, arith}
 use Rattle.std.proofs.lemmas.Bool.Decides.{nat_tests}
 use Rattle.transyt_parts.specs.declared.link.Feed.{Feed}
-use Rattle.transyt_net.specs.declared.edit.Edit.{Edit}
-use Rattle.transyt_net.specs.declared.edit.Edit.TheVariants.{Offset, Change, Entry, Part, Cruise, Saturation, Weight}
+use Rattle.transyt_net.specs.Edits.{Edit, Offset, Change, Entry, Part, Cruise, Saturation, Weight, with_edit}
+use Rattle.transyt_net.specs.Edits.{set_offset, set_change, change_to, set_entry, set_saturation, set_weights, set_part}
+use Rattle.transyt_net.specs.Edits.{set_cruise, feeder_of, flow_to, cruise_to, node_in}
 use Rattle.transyt_net.specs.Parts.{Network, NodeValue, LinkValue}
 use Rattle.transyt_net.specs.Valid.{on_numbered, link_numbers, IsLink, IsFeed, IsValid, node_number, link_number}
 use Rattle.transyt_net.specs.Valid.{all_differ, IsStage}
 use Rattle.transyt_parts.specs.Plan.{plan_fault}
-use Rattle.transyt_net.specs.Edits.{with_edit, set_offset, set_change, change_to, set_entry, set_saturation}
-use Rattle.transyt_net.specs.Edits.{set_weights, set_part, set_cruise, feeder_of, flow_to, cruise_to, node_in}
 use Rattle.transyt_net.specs.EditFaults.{edit_fault, order_fault, changed}
 use Rattle.transyt_net.proofs.PlaceLaws.{keys_kept, length_kept, length_kept_at, all_on_numbered, all_on_place}
 use Rattle.transyt_net.proofs.ShapeLaws.{change_bare}

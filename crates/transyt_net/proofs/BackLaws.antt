@@ -1,12 +1,11 @@
 -- The inverse of an allowed edit is allowed.
 use Rattle.std.proofs.Common.{◌≡◌, ℕ, ◌-◌, length, None, refl, sym, ap, subst, ◌∙◌, arith}
 use Rattle.transyt_parts.specs.declared.link.Feed.{Feed}
-use Rattle.transyt_net.specs.declared.edit.Edit.{Edit}
-use Rattle.transyt_net.specs.declared.edit.Edit.TheVariants.{Offset, Change, Entry, Part, Cruise, Saturation, Weight}
+use Rattle.transyt_net.specs.Edits.{Edit, Offset, Change, Entry, Part, Cruise, Saturation, Weight, with_edit, inverse}
+use Rattle.transyt_net.specs.Edits.{set_offset, set_change, change_to, set_entry, set_saturation, set_weights}
+use Rattle.transyt_net.specs.Edits.{feeder_of, flow_to, cruise_to, node_in, link_in, NamesLink}
 use Rattle.transyt_net.specs.Parts.{Network, LinkValue}
 use Rattle.transyt_net.specs.Valid.{is_among, on_numbered, IsValid, node_number, link_number, is_fed}
-use Rattle.transyt_net.specs.Edits.{with_edit, inverse, set_offset, set_change, change_to, set_entry, set_saturation}
-use Rattle.transyt_net.specs.Edits.{set_weights, feeder_of, flow_to, cruise_to, node_in, link_in, NamesLink}
 use Rattle.transyt_net.specs.EditFaults.{edit_fault}
 use Rattle.transyt_net.specs.There.{Takes, IsThere}
 use Rattle.transyt_net.proofs.PlaceLaws.{keys_kept, length_kept_at}
@@ -34,7 +33,7 @@ fed_still net link feeder flow f same h =
           ∙ h.1,
     )
 
--- what the inverse names is there after the edit
+-- the part of the inverse is there after the edit
 there_after : (net : Network) (e : Edit) → IsThere net e → IsThere (with_edit net e) (inverse net e)
 there_after net (Offset node offset) h = (still node_number (set_offset offset) (λ n. refl) net.nodes node node h.0, tt)
 there_after net (Change node stage change) h =

@@ -28,7 +28,7 @@ use Rattle.transyt_parts.proofs.KeptLaws.{plan_kept}
 use Rattle.transyt_net.proofs.SoundNodes.{sound_node, sound_stage}
 use Rattle.transyt_net.proofs.SoundLinks.{sound_link, sound_feed, sound_rule}
 
--- what holds of each holds of the last
+-- a fact of each element holds for the last
 all_last : {A : Type 0} (P : A → Type 0) (xs : List A) (y : A) → All P (xs ++ y ∷ []) → P y
 all_last P [] y all = All-head P y [] all
 all_last P (x ∷ xs) y all = all_last P xs y (All-tail P x (xs ++ y ∷ []) all)
@@ -45,7 +45,7 @@ all_within_true low high (x ∷ xs) all =
       all_within_true low high xs (All-tail (λ k. (low ≤ k) × (k ≤ high)) x xs all),
     )
 
--- what stands at a place
+-- the element at a place
 stands : {A : Type 0} (xs : List A) (p : ℕ) (d : A) → p < length xs → slice_get xs p ≡ Some (get_or xs p d)
 stands [] p d h = absurd (omega arith)
 stands (x ∷ xs) zero d h = refl

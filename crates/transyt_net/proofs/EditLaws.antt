@@ -13,7 +13,7 @@ use Rattle.transyt_parts.specs.Parts.{LinkValue}
 use Rattle.transyt_net.specs.Edits.{change_to, feeder_of, feed_in, the_feed}
 use Rattle.transyt_net.proofs.PlaceLaws.{found_here, on_place_here, written_here}
 
--- what holds of each element holds of the one of a number
+-- a fact of each element holds for the element of a number
 pub all_numbered : {A : Type 0} (P : A → Type 0) (key : A → ℕ) (xs : List A) (k : ℕ) (y : A) → All P xs
     → numbered key xs k ≡ Some y → P y
 all_numbered P key [] k y all at = absurd (cc)

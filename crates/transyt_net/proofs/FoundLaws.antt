@@ -1,4 +1,4 @@
--- What a number finds where it is there, and after a write to that.
+-- The element of a number that is there, before and after a write to it.
 use Rattle.std.proofs.Common.{◌≡◌, ℕ, ◌<◌, true, List, [], ◌∷◌, length, map, zero, suc}
 use Rattle.std.proofs.Common.{Option, Some, None, refl, sym, ap, ◌∙◌, arith, nat_eq}
 use Rattle.std.proofs.Common.{get_or, All}
@@ -24,14 +24,14 @@ some_numbered {A} key xs k h = by (numbered key xs k) refl
     by None none = absurd (found_none key xs k h none)
     by (Some x) at = (x, at)
 
--- what a number finds after a write there
+-- the element of a number after a write to it
 pub numbered_after : {A : Type 0} (key : A → ℕ) (f : A → A) (same : (x : A) → key (f x) ≡ key x) (xs : List A) (k : ℕ)
     (y : A)
     → numbered key xs k ≡ Some y → numbered key (on_numbered key f xs k) k ≡ Some (f y)
 numbered_after key f same [] k y at = absurd (cc)
 numbered_after key f same (x ∷ xs) k y at = grind (arith, nat_tests, same x, numbered_after key f same xs k y)
 
--- what a number finds has it
+-- the element of a number has it
 pub numbered_key : {A : Type 0} (key : A → ℕ) (xs : List A) (k : ℕ) (y : A) → numbered key xs k ≡ Some y → key y ≡ k
 numbered_key key [] k y at = absurd (cc)
 numbered_key key (x ∷ xs) k y at = grind (arith, nat_tests, numbered_key key xs k y)

@@ -1,11 +1,10 @@
 -- An edit keeps the shape.
 use Rattle.std.proofs.Common.{◌≡◌, ℕ, map, refl, ap}
-use Rattle.transyt_net.specs.declared.edit.Edit.{Edit}
-use Rattle.transyt_net.specs.declared.edit.Edit.TheVariants.{Offset, Change, Entry, Part, Cruise, Saturation, Weight}
+use Rattle.transyt_net.specs.Edits.{Edit, Offset, Change, Entry, Part, Cruise, Saturation, Weight, with_edit}
+use Rattle.transyt_net.specs.Edits.{set_offset, set_change, set_entry, set_saturation, set_weights, set_part}
+use Rattle.transyt_net.specs.Edits.{set_cruise, feeder_of, flow_to, cruise_to}
 use Rattle.transyt_net.specs.Parts.{Network, NodeValue, LinkValue}
 use Rattle.transyt_net.specs.Valid.{on_numbered, node_number, link_number}
-use Rattle.transyt_net.specs.Edits.{with_edit, set_offset, set_change, set_entry, set_saturation}
-use Rattle.transyt_net.specs.Edits.{set_weights, set_part, set_cruise, feeder_of, flow_to, cruise_to}
 use Rattle.transyt_parts.specs.Shape.{bare_node, bare_feed, bare_link}
 use Rattle.transyt_net.specs.Shape.{shape}
 use Rattle.transyt_net.proofs.PlaceLaws.{map_kept}

@@ -1,11 +1,10 @@
--- What an allowed edit names takes it, and the edit is what it does to that.
+-- The part that an allowed edit names takes it, and the edit is a write to that part.
 use Rattle.std.proofs.Common.{◌≡◌, ℕ, List, Some, None, refl, sym, ap, subst, ◌∙◌}
-use Rattle.transyt_net.specs.declared.edit.Edit.{Edit}
-use Rattle.transyt_net.specs.declared.edit.Edit.TheVariants.{Offset, Change, Entry, Part, Cruise, Saturation, Weight}
+use Rattle.transyt_net.specs.Edits.{Edit, Offset, Change, Entry, Part, Cruise, Saturation, Weight, with_edit, inverse}
+use Rattle.transyt_net.specs.Edits.{node_in, link_in, Named, named, NamesNode, NamesLink, edited, back_to, node_edit}
+use Rattle.transyt_net.specs.Edits.{link_edit, node_back, link_back}
 use Rattle.transyt_net.specs.Parts.{Network, NodeValue, LinkValue}
 use Rattle.transyt_net.specs.Valid.{numbered, on_numbered, node_number, link_number}
-use Rattle.transyt_net.specs.Edits.{with_edit, inverse, node_in, link_in, Named, named, NamesNode, NamesLink, edited, back_to}
-use Rattle.transyt_net.specs.Edits.{node_edit, link_edit, node_back, link_back}
 use Rattle.transyt_net.specs.EditFaults.{edit_fault}
 use Rattle.transyt_net.specs.There.{Takes}
 use Rattle.transyt_net.proofs.AllowedLaws.{there}

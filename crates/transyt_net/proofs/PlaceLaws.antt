@@ -63,7 +63,7 @@ place_tail key x xs k p h = record {
   first = λ d i less. h.first d (suc i) (omega arith);
 }
 
--- what the number names stands at its place
+-- the element of a number stands at its place
 pub numbered_here : {A : Type 0} (key : A → ℕ) (xs : List A) (k p : ℕ) (d : A) → IsPlace key xs k p
     → numbered key xs k ≡ Some (get_or xs p d)
 numbered_here key [] k p d h = absurd (omega arith)
@@ -130,14 +130,14 @@ length_kept {A} key f xs k = same_length {A = A} {B = ℕ} (λ x. 0) (on_numbere
 pub length_kept_at : {A : Type 0} (f : A → A) (xs : List A) (p : ℕ) → length (on_place f xs p) ≡ length xs
 length_kept_at {A} f xs p = same_length {A = A} {B = ℕ} (λ x. 0) (on_place f xs p) xs (map_kept_at f (λ x. 0) (λ x. refl) xs p)
 
--- what holds of each element holds after a write that keeps it
+-- a fact of each element holds after a write that keeps it
 pub all_on_numbered : {A : Type 0} (P : A → Type 0) (key : A → ℕ) (f : A → A) (xs : List A) (k : ℕ)
     → ((x : A) → numbered key xs k ≡ Some x → P x → P (f x)) → All P xs → All P (on_numbered key f xs k)
 all_on_numbered P key f [] k h all = All-nil P
 all_on_numbered P key f (x ∷ xs) k h all =
     grind (arith, nat_tests, All-cons P, All-head P x xs all, All-tail P x xs all, h, all_on_numbered P key f xs k)
 
--- what holds of each holds after a write by place that keeps it
+-- the same after a write by place
 pub all_on_place : {A : Type 0} (P : A → Type 0) (f : A → A) (xs : List A) (p : ℕ)
     → ((x : A) → slice_get xs p ≡ Some x → P x → P (f x)) → All P xs → All P (on_place f xs p)
 all_on_place P f [] p h all = All-nil P
@@ -151,7 +151,7 @@ pub list_any_map : {A : Type 0} (key : A → ℕ) (test : ℕ → Bool) (xs : Li
 list_any_map key test [] = refl
 list_any_map key test (x ∷ xs) = ap (λ b. test (key x) || b) (list_any_map key test xs)
 
--- what a look-up answers
+-- the place that a look-up finds
 pub found_place : {A : Type 0} (key : A → ℕ) (xs : List A) (k : ℕ) (d : A) (o : Option ℕ)
     → o ≡ place_of (map key xs) k → IfSome o (λ p. (p < length xs) × (key (get_or xs p d) ≡ k))
 found_place key xs k d None h = tt
@@ -159,7 +159,7 @@ found_place key xs k d (Some p) h =
     let place = place_is key xs k p (sym h) in
     (place.inside, sym (eqb-true k (key (get_or xs p d)) (place.here d)))
 
--- what a write at the place of a number comes to
+-- a write at the place of a number, as a write by number
 pub record IsPut {A : Type 0} (key : A → ℕ) (f : A → A) (xs : List A) (k p : ℕ) (old new : A) : Type 0 where
   pub found : numbered key xs k ≡ Some old
   pub put : set xs p new ≡ on_numbered key f xs k

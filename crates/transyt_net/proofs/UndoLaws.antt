@@ -3,14 +3,12 @@ use Rattle.std.proofs.Common.{◌≡◌, ℕ, suc, zero, ◌-◌, List, [], ◌�
 use Rattle.std.proofs.Common.{arith}
 use Rattle.std.proofs.lemmas.Bool.Decides.{nat_tests}
 use Rattle.transyt_parts.specs.declared.node.Stage.{Stage}
-use Rattle.transyt_net.specs.declared.edit.Edit.{Edit}
-use Rattle.transyt_net.specs.declared.edit.Edit.TheVariants.{Offset, Change, Entry, Part, Cruise, Saturation, Weight}
+use Rattle.transyt_net.specs.Edits.{Edit, Offset, Change, Entry, Part, Cruise, Saturation, Weight, with_edit, inverse}
+use Rattle.transyt_net.specs.Edits.{set_offset, set_change, change_to, set_entry, set_saturation, set_weights, set_part}
+use Rattle.transyt_net.specs.Edits.{set_cruise, feeder_of, flow_to, cruise_to, node_in, link_in, feed_in, the_feed}
 use Rattle.transyt_net.specs.Parts.{Network, NodeValue, LinkValue}
 use Rattle.transyt_net.specs.Valid.{numbered, on_numbered, on_place, node_number, link_number}
 use Rattle.transyt_parts.specs.Plan.{stage_of}
-use Rattle.transyt_net.specs.Edits.{with_edit, inverse, set_offset, set_change, change_to, set_entry, set_saturation}
-use Rattle.transyt_net.specs.Edits.{set_weights, set_part, set_cruise, feeder_of, flow_to, cruise_to, node_in, link_in}
-use Rattle.transyt_net.specs.Edits.{feed_in, the_feed}
 
 -- a write, and a second that puts back what stood there, leave all
 put_back : {A : Type 0} (key : A → ℕ) (f g : A → A) (same : (x : A) → key (f x) ≡ key x) (xs : List A) (k : ℕ)

@@ -1,10 +1,8 @@
 -- The part that an edit names, and whether the network has it.
 use Rattle.std.specs.Prelude.{⊤, ℕ, ◌≤◌, length, IsTrue}
-use Rattle.transyt_net.specs.declared.edit.Edit.{Edit}
-use Rattle.transyt_net.specs.declared.edit.Edit.TheVariants.{Change, Part, Cruise}
+use Rattle.transyt_net.specs.Edits.{Edit, Change, Part, Cruise, Named, NamesNode, NamesLink, named, the_node, the_link}
 use Rattle.transyt_net.specs.Parts.{Network, NodeValue, LinkValue}
 use Rattle.transyt_net.specs.Valid.{is_among, node_numbers, link_numbers, is_fed}
-use Rattle.transyt_net.specs.Edits.{Named, NamesNode, NamesLink, named, the_node, the_link}
 
 -- there is a link of this number
 abbrev pub HasLink : Network → ℕ → Type 0

@@ -46,3 +46,10 @@ all_flow-requires c =
     let sound = link_set _ c.in-Some.place c.edit_link-back.new.link valid.sound
     (place_inside link_number c.self.inside.links.items c.args.number c.in-Some.place (search rules)) in
     record { entry = sound.entry; flows = λ k d inside. (sound.feeds k d inside).flow; few = sound.feed_count }
+
+-- the link takes the edit
+pub edit_link-back-requires : goal.edit_link-back-requires
+edit_link-back-requires c =
+    subst (λ o. LinkTakes c.args.e.now (link_in o))
+    (found_at link_number c.self.inside.links.items c.args.number c.in-Some.place c.index_mut-link.result.now (search rules)
+    c.index_mut-link.ensures.value) (takes _ _ c.args.e.now _ c.self.view_is c.requires.names c.requires.allowed).1
