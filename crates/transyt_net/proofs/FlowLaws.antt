@@ -1,5 +1,5 @@
 -- Flows a step as quotients of smaller terms.
-use Rattle.std.proofs.Common.{ℕ, ◌≡◌, ◌*◌, ◌/◌, ◌∙◌, sym, ap, arith}
+use Rattle.std.proofs.Common.{ℕ, ◌≡◌, ◌*◌, ◌/◌, ◌∙◌, sym, arith}
 use Rattle.std.proofs.Math.Nat.{mul-div-mul_right}
 use Rattle.transyt_parts.specs.declared.frame.Frame.{Frame}
 use Rattle.transyt_net.specs.Flow.{perstep}

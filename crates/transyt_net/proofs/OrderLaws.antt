@@ -1,11 +1,10 @@
 -- Where numbers differ, each stands at one place alone.
-use Rattle.std.proofs.Common.{◌≡◌, ℕ, zero, suc, ◌<◌, Bool, true, false, nat_eq, List, [], ◌∷◌, length, map}
-use Rattle.std.proofs.Common.{get_or, not, refl, ap, sym, subst, ◌∙◌, arith}
+use Rattle.std.proofs.Common.{◌≡◌, ℕ, zero, suc, ◌<◌, true, false, nat_eq, List, [], ◌∷◌, length, map}
+use Rattle.std.proofs.Common.{get_or, ap, sym, subst, ◌∙◌, arith}
 use Rattle.std.proofs.lemmas.Bool.{eq-eqb}
 use Rattle.std.proofs.lemmas.Bool.Decides.{nat_tests}
 use Rattle.std.proofs.lemmas.List.{length-map, get_or-map}
 use Rattle.std.proofs.lemmas.List.Folds.{list_any_at}
-use Rattle.std.specs.List.{list_any}
 use Rattle.transyt_net.specs.Valid.{IsValid, all_differ, node_number}
 use Rattle.transyt_net.specs.Parts.{Network, node_of, no_node}
 use Rattle.transyt_net.specs.Edits.{the_node, node_in}

@@ -1,7 +1,5 @@
 -- The draft with the new feed is sound, has no new number, and has the new total.
-use Rattle.std.proofs.Common.{rules, ◌≡◌, List, refl, sym, ap, ◌∙◌, subst, set, arith}
-use Rattle.std.proofs.lemmas.List.{set-get_or}
-use Rattle.transyt_net.specs.Parts.{network_of, LinkValue}
+use Rattle.std.proofs.Common.{rules, refl, sym, ◌∙◌, subst}
 use Rattle.transyt_net.specs.Valid.{IsSound, link_number}
 use Rattle.transyt_parts.specs.Made.{new_feed, add_feed}
 use Rattle.transyt_net.proofs.PlaceLaws.{IsPut, put_there, place_inside}

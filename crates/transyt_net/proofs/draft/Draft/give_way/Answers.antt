@@ -1,10 +1,10 @@
 -- The draft with the new give-way rule is sound, and has no new number and no other total.
-use Rattle.std.proofs.Common.{rules, ◌≡◌, refl, sym, ap, ◌∙◌, subst, get_or, arith}
+use Rattle.std.proofs.Common.{rules, ◌≡◌, refl, sym, ap, ◌∙◌, subst, get_or}
 use Rattle.std.proofs.Math.Seq.{map-set_same}
 use Rattle.transyt_parts.specs.Flow.{total_flow}
 use Rattle.transyt_net.specs.Valid.{IsSound, link_number}
 use Rattle.transyt_parts.specs.Made.{new_rule, set_rule}
-use Rattle.transyt_net.proofs.PlaceLaws.{IsPut, put_there, place_inside}
+use Rattle.transyt_net.proofs.PlaceLaws.{IsPut, put_there}
 use Rattle.transyt_net.proofs.SoundLinks.{sound_rule}
 use Rattle.transyt_net.proofs.TotalLaws.{links_put}
 use Rattle.transyt_net.proofs.draft.Draft.give_way.Goals as goal

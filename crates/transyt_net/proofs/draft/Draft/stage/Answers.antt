@@ -1,6 +1,5 @@
 -- The draft with the new stage of its last node is sound, and has no new number.
 use Rattle.std.proofs.Common.{rules, ◌≡◌, ℕ, List, ◌<◌, ◌-◌, refl, sym, ap, ◌∙◌, subst, length, set, get_or}
-use Rattle.std.proofs.lemmas.List.{set-get_or}
 use Rattle.transyt_parts.specs.declared.node.Stage.{Stage}
 use Rattle.transyt_net.specs.Parts.{Network, network_of, NodeValue}
 use Rattle.transyt_net.specs.Valid.{IsSound, node_numbers, on_place, node_number}

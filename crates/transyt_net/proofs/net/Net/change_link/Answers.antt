@@ -1,13 +1,13 @@
 -- The link that an edit names is there and takes it; the network is then the edited one, stays valid, and has the
 -- link's new total.
-use Rattle.std.proofs.Common.{rules, ◌≡◌, sym, ◌∙◌, subst, true, arith}
-use Rattle.transyt_net.specs.Valid.{link_numbers, is_among, IsValid, link_number}
+use Rattle.std.proofs.Common.{rules, sym, ◌∙◌, subst}
+use Rattle.transyt_net.specs.Valid.{IsValid, link_number}
 use Rattle.transyt_net.specs.Edits.{link_edit, link_in}
 use Rattle.transyt_net.specs.There.{LinkTakes}
 use Rattle.transyt_net.proofs.PlaceLaws.{place_inside, found_at, IsPut, put_there}
 use Rattle.transyt_net.proofs.ApplyLaws.{valid_edit}
 use Rattle.transyt_net.proofs.TotalLaws.{total_set, link_set}
-use Rattle.transyt_net.proofs.NamedLaws.{takes, link_done, link_back_done, link_numbers_kept}
+use Rattle.transyt_net.proofs.NamedLaws.{takes, link_done, link_numbers_kept}
 use Rattle.transyt_net.proofs.net.Net.change_link.Goals as goal
 
 -- the link is written at the place of its number

@@ -1,11 +1,10 @@
 -- The node that an edit names is there and takes it; the network is then the edited one, and stays valid.
-use Rattle.std.proofs.Common.{rules, ◌≡◌, sym, ◌∙◌, subst, true, arith}
-use Rattle.transyt_net.specs.Valid.{node_numbers, is_among, IsValid, node_number}
-use Rattle.transyt_net.specs.Edits.{node_edit, node_in}
-use Rattle.transyt_net.specs.There.{NodeTakes}
-use Rattle.transyt_net.proofs.PlaceLaws.{place_inside, found_at, IsPut, put_there}
+use Rattle.std.proofs.Common.{rules, sym, ◌∙◌, subst}
+use Rattle.transyt_net.specs.Valid.{IsValid, node_number}
+use Rattle.transyt_net.specs.Edits.{node_edit}
+use Rattle.transyt_net.proofs.PlaceLaws.{IsPut, put_there}
 use Rattle.transyt_net.proofs.ApplyLaws.{valid_edit}
-use Rattle.transyt_net.proofs.NamedLaws.{takes, node_done, node_back_done, node_numbers_kept}
+use Rattle.transyt_net.proofs.NamedLaws.{node_done, node_numbers_kept}
 use Rattle.transyt_net.proofs.net.Net.change_node.Goals as goal
 
 -- the node is written at the place of its number
