@@ -1,83 +1,19 @@
--- What an allowed edit does: a valid network stays valid.
-use Rattle.std.proofs.Common.{◌≡◌, ℕ, ◌-◌, ◌≤◌, Bool, true, not, ◌&&◌, List, length, Some, None, refl, sym, ap}
-use Rattle.std.proofs.Common.{All, map, ◌∙◌, arith, nat_le, nat_lt, if◌then◌else◌}
+-- An allowed edit keeps a valid network valid.
+use Rattle.std.proofs.Common.{◌≡◌, ℕ, ◌-◌, true, List, None, refl, sym, ap}
+use Rattle.std.proofs.Common.{◌<◌, All, map, ◌∙◌, arith}
 use Rattle.std.proofs.lemmas.Bool.Decides.{nat_tests}
-use Rattle.std.proofs.lemmas.Bool.{and_parts, not-false, leb-true, ltb-true, le-leb}
-use Rattle.std.proofs.lemmas.List.{length-map}
-use Rattle.transyt_parts.specs.declared.node.Stage.{Stage}
 use Rattle.transyt_parts.specs.declared.link.Feed.{Feed}
-use Rattle.transyt_net.specs.declared.edit.Edit.{Edit}
-use Rattle.transyt_net.specs.declared.edit.Edit.TheVariants.{Offset, Change, Entry, Part, Cruise, Saturation, Weight}
-use Rattle.transyt_net.specs.declared.edit.EditFault.TheVariants.{Unknown, NoFeeder, Range, StageOrder, LeastGreen}
-use Rattle.transyt_parts.specs.declared.stage_plan.PlanFault.TheVariants as plan
-use Rattle.transyt_parts.specs.Parts.{NodeValue, LinkValue}
-use Rattle.transyt_net.specs.Parts.{Network}
-use Rattle.transyt_parts.specs.Valid.{within, is_fed, node_number, link_number, all_differ, weights_in_range, IsStage}
-use Rattle.transyt_net.specs.Valid.{is_among, on_numbered, on_place, node_numbers, link_numbers}
-use Rattle.transyt_net.specs.Valid.{feeds_at, IsLink, IsFeed, IsValid}
-use Rattle.transyt_parts.specs.Plan.{plan_fault, in_order, have_greens}
-use Rattle.transyt_net.specs.Edits.{with_edit, set_offset, set_change, change_to, set_entry, set_saturation}
-use Rattle.transyt_net.specs.Edits.{set_weights, set_part, set_cruise, feeder_of, flow_to, cruise_to, node_in}
-use Rattle.transyt_net.specs.EditFaults.{edit_fault, range_fault, feed_fault, order_fault, has_stage, is_link}
-use Rattle.transyt_net.proofs.PlaceLaws.{keys_kept, keys_kept_at, all_on_numbered, all_on_place, length_kept}
-use Rattle.transyt_net.proofs.WriteLaws.{KeepsLink, no_fault, in_range, links_written, nodes_written}
-
--- what a range test without a fault tells
-pub ranged : (known fits : Bool) → range_fault known fits ≡ None → (known ≡ true) × (fits ≡ true)
-ranged known fits h =
-    let once = no_fault (not known) Unknown _ h in
-    let twice = no_fault (not fits) Range _ once.1 in
-    (not-false _ once.0, not-false _ twice.0)
-
--- what a feed's test without a fault tells
-fed : (known feeds fits : Bool) → feed_fault known feeds fits ≡ None
-    → (known ≡ true) × (feeds ≡ true) × (fits ≡ true)
-fed known feeds fits h =
-    let once = no_fault (not known) Unknown _ h in
-    let twice = no_fault (not feeds) NoFeeder _ once.1 in
-    let thrice = no_fault (not fits) Range _ twice.1 in
-    (not-false _ once.0, not-false _ twice.0, not-false _ thrice.0)
-
--- what an allowed edit of a flow from a feeder tells
-pub part_allowed : (net : Network) (link feeder flow : ℕ) → edit_fault net (Part link feeder flow) ≡ None
-    → ((is_link net link && is_link net feeder) ≡ true) × (is_fed (feeds_at net.links link) feeder ≡ true)
-    × (nat_le flow 9999 ≡ true)
-part_allowed net link feeder flow none =
-    fed (is_link net link && is_link net feeder) (is_fed (feeds_at net.links link) feeder) (nat_le flow 9999) none
-
--- what an allowed edit of a cruise time from a feeder tells
-pub cruise_allowed : (net : Network) (link feeder seconds : ℕ)
-    → edit_fault net (Cruise link feeder seconds) ≡ None
-    → ((is_link net link && is_link net feeder) ≡ true) × (is_fed (feeds_at net.links link) feeder ≡ true)
-    × (within 1 300 seconds ≡ true)
-cruise_allowed net link feeder seconds none =
-    let timed = within 1 300 seconds in
-    fed (is_link net link && is_link net feeder) (is_fed (feeds_at net.links link) feeder) timed none
-
--- a plan without a fault, from its parts and back
-plan_is : (steps : ℕ) (stages : List Stage) → 2 ≤ length stages → order_fault steps stages ≡ None
-    → plan_fault steps stages ≡ None
-plan_is steps stages two h =
-    let ordered = no_fault (not (in_order steps stages)) StageOrder _ h in
-    let greens = no_fault (not (have_greens steps stages)) LeastGreen _ ordered.1 in
-    let enough : nat_le 2 (length stages) ≡ true = le-leb 2 (length stages) two in
-    (λ j. if not (enough j) then Some plan.FewStages
-    else if not (not-false _ ordered.0 j) then Some plan.StageOrder
-    else if not (not-false _ greens.0 j) then Some plan.LeastGreen
-    else None)
-
--- what a plan without a fault tells
-pub plan_parts : (steps : ℕ) (stages : List Stage) → plan_fault steps stages ≡ None
-    → (2 ≤ length stages) × (order_fault steps stages ≡ None)
-plan_parts steps stages h =
-    let many = no_fault (not (nat_le 2 (length stages))) plan.FewStages _ h in
-    let ordered = no_fault (not (in_order steps stages)) plan.StageOrder _ many.1 in
-    let greens = no_fault (not (have_greens steps stages)) plan.LeastGreen _ ordered.1 in (
-      leb-true 2 (length stages) (not-false _ many.0),
-      (λ j. if not (not-false _ ordered.0 j) then Some StageOrder
-          else if not (not-false _ greens.0 j) then Some LeastGreen
-          else None),
-    )
+use Rattle.transyt_net.specs.Edits.{Edit, Offset, Change, Entry, Part, Cruise, Saturation, Weight, with_edit}
+use Rattle.transyt_net.specs.Edits.{set_offset, set_change, change_to, set_entry, set_saturation, set_weights, set_part}
+use Rattle.transyt_net.specs.Edits.{set_cruise, feeder_of, flow_to, cruise_to, node_in}
+use Rattle.transyt_net.specs.Parts.{Network, NodeValue, LinkValue}
+use Rattle.transyt_net.specs.Valid.{on_numbered, link_numbers, IsLink, IsFeed, IsValid, node_number, link_number}
+use Rattle.transyt_net.specs.Valid.{all_differ, IsStage}
+use Rattle.transyt_parts.specs.Plan.{plan_fault}
+use Rattle.transyt_net.specs.EditFaults.{edit_fault, order_fault, changed}
+use Rattle.transyt_net.proofs.PlaceLaws.{keys_kept, length_kept, length_kept_at, all_on_numbered, all_on_place}
+use Rattle.transyt_net.proofs.ShapeLaws.{change_bare}
+use Rattle.transyt_net.proofs.WriteLaws.{KeepsLink, links_written, nodes_written}
 
 -- a write to a link keeps a network valid
 link_valid : (net : Network) (f : LinkValue → LinkValue) (same : (l : LinkValue) → (f l).number ≡ l.number)
@@ -95,7 +31,7 @@ feeds_written : (numbers : List ℕ) (f : Feed → Feed) (same : (x : Feed) → 
     → ((x : Feed) → IsFeed numbers x → IsFeed numbers (f x))
     → IsLink steps nodes numbers (record l { feeds = on_numbered feeder_of f l.feeds feeder })
 feeds_written numbers f same steps nodes feeder l old good =
-    let len = length_kept feeder_of f same l.feeds feeder in
+    let len = length_kept feeder_of f l.feeds feeder in
     let differ : all_differ (map feeder_of (on_numbered feeder_of f l.feeds feeder)) ≡ true =
     ap all_differ (keys_kept feeder_of f same l.feeds feeder) ∙ old.feeders_differ in
     let fed_still : All (IsFeed numbers) (on_numbered feeder_of f l.feeds feeder) =
@@ -104,67 +40,40 @@ feeds_written numbers f same steps nodes feeder l old good =
 
 -- an allowed edit keeps a network valid
 pub valid_edit : (net : Network) (e : Edit) → IsValid net → edit_fault net e ≡ None → IsValid (with_edit net e)
-valid_edit net (Offset node offset) h none =
-    let both = ranged (is_among (node_numbers net.nodes) node) (nat_lt offset net.frame.step_count) none in
-    record {
-      sound = nodes_written net (set_offset offset) (λ n. refl) (λ n. refl) node h.sound
-          (λ n at old. record {
-            number = old.number;
-            offset = ltb-true offset net.frame.step_count both.1;
-            stage_count = old.stage_count;
-            stages = old.stages;
-          });
-      planned =
-          all_on_numbered (λ n. plan_fault net.frame.step_count n.stages ≡ None) node_number (set_offset offset)
-          net.nodes node (λ n at p. p) h.planned;
-    }
+valid_edit net (Offset node offset) h none = record {
+  sound = nodes_written net (set_offset offset) (λ n. refl) node h.sound (λ n at old. grind (arith, nat_tests));
+  planned =
+      all_on_numbered (λ n. plan_fault net.frame.step_count n.stages ≡ None) node_number (set_offset offset)
+      net.nodes node (λ n at p. p) h.planned;
+}
 valid_edit net (Change node stage change) h none =
     let steps = net.frame.step_count in
-    let known = no_fault (not (has_stage net node stage)) Unknown _ none in
-    let fits = no_fault (not (nat_lt change steps)) Range _ known.1 in
-    let below = ltb-true change steps (not-false _ fits.0) in
-    let kept : (n : NodeValue) → length (set_change stage change n).stages ≡ length n.stages =
-    λ n. sym (length-map (on_place (change_to change) n.stages (stage - 1)) (λ s. s.least))
-    ∙ ap length (keys_kept_at (λ s. s.least) (change_to change) (λ s. refl) n.stages (stage - 1))
-    ∙ length-map n.stages (λ s. s.least) in
+    let below : change < steps = grind (arith, nat_tests) in
+    let fits : order_fault steps (changed net node stage change) ≡ None = grind (arith, nat_tests) in
+    let kept = λ (n : NodeValue). length_kept_at (change_to change) n.stages (stage - 1) in
     record {
-      sound = nodes_written net (set_change stage change) (λ n. refl) kept node h.sound
-          (λ n at old.
-          let len = kept n in
-          record {
-            number = old.number;
-            offset = old.offset;
-            stage_count = omega (arith, old.stage_count);
-            stages =
-                all_on_place (IsStage steps) (change_to change) n.stages (stage - 1)
-                (λ s here is. record { change = below; intergreen = is.intergreen; least = is.least }) old.stages;
-          });
+      sound = nodes_written net (set_change stage change) (change_bare stage change) node h.sound (λ n at old.
+          let stages = all_on_place (IsStage steps) (change_to change) n.stages (stage - 1)
+          (λ s here is. record { change = below; intergreen = is.intergreen; least = is.least }) old.stages in
+          grind (arith, nat_tests, kept n));
       planned =
           all_on_numbered (λ n. plan_fault steps n.stages ≡ None) node_number (set_change stage change) net.nodes node
           (λ n at p.
-          let two = (plan_parts steps n.stages p).0 in
-          let len = kept n in
-          plan_is steps (set_change stage change n).stages (omega arith)
-          (ap (λ o. order_fault steps (set_change stage change (node_in o)).stages) (sym at) ∙ fits.1))
+          let order = ap (λ o. order_fault steps (set_change stage change (node_in o)).stages) (sym at) ∙ fits in
+          grind (arith, nat_tests, kept n))
           h.planned;
     }
 valid_edit net (Entry link flow) h none =
-    let both = ranged (is_link net link) (nat_le flow 9999) none in
     link_valid net (set_entry flow) (λ l. refl) link h (λ l at old. grind (arith, nat_tests))
 valid_edit net (Part link feeder flow) h none =
-    let all = part_allowed net link feeder flow none in
     link_valid net (set_part feeder flow) (λ l. refl) link h (λ l at old.
     feeds_written (link_numbers net.links) (flow_to flow) (λ f. refl) net.frame.step_count net.nodes feeder l old
-    (λ x is. record { feeder = is.feeder; flow = leb-true flow 9999 all.2; cruise = is.cruise }))
+    (λ x is. grind (arith, nat_tests)))
 valid_edit net (Cruise link feeder seconds) h none =
-    let all = cruise_allowed net link feeder seconds none in
     link_valid net (set_cruise feeder seconds) (λ l. refl) link h (λ l at old.
     feeds_written (link_numbers net.links) (cruise_to seconds) (λ f. refl) net.frame.step_count net.nodes feeder l old
-    (λ x is. record { feeder = is.feeder; flow = is.flow; cruise = in_range 1 300 seconds all.2 }))
+    (λ x is. grind (arith, nat_tests)))
 valid_edit net (Saturation link flow) h none =
-    let both = ranged (is_link net link) (within 100 9999 flow) none in
     link_valid net (set_saturation flow) (λ l. refl) link h (λ l at old. grind (arith, nat_tests))
 valid_edit net (Weight link weights) h none =
-    let both = ranged (is_link net link) (weights_in_range weights) none in
-    let each = and_parts (nat_le weights.delay 999) (nat_le weights.stop 999) both.1 in
     link_valid net (set_weights weights) (λ l. refl) link h (λ l at old. grind (arith, nat_tests))

@@ -1,77 +1,55 @@
 -- The inverse of an allowed edit is allowed.
 use Rattle.std.proofs.Common.{◌≡◌, ℕ, ◌-◌, length, None, refl, sym, ap, subst, ◌∙◌, arith}
-use Rattle.std.proofs.lemmas.List.{length-map}
-use Rattle.std.specs.List.{Contains}
 use Rattle.transyt_parts.specs.declared.link.Feed.{Feed}
-use Rattle.transyt_net.specs.declared.edit.Edit.{Edit}
-use Rattle.transyt_net.specs.declared.edit.Edit.TheVariants.{Offset, Change, Entry, Part, Cruise, Saturation, Weight}
-use Rattle.transyt_parts.specs.Parts.{NodeValue, LinkValue}
-use Rattle.transyt_net.specs.Parts.{Network}
-use Rattle.transyt_parts.specs.Valid.{node_number, link_number, feeders}
-use Rattle.transyt_net.specs.Valid.{on_numbered, on_place, node_numbers, link_numbers, numbered, IsValid}
-use Rattle.transyt_net.specs.Edits.{with_edit, inverse, set_offset, set_change, change_to, set_entry, set_saturation}
-use Rattle.transyt_net.specs.Edits.{set_weights, feeder_of, flow_to, cruise_to, node_in, link_in, the_node}
+use Rattle.transyt_net.specs.Edits.{Edit, Offset, Change, Entry, Part, Cruise, Saturation, Weight, with_edit, inverse}
+use Rattle.transyt_net.specs.Edits.{set_offset, set_change, change_to, set_entry, set_saturation, set_weights}
+use Rattle.transyt_net.specs.Edits.{feeder_of, flow_to, cruise_to, node_in, link_in, NamesLink}
+use Rattle.transyt_net.specs.Parts.{Network, LinkValue}
+use Rattle.transyt_net.specs.Valid.{is_among, on_numbered, IsValid, node_number, link_number, is_fed}
 use Rattle.transyt_net.specs.EditFaults.{edit_fault}
-use Rattle.transyt_net.specs.There.{HasLink, HasFeed, IsThere}
-use Rattle.transyt_net.proofs.PlaceLaws.{keys_kept, keys_kept_at}
+use Rattle.transyt_net.specs.There.{Takes, IsThere}
+use Rattle.transyt_net.proofs.PlaceLaws.{keys_kept, length_kept_at}
 use Rattle.transyt_net.proofs.UndoLaws.{undone}
-use Rattle.transyt_net.proofs.ApplyLaws.{valid_edit}
-use Rattle.transyt_net.proofs.FoundLaws.{among_there, some_numbered, numbered_after}
+use Rattle.transyt_net.proofs.FoundLaws.{some_numbered, numbered_after, fed_is, still}
 use Rattle.transyt_net.proofs.AllowedLaws.{there, allowed}
 
--- a link is there after a write of its numbers
-link_still : (net : Network) (f : LinkValue → LinkValue) (same : (l : LinkValue) → (f l).number ≡ l.number) (link : ℕ)
-    → HasLink net link → Contains (link_numbers (on_numbered link_number f net.links link)) link
-link_still net f same link h =
-    subst (λ ks. Contains ks link) (sym (keys_kept link_number f same net.links link)) h
-
--- and its feed after a write of that
-feed_still : (net : Network) (link feeder : ℕ) (f : Feed → Feed) (same : (x : Feed) → (f x).feeder ≡ x.feeder)
-    → HasFeed net link feeder
-    → HasFeed (record net {
+-- the feed of a link is there after a write of it
+fed_still : (net : Network) (link feeder flow : ℕ) (f : Feed → Feed) (same : (x : Feed) → (f x).feeder ≡ x.feeder)
+    → Takes net (Part link feeder flow) (NamesLink link)
+    → Takes (record net {
       links = on_numbered link_number (λ l. record l { feeds = on_numbered feeder_of f l.feeds feeder })
           net.links link;
-    }) link feeder
-feed_still net link feeder f same h =
+    }) (Part link feeder flow) (NamesLink link)
+fed_still net link feeder flow f same h =
     let write : LinkValue → LinkValue = λ l. record l { feeds = on_numbered feeder_of f l.feeds feeder } in
-    let at = some_numbered link_number net.links link (among_there (link_numbers net.links) link h.0) in
-    let l : LinkValue = at.0 in
-    let after = numbered_after link_number write (λ m. refl) net.links link l at.1 in
-    let feeds : feeders (link_in (numbered link_number (on_numbered link_number write net.links link) link)).feeds
-    ≡ feeders (link_in (numbered link_number net.links link)).feeds =
-    ap (λ o. feeders (link_in o).feeds) after
-    ∙ keys_kept feeder_of f same l.feeds feeder
-    ∙ ap (λ o. feeders (link_in o).feeds) (sym at.1) in
-    (link_still net write (λ m. refl) link h.0, subst (λ ks. Contains ks feeder) (sym feeds) h.1)
-
--- what the inverse names is there after the edit
-there_after : (net : Network) (e : Edit) → IsThere net e → IsThere (with_edit net e) (inverse net e)
-there_after net (Offset node offset) h =
-    subst (λ ks. Contains ks node) (sym (keys_kept node_number (set_offset offset) (λ n. refl) net.nodes node)) h
-there_after net (Change node stage change) h =
-    let at = some_numbered node_number net.nodes node (among_there (node_numbers net.nodes) node h.0) in
-    let n : NodeValue = at.0 in
-    let after = numbered_after node_number (set_change stage change) (λ m. refl) net.nodes node n at.1 in
-    let kept : length (set_change stage change n).stages ≡ length n.stages =
-    sym (length-map (on_place (change_to change) n.stages (stage - 1)) (λ s. s.least))
-    ∙ ap length (keys_kept_at (λ s. s.least) (change_to change) (λ s. refl) n.stages (stage - 1))
-    ∙ length-map n.stages (λ s. s.least) in
-    let same : length (the_node (with_edit net (Change node stage change)) node).stages
-    ≡ length (the_node net node).stages =
-    ap (λ o. length (node_in o).stages) after ∙ kept ∙ ap (λ o. length (node_in o).stages) (sym at.1) in (
-      subst (λ ks. Contains ks node) (sym (keys_kept node_number (set_change stage change) (λ m. refl) net.nodes node)) h.0,
-      h.1,
-      omega (arith, h.2, same),
+    let at = some_numbered link_number net.links link h.0 in
+    let after = numbered_after link_number write (λ m. refl) net.links link at.0 at.1 in (
+      still link_number write (λ m. refl) net.links link link h.0,
+      ap (λ o. is_fed (link_in o).feeds feeder) after
+          ∙ fed_is (on_numbered feeder_of f at.0.feeds feeder) feeder
+          ∙ ap (λ ks. is_among ks feeder) (keys_kept feeder_of f same at.0.feeds feeder)
+          ∙ sym (fed_is at.0.feeds feeder)
+          ∙ ap (λ o. is_fed (link_in o).feeds feeder) (sym at.1)
+          ∙ h.1,
     )
-there_after net (Entry link flow) h = link_still net (set_entry flow) (λ l. refl) link h
-there_after net (Part link feeder flow) h = feed_still net link feeder (flow_to flow) (λ f. refl) h
-there_after net (Cruise link feeder seconds) h = feed_still net link feeder (cruise_to seconds) (λ f. refl) h
-there_after net (Saturation link flow) h = link_still net (set_saturation flow) (λ l. refl) link h
-there_after net (Weight link weights) h = link_still net (set_weights weights) (λ l. refl) link h
+
+-- the part of the inverse is there after the edit
+there_after : (net : Network) (e : Edit) → IsThere net e → IsThere (with_edit net e) (inverse net e)
+there_after net (Offset node offset) h = (still node_number (set_offset offset) (λ n. refl) net.nodes node node h.0, tt)
+there_after net (Change node stage change) h =
+    let at = some_numbered node_number net.nodes node h.0 in
+    let after = numbered_after node_number (set_change stage change) (λ m. refl) net.nodes node at.0 at.1 in
+    let same = ap (λ o. length (node_in o).stages) after ∙ length_kept_at (change_to change) at.0.stages (stage - 1)
+    ∙ ap (λ o. length (node_in o).stages) (sym at.1) in
+    (still node_number (set_change stage change) (λ n. refl) net.nodes node node h.0, (h.1.0, omega (arith, h.1.1, same)))
+there_after net (Entry link flow) h = (still link_number (set_entry flow) (λ l. refl) net.links link link h.0, tt)
+there_after net (Part link feeder flow) h = fed_still net link feeder flow (flow_to flow) (λ f. refl) h
+there_after net (Cruise link feeder seconds) h = fed_still net link feeder seconds (cruise_to seconds) (λ f. refl) h
+there_after net (Saturation link flow) h = (still link_number (set_saturation flow) (λ l. refl) net.links link link h.0, tt)
+there_after net (Weight link weights) h = (still link_number (set_weights weights) (λ l. refl) net.links link link h.0, tt)
 
 -- the inverse of an allowed edit is allowed after it
 pub back_allowed : (net : Network) (e : Edit) → IsValid net → edit_fault net e ≡ None
     → edit_fault (with_edit net e) (inverse net e) ≡ None
 back_allowed net e h none =
-    allowed (with_edit net e) (inverse net e) (valid_edit net e h none) (there_after net e (there net e none))
-    (subst IsValid (sym (undone net e)) h)
+    allowed (with_edit net e) (inverse net e) (there_after net e (there net e none)) (subst IsValid (sym (undone net e)) h)

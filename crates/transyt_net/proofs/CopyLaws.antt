@@ -1,15 +1,9 @@
 -- The slice of a vector, written back as a whole.
-use Rattle.std.proofs.Common.{◌≡◌, ℕ, ◌≤◌, List, [], ◌∷◌, ◌++◌, length, take, drop, refl, sym, ap, ◌∙◌, arith}
-use Rattle.std.proofs.lemmas.List.{take-append-le}
+use Rattle.std.proofs.Common.{◌≡◌, ℕ, List, ◌++◌, length, take, drop, sym, ap, ◌∙◌}
+use Rattle.std.proofs.Math.Seq.{take-append_seam}
 
--- as many as a list has are all of it
-pub take_whole : {A : Type 0} (xs : List A) → take (length xs) xs ≡ xs
-take_whole [] = refl
-take_whole (x ∷ xs) = ap (λ ys. x ∷ ys) (take_whole xs)
-
--- what a call left of the whole of a vector's slice
+-- the slice of a whole vector after a call, written back
 pub written_back : {A : Type 0} (new old : List A) (n : ℕ) → length new ≡ length old → n ≡ length old
     → take n (new ++ drop (length new) old) ≡ new
 written_back new old n len count =
-    let fits : n ≤ length new = omega arith in
-    take-append-le n new (drop (length new) old) fits ∙ ap (λ m. take m new) (count ∙ sym len) ∙ take_whole new
+    let rest = drop (length new) old in ap (λ m. take m (new ++ rest)) (count ∙ sym len) ∙ take-append_seam new rest

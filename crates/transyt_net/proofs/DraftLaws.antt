@@ -1,50 +1,34 @@
 -- A call of a draft has no fault exactly where the draft after it is sound.
-use Rattle.std.proofs.Common.{◌≡◌, ◌↔◌, ℕ, zero, suc, ◌<◌, ◌≤◌, true, false, not, ◌&&◌, ◌||◌, List, []}
-use Rattle.std.proofs.Common.{◌∷◌, ◌++◌, length, All, Option, None, Some, refl, sym, ap, subst, ◌∙◌, arith}
-use Rattle.std.proofs.Common.{nat_eq, nat_le, IsTrue, ◌-◌, is_some, slice_get, get_or, set, length-append, if◌then◌else◌}
-use Rattle.std.specs.List.{list_any, list_all}
-use Rattle.std.proofs.lemmas.Bool.{and_parts, and_from, or_parts, or_from, not-true, not_from_true, lt-leb}
+use Rattle.std.proofs.Common.{◌≡◌, ◌↔◌, ℕ, zero, suc, ◌<◌, ◌≤◌, true, List, []}
+use Rattle.std.proofs.Common.{◌∷◌, ◌++◌, length, All, None, Some, refl, subst, arith}
+use Rattle.std.proofs.Common.{IsTrue, ◌-◌, slice_get, get_or, set, length-append}
+use Rattle.std.specs.List.{list_all}
+use Rattle.std.proofs.Math.Seq.{lt-length-set}
 use Rattle.std.proofs.lemmas.Bool.Decides.{nat_tests}
 use Rattle.std.proofs.lemmas.List.{map-append}
-use Rattle.std.proofs.lemmas.List.Folds.{list_any-append}
-use Rattle.std.proofs.lemmas.List.Elements.{All-head, All-tail, All-nil, All-weaker}
+use Rattle.std.proofs.lemmas.List.Elements.{All-head, All-tail, All-nil}
 use Rattle.std.proofs.lemmas.Grind.{get_or-set_at}
 use Rattle.transyt_parts.specs.declared.node.Stage.{Stage}
 use Rattle.transyt_parts.specs.declared.link.Feed.{Feed}
 use Rattle.transyt_parts.specs.declared.link.GiveWay.{GiveWay}
-use Rattle.transyt_net.specs.declared.draft.DraftFault.TheVariants.{Twice, Unknown, Range, TooMany}
 use Rattle.transyt_parts.specs.declared.frame.Frame.{Frame}
-use Rattle.transyt_parts.specs.Parts.{NodeValue, LinkValue, PlanValue}
+use Rattle.transyt_net.specs.Parts.{Network, no_node, NodeValue, LinkValue, PlanValue}
 use Rattle.transyt_parts.specs.Ranges.{is_in, IsWithin, budget_range, most_sizes}
-use Rattle.transyt_parts.specs.Valid.{within, all_differ, is_fed, feeders, link_number, node_number, IsNode, IsStage}
-use Rattle.transyt_parts.specs.Valid.{is_frame, IsFrame, IsPlan}
-use Rattle.transyt_parts.specs.Valid.{node_in_range, stage_in_range, link_in_range, feed_in_range}
+use Rattle.transyt_net.specs.Valid.{on_numbered, on_place, node_numbers, link_numbers, stages_at, rule_at, IsSound}
+use Rattle.transyt_net.specs.Valid.{IsLink, IsFeed, IsRule, within, feeders, link_number, node_number, IsNode, IsStage}
+use Rattle.transyt_net.specs.Valid.{is_frame, IsFrame, IsPlan}
 use Rattle.transyt_parts.specs.Made.{new_node, add_stage, add_feed, set_rule}
-use Rattle.transyt_net.specs.Parts.{Network, no_node}
-use Rattle.transyt_net.specs.Valid.{is_among, on_numbered, on_place, node_numbers, link_numbers, stages_at}
-use Rattle.transyt_net.specs.Valid.{stage_total, feeds_at, feeds_in, rule_at, IsSound, IsLink, IsFeed, IsRule}
 use Rattle.transyt_net.specs.Faults.{node_fault, with_node, last_place, stage_fault, with_stage, link_fault, with_link}
-use Rattle.transyt_net.specs.Faults.{are_links, feed_fault, with_feed, rule_fault, with_rule, climb_fault, with_plan, empty}
+use Rattle.transyt_net.specs.Faults.{feed_fault, with_feed, rule_fault, with_rule, climb_fault, with_plan, empty}
 use Rattle.transyt_net.specs.There.{HasLink}
-use Rattle.transyt_net.proofs.PlaceLaws.{eq_swapped, on_place_here, keys_kept}
-use Rattle.transyt_net.proofs.EditLaws.{all_numbered}
-use Rattle.transyt_net.proofs.FoundLaws.{among_there, there_among, some_numbered, numbered_after, fed_is, within_true}
-use Rattle.transyt_net.proofs.WriteLaws.{no_fault, in_range, all_in_range}
-use Rattle.std.proofs.lemmas.Bool.{not-false}
+use Rattle.transyt_net.proofs.PlaceLaws.{all_differ-push, on_place_here, keys_kept}
+use Rattle.transyt_net.proofs.FoundLaws.{written_is, fed_is}
+use Rattle.transyt_net.proofs.WriteLaws.{all_in_range}
+use Rattle.transyt_parts.proofs.KeptLaws.{plan_kept}
 use Rattle.transyt_net.proofs.SoundNodes.{sound_node, sound_stage}
 use Rattle.transyt_net.proofs.SoundLinks.{sound_link, sound_feed, sound_rule}
 
--- the last of numbers that differ is not among the others
-last_apart : (xs : List ℕ) (y : ℕ) → all_differ (xs ++ y ∷ []) ≡ true → is_among xs y ≡ false
-last_apart [] y d = refl
-last_apart (x ∷ xs) y d =
-    let parts = and_parts (not (list_any (nat_eq x) (xs ++ y ∷ []))) (all_differ (xs ++ y ∷ [])) d in
-    let absent : (list_any (nat_eq x) xs || (nat_eq x y || false)) ≡ false =
-    sym (list_any-append (nat_eq x) xs (y ∷ [])) ∙ not-true _ parts.0 in
-    let apart = or_parts (nat_eq x y) false (or_parts (list_any (nat_eq x) xs) (nat_eq x y || false) absent).1 in
-    or_from _ _ (eq_swapped x y apart.0) (last_apart xs y parts.1)
-
--- what holds of each holds of the last
+-- a fact of each element holds for the last
 all_last : {A : Type 0} (P : A → Type 0) (xs : List A) (y : A) → All P (xs ++ y ∷ []) → P y
 all_last P [] y all = All-head P y [] all
 all_last P (x ∷ xs) y all = all_last P xs y (All-tail P x (xs ++ y ∷ []) all)
@@ -54,11 +38,15 @@ all_within_true : (low high : ℕ) (xs : List ℕ) → All (λ k. (low ≤ k) ×
     → list_all (within low high) xs ≡ true
 all_within_true low high [] all = refl
 all_within_true low high (x ∷ xs) all =
-    and_from _ _ (within_true low high x (All-head (λ k. (low ≤ k) × (k ≤ high)) x xs all))
-    (all_within_true low high xs (All-tail (λ k. (low ≤ k) × (k ≤ high)) x xs all))
+    grind (
+      arith,
+      nat_tests,
+      All-head (λ k. (low ≤ k) × (k ≤ high)) x xs all,
+      all_within_true low high xs (All-tail (λ k. (low ≤ k) × (k ≤ high)) x xs all),
+    )
 
--- what stands at a place
-pub stands : {A : Type 0} (xs : List A) (p : ℕ) (d : A) → p < length xs → slice_get xs p ≡ Some (get_or xs p d)
+-- the element at a place
+stands : {A : Type 0} (xs : List A) (p : ℕ) (d : A) → p < length xs → slice_get xs p ≡ Some (get_or xs p d)
 stands [] p d h = absurd (omega arith)
 stands (x ∷ xs) zero d h = refl
 stands (x ∷ xs) (suc p) d h = stands xs p d (omega arith)
@@ -66,17 +54,12 @@ stands (x ∷ xs) (suc p) d h = stands xs p d (omega arith)
 node_free : (net : Network) (number offset : ℕ) → IsSound (with_node net number offset)
     → node_fault net number offset ≡ None
 node_free net number offset s =
-    let steps = net.frame.step_count in
     let new = new_node number offset in
     let keys : node_numbers (net.nodes ++ new ∷ []) ≡ node_numbers net.nodes ++ number ∷ [] =
     map-append node_number net.nodes (new ∷ []) in
-    let apart = last_apart (node_numbers net.nodes) number (ap all_differ (sym keys) ∙ s.nodes_differ) in
-    let good : IsNode steps new = all_last (IsNode steps) net.nodes new s.nodes in
-    let range : node_in_range steps number offset ≡ true = grind (arith, nat_tests) in
+    let good = all_last (IsNode net.frame.step_count) net.nodes new s.nodes in
     let longer = length-append net.nodes (new ∷ []) in
-    let room : nat_le 200 (length net.nodes) ≡ false =
-    lt-leb 200 (length net.nodes) (omega (arith, s.node_count, longer)) in
-    (λ j. if apart j then Some Twice else if not (range j) then Some Range else if room j then Some TooMany else None)
+    grind (arith, nat_tests, all_differ-push (node_numbers net.nodes) number)
 
 -- a new node
 pub node_exactly : (net : Network) (number offset : ℕ) → IsSound net
@@ -95,19 +78,10 @@ stage_free net s some h =
     let at : get_or (set net.nodes p (add_stage s n)) p no_node ≡ add_stage s n =
     get_or-set_at net.nodes p p (add_stage s n) no_node refl inside in
     let there : slice_get net.nodes p ≡ Some n = stands net.nodes p no_node inside in
-    let good : IsNode steps (add_stage s n) = subst (IsNode steps) at (nodes p no_node (written net.nodes p (add_stage s n) inside)) in
-    let stage : IsStage steps s = all_last (IsStage steps) n.stages s good.stages in
-    let range : stage_in_range steps s ≡ true = grind (arith, nat_tests) in
+    let good : IsNode steps (add_stage s n) = subst (IsNode steps) at (nodes p no_node (lt-length-set net.nodes p (add_stage s n) inside)) in
+    let stage = all_last (IsStage steps) n.stages s good.stages in
     let longer = length-append n.stages (s ∷ []) in
-    let room : nat_le 8 (stage_total (slice_get net.nodes p)) ≡ false =
-    ap (λ o. nat_le 8 (stage_total o)) there
-    ∙ lt-leb 8 (length n.stages) (omega (arith, good.stage_count, longer)) in
-    (λ j. if not (range j) then Some Range else if room j then Some TooMany else None)
-  where
-    written : (ns : List NodeValue) (p : ℕ) (m : NodeValue) → p < length ns → p < length (set ns p m)
-    written [] p m h = absurd (omega arith)
-    written (x ∷ xs) zero m h = omega arith
-    written (x ∷ xs) (suc p) m h = let rest = written xs p m (omega arith) in omega arith
+    grind (arith, nat_tests)
 
 -- a new stage of the last node
 pub stage_exactly : (net : Network) (s : Stage) → IsSound net → 0 < length net.nodes
@@ -116,23 +90,13 @@ stage_exactly net s h some = (sound_stage net s h, stage_free net s some)
 
 link_free : (net : Network) (l : LinkValue) → IsSound (with_link net l) → link_fault net l ≡ None
 link_free net l s =
-    let steps = net.frame.step_count in
     let numbers = link_numbers net.links in
     let after = link_numbers (net.links ++ l ∷ []) in
     let keys : after ≡ numbers ++ l.number ∷ [] = map-append link_number net.links (l ∷ []) in
-    let apart = last_apart numbers l.number (ap all_differ (sym keys) ∙ s.links_differ) in
-    let good : IsLink steps net.nodes after l = all_last (IsLink steps net.nodes after) net.links l s.links in
-    let twice : (is_among numbers l.number || not (all_differ l.stages)) ≡ false =
-    or_from _ _ apart (not_from_true _ good.stages_differ) in
-    let known : (is_among (node_numbers net.nodes) l.node
-    && list_all (within 1 (stages_at net.nodes l.node)) l.stages) ≡ true =
-    and_from _ _ good.node (all_within_true 1 (stages_at net.nodes l.node) l.stages good.stages) in
-    let range : link_in_range steps l ≡ true = grind (arith, nat_tests) in
+    let good = all_last (IsLink net.frame.step_count net.nodes after) net.links l s.links in
+    let staged = all_within_true 1 (stages_at net.nodes l.node) l.stages good.stages in
     let longer = length-append net.links (l ∷ []) in
-    let room : nat_le 1000 (length net.links) ≡ false =
-    lt-leb 1000 (length net.links) (omega (arith, s.link_count, longer)) in
-    (λ j. if twice j then Some Twice else if not (known j) then Some Unknown
-    else if not (range j) then Some Range else if room j then Some TooMany else None)
+    grind (arith, nat_tests, all_differ-push numbers l.number)
 
 -- a new link
 pub link_exactly : (net : Network) (l : LinkValue) → IsSound net → (1 ≤ length l.stages) × (length l.stages ≤ 8)
@@ -142,82 +106,41 @@ link_exactly net l h count no_feeds no_rule = (sound_link net l h count no_feeds
 feed_free : (net : Network) (link : ℕ) (f : Feed) → HasLink net link → IsSound (with_feed net link f)
     → feed_fault net link f ≡ None
 feed_free net link f there s =
-    let steps = net.frame.step_count in
     let numbers = link_numbers net.links in
-    let is_there : is_among numbers link ≡ true = among_there numbers link there in
-    let at = some_numbered link_number net.links link is_there in
-    let l : LinkValue = at.0 in
     let links = on_numbered link_number (add_feed f) net.links link in
     let keys : link_numbers links ≡ numbers = keys_kept link_number (add_feed f) (λ m. refl) net.links link in
-    let good : IsLink steps net.nodes (link_numbers links) (add_feed f l) =
-    all_numbered (IsLink steps net.nodes (link_numbers links)) link_number links link (add_feed f l) s.links
-    (numbered_after link_number (add_feed f) (λ m. refl) net.links link l at.1) in
-    let apart : is_among (feeders l.feeds) f.feeder ≡ false =
-    last_apart (feeders l.feeds) f.feeder
-    (ap all_differ (sym (map-append (λ x. x.feeder) l.feeds (f ∷ []))) ∙ good.feeders_differ) in
-    let twice : is_fed (feeds_at net.links link) f.feeder ≡ false =
-    ap (λ o. is_fed (feeds_in o) f.feeder) at.1 ∙ fed_is l.feeds f.feeder ∙ apart in
-    let feed : IsFeed (link_numbers links) f = all_last (IsFeed (link_numbers links)) l.feeds f good.feeds in
-    let known : are_links net link f.feeder ≡ true =
-    and_from _ _ is_there (subst (λ ks. is_among ks f.feeder ≡ true) keys feed.feeder) in
-    let range : feed_in_range f ≡ true = grind (arith, nat_tests) in
-    let longer = length-append l.feeds (f ∷ []) in
-    let room : nat_le 8 (length (feeds_at net.links link)) ≡ false =
-    ap (λ o. nat_le 8 (length (feeds_in o))) at.1
-    ∙ lt-leb 8 (length l.feeds) (omega (arith, good.feed_count, longer)) in
-    (λ j. if twice j then Some Twice else if not (known j) then Some Unknown
-    else if not (range j) then Some Range else if room j then Some TooMany else None)
+    let is = written_is (IsLink net.frame.step_count net.nodes (link_numbers links)) link_number (add_feed f) (λ m. refl)
+    net.links link there s.links in
+    let feeds = is.0.feeds in
+    let names = map-append (λ x. x.feeder) feeds (f ∷ []) in
+    let feed = all_last (IsFeed (link_numbers links)) feeds f is.2.feeds in
+    let longer = length-append feeds (f ∷ []) in
+    grind (arith, nat_tests, all_differ-push (feeders feeds) f.feeder, fed_is feeds f.feeder)
 
 -- a new feed
 pub feed_exactly : (net : Network) (link : ℕ) (f : Feed) → IsSound net
     → feed_fault net link f ≡ None ↔ HasLink net link × IsSound (with_feed net link f)
 feed_exactly net link f h = (
-  (λ none.
-      let once = no_fault (is_fed (feeds_at net.links link) f.feeder) Twice _ none in
-      let unknown = no_fault (not (are_links net link f.feeder)) Unknown _ once.1 in
-      let both = and_parts (is_among (link_numbers net.links) link) (is_among (link_numbers net.links) f.feeder)
-      (not-false _ unknown.0) in
-      (there_among (link_numbers net.links) link both.0, sound_feed net link f h none)),
+  (λ none. (grind (arith, nat_tests), sound_feed net link f h none)),
   (λ both. feed_free net link f both.0 both.1),
 )
 
 rule_free : (net : Network) (link : ℕ) (r : GiveWay) → HasLink net link → rule_at net.links link ≡ None
     → IsSound (with_rule net link r) → rule_fault net link r ≡ None
 rule_free net link r there none s =
-    let steps = net.frame.step_count in
-    let numbers = link_numbers net.links in
-    let is_there : is_among numbers link ≡ true = among_there numbers link there in
-    let at = some_numbered link_number net.links link is_there in
     let links = on_numbered link_number (set_rule r) net.links link in
-    let keys : link_numbers links ≡ numbers = keys_kept link_number (set_rule r) (λ m. refl) net.links link in
-    let good : IsLink steps net.nodes (link_numbers links) (set_rule r at.0) =
-    all_numbered (IsLink steps net.nodes (link_numbers links)) link_number links link (set_rule r at.0) s.links
-    (numbered_after link_number (set_rule r) (λ m. refl) net.links link at.0 at.1) in
-    let rule : IsRule (link_numbers links) r = good.rule in
-    let known : are_links net link r.other ≡ true =
-    and_from _ _ is_there (subst (λ ks. is_among ks r.other ≡ true) keys rule.other) in
-    let range : nat_le r.percent 400 ≡ true = grind (arith, nat_tests) in
-    (λ j. if is_some (none j) then Some Twice else if not (known j) then Some Unknown
-    else if not (range j) then Some Range else None)
-
-no_rule : {A : Type 0} (o : Option A) → is_some o ≡ false → o ≡ None
-no_rule None h = refl
-no_rule (Some a) h = absurd (cc)
+    let is = written_is (IsLink net.frame.step_count net.nodes (link_numbers links)) link_number (set_rule r) (λ m. refl)
+    net.links link there s.links in
+    let keys = keys_kept link_number (set_rule r) (λ m. refl) net.links link in
+    let rule : IsRule (link_numbers links) r = is.2.rule in
+    grind (arith, nat_tests)
 
 -- a new give-way rule
 pub rule_exactly : (net : Network) (link : ℕ) (r : GiveWay) → IsSound net
     → rule_fault net link r ≡ None
     ↔ HasLink net link × (rule_at net.links link ≡ None) × IsSound (with_rule net link r)
 rule_exactly net link r h = (
-  (λ none.
-      let once = no_fault (is_some (rule_at net.links link)) Twice _ none in
-      let unknown = no_fault (not (are_links net link r.other)) Unknown _ once.1 in
-      let both = and_parts (is_among (link_numbers net.links) link) (is_among (link_numbers net.links) r.other)
-      (not-false _ unknown.0) in (
-        there_among (link_numbers net.links) link both.0,
-        no_rule (rule_at net.links link) once.0,
-        sound_rule net link r h none,
-      )),
+  (λ none. (grind (arith, nat_tests), grind (arith, nat_tests), sound_rule net link r h none)),
   (λ all. rule_free net link r all.0 all.1 all.2),
 )
 
@@ -226,16 +149,9 @@ pub frame_exactly : (f : Frame) → IsTrue (is_frame f) ↔ IsSound (empty f)
 frame_exactly f = (
   (λ h.
       let frame : IsFrame f = grind (arith, nat_tests) in
-      record {
-        frame = frame;
-        node_count = omega arith;
-        nodes_differ = refl;
-        nodes = All-nil (IsNode f.step_count);
-        link_count = omega arith;
-        links_differ = refl;
-        links = All-nil (IsLink f.step_count [] []);
-        plan = tt;
-      }),
+      let nodes = All-nil (IsNode f.step_count) in
+      let links = All-nil (IsLink f.step_count [] []) in
+      grind (arith, nat_tests)),
   (λ s. let frame : IsFrame f = s.frame in grind (arith, nat_tests)),
 )
 
@@ -246,26 +162,11 @@ plan_exactly net p h count =
     let steps = net.frame.step_count in
     let top = steps - 1 in (
       (λ none.
-          let ranged = no_fault (not (is_in budget_range p.budget && list_all (within 1 top) p.sizes)) Range None none in
-          let both = and_parts (is_in budget_range p.budget) (list_all (within 1 top) p.sizes) (not-false _ ranged.0) in
-          let sizes : All (λ x. (1 ≤ x) × (x < steps)) p.sizes =
-          All-weaker (IsWithin 1 top) (λ x. (1 ≤ x) × (x < steps)) (λ x k. (k.0, omega (arith, k.0, k.1))) p.sizes
-          (all_in_range 1 top p.sizes both.1) in
-          record {
-            frame = h.frame;
-            node_count = h.node_count;
-            nodes_differ = h.nodes_differ;
-            nodes = h.nodes;
-            link_count = h.link_count;
-            links_differ = h.links_differ;
-            links = h.links;
-            plan = record { budget = in_range 1 1000000 p.budget both.0; size_count = count; sizes = sizes };
-          }),
+          let sizes = all_in_range 1 top p.sizes (grind (arith, nat_tests)) in
+          let budget : IsTrue (is_in budget_range p.budget) = grind (arith, nat_tests) in
+          let plan : IsPlan steps p = (plan_kept steps p).1 (budget, count, sizes) in
+          grind (arith, nat_tests)),
       (λ s.
-          let plan : IsPlan steps p = s.plan in
-          let sizes : All (IsWithin 1 top) p.sizes =
-          All-weaker (λ x. (1 ≤ x) × (x < steps)) (IsWithin 1 top) (λ x k. (k.0, omega (arith, k.0, k.1))) p.sizes plan.sizes in
-          let range : (is_in budget_range p.budget && list_all (within 1 top) p.sizes) ≡ true =
-          and_from _ _ (within_true 1 1000000 p.budget plan.budget) (all_within_true 1 top p.sizes sizes) in
-          (λ j. if not (range j) then Some Range else None)),
+          let is = (plan_kept steps p).0 s.plan in
+          grind (arith, nat_tests, all_within_true 1 top p.sizes is.2)),
     )

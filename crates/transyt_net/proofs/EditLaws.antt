@@ -1,30 +1,24 @@
 -- The one element that an edit changes.
-use Rattle.std.proofs.Common.{◌≡◌, ℕ, suc, zero, ◌<◌, ◌≤◌, Bool, true, false, cond, List, [], ◌∷◌, ◌++◌, length, take}
-use Rattle.std.proofs.Common.{get_or, set, Some, refl, sym, ap, subst, ◌∙◌, arith, nat_eq, All}
-use Rattle.std.proofs.lemmas.List.{set-append_left, take-append-le, length-set}
+use Rattle.std.proofs.Common.{◌≡◌, ℕ, ◌<◌, ◌≤◌, List, [], ◌∷◌, ◌++◌, length, take}
+use Rattle.std.proofs.Common.{get_or, set, Some, refl, sym, ap, ◌∙◌, arith, All}
+use Rattle.std.proofs.Math.Seq.{take-length}
+use Rattle.std.proofs.lemmas.List.{set-append_left, take-append-le, length-set, get_or_append_left}
 use Rattle.std.proofs.lemmas.List.Elements.{All-head, All-tail}
+use Rattle.std.proofs.lemmas.Bool.Decides.{nat_tests}
 use Rattle.transyt_net.specs.Valid.{numbered, on_numbered, on_place}
 use Rattle.transyt_net.specs.Named.{IsPlace}
 use Rattle.transyt_parts.specs.declared.node.Stage.{Stage}
 use Rattle.transyt_parts.specs.declared.link.Feed.{Feed}
 use Rattle.transyt_parts.specs.Parts.{LinkValue}
 use Rattle.transyt_net.specs.Edits.{change_to, feeder_of, feed_in, the_feed}
-use Rattle.transyt_net.proofs.CopyLaws.{take_whole}
 use Rattle.transyt_net.proofs.PlaceLaws.{found_here, on_place_here, written_here}
 
--- what holds of each element holds of the one of a number
+-- a fact of each element holds for the element of a number
 pub all_numbered : {A : Type 0} (P : A → Type 0) (key : A → ℕ) (xs : List A) (k : ℕ) (y : A) → All P xs
     → numbered key xs k ≡ Some y → P y
 all_numbered P key [] k y all at = absurd (cc)
 all_numbered P key (x ∷ xs) k y all at =
-    by (nat_eq k (key x)) refl (λ rest. all_numbered P key xs k y (All-tail P x xs all) rest)
-  where
-    by : (b : Bool) → nat_eq k (key x) ≡ b → (numbered key xs k ≡ Some y → P y) → P y
-    by true e rest =
-        let here : Some x ≡ Some y = sym (ap (λ b. cond b (Some x) (numbered key xs k)) e) ∙ at in
-        let same : x ≡ y = cc in
-        subst P same (All-head P x xs all)
-    by false e rest = rest (sym (ap (λ b. cond b (Some x) (numbered key xs k)) e) ∙ at)
+    grind (arith, nat_tests, All-head P x xs all, all_numbered P key xs k y (All-tail P x xs all))
 
 -- a link, with the feed at the place of a feeder written
 pub feed_written : {l was : LinkValue} (f : Feed → Feed) (feeder p : ℕ) (old : Feed) → l ≡ was
@@ -41,11 +35,6 @@ feed_found {l} feeder p old same place read =
     ap feed_in (sym (found_here feeder_of l.feeds feeder p old place read))
     ∙ ap (λ (m : LinkValue). the_feed m feeder) same
 
-get_front : {A : Type 0} (xs ys : List A) (p : ℕ) (d : A) → p < length xs → get_or (xs ++ ys) p d ≡ get_or xs p d
-get_front [] ys p d h = absurd (omega arith)
-get_front (x ∷ xs) ys zero d h = refl
-get_front (x ∷ xs) ys (suc p) d h = get_front xs ys p d (omega arith)
-
 -- the front of a longer list, with a change set in it
 pub changed_front : (items rest : List Stage) (p change : ℕ) (d : Stage) → p < length items
     → take (length items) (set (items ++ rest) p (change_to change (get_or (items ++ rest) p d)))
@@ -55,8 +44,8 @@ changed_front items rest p change d h =
     let len = length-set items p new in
     let fits : length items ≤ length (set items p new) = omega arith in
     let whole : take (length items) (set items p new) ≡ set items p new =
-    ap (λ n. take n (set items p new)) (sym len) ∙ take_whole (set items p new) in
-    ap (λ s. take (length items) (set (items ++ rest) p (change_to change s))) (get_front items rest p d h)
+    ap (λ n. take n (set items p new)) (sym len) ∙ take-length (set items p new) in
+    ap (λ s. take (length items) (set (items ++ rest) p (change_to change s))) (get_or_append_left items rest d p h)
     ∙ ap (take (length items)) (set-append_left items rest p new h)
     ∙ take-append-le (length items) (set items p new) rest fits
     ∙ whole

@@ -1,86 +1,40 @@
--- What a number finds where it is there, and after a write to that.
-use Rattle.std.proofs.Common.{◌≡◌, ℕ, ◌<◌, ◌≤◌, Bool, true, false, not, cond, List, [], ◌∷◌, length, map, zero, suc}
-use Rattle.std.proofs.Common.{Option, Some, None, refl, sym, ap, ◌∙◌, arith, nat_eq, if◌then◌else◌}
-use Rattle.std.proofs.Common.{◌⊎◌, inl, inr, get_or}
-use Rattle.std.proofs.lemmas.Bool.{and_from, le-leb, or_cases, true≢false, eqb-true, eq-eqb}
+-- The element of a number that is there, before and after a write to it.
+use Rattle.std.proofs.Common.{◌≡◌, ℕ, ◌<◌, true, List, [], ◌∷◌, length, map, zero, suc}
+use Rattle.std.proofs.Common.{Option, Some, None, refl, sym, ap, ◌∙◌, arith, nat_eq}
+use Rattle.std.proofs.Common.{get_or, All}
 use Rattle.std.proofs.lemmas.Bool.Decides.{nat_tests}
-use Rattle.std.proofs.lemmas.Map.Views.{list_any-from_Contains, Contains-from_any}
-use Rattle.std.specs.List.{Contains}
-use Rattle.std.specs.Cmp.{IsEquivalence}
 use Rattle.transyt_parts.specs.declared.node.Stage.{Stage}
 use Rattle.transyt_parts.specs.declared.link.Feed.{Feed}
-use Rattle.transyt_net.specs.declared.edit.EditFault.TheVariants.{Unknown, NoFeeder, Range}
-use Rattle.transyt_parts.specs.Parts.{NodeValue, LinkValue}
-use Rattle.transyt_net.specs.Parts.{Network}
-use Rattle.transyt_parts.specs.Valid.{within, is_fed, feeders, link_number}
-use Rattle.transyt_net.specs.Valid.{is_among, numbered, on_numbered, on_place, link_numbers, stage_total, feeds_in, IsLink, IsValid}
-use Rattle.transyt_net.specs.Edits.{change_to, node_in, link_in}
-use Rattle.transyt_net.specs.EditFaults.{range_fault, feed_fault}
-use Rattle.transyt_net.proofs.PlaceLaws.{list_any_map}
+use Rattle.transyt_parts.specs.Parts.{NodeValue}
+use Rattle.transyt_net.specs.Valid.{is_among, numbered, on_numbered, on_place, is_fed, feeders, node_number, IsNode}
+use Rattle.transyt_net.specs.Edits.{change_to}
+use Rattle.transyt_net.proofs.PlaceLaws.{list_any_map, keys_kept}
 use Rattle.transyt_net.proofs.EditLaws.{all_numbered}
 
-same_numbers : IsEquivalence nat_eq
-same_numbers = record {
-  refl = λ x. eq-eqb x x refl;
-  symm = λ x y. grind (arith, nat_tests);
-  congr = λ x y z h. ap (λ k. nat_eq k z) (eqb-true x y h);
-}
-
--- a number that is found is there
-pub there_among : (xs : List ℕ) (k : ℕ) → is_among xs k ≡ true → Contains xs k
-there_among xs k h = Contains-from_any eqb-true k xs h
-
--- a number that is there is found
-pub among_there : (xs : List ℕ) (k : ℕ) → Contains xs k → is_among xs k ≡ true
-among_there xs k h = list_any-from_Contains same_numbers k xs h
+found_none : {A : Type 0} (key : A → ℕ) (xs : List A) (k : ℕ) → is_among (map key xs) k ≡ true → numbered key xs k ≡ None → ⊥
+found_none key [] k h none = absurd (cc)
+found_none key (x ∷ xs) k h none = grind (arith, nat_tests, found_none key xs k)
 
 -- a number that is there has its element
 pub some_numbered : {A : Type 0} (key : A → ℕ) (xs : List A) (k : ℕ) → is_among (map key xs) k ≡ true
     → (x : A) × (numbered key xs k ≡ Some x)
-some_numbered key [] k h = absurd (true≢false (sym h))
-some_numbered {A} key (x ∷ xs) k h =
-    by (nat_eq k (key x)) refl (or_cases (nat_eq k (key x)) (is_among (map key xs) k) h) (some_numbered key xs k)
+some_numbered {A} key xs k h = by (numbered key xs k) refl
   where
-    by : (b : Bool) → nat_eq k (key x) ≡ b → (nat_eq k (key x) ≡ true) ⊎ (is_among (map key xs) k ≡ true)
-        → (is_among (map key xs) k ≡ true → (y : A) × (numbered key xs k ≡ Some y))
-        → (y : A) × ((if nat_eq k (key x) then Some x else numbered key xs k) ≡ Some y)
-    by true e either rest = (x, ap (λ b. cond b (Some x) (numbered key xs k)) e)
-    by false e (inl now) rest = absurd (true≢false (sym now ∙ e))
-    by false e (inr later) rest =
-        let found = rest later in (found.0, ap (λ b. cond b (Some x) (numbered key xs k)) e ∙ found.1)
+    by : (o : Option A) → numbered key xs k ≡ o → (x : A) × (numbered key xs k ≡ Some x)
+    by None none = absurd (found_none key xs k h none)
+    by (Some x) at = (x, at)
 
--- what a number finds after a write there
+-- the element of a number after a write to it
 pub numbered_after : {A : Type 0} (key : A → ℕ) (f : A → A) (same : (x : A) → key (f x) ≡ key x) (xs : List A) (k : ℕ)
     (y : A)
     → numbered key xs k ≡ Some y → numbered key (on_numbered key f xs k) k ≡ Some (f y)
 numbered_after key f same [] k y at = absurd (cc)
-numbered_after key f same (x ∷ xs) k y at = by (nat_eq k (key x)) refl (numbered_after key f same xs k y)
-  where
-    by : (b : Bool) → nat_eq k (key x) ≡ b
-        → (numbered key xs k ≡ Some y → numbered key (on_numbered key f xs k) k ≡ Some (f y))
-        → numbered key (if nat_eq k (key x) then f x ∷ xs else x ∷ on_numbered key f xs k) k ≡ Some (f y)
-    by true e rest =
-        let here : Some x ≡ Some y = sym (ap (λ b. cond b (Some x) (numbered key xs k)) e) ∙ at in
-        let one : x ≡ y = cc in
-        ap (λ b. numbered key (cond b (f x ∷ xs) (x ∷ on_numbered key f xs k)) k) e
-        ∙ ap (λ b. cond b (Some (f x)) (numbered key xs k)) (ap (nat_eq k) (same x) ∙ e)
-        ∙ ap (λ z. Some (f z)) one
-    by false e rest =
-        ap (λ b. numbered key (cond b (f x ∷ xs) (x ∷ on_numbered key f xs k)) k) e
-        ∙ ap (λ b. cond b (Some x) (numbered key (on_numbered key f xs k) k)) e
-        ∙ rest (sym (ap (λ b. cond b (Some x) (numbered key xs k)) e) ∙ at)
+numbered_after key f same (x ∷ xs) k y at = grind (arith, nat_tests, same x, numbered_after key f same xs k y)
 
--- what a number finds has it
+-- the element of a number has it
 pub numbered_key : {A : Type 0} (key : A → ℕ) (xs : List A) (k : ℕ) (y : A) → numbered key xs k ≡ Some y → key y ≡ k
 numbered_key key [] k y at = absurd (cc)
-numbered_key key (x ∷ xs) k y at = by (nat_eq k (key x)) refl (numbered_key key xs k y)
-  where
-    by : (b : Bool) → nat_eq k (key x) ≡ b → (numbered key xs k ≡ Some y → key y ≡ k) → key y ≡ k
-    by true e rest =
-        let here : Some x ≡ Some y = sym (ap (λ b. cond b (Some x) (numbered key xs k)) e) ∙ at in
-        let same : x ≡ y = cc in
-        ap key (sym same) ∙ sym (eqb-true k (key x) e)
-    by false e rest = rest (sym (ap (λ b. cond b (Some x) (numbered key xs k)) e) ∙ at)
+numbered_key key (x ∷ xs) k y at = grind (arith, nat_tests, numbered_key key xs k y)
 
 -- a stage with its change set has that change
 pub changed_at : (ss : List Stage) (p change : ℕ) (d : Stage) → p < length ss
@@ -89,39 +43,24 @@ changed_at [] p change d h = absurd (omega arith)
 changed_at (s ∷ ss) zero change d h = refl
 changed_at (s ∷ ss) (suc p) change d h = changed_at ss p change d (omega arith)
 
--- how many stages the node that was found has
-pub stages_in : (o : Option NodeValue) → stage_total o ≡ length (node_in o).stages
-stages_in None = refl
-stages_in (Some n) = refl
-
--- the feeds of the link that was found
-pub feeds_of : (o : Option LinkValue) → feeds_in o ≡ (link_in o).feeds
-feeds_of None = refl
-feeds_of (Some l) = refl
-
 -- a link is fed by the feeders of its feeds
 pub fed_is : (feeds : List Feed) (feeder : ℕ) → is_fed feeds feeder ≡ is_among (feeders feeds) feeder
 fed_is feeds feeder = sym (list_any_map (λ f. f.feeder) (nat_eq feeder) feeds)
 
--- no fault where both tests pass
-pub range_none : (known fits : Bool) → known ≡ true → fits ≡ true → range_fault known fits ≡ None
-range_none known fits a b = (λ j. if not (a j) then Some Unknown else if not (b j) then Some Range else None)
+-- the one of a number that is there, and what holds of all after a write to it
+pub written_is : {A : Type 0} (P : A → Type 0) (key : A → ℕ) (f : A → A) (same : (x : A) → key (f x) ≡ key x) (xs : List A)
+    (k : ℕ)
+    → is_among (map key xs) k ≡ true → All P (on_numbered key f xs k) → (x : A) × (numbered key xs k ≡ Some x) × P (f x)
+written_is P key f same xs k there all =
+    let at = some_numbered key xs k there in
+    (at.0, at.1, all_numbered P key (on_numbered key f xs k) k (f at.0) all (numbered_after key f same xs k at.0 at.1))
 
--- no fault where all three pass
-pub feed_none : (known feeds fits : Bool) → known ≡ true → feeds ≡ true → fits ≡ true → feed_fault known feeds fits ≡ None
-feed_none known feeds fits a b c =
-    (λ j. if not (a j) then Some Unknown
-    else if not (b j) then Some NoFeeder
-    else if not (c j) then Some Range
-    else None)
+-- a number that is there is there after a write
+pub still : {A : Type 0} (key : A → ℕ) (f : A → A) (same : (x : A) → key (f x) ≡ key x) (xs : List A) (k j : ℕ)
+    → is_among (map key xs) j ≡ true → is_among (map key (on_numbered key f xs k)) j ≡ true
+still key f same xs k j there = ap (λ ks. is_among ks j) (keys_kept key f same xs k) ∙ there
 
--- a number in a range passes its test
-pub within_true : (low high n : ℕ) → (low ≤ n) × (n ≤ high) → within low high n ≡ true
-within_true low high n h = and_from _ _ (le-leb low n h.0) (le-leb n high h.1)
-
--- a link of a valid network keeps to its ranges
-pub good_link : (net : Network) (link : ℕ) (l : LinkValue) → IsValid net
-    → numbered link_number net.links link ≡ Some l → IsLink net.frame.step_count net.nodes (link_numbers net.links) l
-good_link net link l h at =
-    all_numbered (IsLink net.frame.step_count net.nodes (link_numbers net.links)) link_number net.links link l
-    h.sound.links at
+-- a node that is found keeps to its ranges
+pub node_good : (steps : ℕ) (nodes : List NodeValue) (k : ℕ) (n : NodeValue) → All (IsNode steps) nodes
+    → numbered node_number nodes k ≡ Some n → IsNode steps n
+node_good steps nodes k n all at = all_numbered (IsNode steps) node_number nodes k n all at

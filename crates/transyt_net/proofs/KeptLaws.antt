@@ -1,33 +1,14 @@
 -- An edit keeps the shape.
-use Rattle.std.proofs.Common.{◌≡◌, ℕ, suc, zero, ◌-◌, true, false, cond, List, [], ◌∷◌, map, refl, ap, nat_eq}
-use Rattle.transyt_parts.specs.declared.node.Stage.{Stage}
-use Rattle.transyt_net.specs.declared.edit.Edit.{Edit}
-use Rattle.transyt_net.specs.declared.edit.Edit.TheVariants.{Offset, Change, Entry, Part, Cruise, Saturation, Weight}
-use Rattle.transyt_parts.specs.Parts.{NodeValue, LinkValue}
-use Rattle.transyt_net.specs.Parts.{Network}
-use Rattle.transyt_net.specs.Valid.{on_numbered, on_place}
-use Rattle.transyt_parts.specs.Valid.{node_number, link_number}
-use Rattle.transyt_net.specs.Edits.{with_edit, set_offset, set_change, change_to, set_entry, set_saturation}
-use Rattle.transyt_net.specs.Edits.{set_weights, set_part, set_cruise, feeder_of, flow_to, cruise_to}
-use Rattle.transyt_parts.specs.Shape.{bare_stage, bare_node, bare_feed, bare_link}
+use Rattle.std.proofs.Common.{◌≡◌, ℕ, map, refl, ap}
+use Rattle.transyt_net.specs.Edits.{Edit, Offset, Change, Entry, Part, Cruise, Saturation, Weight, with_edit}
+use Rattle.transyt_net.specs.Edits.{set_offset, set_change, set_entry, set_saturation, set_weights, set_part}
+use Rattle.transyt_net.specs.Edits.{set_cruise, feeder_of, flow_to, cruise_to}
+use Rattle.transyt_net.specs.Parts.{Network, NodeValue, LinkValue}
+use Rattle.transyt_net.specs.Valid.{on_numbered, node_number, link_number}
+use Rattle.transyt_parts.specs.Shape.{bare_node, bare_feed, bare_link}
 use Rattle.transyt_net.specs.Shape.{shape}
-
--- a write that h can't see
-map_kept : {A B : Type 0} (key : A → ℕ) (f : A → A) (h : A → B) (same : (x : A) → h (f x) ≡ h x) (xs : List A)
-    (k : ℕ)
-    → map h (on_numbered key f xs k) ≡ map h xs
-map_kept key f h same [] k = refl
-map_kept key f h same (x ∷ xs) k =
-    (elim (nat_eq k (key x)) as (λ b. map h (cond b (f x ∷ xs) (x ∷ on_numbered key f xs k)) ≡ h x ∷ map h xs) [
-      | true ↦ ap (λ y. y ∷ map h xs) (same x)
-      | false ↦ ap (λ ys. h x ∷ ys) (map_kept key f h same xs k)
-    ])
-
-map_kept_at : (change : ℕ) (ss : List Stage) (p : ℕ)
-    → map bare_stage (on_place (change_to change) ss p) ≡ map bare_stage ss
-map_kept_at change [] p = refl
-map_kept_at change (s ∷ ss) zero = refl
-map_kept_at change (s ∷ ss) (suc p) = ap (λ xs. bare_stage s ∷ xs) (map_kept_at change ss p)
+use Rattle.transyt_net.proofs.PlaceLaws.{map_kept}
+use Rattle.transyt_net.proofs.ShapeLaws.{change_bare}
 
 node_shape : (net : Network) (f : NodeValue → NodeValue) (same : (n : NodeValue) → bare_node (f n) ≡ bare_node n)
     (node : ℕ)
@@ -47,8 +28,7 @@ link_shape net f same link =
 pub shape_kept : (net : Network) (e : Edit) → shape (with_edit net e) ≡ shape net
 shape_kept net (Offset node offset) = node_shape net (set_offset offset) (λ n. refl) node
 shape_kept net (Change node stage change) =
-    node_shape net (set_change stage change)
-    (λ n. ap (λ ss. record (bare_node n) { stages = ss }) (map_kept_at change n.stages (stage - 1))) node
+    node_shape net (set_change stage change) (change_bare stage change) node
 shape_kept net (Entry link flow) = link_shape net (set_entry flow) (λ l. refl) link
 shape_kept net (Part link feeder flow) =
     let same : (l : LinkValue) → bare_link (set_part feeder flow l) ≡ bare_link l =

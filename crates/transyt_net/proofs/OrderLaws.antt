@@ -1,36 +1,23 @@
 -- Where numbers differ, each stands at one place alone.
-use Rattle.std.proofs.Common.{◌≡◌, ℕ, zero, suc, ◌<◌, Bool, true, false, nat_eq, List, [], ◌∷◌, length, map}
-use Rattle.std.proofs.Common.{get_or, not, refl, ap, sym, subst, ◌∙◌, arith}
-use Rattle.std.proofs.lemmas.Bool.{and_parts, not-true, eq-eqb, true≢false}
+use Rattle.std.proofs.Common.{◌≡◌, ℕ, zero, suc, ◌<◌, true, false, nat_eq, List, [], ◌∷◌, length, map}
+use Rattle.std.proofs.Common.{get_or, ap, sym, subst, ◌∙◌, arith}
+use Rattle.std.proofs.lemmas.Bool.{eq-eqb}
+use Rattle.std.proofs.lemmas.Bool.Decides.{nat_tests}
 use Rattle.std.proofs.lemmas.List.{length-map, get_or-map}
 use Rattle.std.proofs.lemmas.List.Folds.{list_any_at}
-use Rattle.std.specs.List.{list_any}
-use Rattle.transyt_parts.specs.Valid.{all_differ, node_number}
+use Rattle.transyt_net.specs.Valid.{IsValid, all_differ, node_number}
 use Rattle.transyt_net.specs.Parts.{Network, node_of, no_node}
 use Rattle.transyt_net.specs.Edits.{the_node, node_in}
 use Rattle.transyt_net.specs.Named.{IsPlace}
-use Rattle.transyt_net.specs.Valid.{IsValid}
-use Rattle.transyt_net.proofs.PlaceLaws.{eq_swapped, numbered_here}
-
--- a number that is not among these is none of them
-none_of : (ns : List ℕ) (k i : ℕ) → list_any (nat_eq k) ns ≡ false → i < length ns → nat_eq k (get_or ns i 0) ≡ false
-none_of ns k i absent inside = by (nat_eq k (get_or ns i 0)) refl
-  where
-    by : (b : Bool) → nat_eq k (get_or ns i 0) ≡ b → nat_eq k (get_or ns i 0) ≡ false
-    by true e = absurd (true≢false (sym (list_any_at (nat_eq k) ns i 0 inside e) ∙ absent))
-    by false e = e
+use Rattle.transyt_net.proofs.PlaceLaws.{numbered_here}
 
 -- of numbers that differ one that stands later is not one that stands earlier
 pub earlier_differs : (ns : List ℕ) (i k : ℕ) → all_differ ns ≡ true → k < i → i < length ns
     → nat_eq (get_or ns i 0) (get_or ns k 0) ≡ false
 earlier_differs [] i k differ earlier inside = absurd (omega arith)
 earlier_differs (x ∷ xs) zero k differ earlier inside = absurd (omega arith)
-earlier_differs (x ∷ xs) (suc i) zero differ earlier inside =
-    let parts = and_parts (not (list_any (nat_eq x) xs)) (all_differ xs) differ in
-    eq_swapped x (get_or xs i 0) (none_of xs x i (not-true _ parts.0) (omega arith))
-earlier_differs (x ∷ xs) (suc i) (suc k) differ earlier inside =
-    let parts = and_parts (not (list_any (nat_eq x) xs)) (all_differ xs) differ in
-    earlier_differs xs i k parts.1 (omega arith) (omega arith)
+earlier_differs (x ∷ xs) (suc i) zero differ earlier inside = grind (arith, nat_tests, list_any_at (nat_eq x) xs i 0)
+earlier_differs (x ∷ xs) (suc i) (suc k) differ earlier inside = grind (arith, nat_tests, earlier_differs xs i k)
 
 -- where numbers differ, the place at which one stands is its place
 stands_alone : {A : Type 0} (key : A → ℕ) (xs : List A) (k p : ℕ) → all_differ (map key xs) ≡ true → p < length xs

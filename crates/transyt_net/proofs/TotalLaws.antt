@@ -1,20 +1,20 @@
--- Total flows of links, kept beside them.
+-- Links that were written, and their total flows, which are kept beside them.
 use Rattle.std.proofs.Common.{◌≡◌, ℕ, ◌<◌, ◌≤◌, List, length, map, get_or, set, sym, ap, ◌∙◌, subst, arith, All}
 use Rattle.std.proofs.lemmas.List.{map-set, get_or-map, get_or-set_same, length-set}
 use Rattle.std.proofs.lemmas.List.Elements.{All-get_or}
 use Rattle.std.proofs.lemmas.List.Sums.{sum_by-le}
 use Rattle.transyt_parts.specs.declared.link.Feed.{Feed}
-use Rattle.transyt_parts.specs.Parts.{NodeValue, LinkValue}
+use Rattle.transyt_net.specs.Parts.{Network, link_of, no_link, LinkValue}
 use Rattle.transyt_parts.specs.Flow.{total_flow}
-use Rattle.transyt_net.specs.Parts.{Network}
-use Rattle.transyt_net.specs.Valid.{link_numbers, IsSound, IsLink}
+use Rattle.transyt_net.specs.Valid.{link_numbers, on_numbered, IsSound, IsLink, IsValid, link_number}
 
 -- the total flow of a link, by the limits of its flows
-pub total_small : (steps : ℕ) (nodes : List NodeValue) (numbers : List ℕ) (l : LinkValue)
-    → IsLink steps nodes numbers l → total_flow l ≤ 89991
-total_small steps nodes numbers l is =
-    let each : All (λ (f : Feed). f.flow ≤ 9999) l.feeds = λ k d inside. (is.feeds k d inside).flow in
-    omega (arith, sum_by-le (λ (f : Feed). f.flow) 9999 l.feeds each, is.entry, is.feed_count)
+pub total_small : (net : Network) (p : ℕ) → IsValid net → p < length net.links → total_flow (link_of net p) ≤ 89991
+total_small net p valid inside =
+    let is = All-get_or (IsLink net.frame.step_count net.nodes (link_numbers net.links)) net.links p no_link inside
+    valid.sound.links in
+    let each : All (λ (f : Feed). f.flow ≤ 9999) (link_of net p).feeds = λ k d within. (is.feeds k d within).flow in
+    omega (arith, sum_by-le (λ (f : Feed). f.flow) 9999 (link_of net p).feeds each, is.entry, is.feed_count)
 
 -- the total that stands at a place
 pub total_at : (totals : List ℕ) (links : List LinkValue) (p t : ℕ) (d : LinkValue) → totals ≡ map total_flow links
@@ -37,3 +37,11 @@ link_set net p new sound inside =
     let there : p < length links = omega (arith, length-set net.links p new) in
     subst (IsLink net.frame.step_count net.nodes (link_numbers links)) (get_or-set_same net.links p new new inside)
     (All-get_or (IsLink net.frame.step_count net.nodes (link_numbers links)) links p new there sound.links)
+
+-- the network with these links is the one with the link of a number written
+pub links_put : (net now : Network) (links : List LinkValue) (k : ℕ) (f : LinkValue → LinkValue) → net ≡ now
+    → links ≡ on_numbered link_number f net.links k
+    → record net { links = links } ≡ record now { links = on_numbered link_number f now.links k }
+links_put net now links k f same put =
+    ap (λ (ls : List LinkValue). record net { links = ls }) put
+    ∙ ap (λ (n : Network). record n { links = on_numbered link_number f n.links k }) same

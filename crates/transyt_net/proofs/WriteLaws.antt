@@ -1,20 +1,21 @@
 -- Writes to nodes and links, and more of them, that keep a network sound.
-use Rattle.std.proofs.Common.{[], ◌≡◌, ℕ, suc, zero, ◌≤◌, Bool, true, false, cond, List, ◌∷◌, ◌++◌, length, Option}
-use Rattle.std.proofs.Common.{Some, None, refl, sym, subst, arith, nat_eq, nat_le, length-append, All, IfSome}
+use Rattle.std.proofs.Common.{[], ◌≡◌, ℕ, suc, zero, ◌≤◌, Bool, true, false, List, ◌∷◌, ◌++◌, Option}
+use Rattle.std.proofs.Common.{Some, None, refl, sym, ap, ◌∙◌, subst, arith, length-append, All, IfSome}
 use Rattle.std.proofs.Common.{if◌then◌else◌}
 use Rattle.std.specs.List.{list_all}
 use Rattle.std.proofs.lemmas.Bool.Decides.{nat_tests}
-use Rattle.std.proofs.lemmas.Bool.{and_parts, leb-true}
-use Rattle.std.proofs.lemmas.List.Elements.{All-cons, All-weaker, All-nil}
+use Rattle.std.proofs.lemmas.List.Elements.{All-weaker}
+use Rattle.std.proofs.lemmas.List.Sums.{AllPass-from_list_all}
 use Rattle.transyt_parts.specs.declared.node.Stage.{Stage}
 use Rattle.transyt_parts.specs.declared.link.GiveWay.{GiveWay}
-use Rattle.transyt_parts.specs.Parts.{NodeValue, LinkValue}
-use Rattle.transyt_net.specs.Parts.{Network}
+use Rattle.transyt_net.specs.Parts.{Network, NodeValue, LinkValue}
 use Rattle.transyt_net.specs.Valid.{is_among, numbered, on_numbered, on_place, node_numbers, link_numbers, stages_at}
-use Rattle.transyt_net.specs.Valid.{stage_total, IsSound, IsLink, IsFeed, IsRule}
+use Rattle.transyt_net.specs.Valid.{IsSound, IsLink, IsFeed, IsRule}
 use Rattle.transyt_parts.specs.Valid.{all_differ, within, node_number, link_number, IsNode}
 use Rattle.transyt_parts.specs.Made.{add_stage}
-use Rattle.transyt_net.proofs.PlaceLaws.{keys_kept, length_kept, all_on_numbered}
+use Rattle.transyt_parts.specs.Shape.{bare_node}
+use Rattle.transyt_net.proofs.PlaceLaws.{keys_kept, map_kept, length_kept, all_on_numbered}
+use Rattle.transyt_net.proofs.ShapeLaws.{same_numbers, same_stages_at}
 
 -- a chain of tests that finds no fault has none that holds
 pub no_fault : {F : Type 0} (b : Bool) (f : F) (rest : Option F) → (if b then Some f else rest) ≡ None
@@ -22,49 +23,28 @@ pub no_fault : {F : Type 0} (b : Bool) (f : F) (rest : Option F) → (if b then 
 no_fault true f rest h = absurd (cc)
 no_fault false f rest h = (refl, h)
 
--- the tests of ranges, as facts
+-- the test of a range, as a fact
 pub in_range : (low high n : ℕ) → within low high n ≡ true → (low ≤ n) × (n ≤ high)
-in_range low high n h =
-    let parts = and_parts (nat_le low n) (nat_le n high) h in (leb-true low n parts.0, leb-true n high parts.1)
+in_range low high n h = grind (arith, nat_tests)
 
 -- the same of each of a list
 pub all_in_range : (low high : ℕ) (xs : List ℕ) → list_all (within low high) xs ≡ true
     → All (λ k. (low ≤ k) × (k ≤ high)) xs
-all_in_range low high [] h = All-nil (λ k. (low ≤ k) × (k ≤ high))
-all_in_range low high (x ∷ xs) h =
-    let parts = and_parts (within low high x) (list_all (within low high) xs) h in
-    All-cons (λ k. (low ≤ k) × (k ≤ high)) x xs (in_range low high x parts.0) (all_in_range low high xs parts.1)
+all_in_range low high xs h =
+    All-weaker (λ k. within low high k ≡ true) (λ k. (low ≤ k) × (k ≤ high)) (in_range low high) xs
+    (AllPass-from_list_all (within low high) xs h)
 
 -- a new node leaves what a node's number finds
 pub stages_more : (nodes : List NodeValue) (n : NodeValue) (k : ℕ) → stages_at nodes k ≤ stages_at (nodes ++ n ∷ []) k
 stages_more [] n k = omega arith
-stages_more (x ∷ xs) n k =
-    let rest = numbered node_number xs k in
-    let more = numbered node_number (xs ++ n ∷ []) k in
-    (elim (nat_eq k x.number) as (λ b. stage_total (cond b (Some x) rest) ≤ stage_total (cond b (Some x) more)) [
-      | true ↦ omega arith
-      | false ↦ stages_more xs n k
-    ])
+stages_more (x ∷ xs) n k = grind (arith, nat_tests, stages_more xs n k)
 
 -- and so does a new stage
 pub stages_more_at : (nodes : List NodeValue) (s : Stage) (p k : ℕ)
     → stages_at nodes k ≤ stages_at (on_place (add_stage s) nodes p) k
 stages_more_at [] s p k = omega arith
-stages_more_at (x ∷ xs) s zero k =
-    let longer = length-append x.stages (s ∷ []) in
-    let rest = numbered node_number xs k in
-    let y = add_stage s x in
-    (elim (nat_eq k x.number) as (λ b. stage_total (cond b (Some x) rest) ≤ stage_total (cond b (Some y) rest)) [
-      | true ↦ omega arith
-      | false ↦ omega arith
-    ])
-stages_more_at (x ∷ xs) s (suc p) k =
-    let rest = numbered node_number xs k in
-    let more = numbered node_number (on_place (add_stage s) xs p) k in
-    (elim (nat_eq k x.number) as (λ b. stage_total (cond b (Some x) rest) ≤ stage_total (cond b (Some x) more)) [
-      | true ↦ omega arith
-      | false ↦ stages_more_at xs s p k
-    ])
+stages_more_at (x ∷ xs) s zero k = grind (arith, nat_tests, length-append x.stages (s ∷ []))
+stages_more_at (x ∷ xs) s (suc p) k = grind (arith, nat_tests, stages_more_at xs s p k)
 
 -- more nodes and stages hurt no link
 pub link_with_more_nodes : (steps : ℕ) (nodes more : List NodeValue) (numbers : List ℕ)
@@ -83,14 +63,13 @@ pub link_with_more_numbers : (steps : ℕ) (nodes : List NodeValue) (numbers mor
     → (l : LinkValue) → IsLink steps nodes numbers l → IsLink steps nodes more l
 link_with_more_numbers steps nodes numbers more among l h =
     let feeds : All (IsFeed more) l.feeds = All-weaker (IsFeed numbers) (IsFeed more)
-    (λ f good. record { feeder = among f.feeder good.feeder; flow = good.flow; cruise = good.cruise }) l.feeds
-    h.feeds in
+    (λ f good. grind (arith, nat_tests, among f.feeder)) l.feeds h.feeds in
     let given = rule l.gives_way h.rule in
     grind (arith, nat_tests)
   where
     rule : (o : Option GiveWay) → IfSome o (IsRule numbers) → IfSome o (IsRule more)
     rule None given = given
-    rule (Some r) given = record { other = among r.other given.other; percent = given.percent }
+    rule (Some r) given = grind (arith, nat_tests, among r.other)
 
 -- a link of a number that is written stays a link of the network
 abbrev pub KeepsLink : Network → ℕ → (LinkValue → LinkValue) → Type 0
@@ -114,16 +93,14 @@ pub links_written : (net : Network) (f : LinkValue → LinkValue) (same : (l : L
 links_written net f same link h keeps =
     let steps = net.frame.step_count in
     let after = on_numbered link_number f net.links link in
-    let numbers : link_numbers after ≡ link_numbers net.links =
-    keys_kept link_number f same net.links link in
-    let len = length_kept link_number f same net.links link in
+    let numbers : link_numbers after ≡ link_numbers net.links = keys_kept link_number f same net.links link in
     record {
       frame = h.frame;
       node_count = h.node_count;
       nodes_differ = h.nodes_differ;
       nodes = h.nodes;
-      link_count = omega arith;
-      links_differ = subst (λ ks. all_differ ks ≡ true) (sym numbers) h.links_differ;
+      link_count = omega (arith, h.link_count, length_kept link_number f net.links link);
+      links_differ = ap all_differ numbers ∙ h.links_differ;
       links =
           subst (λ ks. All (IsLink steps net.nodes ks) after) (sym numbers)
           (all_on_numbered (IsLink steps net.nodes (link_numbers net.links)) link_number f net.links link
@@ -131,55 +108,28 @@ links_written net f same link h keeps =
       plan = h.plan;
     }
 
--- a network whose nodes were written, each keeping its number and the count of its stages
-pub nodes_written : (net : Network) (f : NodeValue → NodeValue) (same : (n : NodeValue) → (f n).number ≡ n.number)
-    (count : (n : NodeValue) → length (f n).stages ≡ length n.stages) (node : ℕ)
+-- a network whose nodes were written, each keeping its shape
+pub nodes_written : (net : Network) (f : NodeValue → NodeValue) (same : (n : NodeValue) → bare_node (f n) ≡ bare_node n)
+    (node : ℕ)
     → IsSound net
     → KeepsNode net node f
     → IsSound (record net { nodes = on_numbered node_number f net.nodes node })
-nodes_written net f same count node h keeps =
+nodes_written net f same node h keeps =
     let steps = net.frame.step_count in
     let after = on_numbered node_number f net.nodes node in
-    let numbers : node_numbers after ≡ node_numbers net.nodes = keys_kept node_number f same net.nodes node in
-    let len = length_kept node_number f same net.nodes node in
+    let bare = map_kept node_number f bare_node same net.nodes node in
+    let numbers : node_numbers after ≡ node_numbers net.nodes = same_numbers after net.nodes bare in
     record {
       frame = h.frame;
-      node_count = omega arith;
-      nodes_differ = subst (λ ks. all_differ ks ≡ true) (sym numbers) h.nodes_differ;
+      node_count = omega (arith, h.node_count, length_kept node_number f net.nodes node);
+      nodes_differ = ap all_differ numbers ∙ h.nodes_differ;
       nodes = all_on_numbered (IsNode steps) node_number f net.nodes node keeps h.nodes;
       link_count = h.link_count;
       links_differ = h.links_differ;
       links = All-weaker _ (IsLink steps after (link_numbers net.links))
           (λ l. link_with_more_nodes steps net.nodes after (link_numbers net.links)
-          (λ k a. subst (λ ks. is_among ks k ≡ true) (sym numbers) a)
-          (λ k. stages_as_many net.nodes f same count node k) l)
+          (λ k a. ap (λ ks. is_among ks k) numbers ∙ a)
+          (λ k. omega (arith, same_stages_at after net.nodes k bare)) l)
           net.links h.links;
       plan = h.plan;
     }
-  where
-    stages_as_many : (nodes : List NodeValue) (f : NodeValue → NodeValue)
-        (same : (n : NodeValue) → (f n).number ≡ n.number)
-        (count : (n : NodeValue) → length (f n).stages ≡ length n.stages) (node k : ℕ)
-        → stages_at nodes k ≤ stages_at (on_numbered node_number f nodes node) k
-    stages_as_many [] f same count node k = omega arith
-    stages_as_many (x ∷ xs) f same count node k =
-        let longer = count x in
-        let y = f x in
-        let after = on_numbered node_number f xs node in
-        let rest = numbered node_number xs k in
-        let more = numbered node_number after k in
-        let here : stages_at (x ∷ xs) k ≤ stages_at (y ∷ xs) k =
-        subst (λ m. stages_at (x ∷ xs) k ≤ stage_total (if nat_eq k m then Some y else rest)) (sym (same x))
-        (elim (nat_eq k x.number) as (λ b. stage_total (cond b (Some x) rest) ≤ stage_total (cond b (Some y) rest)) [
-          | true ↦ omega arith
-          | false ↦ omega arith
-        ]) in
-        let there : stages_at (x ∷ xs) k ≤ stages_at (x ∷ after) k =
-        (elim (nat_eq k x.number) as (λ b. stage_total (cond b (Some x) rest) ≤ stage_total (cond b (Some x) more)) [
-          | true ↦ omega arith
-          | false ↦ stages_as_many xs f same count node k
-        ]) in
-        (elim (nat_eq node x.number) as (λ b. stages_at (x ∷ xs) k ≤ stages_at (cond b (y ∷ xs) (x ∷ after)) k) [
-          | true ↦ here
-          | false ↦ there
-        ])

@@ -1,8 +1,7 @@
 -- The first fault of an edit.
 use Rattle.std.specs.Prelude.{ℕ, Bool, ◌&&◌, not, nat_le, nat_lt, List, Option, Some, None, if◌then◌else◌}
 use Rattle.transyt_parts.specs.declared.node.Stage.{Stage}
-use Rattle.transyt_net.specs.declared.edit.Edit.{Edit}
-use Rattle.transyt_net.specs.declared.edit.Edit.TheVariants.{Offset, Change, Entry, Part, Cruise, Saturation, Weight}
+use Rattle.transyt_net.specs.Edits.{Edit, Offset, Change, Entry, Part, Cruise, Saturation, Weight, set_change, the_node}
 use Rattle.transyt_net.specs.declared.edit.EditFault.{EditFault}
 use Rattle.transyt_net.specs.declared.edit.EditFault.TheVariants.{Unknown, NoFeeder, Range, StageOrder, LeastGreen}
 use Rattle.transyt_net.specs.Parts.{Network}
@@ -10,7 +9,6 @@ use Rattle.transyt_parts.specs.Valid.{within, is_fed, weights_in_range}
 use Rattle.transyt_parts.specs.Ranges.{is_in, most_flow, cruise_range, saturation_range}
 use Rattle.transyt_net.specs.Valid.{is_among, node_numbers, link_numbers, stages_at, feeds_at}
 use Rattle.transyt_parts.specs.Plan.{in_order, have_greens}
-use Rattle.transyt_net.specs.Edits.{set_change, the_node}
 
 -- the first fault of an edit of a node or link: an unknown name, a range
 abbrev pub range_fault : Bool → Bool → Option EditFault

@@ -3,12 +3,10 @@ use Rattle.std.specs.Prelude.{ℕ, ◌-◌}
 use Rattle.transyt_parts.specs.declared.node.Stage.{Stage}
 use Rattle.transyt_parts.specs.declared.link.Feed.{Feed}
 use Rattle.transyt_parts.specs.declared.link.Weights.{Weights}
-use Rattle.transyt_net.specs.declared.edit.Edit.{Edit}
-use Rattle.transyt_net.specs.declared.edit.Edit.TheVariants.{Offset, Change, Entry, Part, Cruise, Saturation, Weight}
-use Rattle.transyt_parts.specs.Parts.{NodeValue, LinkValue}
-use Rattle.transyt_net.specs.Parts.{Network}
-use Rattle.transyt_net.specs.Valid.{on_numbered, on_place}
-use Rattle.transyt_parts.specs.Valid.{node_number, link_number}
+pub use Rattle.transyt_net.specs.declared.edit.Edit.{Edit}
+pub use Rattle.transyt_net.specs.declared.edit.Edit.TheVariants.{Offset, Change, Entry, Part, Cruise, Saturation, Weight}
+use Rattle.transyt_net.specs.Parts.{Network, NodeValue, LinkValue}
+use Rattle.transyt_net.specs.Valid.{on_numbered, on_place, node_number, link_number}
 use Rattle.transyt_parts.specs.Plan.{stage_of}
 pub use Rattle.transyt_net.specs.Found.{feeder_of, node_in, link_in, no_feed, feed_in, the_node, the_link, the_feed}
 

@@ -5,16 +5,14 @@ use Rattle.std.specs.List.{list_all}
 use Rattle.transyt_parts.specs.declared.frame.Frame.{Frame}
 use Rattle.transyt_net.specs.declared.draft.DraftFault.{DraftFault}
 use Rattle.transyt_net.specs.declared.draft.DraftFault.TheVariants.{Twice, Unknown, Range, TooMany}
-use Rattle.transyt_parts.specs.Parts.{NodeValue, LinkValue, PlanValue}
-use Rattle.transyt_net.specs.Parts.{Network}
+use Rattle.transyt_net.specs.Parts.{Network, NodeValue, LinkValue, PlanValue}
 use Rattle.transyt_parts.specs.declared.node.Stage.{Stage}
 use Rattle.transyt_parts.specs.declared.link.Feed.{Feed}
 use Rattle.transyt_parts.specs.declared.link.GiveWay.{GiveWay}
-use Rattle.transyt_parts.specs.Valid.{within, all_differ, is_fed, link_number, node_in_range, stage_in_range}
-use Rattle.transyt_parts.specs.Valid.{link_in_range, feed_in_range}
-use Rattle.transyt_parts.specs.Ranges.{is_in, most_percent, budget_range}
 use Rattle.transyt_net.specs.Valid.{is_among, node_numbers, link_numbers, on_numbered, on_place, stages_at, feeds_at}
-use Rattle.transyt_net.specs.Valid.{rule_at, stage_total}
+use Rattle.transyt_net.specs.Valid.{rule_at, stage_total, within, all_differ, is_fed, link_number, node_in_range}
+use Rattle.transyt_net.specs.Valid.{stage_in_range, link_in_range, feed_in_range}
+use Rattle.transyt_parts.specs.Ranges.{is_in, most_percent, budget_range}
 use Rattle.transyt_parts.specs.Made.{new_node, add_stage, add_feed, set_rule}
 
 -- a network with nothing in it

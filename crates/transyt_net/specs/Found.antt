@@ -1,24 +1,13 @@
 -- The node, the link and the feed that a card number names.
 use Rattle.std.specs.Prelude.{ℕ, Option, Some, None}
 use Rattle.transyt_parts.specs.declared.link.Feed.{Feed}
-use Rattle.transyt_parts.specs.Parts.{NodeValue, LinkValue}
-use Rattle.transyt_parts.specs.Valid.{node_number, link_number}
-use Rattle.transyt_net.specs.Parts.{Network, no_node, no_link}
-use Rattle.transyt_net.specs.Valid.{numbered}
+use Rattle.transyt_net.specs.Parts.{Network, NodeValue, LinkValue}
+use Rattle.transyt_net.specs.Valid.{numbered, node_number, link_number}
+pub use Rattle.transyt_net.specs.Parts.{node_in, link_in}
 
 -- a feed's feeder
 abbrev pub feeder_of : Feed → ℕ
 feeder_of f = f.feeder
-
--- the node that was found, or none
-abbrev pub node_in : Option NodeValue → NodeValue
-node_in None = no_node
-node_in (Some n) = n
-
--- the link that was found, or none
-abbrev pub link_in : Option LinkValue → LinkValue
-link_in None = no_link
-link_in (Some l) = l
 
 -- the feed that is found where there is none
 abbrev pub no_feed : Feed

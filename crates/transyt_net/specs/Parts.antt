@@ -1,8 +1,8 @@
 -- A network of its parts, as contracts see it.
-use Rattle.std.specs.Prelude.{ℕ, List, [], Option, None, slice_index_or}
+use Rattle.std.specs.Prelude.{ℕ, List, [], Option, Some, None, slice_index_or}
 use Rattle.transyt_parts.specs.declared.frame.Frame.{Frame}
-use Rattle.transyt_parts.specs.Parts.{NodeValue, LinkValue, PlanValue}
-use Rattle.transyt_parts.specs.Made.{new_weights}
+pub use Rattle.transyt_parts.specs.Parts.{LinkValue, NodeValue, PlanValue}
+use Rattle.transyt_parts.specs.Made.{new_node, new_link}
 
 -- a network: its nodes and links in card order, and its climb plan if there is one
 pub record Network : Type 0 where
@@ -25,22 +25,21 @@ with_signals net frame nodes = record net { frame = frame; nodes = nodes }
 
 -- the node at a place that has none
 abbrev pub no_node : NodeValue
-no_node = record { number = 0; offset = 0; stages = [] }
+no_node = new_node 0 0
 
 -- the link at a place that has none
 abbrev pub no_link : LinkValue
-no_link = record {
-  number = 0;
-  node = 0;
-  entry = 0;
-  saturation = 0;
-  weights = new_weights 0 0;
-  start_lag = 0;
-  end_lag = 0;
-  stages = [];
-  feeds = [];
-  gives_way = None;
-}
+no_link = new_link 0 0 0 0 0 0 0 0 []
+
+-- the node that was found, or none
+abbrev pub node_in : Option NodeValue → NodeValue
+node_in None = no_node
+node_in (Some n) = n
+
+-- the link that was found, or none
+abbrev pub link_in : Option LinkValue → LinkValue
+link_in None = no_link
+link_in (Some l) = l
 
 -- the node at a place
 abbrev pub node_of : Network → ℕ → NodeValue

@@ -4,12 +4,13 @@ use Rattle.std.specs.Prelude.{Option, Some, None, IfSome, All, position, IsTrue,
 use Rattle.std.specs.List.{list_any}
 use Rattle.transyt_parts.specs.declared.link.Feed.{Feed}
 use Rattle.transyt_parts.specs.declared.link.GiveWay.{GiveWay}
-use Rattle.transyt_parts.specs.Parts.{NodeValue, LinkValue}
-use Rattle.transyt_net.specs.Parts.{Network}
+use Rattle.transyt_net.specs.Parts.{Network, node_in, link_in, NodeValue, LinkValue}
 use Rattle.transyt_parts.specs.Plan.{plan_fault}
 use Rattle.transyt_parts.specs.Ranges.{IsIn, IsWithin, number_range, most_flow, saturation_range}
 use Rattle.transyt_parts.specs.Ranges.{cruise_range, most_percent, most_stages}
-use Rattle.transyt_parts.specs.Valid.{node_number, link_number, all_differ, feeders, AreWeights, IsNode, IsPlan, IsFrame}
+pub use Rattle.transyt_parts.specs.Valid.{AreWeights, IsFrame, IsNode, IsPlan, IsStage, all_differ, feed_in_range}
+pub use Rattle.transyt_parts.specs.Valid.{feeders, is_fed, is_frame, link_in_range, link_number, node_in_range}
+pub use Rattle.transyt_parts.specs.Valid.{node_number, stage_in_range, within}
 
 -- the nodes' card numbers in order
 abbrev pub node_numbers : List NodeValue → List ℕ
@@ -50,8 +51,7 @@ on_place f (x ∷ xs) (suc p) = x ∷ on_place f xs p
 
 -- how many stages a node has; 0 where there is none
 abbrev pub stage_total : Option NodeValue → ℕ
-stage_total None = 0
-stage_total (Some n) = length n.stages
+stage_total o = length (node_in o).stages
 
 -- how many stages the node of this number has; 0 where there is no such node
 abbrev pub stages_at : List NodeValue → ℕ → ℕ
@@ -59,8 +59,7 @@ stages_at nodes number = stage_total (numbered node_number nodes number)
 
 -- the feeds of a link; none where there is no link
 abbrev pub feeds_in : Option LinkValue → List Feed
-feeds_in None = []
-feeds_in (Some l) = l.feeds
+feeds_in o = (link_in o).feeds
 
 -- the feeds of the link of this number; none where there is no such link
 abbrev pub feeds_at : List LinkValue → ℕ → List Feed
@@ -68,8 +67,7 @@ feeds_at links number = feeds_in (numbered link_number links number)
 
 -- the give-way rule of a link; none where there is no link
 abbrev pub rule_in : Option LinkValue → Option GiveWay
-rule_in None = None
-rule_in (Some l) = l.gives_way
+rule_in o = (link_in o).gives_way
 
 -- the rule of the link of this number
 abbrev pub rule_at : List LinkValue → ℕ → Option GiveWay

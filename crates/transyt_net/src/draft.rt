@@ -120,6 +120,7 @@ impl Draft {
     /// Adds a node, which has no stage yet. `offset` is in steps.
     ///
     /// Twice where a node has this number, Range, TooMany where there are 200 nodes, in this order.
+    #[tactic(auto, using(crate::proofs::SoundNodes::sound_node, crate::proofs::SoundNodes::one_more))]
     pub fn node(&mut self, number: u32, offset: u32) -> Result<(), DraftFault>
         ensures refuses { Refuses result (node_fault self.old number offset)
             (Some DraftFault.Memory) }
@@ -146,6 +147,7 @@ impl Draft {
     /// Adds a stage to the last node. All three are in steps.
     ///
     /// Range, or else TooMany where the node has 8 stages.
+    #[tactic(auto, using(crate::proofs::PlaceLaws::put_again))]
     pub fn stage(&mut self, change: u32, intergreen: u32, least: u32) -> Result<(), DraftFault>
         requires { 0 < length self.old.nodes }
         ensures refuses { Refuses result (stage_fault self.old (new_stage change intergreen least))
@@ -175,6 +177,7 @@ impl Draft {
     /// which it runs, each from 1. Twice where a link has this number or a stage stands twice;
     /// Unknown where there is no such node, or it hasn't one of the stages; Range; TooMany where
     /// there are 1,000 links; in this order.
+    #[tactic(auto, using(crate::proofs::SoundLinks::sound_link, crate::proofs::SoundNodes::one_more))]
     pub fn link(&mut self, link: NewLink, stages: &[u32]) -> Result<(), DraftFault>
         requires some { 1 ≤ length stages.now }
         requires most { length stages.now ≤ 8 }
@@ -214,6 +217,7 @@ impl Draft {
     ///
     /// Twice where this feeder feeds the link already, Unknown where one of the two is no link,
     /// Range, TooMany where the link has 8 feeds, in this order.
+    #[tactic(auto, using(crate::proofs::PlaceLaws::put_again, crate::proofs::PlaceLaws::place_inside))]
     pub fn feed(&mut self, link: u32, feeder: u32, flow: u32, cruise: u32) -> Result<(), DraftFault>
         ensures refuses { Refuses result (feed_fault self.old link (new_feed feeder flow cruise))
             (Some DraftFault.Memory) }
@@ -242,6 +246,7 @@ impl Draft {
     ///
     /// Twice where the link has a rule already, Unknown where one of the two is no link, Range
     /// where `percent` is above 400, in this order.
+    #[tactic(auto, using(crate::proofs::PlaceLaws::place_inside))]
     pub fn give_way(&mut self, link: u32, other: u32, percent: u32) -> Result<(), DraftFault>
         ensures refuses { Refuses result (rule_fault self.old link (new_rule other percent)) None }
         ensures ok { OnOk result (self.new ≡ with_rule self.old link (new_rule other percent)) }
@@ -262,6 +267,7 @@ impl Draft {
     /// Sets the climb plan. `sizes` are in steps, each from 1 and below the number of steps.
     ///
     /// Range where the budget or a size isn't in its range.
+    #[tactic(auto, using(crate::proofs::DraftLaws::plan_exactly))]
     pub fn plan(&mut self, budget: u32, sizes: &[u32]) -> Result<(), DraftFault>
         requires unset { self.old.plan ≡ None }
         requires some { 1 ≤ length sizes.now }
@@ -281,6 +287,7 @@ impl Draft {
 
     /// The first fault of the nodes' plans, node by node in order; none exactly where the draft is
     /// a valid network.
+    #[tactic(auto, using(transyt_parts::proofs::PlanLaws::all_planned, transyt_parts::proofs::PlanLaws::none_first))]
     pub fn judge(&self) -> Option<PlanFault>
         ensures value { result ≡ first_fault self.now.frame.step_count self.now.nodes }
         ensures valid { result ≡ None ↔ IsValid self.now }
@@ -310,6 +317,7 @@ impl Draft {
     }
 
     /// The network that was made. It takes no memory.
+    #[tactic(auto, using(transyt_parts::proofs::PlanLaws::all_planned))]
     pub fn close(self) -> Net
         requires { first_fault self.frame.step_count self.nodes ≡ None }
         ensures { result ≡ self }

@@ -5,7 +5,7 @@ ghost use Rattle.transyt_parts.specs.Valid.{is_fed};
 ghost use Rattle.transyt_net.specs.Named.{IsPlace};
 ghost use Rattle.transyt_parts.specs.Plan.{stage_of};
 ghost use Rattle.transyt_net.specs.Edits.{feeder_of, node_edit, link_edit, node_back, link_back, set_offset, set_change, set_entry, set_saturation, set_weights, set_part, set_cruise, the_feed};
-ghost use Rattle.transyt_net.specs.Named.{NodeTakes, LinkTakes};
+ghost use Rattle.transyt_net.specs.There.{NodeTakes, LinkTakes};
 
 use transyt_parts::{Feed, Link, Node, Weights};
 
@@ -137,6 +137,7 @@ fn feed_place(feeds: &[Feed], feeder: u32) -> usize
 }
 
 /// Sets the flow of a feed, and gives the one before.
+#[tactic(auto, using(crate::proofs::EditLaws::feed_found))]
 fn set_part(link: &mut Link, feeder: u32, flow: u32) -> u32
     requires { is_fed link.old.feeds feeder ≡ true }
     ensures value { link.new ≡ set_part feeder flow link.old }
@@ -149,6 +150,7 @@ fn set_part(link: &mut Link, feeder: u32, flow: u32) -> u32
 }
 
 /// Sets the cruise time of a feed, and gives the one before.
+#[tactic(auto, using(crate::proofs::EditLaws::feed_found))]
 fn set_cruise(link: &mut Link, feeder: u32, seconds: u32) -> u32
     requires { is_fed link.old.feeds feeder ≡ true }
     ensures value { link.new ≡ set_cruise feeder seconds link.old }

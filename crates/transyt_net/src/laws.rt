@@ -30,6 +30,7 @@ pub fn edits_are_judged()
 /// A frame's numbers are in their ranges exactly where the empty draft with it is sound. A call of a
 /// sound draft has no fault exactly where the draft after it is sound; a feed and a rule where their
 /// link is there too, and the link has no rule yet.
+#[tactic(auto, using(crate::proofs::DraftLaws::frame_exactly, crate::proofs::DraftLaws::node_exactly, crate::proofs::DraftLaws::stage_exactly, crate::proofs::DraftLaws::link_exactly, crate::proofs::DraftLaws::feed_exactly, crate::proofs::DraftLaws::rule_exactly, crate::proofs::DraftLaws::plan_exactly))]
 pub fn drafts_are_judged()
     ensures frame { (f : Frame) → IsTrue (is_frame f) ↔ IsSound (empty f) }
     ensures node { (d : Network) (number offset : ℕ) → IsSound d

@@ -152,6 +152,7 @@ impl Net {
     }
 
     /// The entry flow of the link at a place and the flows of its feeds, in vehicles per hour.
+    #[tactic(auto, using(crate::proofs::TotalLaws::total_at))]
     pub fn total_flow(&self, link: usize) -> u32
         requires { link < length self.now.links }
         ensures value { result ≡ total_flow (link_of self.now link) }

@@ -46,6 +46,7 @@ pub(crate) fn in_order(nodes: &[Node], number: u32) -> Option<&Node>
 }
 
 /// The node of a number.
+#[tactic(auto, using(crate::proofs::PlaceLaws::found_at, crate::proofs::PlaceLaws::place_inside, crate::proofs::PlaceLaws::numbered_none))]
 pub(crate) fn node_at<'a>(
     places: &IndexSet<u32>,
     nodes: &'a [Node],
@@ -61,6 +62,7 @@ pub(crate) fn node_at<'a>(
 }
 
 /// The link of a number.
+#[tactic(auto, using(crate::proofs::PlaceLaws::found_at, crate::proofs::PlaceLaws::place_inside, crate::proofs::PlaceLaws::numbered_none))]
 pub(crate) fn link_at<'a>(
     places: &IndexSet<u32>,
     links: &'a [Link],

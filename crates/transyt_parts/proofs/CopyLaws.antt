@@ -1,7 +1,6 @@
 -- Lists that are made equal place by place.
 use Rattle.std.proofs.Common.{◌≡◌, ℕ, suc, ◌+◌, ◌<◌, List, [], ◌∷◌, map, length, get_or, set, refl, sym, ap, ◌∙◌, arith}
-use Rattle.std.proofs.Common.{◌⊎◌, inl, inr, ◌≢◌}
-use Rattle.std.proofs.lemmas.Bool.{cases_eq}
+use Rattle.std.proofs.lemmas.Bool.Decides.{nat_tests}
 use Rattle.std.proofs.lemmas.List.{map-set, set-get_or, get_or-map, length-map, get_or-set_other, get_or_default}
 use Rattle.std.proofs.lemmas.Grind.{get_or-set_at}
 
@@ -20,36 +19,32 @@ pub same_length : {A B : Type 0} (f : A → B) (xs ys : List A) → map f xs ≡
 same_length f xs ys same = sym (length-map xs f) ∙ ap length same ∙ length-map ys f
 
 -- where two lists have one shape, so have their elements
-pub same_at : {A B : Type 0} (f : A → B) (xs ys : List A) (i : ℕ) (x y : A) → map f xs ≡ map f ys → i < length xs
+pub same_at : {A B : Type 0} (f : A → B) (xs ys : List A) (i : ℕ) (x y : A) → map f xs ≡ map f ys → i < length ys
     → x ≡ get_or xs i x → y ≡ get_or ys i y → f x ≡ f y
-same_at f xs ys i x y same inside at_x at_y =
-    let len : length xs ≡ length ys = same_length f xs ys same in
-    let there : i < length ys = omega arith in
-    ap f at_x
-    ∙ sym (get_or-map f xs i x (f x) inside)
-    ∙ ap (λ zs. get_or zs i (f x)) same
-    ∙ get_or-map f ys i y (f x) there
-    ∙ ap f (sym at_y)
+same_at f xs ys i x y same there at_x at_y =
+    grind (arith, nat_tests, same_length f xs ys same, get_or-map f xs i x (f x), get_or-map f ys i y (f x))
 
 -- a write of what stands in the other keeps the shape
-pub shape_more : {A B : Type 0} (f : A → B) (xs ys : List A) (i : ℕ) (v : A) → map f xs ≡ map f ys
-    → v ≡ get_or ys i v → map f (set xs i v) ≡ map f ys
-shape_more f xs ys i v same at =
+pub shape_more : {A B : Type 0} (f : A → B) (xs ys : List A) (i : ℕ) (v y : A) → map f xs ≡ map f ys
+    → v ≡ y → y ≡ get_or ys i y → map f (set xs i v) ≡ map f ys
+shape_more f xs ys i v y same is at =
     map-set f xs i v
-    ∙ ap (λ zs. set zs i (f v)) same
-    ∙ sym (map-set f ys i v)
+    ∙ (λ j. set (same j) i (f (is j)))
+    ∙ sym (map-set f ys i y)
     ∙ ap (λ w. map f (set ys i w)) at
-    ∙ ap (map f) (set-get_or ys i v)
+    ∙ ap (map f) (set-get_or ys i y)
 
 -- one more place at which they agree
-pub agree_more : {A : Type 0} (xs ys : List A) (i : ℕ) (v : A) → i < length xs → i < length ys
-    → ((k : ℕ) (d : A) → k < i → get_or xs k d ≡ get_or ys k d) → v ≡ get_or ys i v
+pub agree_more : {A B : Type 0} (f : A → B) (xs ys : List A) (i : ℕ) (v y : A) → map f xs ≡ map f ys → i < length ys
+    → ((k : ℕ) (d : A) → k < i → get_or xs k d ≡ get_or ys k d) → v ≡ y → y ≡ get_or ys i y
     → (k : ℕ) (d : A) → k < i + 1 → get_or (set xs i v) k d ≡ get_or ys k d
-agree_more xs ys i v inside there before at k d less = by (cases_eq k i)
-  where
-    by : (k ≡ i) ⊎ (k ≡ i → ⊥) → get_or (set xs i v) k d ≡ get_or ys k d
-    by (inl same) =
-        get_or-set_at xs i k v d same inside ∙ at ∙ get_or_default ys i v d there ∙ ap (λ m. get_or ys m d) (sym same)
-    by (inr other) =
-        let apart : k ≢ i = other in let lower : k < i = omega arith in get_or-set_other xs i k v d apart
-        ∙ before k d lower
+agree_more f xs ys i v y same there before is at k d less =
+    grind (
+      arith,
+      nat_tests,
+      same_length f xs ys same,
+      before k d,
+      get_or-set_at xs i k v d,
+      get_or-set_other xs i k v d,
+      get_or_default ys i y d there,
+    )

@@ -1,4 +1,4 @@
--- What a node and a climb plan keep to, by the tests of their numbers.
+-- The facts of a node and those of a climb plan, by the tests of their numbers.
 use Rattle.std.proofs.Common.{◌↔◌, ℕ, ◌-◌, ◌<◌, ◌≤◌, length, All, IsTrue, arith}
 use Rattle.std.proofs.lemmas.Bool.Decides.{nat_tests}
 use Rattle.std.proofs.lemmas.List.Elements.{All-weaker}

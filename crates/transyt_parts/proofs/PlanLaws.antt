@@ -5,16 +5,16 @@ use Rattle.transyt_parts.specs.declared.stage_plan.PlanFault.{PlanFault}
 use Rattle.transyt_parts.specs.Parts.{NodeValue}
 use Rattle.transyt_parts.specs.Plan.{plan_fault, first_fault, first_of}
 
-first_of_none : (a b : Option PlanFault) → first_of a b ≡ None → (a ≡ None) × (b ≡ None)
-first_of_none None b h = (refl, h)
-first_of_none (Some fault) b h = absurd (cc)
+no_first : (a b : Option PlanFault) → first_of a b ≡ None → (a ≡ None) × (b ≡ None)
+no_first None b h = (refl, h)
+no_first (Some fault) b h = absurd (cc)
 
 -- no fault of the nodes: none of them has one
 pub all_planned : (steps : ℕ) (nodes : List NodeValue) → first_fault steps nodes ≡ None
     → All (λ n. plan_fault steps n.stages ≡ None) nodes
 all_planned steps [] h = All-nil (λ n. plan_fault steps n.stages ≡ None)
 all_planned steps (n ∷ ns) h =
-    let both = first_of_none (plan_fault steps n.stages) (first_fault steps ns) h in
+    let both = no_first (plan_fault steps n.stages) (first_fault steps ns) h in
     All-cons (λ x. plan_fault steps x.stages ≡ None) n ns both.0 (all_planned steps ns both.1)
 
 -- none of the nodes has a fault: there is no first

@@ -42,18 +42,7 @@ new_link number node entry saturation delay stop start_lag end_lag stages =
 -- the link of a new link's numbers and these stages, with neither feeds nor a rule yet
 abbrev pub link_from : NewLink → List ℕ → LinkValue
 link_from l stages =
-    record {
-      number = l.number;
-      node = l.node;
-      entry = l.entry;
-      saturation = l.saturation;
-      weights = l.weights;
-      start_lag = l.start_lag;
-      end_lag = l.end_lag;
-      stages = stages;
-      feeds = [];
-      gives_way = None;
-    }
+    record (new_link l.number l.node l.entry l.saturation 0 0 l.start_lag l.end_lag stages) { weights = l.weights }
 
 -- a feed of these numbers
 abbrev pub new_feed : ℕ → ℕ → ℕ → Feed

@@ -1,7 +1,6 @@
 -- The plan of a node: its stages in order round the cycle, each with room for its greens. Lengths are in steps.
-use Rattle.std.specs.Prelude.{◌≡◌, ◌<◌, ◌≤◌}
-use Rattle.std.specs.Prelude.{ℕ, ◌+◌, ◌==◌, Bool, not, nat_le, List, [], ◌∷◌, length, map, sum, slice_index_or, Option}
-use Rattle.std.specs.Prelude.{Some, None, if◌then◌else◌}
+use Rattle.std.specs.Prelude.{◌≡◌, ◌<◌, ◌≤◌, ℕ, ◌+◌, ◌==◌, Bool, not, nat_le, List, [], ◌∷◌, length, map, sum}
+use Rattle.std.specs.Prelude.{slice_index_or, Option, Some, None, if◌then◌else◌}
 use Rattle.std.specs.List.{list_all, range_with_len}
 use Rattle.transyt_cycle.specs.Cycle.{minus_mod}
 use Rattle.transyt_parts.specs.declared.node.Stage.{Stage}
@@ -39,10 +38,6 @@ abbrev pub has_green : ℕ → List Stage → ℕ → Bool
 has_green steps stages k =
     nat_le ((stage_of stages k).intergreen + (stage_of stages k).least) (length_at steps stages k)
 
--- the stage at a place is at least as long as its intergreen and least green
-abbrev pub HasGreen : ℕ → List Stage → ℕ → Type 0
-HasGreen steps stages k = (stage_of stages k).intergreen + (stage_of stages k).least ≤ length_at steps stages k
-
 -- whether each stage has that room
 abbrev pub have_greens : ℕ → List Stage → Bool
 have_greens steps stages = list_all (has_green steps stages) (range_with_len 0 (length stages))
@@ -58,7 +53,8 @@ LacksGreen steps stages =
 pub record IsPlanned (steps : ℕ) (stages : List Stage) : Type 0 where
   pub two : 2 ≤ length stages
   pub in_order : sum (stage_lengths steps stages) ≡ steps
-  pub greens : (k : ℕ) → k < length stages → HasGreen steps stages k
+  pub greens : (k : ℕ) → k < length stages
+      → (stage_of stages k).intergreen + (stage_of stages k).least ≤ length_at steps stages k
 
 -- the first fault of a node's plan: too few stages, their order, a stage too short
 abbrev pub plan_fault : ℕ → List Stage → Option PlanFault

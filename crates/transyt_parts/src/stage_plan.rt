@@ -86,6 +86,7 @@ pub fn in_order(steps: u32, stages: &[Stage]) -> bool
 
 /// Whether each stage is at least as long as its intergreen and least green, in a cycle of `steps`
 /// steps.
+#[tactic(auto, using(crate::proofs::BelowLaws::all_places_more))]
 pub fn have_greens(steps: u32, stages: &[Stage]) -> bool
     requires { 0 < steps }
     ensures { result ≡ have_greens steps stages.now }

@@ -1,9 +1,9 @@
 -- The steps at which a link is shown.
 use Rattle.std.proofs.Common.{◌≡◌, ◌≢◌, ℕ, ◌+◌, ◌%◌, ◌<◌, ◌≤◌, Bool, true, false, ◌&&◌, ◌||◌, List, length, get_or, set}
-use Rattle.std.proofs.Common.{nat_lt, nat_le, ap, sym, ◌∙◌, arith, ◌⊎◌, inl, inr, refl, subst, map, replicate, if◌then◌else◌}
+use Rattle.std.proofs.Common.{nat_lt, nat_le, ap, sym, ◌∙◌, arith, ◌⊎◌, inl, inr, map, replicate, if◌then◌else◌}
 use Rattle.std.specs.List.{range_with_len}
 use Rattle.std.proofs.lemmas.List.FromFn.{fill_by_all, get_or-map-range_with_len, length-map-range_with_len}
-use Rattle.std.proofs.lemmas.Bool.{cases_eq, cases_lt, cond-true, cond_both}
+use Rattle.std.proofs.lemmas.Bool.{cases_eq}
 use Rattle.std.proofs.lemmas.Bool.Decides.{nat_tests}
 use Rattle.std.proofs.lemmas.List.{get_or-set_other, get_or-replicate}
 use Rattle.std.proofs.lemmas.Grind.{get_or-set_at}
@@ -18,24 +18,10 @@ use Rattle.transyt_stage.proofs.StepLaws.{green_without_lags}
 abbrev pub between : ℕ → ℕ → ℕ → Bool
 between from to m = nat_le from m && nat_lt m to
 
-between_here : (from s m : ℕ) → from ≤ s → m ≡ s → between from (s + 1) m ≡ true
-between_here from s m start here = grind (arith, nat_tests)
-
-between_none : (from to m : ℕ) → to ≤ from → between from from m ≡ between from to m
-between_none from to m none = grind (arith, nat_tests)
-
-between_more : (from s m : ℕ) → m ≢ s → between from s m ≡ between from (s + 1) m
-between_more from s m other = grind (arith, nat_tests)
-
 -- at the end of the steps
 pub between_end : (from to s m : ℕ) → from ≤ s → to ≤ s → (from ≤ to → s ≤ to) → (to ≤ from → s ≡ from)
     → between from s m ≡ between from to m
-between_end from to s m start end within once = by (cases_lt to from)
-  where
-    by : (to < from) ⊎ (from ≤ to) → between from s m ≡ between from to m
-    by (inr some) = let same : s ≡ to = omega (arith, within some) in ap (λ k. between from k m) same
-    by (inl none) = let same : s ≡ from = once (omega arith) in
-        ap (λ k. between from k m) same ∙ between_none from to m (omega arith)
+between_end from to s m start end within once = grind (arith, nat_tests)
 
 -- with the step s after the change given the value, the steps up to s have it
 pub added_step : {X : Type 0} (value : X) (out first : List X) (n change from s place : ℕ)
@@ -55,27 +41,16 @@ added_step {X} value out first n change from s place len within start at so_far 
     by (inl same) =
         let here : minus_mod n i change ≡ s =
         ap (λ k. minus_mod n k change) (same ∙ there) ∙ minus_mod-of_add n s change within in
-        get_or-set_at out place i value d same (omega arith)
-        ∙ sym (cond-true _ value (get_or first i d) (between_here from s (minus_mod n i change) start here))
+        grind (arith, nat_tests, get_or-set_at out place i value d)
     by (inr other) =
-        let apart : i ≢ place = other in
         let elsewhere : minus_mod n i change ≢ s =
         λ e. other (sym (mod-eq_of_lt below) ∙ sym (minus_mod-add n i change (omega arith))
         ∙ ap (λ m. (m + change) % n) e ∙ sym there) in
-        get_or-set_other out place i value d apart ∙ so_far i d below
-        ∙ ap (λ b. if b then value else get_or first i d)
-        (between_more from s (minus_mod n i change) elsewhere)
+        grind (arith, nat_tests, get_or-set_other out place i value d, so_far i d below)
 
 -- a value that two tests give, one after the other
 pub cond_or : {X : Type 0} (a b : Bool) (x y : X) → (if b then x else (if a then x else y)) ≡ (if a || b then x else y)
-cond_or true true x y = refl
-cond_or true false x y = refl
-cond_or false true x y = refl
-cond_or false false x y = refl
-
-same_test : (b : Bool) → (if b then true else false) ≡ b
-same_test true = refl
-same_test false = refl
+cond_or a b x y = grind (arith, nat_tests)
 
 -- a list of false, with true at each step at which the link is shown, is the definition's
 pub shown_is : (steps : ℕ) (node : NodeValue) (stages : List ℕ) (clear shown : List Bool)
@@ -85,10 +60,7 @@ pub shown_is : (steps : ℕ) (node : NodeValue) (stages : List ℕ) (clear shown
     → shown ≡ shown_of steps node stages
 shown_is steps node stages clear shown none long each =
     fill_by_all (is_shown steps node stages) shown steps false long
-    (λ i below. each i false below
-    ∙ ap (λ b. if is_shown steps node stages i then true else b)
-    (ap (λ xs. get_or xs i false) none ∙ get_or-replicate steps i false false below)
-    ∙ same_test (is_shown steps node stages i))
+    (λ i below. grind (arith, nat_tests, each i false below, get_or-replicate steps i false false below))
 
 -- a list of zeros, with `room` at each step at which the link is shown, is what passes without lags
 module _ (steps : ℕ) (node : NodeValue) (stages : List ℕ) (room : ℕ) (clear out : List ℕ)
@@ -97,10 +69,7 @@ module _ (steps : ℕ) (node : NodeValue) (stages : List ℕ) (room : ℕ) (clea
     → get_or out i d ≡ (if is_shown steps node stages i then room else get_or clear i d)) where
   -- each step has the one or the other
   passes : (i : ℕ) (d : ℕ) → i < steps → get_or out i d ≡ (if is_shown steps node stages i then room else 0)
-  passes i d below =
-      each i d below
-      ∙ ap (λ n. if is_shown steps node stages i then room else n)
-      (ap (λ xs. get_or xs i d) none ∙ get_or-replicate steps i 0 d below)
+  passes i d below = grind (arith, nat_tests, each i d below, get_or-replicate steps i 0 d below)
 
   -- the list is the definition's
   pub passed_without_lags : (start_lag end_lag : ℕ) → start_lag ≡ 0 → end_lag ≡ 0
@@ -115,6 +84,4 @@ module _ (steps : ℕ) (node : NodeValue) (stages : List ℕ) (room : ℕ) (clea
 
   -- each number is below a limit of `room`
   pub passed_below : (limit : ℕ) → room < limit → (i : ℕ) (d : ℕ) → i < length out → get_or out i d < limit
-  passed_below limit small i d below =
-      subst (λ (n : ℕ). n < limit) (sym (passes i d (omega (arith, below, long))))
-      (cond_both (is_shown steps node stages i) room 0 (λ (n : ℕ). n < limit) (λ _. small) (λ _. omega (arith, small)))
+  passed_below limit small i d below = grind (arith, nat_tests, passes i d)

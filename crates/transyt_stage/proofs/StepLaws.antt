@@ -1,6 +1,7 @@
 -- Steps back and on round the cycle, without a division.
-use Rattle.std.proofs.Common.{◌≡◌, ℕ, ◌+◌, ◌-◌, ◌%◌, ◌<◌, ◌≤◌, Bool, true, false, ◌||◌, ◌&&◌, List, length, get_or}
-use Rattle.std.proofs.Common.{refl, ap, sym, ◌∙◌, arith}
+use Rattle.std.proofs.Common.{◌≡◌, ℕ, ◌+◌, ◌-◌, ◌%◌, ◌<◌, ◌≤◌, Bool, false, List, length, get_or}
+use Rattle.std.proofs.Common.{ap, sym, ◌∙◌, arith}
+use Rattle.std.proofs.lemmas.Bool.Decides.{nat_tests}
 use Rattle.std.proofs.Math.Nat.{mod-eq_of_lt, mod-add-mod, add-mod_left}
 use Rattle.transyt_cycle.specs.Cycle.{minus_mod}
 use Rattle.transyt_cycle.proofs.CycleLaws.{minus_mod-of_add}
@@ -27,15 +28,8 @@ step_more n since change step after at next =
     let one : since + change + 1 ≡ since + 1 + change = omega arith in
     next ∙ ap (λ k. (k + 1) % n) at ∙ mod-add-mod (since + change) n 1 ∙ ap (λ k. k % n) one
 
-same_test : (b : Bool) → ((b || false) && true) ≡ b
-same_test true = refl
-same_test false = refl
-
 -- without lags a link is green where it is shown
 pub green_without_lags : (shown : List Bool) (start_lag end_lag i : ℕ) → i < length shown → start_lag ≡ 0 → end_lag ≡ 0
     → green_at shown start_lag end_lag i ≡ get_or shown i false
 green_without_lags shown start_lag end_lag i below no_start no_end =
-    ap (λ s. green_at shown s end_lag i) no_start
-    ∙ ap (λ e. green_at shown 0 e i) no_end
-    ∙ same_test (get_or shown (minus_mod (length shown) i 0) false)
-    ∙ ap (λ k. get_or shown k false) (back_within (length shown) i 0 below (omega arith) ∙ omega arith)
+    rw (no_start, no_end) (grind (arith, nat_tests, back_within (length shown) i 0 below))

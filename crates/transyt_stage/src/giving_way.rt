@@ -7,6 +7,7 @@ ghost use Rattle.transyt_stage.specs.GiveWay.{yielded, yielding};
 ///
 /// Both slices have one value for each step of the cycle, in millionths of a vehicle. `percent` is in per cent of
 /// `other_out`, and what is taken is rounded down. Where anything could go, a unit still can. This project's own.
+#[tactic(auto, using(std::proofs::lemmas::List::get_or_default))]
 pub fn give_way(other_out: &[u64], percent: u32, go: &mut [u64])
     requires lengths { length other_out.now ≡ length go.old }
     requires other_fit { All (λ v. v < 2 ^ 30) other_out.now }

@@ -86,6 +86,7 @@ fn fill_lagged(net: &Net, link: usize, out: &mut [u64])
 }
 
 /// Gives each step what the green lets pass in it: `room` in a step of green, else nothing.
+#[tactic(auto, using(std::proofs::lemmas::List::get_or_default))]
 fn fill_passed(shown: &[bool], start_lag: u32, end_lag: u32, room: u64, out: &mut [u64])
     requires steps { length out.old ≡ length shown.now }
     requires most { length shown.now ≤ 120 }
@@ -126,6 +127,7 @@ fn green_at(shown: &[bool], start_lag: u32, end_lag: u32, step: usize) -> bool
 }
 
 /// Whether the link is shown at a step or at one of the steps of its end lag before it.
+#[tactic(auto, using(transyt_parts::proofs::BelowLaws::none_below))]
 fn is_held(shown: &[bool], end_lag: u32, step: usize) -> bool
     requires step { step < length shown.now }
     requires most { length shown.now ≤ 120 }
@@ -141,6 +143,7 @@ fn is_held(shown: &[bool], end_lag: u32, step: usize) -> bool
 }
 
 /// Whether one of the steps of the start lag, up to a step, opens the link.
+#[tactic(auto, using(transyt_parts::proofs::BelowLaws::none_below))]
 fn is_starting(shown: &[bool], start_lag: u32, step: usize) -> bool
     requires step { step < length shown.now }
     requires most { length shown.now ≤ 120 }
@@ -195,6 +198,7 @@ fn fill_shown(step_count: u32, node: &Node, stages: &[u32], shown: &mut [bool])
 }
 
 /// Gives `value` to the steps at which a link that runs in these stages is shown.
+#[tactic(auto, using(transyt_parts::proofs::BelowLaws::any_more, crate::proofs::ShownLaws::cond_or))]
 fn show_stages<T: Copy>(step_count: u32, node: &Node, stages: &[u32], value: T, out: &mut [T])
     requires node { IsNode step_count node.now }
     requires steps { length out.old ≡ step_count }
@@ -252,6 +256,7 @@ fn first_shown(stages: &[u32], before: usize, intergreen: u32) -> u32
 }
 
 /// Gives `value` to the steps that come at least `from` and fewer than `to` steps after the change.
+#[tactic(auto, using(crate::proofs::ShownLaws::between_end))]
 fn show_steps<T: Copy>(change: u32, from: u32, to: u32, value: T, out: &mut [T])
     requires some { 0 < length out.old }
     requires most { length out.old ≤ 120 }

@@ -6,7 +6,7 @@ use Rattle.transyt_variants.specs.declared.cycles.AtCycle.{AtCycle}
 use Rattle.transyt_variants.specs.declared.cycles.AtCycle.TheVariants.{NoPlan}
 use Rattle.transyt_variants.specs.Cycles.{is_whole, may_have, steps_of, first_barred, plan_by, at_cycle}
 use Rattle.transyt_variants.specs.Kept.{KeepsSecondsAt}
-use Rattle.transyt_variants.proofs.BareLaws.{plan_kept}
+use Rattle.transyt_variants.proofs.BalancedLaws.{plan_kept}
 
 -- no whole number of steps, or not one that there may be
 pub not_had : (net : Network) (cycle : ℕ) → (not (is_whole net cycle) || not (may_have (steps_of net cycle) net)) ≡ true

@@ -1,3 +1,4 @@
+pub mod BalancedLaws
 pub mod BareLaws
 pub mod CycleLaws
 pub mod StartLaws

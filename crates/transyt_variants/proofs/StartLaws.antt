@@ -14,7 +14,8 @@ use Rattle.transyt_net.specs.Valid.{IsValid, node_numbers}
 use Rattle.transyt_make.specs.Draws.{draw, after_draws}
 use Rattle.transyt_variants.specs.Starts.{drawn_node, drawn_nodes, start_at}
 use Rattle.transyt_variants.specs.Kept.{KeepsAllButOffsets}
-use Rattle.transyt_variants.proofs.ValidLaws.{AreSignals, same_numbers, valid_signals}
+use Rattle.transyt_net.proofs.ShapeLaws.{same_numbers}
+use Rattle.transyt_variants.proofs.ValidLaws.{valid_nodes}
 
 -- a list made anew place by place, seen by what stays
 pub map_places : {A B : Type 0} (h : A → B) (f : ℕ → A) (xs : List A) (d : A) (e : B)
@@ -39,10 +40,6 @@ all_places P f n each k d below =
     let inside : k < n = omega (arith, length-map-range_with_len f 0 n) in
     subst P (sym (get_or-map-range_with_len f 0 n k k d inside (omega arith))) (each k inside)
 
--- a draw is below its limit
-pub draw_below : (seed k a : ℕ) → 0 < a → draw seed k a < a
-draw_below seed k a some = mod-lt (after_draws seed (k + 1) / 65536) some
-
 -- one node more
 pub node_drawn : (net : Network) (seed first place : ℕ) (before after ns : List NodeValue) (n made : NodeValue) (offset : ℕ)
     → place < length net.nodes → ns ≡ net.nodes → n ≡ get_or ns place n → made ≡ set_offset offset n
@@ -56,42 +53,33 @@ node_drawn net seed first place before after ns n made offset inside are at is d
     more ∙ (λ j. so_far j ++ here j ∷ [])
     ∙ sym (map-range_with_len_more (drawn_node net seed first) 0 place place (omega arith))
 
--- the nodes with other offsets, as the signals of the network
-drawn_signals : (net : Network) (seed first : ℕ) → IsValid net → AreSignals net net.frame (drawn_nodes net seed first)
-drawn_signals net seed first valid =
-    let steps = net.frame.step_count in
-    let some : 0 < steps = omega (arith, valid.sound.frame.step_count.0) in
-    let f : ℕ → NodeValue = drawn_node net seed first in
-    record {
-      framed = valid.sound.frame;
-      same = map_places bare_node f net.nodes no_node (bare_node no_node) (λ k inside. refl);
-      each = all_places (IsNode steps) f (length net.nodes) (λ k inside.
-          let old : IsNode steps (node_of net k) = valid.sound.nodes k no_node inside in
-          record {
-            number = old.number;
-            offset = draw_below seed (first + k) steps some;
-            stage_count = old.stage_count;
-            stages = old.stages;
-          });
-      planned = all_places (λ (n : NodeValue). plan_fault steps n.stages ≡ None) f (length net.nodes)
-          (λ k inside. valid.planned k no_node inside);
-      lags = λ i d below.
-          let link = valid.sound.links i d below in
-          record { start_lag = link.start_lag; end_lag = link.end_lag };
-      plan = valid.sound.plan;
-    }
+-- the nodes with other offsets differ in these alone
+drawn_same : (net : Network) (seed first : ℕ) → map bare_node (drawn_nodes net seed first) ≡ map bare_node net.nodes
+drawn_same net seed first =
+    map_places bare_node (drawn_node net seed first) net.nodes no_node (bare_node no_node) (λ k inside. refl)
 
--- its nodes with other offsets have their numbers
-pub drawn_numbers : (net : Network) (seed first : ℕ) → IsValid net
-    → node_numbers (drawn_nodes net seed first) ≡ node_numbers net.nodes
-drawn_numbers net seed first valid =
-    same_numbers (drawn_nodes net seed first) net.nodes (drawn_signals net seed first valid).same
+-- so they have their numbers
+pub drawn_numbers : (net : Network) (seed first : ℕ) → node_numbers (drawn_nodes net seed first) ≡ node_numbers net.nodes
+drawn_numbers net seed first = same_numbers (drawn_nodes net seed first) net.nodes (drawn_same net seed first)
 
 -- the network with other offsets is valid
 pub drawn_valid : (net : Network) (seed first : ℕ) → IsValid net
     → IsValid (with_signals net net.frame (drawn_nodes net seed first))
 drawn_valid net seed first valid =
-    valid_signals net net.frame (drawn_nodes net seed first) valid (drawn_signals net seed first valid)
+    let steps = net.frame.step_count in
+    let some : 0 < steps = omega (arith, valid.sound.frame.step_count.0) in
+    let f : ℕ → NodeValue = drawn_node net seed first in
+    valid_nodes net (drawn_nodes net seed first) valid (drawn_same net seed first)
+    (all_places (IsNode steps) f (length net.nodes) (λ k inside.
+    let old : IsNode steps (node_of net k) = valid.sound.nodes k no_node inside in
+    record {
+      number = old.number;
+      offset = mod-lt (after_draws seed (first + k + 1) / 65536) some;
+      stage_count = old.stage_count;
+      stages = old.stages;
+    }))
+    (all_places (λ (n : NodeValue). plan_fault steps n.stages ≡ None) f (length net.nodes)
+    (λ k inside. valid.planned k no_node inside))
 
 -- a start but the first
 pub start_later : (net : Network) (seed place : ℕ) → 0 < place

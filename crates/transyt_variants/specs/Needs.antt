@@ -8,7 +8,7 @@ use Rattle.transyt_variants.specs.Cycles.{is_whole, may_have, steps_of, first_ba
 -- a node of a cycle of so many steps that has a bare plan in one of others
 pub record HasBarePlan (before after : ℕ) (n : NodeValue) : Type 0 where
   pub node : IsNode before n
-  pub some : 0 < length n.stages
+  pub two : 2 ≤ length n.stages
   pub room : least_length n.stages ≤ after
 
 -- a cycle time that has a plan

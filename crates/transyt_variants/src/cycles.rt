@@ -158,6 +158,7 @@ fn least_greens(alloc: Global, stages: &[Stage]) -> Result<Vec<u32>, AllocError>
 }
 
 /// The least greens of these stages, with what is left of the cycle added to the first.
+#[tactic(auto, using(crate::proofs::BareLaws::least_small))]
 fn filled_greens(alloc: Global, steps: u32, stages: &[Stage]) -> Result<Vec<u32>, AllocError>
     requires steps { steps ≤ 120 }
     requires some { 0 < length stages.now }
@@ -202,6 +203,7 @@ fn laid(
 }
 
 /// The bare plan of these stages in a cycle of `after` steps.
+#[tactic(auto, using(crate::proofs::BareLaws::scaled_first, crate::proofs::BareLaws::scaled_gaps))]
 fn bare_stages(
     alloc: Global,
     before: u32,
@@ -274,6 +276,7 @@ fn is_whole(net: &Net, cycle: u32) -> bool
 }
 
 /// The bare network of a cycle time.
+#[tactic(auto, using(crate::proofs::BareLaws::bare_from, crate::proofs::BareLaws::bare_numbers))]
 fn bare_net(alloc: Global, net: &Net, cycle: u32) -> Result<Net, AllocError>
     requires cycle { CanHave net.now cycle }
     ensures { IfOk result (λ made. made ≡ bare_net net.now cycle) }
@@ -312,6 +315,7 @@ fn timed(alloc: Global, stages: &[Stage], shares: &[Share]) -> Result<Vec<Stage>
 }
 
 /// The node at a place with the changes of its balance.
+#[tactic(auto, using(crate::proofs::BalancedLaws::balance_count))]
 fn balanced_node(alloc: Global, net: &Net, place: usize) -> Result<Node, AllocError>
     requires { place < length net.now.nodes }
     ensures { IfOk result (λ made. made ≡ balanced_node net.now place) }
@@ -337,6 +341,7 @@ fn add_balanced(alloc: Global, net: &Net, nodes: &mut Vec<Node>) -> Result<(), A
 }
 
 /// The network with the changes of the balance of each node.
+#[tactic(auto, using(crate::proofs::BalancedLaws::balanced_numbers, crate::proofs::BalancedLaws::balanced_valid))]
 fn balanced(alloc: Global, net: &Net) -> Result<Net, AllocError>
     ensures { IfOk result (λ made. made ≡ balanced net.now) }
 {
@@ -362,6 +367,7 @@ fn plan_at(alloc: Global, net: &Net, cycle: u32) -> Result<Net, AllocError>
 }
 
 /// A network at another cycle time, or the reason why there is none.
+#[tactic(auto, using(crate::proofs::CycleLaws::not_had))]
 fn cycle_made(alloc: Global, net: &Net, cycle: u32) -> Result<AtCycle, AllocError>
     requires low { 30 ≤ cycle }
     requires high { cycle ≤ 240 }

@@ -50,6 +50,7 @@ fn add_nodes(
 }
 
 /// The network with draws as its offsets, one for each node.
+#[tactic(auto, using(crate::proofs::StartLaws::drawn_numbers, crate::proofs::StartLaws::drawn_valid))]
 fn drawn(alloc: Global, net: &Net, draws: &mut Draws) -> Result<Net, AllocError>
     requires few { draws.old.taken < 4294960000 }
     ensures { IfOk result (λ made. made

@@ -1,8 +1,8 @@
 //! The first fault of each call of a draft.
 
-ghost use Rattle.std.specs.Prelude.{is_some, ◌≡◌, ◌-◌, ◌<◌, length};
-ghost use Rattle.transyt_net.specs.Valid.{feeds_at, rule_at};
-ghost use Rattle.transyt_net.specs.Faults.{node_fault, stage_fault, link_fault, are_links, feed_fault, rule_fault, climb_fault};
+ghost use Rattle.std.specs.Prelude.{is_some, ◌≡◌, ◌-◌, ◌<◌, length, slice_get};
+ghost use Rattle.transyt_net.specs.Valid.{feeds_at, rule_at, stage_total};
+ghost use Rattle.transyt_net.specs.Faults.{node_fault, last_place, stage_fault, link_fault, are_links, feed_fault, rule_fault, climb_fault};
 ghost use Rattle.transyt_parts.specs.Made.{link_from, new_plan};
 
 use super::{Draft, DraftFault};
@@ -37,11 +37,20 @@ impl Draft {
         if !is_stage_in_range(self.frame.step_count, stage) {
             return Some(DraftFault::Range);
         }
-        let last = &self.nodes[self.nodes.len() - 1];
-        if last.stages.len() >= 8 {
+        if self.last_stages() >= 8 {
             return Some(DraftFault::TooMany);
         }
         None
+    }
+
+    /// How many stages the last node has; 0 where there is no node.
+    fn last_stages(&self) -> usize
+        ensures { result ≡ stage_total (slice_get self.now.nodes (last_place self.now.nodes)) }
+    {
+        match self.nodes.last() {
+            Some(last) => last.stages.len(),
+            None => 0,
+        }
     }
 
     /// Whether the link of this number has a give-way rule.

@@ -41,6 +41,7 @@ fn part_fault(known: bool, fed: bool, fits: bool) -> Option<EditFault>
 }
 
 /// These stages, with a change set.
+#[tactic(auto, using(crate::proofs::EditLaws::changed_front))]
 fn change_set(stages: &[Stage], place: usize, change: u32) -> [Stage; 8]
     requires place { place < length stages.now }
     requires few { length stages.now ≤ 8 }

@@ -1,14 +1,8 @@
--- It is shown at a step of the end lag, or at none.
-use Rattle.std.proofs.Common.{◌+◌, sym, arith, rules}
+-- It is shown at the step reached.
+use Rattle.std.proofs.Common.{◌+◌, sym, rules}
 use Rattle.transyt_stage.specs.Green.{shown_back}
-use Rattle.transyt_parts.proofs.BelowLaws.{none_below, some_below}
+use Rattle.transyt_parts.proofs.BelowLaws.{some_below}
 use Rattle.transyt_stage.proofs.green.is_held.Goals as goal
-
--- at none
-pub returns : goal.returns
-returns c =
-    sym (none_below (shown_back c.args.shown.now c.args.step) (c.args.end_lag + 1)
-    (λ j h. c.loop-back.invariant j (omega arith)))
 
 -- at the step reached
 pub returns-then-shown-step_back : goal.returns-then-shown-step_back

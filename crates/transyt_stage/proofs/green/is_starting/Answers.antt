@@ -1,15 +1,9 @@
--- A step of the start lag opens it, or none does.
-use Rattle.std.proofs.Common.{length, sym, arith, rules}
+-- The step reached opens it.
+use Rattle.std.proofs.Common.{length, sym, rules}
 use Rattle.transyt_cycle.specs.Cycle.{minus_mod}
 use Rattle.transyt_stage.specs.Green.{opens}
-use Rattle.transyt_parts.proofs.BelowLaws.{none_below, some_below}
+use Rattle.transyt_parts.proofs.BelowLaws.{some_below}
 use Rattle.transyt_stage.proofs.green.is_starting.Goals as goal
-
--- none does
-pub returns : goal.returns
-returns c =
-    sym (none_below (λ n. opens c.args.shown.now (minus_mod (length c.args.shown.now) c.args.step n)) c.args.start_lag
-    (λ j h. c.loop-back.invariant j (omega arith)))
 
 -- the step reached does
 pub returns-then-opens : goal.returns-then-opens

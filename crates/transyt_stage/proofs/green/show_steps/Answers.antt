@@ -1,8 +1,7 @@
--- One step more has the value, and at the end all of them have.
-use Rattle.std.proofs.Common.{◌+◌, ◌%◌, if◌then◌else◌, get_or, length, arith, ap, sym, ◌∙◌}
+-- One step more has the value.
+use Rattle.std.proofs.Common.{◌+◌, ◌%◌, length, arith, ap, sym, ◌∙◌}
 use Rattle.std.proofs.lemmas.List.{length-set}
-use Rattle.transyt_cycle.specs.Cycle.{minus_mod}
-use Rattle.transyt_stage.proofs.ShownLaws.{added_step, between_end}
+use Rattle.transyt_stage.proofs.ShownLaws.{added_step}
 use Rattle.transyt_stage.proofs.StepLaws.{step_more}
 use Rattle.transyt_stage.proofs.green.show_steps.Goals as goal
 
@@ -29,11 +28,3 @@ loop-since-preserved g c = record {
       ∙ ap (λ k. (c.loop-since.since + c.args.change) % k) (sym c.loop-since.auto.out))
       c.loop-since.invariant.shown i d below;
 }
-
--- all of them
-pub returns-clause-shown : goal.returns-clause-shown
-returns-clause-shown g c = λ i d below.
-    c.loop-since.invariant.shown i d below
-    ∙ ap (λ b. if b then c.args.value else get_or c.args.out.now i d)
-    (between_end c.args.from c.args.to c.loop-since.since (minus_mod (length c.args.out.now) i c.args.change)
-    c.loop-since.auto.since c.loop-since-test.false c.loop-since.auto.since-end c.loop-since.invariant.none)

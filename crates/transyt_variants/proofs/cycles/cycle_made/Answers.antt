@@ -1,26 +1,10 @@
 -- What a cycle time comes to, by cases.
-use Rattle.std.proofs.Common.{◌≡◌, ◌∙◌, true, false, not, ◌||◌, None, Some, ap, sym}
+use Rattle.std.proofs.Common.{◌≡◌, ◌∙◌, true, None, Some, ap, sym}
 use Rattle.transyt_net.specs.Parts.{Network}
 use Rattle.transyt_variants.specs.declared.cycles.AtCycle.TheVariants.{Plan}
 use Rattle.transyt_variants.specs.Cycles.{is_whole, may_have, steps_of, first_barred}
-use Rattle.transyt_variants.proofs.CycleLaws.{not_had, had}
+use Rattle.transyt_variants.proofs.CycleLaws.{had}
 use Rattle.transyt_variants.proofs.cycles.cycle_made.Goals as goal
-
--- no whole number of steps
-pub returns-then-not-is_whole : goal.returns-then-not-is_whole
-returns-then-not-is_whole c =
-    let net = c.args.net.now in
-    let whole : is_whole net c.args.cycle ≡ false = sym c.if-not-is_whole.ensures in
-    not_had net c.args.cycle (λ j. not (whole j) || not (may_have (steps_of net c.args.cycle) net))
-
--- not one that there may be
-pub returns-then-not-may_have : goal.returns-then-not-may_have
-returns-then-not-may_have c =
-    let net = c.args.net.now in
-    let whole : is_whole net c.args.cycle ≡ true = sym c.if-not-is_whole.ensures in
-    let may : may_have (steps_of net c.args.cycle) net ≡ false =
-    sym (c.if-not-may_have.ensures ∙ ap (λ n. may_have n net) c.steps_of.ensures) in
-    not_had net c.args.cycle (λ j. not (whole j) || not (may j))
 
 -- a node that bars it
 pub returns-in-Some : goal.returns-in-Some

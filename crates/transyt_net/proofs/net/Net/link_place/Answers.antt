@@ -1,13 +1,10 @@
 -- The place that is found is the place of the number.
-use Rattle.std.proofs.Common.{rules, ◌≡◌}
+use Rattle.std.proofs.Common.{rules}
 use Rattle.transyt_parts.specs.Valid.{link_number}
-use Rattle.transyt_net.specs.Valid.{link_numbers, place_of}
 use Rattle.transyt_net.specs.Parts.{no_link}
 use Rattle.transyt_net.proofs.PlaceLaws.{found_place}
 use Rattle.transyt_net.proofs.net.Net.link_place.Goals as goal
 
--- a place that is found has the number
 pub returns-clause-found : goal.returns-clause-found
 returns-clause-found c =
-    let at : c.get_index_of.result ≡ place_of (link_numbers c.args.self.now.links) c.args.number = search rules in
-    found_place link_number c.args.self.now.links c.args.number no_link c.get_index_of.result at
+    found_place link_number c.args.self.now.links c.args.number no_link c.get_index_of.result (search rules)
