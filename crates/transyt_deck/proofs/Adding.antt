@@ -11,7 +11,7 @@ use Rattle.transyt_syntax.specs.Syntax.{is_count}
 use Rattle.transyt_net.specs.Parts.{Network}
 use Rattle.transyt_net.specs.Refuses.{Refuses}
 use Rattle.transyt_net.specs.declared.draft.DraftFault.{DraftFault}
-use Rattle.transyt_net.specs.declared.draft.DraftFault.TheVariants.{Twice, Unknown, Range, TooMany, Memory}
+use Rattle.transyt_net.specs.declared.draft.DraftFault.TheVariants.{Memory}
 use Rattle.transyt_deck.specs.declared.state.Stop.{Stop}
 use Rattle.transyt_deck.specs.declared.card.Card.{Card}
 use Rattle.transyt_deck.specs.declared.state.Part.{Part}
@@ -40,11 +40,8 @@ some_of a b h = cc
 
 by_fault : (T : Type 0) (first : DraftFault) (to : Part) (net : Network) (old new : Part × Network) → new ≡ old
     → Adds {T = T} (placed true (Some first) to net) old new (stopped (Err first))
-by_fault T Twice to net old new same = (refl, same)
-by_fault T Unknown to net old new same = (refl, same)
-by_fault T Range to net old new same = (refl, same)
-by_fault T TooMany to net old new same = (refl, same)
 by_fault T Memory to net old new same = (refl, same)
+by_fault T first to net old new same = (refl, same)
 
 by_first : (T : Type 0) (first : Option DraftFault) (to : Part) (net : Network) (old new : Part × Network)
     (fault : DraftFault) → Refuses {T = T} (Err fault) first (Some Memory)
@@ -84,14 +81,8 @@ no_memory (Err fault) (Some first) refuses = refuses
 no_memory (Err fault) None refuses = absurd (cc)
 
 count_at : (n : ℕ) (state : State) → line_count (deck_at n state) ≡ n
-count_at n s.Start = refl
-count_at n (s.Formed form) = refl
-count_at n (s.Making form p.Frame net) = refl
-count_at n (s.Making form p.Nodes net) = refl
-count_at n (s.Making form p.Links net) = refl
-count_at n (s.Making form p.Feeds net) = refl
-count_at n (s.Making form p.Plan net) = refl
 count_at n (s.Making form p.End net) = refl
+count_at n state = refl
 
 count_by : (n : ℕ) (r : Result State Code) → line_count (deck_by n r) ≡ n
 count_by n (Ok state) = count_at n state
@@ -106,26 +97,14 @@ count_next (Refused n code) line still = absurd (cc)
 -- a line that is accepted has no code
 pub no_code : (n : ℕ) (r : Result State Code) → IsOk r → not (is_some (code_of (deck_by n r))) ≡ true
 no_code n (Err code) ok = absurd (cc)
-no_code n (Ok s.Start) ok = refl
-no_code n (Ok (s.Formed form)) ok = refl
-no_code n (Ok (s.Making form p.Frame net)) ok = refl
-no_code n (Ok (s.Making form p.Nodes net)) ok = refl
-no_code n (Ok (s.Making form p.Links net)) ok = refl
-no_code n (Ok (s.Making form p.Feeds net)) ok = refl
-no_code n (Ok (s.Making form p.Plan net)) ok = refl
 no_code n (Ok (s.Making form p.End net)) ok = refl
+no_code n (Ok state) ok = refl
 
 -- nor has a reader's deck with that line
 pub still_fits : (n : ℕ) (state : State) (line : List ℕ) → is_open (deck_at n state) ≡ true
     → IsOk (state_after state line) → not (is_some (code_of (next (deck_at n state) line))) ≡ true
-still_fits n s.Start line still ok = no_code (n + 1) _ ok
-still_fits n (s.Formed form) line still ok = no_code (n + 1) _ ok
-still_fits n (s.Making form p.Frame net) line still ok = no_code (n + 1) _ ok
-still_fits n (s.Making form p.Nodes net) line still ok = no_code (n + 1) _ ok
-still_fits n (s.Making form p.Links net) line still ok = no_code (n + 1) _ ok
-still_fits n (s.Making form p.Feeds net) line still ok = no_code (n + 1) _ ok
-still_fits n (s.Making form p.Plan net) line still ok = no_code (n + 1) _ ok
 still_fits n (s.Making form p.End net) line still ok = absurd (cc)
+still_fits n state line still ok = no_code (n + 1) _ ok
 
 -- a deck that is complete stays so
 pub stays_complete : (d : Deck) (more : List (List ℕ)) → is_complete d ≡ true → fold next d more ≡ d

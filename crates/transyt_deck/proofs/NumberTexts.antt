@@ -1,7 +1,7 @@
 -- Numbers written on a line: their words, their bytes, and what is read again.
 use Rattle.std.proofs.Common.{◌≡◌, ℕ, suc, ◌*◌, ◌<◌, ◌≤◌, nat_lt, List, [], ◌∷◌, ◌++◌, map, filter, length, Bool}
 use Rattle.std.proofs.Common.{true, false, cond, not, Option, Some, refl, ◌∙◌, ap, option_and_then, decimal, arith}
-use Rattle.std.proofs.Common.{length-append}
+use Rattle.std.proofs.Common.{append_assoc, length-append, sym}
 use Rattle.std.specs.List.{list_all, slice_split, onto_first}
 use Rattle.std.specs.Option.{option_map}
 use Rattle.std.specs.Char.{is_ascii_digit}
@@ -118,6 +118,14 @@ words_text word ns plain some small =
     ∙ ap (λ (l : List ℕ). l ∷ map decimal ns) (append-nil word))
     ∙ keep word (map decimal ns) some
     ∙ ap (λ (l : List (List ℕ)). word ∷ l) (keep_numbers ns small)
+
+-- numbers and those after them
+pub values_both : (xs ys : List ℕ) → values_text (xs ++ ys) ≡ values_text xs ++ values_text ys
+unfolding values_text
+values_both [] ys = refl
+values_both (x ∷ xs) ys =
+    ap (λ (l : List ℕ). (32 ∷ decimal x) ++ l) (values_both xs ys)
+    ∙ sym (append_assoc (32 ∷ decimal x) (values_text xs) (values_text ys))
 
 -- numbers are written in bytes that may stand on a line
 pub numbers_plain : (ns : List ℕ) → list_all is_small ns ≡ true → list_all is_plain (values_text ns) ≡ true

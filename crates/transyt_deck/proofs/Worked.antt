@@ -7,7 +7,7 @@ use Rattle.transyt_deck.specs.WorkedVillage.{bytes_of, cuts, finishes, village, 
 use Rattle.transyt_deck.specs.Cards.{deck_text}
 use Rattle.transyt_deck.specs.Cut.{cut_of}
 use Rattle.transyt_deck.specs.Reader.{finished}
-use Rattle.transyt_text.specs.Forms.{filled, form_line, values_line, values_text}
+use Rattle.transyt_text.specs.Forms.{values_text}
 use Rattle.std.specs.Fmt.{digits}
 
 -- the worked deck has its network
@@ -28,7 +28,7 @@ village_is = refl
 
 -- the network has its text
 pub text_is : deck_text town_net ≡ bytes_of town_text
-unfolding form_line values_line values_text filled digits
+unfolding values_text digits
 text_is = refl
 
 -- bytes have their cut

@@ -1,9 +1,15 @@
 -- The NODE card is written, and then the STAGE cards.
 use Rattle.std.proofs.Common.{ap, ◌∙◌}
-use Rattle.transyt_text.proofs.PrintLaws.{prints_both, prints_same}
+use Rattle.transyt_text.proofs.PrintLaws.{prints_both, prints_front, prints_same}
 use Rattle.transyt_parts.specs.Parts.{NodeValue}
 use Rattle.transyt_deck.specs.Cards.{node_cards, cards_text}
 use Rattle.transyt_deck.proofs.deck_text.print_node.Goals as goal
+
+-- the text broke off in the NODE card
+pub returns-in_err-print_number : goal.returns-in_err-print_number
+returns-in_err-print_number g c =
+    prints_same _ _ _ _ _ (prints_front _ _ _ c.from_residual.ensures.0 c.in_err-print_number.ensures)
+    (ap (λ n. cards_text (node_cards n)) c.node.view_is)
 
 -- the NODE card, and the STAGE cards after it
 pub returns : goal.returns
