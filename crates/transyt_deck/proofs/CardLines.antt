@@ -36,8 +36,8 @@ one_printed r card h = prints_same _ _ r _ _ h (sym (append-nil (card_line card)
 abbrev pub parts_text : Frame → List NodeValue → List LinkValue → Option PlanValue → List ℕ
 parts_text frame nodes links plan =
     cards_text (Form 2 ∷ Cycle frame ∷ [])
-    ++ (cards_text (flat_map node_cards nodes) ++ (cards_text (map link_card links)
-    ++ (cards_text (flat_map feed_cards links) ++ (cards_text (flat_map rule_cards links)
+    ++ (flat_map (λ n. cards_text (node_cards n)) nodes ++ (flat_map (λ l. card_line (link_card l)) links
+    ++ (flat_map (λ l. cards_text (feed_cards l)) links ++ (flat_map (λ l. cards_text (rule_cards l)) links
     ++ (cards_text (plan_cards plan) ++ cards_text (End ∷ []))))))
 
 texts : (a b c d e f g : List Card)
@@ -51,5 +51,9 @@ pub parts_are : {frame : Frame} {nodes : List NodeValue} {links : List LinkValue
     → parts_text frame nodes links plan ≡ deck_text net
 parts_are net f n l p =
     (λ j. parts_text (f j) (n j) (l j) (p j))
+    ∙ (λ j. cards_text (Form 2 ∷ Cycle net.frame ∷ [])
+    ++ (lines_of_each node_cards net.nodes j ++ (lines_of_map link_card net.links j
+    ++ (lines_of_each feed_cards net.links j ++ (lines_of_each rule_cards net.links j
+    ++ (cards_text (plan_cards net.plan) ++ cards_text (End ∷ [])))))))
     ∙ texts (Form 2 ∷ Cycle net.frame ∷ []) (flat_map node_cards net.nodes) (map link_card net.links)
     (flat_map feed_cards net.links) (flat_map rule_cards net.links) (plan_cards net.plan) (End ∷ [])

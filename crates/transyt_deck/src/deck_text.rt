@@ -62,7 +62,7 @@ fn print_cycle<K: Sink>(frame: Frame, line: &mut LineBuffer, sink: &mut K) -> Re
 /// Writes the NODE card of each node, with its STAGE cards after it.
 fn print_nodes<K: Sink>(nodes: &[Node], line: &mut LineBuffer, sink: &mut K) -> Result<(), Failed>
     ensures { PrintsOn K.written K.faults sink.old sink.new result
-        (cards_text (flat_map node_cards nodes.now)) }
+        (flat_map (λ n. cards_text (node_cards n)) nodes.now) }
 {
     for node in nodes {
         print_node(node, line, sink)?;
@@ -99,7 +99,7 @@ fn print_stages<K: Sink>(
     sink: &mut K,
 ) -> Result<(), Failed>
     ensures { PrintsOn K.written K.faults sink.old sink.new result
-        (cards_text (map card.Stage stages.now)) }
+        (flat_map (λ s. card_line (card.Stage s)) stages.now) }
 {
     for stage in stages {
         print_stage(*stage, line, sink)?;
@@ -119,7 +119,7 @@ fn print_stage<K: Sink>(stage: Stage, line: &mut LineBuffer, sink: &mut K) -> Re
 fn print_links<K: Sink>(links: &[Link], line: &mut LineBuffer, sink: &mut K) -> Result<(), Failed>
     requires { All (λ (l : LinkValue). length l.stages ≤ 8) links.now }
     ensures { PrintsOn K.written K.faults sink.old sink.new result
-        (cards_text (map link_card links.now)) }
+        (flat_map (λ l. card_line (link_card l)) links.now) }
 {
     for link in links {
         print_link(link, line, sink)?;
@@ -149,7 +149,7 @@ fn print_link<K: Sink>(link: &Link, line: &mut LineBuffer, sink: &mut K) -> Resu
 /// Writes the FEED cards of each link.
 fn print_feeds<K: Sink>(links: &[Link], line: &mut LineBuffer, sink: &mut K) -> Result<(), Failed>
     ensures { PrintsOn K.written K.faults sink.old sink.new result
-        (cards_text (flat_map feed_cards links.now)) }
+        (flat_map (λ l. cards_text (feed_cards l)) links.now) }
 {
     for link in links {
         print_feeds_of(link.number, &link.feeds, line, sink)?;
@@ -165,7 +165,7 @@ fn print_feeds_of<K: Sink>(
     sink: &mut K,
 ) -> Result<(), Failed>
     ensures { PrintsOn K.written K.faults sink.old sink.new result
-        (cards_text (map (card.Feed link) feeds.now)) }
+        (flat_map (λ f. card_line (card.Feed link f)) feeds.now) }
 {
     for feed in feeds {
         print_feed(link, *feed, line, sink)?;
@@ -190,7 +190,7 @@ fn print_feed<K: Sink>(
 /// Writes the YIELD card of each link that has a give-way rule.
 fn print_rules<K: Sink>(links: &[Link], line: &mut LineBuffer, sink: &mut K) -> Result<(), Failed>
     ensures { PrintsOn K.written K.faults sink.old sink.new result
-        (cards_text (flat_map rule_cards links.now)) }
+        (flat_map (λ l. cards_text (rule_cards l)) links.now) }
 {
     for link in links {
         print_rule(link, line, sink)?;
