@@ -5,6 +5,7 @@ use Rattle.std.proofs.Common.{arith, length-append}
 use Rattle.std.proofs.Math.Bool.{and-false}
 use Rattle.std.specs.List.{list_all}
 use Rattle.std.specs.Option.{option_map}
+use Rattle.std.proofs.lemmas.List.{length-map}
 use Rattle.std.proofs.lemmas.List.Folds.{list_all-append}
 use Rattle.std.proofs.lemmas.Bool.Decides.{nat_tests}
 use Rattle.std.proofs.lemmas.Bool.{and_from}
@@ -19,7 +20,7 @@ use Rattle.transyt_deck.specs.declared.card.Card.TheVariants as c
 use Rattle.transyt_text.specs.Forms.{values_text}
 use Rattle.transyt_deck.specs.Cards.{card_text, card_words}
 use Rattle.transyt_deck.specs.Table.{cards}
-use Rattle.transyt_deck.proofs.NumberTexts.{is_small, length_decimals, numbers_back, numbers_plain, numbers_short}
+use Rattle.transyt_deck.proofs.NumberTexts.{is_small, numbers_back, numbers_plain, numbers_short}
 use Rattle.transyt_deck.proofs.NumberTexts.{words_text}
 
 keyword_tests : (card : Card)
@@ -100,7 +101,7 @@ syntax_card form card fits =
     ap (option_map (λ (e : Entry Card). e.counts)) (entry_card form card fits.small) in
     let number : length (further_words (words text)) ≡ length (card_words card).1 =
     ap (λ (ws : List (List ℕ)). length (further_words ws)) (words_card card fits.small)
-    ∙ length_decimals (card_words card).1 in
+    ∙ length-map (card_words card).1 decimal in
     let count = counted (entry_at form card) (length (card_words card).1) fits.count in
     let plain = and_from (list_all is_plain text) (is_some (counts_of (cards form) text))
     (card_plain card fits.small) (ap (λ (o : Option (ℕ × ℕ)). is_some o) found ∙ count.0) in

@@ -12,12 +12,13 @@ use Rattle.transyt_parts.specs.Valid.{all_differ, feeders, is_fed, link_number, 
 use Rattle.transyt_parts.specs.Made.{add_feed}
 use Rattle.transyt_net.specs.declared.draft.DraftFault.TheVariants.{Range, TooMany, Twice, Unknown}
 use Rattle.transyt_net.specs.Parts.{Network}
+use Rattle.transyt_net.proofs.FoundLaws.{fed_is}
 use Rattle.transyt_net.specs.Valid.{IsFeed, feeds_at, feeds_in, is_among, link_numbers}
 use Rattle.transyt_deck.specs.declared.card.Card.TheVariants as c
 use Rattle.transyt_deck.specs.declared.state.Part.TheVariants as p
 use Rattle.transyt_deck.specs.Cards.{feed_cards}
 use Rattle.transyt_deck.proofs.LinkBlocks.{bare, fed, middle, moved, state, with_feeds}
-use Rattle.transyt_deck.proofs.LinkNumbers.{any_key, key_apart, numbered_one, on_one}
+use Rattle.transyt_deck.proofs.LinkNumbers.{key_apart, numbered_one, on_one}
 use Rattle.transyt_deck.proofs.NodeBlocks.{is_added}
 use Rattle.transyt_deck.proofs.NumberTexts.{is_small}
 use Rattle.transyt_deck.proofs.Reading.{Reads, Upto, reads_each, reads_map, reads_more, reads_none, reads_to}
@@ -43,7 +44,7 @@ feed_read net part us vs l fs g of_link first low is =
     let names = map-append link_number us (with_feeds l fs ∷ vs) ∙ of_link.names in
     let found : feeds_at links l.number ≡ fs = ap feeds_in (numbered_one us vs (with_feeds l fs) of_link.apart) in
     let new : is_fed (feeds_at links l.number) g.feeder ≡ false =
-    ap (λ k. is_fed k g.feeder) found ∙ any_key (λ f. f.feeder) fs g.feeder ∙ first in
+    ap (λ k. is_fed k g.feeder) found ∙ fed_is fs g.feeder ∙ first in
     let known : (is_among (link_numbers links) l.number && is_among (link_numbers links) g.feeder) ≡ true =
     λ j. (ap (λ ks. is_among ks l.number) names ∙ of_link.there) j
     && (ap (λ ks. is_among ks g.feeder) names ∙ is.feeder) j in

@@ -1,11 +1,11 @@
 -- The LINK cards of a valid network make its links again, without feeds and rules.
-use Rattle.std.proofs.Common.{◌≡◌, ℕ, suc, ◌+◌, ◌<◌, ◌≤◌, nat_le, List, [], ◌∷◌, ◌++◌, map, length, Bool, true, false}
-use Rattle.std.proofs.Common.{cond, not, ◌&&◌, ◌||◌, Some, None, Ok, refl, sym, ◌∙◌, ap, arith, append_assoc}
+use Rattle.std.proofs.Common.{◌≡◌, ℕ, suc, ◌+◌, ◌<◌, ◌≤◌, nat_le, List, [], ◌∷◌, ◌++◌, map, length, true, false}
+use Rattle.std.proofs.Common.{cond, not, ◌&&◌, Some, None, Ok, refl, sym, ◌∙◌, ap, arith, append_assoc}
 use Rattle.std.proofs.Common.{length-append, All}
 use Rattle.std.specs.List.{list_all}
 use Rattle.std.proofs.lemmas.List.{map-append, length-map}
 use Rattle.std.proofs.lemmas.Simd.{map-map}
-use Rattle.std.proofs.lemmas.Bool.{lt-leb}
+use Rattle.std.proofs.lemmas.Bool.{lt-leb, not_from_true, or_from}
 use Rattle.std.proofs.lemmas.Bool.Decides.{nat_tests}
 use Rattle.transyt_parts.specs.declared.link.Feed.{Feed}
 use Rattle.transyt_parts.specs.Parts.{LinkValue, NodeValue}
@@ -40,9 +40,6 @@ with_feeds l fs = record l { feeds = fs; gives_way = None }
 -- the state with all nodes of a network and these links
 abbrev pub state : Network → Part → List LinkValue → State
 state net part ls = s.Making 2 part (network_of net.frame net.nodes ls None)
-
-or_false : (a b : Bool) → a ≡ false → b ≡ true → (a || not b) ≡ false
-or_false a b x y = λ j. x j || not (y j)
 
 link_true : (steps : ℕ) (nodes : List NodeValue) (numbers : List ℕ) (l : LinkValue) → IsLink steps nodes numbers l
     → link_in_range steps l ≡ true
@@ -85,8 +82,8 @@ link_read : (net : Network) (part : Upto p.Links) (done : List LinkValue) (l : L
     → All (IsNode net.frame.step_count) net.nodes → is_among (link_numbers done) l.number ≡ false → length done < 1000
     → IsOne net l → Reads (state net part.0 (map bare done)) (link_card l ∷ []) (state net p.Links (map bare (done ++ l ∷ [])))
 link_read net part done l short nodes before low is =
-    let new = or_false (is_among (link_numbers (map bare done)) l.number) (all_differ l.stages)
-    (ap (λ ks. is_among ks l.number) (map-map link_number bare done) ∙ before) is.stages_differ in
+    let new = or_from (is_among (link_numbers (map bare done)) l.number) (not (all_differ l.stages))
+    (ap (λ ks. is_among ks l.number) (map-map link_number bare done) ∙ before) (not_from_true _ is.stages_differ) in
     let steps = stages_at net.nodes l.node in
     let stages = each_passes (IsWithin 1 steps) (within 1 steps) (λ n h. within_true 1 steps n h.0 h.1) l.stages is.stages in
     let known : (is_among (node_numbers net.nodes) l.node

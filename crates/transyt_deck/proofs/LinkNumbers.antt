@@ -27,12 +27,6 @@ pub key_apart : {A : Type 0} (key : A → ℕ) (xs ys : List A) (x : A)
     → all_differ (map key (xs ++ x ∷ ys)) ≡ true → is_among (map key xs) (key x) ≡ false
 key_apart key xs ys x h = apart (map key xs) (map key ys) (key x) (ap all_differ (sym (map-append key xs (x ∷ ys))) ∙ h)
 
--- a test of keys, over the list or over its keys
-pub any_key : {A : Type 0} (key : A → ℕ) (xs : List A) (n : ℕ)
-    → list_any (λ x. nat_eq n (key x)) xs ≡ is_among (map key xs) n
-any_key key [] n = refl
-any_key key (x ∷ xs) n = ap (λ (b : Bool). nat_eq n (key x) || b) (any_key key xs n)
-
 -- a number equals itself
 pub is_itself : (n : ℕ) → nat_eq n n ≡ true
 is_itself n = eq-eqb n n refl

@@ -1,12 +1,11 @@
 -- The deck text of a valid network is the deck of that network.
 use Rattle.std.proofs.Common.{◌≡◌, ℕ, suc, ◌+◌, ◌-◌, ◌<◌, ◌≤◌, nat_le, List, [], ◌∷◌, ◌++◌, map, length, true, cond}
 use Rattle.std.proofs.Common.{not, ◌&&◌, Option, Some, None, Ok, refl, ◌∙◌, ap, arith, append_assoc, flat_map}
-use Rattle.std.proofs.Common.{length-append, All, IfSome}
+use Rattle.std.proofs.Common.{length-append, IfSome}
 use Rattle.std.specs.List.{list_all}
 use Rattle.std.specs.Option.{option_map}
 use Rattle.std.proofs.lemmas.Grind.{flat_map-append}
 use Rattle.transyt_deck.proofs.CardTexts.{Fits}
-use Rattle.std.proofs.lemmas.List.Elements.{All-head, All-tail}
 use Rattle.std.proofs.lemmas.Bool.Decides.{nat_tests}
 use Rattle.transyt_io.specs.Lines.{lines}
 use Rattle.transyt_syntax.specs.declared.code.Code.TheVariants as code
@@ -14,9 +13,9 @@ use Rattle.transyt_syntax.specs.Findings.{when}
 use Rattle.transyt_syntax.specs.Syntax.{unless}
 use Rattle.transyt_parts.specs.declared.frame.Frame.{Frame}
 use Rattle.transyt_parts.specs.declared.stage_plan.PlanFault.{PlanFault}
-use Rattle.transyt_parts.specs.Parts.{NodeValue, PlanValue}
+use Rattle.transyt_parts.specs.Parts.{PlanValue}
 use Rattle.transyt_parts.specs.Valid.{IsFrame, IsPlan, is_frame, within}
-use Rattle.transyt_parts.specs.Plan.{first_fault, first_of, plan_fault}
+use Rattle.transyt_parts.proofs.PlanLaws.{none_first}
 use Rattle.transyt_net.specs.declared.draft.DraftFault.TheVariants.{Range}
 use Rattle.transyt_net.specs.Parts.{Network}
 use Rattle.transyt_net.specs.Valid.{IsSound, IsValid}
@@ -37,15 +36,6 @@ use Rattle.transyt_deck.proofs.NumberTexts.{is_small}
 use Rattle.transyt_deck.proofs.Reading.{Reads, Upto, next_card, reads_both, reads_more, reads_none}
 use Rattle.transyt_deck.proofs.RuleBlocks.{rules_read}
 use Rattle.transyt_deck.proofs.Small.{each_passes, small_le, within_true}
-
--- no node of a valid network has a fault
-no_plan_fault : (n : ℕ) (nodes : List NodeValue) → All (λ node. plan_fault n node.stages ≡ None) nodes
-    → first_fault n nodes ≡ None
-no_plan_fault n [] h = refl
-no_plan_fault n (node ∷ nodes) h =
-    let P : NodeValue → Type 0 = λ node. plan_fault n node.stages ≡ None in
-    let here : plan_fault n node.stages ≡ None = All-head P node nodes h in
-    λ j. first_of (here j) (no_plan_fault n nodes (All-tail P node nodes h) j)
 
 plan_count : (n : ℕ) → 1 ≤ n → n ≤ 16 → (nat_le 2 (suc n) && nat_le (suc n) 17) ≡ true
 plan_count n x y = grind (arith, nat_tests)
@@ -135,7 +125,7 @@ unfolding values_text
 deck_read_back net h =
     let front = c.Form 2 ∷ inside net in
     let read = all_read net h.sound in
-    let fine = no_plan_fault net.frame.step_count net.nodes h.planned in
+    let fine = none_first net.frame.step_count net.nodes h.planned in
     let fits : Fits 2 c.End = record { small = refl; few = omega arith; count = refl; back = refl } in
     let count : (0 + length front) + 1 ≡ length (deck_cards net) =
     omega (arith, ap (λ (l : List Card). length l) (cards_are net), length-append front (c.End ∷ [])) in

@@ -7,9 +7,10 @@ use Rattle.std.proofs.lemmas.List.Concat.{flat_map_single}
 use Rattle.std.proofs.lemmas.List.Elements.{All-head, All-tail}
 use Rattle.std.proofs.lemmas.Grind.{flat_map-append}
 use Rattle.std.proofs.lemmas.Bool.Decides.{nat_tests}
-use Rattle.std.proofs.lemmas.Bool.{and_parts}
+use Rattle.std.proofs.lemmas.Bool.{and_parts, or_from}
 use Rattle.std.proofs.Common.{length-append}
-use Rattle.transyt_io.specs.Lines.{cut, line_of, lines, onto_first}
+use Rattle.transyt_io.specs.Lines.{has_end, line_of, lines}
+use Rattle.transyt_io.proofs.Lines.{cut_line}
 use Rattle.transyt_syntax.specs.Syntax.{is_plain}
 use Rattle.transyt_deck.specs.declared.card.Card.{Card}
 use Rattle.transyt_deck.specs.declared.state.Part.{Part}
@@ -25,16 +26,11 @@ plain_no_feed b h = grind (arith, nat_tests)
 plain_no_return : (b : ℕ) → is_plain b ≡ true → (b == 13) ≡ false
 plain_no_return b h = grind (arith, nat_tests)
 
-feed_by : (t : Bool) (b : ℕ) (bs : List ℕ) (ls us : List (List ℕ)) → t ≡ false → us ≡ bs ∷ ls
-    → cond t ([] ∷ us) (onto_first true b us) ≡ (b ∷ bs) ∷ ls
-feed_by true b bs ls us x y = absurd (cc)
-feed_by false b bs ls us x y = ap (onto_first true b) y
-
-no_line_feed : (bs rest : List ℕ) → list_all is_plain bs ≡ true → cut true (bs ++ 10 ∷ rest) ≡ bs ∷ cut true rest
-no_line_feed [] rest h = refl
-no_line_feed (b ∷ bs) rest h =
+no_line_end : (bs : List ℕ) → list_all is_plain bs ≡ true → has_end bs ≡ false
+no_line_end [] h = refl
+no_line_end (b ∷ bs) h =
     let both = and_parts (is_plain b) (list_all is_plain bs) h in
-    feed_by (b == 10) b bs (cut true rest) _ (plain_no_feed b both.0) (no_line_feed bs rest both.1)
+    or_from (b == 10) (has_end bs) (plain_no_feed b both.0) (no_line_end bs both.1)
 
 -- a plain byte at each place, 0 past the end
 plain_at : (bs : List ℕ) (i : ℕ) → list_all is_plain bs ≡ true → (slice_index bs i == 13) ≡ false
@@ -60,7 +56,7 @@ first_line form card more rest fits =
     let whole : ((text ++ 10 ∷ []) ++ more) ++ rest ≡ text ++ 10 ∷ (more ++ rest) = simp append_assoc in
     let plain = card_plain card fits.small in
     ap lines whole
-    ∙ ap (map line_of) (no_line_feed text (more ++ rest) plain)
+    ∙ ap (map line_of) (cut_line true text (more ++ rest) (no_line_end text plain))
     ∙ ap (λ (l : List ℕ). l ∷ lines (more ++ rest)) (line_same text plain (card_short card fits.small fits.few))
 
 -- the text of cards, read from a state on, comes to a state, whatever follows

@@ -1,13 +1,15 @@
 -- The numbers of a valid network are small enough for a card.
-use Rattle.std.proofs.Common.{◌≡◌, ℕ, ◌<◌, ◌≤◌, nat_eq, nat_le, List, [], ◌∷◌, map, length, Bool, true, false, cond, Option}
-use Rattle.std.proofs.Common.{Some, ◌∙◌, ap, arith, inl, inr, All}
+use Rattle.std.proofs.Common.{◌≡◌, ℕ, ◌<◌, ◌≤◌, nat_le, List, map, length, Bool, true, Option, None, refl, sym}
+use Rattle.std.proofs.Common.{Some, ◌∙◌, ap, arith, All}
 use Rattle.std.specs.List.{list_all}
-use Rattle.std.proofs.lemmas.List.Elements.{All-head, All-tail, All-weaker}
+use Rattle.std.proofs.lemmas.List.Elements.{All-weaker}
 use Rattle.std.proofs.lemmas.List.Sums.{list_all-from_AllPass}
-use Rattle.std.proofs.lemmas.Bool.{and_from, or_cases, eqb-true, le-leb}
+use Rattle.std.proofs.lemmas.Bool.{and_from, le-leb}
 use Rattle.std.proofs.lemmas.Bool.Decides.{nat_tests}
 use Rattle.transyt_parts.specs.Parts.{LinkValue, NodeValue}
 use Rattle.transyt_net.specs.Parts.{Network}
+use Rattle.transyt_net.proofs.EditLaws.{all_numbered}
+use Rattle.transyt_net.proofs.FoundLaws.{numbered_key, some_numbered}
 use Rattle.transyt_net.specs.Valid.{IsLink, is_among, link_numbers, numbered, stage_total, stages_at}
 use Rattle.transyt_parts.specs.Valid.{IsNode, node_number, within}
 use Rattle.transyt_deck.proofs.NumberTexts.{is_small}
@@ -36,20 +38,17 @@ each_passes Is test passes ns h = list_all-from_AllPass test ns (All-weaker Is (
 -- the number of a node or a link is small
 pub small_named : {A : Type 0} (Is : A → Type 0) (key : A → ℕ) → ((y : A) → Is y → key y ≤ 99999) → (x : ℕ) (ys : List A)
     → All Is ys → is_among (map key ys) x ≡ true → is_small x ≡ true
-small_named Is key low x [] h e = absurd (cc)
-small_named Is key low x (y ∷ ys) h e = elim (or_cases (nat_eq x (key y)) (is_among (map key ys) x) e) [
-  | inl here ↦ ap is_small (eqb-true x (key y) here) ∙ small_le 99999 (key y) (low y (All-head Is y ys h)) (omega arith)
-  | inr there ↦ small_named Is key low x ys (All-tail Is y ys h) there
-]
+small_named Is key low x ys h e =
+    let found = some_numbered key ys x e in
+    let y = found.0 in
+    ap is_small (sym (numbered_key key ys x y found.1)) ∙ small_le 99999 (key y) (low y (all_numbered Is key ys x y h found.1)) (omega arith)
 
-few_by : (b : Bool) (node : NodeValue) (found : Option NodeValue) → length node.stages ≤ 8 → stage_total found ≤ 8
-    → stage_total (cond b (Some node) found) ≤ 8
-few_by true node found x y = x
-few_by false node found x y = y
+few_in : (found : Option NodeValue) → ((node : NodeValue) → found ≡ Some node → length node.stages ≤ 8)
+    → stage_total found ≤ 8
+few_in None few = omega arith
+few_in (Some node) few = few node refl
 
 -- no node has more than eight stages
 pub few_stages : (n x : ℕ) (nodes : List NodeValue) → All (IsNode n) nodes → stages_at nodes x ≤ 8
-few_stages n x [] h = omega arith
-few_stages n x (node ∷ nodes) h =
-    few_by (nat_eq x node.number) node (numbered node_number nodes x) (All-head (IsNode n) node nodes h).stage_count
-    (few_stages n x nodes (All-tail (IsNode n) node nodes h))
+few_stages n x nodes h =
+    few_in (numbered node_number nodes x) (λ node is. (all_numbered (IsNode n) node_number nodes x node h is).stage_count)

@@ -4,7 +4,6 @@ use Rattle.transyt_deck.specs.Deck.{is_open}
 use Rattle.transyt_deck.proofs.Cutting.{HasTaken}
 use Rattle.transyt_deck.proofs.cut.cut_deck.Given as goal
 
--- the reader has taken the lines before the rest
 abbrev pub invariant-loop-line : goal.invariant-loop-line
 invariant-loop-line l = record {
   live : l.reader.live ≡ true;
