@@ -249,13 +249,9 @@ fn add_link(part: &mut Part, draft: &mut Draft, link: NewLink, stages: &Numbers)
     if !part.is_up_to(Part::Links) {
         return Err(Stop::Code(Code::OutOfPlace));
     }
-    match draft.link(link, stages.as_slice()) {
-        Ok(()) => {
-            *part = Part::Links;
-            Ok(())
-        }
-        Err(fault) => stopped(Err(fault)),
-    }
+    stopped(draft.link(link, stages.as_slice()))?;
+    *part = Part::Links;
+    Ok(())
 }
 
 /// A FEED card.
