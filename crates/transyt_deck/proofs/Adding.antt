@@ -1,6 +1,6 @@
--- The lists of a card that is read, and the deck after a line.
+-- A card that the network refuses, and the deck after a line.
 use Rattle.std.proofs.Common.{◌≡◌, ℕ, zero, suc, ◌+◌, List, [], ◌∷◌, ◌++◌, true, Result, Ok, Err}
-use Rattle.std.proofs.Common.{refl, not, is_some, IsOk}
+use Rattle.std.proofs.Common.{refl, not, is_some, IsOk, Bool, Option, Some, OnErr, arith}
 use Rattle.std.specs.List.{fold}
 use Rattle.std.proofs.lemmas.List.Sums.{fold-append}
 use Rattle.transyt_io.specs.Lines.{after_first_line}
@@ -8,9 +8,25 @@ use Rattle.transyt_syntax.specs.declared.code.Code.{Code}
 use Rattle.transyt_deck.specs.declared.state.Part.TheVariants as p
 use Rattle.transyt_deck.specs.declared.state.State.{State}
 use Rattle.transyt_deck.specs.declared.state.State.TheVariants as s
+use Rattle.std.specs.Result.{IsErrAnd}
+use Rattle.std.proofs.lemmas.Grind.{common_steps}
+use Rattle.transyt_net.specs.Parts.{Network}
+use Rattle.transyt_net.specs.Refuses.{Refuses}
+use Rattle.transyt_net.specs.declared.draft.DraftFault.{DraftFault}
+use Rattle.transyt_net.specs.declared.draft.DraftFault.TheVariants.{Memory}
+use Rattle.transyt_deck.specs.declared.state.Part.{Part}
+use Rattle.transyt_deck.specs.declared.state.Stop.{Stop}
+use Rattle.transyt_deck.specs.Adds.{Adds, stopped}
 use Rattle.transyt_deck.specs.Cut.{after_lines}
 use Rattle.transyt_deck.specs.Deck.{Complete, Deck, Open, Refused, deck, deck_at, deck_by, start, code_of, is_complete, is_open, line_count, next}
-use Rattle.transyt_deck.specs.State.{state_after}
+use Rattle.transyt_deck.specs.State.{placed, state_after}
+
+-- a card in its place that the network refuses, or has no memory for
+pub adds_stopped : (fits : Bool) (first : Option DraftFault) (part to : Part) (old new net : Network)
+    (call : Result (Unit {0}) DraftFault) (made r : Result (Unit {0}) Stop) (stop : Stop)
+    → fits ≡ true → Refuses call first (Some Memory) → OnErr call (new ≡ old) → made ≡ stopped call
+    → made ≡ Err stop → IsErrAnd r (λ e. e ≡ stop) → Adds (placed fits first to net) (part, old) (part, new) r
+adds_stopped fits first part to old new net call made r stop fit refuses same is was told = grind (arith, common_steps)
 
 count_at : (n : ℕ) (state : State) → line_count (deck_at n state) ≡ n
 count_at n (s.Making form p.End net) = refl
