@@ -1,7 +1,7 @@
 -- The worked decks and codes, computed from the definitions.
 use Rattle.std.proofs.Common.{◌≡◌, map, refl}
 use Rattle.transyt_deck.specs.Deck.{Complete, code, deck}
-use Rattle.transyt_deck.specs.WorkedCodes.{coded, each_card, places}
+use Rattle.transyt_deck.specs.WorkedCodes.{coded, each_card, numbered, places}
 use Rattle.transyt_deck.specs.WorkedTown.{town, town_net, town_text}
 use Rattle.transyt_deck.specs.WorkedVillage.{bytes_of, cuts, finishes, village, village_net}
 use Rattle.transyt_deck.specs.Cards.{deck_text}
@@ -15,11 +15,11 @@ pub town_is : deck town ≡ Complete 34 town_net
 town_is = refl
 
 -- each card in each place has its code
-pub places_are : map (λ row. map (code row.0) each_card) places ≡ map (λ row. row.1) places
+pub places_are : map (λ row. map (λ card. numbered (code row.0 card)) each_card) places ≡ map (λ row. row.1) places
 places_are = refl
 
 -- each line has its code
-pub coded_are : map (λ row. code row.0 row.1) coded ≡ map (λ row. row.2) coded
+pub coded_are : map (λ row. numbered (code row.0 row.1)) coded ≡ map (λ row. row.2) coded
 coded_are = refl
 
 -- the deck of form 1 has its network
