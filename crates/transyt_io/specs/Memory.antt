@@ -36,25 +36,13 @@ given_count supply room = min (min supply.piece room) (length supply.left)
 
 -- the source after a call that gave n bytes
 abbrev pub supply_after : Supply → ℕ → Supply
-supply_after supply n = record {
-  left = drop n supply.left;
-  piece = supply.piece;
-  fail = supply.fail;
-  calls = next_count supply.calls;
-  faults = supply.faults;
-  last = n;
-}
+supply_after supply n =
+    record supply { left = drop n supply.left; calls = next_count supply.calls; last = n }
 
 -- the source after a call that failed
 abbrev pub supply_after_fault : Supply → Supply
-supply_after_fault supply = record {
-  left = supply.left;
-  piece = supply.piece;
-  fail = supply.fail;
-  calls = next_count supply.calls;
-  faults = next_count supply.faults;
-  last = 0;
-}
+supply_after_fault supply =
+    record supply { calls = next_count supply.calls; faults = next_count supply.faults; last = 0 }
 
 -- the view of a SteadySource
 pub record Stock : Type 0 where
@@ -96,22 +84,12 @@ taken_count store size = min (min store.piece size) store.room
 
 -- the sink after a call that took these bytes
 abbrev pub store_after : Store → List ℕ → Store
-store_after store bytes = record {
+store_after store bytes = record store {
   written = store.written ++ bytes;
   room = store.room - length bytes;
-  piece = store.piece;
-  fail = store.fail;
   calls = next_count store.calls;
-  faults = store.faults;
 }
 
 -- the sink after a call that failed
 abbrev pub store_after_fault : Store → Store
-store_after_fault store = record {
-  written = store.written;
-  room = store.room;
-  piece = store.piece;
-  fail = store.fail;
-  calls = next_count store.calls;
-  faults = next_count store.faults;
-}
+store_after_fault store = record store { calls = next_count store.calls; faults = next_count store.faults }

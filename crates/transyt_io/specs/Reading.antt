@@ -65,5 +65,4 @@ new_reading = record { taken = 0; held = []; ended = false; live = true; line = 
 -- the answer is a line
 abbrev pub is_text : Result Line ReadStop → Bool
 is_text (Ok Text) = true
-is_text (Ok End) = false
-is_text (Err stop) = false
+is_text _ = false
