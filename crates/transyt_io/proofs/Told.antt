@@ -15,10 +15,6 @@ takes_both a b None xs ys h k = h ∙ ap (option_map (λ rest. xs ++ rest)) k
 takes_both a b (Some rest) xs ys h k =
     h ∙ ap (option_map (λ rest. xs ++ rest)) k ∙ ap Some (sym (append_assoc xs ys rest))
 
--- a read that failed took nothing more
-pub takes_no_more : (a b c : Option (List ℕ)) (xs : List ℕ) → Takes a b xs → c ≡ b → Takes a c (xs ++ [])
-takes_no_more a b c xs h same = takes_both a b c xs [] h (sym same ∙ takes_nothing c)
-
 -- no write adds nothing
 pub adds_nothing : (told : Option (List ℕ)) → Adds told told []
 adds_nothing None = refl

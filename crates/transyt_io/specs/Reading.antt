@@ -1,6 +1,6 @@
 -- The bytes that a line reader took, the lines that it handed out, and the effect of `next` on both.
 use Rattle.std.specs.Prelude.{◌≡◌, ◌≤◌, ◌⊎◌, ℕ, ◌+◌, ◌-◌, ◌*◌, ◌++◌, List, [], ◌∷◌, Bool, true, false, Option, Some}
-use Rattle.std.specs.Prelude.{None, Result, Ok, Err, IfSome, MatchResult, length, take}
+use Rattle.std.specs.Prelude.{None, Result, Ok, IfSome, MatchResult, length, take}
 use Rattle.transyt_io.specs.declared.reader.Line.{Line}
 use Rattle.transyt_io.specs.declared.reader.Line.TheVariants.{Text, End}
 use Rattle.transyt_io.specs.declared.reader.ReadStop.{ReadStop}

@@ -3,7 +3,6 @@ use Rattle.std.proofs.Common.{◌≡◌, ◌∙◌, ◌+◌, sym, arith, ap, Lis
 use Rattle.std.proofs.lemmas.Bool.{eqb-true}
 use Rattle.transyt_io.specs.Lines.{line_of, lines_by, has_end}
 use Rattle.transyt_io.proofs.Lines.{no_end_in, no_end_more, kept_more, line_of_kept, gathered_line, length_kept}
-use Rattle.transyt_io.proofs.Lines.{length_line}
 use Rattle.transyt_io.proofs.gather.gather.Goals as goal
 
 -- no more is kept than there is room for
@@ -20,10 +19,6 @@ returns-in_default-clause-gathered c raw h =
       first = c.keep.ensures.line ∙ ap (λ (xs : List ℕ). take 4098 (xs ++ piece)) h.first ∙ kept_more 4098 raw piece;
       open_yet = no_end_more raw piece h.open_yet none;
     }
-
--- a line is within what is kept
-pub returns-clause-kept : goal.returns-clause-kept
-returns-clause-kept c = rw c.close.ensures.line (length_line c.keep-2.new.line.items)
 
 -- the line ends at the first line end of the piece
 pub returns-clause-gathered : goal.returns-clause-gathered
