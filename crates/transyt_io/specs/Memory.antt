@@ -11,19 +11,14 @@ next_count n = min (n + 1) last_count
 abbrev pub fails_next : List ℕ → ℕ → Bool
 fails_next fail calls = nat_lt calls 4294967295 && list_any (λ number. number == calls + 1) fail
 
--- the view of a MemorySource
+-- the view of a MemorySource: the bytes left, the most bytes that one call gives, the numbers of the calls that fail,
+-- from 1, how many calls there were and how many failed, and how many bytes the last call gave
 pub record Supply : Type 0 where
-  -- the bytes left
   pub left : List ℕ
-  -- the most bytes that one call gives
   pub piece : ℕ
-  -- the numbers of the calls that fail, from 1
   pub fail : List ℕ
-  -- how many calls there were
   pub calls : ℕ
-  -- how many calls failed
   pub faults : ℕ
-  -- how many bytes the last call gave
   pub last : ℕ
 
 -- a source that nothing was read from
@@ -44,30 +39,23 @@ abbrev pub supply_after_fault : Supply → Supply
 supply_after_fault supply =
     record supply { calls = next_count supply.calls; faults = next_count supply.faults; last = 0 }
 
--- the view of a SteadySource
+-- the view of a SteadySource: the bytes left, and how many bytes the last call gave
 pub record Stock : Type 0 where
-  -- the bytes left
   pub left : List ℕ
-  -- how many bytes the last call gave
   pub last : ℕ
 
 -- a steady source after a call that gave n bytes
 abbrev pub stock_after : Stock → ℕ → Stock
 stock_after stock n = record { left = drop n stock.left; last = n }
 
--- the view of a MemorySink
+-- the view of a MemorySink: the bytes written, how many more it takes, the most bytes that one call takes, the numbers
+-- of the calls that fail, from 1, and how many calls there were and how many failed
 pub record Store : Type 0 where
-  -- the bytes written
   pub written : List ℕ
-  -- how many more bytes it takes
   pub room : ℕ
-  -- the most bytes that one call takes
   pub piece : ℕ
-  -- the numbers of the calls that fail, from 1
   pub fail : List ℕ
-  -- how many calls there were
   pub calls : ℕ
-  -- how many calls failed
   pub faults : ℕ
 
 -- a sink that nothing was written to
