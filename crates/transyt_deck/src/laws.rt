@@ -31,7 +31,7 @@ pub fn line_by_line()
 /// The worked decks, in which no number is neutral, have the networks that are written beside the definitions;
 /// each card in each place, each line of `coded`, the text of a network, the cuts, and what a reader finishes with, come
 /// out as they are written there; a reader is out of memory only where the line that it took has no code.
-#[tactic(auto, using(crate::proofs::Worked::town_is, crate::proofs::Worked::places_are, crate::proofs::Worked::coded_are, crate::proofs::Worked::village_is, crate::proofs::Worked::text_is, crate::proofs::Worked::cuts_are, crate::proofs::Worked::finishes_are))]
+#[tactic(auto, using(crate::proofs::Worked::text_is))]
 pub fn worked_decks()
     ensures town { deck town ≡ Complete 34 town_net }
     ensures places { map (λ row. map (λ card. numbered (code row.0 card)) each_card) places
