@@ -27,7 +27,7 @@ use Rattle.transyt_deck.proofs.Small.{AreLinks, IsOne, small_le, small_named}
 feed_true : (numbers : List ℕ) (f : Feed) → IsFeed numbers f → feed_in_range f ≡ true
 feed_true numbers f h = grind (arith, nat_tests)
 
--- what stays the same while the FEED cards of one link are read
+-- the facts that stay while the FEED cards of one link are read
 record IsFeeding (net : Network) (us vs : List LinkValue) (l : LinkValue) : Type 0 where
   valid : AreLinks net net.links
   small : is_small l.number ≡ true

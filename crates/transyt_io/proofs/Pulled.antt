@@ -217,7 +217,7 @@ module _ (old new : Reading) (line line_new block : List ℕ) (taken taken_new :
       reads_end old new left left_new last last_new p.front p.back b.going p.takes (pulled_reads (Ok None) p)
       a.at_end nothing (omega (arith, g.count))
 
-  -- what stopped a call that read on
+  -- a call that read on was stopped
   pub reads_stop : (stop : ReadStop) → Pulled line line_new block taken taken_new left left_new last_new (Err stop)
       → ReadsLine old new left left_new last last_new (Err stop)
   reads_stop Fault p =

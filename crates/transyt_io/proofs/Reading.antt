@@ -108,7 +108,7 @@ hand_last old new left left_new got taken given going ended empty count at_end n
 module _ (old new : Reading) (left left_new : Option (List ℕ)) (last last_new : Option ℕ) (front back : List ℕ)
     (going : old.ended ≡ false) (takes : Takes left left_new (front ++ back))
     (reads : TellsReads old left last last_new front back) where
-  -- what the call says of a reader before it is what it says
+  -- the call by its meaning for each reader before it
   told : (result : Result Line ReadStop) → ((taken : List ℕ) (given : List (List ℕ)) → HasRead old left taken given
       → MatchResult result (AnswerSays new left_new (taken ++ (front ++ back)) given)
       (StopSays (taken ++ (front ++ back)) given))

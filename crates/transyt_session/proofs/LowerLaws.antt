@@ -8,7 +8,7 @@ use Rattle.transyt_sweep.specs.Climb.{index_with, is_below}
 use Rattle.transyt_sweep.specs.Sweeps.{index}
 use Rattle.transyt_session.specs.Session.{net_with, edited_net, lower_index}
 
--- what is answered where the edit is allowed and was made
+-- the answer where the edit is allowed and was made
 pub lower_is : (net after : Network) (e : Edit) (found bound : ℕ) (lowers : Bool) → edit_fault net e ≡ None
     → after ≡ edited_net net e → found ≡ index after → bound ≡ index net → nat_lt found bound ≡ lowers
     → lower_index net e ≡ (if lowers then Some found else None)
