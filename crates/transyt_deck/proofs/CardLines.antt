@@ -32,30 +32,28 @@ pub one_printed : {T E : Type 0} {a b : Option (List ℕ)} {f g : ℕ} (r : Resu
     → Prints {T = T} {E = E} a b f g r (card_line card) → Prints {T = T} {E = E} a b f g r (cards_text (card ∷ []))
 one_printed r card h = prints_same _ _ r _ _ h (sym (append-nil (card_line card)))
 
--- the text of a part and what comes after it
-part : (cards more : List Card) (text : List ℕ) → text ≡ cards_text more
-    → cards_text cards ++ text ≡ cards_text (cards ++ more)
-part cards more text same =
-    ap (λ (l : List ℕ). cards_text cards ++ l) same ∙ sym (flat_map-append card_line cards more)
-
 -- the parts of a deck's text, each after the other
 abbrev pub parts_text : Frame → List NodeValue → List LinkValue → Option PlanValue → List ℕ
 parts_text frame nodes links plan =
     cards_text (Form 2 ∷ Cycle frame ∷ [])
-    ++ (cards_text (flat_map node_cards nodes) ++ (cards_text (map link_card links)
-    ++ (cards_text (flat_map feed_cards links) ++ (cards_text (flat_map rule_cards links)
-    ++ (cards_text (plan_cards plan) ++ card_line End)))))
+    ++ (flat_map (λ n. cards_text (node_cards n)) nodes ++ (flat_map (λ l. card_line (link_card l)) links
+    ++ (flat_map (λ l. cards_text (feed_cards l)) links ++ (flat_map (λ l. cards_text (rule_cards l)) links
+    ++ (cards_text (plan_cards plan) ++ cards_text (End ∷ []))))))
 
--- those of a network are its deck text
-whole : (net : Network) → parts_text net.frame net.nodes net.links net.plan ≡ deck_text net
-whole net =
-    part (Form 2 ∷ Cycle net.frame ∷ []) _ _ (part (flat_map node_cards net.nodes) _ _
-    (part (map link_card net.links) _ _ (part (flat_map feed_cards net.links) _ _
-    (part (flat_map rule_cards net.links) _ _ (part (plan_cards net.plan) (End ∷ []) _
-    (sym (append-nil (card_line End))))))))
+texts : (a b c d e f g : List Card)
+    → cards_text a ++ (cards_text b ++ (cards_text c ++ (cards_text d ++ (cards_text e ++ (cards_text f ++ cards_text g)))))
+    ≡ cards_text (a ++ (b ++ (c ++ (d ++ (e ++ (f ++ g))))))
+texts a b c d e f g = simp flat_map-append
 
--- the same of what stands for a network's parts
+-- those of what stands for a network's parts are its deck text
 pub parts_are : {frame : Frame} {nodes : List NodeValue} {links : List LinkValue} {plan : Option PlanValue} (net : Network)
     → frame ≡ net.frame → nodes ≡ net.nodes → links ≡ net.links → plan ≡ net.plan
     → parts_text frame nodes links plan ≡ deck_text net
-parts_are net f n l p = (λ j. parts_text (f j) (n j) (l j) (p j)) ∙ whole net
+parts_are net f n l p =
+    (λ j. parts_text (f j) (n j) (l j) (p j))
+    ∙ (λ j. cards_text (Form 2 ∷ Cycle net.frame ∷ [])
+    ++ (lines_of_each node_cards net.nodes j ++ (lines_of_map link_card net.links j
+    ++ (lines_of_each feed_cards net.links j ++ (lines_of_each rule_cards net.links j
+    ++ (cards_text (plan_cards net.plan) ++ cards_text (End ∷ [])))))))
+    ∙ texts (Form 2 ∷ Cycle net.frame ∷ []) (flat_map node_cards net.nodes) (map link_card net.links)
+    (flat_map feed_cards net.links) (flat_map rule_cards net.links) (plan_cards net.plan) (End ∷ [])

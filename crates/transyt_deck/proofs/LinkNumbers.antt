@@ -22,28 +22,10 @@ apart (z ∷ xs) ys x h =
     let here = (or_parts (nat_eq z x) (list_any (nat_eq z) ys) ((or_parts (list_any (nat_eq z) xs) _ none).1)).0 in
     λ j. turned z x here j || apart xs ys x parts.1 j
 
--- nor after it
-apart_later : (xs ys : List ℕ) (x : ℕ) → all_differ (xs ++ x ∷ ys) ≡ true → is_among ys x ≡ false
-apart_later [] ys x h = not-true _ ((and_parts (not (list_any (nat_eq x) ys)) (all_differ ys) h).0)
-apart_later (z ∷ xs) ys x h =
-    apart_later xs ys x ((and_parts (not (list_any (nat_eq z) (xs ++ x ∷ ys))) (all_differ (xs ++ x ∷ ys)) h).1)
-
 -- the same of the keys of a list
 pub key_apart : {A : Type 0} (key : A → ℕ) (xs ys : List A) (x : A)
     → all_differ (map key (xs ++ x ∷ ys)) ≡ true → is_among (map key xs) (key x) ≡ false
 key_apart key xs ys x h = apart (map key xs) (map key ys) (key x) (ap all_differ (sym (map-append key xs (x ∷ ys))) ∙ h)
-
--- nor is it among the keys after it
-pub key_apart_later : {A : Type 0} (key : A → ℕ) (xs ys : List A) (x : A)
-    → all_differ (map key (xs ++ x ∷ ys)) ≡ true → is_among (map key ys) (key x) ≡ false
-key_apart_later key xs ys x h =
-    apart_later (map key xs) (map key ys) (key x) (ap all_differ (sym (map-append key xs (x ∷ ys))) ∙ h)
-
--- a test of keys, over the list or over its keys
-pub any_key : {A : Type 0} (key : A → ℕ) (xs : List A) (n : ℕ)
-    → list_any (λ x. nat_eq n (key x)) xs ≡ is_among (map key xs) n
-any_key key [] n = refl
-any_key key (x ∷ xs) n = ap (λ (b : Bool). nat_eq n (key x) || b) (any_key key xs n)
 
 -- a number equals itself
 pub is_itself : (n : ℕ) → nat_eq n n ≡ true
@@ -74,8 +56,3 @@ numbered_one (u ∷ us) vs l h =
     let both = or_parts (nat_eq l.number u.number) (is_among (link_numbers us) l.number) h in
     ap (λ (b : Bool). cond b (Some u) (numbered link_number (us ++ l ∷ vs) l.number)) both.0
     ∙ numbered_one us vs l both.1
-
--- one function after another, along a list
-pub map_twice : {A B C : Type 0} (g : B → C) (f : A → B) (xs : List A) → map g (map f xs) ≡ map (λ x. g (f x)) xs
-map_twice g f [] = refl
-map_twice g f (x ∷ xs) = ap (λ (l : List _). g (f x) ∷ l) (map_twice g f xs)

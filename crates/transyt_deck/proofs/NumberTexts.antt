@@ -1,7 +1,7 @@
 -- Numbers written on a line: their words, their bytes, and what is read again.
-use Rattle.std.proofs.Common.{◌≡◌, ℕ, suc, ◌*◌, ◌<◌, ◌≤◌, nat_lt, List, [], ◌∷◌, ◌++◌, map, filter, length, Bool}
+use Rattle.std.proofs.Common.{◌≡◌, ℕ, ◌*◌, ◌<◌, ◌≤◌, nat_lt, List, [], ◌∷◌, ◌++◌, map, filter, length, Bool}
 use Rattle.std.proofs.Common.{true, false, cond, not, Option, Some, refl, ◌∙◌, ap, option_and_then, decimal, arith}
-use Rattle.std.proofs.Common.{length-append}
+use Rattle.std.proofs.Common.{append_assoc, length-append, sym}
 use Rattle.std.specs.List.{list_all, slice_split, onto_first}
 use Rattle.std.specs.Option.{option_map}
 use Rattle.std.specs.Char.{is_ascii_digit}
@@ -12,8 +12,7 @@ use Rattle.std.proofs.lemmas.Str.Parse.{digit_at}
 use Rattle.std.proofs.lemmas.List.{append-nil}
 use Rattle.std.proofs.lemmas.List.Folds.{list_all-append}
 use Rattle.std.proofs.lemmas.Bool.Decides.{nat_tests}
-use Rattle.std.proofs.lemmas.Bool.{and_parts, and_from}
-use Rattle.transyt_num.specs.Number.{number_of}
+use Rattle.std.proofs.lemmas.Bool.{and_parts, and_from, not_from_false}
 use Rattle.transyt_num.proofs.NumberLaws.{number_of-decimal}
 use Rattle.transyt_io.specs.Lines.{is_blank, is_some_word, words}
 use Rattle.transyt_syntax.specs.Syntax.{all_numbers, is_plain}
@@ -42,17 +41,13 @@ short_decimal : (n : ℕ) → is_small n ≡ true → length (decimal n) ≤ 9
 short_decimal n h =
     let low : n < 1000000000 = small_is n h in length-decimal-le 9 n (omega arith) (omega arith) (omega arith)
 
--- what is written is read
-number_back : (n : ℕ) → is_small n ≡ true → number_of (decimal n) ≡ Some n
-number_back n h = number_of-decimal n (small_is n h)
-
 -- the numbers that are written are read
 pub numbers_back : (ns : List ℕ) → list_all is_small ns ≡ true → all_numbers (map decimal ns) ≡ Some ns
 numbers_back [] h = refl
 numbers_back (n ∷ ns) h =
     let both = and_parts (is_small n) (list_all is_small ns) h in
     ap (λ (o : Option ℕ). option_and_then (λ n. option_map (λ ns. n ∷ ns) (all_numbers (map decimal ns))) o)
-    (number_back n both.0)
+    (number_of-decimal n (small_is n both.0))
     ∙ ap (option_map (λ ns. n ∷ ns)) (numbers_back ns both.1)
 
 prepend : List ℕ → List (List ℕ) → List (List ℕ)
@@ -77,10 +72,6 @@ split_word (b ∷ bs) rest h =
     let both = and_parts (not (is_blank b)) (list_all (λ b. not (is_blank b)) bs) h in
     not_blank (is_blank b) b _ _ both.0 (split_word bs rest both.1)
 
-not_false : (b : Bool) → b ≡ false → not b ≡ true
-not_false true h = absurd (cc)
-not_false false h = refl
-
 split_numbers : (ns : List ℕ) → list_all is_small ns ≡ true
     → slice_split is_blank (values_text ns) ≡ [] ∷ map decimal ns
 unfolding values_text
@@ -89,7 +80,7 @@ split_numbers (n ∷ ns) h =
     let both = and_parts (is_small n) (list_all is_small ns) h in
     ap (λ (l : List (List ℕ)). [] ∷ l)
     (split_word (decimal n) (values_text ns)
-    (digits_all (λ b. not (is_blank b)) (λ c r. not_false _ ((digit_tests c r).1)) (decimal n)
+    (digits_all (λ b. not (is_blank b)) (λ c r. not_from_false _ ((digit_tests c r).1)) (decimal n)
     (numeral n both.0).0.1)
     ∙ ap (prepend (decimal n)) (split_numbers ns both.1)
     ∙ prepend_onto (decimal n) [] (map decimal ns)
@@ -119,6 +110,14 @@ words_text word ns plain some small =
     ∙ keep word (map decimal ns) some
     ∙ ap (λ (l : List (List ℕ)). word ∷ l) (keep_numbers ns small)
 
+-- numbers and those after them
+pub values_both : (xs ys : List ℕ) → values_text (xs ++ ys) ≡ values_text xs ++ values_text ys
+unfolding values_text
+values_both [] ys = refl
+values_both (x ∷ xs) ys =
+    ap (λ (l : List ℕ). (32 ∷ decimal x) ++ l) (values_both xs ys)
+    ∙ sym (append_assoc (32 ∷ decimal x) (values_text xs) (values_text ys))
+
 -- numbers are written in bytes that may stand on a line
 pub numbers_plain : (ns : List ℕ) → list_all is_small ns ≡ true → list_all is_plain (values_text ns) ≡ true
 unfolding values_text
@@ -138,8 +137,3 @@ numbers_short (n ∷ ns) h =
     let one = short_decimal n both.0 in
     let more = numbers_short ns both.1 in
     omega (arith, length-append (decimal n) (values_text ns))
-
--- one word for each number
-pub length_decimals : (ns : List ℕ) → length (map decimal ns) ≡ length ns
-length_decimals [] = refl
-length_decimals (n ∷ ns) = ap suc (length_decimals ns)

@@ -1,13 +1,11 @@
 -- The deck text of a valid network is the deck of that network.
 use Rattle.std.proofs.Common.{◌≡◌, ℕ, suc, ◌+◌, ◌-◌, ◌<◌, ◌≤◌, nat_le, List, [], ◌∷◌, ◌++◌, map, length, true, cond}
 use Rattle.std.proofs.Common.{not, ◌&&◌, Option, Some, None, Ok, refl, ◌∙◌, ap, arith, append_assoc, flat_map}
-use Rattle.std.proofs.Common.{length-append, All, IfSome}
-use Rattle.std.specs.List.{fold, list_all}
+use Rattle.std.proofs.Common.{length-append, IfSome}
+use Rattle.std.specs.List.{list_all}
 use Rattle.std.specs.Option.{option_map}
 use Rattle.std.proofs.lemmas.Grind.{flat_map-append}
-use Rattle.transyt_deck.proofs.CardTexts.{Fits, line_of_card, numbers_in}
-use Rattle.std.proofs.lemmas.List.Elements.{All-head, All-tail}
-use Rattle.std.proofs.lemmas.Bool.{and_from}
+use Rattle.transyt_deck.proofs.CardTexts.{Fits}
 use Rattle.std.proofs.lemmas.Bool.Decides.{nat_tests}
 use Rattle.transyt_io.specs.Lines.{lines}
 use Rattle.transyt_syntax.specs.declared.code.Code.TheVariants as code
@@ -15,9 +13,9 @@ use Rattle.transyt_syntax.specs.Findings.{when}
 use Rattle.transyt_syntax.specs.Syntax.{unless}
 use Rattle.transyt_parts.specs.declared.frame.Frame.{Frame}
 use Rattle.transyt_parts.specs.declared.stage_plan.PlanFault.{PlanFault}
-use Rattle.transyt_parts.specs.Parts.{NodeValue, PlanValue}
+use Rattle.transyt_parts.specs.Parts.{PlanValue}
 use Rattle.transyt_parts.specs.Valid.{IsFrame, IsPlan, is_frame, within}
-use Rattle.transyt_parts.specs.Plan.{first_fault, first_of, plan_fault}
+use Rattle.transyt_parts.proofs.PlanLaws.{none_first}
 use Rattle.transyt_net.specs.declared.draft.DraftFault.TheVariants.{Range}
 use Rattle.transyt_net.specs.Parts.{Network}
 use Rattle.transyt_net.specs.Valid.{IsSound, IsValid}
@@ -28,64 +26,44 @@ use Rattle.transyt_deck.specs.declared.state.Part.{Part}
 use Rattle.transyt_deck.specs.declared.state.Part.TheVariants as p
 use Rattle.transyt_deck.specs.declared.state.State.TheVariants as s
 use Rattle.transyt_deck.specs.Cards.{card_line, cards_text, deck_cards, deck_text, feed_cards, link_card, node_cards}
-use Rattle.transyt_deck.specs.Cards.{plan_cards, rule_cards}
+use Rattle.transyt_deck.specs.Cards.{card_words, plan_cards, rule_cards}
 use Rattle.transyt_deck.specs.State.{making, plan_code, state_with, up_to}
-use Rattle.transyt_deck.specs.Deck.{Complete, Open, deck, deck_by, next}
+use Rattle.transyt_deck.specs.Deck.{Complete, deck, deck_by}
 use Rattle.transyt_deck.proofs.FeedBlocks.{feeds_read}
 use Rattle.transyt_deck.proofs.LinkBlocks.{links_read, state}
 use Rattle.transyt_deck.proofs.NodeBlocks.{is_added, nodes_read, nodes_state}
 use Rattle.transyt_deck.proofs.NumberTexts.{is_small}
-use Rattle.transyt_deck.proofs.Reading.{Reads, next_card, reads_both, reads_more, reads_none}
+use Rattle.transyt_deck.proofs.Reading.{Reads, Upto, next_card, reads_both, reads_more, reads_none}
 use Rattle.transyt_deck.proofs.RuleBlocks.{rules_read}
-use Rattle.transyt_deck.proofs.Small.{small_le, within_true}
-
--- no node of a valid network has a fault
-no_plan_fault : (n : ℕ) (nodes : List NodeValue) → All (λ node. plan_fault n node.stages ≡ None) nodes
-    → first_fault n nodes ≡ None
-no_plan_fault n [] h = refl
-no_plan_fault n (node ∷ nodes) h =
-    let P : NodeValue → Type 0 = λ node. plan_fault n node.stages ≡ None in
-    let here : plan_fault n node.stages ≡ None = All-head P node nodes h in
-    λ j. first_of (here j) (no_plan_fault n nodes (All-tail P node nodes h) j)
-
-sizes_within : (n : ℕ) (hs : List ℕ) → All (λ h. (1 ≤ h) × (h < n)) hs → list_all (within 1 (n - 1)) hs ≡ true
-sizes_within n [] a = refl
-sizes_within n (h ∷ hs) a =
-    let P : ℕ → Type 0 = λ h. (1 ≤ h) × (h < n) in
-    let here = All-head P h hs a in
-    let below : h < n = here.1 in
-    and_from _ _ (within_true 1 (n - 1) h here.0 (omega arith)) (sizes_within n hs (All-tail P h hs a))
-
-sizes_small : (n : ℕ) → n ≤ 120 → (hs : List ℕ) → All (λ h. (1 ≤ h) × (h < n)) hs → list_all is_small hs ≡ true
-sizes_small n low [] a = refl
-sizes_small n low (h ∷ hs) a =
-    let P : ℕ → Type 0 = λ h. (1 ≤ h) × (h < n) in
-    let below : h < n = (All-head P h hs a).1 in
-    and_from _ _ (small_le 120 h (omega arith) (omega arith)) (sizes_small n low hs (All-tail P h hs a))
+use Rattle.transyt_deck.proofs.Small.{each_passes, small_le, within_true}
 
 plan_count : (n : ℕ) → 1 ≤ n → n ≤ 16 → (nat_le 2 (suc n) && nat_le (suc n) 17) ≡ true
 plan_count n x y = grind (arith, nat_tests)
 
 -- the STEPS card, if there is one
-plan_read : (net : Network) (part : Part) (o : Option PlanValue) → net.frame.step_count ≤ 120
-    → up_to p.Feeds part ≡ true → IfSome o (IsPlan net.frame.step_count)
-    → (q : Part) × Reads (state net part net.links) (plan_cards o) (s.Making 2 q (record net { plan = o }))
-plan_read net part None short free h = (part, reads_none _)
-plan_read net part (Some v) short free h =
+plan_read : (net : Network) (part : Upto p.Feeds) (o : Option PlanValue) → net.frame.step_count ≤ 120
+    → IfSome o (IsPlan net.frame.step_count)
+    → (q : Part) × Reads (state net part.0 net.links) (plan_cards o) (s.Making 2 q (record net { plan = o }))
+plan_read net part None short h = (part.0, reads_none _)
+plan_read net part (Some v) short h =
+    let steps = net.frame.step_count in
+    let IsSize : ℕ → Type 0 = λ n. (1 ≤ n) × (n < steps) in
     let budget = within_true 1 1000000 v.budget h.budget.0 h.budget.1 in
-    let sizes = sizes_within net.frame.step_count v.sizes h.sizes in
+    let sizes = each_passes IsSize (within 1 (steps - 1))
+    (λ n h. let below : n < steps = h.1 in within_true 1 (steps - 1) n h.0 (omega arith)) v.sizes h.sizes in
     let small_budget = small_le 1000000 v.budget h.budget.1 (omega arith) in
-    let small_sizes = sizes_small net.frame.step_count short v.sizes h.sizes in
+    let small_sizes = each_passes IsSize is_small
+    (λ n h. let below : n < steps = h.1 in small_le 120 n (omega arith) (omega arith)) v.sizes h.sizes in
     let some : 1 ≤ length v.sizes = h.size_count.0 in
     let few : length v.sizes ≤ 16 = h.size_count.1 in (
       p.Plan,
-      reads_more {s = state net part net.links} {card = c.Steps v.budget v.sizes} record {
+      reads_more {s = state net part.0 net.links} {card = c.Steps v.budget v.sizes} record {
         small = λ j. small_budget j && small_sizes j;
         few = omega arith;
         count = ap Some (plan_count (length v.sizes) some few);
         back = refl;
       }
-          (is_added 2 _ _ p.Plan _ free (λ j. cond (not (budget j && sizes j)) (Some Range) None)) (λ n. refl)
+          (is_added 2 _ _ p.Plan _ part.1 (λ j. cond (not (budget j && sizes j)) (Some Range) None)) (λ n. refl)
           (reads_none _),
     )
 
@@ -112,19 +90,17 @@ cards_are net =
 all_read : (net : Network) → IsSound net → (q : Part) × Reads s.Start (c.Form 2 ∷ inside net) (s.Making 2 q net)
 all_read net is =
     let short : net.frame.step_count ≤ 120 = is.frame.step_count.1 in
-    let few_nodes : length net.nodes ≤ 200 = is.node_count in
-    let few_links : length net.links ≤ 1000 = is.link_count in
-    let nodes = nodes_read net.frame p.Frame [] net.nodes short refl is.nodes_differ (omega arith) is.nodes in
-    let links = links_read net nodes.0 [] net.links short is.nodes (later nodes.0 nodes.1) is.links_differ (omega arith)
-    is.links in
-    let feeds = feeds_read net links.0 [] net.links is.links (last links.0 links.1) refl is.links_differ is.links in
-    let rules = rules_read net feeds.0 [] net.links is.links feeds.1 refl is.links_differ is.links in
-    let plan = plan_read net rules.0 net.plan short rules.1 is.plan in
+    let links_are = is.links in
+    let nodes = nodes_read net.frame (p.Frame, refl) net.nodes short is.nodes_differ is.node_count is.nodes in
+    let links = links_read net (nodes.0.0, later nodes.0.0 nodes.0.1) short is.nodes is.links_differ is.link_count links_are in
+    let feeds = feeds_read net (links.0.0, last links.0.0 links.0.1) is.links_differ links_are in
+    let rules = rules_read net feeds.0 is.links_differ links_are in
+    let plan = plan_read net rules.0 net.plan short is.plan in
     let frame = frame_true net.frame is.frame in
     let empty = nodes_state net.frame p.Frame [] in
     let framed : state_with (s.Formed 2) (c.Cycle net.frame) ≡ Ok empty =
     λ j. unless (when (not (frame j)) code.Range) empty in
-    let further = reads_both nodes.2 (reads_both links.2 (reads_both feeds.2 (reads_both rules.2 plan.1))) in (
+    let further = reads_both nodes.1 (reads_both links.1 (reads_both feeds.1 (reads_both rules.1 plan.1))) in (
       plan.0,
       reads_more {s = s.Start} {t = s.Formed 2} {card = c.Form 2}
           record { small = refl; few = omega arith; count = refl; back = refl } refl (λ n. refl)
@@ -139,7 +115,7 @@ all_read net is =
     last : (q : Part) → up_to p.Links q ≡ true → up_to p.Feeds q ≡ true
     last q h = grind (arith, nat_tests)
 
-    frame_small : (f : Frame) → IsFrame f → list_all is_small (numbers_in (c.Cycle f)) ≡ true
+    frame_small : (f : Frame) → IsFrame f → list_all is_small (card_words (c.Cycle f)).1 ≡ true
     frame_small f h = grind (arith, nat_tests)
 
 -- the deck text of a valid network is the deck of that network, complete at its last line
@@ -149,15 +125,13 @@ unfolding values_text
 deck_read_back net h =
     let front = c.Form 2 ∷ inside net in
     let read = all_read net h.sound in
-    let fine = no_plan_fault net.frame.step_count net.nodes h.planned in
+    let fine = none_first net.frame.step_count net.nodes h.planned in
     let fits : Fits 2 c.End = record { small = refl; few = omega arith; count = refl; back = refl } in
     let count : (0 + length front) + 1 ≡ length (deck_cards net) =
     omega (arith, ap (λ (l : List Card). length l) (cards_are net), length-append front (c.End ∷ [])) in
     ap (λ (cs : List Card). deck (lines (cards_text cs))) (cards_are net)
     ∙ ap (λ (l : List ℕ). deck (lines l)) (flat_map-append card_line front (c.End ∷ []))
     ∙ read.1.is 0 (cards_text (c.End ∷ []))
-    ∙ ap (λ (l : List ℕ). fold next (Open (0 + length front) (s.Making 2 read.0 net)) (lines (l ++ [])))
-    (line_of_card c.End)
     ∙ next_card (0 + length front) (s.Making 2 read.0 net) c.End fits
     ∙ ap (λ (o : Option PlanFault). deck_by ((0 + length front) + 1)
     (making 2 (unless (option_map plan_code o) (p.End, net)))) fine

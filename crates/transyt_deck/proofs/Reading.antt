@@ -1,20 +1,24 @@
 -- The text of cards, read card by card.
 use Rattle.std.proofs.Common.{◌≡◌, ℕ, zero, suc, ◌+◌, ◌-◌, ◌≤◌, ◌==◌, List, [], ◌∷◌, ◌++◌, map, length, take, Bool}
-use Rattle.std.proofs.Common.{true, false, cond, Ok, refl, ◌∙◌, ap, arith, append_assoc, slice_index}
-use Rattle.std.specs.List.{fold, list_all}
-use Rattle.std.proofs.lemmas.List.{take_all}
+use Rattle.std.proofs.Common.{true, false, cond, Ok, refl, sym, subst, ◌∙◌, ap, arith, append_assoc, slice_index, All}
+use Rattle.std.specs.List.{flat_map, fold, list_all}
+use Rattle.std.proofs.lemmas.List.{append-nil, take_all}
+use Rattle.std.proofs.lemmas.List.Concat.{flat_map_single}
+use Rattle.std.proofs.lemmas.List.Elements.{All-head, All-tail}
 use Rattle.std.proofs.lemmas.Grind.{flat_map-append}
 use Rattle.std.proofs.lemmas.Bool.Decides.{nat_tests}
-use Rattle.std.proofs.lemmas.Bool.{and_parts}
+use Rattle.std.proofs.lemmas.Bool.{and_parts, or_from}
 use Rattle.std.proofs.Common.{length-append}
-use Rattle.transyt_io.specs.Lines.{cut, line_of, lines, onto_first}
+use Rattle.transyt_io.specs.Lines.{has_end, line_of, lines}
+use Rattle.transyt_io.proofs.Lines.{cut_line}
 use Rattle.transyt_syntax.specs.Syntax.{is_plain}
 use Rattle.transyt_deck.specs.declared.card.Card.{Card}
+use Rattle.transyt_deck.specs.declared.state.Part.{Part}
 use Rattle.transyt_deck.specs.declared.state.State.{State}
-use Rattle.transyt_deck.specs.Cards.{card_line, cards_text}
-use Rattle.transyt_deck.specs.State.{form_of, state_by, state_with}
+use Rattle.transyt_deck.specs.Cards.{card_line, card_text, cards_text}
+use Rattle.transyt_deck.specs.State.{form_of, state_by, state_with, up_to}
 use Rattle.transyt_deck.specs.Deck.{Deck, Open, deck_at, deck_by, next}
-use Rattle.transyt_deck.proofs.CardTexts.{Fits, card_plain, card_short, card_text, line_of_card, said_card}
+use Rattle.transyt_deck.proofs.CardTexts.{Fits, card_plain, card_short, said_card}
 
 plain_no_feed : (b : ℕ) → is_plain b ≡ true → (b == 10) ≡ false
 plain_no_feed b h = grind (arith, nat_tests)
@@ -22,16 +26,11 @@ plain_no_feed b h = grind (arith, nat_tests)
 plain_no_return : (b : ℕ) → is_plain b ≡ true → (b == 13) ≡ false
 plain_no_return b h = grind (arith, nat_tests)
 
-feed_by : (t : Bool) (b : ℕ) (bs : List ℕ) (ls us : List (List ℕ)) → t ≡ false → us ≡ bs ∷ ls
-    → cond t ([] ∷ us) (onto_first true b us) ≡ (b ∷ bs) ∷ ls
-feed_by true b bs ls us x y = absurd (cc)
-feed_by false b bs ls us x y = ap (onto_first true b) y
-
-no_line_feed : (bs rest : List ℕ) → list_all is_plain bs ≡ true → cut true (bs ++ 10 ∷ rest) ≡ bs ∷ cut true rest
-no_line_feed [] rest h = refl
-no_line_feed (b ∷ bs) rest h =
+no_line_end : (bs : List ℕ) → list_all is_plain bs ≡ true → has_end bs ≡ false
+no_line_end [] h = refl
+no_line_end (b ∷ bs) h =
     let both = and_parts (is_plain b) (list_all is_plain bs) h in
-    feed_by (b == 10) b bs (cut true rest) _ (plain_no_feed b both.0) (no_line_feed bs rest both.1)
+    or_from (b == 10) (has_end bs) (plain_no_feed b both.0) (no_line_end bs both.1)
 
 -- a plain byte at each place, 0 past the end
 plain_at : (bs : List ℕ) (i : ℕ) → list_all is_plain bs ≡ true → (slice_index bs i == 13) ≡ false
@@ -56,9 +55,8 @@ first_line form card more rest fits =
     let text = card_text card in
     let whole : ((text ++ 10 ∷ []) ++ more) ++ rest ≡ text ++ 10 ∷ (more ++ rest) = simp append_assoc in
     let plain = card_plain card fits.small in
-    ap (λ (l : List ℕ). lines ((l ++ more) ++ rest)) (line_of_card card)
-    ∙ ap lines whole
-    ∙ ap (map line_of) (no_line_feed text (more ++ rest) plain)
+    ap lines whole
+    ∙ ap (map line_of) (cut_line true text (more ++ rest) (no_line_end text plain))
     ∙ ap (λ (l : List ℕ). l ∷ lines (more ++ rest)) (line_same text plain (card_short card fits.small fits.few))
 
 -- the text of cards, read from a state on, comes to a state, whatever follows
@@ -100,3 +98,34 @@ reads_both {s} {t} {u} {xs} {ys} a b = record {
       ap (λ (l : List ℕ). fold next (Open n s) (lines l)) text ∙ a.is n (cards_text ys ++ rest)
       ∙ b.is (n + length xs) rest ∙ ap (λ (k : ℕ). fold next (Open k u) (lines rest)) count;
 }
+
+-- cards that come to an equal state
+pub reads_to : {s t u : State} {cards : List Card} → Reads s cards t → t ≡ u → Reads s cards u
+reads_to {s} {t} {u} {cards} read same = subst (λ (v : State). Reads s cards v) same read
+
+-- a part that is not past this one
+abbrev pub Upto : Part → Type 0
+Upto last = (part : Part) × (up_to last part ≡ true)
+
+-- the cards of items in order, by those of one item after the items before it
+pub reads_each : {A P : Type 0} (all : List A) (Is : A → Type 0) (cards : A → List Card) (at : P → List A → List A → State)
+    → ((part : P) (done more : List A) (x : A) → done ++ x ∷ more ≡ all → Is x
+    → (next : P) × Reads (at part done (x ∷ more)) (cards x) (at next (done ++ x ∷ []) more))
+    → (part : P) (done more : List A) → done ++ more ≡ all → All Is more
+    → (last : P) × Reads (at part done more) (flat_map cards more) (at last all [])
+reads_each {A} all Is cards at one part done [] whole fine = (
+  part,
+  subst (λ (xs : List A). Reads (at part done []) [] (at part xs [])) (sym (append-nil done) ∙ whole) (reads_none _),
+)
+reads_each all Is cards at one part done (x ∷ more) whole fine =
+    let here = one part done more x whole (All-head Is x more fine) in
+    let rest = reads_each all Is cards at one here.0 (done ++ x ∷ []) more (append_assoc done (x ∷ []) more ∙ whole)
+    (All-tail Is x more fine) in (rest.0, reads_both here.1 rest.1)
+
+-- the same of items with one card each
+pub reads_map : {A P : Type 0} (all : List A) (Is : A → Type 0) (card : A → Card) (at : P → List A → List A → State)
+    → ((part : P) (done more : List A) (x : A) → done ++ x ∷ more ≡ all → Is x
+    → (next : P) × Reads (at part done (x ∷ more)) (card x ∷ []) (at next (done ++ x ∷ []) more))
+    → (part : P) → All Is all → (last : P) × Reads (at part [] all) (map card all) (at last all [])
+reads_map all Is card at one part fine =
+    rw (← flat_map_single card all) (reads_each all Is (λ x. card x ∷ []) at one part [] all refl fine)

@@ -1,5 +1,6 @@
 -- The outcome of adding a card. Only private contracts cite these words.
-use Rattle.std.specs.Prelude.{◌≡◌, ◌<◌, ◌≤◌, length, IsOk, Option, Some, None, Result, Ok, Err}
+use Rattle.std.specs.Prelude.{◌≡◌, ◌<◌, ◌≤◌, length, IsOk, None, Result, Ok, Err}
+use Rattle.std.specs.Option.{option_map_or}
 use Rattle.transyt_syntax.specs.declared.code.Code.{Code}
 use Rattle.transyt_net.specs.declared.draft.DraftFault.{DraftFault}
 use Rattle.transyt_net.specs.Parts.{Network}
@@ -14,27 +15,16 @@ use Rattle.transyt_deck.specs.declared.state.Stop.{Stop}
 use Rattle.transyt_deck.specs.declared.state.Stop.TheVariants as stop
 use Rattle.transyt_deck.specs.State.{fault_code}
 
--- a code as a stop; what has none is out of memory
-abbrev pub stop_with : Option Code → Stop
-stop_with None = stop.Memory
-stop_with (Some code) = stop.Code code
-
--- an outcome with its fault as a stop
+-- an outcome with its fault as a stop: its code; a fault that has none is out of memory
 abbrev pub stopped : {T : Type 0} → Result T DraftFault → Result T Stop
 stopped (Ok x) = Ok x
-stopped (Err fault) = Err (stop_with (fault_code fault))
+stopped (Err fault) = Err (option_map_or stop.Code (fault_code fault) stop.Memory)
 
 -- the new part is made; or it is refused with its code, or memory runs out where it has none, and all is as before
 abbrev pub Adds : {A T : Type 0} → Result A Code → A → A → Result T Stop → Type 0
 Adds made old new (Ok x) = made ≡ Ok new
 Adds made old new (Err (stop.Code code)) = (made ≡ Err code) × (new ≡ old)
 Adds made old new (Err stop.Memory) = IsOk made × (new ≡ old)
-
--- the same of a state that is begun
-abbrev pub Begins : Result State Code → Result State Stop → Type 0
-Begins made (Ok new) = made ≡ Ok new
-Begins made (Err (stop.Code code)) = made ≡ Err code
-Begins made (Err stop.Memory) = ⊥
 
 -- the stages of a LINK card are 1 to 8, the sizes of a STEPS card 1 to 16
 abbrev pub CanAdd : Card → Type 0
@@ -44,12 +34,10 @@ CanAdd _ = Unit {0}
 
 -- the network by the part of a deck: a STAGE card finds a node, a STEPS card no plan, and END judged the plans
 abbrev pub IsTied : Part → Network → Type 0
-IsTied p.Frame net = net.plan ≡ None
 IsTied p.Nodes net = (0 < length net.nodes) × (net.plan ≡ None)
-IsTied p.Links net = net.plan ≡ None
-IsTied p.Feeds net = net.plan ≡ None
 IsTied p.Plan net = Unit {0}
 IsTied p.End net = first_fault net.frame.step_count net.nodes ≡ None
+IsTied _ net = net.plan ≡ None
 
 -- the same of a state
 abbrev pub IsTiedState : State → Type 0

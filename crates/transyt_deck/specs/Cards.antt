@@ -1,28 +1,35 @@
 -- The cards of a network, and their text.
 use Rattle.std.specs.Prelude.{ℕ, List, [], ◌∷◌, ◌++◌, map, flat_map, codes, Option, Some, None}
-use Rattle.transyt_text.specs.Forms.{form_line, values_line}
+use Rattle.transyt_text.specs.Forms.{values_text}
 use Rattle.transyt_parts.specs.Parts.{NodeValue, LinkValue, PlanValue}
 use Rattle.transyt_net.specs.Parts.{Network}
 use Rattle.transyt_deck.specs.declared.card.Card.{Card}
 use Rattle.transyt_deck.specs.declared.card.Card.TheVariants as c
-use Rattle.transyt_parts.specs.declared.link.NewLink.{NewLink}
+use Rattle.transyt_deck.specs.Table.{new_link_of}
 
--- the line of a card, of a LINK card that of form 2
+-- the keyword of a card and its numbers, of a LINK card those of form 2
+abbrev pub card_words : Card → List ℕ × List ℕ
+card_words (c.Form form) = (codes "FORM", form ∷ [])
+card_words (c.Cycle f) =
+    (codes "CYCLE", f.cycle ∷ f.step_count ∷ f.sweeps ∷ f.period ∷ f.stop_penalty ∷ f.dispersion ∷ [])
+card_words (c.Node number offset) = (codes "NODE", number ∷ offset ∷ [])
+card_words (c.Stage s) = (codes "STAGE", s.change ∷ s.intergreen ∷ s.least ∷ [])
+card_words (c.Link l stages) = (
+  codes "LINK",
+  l.number ∷ l.node ∷ l.entry ∷ l.saturation ∷ l.weights.delay ∷ l.weights.stop ∷ l.start_lag ∷ l.end_lag ∷ stages,
+)
+card_words (c.Feed link f) = (codes "FEED", link ∷ f.feeder ∷ f.flow ∷ f.cruise ∷ [])
+card_words (c.Yield link rule) = (codes "YIELD", link ∷ rule.other ∷ rule.percent ∷ [])
+card_words (c.Steps budget sizes) = (codes "STEPS", budget ∷ sizes)
+card_words c.End = (codes "END", [])
+
+-- the line of a card without its line end: its keyword, and a blank before each number
+abbrev pub card_text : Card → List ℕ
+card_text card = (card_words card).0 ++ values_text (card_words card).1
+
+-- the line of a card
 abbrev pub card_line : Card → List ℕ
-card_line (c.Form form) = form_line (codes "FORM #") (form ∷ [])
-card_line (c.Cycle f) =
-    form_line (codes "CYCLE # # # # # #")
-    (f.cycle ∷ f.step_count ∷ f.sweeps ∷ f.period ∷ f.stop_penalty ∷ f.dispersion ∷ [])
-card_line (c.Node number offset) = form_line (codes "NODE # #") (number ∷ offset ∷ [])
-card_line (c.Stage s) = form_line (codes "STAGE # # #") (s.change ∷ s.intergreen ∷ s.least ∷ [])
-card_line (c.Link l stages) =
-    values_line (codes "LINK # # # # # # # #")
-    (l.number ∷ l.node ∷ l.entry ∷ l.saturation ∷ l.weights.delay ∷ l.weights.stop ∷ l.start_lag ∷ l.end_lag ∷ [])
-    stages
-card_line (c.Feed link f) = form_line (codes "FEED # # # #") (link ∷ f.feeder ∷ f.flow ∷ f.cruise ∷ [])
-card_line (c.Yield link rule) = form_line (codes "YIELD # # #") (link ∷ rule.other ∷ rule.percent ∷ [])
-card_line (c.Steps budget sizes) = values_line (codes "STEPS #") (budget ∷ []) sizes
-card_line c.End = form_line (codes "END") []
+card_line card = card_text card ++ 10 ∷ []
 
 -- the lines of cards
 abbrev pub cards_text : List Card → List ℕ
@@ -32,21 +39,11 @@ cards_text cards = flat_map card_line cards
 abbrev pub node_cards : NodeValue → List Card
 node_cards n = c.Node n.number n.offset ∷ map c.Stage n.stages
 
--- a link without its stages, its feeds and its give-way rule
-abbrev pub new_link_in : LinkValue → NewLink
-new_link_in l = record {
-  number = l.number;
-  node = l.node;
-  entry = l.entry;
-  saturation = l.saturation;
-  weights = l.weights;
-  start_lag = l.start_lag;
-  end_lag = l.end_lag;
-}
-
 -- the LINK card of a link
 abbrev pub link_card : LinkValue → Card
-link_card l = c.Link (new_link_in l) l.stages
+link_card l =
+    let numbers = l.number ∷ l.node ∷ l.entry ∷ l.saturation ∷ l.weights.delay ∷ l.weights.stop ∷ [] in
+    c.Link (new_link_of numbers l.start_lag l.end_lag) l.stages
 
 -- the FEED cards of a link
 abbrev pub feed_cards : LinkValue → List Card

@@ -17,10 +17,8 @@ pub data Deck : Type 0 where
 
 -- the deck after so many accepted lines: complete where the last is END
 abbrev pub deck_at : ℕ → State → Deck
-deck_at number s.Start = Open number s.Start
-deck_at number (s.Formed form) = Open number (s.Formed form)
 deck_at number (s.Making form p.End net) = Complete number net
-deck_at number (s.Making form part net) = Open number (s.Making form part net)
+deck_at number state = Open number state
 
 -- the deck after a line with this number, by the state after it or its code
 abbrev pub deck_by : ℕ → Result State Code → Deck
@@ -29,9 +27,8 @@ deck_by number (Err code) = Refused number code
 
 -- the deck after one line more; a deck that is refused or complete stays
 abbrev pub next : Deck → List ℕ → Deck
-next (Refused number code) line = Refused number code
-next (Complete number net) line = Complete number net
 next (Open count state) line = deck_by (count + 1) (state_after state line)
+next made line = made
 
 -- before the first line
 abbrev pub start : Deck
@@ -44,8 +41,7 @@ deck lines = fold next start lines
 -- the code of a deck that is refused
 abbrev pub code_of : Deck → Option Code
 code_of (Refused number code) = Some code
-code_of (Complete number net) = None
-code_of (Open count state) = None
+code_of _ = None
 
 -- the first code that holds of a line after others, none of which has a code or is END
 abbrev pub code : List (List ℕ) → List ℕ → Option Code
@@ -54,14 +50,12 @@ code before line = code_of (next (deck before) line)
 -- whether a deck is open
 abbrev pub is_open : Deck → Bool
 is_open (Open count state) = true
-is_open (Complete number net) = false
-is_open (Refused number code) = false
+is_open _ = false
 
 -- whether a deck is complete
 abbrev pub is_complete : Deck → Bool
 is_complete (Complete number net) = true
-is_complete (Open count state) = false
-is_complete (Refused number code) = false
+is_complete _ = false
 
 -- how many lines a deck was read from: all of them, or those up to END or to the refused line
 abbrev pub line_count : Deck → ℕ

@@ -23,8 +23,7 @@ Answers deck (Err stop.Memory) = IsTrue (not (is_some (code_of deck)))
 -- whether a reader is live after this answer
 abbrev pub goes_on : Result Progress CardStop → Bool
 goes_on (Ok progress.More) = true
-goes_on (Ok progress.Complete) = false
-goes_on (Err stop) = false
+goes_on _ = false
 
 -- whether a reader may finish: the next line may be taken, or END was accepted
 abbrev pub may_finish : ReaderValue → Bool

@@ -1,10 +1,9 @@
-//! The line of a card that ends in a list of numbers.
-ghost use Rattle.std.specs.Prelude.{◌≡◌, ◌≤◌, ◌+◌, ◌*◌, ◌++◌, length};
-ghost use Rattle.transyt_text.specs.Forms.{values_text, values_line};
+//! The line of a card.
+ghost use Rattle.std.specs.Prelude.{◌≡◌, ◌≤◌, ◌+◌, ◌*◌, ◌++◌, ◌∷◌, [], length};
+ghost use Rattle.transyt_text.specs.Forms.{values_text};
 ghost use Rattle.transyt_text.specs.Prints.{PrintsOn};
 
 use transyt_io::{Failed, LineBuffer, Sink, write_line};
-use transyt_text::put_form;
 
 /// Puts a blank and the shortest decimal text of each number after what the line holds.
 fn put_list(list: &[u32], line: &mut LineBuffer)
@@ -18,21 +17,21 @@ fn put_list(list: &[u32], line: &mut LineBuffer)
     }
 }
 
-/// Writes the line of a form with its numbers, and a blank and each number of a list after it.
-#[tactic(auto, unfolding(transyt_text::specs::Forms::values_line))]
-pub(crate) fn print_list<K: Sink>(
-    form: &[u8],
-    numbers: &[u128],
+/// Writes the line of a card: its keyword, and a blank and each number after it, those of `list` at the end.
+pub(crate) fn print_card<K: Sink>(
+    keyword: &[u8],
+    numbers: &[u32],
     list: &[u32],
     line: &mut LineBuffer,
     sink: &mut K,
 ) -> Result<(), Failed>
-    requires { length form.now + 39 * length numbers.now + 40 * length list.now ≤ 4000 }
+    requires { length keyword.now + 40 * length numbers.now + 40 * length list.now ≤ 4000 }
     ensures { PrintsOn K.written K.faults sink.old sink.new result
-        (values_line form.now numbers.now list.now) }
+        ((keyword.now ++ values_text (numbers.now ++ list.now)) ++ 10 ∷ []) }
 {
     line.clear();
-    put_form(form, numbers, line);
+    line.put(keyword);
+    put_list(numbers, line);
     put_list(list, line);
     line.put(b"\n");
     write_line(line, sink)

@@ -9,10 +9,9 @@ ghost use Rattle.transyt_deck.specs.declared.card.Card.TheVariants as card;
 ghost use Rattle.transyt_deck.specs.Cards.{rule_cards, plan_cards, card_line, cards_text, deck_cards, deck_text};
 ghost use Rattle.transyt_deck.specs.Deck.{deck, Complete};
 
-use crate::card_line::print_list;
+use crate::card_line::print_card;
 use transyt_io::{Failed, LineBuffer, Sink};
 use transyt_net::{ClimbPlan, Feed, Frame, Link, Net, Node, Stage};
-use transyt_text::print_form;
 
 /// Appends the deck text of a network, a card a line: `FORM 2`, the frame, each node with its stages, the links,
 /// their feeds, their give-way rules, the climb plan if there is one, and `END`.
@@ -20,6 +19,7 @@ use transyt_text::print_form;
 /// All numbers are those of the network as it stands. The text is this project's own. What `line` held is lost,
 /// and what it holds afterwards is unspecified. The lines of the text, taken by a `CardReader`, are accepted to the
 /// last, which is END, and give an equal network.
+#[tactic(auto, using(crate::proofs::ReadBack::deck_read_back))]
 pub fn print_deck<K: Sink>(net: &Net, line: &mut LineBuffer, sink: &mut K) -> Result<(), Failed>
     ensures prints { PrintsOn K.written K.faults sink.old sink.new result (deck_text net.now) }
     ensures reads_back { deck (lines (deck_text net.now))
@@ -32,7 +32,7 @@ pub fn print_deck<K: Sink>(net: &Net, line: &mut LineBuffer, sink: &mut K) -> Re
     print_feeds(links, line, sink)?;
     print_rules(links, line, sink)?;
     print_plan(net.plan(), line, sink)?;
-    print_form(b"END", &[], line, sink)
+    print_card(b"END", &[], &[], line, sink)
 }
 
 /// Writes the FORM card, of form 2, and the CYCLE card.
@@ -40,7 +40,7 @@ fn print_frame<K: Sink>(frame: Frame, line: &mut LineBuffer, sink: &mut K) -> Re
     ensures { PrintsOn K.written K.faults sink.old sink.new result
         (cards_text (card.Form 2 ∷ card.Cycle frame ∷ [])) }
 {
-    print_form(b"FORM #", &[2], line, sink)?;
+    print_card(b"FORM", &[2], &[], line, sink)?;
     print_cycle(frame, line, sink)
 }
 
@@ -49,20 +49,20 @@ fn print_cycle<K: Sink>(frame: Frame, line: &mut LineBuffer, sink: &mut K) -> Re
     ensures { PrintsOn K.written K.faults sink.old sink.new result (card_line (card.Cycle frame)) }
 {
     let numbers = [
-        u128::from(frame.cycle),
-        u128::from(frame.step_count),
-        u128::from(frame.sweeps),
-        u128::from(frame.period),
-        u128::from(frame.stop_penalty),
-        u128::from(frame.dispersion),
+        frame.cycle,
+        frame.step_count,
+        frame.sweeps,
+        frame.period,
+        frame.stop_penalty,
+        frame.dispersion,
     ];
-    print_form(b"CYCLE # # # # # #", &numbers, line, sink)
+    print_card(b"CYCLE", &numbers, &[], line, sink)
 }
 
 /// Writes the NODE card of each node, with its STAGE cards after it.
 fn print_nodes<K: Sink>(nodes: &[Node], line: &mut LineBuffer, sink: &mut K) -> Result<(), Failed>
     ensures { PrintsOn K.written K.faults sink.old sink.new result
-        (cards_text (flat_map node_cards nodes.now)) }
+        (flat_map (λ n. cards_text (node_cards n)) nodes.now) }
 {
     for node in nodes {
         print_node(node, line, sink)?;
@@ -89,12 +89,7 @@ fn print_number<K: Sink>(
     ensures { PrintsOn K.written K.faults sink.old sink.new result
         (card_line (card.Node number offset)) }
 {
-    print_form(
-        b"NODE # #",
-        &[u128::from(number), u128::from(offset)],
-        line,
-        sink,
-    )
+    print_card(b"NODE", &[number, offset], &[], line, sink)
 }
 
 /// Writes the STAGE card of each stage.
@@ -104,7 +99,7 @@ fn print_stages<K: Sink>(
     sink: &mut K,
 ) -> Result<(), Failed>
     ensures { PrintsOn K.written K.faults sink.old sink.new result
-        (cards_text (map card.Stage stages.now)) }
+        (flat_map (λ s. card_line (card.Stage s)) stages.now) }
 {
     for stage in stages {
         print_stage(*stage, line, sink)?;
@@ -116,19 +111,15 @@ fn print_stages<K: Sink>(
 fn print_stage<K: Sink>(stage: Stage, line: &mut LineBuffer, sink: &mut K) -> Result<(), Failed>
     ensures { PrintsOn K.written K.faults sink.old sink.new result (card_line (card.Stage stage)) }
 {
-    let numbers = [
-        u128::from(stage.change),
-        u128::from(stage.intergreen),
-        u128::from(stage.least),
-    ];
-    print_form(b"STAGE # # #", &numbers, line, sink)
+    let numbers = [stage.change, stage.intergreen, stage.least];
+    print_card(b"STAGE", &numbers, &[], line, sink)
 }
 
 /// Writes the LINK card of each link.
 fn print_links<K: Sink>(links: &[Link], line: &mut LineBuffer, sink: &mut K) -> Result<(), Failed>
     requires { All (λ (l : LinkValue). length l.stages ≤ 8) links.now }
     ensures { PrintsOn K.written K.faults sink.old sink.new result
-        (cards_text (map link_card links.now)) }
+        (flat_map (λ l. card_line (link_card l)) links.now) }
 {
     for link in links {
         print_link(link, line, sink)?;
@@ -143,22 +134,22 @@ fn print_link<K: Sink>(link: &Link, line: &mut LineBuffer, sink: &mut K) -> Resu
         (card_line (link_card link.now)) }
 {
     let numbers = [
-        u128::from(link.number),
-        u128::from(link.node),
-        u128::from(link.entry),
-        u128::from(link.saturation),
-        u128::from(link.weights.delay),
-        u128::from(link.weights.stop),
-        u128::from(link.start_lag),
-        u128::from(link.end_lag),
+        link.number,
+        link.node,
+        link.entry,
+        link.saturation,
+        link.weights.delay,
+        link.weights.stop,
+        link.start_lag,
+        link.end_lag,
     ];
-    print_list(b"LINK # # # # # # # #", &numbers, &link.stages, line, sink)
+    print_card(b"LINK", &numbers, &link.stages, line, sink)
 }
 
 /// Writes the FEED cards of each link.
 fn print_feeds<K: Sink>(links: &[Link], line: &mut LineBuffer, sink: &mut K) -> Result<(), Failed>
     ensures { PrintsOn K.written K.faults sink.old sink.new result
-        (cards_text (flat_map feed_cards links.now)) }
+        (flat_map (λ l. cards_text (feed_cards l)) links.now) }
 {
     for link in links {
         print_feeds_of(link.number, &link.feeds, line, sink)?;
@@ -174,7 +165,7 @@ fn print_feeds_of<K: Sink>(
     sink: &mut K,
 ) -> Result<(), Failed>
     ensures { PrintsOn K.written K.faults sink.old sink.new result
-        (cards_text (map (card.Feed link) feeds.now)) }
+        (flat_map (λ f. card_line (card.Feed link f)) feeds.now) }
 {
     for feed in feeds {
         print_feed(link, *feed, line, sink)?;
@@ -192,19 +183,14 @@ fn print_feed<K: Sink>(
     ensures { PrintsOn K.written K.faults sink.old sink.new result
         (card_line (card.Feed link feed)) }
 {
-    let numbers = [
-        u128::from(link),
-        u128::from(feed.feeder),
-        u128::from(feed.flow),
-        u128::from(feed.cruise),
-    ];
-    print_form(b"FEED # # # #", &numbers, line, sink)
+    let numbers = [link, feed.feeder, feed.flow, feed.cruise];
+    print_card(b"FEED", &numbers, &[], line, sink)
 }
 
 /// Writes the YIELD card of each link that has a give-way rule.
 fn print_rules<K: Sink>(links: &[Link], line: &mut LineBuffer, sink: &mut K) -> Result<(), Failed>
     ensures { PrintsOn K.written K.faults sink.old sink.new result
-        (cards_text (flat_map rule_cards links.now)) }
+        (flat_map (λ l. cards_text (rule_cards l)) links.now) }
 {
     for link in links {
         print_rule(link, line, sink)?;
@@ -220,12 +206,8 @@ fn print_rule<K: Sink>(link: &Link, line: &mut LineBuffer, sink: &mut K) -> Resu
     let Some(rule) = link.gives_way else {
         return Ok(());
     };
-    let numbers = [
-        u128::from(link.number),
-        u128::from(rule.other),
-        u128::from(rule.percent),
-    ];
-    print_form(b"YIELD # # #", &numbers, line, sink)
+    let numbers = [link.number, rule.other, rule.percent];
+    print_card(b"YIELD", &numbers, &[], line, sink)
 }
 
 /// Writes the STEPS card of a climb plan, if there is one.
@@ -241,6 +223,5 @@ fn print_plan<K: Sink>(
     let Some(plan) = plan else {
         return Ok(());
     };
-    let budget = [u128::from(plan.budget)];
-    print_list(b"STEPS #", &budget, &plan.sizes, line, sink)
+    print_card(b"STEPS", &[plan.budget], &plan.sizes, line, sink)
 }

@@ -7,7 +7,7 @@ ghost use Rattle.transyt_syntax.specs.declared.code.Code.TheVariants as c;
 ghost use Rattle.transyt_deck.specs.declared.reader.CardStop.TheVariants as stop;
 ghost use Rattle.transyt_deck.specs.Cards.{deck_cards, deck_text};
 ghost use Rattle.transyt_deck.specs.Deck.{deck, code, next, start, Complete, Refused};
-ghost use Rattle.transyt_deck.specs.WorkedCodes.{coded, each_card, places};
+ghost use Rattle.transyt_deck.specs.WorkedCodes.{coded, each_card, numbered, places};
 ghost use Rattle.transyt_deck.specs.WorkedTown.{town, town_net, town_text};
 ghost use Rattle.transyt_deck.specs.WorkedVillage.{bytes_of, cuts, finishes, village, village_net};
 ghost use Rattle.transyt_deck.specs.Cut.{cut_of};
@@ -31,12 +31,12 @@ pub fn line_by_line()
 /// The worked decks, in which no number is neutral, have the networks that are written beside the definitions;
 /// each card in each place, each line of `coded`, the text of a network, the cuts, and what a reader finishes with, come
 /// out as they are written there; a reader is out of memory only where the line that it took has no code.
-#[tactic(auto, using(crate::proofs::Worked::town_is, crate::proofs::Worked::places_are, crate::proofs::Worked::coded_are, crate::proofs::Worked::village_is, crate::proofs::Worked::text_is, crate::proofs::Worked::cuts_are, crate::proofs::Worked::finishes_are))]
+#[tactic(auto, using(crate::proofs::Worked::text_is))]
 pub fn worked_decks()
     ensures town { deck town ≡ Complete 34 town_net }
-    ensures places { map (λ row. map (code row.0) each_card) places
+    ensures places { map (λ row. map (λ card. numbered (code row.0 card)) each_card) places
         ≡ map (λ row. row.1) places }
-    ensures coded { map (λ row. code row.0 row.1) coded ≡ map (λ row. row.2) coded }
+    ensures coded { map (λ row. numbered (code row.0 row.1)) coded ≡ map (λ row. row.2) coded }
     ensures village { deck village ≡ Complete 6 village_net }
     ensures text { deck_text town_net ≡ bytes_of town_text }
     ensures cuts { map (λ row. cut_of row.0) cuts ≡ map (λ row. row.1) cuts }

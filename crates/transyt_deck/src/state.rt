@@ -4,7 +4,8 @@ ghost use Rattle.transyt_deck.specs.Deck.{deck_at, is_open, is_complete};
 ghost use Rattle.transyt_deck.specs.declared.card.Card.TheVariants as card;
 ghost use Rattle.transyt_deck.specs.declared.state.State.TheVariants as state;
 ghost use Rattle.transyt_deck.specs.State.{rank, up_to, form_of, framed, added, state_with, state_after, plan_code};
-ghost use Rattle.transyt_deck.specs.Adds.{Adds, Begins, CanAdd, IsTied, IsTiedState, stopped};
+ghost use Rattle.transyt_deck.specs.declared.state.Stop.TheVariants as stop;
+ghost use Rattle.transyt_deck.specs.Adds.{Adds, CanAdd, IsTied, IsTiedState, stopped};
 
 use crate::card::{Card, read_card};
 use std::alloc::Global;
@@ -138,9 +139,9 @@ fn add(alloc: Global, state: &mut State, card: &Card) -> Result<(), Stop>
 
 /// Puts the state that a card begins in the place of the one before; a card that is refused changes nothing. The old
 /// state is dropped by a call, as wherever a state is dropped: its drop is then proved once.
-fn replace(state: &mut State, begun: Result<State, Stop>) -> Result<(), Stop>
+fn replace(state: &mut State, begun: Result<State, Code>) -> Result<(), Stop>
     ensures begun { IfOk begun (λ new. (state.new ≡ new) × (result ≡ Ok tt)) }
-    ensures refused { IfErr begun (λ stop. (state.new ≡ state.old) × (result ≡ Err stop)) }
+    ensures refused { IfErr begun (λ code. (state.new ≡ state.old) × (result ≡ Err (stop.Code code))) }
 {
     match begun {
         Ok(new) => {
@@ -148,19 +149,19 @@ fn replace(state: &mut State, begun: Result<State, Stop>) -> Result<(), Stop>
             drop(old);
             Ok(())
         }
-        Err(stop) => Err(stop),
+        Err(code) => Err(Stop::Code(code)),
     }
 }
 
 /// The first card of a deck.
-fn first(alloc: Global, card: &Card) -> Result<State, Stop>
-    ensures begun { Begins (state_with state.Start card.now) result }
+fn first(alloc: Global, card: &Card) -> Result<State, Code>
+    ensures begun { result ≡ state_with state.Start card.now }
     ensures tied { IfOk result IsTiedState }
 {
     match card {
         Card::Form(form) => {
             if *form < 1 || *form > 2 {
-                return Err(Stop::Code(Code::Range));
+                return Err(Code::Range);
             }
             Ok(State::Formed { form: *form })
         }
@@ -169,8 +170,8 @@ fn first(alloc: Global, card: &Card) -> Result<State, Stop>
 }
 
 /// A card before the CYCLE card, in a deck of this form.
-fn begin(alloc: Global, form: u32, card: &Card) -> Result<State, Stop>
-    ensures begun { Begins (framed form card.now) result }
+fn begin(alloc: Global, form: u32, card: &Card) -> Result<State, Code>
+    ensures begun { result ≡ framed form card.now }
     ensures tied { IfOk result IsTiedState }
 {
     match card {
@@ -180,9 +181,9 @@ fn begin(alloc: Global, form: u32, card: &Card) -> Result<State, Stop>
                 part: Part::Frame,
                 draft,
             }),
-            Err(_) => Err(Stop::Code(Code::Range)),
+            Err(_) => Err(Code::Range),
         },
-        _ => Err(Stop::Code(Code::OutOfPlace)),
+        _ => Err(Code::OutOfPlace),
     }
 }
 
@@ -248,13 +249,9 @@ fn add_link(part: &mut Part, draft: &mut Draft, link: NewLink, stages: &Numbers)
     if !part.is_up_to(Part::Links) {
         return Err(Stop::Code(Code::OutOfPlace));
     }
-    match draft.link(link, stages.as_slice()) {
-        Ok(()) => {
-            *part = Part::Links;
-            Ok(())
-        }
-        Err(fault) => stopped(Err(fault)),
-    }
+    stopped(draft.link(link, stages.as_slice()))?;
+    *part = Part::Links;
+    Ok(())
 }
 
 /// A FEED card.

@@ -2,8 +2,8 @@
 use Rattle.std.proofs.Common.{◌≡◌, ℕ, zero, suc, ◌+◌, ◌-◌, ◌<◌, ◌≤◌, inl, inr, Bool, true, false, ◌==◌, if◌then◌else◌}
 use Rattle.std.proofs.Common.{List, [], ◌∷◌, ◌++◌, map, length, take, drop, min, refl, sym, ◌∙◌, ap, arith}
 use Rattle.std.proofs.Common.{append_assoc, slice_index}
-use Rattle.std.proofs.lemmas.List.{take_all, take-take, length-take-le, length-take, map-append}
-use Rattle.std.proofs.Math.Seq.{take-append-add}
+use Rattle.std.proofs.lemmas.List.{take_all, take-append-drop, take-take, length-take-le, length-take, map-append}
+use Rattle.std.proofs.Math.Seq.{drop-cons, take-append-add}
 use Rattle.std.proofs.lemmas.Bool.{cases_lt, or_parts, or_from, false_from_ne_true}
 use Rattle.std.specs.Str.Lines.{strip_carriage_return}
 use Rattle.transyt_io.specs.Lines.{onto_first, cut, after_first_line, line_of, lines_by, whole, has_end}
@@ -60,13 +60,6 @@ pub no_end_in : (bytes : List ℕ) → ((k : ℕ) → k < length bytes → (slic
 no_end_in bytes h =
     sym (ap has_end (take_all (length bytes) bytes (omega arith))) ∙ no_end_before (length bytes) bytes h (omega arith)
 
--- the bytes around a byte
-pub around : (n : ℕ) (xs : List ℕ) → n < length xs → xs ≡ take n xs ++ slice_index xs n ∷ drop (suc n) xs
-around zero (x ∷ xs) h = refl
-around (suc n) (x ∷ xs) h = ap (λ rest. x ∷ rest) (around n xs (omega arith))
-around zero [] h = absurd (omega arith)
-around (suc n) [] h = absurd (omega arith)
-
 -- bytes up to a line end are the first part
 pub cut_line : (keep : Bool) (raw ys : List ℕ) → has_end raw ≡ false → cut keep (raw ++ 10 ∷ ys) ≡ raw ∷ cut keep ys
 cut_line keep [] ys h = refl
@@ -75,16 +68,6 @@ cut_line keep (b ∷ bs) ys h =
     let rest = cut_line keep bs ys parts.1 in
     rw parts.0 (ap (onto_first keep b) rest)
 
--- the first part ends at the first line end
-pub cut_at : (keep : Bool) (bytes : List ℕ) (n : ℕ) → n < length bytes
-    → ((k : ℕ) → k < n → (slice_index bytes k == 10) ≡ true → ⊥)
-    → slice_index bytes n ≡ 10 → cut keep bytes ≡ take n bytes ∷ cut keep (drop (n + 1) bytes)
-cut_at keep bytes n below before here =
-    let next : suc n ≡ n + 1 = omega arith in
-    let parts : bytes ≡ take n bytes ++ 10 ∷ drop (n + 1) bytes =
-    around n bytes below ∙ (λ j. take n bytes ++ here j ∷ drop (next j) bytes) in
-    ap (cut keep) parts ∙ cut_line keep (take n bytes) (drop (n + 1) bytes) (no_end_before n bytes before (omega arith))
-
 -- after bytes up to a line end
 pub after_line : (raw ys : List ℕ) → has_end raw ≡ false → after_first_line (raw ++ 10 ∷ ys) ≡ ys
 after_line [] ys h = refl
@@ -92,16 +75,6 @@ after_line (b ∷ bs) ys h =
     let parts = or_parts (b == 10) (has_end bs) h in
     let rest = after_line bs ys parts.1 in
     rw parts.0 rest
-
--- what comes after the first line end begins right after it
-pub after_line_end_at : (bytes : List ℕ) (n : ℕ) → n < length bytes
-    → ((k : ℕ) → k < n → (slice_index bytes k == 10) ≡ true → ⊥)
-    → slice_index bytes n ≡ 10 → after_first_line bytes ≡ drop (n + 1) bytes
-after_line_end_at bytes n below before here =
-    let next : suc n ≡ n + 1 = omega arith in
-    let parts : bytes ≡ take n bytes ++ 10 ∷ drop (n + 1) bytes =
-    around n bytes below ∙ (λ j. take n bytes ++ here j ∷ drop (next j) bytes) in
-    ap after_first_line parts ∙ after_line (take n bytes) (drop (n + 1) bytes) (no_end_before n bytes before (omega arith))
 
 -- nothing comes after bytes with no line end
 pub after_no_line_end : (bytes : List ℕ) → has_end bytes ≡ false → after_first_line bytes ≡ []
@@ -134,17 +107,13 @@ pub cut_open : (bytes : List ℕ) → 0 < length bytes → has_end bytes ≡ fal
 cut_open [] some none = absurd (omega arith)
 cut_open (b ∷ bs) some none = open_line b bs none
 
--- at most n, where fewer are taken
-length_take_le : {X : Type 0} → (m n : ℕ) (xs : List X) → m < n → length (take m xs) ≤ n
-length_take_le m n xs h = let e = length-take m xs in omega arith
-
 -- a shorter front
 pub take_min : {X : Type 0} → (m n : ℕ) (xs : List X) → take (min m n) xs ≡ take n (take m xs)
 take_min m n xs = elim (cases_lt m n) [
-  | inl h ↦ let at : min m n ≡ m = omega arith in
-      ap (λ (k : ℕ). take k xs) at ∙ sym (take_all n (take m xs) (length_take_le m n xs h))
-  | inr h ↦ let at : min m n ≡ n = omega arith in
-      ap (λ (k : ℕ). take k xs) at ∙ sym (take-take n m xs h)
+  | inl h ↦
+      let at : min m n ≡ m = omega arith in
+      ap (λ (k : ℕ). take k xs) at ∙ sym (take_all n (take m xs) (omega (arith, length-take m xs)))
+  | inr h ↦ let at : min m n ≡ n = omega arith in ap (λ (k : ℕ). take k xs) at ∙ sym (take-take n m xs h)
 ]
 
 -- a front of at most all
@@ -153,23 +122,37 @@ take_min_length n xs = take_min (length xs) n xs ∙ ap (λ ys. take n ys) (take
 
 -- brackets moved
 regroup : (a b : List ℕ) (x : ℕ) (c d : List ℕ) → (a ++ (b ++ x ∷ c)) ++ d ≡ (a ++ b) ++ x ∷ (c ++ d)
-regroup a b x c d =
-    ap (λ (ys : List ℕ). ys ++ d) (sym (append_assoc a b (x ∷ c))) ∙ append_assoc (a ++ b) (x ∷ c) d
+regroup a b x c d = simp append_assoc
 
--- a line that ends at n in the piece
-pub gathered_line : (raw piece ys : List ℕ) (n : ℕ) (keep : Bool) → has_end raw ≡ false → n < length piece
-    → ((k : ℕ) → k < n → (slice_index piece k == 10) ≡ true → ⊥) → slice_index piece n ≡ 10
-    → lines_by keep ((raw ++ piece) ++ ys) ≡ line_of (raw ++ take n piece) ∷ lines_by keep (drop (n + 1) piece ++ ys)
-gathered_line raw piece ys n keep h below before here =
-    let whole_raw = raw ++ take n piece in
-    let none : has_end whole_raw ≡ false =
-    no_end_more raw (take n piece) h (no_end_before n piece before (omega arith)) in
-    let next : suc n ≡ n + 1 = omega arith in
-    let parts : piece ≡ take n piece ++ 10 ∷ drop (n + 1) piece =
-    around n piece below ∙ (λ j. take n piece ++ here j ∷ drop (next j) piece) in
-    let all : (raw ++ piece) ++ ys ≡ whole_raw ++ 10 ∷ (drop (n + 1) piece ++ ys) =
-    ap (λ (p : List ℕ). (raw ++ p) ++ ys) parts ∙ regroup raw (take n piece) 10 (drop (n + 1) piece) ys in
-    ap (lines_by keep) all ∙ ap (map line_of) (cut_line keep whole_raw (drop (n + 1) piece ++ ys) none)
+-- bytes whose first line end is at n
+module _ (bytes : List ℕ) (n : ℕ) (below : n < length bytes)
+    (before : (k : ℕ) → k < n → (slice_index bytes k == 10) ≡ true → ⊥) (here : slice_index bytes n ≡ 10) where
+  none_before : has_end (take n bytes) ≡ false
+  none_before = no_end_before n bytes before (omega arith)
+
+  around : bytes ≡ take n bytes ++ 10 ∷ drop (n + 1) bytes
+  around =
+      let next : suc n ≡ n + 1 = omega arith in
+      sym (take-append-drop n bytes)
+      ∙ ap (λ (rest : List ℕ). take n bytes ++ rest) (drop-cons bytes n 0 below ∙ (λ j. here j ∷ drop (next j) bytes))
+
+  -- the first part ends there
+  pub cut_at : (keep : Bool) → cut keep bytes ≡ take n bytes ∷ cut keep (drop (n + 1) bytes)
+  cut_at keep = ap (cut keep) around ∙ cut_line keep (take n bytes) (drop (n + 1) bytes) none_before
+
+  -- the bytes after the first line end begin right after it
+  pub after_line_end_at : after_first_line bytes ≡ drop (n + 1) bytes
+  after_line_end_at = ap after_first_line around ∙ after_line (take n bytes) (drop (n + 1) bytes) none_before
+
+  -- a line that was begun ends there
+  pub gathered_line : (raw ys : List ℕ) (keep : Bool) → has_end raw ≡ false
+      → lines_by keep ((raw ++ bytes) ++ ys) ≡ line_of (raw ++ take n bytes) ∷ lines_by keep (drop (n + 1) bytes ++ ys)
+  gathered_line raw ys keep h =
+      let rest = drop (n + 1) bytes ++ ys in
+      let all : (raw ++ bytes) ++ ys ≡ (raw ++ take n bytes) ++ 10 ∷ rest =
+      ap (λ (p : List ℕ). (raw ++ p) ++ ys) around ∙ regroup raw (take n bytes) 10 (drop (n + 1) bytes) ys in
+      ap (lines_by keep) all
+      ∙ ap (map line_of) (cut_line keep (raw ++ take n bytes) rest (no_end_more raw (take n bytes) h none_before))
 
 -- a line that ended in the last piece ended in all that was read
 pub ends_in_piece : (keep : Bool) (raw front back piece rest after line ys : List ℕ) → piece ≡ back → rest ≡ after
@@ -187,14 +170,6 @@ take_onto n xs ys h =
     let all : n ≡ length xs + (n - length xs) = omega arith in
     ap (λ (k : ℕ). take k (xs ++ ys)) all ∙ take-append-add xs ys (n - length xs)
     ∙ ap (λ rest. xs ++ rest) (sym (take_min_length (n - length xs) ys))
-
--- at most n are kept
-pub length_kept : {X : Type 0} → (n : ℕ) (xs : List X) → length (take n xs) ≤ n
-length_kept n xs = let e = length-take n xs in omega arith
-
--- a line is within what is kept
-pub length_line : (raw : List ℕ) → length (line_of raw) ≤ 4098
-length_line raw = let e = length_kept 4097 (strip_carriage_return raw) in omega arith
 
 -- what comes after some bytes leaves their whole lines as they are
 onto_more : (keep : Bool) (b : ℕ) (parts more all : List (List ℕ)) → all ≡ parts ++ more

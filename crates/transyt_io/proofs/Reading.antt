@@ -1,22 +1,28 @@
 -- The calls of `next`, by what was gathered.
 use Rattle.std.proofs.Common.{◌≡◌, ◌≢◌, ◌<◌, ◌≤◌, ℕ, ◌+◌, ◌++◌, Bool, true, false, List, [], ◌∷◌}
-use Rattle.std.proofs.Common.{map, Option, Some, Ok, Err, length, take, refl, sym, ◌∙◌, ap, subst}
+use Rattle.std.proofs.Common.{map, MatchResult, Option, Result, Some, Ok, Err, length, take, refl, sym, ◌∙◌, ap, subst}
 use Rattle.std.proofs.Common.{arith, append_assoc, length-append}
 use Rattle.std.proofs.lemmas.List.{append-nil, take_at}
+use Rattle.transyt_io.specs.declared.reader.Line.{Line}
 use Rattle.transyt_io.specs.declared.reader.Line.TheVariants.{Text, End}
+use Rattle.transyt_io.specs.declared.reader.ReadStop.{ReadStop}
 use Rattle.transyt_io.specs.declared.reader.ReadStop.TheVariants.{Fault, TooLong}
 use Rattle.transyt_io.specs.Lines.{line_of, lines_by, lines, whole, has_end}
 use Rattle.transyt_io.specs.Model.{Reading}
-use Rattle.transyt_io.specs.Reading.{HasRead, TellsReads, ReadsLine, new_reading}
+use Rattle.transyt_io.specs.Reading.{AnswerSays, HasRead, StopSays, TellsReads, ReadsLine, new_reading}
 use Rattle.transyt_io.specs.Streams.{Takes, IsAtEnd}
 use Rattle.transyt_io.proofs.Lines.{no_whole, open_line}
+
+-- a test doesn't both hold and fail
+pub not_both : {A : Type 0} {b : Bool} → b ≡ true → b ≡ false → A
+not_both holds fails = absurd (let h : true ≡ false = sym holds ∙ fails in cc)
 
 -- a new reader has taken nothing and handed out nothing
 pub new_has_read : (left : Option (List ℕ)) → HasRead new_reading left [] []
 new_has_read left = record {
   count = refl;
   to_come = λ keep ys _. refl;
-  at_end = λ over. absurd (let h : true ≡ false = sym over in cc);
+  at_end = λ over. not_both over refl;
   few = omega arith;
 }
 
@@ -26,7 +32,7 @@ pub all_given : (old : Reading) (left : Option (List ℕ)) (front taken : List �
     → has_end (old.held ++ front) ≡ false → HasRead old left taken given → given ≡ whole (taken ++ front)
 all_given old left front taken given going none has_read =
     let told : whole (taken ++ front) ≡ given ++ whole (old.held ++ front) =
-    has_read.to_come false front (λ over. absurd (let h : true ≡ false = sym over ∙ going in cc)) in
+    has_read.to_come false front (λ over. not_both over going) in
     sym (told ∙ ap (λ (ls : List (List ℕ)). given ++ map line_of ls) (no_whole (old.held ++ front) none)
     ∙ append-nil given)
 
@@ -45,11 +51,11 @@ hand_on old new left left_new got line taken given going goes count fewer ends h
       count = omega arith;
       to_come = λ keep ys _.
           ap (lines_by keep) (append_assoc taken got ys)
-          ∙ has_read.to_come keep (got ++ ys) (λ over. absurd (let h : true ≡ false = sym over ∙ going in cc))
+          ∙ has_read.to_come keep (got ++ ys) (λ over. not_both over going)
           ∙ ap (λ (xs : List ℕ). given ++ lines_by keep xs) (sym (append_assoc old.held got ys))
           ∙ ap (λ (ls : List (List ℕ)). given ++ ls) (ends keep ys)
           ∙ sym (append_assoc given (line ∷ []) (lines_by keep (new.held ++ ys)));
-      at_end = λ over. absurd (let h : true ≡ false = sym over ∙ goes in cc);
+      at_end = λ over. not_both over goes;
       few = omega arith;
     }
 
@@ -78,7 +84,7 @@ hand_last old new left left_new got taken given going ended empty count at_end n
     let positive : 0 < length (old.held ++ got) = some_length (old.held ++ got) some in
     let nothing : length new.held ≡ 0 = ap length empty in
     let all : lines (taken ++ got) ≡ given ++ line ∷ [] =
-    has_read.to_come true got (λ over. absurd (let h : true ≡ false = sym over ∙ going in cc))
+    has_read.to_come true got (λ over. not_both over going)
     ∙ ap (λ (ls : List (List ℕ)). given ++ ls) (open_lines (old.held ++ got) none some) in
     record {
       count = omega arith;
@@ -98,111 +104,74 @@ hand_last old new left left_new got taken given going ended empty count at_end n
       few = omega arith;
     }
 
--- a line ended
-pub reads_line : (old new : Reading) (left left_new : Option (List ℕ)) (last last_new : Option ℕ)
-    (front back line : List ℕ)
-    → old.ended ≡ false → new.ended ≡ false → new.line ≡ Some line → new.taken ≡ old.taken + length (front ++ back)
-    → length new.held < length old.held + length (front ++ back)
-    → Takes left left_new (front ++ back) → TellsReads old left last last_new front back
-    → ((keep : Bool) (ys : List ℕ)
-    → lines_by keep ((old.held ++ (front ++ back)) ++ ys) ≡ line ∷ lines_by keep (new.held ++ ys))
-    → ReadsLine old new left left_new last last_new (Ok Text)
-reads_line old new left left_new last last_new front back line going goes told count fewer takes reads ends = record {
-  front = front;
-  back = back;
-  takes = takes;
-  reads = reads;
-  says = λ taken given has_read. record {
+-- a call that took these bytes, of which the last read gave those of `back`
+module _ (old new : Reading) (left left_new : Option (List ℕ)) (last last_new : Option ℕ) (front back : List ℕ)
+    (going : old.ended ≡ false) (takes : Takes left left_new (front ++ back))
+    (reads : TellsReads old left last last_new front back) where
+  -- the call by its meaning for each reader before it
+  told : (result : Result Line ReadStop) → ((taken : List ℕ) (given : List (List ℕ)) → HasRead old left taken given
+      → MatchResult result (AnswerSays new left_new (taken ++ (front ++ back)) given)
+      (StopSays (taken ++ (front ++ back)) given))
+      → ReadsLine old new left left_new last last_new result
+  told result says = record { front = front; back = back; takes = takes; reads = reads; says = says }
+
+  -- a line ended
+  pub reads_line : (line : List ℕ)
+      → new.ended ≡ false → new.line ≡ Some line → new.taken ≡ old.taken + length (front ++ back)
+      → length new.held < length old.held + length (front ++ back)
+      → ((keep : Bool) (ys : List ℕ)
+      → lines_by keep ((old.held ++ (front ++ back)) ++ ys) ≡ line ∷ lines_by keep (new.held ++ ys))
+      → ReadsLine old new left left_new last last_new (Ok Text)
+  reads_line line goes now count fewer ends = told (Ok Text) (λ taken given has_read. record {
     line = line;
-    now = told;
+    now = now;
     has_read = hand_on old new left left_new (front ++ back) line taken given going goes count fewer ends has_read;
-  };
-}
+  })
 
--- the source ended after a last line
-pub reads_last : (old new : Reading) (left left_new : Option (List ℕ)) (last last_new : Option ℕ)
-    (front back line : List ℕ)
-    → old.ended ≡ false → new.ended ≡ true → new.held ≡ [] → new.line ≡ Some line
-    → line ≡ line_of (old.held ++ (front ++ back)) → new.taken ≡ old.taken + length (front ++ back)
-    → IsAtEnd left_new → has_end (old.held ++ (front ++ back)) ≡ false → old.held ++ (front ++ back) ≢ []
-    → Takes left left_new (front ++ back) → TellsReads old left last last_new front back
-    → ReadsLine old new left left_new last last_new (Ok Text)
-reads_last old new left left_new last last_new front back line
-    going ended empty told is count at_end none some takes reads = record {
-      front = front;
-      back = back;
-      takes = takes;
-      reads = reads;
-      says = λ taken given has_read. record {
-        line = line_of (old.held ++ (front ++ back));
-        now = told ∙ ap Some is;
-        has_read = hand_last old new left left_new (front ++ back) taken given
-            going ended empty count at_end none some has_read;
-      };
-    }
+  -- the source ended after a last line
+  pub reads_last : new.ended ≡ true → new.held ≡ [] → new.line ≡ Some (line_of (old.held ++ (front ++ back)))
+      → new.taken ≡ old.taken + length (front ++ back)
+      → IsAtEnd left_new → has_end (old.held ++ (front ++ back)) ≡ false → old.held ++ (front ++ back) ≢ []
+      → ReadsLine old new left left_new last last_new (Ok Text)
+  reads_last ended empty now count at_end none some = told (Ok Text) (λ taken given has_read. record {
+    line = line_of (old.held ++ (front ++ back));
+    now = now;
+    has_read = hand_last old new left left_new (front ++ back) taken given
+        going ended empty count at_end none some has_read;
+  })
 
--- the source ended and no line is left
-pub reads_end : (old new : Reading) (left left_new : Option (List ℕ)) (last last_new : Option ℕ)
-    (front back : List ℕ)
-    → old.ended ≡ false → IsAtEnd left_new → old.held ++ (front ++ back) ≡ []
-    → old.taken + length (front ++ back) ≤ 4194304
-    → Takes left left_new (front ++ back) → TellsReads old left last last_new front back
-    → ReadsLine old new left left_new last last_new (Ok End)
-reads_end old new left left_new last last_new front back going at_end none most takes reads = record {
-  front = front;
-  back = back;
-  takes = takes;
-  reads = reads;
-  says = λ taken given has_read.
+  -- the source ended and no line is left
+  pub reads_end : IsAtEnd left_new → old.held ++ (front ++ back) ≡ [] → old.taken + length (front ++ back) ≤ 4194304
+      → ReadsLine old new left left_new last last_new (Ok End)
+  reads_end at_end none most = told (Ok End) (λ taken given has_read.
       let had : old.taken ≡ length taken = has_read.count in
       let size : length (taken ++ (front ++ back)) ≡ length taken + length (front ++ back) =
       length-append taken (front ++ back) in
-      let told : lines (taken ++ (front ++ back)) ≡ given ++ lines (old.held ++ (front ++ back)) =
-      has_read.to_come true (front ++ back) (λ over. absurd (let h : true ≡ false = sym over ∙ going in cc)) in
-      (sym (told ∙ ap (λ (xs : List ℕ). given ++ lines xs) none ∙ append-nil given), at_end, omega arith);
-}
+      let all : lines (taken ++ (front ++ back)) ≡ given ++ lines (old.held ++ (front ++ back)) =
+      has_read.to_come true (front ++ back) (λ over. not_both over going) in
+      (sym (all ∙ ap (λ (xs : List ℕ). given ++ lines xs) none ∙ append-nil given), at_end, omega arith))
 
--- the source failed
-pub reads_fault : (old new : Reading) (left left_new : Option (List ℕ)) (last last_new : Option ℕ)
-    (front back : List ℕ)
-    → old.ended ≡ false → back ≡ [] → old.taken + length front ≤ 4194304 → has_end (old.held ++ front) ≡ false
-    → Takes left left_new (front ++ back) → TellsReads old left last last_new front back
-    → ReadsLine old new left left_new last last_new (Err Fault)
-reads_fault old new left left_new last last_new front back going nothing most none takes reads = record {
-  front = front;
-  back = back;
-  takes = takes;
-  reads = reads;
-  says = λ taken given has_read.
+  -- the source failed
+  pub reads_fault : back ≡ [] → old.taken + length front ≤ 4194304 → has_end (old.held ++ front) ≡ false
+      → ReadsLine old new left left_new last last_new (Err Fault)
+  reads_fault nothing most none = told (Err Fault) (λ taken given has_read.
       let had : old.taken ≡ length taken = has_read.count in
-      let size : length (taken ++ (front ++ back)) ≡ length taken + length (front ++ back) =
-      length-append taken (front ++ back) in
-      let both : length (front ++ back) ≡ length front + length back = length-append front back in
-      let no_back : length back ≡ 0 = ap length nothing in
       let all : front ≡ front ++ back = sym (append-nil front) ∙ ap (λ (xs : List ℕ). front ++ xs) (sym nothing) in
-      let given_is = all_given old left front taken given going none has_read in
-      (given_is ∙ ap (λ (xs : List ℕ). whole (taken ++ xs)) all, omega arith);
-}
+      let size : length (taken ++ (front ++ back)) ≡ length taken + length front =
+      length-append taken (front ++ back) ∙ ap (λ (xs : List ℕ). length taken + length xs) (sym all) in (
+        all_given old left front taken given going none has_read ∙ ap (λ (xs : List ℕ). whole (taken ++ xs)) all,
+        omega arith,
+      ))
 
--- one byte too many came
-pub reads_too_long : (old new : Reading) (left left_new : Option (List ℕ)) (last last_new : Option ℕ)
-    (front back : List ℕ)
-    → old.ended ≡ false → length back ≡ 1 → old.taken + length front ≡ 4194304 → has_end (old.held ++ front) ≡ false
-    → Takes left left_new (front ++ back) → TellsReads old left last last_new front back
-    → ReadsLine old new left left_new last last_new (Err TooLong)
-reads_too_long old new left left_new last last_new front back going one most none takes reads = record {
-  front = front;
-  back = back;
-  takes = takes;
-  reads = reads;
-  says = λ taken given has_read.
+  -- one byte too many came
+  pub reads_too_long : length back ≡ 1 → old.taken + length front ≡ 4194304 → has_end (old.held ++ front) ≡ false
+      → ReadsLine old new left left_new last last_new (Err TooLong)
+  reads_too_long one most none = told (Err TooLong) (λ taken given has_read.
       let had : old.taken ≡ length taken = has_read.count in
       let first : length (taken ++ front) ≡ length taken + length front = length-append taken front in
-      let second : length (front ++ back) ≡ length front + length back = length-append front back in
-      let all : length (taken ++ (front ++ back)) ≡ length taken + length (front ++ back) =
-      length-append taken (front ++ back) in
       let parts : taken ++ (front ++ back) ≡ (taken ++ front) ++ back = sym (append_assoc taken front back) in
+      let all : length (taken ++ (front ++ back)) ≡ length (taken ++ front) + length back =
+      ap (λ (xs : List ℕ). length xs) parts ∙ length-append (taken ++ front) back in
       let cut_off : take 4194304 (taken ++ (front ++ back)) ≡ taken ++ front =
       ap (λ (xs : List ℕ). take 4194304 xs) parts ∙ take_at (taken ++ front) back 4194304 (omega arith) in
-      (omega arith, all_given old left front taken given going none has_read ∙ ap whole (sym cut_off));
-}
+      (omega arith, all_given old left front taken given going none has_read ∙ ap whole (sym cut_off)))

@@ -1,8 +1,8 @@
 -- What sources and sinks tell, call after call.
 use Rattle.std.proofs.Common.{◌≡◌, ℕ, List, [], ◌++◌, Option, None, Some, Result, Ok, Err, OnErr, refl, sym, ◌∙◌, ap}
-use Rattle.std.proofs.Common.{append_assoc}
+use Rattle.std.proofs.Common.{append_assoc, option_map}
 use Rattle.std.proofs.lemmas.List.{append-nil}
-use Rattle.transyt_io.specs.Streams.{followed_by, extended_by, Takes, Adds, AddsFront}
+use Rattle.transyt_io.specs.Streams.{Takes, Adds, AddsFront}
 
 -- no read takes nothing
 pub takes_nothing : (told : Option (List ℕ)) → Takes told told []
@@ -11,12 +11,9 @@ takes_nothing (Some bytes) = refl
 
 -- what two reads took, one after the other
 pub takes_both : (a b c : Option (List ℕ)) (xs ys : List ℕ) → Takes a b xs → Takes b c ys → Takes a c (xs ++ ys)
-takes_both a b None xs ys h k = h ∙ ap (followed_by xs) k
-takes_both a b (Some rest) xs ys h k = h ∙ ap (followed_by xs) k ∙ ap Some (sym (append_assoc xs ys rest))
-
--- a read that failed took nothing more
-pub takes_no_more : (a b c : Option (List ℕ)) (xs : List ℕ) → Takes a b xs → c ≡ b → Takes a c (xs ++ [])
-takes_no_more a b c xs h same = takes_both a b c xs [] h (sym same ∙ takes_nothing c)
+takes_both a b None xs ys h k = h ∙ ap (option_map (λ rest. xs ++ rest)) k
+takes_both a b (Some rest) xs ys h k =
+    h ∙ ap (option_map (λ rest. xs ++ rest)) k ∙ ap Some (sym (append_assoc xs ys rest))
 
 -- no write adds nothing
 pub adds_nothing : (told : Option (List ℕ)) → Adds told told []
@@ -25,8 +22,9 @@ adds_nothing (Some bytes) = ap Some (sym (append-nil bytes))
 
 -- what two writes added, one after the other
 pub adds_both : (a b c : Option (List ℕ)) (xs ys : List ℕ) → Adds a b xs → Adds b c ys → Adds a c (xs ++ ys)
-adds_both None b c xs ys h k = k ∙ ap (λ told. extended_by told ys) h
-adds_both (Some front) b c xs ys h k = k ∙ ap (λ told. extended_by told ys) h ∙ ap Some (append_assoc front xs ys)
+adds_both None b c xs ys h k = k ∙ ap (option_map (λ before. before ++ ys)) h
+adds_both (Some front) b c xs ys h k =
+    k ∙ ap (option_map (λ before. before ++ ys)) h ∙ ap Some (append_assoc front xs ys)
 
 -- what was added is a front of all that it begins
 pub adds_so_far : (a b : Option (List ℕ)) (out rest all : List ℕ) → Adds a b out → out ++ rest ≡ all → AddsFront a b all
@@ -57,8 +55,3 @@ adds_further a b c out text all h k more is = record {
 pub on_err : {T E X : Type 0} → (r : Result T E) → X → OnErr r X
 on_err (Ok v) x = tt
 on_err (Err e) x = x
-
--- what follows from a fact of an error is one too
-pub on_err_map : {T E X Y : Type 0} → (r : Result T E) → (X → Y) → OnErr r X → OnErr r Y
-on_err_map (Ok v) f x = tt
-on_err_map (Err e) f x = f x

@@ -11,19 +11,14 @@ next_count n = min (n + 1) last_count
 abbrev pub fails_next : List ℕ → ℕ → Bool
 fails_next fail calls = nat_lt calls 4294967295 && list_any (λ number. number == calls + 1) fail
 
--- the view of a MemorySource
+-- the view of a MemorySource: the bytes left, the most bytes that one call gives, the numbers of the calls that fail,
+-- from 1, how many calls there were and how many failed, and how many bytes the last call gave
 pub record Supply : Type 0 where
-  -- the bytes left
   pub left : List ℕ
-  -- the most bytes that one call gives
   pub piece : ℕ
-  -- the numbers of the calls that fail, from 1
   pub fail : List ℕ
-  -- how many calls there were
   pub calls : ℕ
-  -- how many calls failed
   pub faults : ℕ
-  -- how many bytes the last call gave
   pub last : ℕ
 
 -- a source that nothing was read from
@@ -36,50 +31,31 @@ given_count supply room = min (min supply.piece room) (length supply.left)
 
 -- the source after a call that gave n bytes
 abbrev pub supply_after : Supply → ℕ → Supply
-supply_after supply n = record {
-  left = drop n supply.left;
-  piece = supply.piece;
-  fail = supply.fail;
-  calls = next_count supply.calls;
-  faults = supply.faults;
-  last = n;
-}
+supply_after supply n =
+    record supply { left = drop n supply.left; calls = next_count supply.calls; last = n }
 
 -- the source after a call that failed
 abbrev pub supply_after_fault : Supply → Supply
-supply_after_fault supply = record {
-  left = supply.left;
-  piece = supply.piece;
-  fail = supply.fail;
-  calls = next_count supply.calls;
-  faults = next_count supply.faults;
-  last = 0;
-}
+supply_after_fault supply =
+    record supply { calls = next_count supply.calls; faults = next_count supply.faults; last = 0 }
 
--- the view of a SteadySource
+-- the view of a SteadySource: the bytes left, and how many bytes the last call gave
 pub record Stock : Type 0 where
-  -- the bytes left
   pub left : List ℕ
-  -- how many bytes the last call gave
   pub last : ℕ
 
 -- a steady source after a call that gave n bytes
 abbrev pub stock_after : Stock → ℕ → Stock
 stock_after stock n = record { left = drop n stock.left; last = n }
 
--- the view of a MemorySink
+-- the view of a MemorySink: the bytes written, how many more it takes, the most bytes that one call takes, the numbers
+-- of the calls that fail, from 1, and how many calls there were and how many failed
 pub record Store : Type 0 where
-  -- the bytes written
   pub written : List ℕ
-  -- how many more bytes it takes
   pub room : ℕ
-  -- the most bytes that one call takes
   pub piece : ℕ
-  -- the numbers of the calls that fail, from 1
   pub fail : List ℕ
-  -- how many calls there were
   pub calls : ℕ
-  -- how many calls failed
   pub faults : ℕ
 
 -- a sink that nothing was written to
@@ -96,22 +72,12 @@ taken_count store size = min (min store.piece size) store.room
 
 -- the sink after a call that took these bytes
 abbrev pub store_after : Store → List ℕ → Store
-store_after store bytes = record {
+store_after store bytes = record store {
   written = store.written ++ bytes;
   room = store.room - length bytes;
-  piece = store.piece;
-  fail = store.fail;
   calls = next_count store.calls;
-  faults = store.faults;
 }
 
 -- the sink after a call that failed
 abbrev pub store_after_fault : Store → Store
-store_after_fault store = record {
-  written = store.written;
-  room = store.room;
-  piece = store.piece;
-  fail = store.fail;
-  calls = next_count store.calls;
-  faults = next_count store.faults;
-}
+store_after_fault store = record store { calls = next_count store.calls; faults = next_count store.faults }

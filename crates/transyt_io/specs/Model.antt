@@ -1,15 +1,11 @@
 -- The view of a line reader. It names no type of the crate, so that the reader's model may cite it.
 use Rattle.std.specs.Prelude.{ℕ, List, Bool, Option}
 
--- a reader of lines
+-- a reader of lines: of a live one how many bytes were taken, and those of them that no line handed out has; whether the
+-- source was read to its end, whether `next` may be called, and the line that the last call of `next` handed out
 pub record Reading : Type 0 where
-  -- of a live reader: how many bytes were taken
   pub taken : ℕ
-  -- of a live reader: the bytes taken that no line handed out has
   pub held : List ℕ
-  -- the source was read to its end
   pub ended : Bool
-  -- `next` may be called
   pub live : Bool
-  -- the line that the last call of `next` handed out
   pub line : Option (List ℕ)

@@ -1,6 +1,6 @@
 -- The bytes that a line reader took, the lines that it handed out, and the effect of `next` on both.
 use Rattle.std.specs.Prelude.{◌≡◌, ◌≤◌, ◌⊎◌, ℕ, ◌+◌, ◌-◌, ◌*◌, ◌++◌, List, [], ◌∷◌, Bool, true, false, Option, Some}
-use Rattle.std.specs.Prelude.{None, Result, Ok, Err, IfSome, MatchResult, length, take}
+use Rattle.std.specs.Prelude.{None, Result, Ok, IfSome, MatchResult, length, take}
 use Rattle.transyt_io.specs.declared.reader.Line.{Line}
 use Rattle.transyt_io.specs.declared.reader.Line.TheVariants.{Text, End}
 use Rattle.transyt_io.specs.declared.reader.ReadStop.{ReadStop}
@@ -65,5 +65,4 @@ new_reading = record { taken = 0; held = []; ended = false; live = true; line = 
 -- the answer is a line
 abbrev pub is_text : Result Line ReadStop → Bool
 is_text (Ok Text) = true
-is_text (Ok End) = false
-is_text (Err stop) = false
+is_text _ = false

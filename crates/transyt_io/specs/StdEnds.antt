@@ -1,17 +1,15 @@
 -- The ends of std: what contracts see of them.
-use Rattle.std.specs.Prelude.{ℕ, List, ◌||◌, IsTrue, Option, None, Some, is_none, is_some}
+use Rattle.std.specs.Prelude.{ℕ, List, ◌||◌, IsTrue, Option, is_none, is_some, option_and_then}
 
--- the view of an end of std
+-- the view of an end of std: of a reader the bytes left, of a writer the bytes that it holds, where std told them when the
+-- end was made; and how many calls failed
 pub record StdEnd : Type 0 where
-  -- of a reader the bytes left, of a writer the bytes that it holds, where std told them when the end was made
   pub told : Option (List ℕ)
-  -- how many calls failed
   pub faults : ℕ
 
 -- the bytes told now, where some were told at first
 abbrev pub told_since : Option (List ℕ) → Option (List ℕ) → Option (List ℕ)
-told_since None now = None
-told_since (Some first) now = now
+told_since first now = option_and_then (λ _. now) first
 
 -- where something was told at first, something is told now
 abbrev pub StillTells : Option (List ℕ) → Option (List ℕ) → Type 0

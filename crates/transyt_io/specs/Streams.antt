@@ -2,25 +2,17 @@
 use Rattle.std.specs.Prelude.{◌≡◌, ◌<◌, ◌≤◌, ◌⊎◌, ◌++◌, ℕ, List, [], Option, Result, IfSome, OnErr, MatchResult, take}
 use Rattle.std.specs.Prelude.{option_map}
 
--- the bytes that a source told before it gave these
-abbrev pub followed_by : List ℕ → Option (List ℕ) → Option (List ℕ)
-followed_by front told = option_map (λ rest. front ++ rest) told
-
--- the bytes that a sink tells after it took these
-abbrev pub extended_by : Option (List ℕ) → List ℕ → Option (List ℕ)
-extended_by told back = option_map (λ front. front ++ back) told
-
 -- no byte is left, where the source tells it
 abbrev pub IsAtEnd : Option (List ℕ) → Type 0
 IsAtEnd told = IfSome told (λ bytes. bytes ≡ [])
 
 -- a source gave these bytes
 abbrev pub Takes : Option (List ℕ) → Option (List ℕ) → List ℕ → Type 0
-Takes old new bytes = old ≡ followed_by bytes new
+Takes old new bytes = old ≡ option_map (λ rest. bytes ++ rest) new
 
 -- a sink took these bytes
 abbrev pub Adds : Option (List ℕ) → Option (List ℕ) → List ℕ → Type 0
-Adds old new bytes = new ≡ extended_by old bytes
+Adds old new bytes = new ≡ option_map (λ before. before ++ bytes) old
 
 -- a sink took some first bytes of these
 pub record AddsFront (old new : Option (List ℕ)) (bytes : List ℕ) : Type 0 where

@@ -8,17 +8,12 @@ use Rattle.transyt_sweep.specs.Climb.{index_with, is_below}
 use Rattle.transyt_sweep.specs.Sweeps.{index}
 use Rattle.transyt_session.specs.Session.{net_with, edited_net, lower_index}
 
--- an allowed edit is made
-pub made_allowed : (net after : Network) (e : Edit) → edit_fault net e ≡ None → after ≡ edited_net net e
-    → after ≡ with_edit net e
-made_allowed net after e allowed made = made ∙ ap (net_with net e) allowed
-
--- what is answered, where the edit is allowed
-pub lower_is : (net : Network) (e : Edit) (found bound : ℕ) (lowers : Bool) → edit_fault net e ≡ None
-    → found ≡ index (with_edit net e) → bound ≡ index net → nat_lt found bound ≡ lowers
+-- the answer where the edit is allowed and was made
+pub lower_is : (net after : Network) (e : Edit) (found bound : ℕ) (lowers : Bool) → edit_fault net e ≡ None
+    → after ≡ edited_net net e → found ≡ index after → bound ≡ index net → nat_lt found bound ≡ lowers
     → lower_index net e ≡ (if lowers then Some found else None)
-lower_is net e found bound lowers allowed found_is bound_is tells =
+lower_is net after e found bound lowers allowed made found_is bound_is tells =
     ap (λ f. if is_below (index net) (index_with net e f) then Some (index (with_edit net e)) else None) allowed
-    ∙ ap (λ x. if nat_lt x (index net) then Some x else None) (sym found_is)
+    ∙ ap (λ x. if nat_lt x (index net) then Some x else None) (sym (found_is ∙ ap index (made ∙ ap (net_with net e) allowed)))
     ∙ ap (λ y. if nat_lt found y then Some found else None) (sym bound_is)
     ∙ ap (λ b. if b then Some found else None) tells

@@ -1,5 +1,6 @@
 -- A session, and the session after each of its calls.
 use Rattle.std.specs.Prelude.{ℕ, ◌+◌, Bool, Option, Some, None, is_some, if◌then◌else◌}
+use Rattle.std.specs.Option.{option_map_or}
 use Rattle.transyt_net.specs.declared.edit.Edit.{Edit}
 use Rattle.transyt_net.specs.declared.edit.EditFault.{EditFault}
 use Rattle.transyt_net.specs.Parts.{Network}
@@ -37,14 +38,9 @@ edited_net net e = net_with net e (edit_fault net e)
 abbrev pub edited : Edit → SessionValue → SessionValue
 edited e s = record { net = edited_net s.net e; before = s.before; work = s.work + edit_work s.net e }
 
--- the answer to an edit, by its fault
-abbrev pub reply_with : Network → Edit → Option EditFault → Reply
-reply_with net e None = Done (due net (with_edit net e))
-reply_with net e (Some fault) = Refused fault
-
 -- the answer to an edit: its work, or its fault
 abbrev pub reply_to : Network → Edit → Reply
-reply_to net e = reply_with net e (edit_fault net e)
+reply_to net e = option_map_or Refused (edit_fault net e) (Done (due net (with_edit net e)))
 
 -- the answer to a try of an edit, by its fault
 abbrev pub tried_with : Network → Edit → Option EditFault → Tried

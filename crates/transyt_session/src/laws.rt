@@ -9,6 +9,7 @@ ghost use Rattle.transyt_session.specs.Session.{opened, edited, reply_to, try_of
 ghost use Rattle.transyt_session.specs.WorkedSessions.{shifted, begun, in_trial, taken_back, kept, worked_replies};
 
 /// A worked session after each call, and the answers to edits.
+#[tactic(auto, using(crate::proofs::WorkedLaws::trial, crate::proofs::WorkedLaws::replies, crate::proofs::WorkedLaws::tried))]
 pub fn worked_session()
     ensures trial { edited (Offset 21 9) (trial_of begun) ≡ in_trial }
     ensures second_trial { trial_of in_trial ≡ in_trial }

@@ -1,5 +1,5 @@
 -- A line as a keyword and its numbers.
-use Rattle.std.specs.Prelude.{ℕ, Bool, ◌&&◌, ◌||◌, not, nat_le, nat_lt, if◌then◌else◌, List, [], ◌∷◌, length, get_or}
+use Rattle.std.specs.Prelude.{ℕ, Bool, ◌&&◌, ◌||◌, not, nat_le, nat_lt, if◌then◌else◌, List, [], ◌∷◌, length, get_or, drop}
 use Rattle.std.specs.Prelude.{Option, Some, None, is_some, unwrap_or, option_and_then, Result, Ok, Err}
 use Rattle.std.specs.Option.{option_map}
 use Rattle.std.specs.List.{list_all}
@@ -40,13 +40,11 @@ is_plain b = is_blank b || (nat_le 33 b && nat_le b 126)
 
 -- the keyword: the first word, or no bytes where there is no word
 abbrev pub first_word : List (List ℕ) → List ℕ
-first_word [] = []
-first_word (word ∷ more) = word
+first_word words = get_or words 0 []
 
 -- the words after the keyword
 abbrev pub further_words : List (List ℕ) → List (List ℕ)
-further_words [] = []
-further_words (word ∷ more) = more
+further_words words = drop 1 words
 
 -- the values of words, where all are numbers
 abbrev pub all_numbers : List (List ℕ) → Option (List ℕ)

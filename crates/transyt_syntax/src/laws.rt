@@ -7,7 +7,6 @@ ghost use Rattle.transyt_syntax.specs.WorkedLines.{each_code, many, table, worke
 
 /// The worked lines say what is written beside the definitions; seventeen words are the most that are read as numbers;
 /// and the codes have the numbers from 10 on.
-#[tactic(auto, using(crate::proofs::Worked::said_is, crate::proofs::Worked::most_is, crate::proofs::Worked::one_over_is, crate::proofs::Worked::codes_are))]
 pub fn worked_lines()
     ensures said { map (λ row. said table row.0) worked ≡ map (λ row. row.1) worked }
     ensures most { few_numbers (many 1) ≡ Some (7 ∷ replicate 16 11) }

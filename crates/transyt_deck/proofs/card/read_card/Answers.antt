@@ -3,7 +3,6 @@ use Rattle.std.proofs.Common.{◌≡◌, sym, ◌∙◌, false}
 use Rattle.transyt_io.specs.Lines.{is_skipped}
 use Rattle.transyt_syntax.proofs.Says.{found_of, kept_says}
 use Rattle.transyt_deck.specs.Table.{cards}
-use Rattle.transyt_deck.proofs.Adding.{can_add}
 use Rattle.transyt_deck.proofs.card.read_card.Goals as goal
 
 -- what is found is what the table says
@@ -14,9 +13,3 @@ returns-clause-card c =
     c.say.ensures.says (cards c.args.form)
     (found_of (cards c.args.form) line _ _ _ c.card_named.ensures.card c.first_of.ensures.first)
     ∙ kept_says (cards c.args.form) line kept
-
--- the numbers of a card are as many as its entry takes
-pub returns-clause-counts : goal.returns-clause-counts
-returns-clause-counts c =
-    can_add c.say.result c.card_named.result _ _ _ c.say.ensures.found c.say.ensures.counted
-    c.card_named.ensures.counts c.further_of-further.ensures.length

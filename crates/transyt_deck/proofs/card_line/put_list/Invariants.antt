@@ -3,7 +3,6 @@ use Rattle.std.proofs.Common.{◌≡◌, ◌+◌, ◌*◌, ◌≤◌, ◌++◌, 
 use Rattle.transyt_text.specs.Forms.{values_text}
 use Rattle.transyt_deck.proofs.card_line.put_list.Given as goal
 
--- the line with the numbers from this one on is the whole
 abbrev pub invariant-loop-number : goal.invariant-loop-number
 invariant-loop-number l = record {
   text : l.line ++ values_text (drop l.number-index l.list) ≡ l.fn.line ++ values_text l.list;

@@ -1,8 +1,8 @@
 -- The parts are written one after another; where one breaks off, a front of the whole is written.
 use Rattle.std.proofs.Common.{refl}
 use Rattle.transyt_text.proofs.PrintLaws.{prints_both, prints_front, prints_same}
-use Rattle.transyt_deck.proofs.ReadBack.{deck_read_back}
-use Rattle.transyt_deck.proofs.CardLines.{parts_are}
+use Rattle.transyt_deck.specs.declared.card.Card.TheVariants.{End}
+use Rattle.transyt_deck.proofs.CardLines.{one_printed, parts_are}
 use Rattle.transyt_deck.proofs.deck_text.print_deck.Goals as goal
 
 -- the text broke off in the frame
@@ -73,28 +73,6 @@ returns-clause-prints g c =
     (prints_both _ _ _ c.in_ok-print_feeds.ensures
     (prints_both _ _ _ c.in_ok-print_rules.ensures
     (prints_both _ _ _ c.in_ok-print_plan.ensures
-    c.print_form.ensures))))))
+    (one_printed _ End c.print_card.ensures)))))))
     (parts_are c.args.net.now c.frame.ensures.value c.nodes.ensures.value c.links-links.ensures.value
     c.plan.ensures.value)
-
--- the text reads back, wherever it broke off: the network is valid
-pub returns-in_err-print_frame-clause-reads_back : goal.returns-in_err-print_frame-clause-reads_back
-returns-in_err-print_frame-clause-reads_back g c = deck_read_back c.args.net.now c.links-links.ensures.valid
-
-pub returns-in_err-print_nodes-clause-reads_back : goal.returns-in_err-print_nodes-clause-reads_back
-returns-in_err-print_nodes-clause-reads_back g c = deck_read_back c.args.net.now c.links-links.ensures.valid
-
-pub returns-in_err-print_links-clause-reads_back : goal.returns-in_err-print_links-clause-reads_back
-returns-in_err-print_links-clause-reads_back g c = deck_read_back c.args.net.now c.links-links.ensures.valid
-
-pub returns-in_err-print_feeds-clause-reads_back : goal.returns-in_err-print_feeds-clause-reads_back
-returns-in_err-print_feeds-clause-reads_back g c = deck_read_back c.args.net.now c.links-links.ensures.valid
-
-pub returns-in_err-print_rules-clause-reads_back : goal.returns-in_err-print_rules-clause-reads_back
-returns-in_err-print_rules-clause-reads_back g c = deck_read_back c.args.net.now c.links-links.ensures.valid
-
-pub returns-in_err-print_plan-clause-reads_back : goal.returns-in_err-print_plan-clause-reads_back
-returns-in_err-print_plan-clause-reads_back g c = deck_read_back c.args.net.now c.links-links.ensures.valid
-
-pub returns-clause-reads_back : goal.returns-clause-reads_back
-returns-clause-reads_back g c = deck_read_back c.args.net.now c.links-links.ensures.valid

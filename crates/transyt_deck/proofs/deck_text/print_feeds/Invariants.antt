@@ -4,7 +4,6 @@ use Rattle.transyt_text.specs.Prints.{Printed}
 use Rattle.transyt_deck.specs.Cards.{cards_text, feed_cards}
 use Rattle.transyt_deck.proofs.deck_text.print_feeds.Given as goal
 
--- the cards of the links before this one are written
 abbrev pub invariant-loop-link : goal.invariant-loop-link
 invariant-loop-link g l =
     Printed (g.K.Sink.written l.fn.sink) (g.K.Sink.written l.sink) (g.K.Sink.faults l.fn.sink) (g.K.Sink.faults l.sink)

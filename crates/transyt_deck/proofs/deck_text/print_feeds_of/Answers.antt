@@ -1,11 +1,9 @@
 -- A feed more has its card written after those of the feeds before it.
-use Rattle.std.proofs.Common.{arith, refl}
+use Rattle.std.proofs.Common.{rules, refl}
 use Rattle.transyt_text.proofs.LoopLaws.{item_printed, item_broken, items_printed}
-use Rattle.transyt_text.proofs.PrintLaws.{prints_same}
 use Rattle.transyt_net.specs.Edits.{no_feed}
 use Rattle.transyt_deck.specs.Cards.{card_line}
 use Rattle.transyt_deck.specs.declared.card.Card.TheVariants as card
-use Rattle.transyt_deck.proofs.CardLines.{lines_of_map}
 use Rattle.transyt_deck.proofs.deck_text.print_feeds_of.Goals as goal
 
 -- one more is written
@@ -17,15 +15,9 @@ loop-feed-preserved g c =
 -- the text broke off in this one
 pub returns-in_err-print_feed : goal.returns-in_err-print_feed
 returns-in_err-print_feed g c =
-    prints_same _ _ _ _ _
-    (item_broken _ (tt {0}) (λ f. card_line (card.Feed c.args.link f)) c.args.feeds.now c.loop-feed.feed-index no_feed _ _ _ _
-    c.from_residual.ensures.0 c.loop-feed-test.true refl c.loop-feed.invariant c.in_err-print_feed.ensures)
-    (lines_of_map (card.Feed c.args.link) c.args.feeds.now)
+    item_broken _ (tt {0}) (λ f. card_line (card.Feed c.args.link f)) c.args.feeds.now c.loop-feed.feed-index no_feed _ _ _ _
+    c.from_residual.ensures.0 c.loop-feed-test.true refl c.loop-feed.invariant c.in_err-print_feed.ensures
 
 -- all are written
 pub returns : goal.returns
-returns g c =
-    prints_same _ _ _ _ _
-    (items_printed (tt {0}) (λ f. card_line (card.Feed c.args.link f)) c.args.feeds.now c.loop-feed.feed-index _ _
-    (omega (arith, c.loop-feed-test.false)) c.loop-feed.invariant)
-    (lines_of_map (card.Feed c.args.link) c.args.feeds.now)
+returns g c = search (rules, items_printed)

@@ -4,7 +4,6 @@ use Rattle.transyt_text.specs.Prints.{Printed}
 use Rattle.transyt_deck.specs.Cards.{cards_text, node_cards}
 use Rattle.transyt_deck.proofs.deck_text.print_nodes.Given as goal
 
--- the cards of the nodes before this one are written
 abbrev pub invariant-loop-node : goal.invariant-loop-node
 invariant-loop-node g l =
     Printed (g.K.Sink.written l.fn.sink) (g.K.Sink.written l.sink) (g.K.Sink.faults l.fn.sink) (g.K.Sink.faults l.sink)

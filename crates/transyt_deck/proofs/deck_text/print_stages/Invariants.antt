@@ -5,7 +5,6 @@ use Rattle.transyt_deck.specs.Cards.{card_line}
 use Rattle.transyt_deck.specs.declared.card.Card.TheVariants as card
 use Rattle.transyt_deck.proofs.deck_text.print_stages.Given as goal
 
--- the cards of the stages before this one are written
 abbrev pub invariant-loop-stage : goal.invariant-loop-stage
 invariant-loop-stage g l =
     Printed (g.K.Sink.written l.fn.sink) (g.K.Sink.written l.sink) (g.K.Sink.faults l.fn.sink) (g.K.Sink.faults l.sink)

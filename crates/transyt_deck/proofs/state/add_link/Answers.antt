@@ -1,21 +1,16 @@
--- The draft refuses a link by the fault that the card is refused by, else it has the link.
-use Rattle.std.proofs.Common.{ℕ, List, Some, Err, sym, subst, ◌∙◌}
-use Rattle.transyt_net.specs.declared.draft.DraftFault.TheVariants.{Memory}
-use Rattle.transyt_net.specs.Refuses.{Refuses}
-use Rattle.transyt_parts.specs.Made.{link_from}
+-- The draft refuses a link by the fault that the card is refused by.
+use Rattle.std.proofs.Common.{sym, ◌∙◌}
 use Rattle.transyt_net.specs.Faults.{link_fault, with_link}
+use Rattle.transyt_parts.specs.Made.{link_from}
 use Rattle.transyt_deck.specs.declared.state.Part.TheVariants as p
-use Rattle.transyt_deck.proofs.Adding.{adds_refused}
+use Rattle.transyt_deck.proofs.Adding.{adds_stopped}
 use Rattle.transyt_deck.proofs.state.add_link.Goals as goal
 
--- the network refuses the link, or has no memory for it
-pub returns-in-Err-clause-adds : goal.returns-in-Err-clause-adds
-returns-in-Err-clause-adds c =
+-- the stages are the numbers of the slice
+pub returns-in_err-stopped-clause-adds : goal.returns-in_err-stopped-clause-adds
+returns-in_err-stopped-clause-adds c =
     let net = c.args.draft.now in
     let link = link_from c.args.link c.args.stages.now in
-    let fault = c.in-Err.fault in
-    let refuses : Refuses {T = Unit {0}} (Err fault) (link_fault net link) (Some Memory) =
-    subst (λ (ss : List ℕ). Refuses {T = Unit {0}} (Err fault) (link_fault net (link_from c.args.link ss)) (Some Memory))
-    c.as_slice.ensures.numbers c.in-Err.ensures.refuses in
-    adds_refused _ (link_fault net link) c.args.part.now p.Links net _ (with_link net link) fault _
-    (sym c.is_up_to.ensures ∙ c.if-not-is_up_to.false) refuses c.in-Err.ensures.err c.stopped.ensures
+    adds_stopped _ (link_fault net link) c.args.part.now p.Links net _ (with_link net link) c.link.result _ _ _
+    (sym c.is_up_to.ensures ∙ c.if-not-is_up_to.false) (rw c.as_slice.ensures.numbers at c.link.ensures.refuses)
+    c.link.ensures.err c.stopped.ensures c.in_err-stopped.was c.from_residual.ensures.1

@@ -20,7 +20,7 @@ returns-in-Some-clause-cut c =
     let i = c.in-Some.at in
     let found = c.in-Some.ensures in
     let here : slice_index bytes i ≡ 10 = eqb-true (slice_index bytes i) 10 found.1 in
-    cut_at true bytes i found.0.high (λ k below. found.0.before k (omega arith) below) here
+    cut_at bytes i found.0.high (λ k below. found.0.before k (omega arith) below) here true
     ∙ ap (λ (l : List ℕ). take i bytes ∷ cut true l) (sym (between_to_end bytes (i + 1) (length bytes) (omega arith)))
 
 -- and what comes after it begins right after that place

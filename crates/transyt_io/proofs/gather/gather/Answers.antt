@@ -1,14 +1,14 @@
 -- A piece without a line end only lengthens the line; one with it ends the line at the first.
-use Rattle.std.proofs.Common.{◌≡◌, ◌∙◌, ◌+◌, sym, arith, ap, List, ℕ, false, take, drop, slice_index, ◌++◌, ◌∷◌}
+use Rattle.std.proofs.Common.{◌≡◌, length, length-take, ◌∙◌, ◌+◌, sym, arith, ap, List, ℕ, false, take, drop, slice_index, ◌++◌, ◌∷◌}
 use Rattle.std.proofs.lemmas.Bool.{eqb-true}
 use Rattle.transyt_io.specs.Lines.{line_of, lines_by, has_end}
-use Rattle.transyt_io.proofs.Lines.{no_end_in, no_end_more, kept_more, line_of_kept, gathered_line, length_kept}
-use Rattle.transyt_io.proofs.Lines.{length_line}
+use Rattle.transyt_io.proofs.Lines.{no_end_in, no_end_more, kept_more, line_of_kept, gathered_line}
 use Rattle.transyt_io.proofs.gather.gather.Goals as goal
 
 -- no more is kept than there is room for
 pub returns-in_default-clause-kept : goal.returns-in_default-clause-kept
-returns-in_default-clause-kept c = rw c.keep.ensures.line (length_kept 4098 (c.args.line.now.items ++ c.args.piece.now))
+returns-in_default-clause-kept c =
+    omega (arith, ap length c.keep.ensures.line, length-take 4098 (c.args.line.now.items ++ c.args.piece.now))
 
 -- a piece with no line end belongs to the line
 pub returns-in_default-clause-gathered : goal.returns-in_default-clause-gathered
@@ -20,10 +20,6 @@ returns-in_default-clause-gathered c raw h =
       first = c.keep.ensures.line ∙ ap (λ (xs : List ℕ). take 4098 (xs ++ piece)) h.first ∙ kept_more 4098 raw piece;
       open_yet = no_end_more raw piece h.open_yet none;
     }
-
--- a line is within what is kept
-pub returns-clause-kept : goal.returns-clause-kept
-returns-clause-kept c = rw c.close.ensures.line (length_line c.keep-2.new.line.items)
 
 -- the line ends at the first line end of the piece
 pub returns-clause-gathered : goal.returns-clause-gathered
@@ -37,5 +33,5 @@ returns-clause-gathered c raw h keep ys =
     ∙ ap line_of (c.keep-2.ensures.line ∙ ap (λ (xs : List ℕ). take 4098 (xs ++ take at piece)) h.first
     ∙ kept_more 4098 raw (take at piece))
     ∙ line_of_kept (raw ++ take at piece) in
-    gathered_line raw piece ys at keep h.open_yet found.0.high (λ k below. found.0.before k (omega arith) below) here
+    gathered_line piece at found.0.high (λ k below. found.0.before k (omega arith) below) here raw ys keep h.open_yet
     ∙ ap (λ (l : List ℕ). l ∷ lines_by keep (drop (at + 1) piece ++ ys)) (sym line)

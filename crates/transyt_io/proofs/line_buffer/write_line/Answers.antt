@@ -1,7 +1,7 @@
 -- Each call of the sink takes a front of what is left, so the fronts taken so far are a front of the line, and at
 -- the end all of it.
 use Rattle.std.proofs.Common.{◌≡◌, ◌++◌, List, ℕ, length, take, drop, sym, ◌∙◌, ap, subst, arith, length-drop}
-use Rattle.std.proofs.lemmas.List.{take-append-drop, take_all}
+use Rattle.std.proofs.lemmas.List.{take-append-drop}
 use Rattle.std.proofs.lemmas.Slice.{between_to_end}
 use Rattle.std.proofs.Math.Seq.{take-add}
 use Rattle.transyt_io.specs.Streams.{Adds}
@@ -38,11 +38,3 @@ loop-at-preserved g c =
           (sym (take-add i n bytes)) both;
       later = omega (arith, c.in_ok-at.ensures.cause.later);
     }
-
--- at the end all bytes of the line were written
-pub returns-clause-ok : goal.returns-clause-ok
-returns-clause-ok g c =
-    let written = g.K.Sink.written in
-    let bytes = c.bytes-bytes.result.now in
-    subst (λ (xs : List ℕ). Adds (written c.args.sink.now) (written c.loop-at.sink) xs)
-    (take_all c.loop-at.at bytes (omega arith) ∙ c.bytes-bytes.ensures.bytes) c.loop-at.invariant.so_far

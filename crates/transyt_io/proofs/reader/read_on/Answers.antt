@@ -1,46 +1,12 @@
 -- The pieces read so far have no line end, so they belong to one line; the piece that has one ends it.
-use Rattle.std.proofs.Common.{◌≡◌, ◌∙◌, ◌<◌, ◌+◌, ◌++◌, ℕ, List, [], length, take, drop, sym, ap, subst, arith, rules}
-use Rattle.std.proofs.Common.{append_assoc, refl, IfSome}
+use Rattle.std.proofs.Common.{◌≡◌, ◌∙◌, ◌<◌, ◌+◌, ◌++◌, ℕ, List, length, take, drop, sym, ap, subst, arith, rules}
+use Rattle.std.proofs.Common.{append_assoc, IfSome}
 use Rattle.std.proofs.lemmas.Slice.{between_is}
 use Rattle.transyt_io.specs.Gather.{Gathers}
 use Rattle.transyt_io.proofs.Lines.{ends_in_piece}
 use Rattle.transyt_io.proofs.Pieces.{piece_read}
-use Rattle.transyt_io.proofs.Told.{takes_both, takes_no_more}
+use Rattle.transyt_io.proofs.Told.{takes_both}
 use Rattle.transyt_io.proofs.reader.read_on.Goals as goal
-
--- a read that failed took nothing after what was gathered
-pub returns-in-Err-clause-pulled : goal.returns-in-Err-clause-pulled
-returns-in-Err-clause-pulled g c =
-    let front = c.loop-n.invariant.0 in
-    let sofar = c.loop-n.invariant.1 in
-    record {
-      front = front;
-      back = [];
-      takes = takes_no_more _ _ _ front sofar.takes c.in-Err.ensures.bytes;
-      last_read = c.in-Err.ensures.last;
-      no_end = λ raw h. (sofar.gathers raw h).open_yet;
-      answer = (refl, omega (arith, sofar.count, sofar.most));
-    }
-
--- one byte came after all that may come
-pub returns-then-taken-eq-MOST-clause-pulled : goal.returns-then-taken-eq-MOST-clause-pulled
-returns-then-taken-eq-MOST-clause-pulled g c =
-    let front = c.loop-n.invariant.0 in
-    let sofar = c.loop-n.invariant.1 in
-    let n = c.in-Ok.n in
-    let buf = c.read.new.buf in
-    let piece = piece_read c.loop-n.block buf (drop c.room-want.result c.loop-n.block) front n c.room-want.result
-    c.read.auto.buf c.room-want.ensures.within c.in-Ok.ensures.bound in
-    record {
-      front = front;
-      back = take n buf;
-      takes = takes_both _ _ _ front (take n buf) sofar.takes c.in-Ok.ensures.bytes.0;
-      last_read =
-          let P : ℕ → Type 0 = λ k. IfSome (g.S.Source.last c.read.new.self) (λ m. m ≡ k) in
-          subst P (sym piece.long) c.in-Ok.ensures.last;
-      no_end = λ raw h. (sofar.gathers raw h).open_yet;
-      answer = (omega (arith, piece.long, piece.asked), omega (arith, sofar.count));
-    }
 
 -- the line ended in the last piece, and the block holds what came after it
 pub returns-in-Some-clause-pulled : goal.returns-in-Some-clause-pulled
