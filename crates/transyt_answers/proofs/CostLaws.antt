@@ -111,7 +111,7 @@ steps_to before (line ∷ more) h none =
           (steps_on (run_state before) line h) (ap steps_in on)
           (steps_to (before ++ line ∷ []) more (subst IsKept (sym on) (kept_on (run_state before) line h)) goes)
           (ap (λ (ls : List (List ℕ)). steps_in (run_state ls)) (append_assoc before (line ∷ []) more)) refl
-      | Some refused ↦ λ is goes. absurd (cc)
+      | Some ending ↦ λ is goes. absurd (cc)
     ] in
     cases (ends before line) refl none
 
