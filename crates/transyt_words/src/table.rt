@@ -97,6 +97,7 @@ fn table_lines(alloc: Global, by: Numbered, rows: &[PlanRow]) -> Result<Vec<Answ
 }
 
 /// The same network, if there is one, whose deck text is known to read back.
+#[tactic(auto, using(transyt_deck::proofs::ReadBack::deck_read_back))]
 fn read_back(made: Option<Net>) -> Option<Net>
     ensures same { result ≡ made }
     ensures reads_back { DeckReadsBack result }
