@@ -1,5 +1,5 @@
 -- What lines have come to is valid, so that each climb of it descends.
-use Rattle.std.proofs.Common.{◌≡◌, ℕ, Bool, true, false, List, [], ◌∷◌, Option, None, Some, IfSome, Result, Ok, Err}
+use Rattle.std.proofs.Common.{◌≡◌, ℕ, Bool, true, false, List, [], ◌∷◌, Option, None, Some, IfSome, Result, Ok}
 use Rattle.std.proofs.Common.{is_some, if◌then◌else◌, refl, subst, sym}
 use Rattle.std.specs.List.{fold}
 use Rattle.transyt_net.specs.declared.edit.Edit.{Edit}
@@ -10,7 +10,7 @@ use Rattle.transyt_net.specs.EditFaults.{edit_fault}
 use Rattle.transyt_net.specs.Edits.{with_edit}
 use Rattle.transyt_net.proofs.ApplyLaws.{valid_edit}
 use Rattle.transyt_syntax.specs.declared.code.Code.{Code}
-use Rattle.transyt_deck.specs.Deck.{Deck, Refused, Complete, Open, next, start}
+use Rattle.transyt_deck.specs.Deck.{Deck, Complete, next, start}
 use Rattle.transyt_commands.specs.declared.command.Command.{Command}
 use Rattle.transyt_commands.specs.declared.command.Command.TheVariants as c
 use Rattle.transyt_commands.specs.Commands.{command_in}

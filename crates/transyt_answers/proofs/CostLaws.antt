@@ -6,7 +6,7 @@ use Rattle.std.proofs.lemmas.List.Sums.{fold-append}
 use Rattle.transyt_parts.specs.Shape.{bare_link}
 use Rattle.transyt_net.specs.Parts.{Network}
 use Rattle.transyt_net.specs.Shape.{shape, SameShape}
-use Rattle.transyt_deck.specs.Deck.{Deck, Open, Complete, Refused, next, start}
+use Rattle.transyt_deck.specs.Deck.{Deck, Complete, next, start}
 use Rattle.transyt_commands.specs.Commands.{command_in}
 use Rattle.transyt_moves.specs.Moves.{move_count}
 use Rattle.transyt_sweep.specs.Climb.{climb}

@@ -1,5 +1,5 @@
 -- A session after a line has the shape that it had before.
-use Rattle.std.proofs.Common.{◌≡◌, Option, None, Some, Result, Ok, Err}
+use Rattle.std.proofs.Common.{Option, None, Some, Result, Ok}
 use Rattle.std.proofs.Common.{Bool, true, false, IfSome, is_some, if◌then◌else◌, refl, sym, ◌∙◌}
 use Rattle.transyt_net.specs.Parts.{Network}
 use Rattle.transyt_net.specs.declared.edit.Edit.{Edit}

@@ -1,5 +1,5 @@
 -- The work of a line: what it adds, so that the work so far never falls.
-use Rattle.std.proofs.Common.{ℕ, ◌≤◌, List, Option, None, Some, Result, Ok, Err, is_some, if◌then◌else◌, Bool, true, false, arith}
+use Rattle.std.proofs.Common.{ℕ, ◌≤◌, List, Option, Some, Result, Ok, is_some, if◌then◌else◌, Bool, true, false, arith}
 use Rattle.transyt_syntax.specs.declared.code.Code.{Code}
 use Rattle.transyt_commands.specs.declared.command.Command.{Command}
 use Rattle.transyt_commands.specs.declared.command.Command.TheVariants as c

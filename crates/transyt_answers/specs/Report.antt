@@ -10,7 +10,7 @@ use Rattle.transyt_session.specs.Session.{SessionValue, opened}
 use Rattle.transyt_text.specs.Forms.{form_line}
 use Rattle.transyt_outcome.specs.declared.ending.Ending.{Ending}
 use Rattle.transyt_outcome.specs.declared.ending.Ending.TheVariants as ending
-use Rattle.transyt_outcome.specs.Runs.{Answering, answering, of_lines, report_by}
+use Rattle.transyt_outcome.specs.Runs.{Answering, of_lines, report_by}
 use Rattle.transyt_outcome.specs.Outcome.{Reporting, status_by}
 use Rattle.transyt_outcome.specs.declared.status.Status.{Status}
 use Rattle.transyt_answers.specs.declared.answer.Answer.{Answer}
@@ -122,7 +122,7 @@ cost before line = line_steps (run_state before) line
 
 -- how the lines of a deck and of its commands are answered
 abbrev pub deck_answering : Answering
-deck_answering = answering text ends closing refused_at_end cost
+deck_answering = record { text = text; ends = ends; closing = closing; refused = refused_at_end; cost = cost }
 
 -- the report of an input: the answers to its lines and, where it ends before END, the refusal of its deck
 abbrev pub reporting_run : Reporting
