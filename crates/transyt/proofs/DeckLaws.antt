@@ -54,12 +54,8 @@ IsDeck (Refused number code) = Unit {0}
 
 -- no want of memory
 IsNamed : Option DraftFault → Type 0
-IsNamed None = Unit {0}
-IsNamed (Some Twice) = Unit {0}
-IsNamed (Some Unknown) = Unit {0}
-IsNamed (Some Range) = Unit {0}
-IsNamed (Some TooMany) = Unit {0}
 IsNamed (Some Memory) = ⊥
+IsNamed _ = Unit {0}
 
 named_if : (b : Bool) (x y : Option DraftFault) → IsNamed x → IsNamed y → IsNamed (if b then x else y)
 named_if true x y h k = h
@@ -95,11 +91,8 @@ placed_made : (fits : Bool) (fault : Option DraftFault) (to : Part) (net : Netwo
 unfolding IsNamed
 placed_made false fault to net named last sound = tt
 placed_made true None to net named last sound = (sound refl, λ e. absurd (last e))
-placed_made true (Some Twice) to net named last sound = tt
-placed_made true (Some Unknown) to net named last sound = tt
-placed_made true (Some Range) to net named last sound = tt
-placed_made true (Some TooMany) to net named last sound = tt
 placed_made true (Some Memory) to net named last sound = absurd named
+placed_made true (Some other) to net named last sound = tt
 
 -- a sound network with a climb plan that has no fault
 sound_plan : (net : Network) (plan : PlanValue) → IsSound net → (1 ≤ length plan.sizes) × (length plan.sizes ≤ 16)
@@ -191,14 +184,7 @@ framed_is form (c.Cycle frame) =
       | false ↦ λ is. tt
     ] in
     by (is_frame frame) refl
-framed_is form (c.Form other) = tt
-framed_is form (c.Node number offset) = tt
-framed_is form (c.Stage stage) = tt
-framed_is form (c.Link link stages) = tt
-framed_is form (c.Feed link feed) = tt
-framed_is form (c.Yield link rule) = tt
-framed_is form (c.Steps budget sizes) = tt
-framed_is form c.End = tt
+framed_is form _ = tt
 
 making_is : (form : ℕ) (r : Result (Part × Network) Code) → IsMade r → IsNext (making form r)
 making_is form (Ok made) h = h
@@ -208,13 +194,7 @@ making_is form (Err code) h = tt
 with_is : (state : State) (card : Card) → IsState state → CanAdd card → IsNext (state_with state card)
 with_is s.Start (c.Form form) h can = formed (not (within 1 2 form)) form
 with_is s.Start (c.Cycle frame) h can = framed_is 1 (c.Cycle frame)
-with_is s.Start (c.Node number offset) h can = tt
-with_is s.Start (c.Stage stage) h can = tt
-with_is s.Start (c.Link link stages) h can = tt
-with_is s.Start (c.Feed link feed) h can = tt
-with_is s.Start (c.Yield link rule) h can = tt
-with_is s.Start (c.Steps budget sizes) h can = tt
-with_is s.Start c.End h can = tt
+with_is s.Start _ h can = tt
 with_is (s.Formed form) card h can = framed_is form card
 with_is (s.Making form part net) card h can = making_is form (added part net card) (added_made part net h.0 card can)
 
@@ -225,15 +205,9 @@ by_is state (Ok (Some card)) h can = with_is state card h can
 by_is state (Err code) h can = tt
 
 at_is : (n : ℕ) (state : State) → IsState state → IsDeck (deck_at n state)
-at_is n s.Start h = tt
-at_is n (s.Formed form) h = tt
-at_is n (s.Making form p.Frame net) h = h
-at_is n (s.Making form p.Nodes net) h = h
-at_is n (s.Making form p.Links net) h = h
-at_is n (s.Making form p.Feeds net) h = h
-at_is n (s.Making form p.Plan net) h = h
 at_is n (s.Making form p.End net) h =
     record { sound = h.0; planned = all_planned net.frame.step_count net.nodes (h.1 refl) }
+at_is n _ h = h
 
 deck_by_is : (n : ℕ) (r : Result State Code) → IsNext r → IsDeck (deck_by n r)
 deck_by_is n (Ok state) h = at_is n state h

@@ -102,18 +102,15 @@ over_headline words remaining contents contents_new number ran = λ run read wri
 
 -- of words that the program was given
 module _ {T E : Type 0} (words : T → List (List ℕ)) (remaining contents contents_new : Option (List ℕ)) (number : ℕ)
-    (old new : Ends) where
-  pub given_ran : (given : Result T E) → IfOk given (λ t. ProgramRan (words t) old new number)
-      → old.left ≡ remaining → old.written ≡ contents → IfSome new.written (λ held. contents_new ≡ Some held)
-      → IfOk given (λ t. OverRan (words t) remaining contents contents_new number)
-  given_ran (Ok t) ran same_left same_held still =
-      over_ran (words t) old new remaining contents contents_new number ran same_left same_held still
-  given_ran (Err e) ran same_left same_held still = tt
+  where
+    pub given_ran : (old new : Ends) (given : Result T E) → IfOk given (λ t. ProgramRan (words t) old new number)
+        → old.left ≡ remaining → old.written ≡ contents → IfSome new.written (λ held. contents_new ≡ Some held)
+        → IfOk given (λ t. OverRan (words t) remaining contents contents_new number)
+    given_ran old new (Ok t) ran same_left same_held still =
+        over_ran (words t) old new remaining contents contents_new number ran same_left same_held still
+    given_ran old new (Err e) ran same_left same_held still = tt
 
-  pub given_headline : (given : Result T E) → IfOk given (λ t. ProgramRan (words t) old new number)
-      → old.left ≡ remaining → old.written ≡ contents → IfSome new.written (λ held. contents_new ≡ Some held)
-      → IfOk given (λ t. OverHeadline (words t) remaining contents contents_new number)
-  given_headline (Ok t) ran same_left same_held still =
-      over_headline (words t) remaining contents contents_new number
-      (over_ran (words t) old new remaining contents contents_new number ran same_left same_held still)
-  given_headline (Err e) ran same_left same_held still = tt
+    pub given_headline : (given : Result T E) → IfOk given (λ t. OverRan (words t) remaining contents contents_new number)
+        → IfOk given (λ t. OverHeadline (words t) remaining contents contents_new number)
+    given_headline (Ok t) ran = over_headline (words t) remaining contents contents_new number ran
+    given_headline (Err e) ran = tt

@@ -28,14 +28,7 @@ one_more before line state at =
 answer_kept : (answer : Answer) (later : Option Ending) (other : Bool) → or_else later other ≡ false
     → or_else (first_of (answer_ends answer) later) other ≡ false
 answer_kept a.Stop later other h = refl
-answer_kept a.Nothing later other h = h
-answer_kept a.Done later other h = h
-answer_kept (a.Refused code) later other h = h
-answer_kept (a.Show what) later other h = h
-answer_kept (a.Plot place) later other h = h
-answer_kept a.Deck later other h = h
-answer_kept a.Climb later other h = h
-answer_kept a.Cert later other h = h
+answer_kept _ later other h = h
 
 -- no command refuses the run
 session_kept : (more before : List (List ℕ)) (s : SessionValue) (last : Bool) → run_state before ≡ InSession s
@@ -80,12 +73,10 @@ deck_kept (line ∷ more) before count state last at told =
 -- the status by what the deck is
 status_told : (refused : Bool) (d : Deck) → refused ≡ not (is_complete d)
     → ((if refused then DeckRefused else Done) ≡ DeckRefused) ↔ IsRefusedOrOpen d
-status_told true (Open count state) h = (λ e. tt, λ e. refl)
-status_told true (Refused number code) h = (λ e. tt, λ e. refl)
 status_told true (Complete number net) h = absurd (cc)
-status_told false (Open count state) h = absurd (cc)
-status_told false (Refused number code) h = absurd (cc)
+status_told true _ h = (λ e. tt, λ e. refl)
 status_told false (Complete number net) h = (λ e. absurd (cc), λ e. absurd e)
+status_told false _ h = absurd (cc)
 
 -- the run of an input is refused exactly where its deck is refused or open
 pub refused_by_deck : (input : List ℕ) → IsRefusedByDeck input

@@ -1,27 +1,22 @@
 -- What the outcome of a run tells where no count of faults rose.
-use Rattle.std.proofs.Common.{◌≡◌, ◌≢◌, ℕ, ◌++◌, List, Option, Some, Result, Ok, Err, length, ◌≤◌, refl, ap, subst, ◌∙◌, arith}
+use Rattle.std.proofs.Common.{◌≡◌, ◌≢◌, ℕ, ◌++◌, List, Option, Some, IfSome, Result, Ok, Err, true, false, length, ◌≤◌}
+use Rattle.std.proofs.Common.{refl, ap, subst, ◌∙◌, arith}
+use Rattle.std.specs.Option.{option_map}
 use Rattle.transyt_io.specs.Streams.{Adds}
 use Rattle.transyt_outcome.specs.declared.status.Status.{Status}
-use Rattle.transyt_outcome.specs.declared.status.Status.TheVariants.{Done, BadWords, DeckRefused, ReadFault, WriteFault}
-use Rattle.transyt_outcome.specs.declared.status.Status.TheVariants.{NoMemory, TooLong}
-use Rattle.transyt_outcome.specs.Outcome.{IsSettled}
+use Rattle.transyt_outcome.specs.declared.status.Status.TheVariants.{Done, DeckRefused, ReadFault, WriteFault, NoMemory}
+use Rattle.transyt_outcome.specs.Outcome.{IsSettled, TextRow}
 use Rattle.transyt_outcome.proofs.Head.{headline, complete, too_long_where}
 use Rattle.transyt_outcome.proofs.MoreBytes.{lines_settled}
 use Rattle.transyt_answers.specs.Report.{deck_answering, report, status}
-use Rattle.transyt_words.proofs.Settled.{whole_settled}
 use Rattle.transyt_words.specs.Whole.{StepsWithin}
 use Rattle.transyt_deck.specs.declared.reader.CardStop.{CardStop}
 use Rattle.transyt_deck.specs.declared.cut.Cut.{Cut}
 use Rattle.transyt_deck.specs.Cut.{cut_of}
-use Rattle.transyt_words.specs.AfterDeck.{answer_after, most_of_cut, most_after}
-use Rattle.transyt_words.specs.Audit.{audit_answer}
-use Rattle.transyt_words.specs.Counts.{counts_answer}
-use Rattle.transyt_words.specs.Equisat.{equisat_answer}
-use Rattle.transyt_words.specs.Scan.{scan_answer}
-use Rattle.transyt_words.specs.Plans.{cycles_answer, starts_answer}
+use Rattle.transyt_words.specs.AfterDeck.{most_of_cut, most_after}
 use Rattle.transyt.specs.declared.word.Word.{Word}
 use Rattle.transyt.specs.declared.word.Word.TheVariants as w
-use Rattle.transyt.specs.Tasks.{Task, Reads, Writes, task, TextRow, TaskOutcome, TaskHeadline, TaskComplete}
+use Rattle.transyt.specs.Tasks.{Task, Reads, Writes, task, TaskOutcome, TaskHeadline, TaskComplete}
 use Rattle.transyt.specs.Tasks.{TaskTooLong, IsRun}
 
 -- what is reported of an input doesn't change with bytes after those that end the run
@@ -29,28 +24,25 @@ abbrev pub IsSettledTask : Task → Type 0
 IsSettledTask (Reads by) = IsSettled by
 IsSettledTask (Writes text) = Unit {0}
 
--- it is so of every word
+-- it is so of every word: a word that takes its input whole isn't ended by any bytes
 pub word_settled : (word : Word) → IsSettledTask (task word)
 word_settled (w.Run workers) = lines_settled deck_answering
-word_settled (w.Make seed nodes) = tt
-word_settled (w.Brief seed nodes workers) = tt
-word_settled w.Counts = whole_settled (answer_after counts_answer)
-word_settled w.Equisat = whole_settled (answer_after equisat_answer)
-word_settled w.Audit = whole_settled (answer_after audit_answer)
-word_settled (w.Scan asked) = whole_settled (answer_after (scan_answer asked.times))
-word_settled (w.Cycles asked) = whole_settled (answer_after (cycles_answer asked.times))
-word_settled (w.Starts asked) = whole_settled (answer_after (starts_answer asked.seed asked.count))
+word_settled (w.Make town) = tt
+word_settled (w.Brief town workers) = tt
+word_settled _ = record {
+  ends = λ taken more ended. absurd ended;
+  report = λ taken more ended. absurd ended;
+  refused = λ taken more ended. absurd ended;
+}
 
 -- a text with no fault and no want of memory was written
-text_done : (text out : List ℕ) (status : Status) → TextRow text out status → status ≢ NoMemory
+text_done : (text out : List ℕ) (status : Status) → TextRow text false out status → status ≢ NoMemory
     → (status ≡ WriteFault → ⊥) → (out ≡ text) × (status ≡ Done)
-text_done text out Done row memory no_write = (row, refl)
+text_done text out Done row memory no_write = (row.0, refl)
+text_done text out DeckRefused row memory no_write = let is : false ≡ true = row.1 in absurd (cc)
 text_done text out WriteFault row memory no_write = absurd (no_write refl)
 text_done text out NoMemory row memory no_write = absurd (memory refl)
-text_done text out DeckRefused row memory no_write = absurd row
-text_done text out ReadFault row memory no_write = absurd row
-text_done text out TooLong row memory no_write = absurd row
-text_done text out BadWords row memory no_write = absurd row
+text_done text out _ row memory no_write = absurd row
 
 module _ (left left_new : Option (List ℕ)) (last : Option ℕ) (written written_new : Option (List ℕ))
     {status : Status} (memory : status ≢ NoMemory) (no_read : status ≡ ReadFault → ⊥)
@@ -77,20 +69,18 @@ module _ (left left_new : Option (List ℕ)) (last : Option ℕ) (written writte
   task_too_long (Reads by) settled outcome = too_long_where settled outcome memory no_read no_write
   task_too_long (Writes text) settled outcome = tt
 
+-- what holds of the task of a word holds of the task of the words that ask for it
+pub of_words : (P : Task → Type 0) {word : Word} {words : Option Word} → Some word ≡ words → P (task word)
+    → IfSome (option_map task words) P
+of_words P is told = subst (λ (o : Option Word). IfSome (option_map task o) P) is told
+
 -- of words of `run` it is the report of the input
 pub run_headline : (word : Word) {left written written_new : Option (List ℕ)} {status_is : Status} → IsRun (Some word)
     → TaskHeadline (task word) left written written_new status_is
     → (input held : List ℕ) → left ≡ Some input → written ≡ Some held → length input ≤ 4194304
     → (written_new ≡ Some (held ++ report input)) × (status_is ≡ status input)
 run_headline (w.Run workers) run told = told
-run_headline (w.Make seed nodes) run told = absurd run
-run_headline (w.Brief seed nodes workers) run told = absurd run
-run_headline w.Counts run told = absurd run
-run_headline w.Equisat run told = absurd run
-run_headline w.Audit run told = absurd run
-run_headline (w.Scan asked) run told = absurd run
-run_headline (w.Cycles asked) run told = absurd run
-run_headline (w.Starts asked) run told = absurd run
+run_headline _ run told = absurd run
 
 -- what takes no step by its cut takes none
 most_none : (input : List ℕ) (cut : Result Cut CardStop) → most_of_cut (λ net line table. 0) input cut ≡ 0

@@ -1,5 +1,5 @@
 -- What lines have come to is valid, so that each climb of it descends.
-use Rattle.std.proofs.Common.{◌≡◌, ℕ, Bool, true, false, List, [], ◌∷◌, Option, None, Some, IfSome, Result, Ok, Err}
+use Rattle.std.proofs.Common.{◌≡◌, ℕ, Bool, true, false, List, [], ◌∷◌, Option, None, Some, IfSome, Result, Ok}
 use Rattle.std.proofs.Common.{is_some, if◌then◌else◌, refl, subst, sym}
 use Rattle.std.specs.List.{fold}
 use Rattle.transyt_net.specs.declared.edit.Edit.{Edit}
@@ -10,7 +10,7 @@ use Rattle.transyt_net.specs.EditFaults.{edit_fault}
 use Rattle.transyt_net.specs.Edits.{with_edit}
 use Rattle.transyt_net.proofs.ApplyLaws.{valid_edit}
 use Rattle.transyt_syntax.specs.declared.code.Code.{Code}
-use Rattle.transyt_deck.specs.Deck.{Deck, Refused, Complete, Open, next, start}
+use Rattle.transyt_deck.specs.Deck.{Deck, Complete, next, start}
 use Rattle.transyt_commands.specs.declared.command.Command.{Command}
 use Rattle.transyt_commands.specs.declared.command.Command.TheVariants as c
 use Rattle.transyt_commands.specs.Commands.{command_in}
@@ -66,9 +66,8 @@ judged_is c.Keep s h = record { net = h.net; before = tt }
 judged_is (c.Request asked) s h = h
 
 said_is : (r : Result (Option Command) Code) (s : SessionValue) → IsSession s → IsSession (said_judged r s)
-said_is (Err code) s h = h
-said_is (Ok None) s h = h
 said_is (Ok (Some command)) s h = judged_is command s h
+said_is _ s h = h
 
 -- an answer leaves a valid session
 after_is : (answer : Answer) (s : SessionValue) → IsSession s → IsSession (after_answer answer s)
@@ -79,19 +78,12 @@ after_is a.Climb s h =
       before = tt;
     }
 after_is a.Cert s h = record { net = h.net; before = h.before }
-after_is a.Nothing s h = h
-after_is a.Stop s h = h
-after_is a.Done s h = h
-after_is (a.Refused code) s h = h
-after_is (a.Show what) s h = h
-after_is (a.Plot place) s h = h
-after_is a.Deck s h = h
+after_is _ s h = h
 
 -- an accepted END opens a valid session
 of_is : (d : Deck) → IsDeck d → IsValidRun (run_of d)
-of_is (Open count state) h = h
 of_is (Complete number net) h = record { net = h; before = tt }
-of_is (Refused number code) h = h
+of_is _ h = h
 
 -- one line more
 line_is : (state : RunState) (line : List ℕ) → IsValidRun state → IsValidRun (run_after state line)

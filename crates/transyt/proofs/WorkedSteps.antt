@@ -6,6 +6,7 @@ use Rattle.transyt_outcome.specs.declared.status.Status.{Status}
 use Rattle.transyt_outcome.specs.declared.status.Status.TheVariants.{Done, WriteFault}
 use Rattle.transyt_reporter.specs.Brief.{brief_steps}
 use Rattle.transyt_answers.specs.Report.{deck_answering}
+use Rattle.transyt.specs.declared.town.Town.{Town}
 use Rattle.transyt.specs.declared.word.Word.TheVariants as w
 use Rattle.transyt.specs.Tasks.{TextSteps, WordSteps}
 
@@ -32,11 +33,11 @@ pub run_by_two : WordSteps (w.Run 2) None None 40 7 Done
 run_by_two one = absurd (omega (arith, one))
 
 -- one worker's steps of a brief are those of its text
-pub brief_by_one : (seed nodes : ℕ) (left left_new : Option (List ℕ)) (steps steps_new : ℕ) (status : Status)
-    → WordSteps (w.Brief seed nodes 1) left left_new steps steps_new status
-    → TextSteps (brief_steps (made seed nodes)) steps steps_new status
-brief_by_one seed nodes left left_new steps steps_new status told = told refl
+pub brief_by_one : (town : Town) (left left_new : Option (List ℕ)) (steps steps_new : ℕ) (status : Status)
+    → WordSteps (w.Brief town 1) left left_new steps steps_new status
+    → TextSteps (brief_steps (made town.seed town.nodes)) steps steps_new status
+brief_by_one town left left_new steps steps_new status told = told refl
 
 -- those of two are not told
-pub brief_by_two : WordSteps (w.Brief 7 1 2) None None 40 7 Done
+pub brief_by_two : WordSteps (w.Brief (record { seed = 7; nodes = 1 }) 2) None None 40 7 Done
 brief_by_two one = absurd (omega (arith, one))

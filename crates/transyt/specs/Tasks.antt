@@ -1,13 +1,11 @@
 -- The tasks of the words, and what a run with each has to do.
-use Rattle.std.specs.Prelude.{◌≡◌, ℕ, ◌+◌, ◌++◌, ◌≤◌, List, [], Option, Some}
+use Rattle.std.specs.Prelude.{◌≡◌, ℕ, ◌+◌, ◌++◌, ◌≤◌, List, false, Option, Some}
 use Rattle.std.specs.Option.{option_map}
-use Rattle.transyt_io.specs.Streams.{Adds}
 use Rattle.transyt_deck.specs.Cards.{deck_text}
 use Rattle.transyt_make.specs.Made.{made}
 use Rattle.transyt_outcome.specs.declared.status.Status.{Status}
-use Rattle.transyt_outcome.specs.declared.status.Status.TheVariants.{Done, BadWords, DeckRefused, ReadFault, WriteFault}
-use Rattle.transyt_outcome.specs.declared.status.Status.TheVariants.{NoMemory, TooLong}
-use Rattle.transyt_outcome.specs.Outcome.{Reporting, Outcome, IsFront, Headline, Complete, TooLongWhere}
+use Rattle.transyt_outcome.specs.declared.status.Status.TheVariants.{Done}
+use Rattle.transyt_outcome.specs.Outcome.{Reporting, Outcome, TextOutcome, Headline, Complete, TooLongWhere}
 use Rattle.transyt_outcome.specs.Runs.{StepsTaken}
 use Rattle.transyt_reporter.specs.Brief.{brief_text, brief_steps}
 use Rattle.transyt_answers.specs.Report.{deck_answering, reporting_run}
@@ -31,8 +29,8 @@ pub data Task : Type 0 where
 -- the task of a word; the number of workers changes none of it
 abbrev pub task : Word → Task
 task (w.Run workers) = Reads reporting_run
-task (w.Make seed nodes) = Writes (deck_text (made seed nodes))
-task (w.Brief seed nodes workers) = Writes (brief_text (made seed nodes))
+task (w.Make town) = Writes (deck_text (made town.seed town.nodes))
+task (w.Brief town workers) = Writes (brief_text (made town.seed town.nodes))
 task w.Counts = Reads (of_whole (answer_after counts_answer))
 task w.Equisat = Reads (of_whole (answer_after equisat_answer))
 task w.Audit = Reads (of_whole (answer_after audit_answer))
@@ -44,29 +42,13 @@ task (w.Starts asked) = Reads (of_whole (answer_after (starts_answer asked.seed 
 abbrev pub task_of : List (List ℕ) → Option Task
 task_of words = option_map task (word_of words)
 
--- the meaning of a status for the bytes written of a text
-abbrev pub TextRow : List ℕ → List ℕ → Status → Type 0
-TextRow text out Done = out ≡ text
-TextRow text out WriteFault = IsFront out text
-TextRow text out NoMemory = out ≡ []
-TextRow text out DeckRefused = ⊥
-TextRow text out ReadFault = ⊥
-TextRow text out TooLong = ⊥
-TextRow text out BadWords = ⊥
-
--- the outcome of writing a text: the bytes written, and what the status says of them
-pub record TextOutcome (text : List ℕ) (written written_new : Option (List ℕ)) (status : Status) : Type 0 where
-  pub out : List ℕ
-  pub adds : Adds written written_new out
-  pub row : TextRow text out status
-
 -- the outcome of a run with what the words ask for
 abbrev pub TaskOutcome : Task → Option (List ℕ) → Option (List ℕ) → Option ℕ → Option (List ℕ) → Option (List ℕ)
     → Status → Type 0
 TaskOutcome (Reads by) left left_new last_new written written_new status =
     Outcome by left left_new last_new written written_new status
 TaskOutcome (Writes text) left left_new last_new written written_new status =
-    TextOutcome text written written_new status
+    TextOutcome text false written written_new status
 
 -- with no fault and no want of memory the report, or the text, was written, with its status
 abbrev pub TaskHeadline : Task → Option (List ℕ) → Option (List ℕ) → Option (List ℕ) → Status → Type 0
@@ -99,18 +81,13 @@ abbrev pub TextSteps : ℕ → ℕ → ℕ → Status → Type 0
 TextSteps cost steps steps_new Done = steps_new ≡ steps + cost
 TextSteps cost steps steps_new status = steps_new ≤ steps + cost
 
--- the steps of a word, where all are counted: with one worker; of `audit` at most; of `scan`, `cycles` and `starts`
--- none, since each climb counts on a counter of its own
+-- the steps of a word, where all are counted: of `run` and `brief` with one worker, and of `audit` at most. Other words
+-- take none: each climb of `scan`, `cycles` and `starts` counts on a counter of its own
 abbrev pub WordSteps : Word → Option (List ℕ) → Option (List ℕ) → ℕ → ℕ → Status → Type 0
 WordSteps (w.Run workers) left left_new steps steps_new status =
     workers ≡ 1 → StepsTaken deck_answering left left_new steps steps_new status
-WordSteps (w.Make seed nodes) left left_new steps steps_new status = steps_new ≡ steps
-WordSteps (w.Brief seed nodes workers) left left_new steps steps_new status =
-    workers ≡ 1 → TextSteps (brief_steps (made seed nodes)) steps steps_new status
-WordSteps w.Counts left left_new steps steps_new status = steps_new ≡ steps
-WordSteps w.Equisat left left_new steps steps_new status = steps_new ≡ steps
+WordSteps (w.Brief town workers) left left_new steps steps_new status =
+    workers ≡ 1 → TextSteps (brief_steps (made town.seed town.nodes)) steps steps_new status
 WordSteps w.Audit left left_new steps steps_new status =
     StepsWithin (most_after audit_most) left left_new steps steps_new
-WordSteps (w.Scan asked) left left_new steps steps_new status = steps_new ≡ steps
-WordSteps (w.Cycles asked) left left_new steps steps_new status = steps_new ≡ steps
-WordSteps (w.Starts asked) left left_new steps steps_new status = steps_new ≡ steps
+WordSteps _ left left_new steps steps_new status = steps_new ≡ steps

@@ -1,15 +1,17 @@
 //! Laws about the definitions.
 ghost use Rattle.std.specs.Prelude.{◌≡◌, ◌<◌, ℕ, List, [], ◌∷◌, Option, None, Some, All, false, length, map};
 ghost use Rattle.transyt_make.specs.Made.{made};
+ghost use Rattle.transyt_outcome.specs.Outcome.{TextRow};
 ghost use Rattle.transyt_outcome.specs.Runs.{StepsTaken};
 ghost use Rattle.transyt_outcome.specs.declared.status.Status.{Status};
 ghost use Rattle.transyt_reporter.specs.Brief.{brief_steps};
 ghost use Rattle.transyt_answers.specs.Report.{deck_answering};
+ghost use Rattle.transyt.specs.declared.town.Town.{Town};
 ghost use Rattle.transyt.specs.declared.word.Word.{Word};
 ghost use Rattle.transyt_net.specs.Parts.{Network};
 ghost use Rattle.transyt_words.specs.Answer.{done, of_whole};
 ghost use Rattle.transyt.specs.Climbs.{Descends};
-ghost use Rattle.transyt.specs.Tasks.{Reads, TaskComplete, TaskHeadline, TaskTooLong, TextRow, TextSteps, WordSteps, Writes};
+ghost use Rattle.transyt.specs.Tasks.{Reads, TaskComplete, TaskHeadline, TaskTooLong, TextSteps, WordSteps, Writes};
 ghost use Rattle.transyt.specs.Words.{IsWord, word_of};
 ghost use Rattle.transyt.specs.WorkedWords.{words_in_range, words_out_of_range, worked_words};
 
@@ -35,19 +37,19 @@ pub fn worked_steps()
         → WordSteps (Word.Run 1) left left_new steps steps_new status
         → StepsTaken deck_answering left left_new steps steps_new status }
     ensures run_by_two { WordSteps (Word.Run 2) None None 40 7 Status.Done }
-    ensures brief { (seed nodes : ℕ) (left left_new : Option (List ℕ)) (steps steps_new : ℕ) (status : Status)
-        → WordSteps (Word.Brief seed nodes 1) left left_new steps steps_new status
-        → TextSteps (brief_steps (made seed nodes)) steps steps_new status }
-    ensures brief_by_two { WordSteps (Word.Brief 7 1 2) None None 40 7 Status.Done }
+    ensures brief { (town : Town) (left left_new : Option (List ℕ)) (steps steps_new : ℕ) (status : Status)
+        → WordSteps (Word.Brief town 1) left left_new steps steps_new status
+        → TextSteps (brief_steps (made town.seed town.nodes)) steps steps_new status }
+    ensures brief_by_two { WordSteps (Word.Brief (record { seed = 7; nodes = 1 }) 2) None None 40 7 Status.Done }
 {}
 
 /// The meaning of a status for a text, an input of too many bytes and a climb: cases that hold, and cases that don't.
 #[tactic(auto, using(crate::proofs::WorkedTasks::text_whole, crate::proofs::WorkedTasks::text_cut, crate::proofs::WorkedTasks::text_front, crate::proofs::WorkedTasks::text_other, crate::proofs::WorkedTasks::headline_after, crate::proofs::WorkedTasks::headline_over, crate::proofs::WorkedTasks::text_complete, crate::proofs::WorkedTasks::text_refused, crate::proofs::WorkedTasks::many_bytes, crate::proofs::WorkedTasks::many_done, crate::proofs::WorkedTasks::no_looks, crate::proofs::WorkedTasks::too_few_looks))]
 pub fn worked_tasks()
-    ensures whole { TextRow (5 ∷ 7 ∷ []) (5 ∷ 7 ∷ []) Status.Done }
-    ensures cut { TextRow (5 ∷ 7 ∷ []) (5 ∷ []) Status.Done → ⊥ }
-    ensures front { TextRow (5 ∷ 7 ∷ []) (5 ∷ []) Status.WriteFault }
-    ensures other { TextRow (5 ∷ 7 ∷ []) (7 ∷ []) Status.WriteFault → ⊥ }
+    ensures whole { TextRow (5 ∷ 7 ∷ []) false (5 ∷ 7 ∷ []) Status.Done }
+    ensures cut { TextRow (5 ∷ 7 ∷ []) false (5 ∷ []) Status.Done → ⊥ }
+    ensures front { TextRow (5 ∷ 7 ∷ []) false (5 ∷ []) Status.WriteFault }
+    ensures other { TextRow (5 ∷ 7 ∷ []) false (7 ∷ []) Status.WriteFault → ⊥ }
     ensures after { TaskHeadline (Writes (5 ∷ 7 ∷ [])) None (Some (9 ∷ [])) (Some (9 ∷ 5 ∷ 7 ∷ [])) Status.Done }
     ensures over { TaskHeadline (Writes (5 ∷ 7 ∷ [])) None (Some (9 ∷ [])) (Some (5 ∷ 7 ∷ [])) Status.Done → ⊥ }
     ensures complete { TaskComplete (Writes (5 ∷ 7 ∷ [])) None Status.Done }

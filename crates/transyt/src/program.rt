@@ -61,6 +61,7 @@ fn run_call<R: Threads + Sync + AllocGlobal, S: Source, K: Sink>(
 }
 
 /// The top call over a source that never fails: it ends with no fault of a read.
+#[tactic(auto, using(crate::proofs::ProgramLaws::none_rose))]
 pub fn run_steady<R: Threads + Sync + AllocGlobal, K: Sink>(
     rt: &R,
     words: &[String],
@@ -73,6 +74,7 @@ pub fn run_steady<R: Threads + Sync + AllocGlobal, K: Sink>(
 }
 
 /// The top call over a sink that never fails: it ends with no fault of a write.
+#[tactic(auto, using(crate::proofs::ProgramLaws::none_rose))]
 pub fn run_tallied<R: Threads + Sync + AllocGlobal, S: Source>(
     rt: &R,
     words: &[String],

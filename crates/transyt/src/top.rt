@@ -17,18 +17,27 @@ use transyt_io::{Sink, Source};
 use transyt_outcome::Status;
 use transyt_reporter::{Workers, run_deck};
 use transyt_steps::Steps;
-use transyt_words::{AuditWord, CountsWord, EquisatWord, answer_whole};
+use transyt_words::{AuditWord, CountsWord, CyclesWord, EquisatWord, Host, answer_whole};
 
-/// The runtime, whose threads the workers of a word use, and the gate that they pass.
+/// The runtime, whose threads the workers of a word use, the allocator, and the gate that the workers pass.
 #[derive(Clone, Copy)]
 struct Crew<'a, R, G> {
     rt: &'a R,
+    alloc: Global,
     gate: &'a G,
 }
 
 impl<'a, R, G> Crew<'a, R, G> {
+    /// The runtime and the allocator.
+    fn host(&self) -> Host<'a, R> {
+        Host {
+            rt: self.rt,
+            alloc: self.alloc,
+        }
+    }
+
     /// So many workers of it.
-    fn workers(self, count: u32) -> Workers<'a, R, G>
+    fn workers(&self, count: u32) -> Workers<'a, R, G>
         requires some { 1 ≤ count }
         requires most { count ≤ 8 }
         ensures { result.count ≡ count }
@@ -43,8 +52,7 @@ impl<'a, R, G> Crew<'a, R, G> {
 
 /// Does what a word asks for.
 fn answer_word<R: Threads + Sync, S: Source, K: Sink, G: Gate, L: Ledger>(
-    crew: Crew<'_, R, G>,
-    alloc: Global,
+    crew: &Crew<'_, R, G>,
     word: Word,
     source: &mut S,
     sink: &mut K,
@@ -59,19 +67,19 @@ fn answer_word<R: Threads + Sync, S: Source, K: Sink, G: Gate, L: Ledger>(
     ensures steps { WordSteps word (S.left source.old) (S.left source.new) steps.old steps.new result }
 {
     match word {
-        Word::Run { workers } => run_deck(crew.workers(workers), alloc, source, sink, steps),
-        Word::Make { seed, nodes } => write_made(alloc, seed, nodes, sink),
-        Word::Brief {
-            seed,
-            nodes,
-            workers,
-        } => write_made_brief(crew.workers(workers), alloc, seed, nodes, sink, steps),
-        Word::Counts => answer_whole(crew.rt, alloc, &CountsWord, source, sink, steps),
-        Word::Equisat => answer_whole(crew.rt, alloc, &EquisatWord, source, sink, steps),
-        Word::Audit => answer_whole(crew.rt, alloc, &AuditWord, source, sink, steps),
-        Word::Scan { asked } => answer_whole(crew.rt, alloc, &asked, source, sink, steps),
-        Word::Cycles { asked } => answer_whole(crew.rt, alloc, &asked, source, sink, steps),
-        Word::Starts { asked } => answer_whole(crew.rt, alloc, &asked, source, sink, steps),
+        Word::Run { workers } => run_deck(crew.workers(workers), crew.alloc, source, sink, steps),
+        Word::Make { town } => write_made(crew.alloc, town, sink),
+        Word::Brief { town, workers } => {
+            write_made_brief(crew.workers(workers), crew.alloc, town, sink, steps)
+        }
+        Word::Counts => answer_whole(crew.host(), &CountsWord, source, sink, steps),
+        Word::Equisat => answer_whole(crew.host(), &EquisatWord, source, sink, steps),
+        Word::Audit => answer_whole(crew.host(), &AuditWord, source, sink, steps),
+        Word::Scan { asked } => answer_whole(crew.host(), &asked, source, sink, steps),
+        Word::Cycles { asked } => {
+            answer_whole(crew.host(), &CyclesWord { asked }, source, sink, steps)
+        }
+        Word::Starts { asked } => answer_whole(crew.host(), &asked, source, sink, steps),
     }
 }
 
@@ -151,5 +159,5 @@ pub fn transyt<R: Threads + Sync, S: Source, K: Sink, G: Gate, L: Ledger>(
     let Some(word) = word_of(words) else {
         return Status::BadWords;
     };
-    answer_word(Crew { rt, gate }, alloc, word, source, sink, steps)
+    answer_word(&Crew { rt, alloc, gate }, word, source, sink, steps)
 }

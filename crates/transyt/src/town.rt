@@ -1,10 +1,12 @@
 //! The words that make a town: its deck, or one climb on it.
-ghost use Rattle.std.specs.Prelude.{◌≡◌, ◌≤◌};
+ghost use Rattle.std.specs.Prelude.{◌≡◌, ◌≤◌, false};
 ghost use Rattle.transyt_io.specs.Streams.{Rose};
 ghost use Rattle.transyt_deck.specs.Cards.{deck_text};
 ghost use Rattle.transyt_make.specs.Made.{made};
 ghost use Rattle.transyt_reporter.specs.Brief.{brief_text, brief_steps};
-ghost use Rattle.transyt.specs.Tasks.{TextOutcome, TextSteps};
+ghost use Rattle.transyt_outcome.specs.Outcome.{TextOutcome};
+ghost use Rattle.transyt.specs.Tasks.{TextSteps};
+ghost use Rattle.transyt.specs.Words.{IsTown};
 
 use std::alloc::Global;
 use std::sync::ledger::Ledger;
@@ -17,17 +19,24 @@ use transyt_outcome::{Status, Stop};
 use transyt_reporter::{Workers, write_brief};
 use transyt_steps::Steps;
 
-/// Writes the deck text of the town of a seed. All memory is taken before the first line is written.
-pub(crate) fn write_made<K: Sink>(alloc: Global, seed: u32, nodes: u32, sink: &mut K) -> Status
-    requires seed { seed ≤ 999999999 }
-    requires some { 1 ≤ nodes }
-    requires most { nodes ≤ 200 }
-    ensures outcome { TextOutcome (deck_text (made seed nodes)) (K.written sink.old) (K.written sink.new) result }
+/// A town that is made from a seed.
+#[derive(Clone, Copy, Drop)]
+pub(crate) struct Town {
+    /// The seed, at most 999,999,999.
+    pub(crate) seed: u32,
+    /// How many nodes, 1 to 200.
+    pub(crate) nodes: u32,
+}
+
+/// Writes the deck text of a town. All memory is taken before the first line is written.
+pub(crate) fn write_made<K: Sink>(alloc: Global, town: Town, sink: &mut K) -> Status
+    requires { IsTown town }
+    ensures outcome { TextOutcome (deck_text (made town.seed town.nodes)) false (K.written sink.old) (K.written sink.new) result }
     ensures later { K.faults sink.old ≤ K.faults sink.new }
     ensures write_fault { result ≡ Status.WriteFault → Rose (K.faults sink.old) (K.faults sink.new) }
     ensures silent { result ≡ Status.NoMemory → sink.new ≡ sink.old }
 {
-    let Ok(net) = make_net(alloc, seed, nodes) else {
+    let Ok(net) = make_net(alloc, town.seed, town.nodes) else {
         return Status::NoMemory;
     };
     let Ok(mut line) = LineBuffer::open(alloc) else {
@@ -43,26 +52,23 @@ pub(crate) fn write_made<K: Sink>(alloc: Global, seed: u32, nodes: u32, sink: &m
     }
 }
 
-/// Climbs once on the town of a seed, with so many workers, and writes the line of it. All memory is taken before it is
+/// Climbs once on a town, with so many workers, and writes the line of it. All memory is taken before it is
 /// written.
 pub(crate) fn write_made_brief<R: Threads + Sync, K: Sink, G: Gate, L: Ledger>(
     workers: Workers<'_, R, G>,
     alloc: Global,
-    seed: u32,
-    nodes: u32,
+    town: Town,
     sink: &mut K,
     steps: &mut Steps<L>,
 ) -> Status
-    requires seed { seed ≤ 999999999 }
-    requires some { 1 ≤ nodes }
-    requires most { nodes ≤ 200 }
-    ensures outcome { TextOutcome (brief_text (made seed nodes)) (K.written sink.old) (K.written sink.new) result }
+    requires { IsTown town }
+    ensures outcome { TextOutcome (brief_text (made town.seed town.nodes)) false (K.written sink.old) (K.written sink.new) result }
     ensures later { K.faults sink.old ≤ K.faults sink.new }
     ensures write_fault { result ≡ Status.WriteFault → Rose (K.faults sink.old) (K.faults sink.new) }
     ensures silent { result ≡ Status.NoMemory → sink.new ≡ sink.old }
-    ensures steps { workers.entry.count ≡ 1 → TextSteps (brief_steps (made seed nodes)) steps.old steps.new result }
+    ensures steps { workers.entry.count ≡ 1 → TextSteps (brief_steps (made town.seed town.nodes)) steps.old steps.new result }
 {
-    let Ok(net) = make_net(alloc, seed, nodes) else {
+    let Ok(net) = make_net(alloc, town.seed, town.nodes) else {
         return Status::NoMemory;
     };
     match write_brief(workers, alloc, net, sink, steps) {

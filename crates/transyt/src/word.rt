@@ -1,12 +1,15 @@
 //! The words that the program takes.
 ghost use Rattle.std.specs.Prelude.{◌≡◌, ◌≤◌, ◌<◌, IfSome, map, string_bytes};
 ghost use Rattle.transyt_num.specs.Number.{number_of};
-ghost use Rattle.transyt.specs.Words.{within, workers_of, nodes_of, alone, run_word, make_word, brief_by, brief_word};
-ghost use Rattle.transyt.specs.Words.{range_of, scan_word, cycles_word, starts_word, word_of, IsWord};
+ghost use Rattle.std.specs.Option.{option_map};
+ghost use Rattle.transyt_scan.specs.Rows.{IsScan};
+ghost use Rattle.transyt.specs.Words.{workers_of, nodes_of, alone, run_word, town_of, make_word, brief_by, brief_word};
+ghost use Rattle.transyt.specs.Words.{times_of, starts_word, word_of, IsTown, IsWord};
 
+use crate::town::Town;
 use transyt_num::read_number;
 use transyt_scan::ScanWord;
-use transyt_words::{CyclesWord, StartsWord};
+use transyt_words::StartsWord;
 
 /// The task that words ask for.
 #[derive(Clone, Copy, Drop)]
@@ -18,17 +21,13 @@ pub(crate) enum Word {
     },
     /// The deck text of a town that is made from a seed.
     Make {
-        /// The seed.
-        seed: u32,
-        /// How many nodes, 1 to 200.
-        nodes: u32,
+        /// The town.
+        town: Town,
     },
     /// A climb on such a town, in one line.
     Brief {
-        /// The seed.
-        seed: u32,
-        /// How many nodes, 1 to 200.
-        nodes: u32,
+        /// The town.
+        town: Town,
         /// How many workers climb, 1 to 8.
         workers: u32,
     },
@@ -46,24 +45,13 @@ pub(crate) enum Word {
     /// Climbs of a deck over cycle times, with steps as long as the deck's.
     Cycles {
         /// The cycle times, and how many workers climb.
-        asked: CyclesWord,
+        asked: ScanWord,
     },
     /// Climbs of a deck from starts with drawn offsets.
     Starts {
         /// The seed, how many starts there are, and how many workers climb.
         asked: StartsWord,
     },
-}
-
-/// A number from least to most, if there is one.
-fn within(least: u32, most: u32, number: Option<u32>) -> Option<u32>
-    ensures value { result ≡ within least most number }
-    ensures within { IfSome result (λ n. (least ≤ n) × (n ≤ most)) }
-{
-    match number {
-        Some(n) if least <= n && n <= most => Some(n),
-        _ => None,
-    }
 }
 
 /// The number of workers of a word: one digit from 1 to 8.
@@ -82,7 +70,10 @@ fn nodes_of(word: &[u8]) -> Option<u32>
     ensures value { result ≡ nodes_of word.now }
     ensures within { IfSome result (λ n. (1 ≤ n) × (n ≤ 200)) }
 {
-    within(1, 200, read_number(word))
+    match read_number(word) {
+        Some(n) if 1 <= n && n <= 200 => Some(n),
+        _ => None,
+    }
 }
 
 /// A word that stands alone.
@@ -112,6 +103,16 @@ fn run_word(rest: &[String]) -> Option<Word>
     }
 }
 
+/// The town of two words.
+fn town_of(seed: &[u8], nodes: &[u8]) -> Option<Town>
+    ensures value { result ≡ town_of seed.now nodes.now }
+    ensures within { IfSome result IsTown }
+{
+    let seed = read_number(seed)?;
+    let nodes = nodes_of(nodes)?;
+    Some(Town { seed, nodes })
+}
+
 /// `make seed nodes`.
 fn make_word(rest: &[String]) -> Option<Word>
     ensures word { result ≡ make_word (map string_bytes rest.now) }
@@ -120,25 +121,20 @@ fn make_word(rest: &[String]) -> Option<Word>
     let [seed, nodes] = rest else {
         return None;
     };
-    let seed = read_number(seed.as_bytes())?;
-    let nodes = nodes_of(nodes.as_bytes())?;
-    Some(Word::Make { seed, nodes })
+    let town = town_of(seed.as_bytes(), nodes.as_bytes())?;
+    Some(Word::Make { town })
 }
 
 /// `brief seed nodes`, with so many workers.
-fn brief_by(seed: &[u8], nodes: &[u8], workers: Option<u32>) -> Option<Word>
-    requires { IfSome workers (λ n. (1 ≤ n) × (n ≤ 8)) }
-    ensures word { result ≡ brief_by seed.now nodes.now workers }
+fn brief_by(town: Option<Town>, workers: Option<u32>) -> Option<Word>
+    requires town { IfSome town IsTown }
+    requires workers { IfSome workers (λ n. (1 ≤ n) × (n ≤ 8)) }
+    ensures word { result ≡ brief_by town workers }
     ensures within { IfSome result IsWord }
 {
-    let seed = read_number(seed)?;
-    let nodes = nodes_of(nodes)?;
+    let town = town?;
     let workers = workers?;
-    Some(Word::Brief {
-        seed,
-        nodes,
-        workers,
-    })
+    Some(Word::Brief { town, workers })
 }
 
 /// `brief seed nodes` and `brief seed nodes w`.
@@ -147,31 +143,19 @@ fn brief_word(rest: &[String]) -> Option<Word>
     ensures within { IfSome result IsWord }
 {
     match rest {
-        [seed, nodes] => brief_by(seed.as_bytes(), nodes.as_bytes(), Some(1)),
+        [seed, nodes] => brief_by(town_of(seed.as_bytes(), nodes.as_bytes()), Some(1)),
         [seed, nodes, workers] => {
             let workers = workers_of(workers.as_bytes());
-            brief_by(seed.as_bytes(), nodes.as_bytes(), workers)
+            brief_by(town_of(seed.as_bytes(), nodes.as_bytes()), workers)
         }
         _ => None,
     }
 }
 
-/// A number of workers, and a range of cycle times in seconds, as words give them.
-#[derive(Clone, Copy)]
-pub(crate) struct Range {
-    /// How many workers climb, 1 to 8.
-    workers: u32,
-    /// The least cycle time.
-    low: u32,
-    /// The greatest cycle time.
-    high: u32,
-    /// The step from one cycle time to the next.
-    by: u32,
-}
-
 /// `w low high by`.
-fn range_of(rest: &[String]) -> Option<Range>
-    ensures { result ≡ range_of (map string_bytes rest.now) }
+fn times_of(rest: &[String]) -> Option<ScanWord>
+    ensures value { result ≡ times_of (map string_bytes rest.now) }
+    ensures within { IfSome result IsScan }
 {
     let [workers, low, high, by] = rest else {
         return None;
@@ -180,31 +164,24 @@ fn range_of(rest: &[String]) -> Option<Range>
     let low = read_number(low.as_bytes())?;
     let high = read_number(high.as_bytes())?;
     let by = read_number(by.as_bytes())?;
-    Some(Range {
-        workers,
-        low,
-        high,
-        by,
-    })
+    ScanWord::new(workers, low, high, by)
 }
 
 /// `scan w low high by`.
 fn scan_word(rest: &[String]) -> Option<Word>
-    ensures word { result ≡ scan_word (map string_bytes rest.now) }
+    ensures word { result ≡ option_map Word.Scan (times_of (map string_bytes rest.now)) }
     ensures within { IfSome result IsWord }
 {
-    let range = range_of(rest)?;
-    let asked = ScanWord::new(range.workers, range.low, range.high, range.by)?;
+    let asked = times_of(rest)?;
     Some(Word::Scan { asked })
 }
 
 /// `cycles w low high by`.
 fn cycles_word(rest: &[String]) -> Option<Word>
-    ensures word { result ≡ cycles_word (map string_bytes rest.now) }
+    ensures word { result ≡ option_map Word.Cycles (times_of (map string_bytes rest.now)) }
     ensures within { IfSome result IsWord }
 {
-    let range = range_of(rest)?;
-    let asked = CyclesWord::new(range.workers, range.low, range.high, range.by)?;
+    let asked = times_of(rest)?;
     Some(Word::Cycles { asked })
 }
 

@@ -1,15 +1,15 @@
 -- The steps of lines are those of the whole evaluation at END and the work since, which WORK prints.
-use Rattle.std.proofs.Common.{◌≡◌, ℕ, zero, suc, ◌+◌, ◌-◌, ◌*◌, ◌%◌, ◌≤◌, Bool, true, false, nat_le, nat_lt, List, [], ◌∷◌, ◌++◌, length}
-use Rattle.std.proofs.Common.{Option, Some, None, IfSome, if◌then◌else◌, refl, sym, ◌∙◌, ap, subst, arith, append_assoc}
+use Rattle.std.proofs.Common.{◌≡◌, ℕ, ◌+◌, ◌-◌, ◌*◌, ◌%◌, ◌≤◌, List, [], ◌∷◌, ◌++◌, length}
+use Rattle.std.proofs.Common.{Option, Some, None, IfSome, refl, sym, ◌∙◌, ap, subst, arith, append_assoc}
 use Rattle.std.proofs.lemmas.List.{append-nil, length-map}
 use Rattle.std.proofs.lemmas.List.Sums.{fold-append}
 use Rattle.transyt_parts.specs.Shape.{bare_link}
 use Rattle.transyt_net.specs.Parts.{Network}
 use Rattle.transyt_net.specs.Shape.{shape, SameShape}
-use Rattle.transyt_deck.specs.Deck.{Deck, Open, Complete, Refused, next, start}
+use Rattle.transyt_deck.specs.Deck.{Deck, Complete, next, start}
 use Rattle.transyt_commands.specs.Commands.{command_in}
 use Rattle.transyt_moves.specs.Moves.{move_count}
-use Rattle.transyt_sweep.specs.Climb.{Climb, moved, first, ended, stepped, after_search, climb_within, climb}
+use Rattle.transyt_sweep.specs.Climb.{climb}
 use Rattle.transyt_session.specs.Session.{SessionValue}
 use Rattle.transyt_climb.proofs.CountLaws.{shape_moved}
 use Rattle.transyt_outcome.specs.declared.ending.Ending.{Ending}
@@ -20,6 +20,7 @@ use Rattle.transyt_answers.specs.declared.answer.Answer.TheVariants as a
 use Rattle.transyt_answers.specs.Commands.{after_answer, budget_of, line_answer, line_judged, session_after}
 use Rattle.transyt_answers.specs.Report.{RunState, InDeck, InSession, run_of, run_after, run_state, ends, cost, line_steps}
 use Rattle.transyt_answers.specs.Report.{deck_steps, deck_answering, steps_in}
+use Rattle.transyt_answers.proofs.ClimbLaws.{of_climb}
 use Rattle.transyt_answers.proofs.ShapeLaws.{KeepsShape, keeps_said}
 use Rattle.transyt_answers.proofs.WorkLaws.{line_more}
 
@@ -38,44 +39,17 @@ whole_shape net = ap (λ (n : ℕ). net.frame.sweeps * n) (length-map net.links 
 whole_same : (a b : Network) → SameShape a b → whole_of a ≡ whole_of b
 whole_same a b same = sym (whole_shape a) ∙ ap whole_of same ∙ whole_shape b
 
--- a climb of at most so many steps keeps the shape
-within_shape : (most : ℕ) (net : Network) (k left : ℕ) → SameShape net (climb_within most net k left).net
-within_shape zero net k left = refl
-within_shape (suc most) net k left =
-    let Goal : Climb → Type 0 = λ c. SameShape net c.net in
-    let none : Goal (after_search (climb_within most) net k (move_count net) left None) =
-    let by : (b : Bool) → Goal (if b then ended true net k (move_count net) else ended false net k left) =
-    elim [ true ↦ refl | false ↦ refl ] in
-    by (nat_le (move_count net) left) in
-    let some : (r : ℕ) → Goal (after_search (climb_within most) net k (move_count net) left (Some r)) = λ r.
-    let place = (k + r) % move_count net in
-    let rest : SameShape (moved net place) (climb_within most (moved net place) place (left - (r + 1))).net =
-    within_shape most (moved net place) place (left - (r + 1)) in
-    let by : (b : Bool) → Goal (if b
-    then stepped net k (r + 1) place (climb_within most (moved net place) place (left - (r + 1)))
-    else ended false net k left) =
-    elim [ true ↦ sym (shape_moved net place) ∙ rest | false ↦ refl ] in
-    by (nat_lt r left) in
-    let cases : (o : Option ℕ) → Goal (after_search (climb_within most) net k (move_count net) left o) =
-    elim [ None ↦ none | Some r ↦ some r ] in
-    cases (first net k)
-
+-- a climb keeps the shape
 climb_shape : (net : Network) (k left : ℕ) → SameShape net (climb net k left).net
-unfolding climb
-climb_shape net k left = within_shape (left + 1) net k left
+climb_shape =
+    of_climb (λ net k left c. SameShape net c.net) (λ net k left. refl) (λ net k left. refl)
+    (λ net k left r rest is less same. sym (shape_moved net ((k + r) % move_count net)) ∙ same)
 
 -- an answer that is carried out keeps it
 carried_keeps : (answer : Answer) (s : SessionValue) → IfSome s.before (λ n. SameShape s.net n)
     → KeepsShape s (after_answer answer s)
-carried_keeps a.Nothing s h = record { net = refl; before = h }
-carried_keeps a.Stop s h = record { net = refl; before = h }
-carried_keeps a.Done s h = record { net = refl; before = h }
-carried_keeps (a.Refused code) s h = record { net = refl; before = h }
-carried_keeps (a.Show what) s h = record { net = refl; before = h }
-carried_keeps (a.Plot place) s h = record { net = refl; before = h }
-carried_keeps a.Deck s h = record { net = refl; before = h }
 carried_keeps a.Climb s h = record { net = climb_shape s.net 0 (budget_of s.net.plan); before = tt }
-carried_keeps a.Cert s h = record { net = refl; before = h }
+carried_keeps _ s h = record { net = refl; before = h }
 
 -- and so does a line
 line_keeps : (s : SessionValue) (line : List ℕ) → IfSome s.before (λ n. SameShape s.net n)
@@ -91,9 +65,8 @@ IsKept (InDeck deck) = Unit {0}
 IsKept (InSession s) = IfSome s.before (λ n. SameShape s.net n)
 
 kept_deck : (deck : Deck) → IsKept (run_of deck)
-kept_deck (Open count state) = tt
 kept_deck (Complete number net) = tt
-kept_deck (Refused number code) = tt
+kept_deck _ = tt
 
 kept_on : (state : RunState) (line : List ℕ) → IsKept state → IsKept (run_after state line)
 kept_on (InDeck deck) line h = kept_deck (next deck line)
@@ -101,9 +74,8 @@ kept_on (InSession s) line h = (line_keeps s line h).before
 
 -- the steps of END
 steps_deck : (deck : Deck) → deck_steps deck ≡ steps_in (run_of deck)
-steps_deck (Open count state) = refl
 steps_deck (Complete number net) = omega arith
-steps_deck (Refused number code) = refl
+steps_deck _ = refl
 
 -- what is added to the work so far
 added : (whole after work work_after : ℕ) → whole ≡ after → work ≤ work_after
@@ -139,7 +111,7 @@ steps_to before (line ∷ more) h none =
           (steps_on (run_state before) line h) (ap steps_in on)
           (steps_to (before ++ line ∷ []) more (subst IsKept (sym on) (kept_on (run_state before) line h)) goes)
           (ap (λ (ls : List (List ℕ)). steps_in (run_state ls)) (append_assoc before (line ∷ []) more)) refl
-      | Some refused ↦ λ is goes. absurd (cc)
+      | Some ending ↦ λ is goes. absurd (cc)
     ] in
     cases (ends before line) refl none
 

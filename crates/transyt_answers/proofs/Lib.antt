@@ -1,4 +1,5 @@
 -- The lemmas of the crate.
+pub mod ClimbLaws
 pub mod StepLaws
 pub mod WorkLaws
 pub mod ShapeLaws

@@ -1,6 +1,6 @@
 -- A session after a line has the shape that it had before.
-use Rattle.std.proofs.Common.{◌≡◌, Option, None, Some, Result, Ok, Err}
-use Rattle.std.proofs.Common.{IfSome, is_some, if◌then◌else◌, refl, sym, ◌∙◌, subst}
+use Rattle.std.proofs.Common.{Option, None, Some, Result, Ok}
+use Rattle.std.proofs.Common.{Bool, true, false, IfSome, is_some, if◌then◌else◌, refl, sym, ◌∙◌}
 use Rattle.transyt_net.specs.Parts.{Network}
 use Rattle.transyt_net.specs.declared.edit.Edit.{Edit}
 use Rattle.transyt_net.specs.declared.edit.EditFault.{EditFault}
@@ -35,13 +35,10 @@ keeps_back net None h = refl
 keeps_back net (Some n) h = h
 
 -- and one that is opened
-keeps_trial : (s : SessionValue) (o : Option Network) → s.before ≡ o → IfSome o (λ n. SameShape s.net n)
-    → KeepsShape s (if is_some o then s else record { net = s.net; before = Some s.net; work = s.work })
-keeps_trial s None is h = record { net = refl; before = refl }
-keeps_trial s (Some n) is h = record {
-  net = refl;
-  before = let P : Option Network → Type 0 = λ o. IfSome o (λ m. SameShape s.net m) in subst P (sym is) h;
-}
+keeps_trial : (s : SessionValue) (is_open : Bool) → IfSome s.before (λ n. SameShape s.net n)
+    → KeepsShape s (if is_open then s else record { net = s.net; before = Some s.net; work = s.work })
+keeps_trial s true h = record { net = refl; before = h }
+keeps_trial s false h = record { net = refl; before = refl }
 
 -- a command keeps it
 keeps_command : (command : Command) (s : SessionValue) → IfSome s.before (λ n. SameShape s.net n)
@@ -49,7 +46,7 @@ keeps_command : (command : Command) (s : SessionValue) → IfSome s.before (λ n
 keeps_command (c.Edit e) s h =
     let net = keeps_edit s.net e (edit_fault s.net e) in
     record { net = net; before = shape_on s.net (edited_net s.net e) s.before net h }
-keeps_command c.Trial s h = keeps_trial s s.before refl h
+keeps_command c.Trial s h = keeps_trial s (is_some s.before) h
 keeps_command c.Back s h = record { net = keeps_back s.net s.before h; before = tt }
 keeps_command c.Keep s h = record { net = refl; before = tt }
 keeps_command (c.Request asked) s h = record { net = refl; before = h }
@@ -57,6 +54,5 @@ keeps_command (c.Request asked) s h = record { net = refl; before = h }
 -- and so does what a line says
 pub keeps_said : (said : Result (Option Command) Code) (s : SessionValue) → IfSome s.before (λ n. SameShape s.net n)
     → KeepsShape s (said_judged said s)
-keeps_said (Err code) s h = record { net = refl; before = h }
-keeps_said (Ok None) s h = record { net = refl; before = h }
 keeps_said (Ok (Some command)) s h = keeps_command command s h
+keeps_said _ s h = record { net = refl; before = h }

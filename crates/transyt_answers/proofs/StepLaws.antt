@@ -1,5 +1,5 @@
 -- Each step of a climb lowers the index within every minimum green and intergreen.
-use Rattle.std.proofs.Common.{◌≡◌, ℕ, zero, suc, ◌+◌, ◌-◌, ◌%◌, ◌<◌, Bool, true, false, nat_le, nat_lt, List}
+use Rattle.std.proofs.Common.{◌≡◌, ℕ, zero, suc, ◌+◌, ◌%◌, ◌<◌, Bool, true, false, List, ◌∷◌}
 use Rattle.std.proofs.Common.{Option, Some, None, if◌then◌else◌, refl, sym, ◌∙◌, ap, subst, arith, ltb-true, mod-lt}
 use Rattle.std.specs.Option.{option_map}
 use Rattle.transyt_net.specs.Parts.{Network}
@@ -10,10 +10,10 @@ use Rattle.transyt_net.specs.Edits.{with_edit}
 use Rattle.transyt_net.proofs.ApplyLaws.{valid_edit}
 use Rattle.transyt_moves.specs.Moves.{move, move_count}
 use Rattle.transyt_sweep.specs.Sweeps.{index}
-use Rattle.transyt_sweep.specs.Climb.{Step, Climb, lowers, moved, index_with, is_below, least, first, step_at, ended, stepped}
-use Rattle.transyt_sweep.specs.Climb.{after_search, climb_within, climb}
+use Rattle.transyt_sweep.specs.Climb.{Step, Climb, lowers, moved, index_with, is_below, least, first, step_at, climb}
 use Rattle.transyt_climb.proofs.LookLaws.{lowers_is}
 use Rattle.transyt_answers.specs.Steps.{IsLowering, LeadDown}
+use Rattle.transyt_answers.proofs.ClimbLaws.{of_climb}
 
 later : (test : ℕ → Bool) (n r : ℕ)
     → ((q : ℕ) → least (λ k. test (k + 1)) n ≡ Some q → (test (q + 1) ≡ true) × (q < n))
@@ -95,38 +95,21 @@ found_lowers net k r h =
     let some : 0 < move_count net = omega (arith, below) in
     (mod-lt (k + r) some, found.0)
 
--- the steps of a climb of at most so many lead to its network
-within_leads : (most : ℕ) (net : Network) (k left : ℕ) → IsValid net
-    → LeadDown net (climb_within most net k left).steps (climb_within most net k left).net
-within_leads zero net k left valid = refl
-within_leads (suc most) net k left valid =
-    let Goal : Climb → Type 0 = λ c. LeadDown net c.steps c.net in
-    let none : Goal (after_search (climb_within most) net k (move_count net) left None) =
-    let by : (b : Bool) → Goal (if b then ended true net k (move_count net) else ended false net k left) =
-    elim [ true ↦ refl | false ↦ refl ] in
-    by (nat_le (move_count net) left) in
-    let some : (r : ℕ) → first net k ≡ Some r
-    → Goal (after_search (climb_within most) net k (move_count net) left (Some r)) = λ r is.
+-- a climb with a lowering step in front
+step_leads : (net : Network) (k r : ℕ) (rest : Climb) → first net k ≡ Some r
+    → (IsValid (moved net ((k + r) % move_count net))
+    → LeadDown (moved net ((k + r) % move_count net)) rest.steps rest.net)
+    → IsValid net → LeadDown net (step_at net ((k + r) % move_count net) ∷ rest.steps) rest.net
+step_leads net k r rest is later valid =
     let place = (k + r) % move_count net in
     let found = found_lowers net k r is in
     let step = step_lowers net place valid found.0 found.1 in
-    let after : IsValid (moved net place) = valid_moved net place valid step in
-    let rest : LeadDown (moved net place) (climb_within most (moved net place) place (left - (r + 1))).steps
-    (climb_within most (moved net place) place (left - (r + 1))).net =
-    within_leads most (moved net place) place (left - (r + 1)) after in
-    let by : (b : Bool) → Goal (if b
-    then stepped net k (r + 1) place (climb_within most (moved net place) place (left - (r + 1)))
-    else ended false net k left) =
-    elim [ true ↦ (step, from_moved net place _ _ rest) | false ↦ refl ] in
-    by (nat_lt r left) in
-    let cases : (o : Option ℕ) → first net k ≡ o
-    → Goal (after_search (climb_within most) net k (move_count net) left o) =
-    elim [ None ↦ λ is. none | Some r ↦ λ is. some r is ] in
-    cases (first net k) refl
+    (step, from_moved net place _ _ (later (valid_moved net place valid step)))
 
 -- each step of a climb from a valid network is a listed move that is allowed and strictly lowers the index, and leaves
 -- every node's plan allowed
 pub climb_leads : (net : Network) (k left : ℕ) → IsValid net
     → LeadDown net (climb net k left).steps (climb net k left).net
-unfolding climb
-climb_leads net k left valid = within_leads (left + 1) net k left valid
+climb_leads =
+    of_climb (λ net k left c. IsValid net → LeadDown net c.steps c.net) (λ net k left valid. refl)
+    (λ net k left valid. refl) (λ net k left r rest is less. step_leads net k r rest is)

@@ -29,15 +29,8 @@ certified = refl
 -- the text of an answer is of the network now
 pub of_now : (s : SessionValue) (before : Option Network) (answer : Answer)
     → answer_text (record s { before = before }) answer ≡ answer_text s answer
-of_now s before a.Nothing = refl
-of_now s before a.Stop = refl
-of_now s before a.Done = refl
-of_now s before (a.Refused code) = refl
-of_now s before (a.Show what) = refl
-of_now s before (a.Plot place) = refl
-of_now s before a.Deck = refl
 of_now s before a.Climb = refl
-of_now s before a.Cert = refl
+of_now s before _ = refl
 
 -- the number that is there, if there is one
 abbrev number_of : Option ℕ → ℕ

@@ -1,6 +1,7 @@
 -- The answer to a command over a session, its text, and the session after it.
 use Rattle.std.specs.Prelude.{ℕ, ◌-◌, ◌++◌, List, [], ◌∷◌, Option, Some, None, Result, Ok, Err, is_some, codes}
 use Rattle.std.specs.Prelude.{flat_map, length, if◌then◌else◌}
+use Rattle.std.specs.Option.{option_map_or}
 use Rattle.transyt_syntax.specs.declared.code.Code.{Code}
 use Rattle.transyt_syntax.specs.declared.code.Code.TheVariants as code
 use Rattle.transyt_syntax.specs.Codes.{number}
@@ -41,44 +42,23 @@ edit_code fault.LeastGreen = code.LeastGreen
 
 -- the answer to an edit, by its fault
 abbrev pub edit_answer : Option EditFault → Answer
-edit_answer None = a.Done
-edit_answer (Some f) = a.Refused (edit_code f)
+edit_answer fault = option_map_or (λ f. a.Refused (edit_code f)) fault a.Done
 
--- the answer about the link at a place, or that there is none
-abbrev pub about : (ℕ → Answer) → Option ℕ → Answer
-about answer None = a.Refused code.Unknown
-about answer (Some place) = answer place
-
--- the answer about the link of this number
+-- the answer about the link of this number, or that there is none
 abbrev pub about_link : Network → ℕ → (ℕ → Answer) → Answer
-about_link net number answer = about answer (place_of (link_numbers net.links) number)
+about_link net number answer = option_map_or answer (place_of (link_numbers net.links) number) (a.Refused code.Unknown)
 
--- the refusal of CLIMB and CERT where there is no climb plan
-abbrev pub without_plan : Option PlanValue → Option Code
-without_plan None = Some code.NoPlan
-without_plan (Some plan) = None
-
--- the refusal of CLIMB and CERT: a trial is open, or there is no climb plan
-abbrev pub plan_refusal : SessionValue → Option Code
-plan_refusal s = if is_some s.before then Some code.OpenTrial else without_plan s.net.plan
-
--- a refusal, or else another answer
-abbrev pub refusal_or : Answer → Option Code → Answer
-refusal_or answer None = answer
-refusal_or answer (Some code) = a.Refused code
-
--- the answer to TRIAL
-abbrev pub trial_answer : SessionValue → Answer
-trial_answer s = if is_some s.before then a.Refused code.OpenTrial else a.Done
-
--- the answer to BACK and to KEEP
-abbrev pub end_answer : SessionValue → Answer
-end_answer s = if is_some s.before then a.Done else a.Refused code.NoTrial
+-- the answer to CLIMB or CERT, or its refusal: a trial is open, or there is no climb plan
+abbrev pub planned : SessionValue → Answer → Answer
+planned s answer =
+    if is_some s.before then a.Refused code.OpenTrial
+    else if is_some s.net.plan then answer
+    else a.Refused code.NoPlan
 
 -- the answer to a request
 abbrev pub requested : SessionValue → Request → Answer
-requested s r.Climb = refusal_or a.Climb (plan_refusal s)
-requested s r.Cert = refusal_or a.Cert (plan_refusal s)
+requested s r.Climb = planned s a.Climb
+requested s r.Cert = planned s a.Cert
 requested s r.Index = a.Show report.Index
 requested s r.Links = a.Show report.Links
 requested s r.Figures = a.Show report.Figures
@@ -94,9 +74,9 @@ requested s r.Stop = a.Stop
 -- the answer to a command
 abbrev pub answer_to : SessionValue → Command → Answer
 answer_to s (c.Edit e) = edit_answer (edit_fault s.net e)
-answer_to s c.Trial = trial_answer s
-answer_to s c.Back = end_answer s
-answer_to s c.Keep = end_answer s
+answer_to s c.Trial = if is_some s.before then a.Refused code.OpenTrial else a.Done
+answer_to s c.Back = if is_some s.before then a.Done else a.Refused code.NoTrial
+answer_to s c.Keep = if is_some s.before then a.Done else a.Refused code.NoTrial
 answer_to s (c.Request asked) = requested s asked
 
 -- the session when a command was judged: an edit and the commands of a trial are carried out

@@ -10,7 +10,7 @@ use Rattle.transyt_session.specs.Session.{SessionValue, opened}
 use Rattle.transyt_text.specs.Forms.{form_line}
 use Rattle.transyt_outcome.specs.declared.ending.Ending.{Ending}
 use Rattle.transyt_outcome.specs.declared.ending.Ending.TheVariants as ending
-use Rattle.transyt_outcome.specs.Runs.{Answering, answering, of_lines, report_by}
+use Rattle.transyt_outcome.specs.Runs.{Answering, of_lines, report_by}
 use Rattle.transyt_outcome.specs.Outcome.{Reporting, status_by}
 use Rattle.transyt_outcome.specs.declared.status.Status.{Status}
 use Rattle.transyt_answers.specs.declared.answer.Answer.{Answer}
@@ -39,14 +39,12 @@ deck_said (Refused number code) = card_refused number code
 -- the text of the end of an input whose deck is this: it is refused where END didn't come
 abbrev pub deck_closing : Deck → List ℕ
 deck_closing (Open count state) = card_refused (count + 1) code.NoEnd
-deck_closing (Complete number net) = []
-deck_closing (Refused number code) = []
+deck_closing _ = []
 
 -- a refused card ends the run, as a refusal
 abbrev pub deck_ends : Deck → Option Ending
-deck_ends (Open count state) = None
-deck_ends (Complete number net) = None
 deck_ends (Refused number code) = Some ending.Refused
+deck_ends _ = None
 
 -- an accepted STOP ends the run
 abbrev pub answer_ends : Answer → Option Ending
@@ -55,15 +53,13 @@ answer_ends answer = None
 
 -- the steps of a line before END or of END, by the deck with it: an accepted END works out each sweep of each link
 abbrev pub deck_steps : Deck → ℕ
-deck_steps (Open count state) = 0
 deck_steps (Complete number net) = net.frame.sweeps * length net.links
-deck_steps (Refused number code) = 0
+deck_steps _ = 0
 
 -- the state after lines whose deck is this: the accepted END opens a session of its network
 abbrev pub run_of : Deck → RunState
-run_of (Open count state) = InDeck (Open count state)
 run_of (Complete number net) = InSession (opened net)
-run_of (Refused number code) = InDeck (Refused number code)
+run_of deck = InDeck deck
 
 -- the state after one line more
 abbrev pub run_after : RunState → List ℕ → RunState
@@ -126,7 +122,7 @@ cost before line = line_steps (run_state before) line
 
 -- how the lines of a deck and of its commands are answered
 abbrev pub deck_answering : Answering
-deck_answering = answering text ends closing refused_at_end cost
+deck_answering = record { text = text; ends = ends; closing = closing; refused = refused_at_end; cost = cost }
 
 -- the report of an input: the answers to its lines and, where it ends before END, the refusal of its deck
 abbrev pub reporting_run : Reporting

@@ -1,10 +1,10 @@
 //! A line after END is judged into an answer; edits and the commands of a trial are carried out.
-ghost use Rattle.std.specs.Prelude.{◌≡◌, ◌+◌, ◌^◌, ◌≤◌, ◌<◌, None, IsSome, IfSome, IfNone, length};
+ghost use Rattle.std.specs.Prelude.{◌≡◌, ◌+◌, ◌^◌, ◌≤◌, ◌<◌, None, IsSome, IfSome, length};
 ghost use Rattle.transyt_net.specs.EditFaults.{edit_fault};
 ghost use Rattle.transyt_net.specs.Valid.{place_of, link_numbers};
 ghost use Rattle.transyt_session.specs.Session.{edited, trial_of, back_of, keep_of};
-ghost use Rattle.transyt_answers.specs.Commands.{edit_code, edit_answer, about_link, plan_refusal, refusal_or, trial_answer};
-ghost use Rattle.transyt_answers.specs.Commands.{end_answer, requested, answer_to, judged, line_answer, line_judged};
+ghost use Rattle.transyt_answers.specs.Commands.{edit_code, edit_answer, about_link, planned, requested, answer_to, judged};
+ghost use Rattle.transyt_answers.specs.Commands.{line_answer, line_judged};
 ghost use Rattle.transyt_answers.specs.Conditions.{IsOf};
 
 use crate::answer::Answer;
@@ -46,7 +46,7 @@ fn judge_edit<L: Ledger>(session: &mut Session, edit: Edit, steps: &mut Steps<L>
 
 /// Opens a trial, where none is open.
 fn judge_trial(session: &mut Session) -> Answer
-    ensures answer { result ≡ trial_answer session.old }
+    ensures answer { result ≡ answer_to session.old Command.Trial }
     ensures ready { IsOf session.new result }
     ensures state { session.new ≡ trial_of session.old }
 {
@@ -58,7 +58,7 @@ fn judge_trial(session: &mut Session) -> Answer
 
 /// Takes the open trial back, if there is one.
 fn judge_back(session: &mut Session) -> Answer
-    ensures answer { result ≡ end_answer session.old }
+    ensures answer { result ≡ answer_to session.old Command.Back }
     ensures ready { IsOf session.new result }
     ensures state { session.new ≡ back_of session.old }
 {
@@ -70,7 +70,7 @@ fn judge_back(session: &mut Session) -> Answer
 
 /// Keeps the open trial, if there is one.
 fn judge_keep(session: &mut Session) -> Answer
-    ensures answer { result ≡ end_answer session.old }
+    ensures answer { result ≡ answer_to session.old Command.Keep }
     ensures ready { IsOf session.new result }
     ensures state { session.new ≡ keep_of session.old }
 {
@@ -80,40 +80,19 @@ fn judge_keep(session: &mut Session) -> Answer
     }
 }
 
-/// The refusal of CLIMB and CERT, if there is one.
-fn plan_refusal(session: &Session) -> Option<Code>
-    ensures refusal { result ≡ plan_refusal session.now }
-    ensures ready { IfNone result (IsSome session.now.net.plan × (session.now.before ≡ None)) }
+/// The answer to CLIMB or CERT, or its refusal.
+fn planned(session: &Session, answer: Answer) -> Answer
+    requires { IsSome session.now.net.plan → session.now.before ≡ None → IsOf session.now answer }
+    ensures answer { result ≡ planned session.now answer }
+    ensures ready { IsOf session.now result }
 {
     if session.is_trial() {
-        return Some(Code::OpenTrial);
+        return Answer::Refused(Code::OpenTrial);
     }
     let net = session.net();
     match net.plan() {
-        Some(_) => None,
-        None => Some(Code::NoPlan),
-    }
-}
-
-/// The answer to CLIMB.
-fn judge_climb(session: &Session) -> Answer
-    ensures answer { result ≡ refusal_or Answer.Climb (plan_refusal session.now) }
-    ensures ready { IsOf session.now result }
-{
-    match plan_refusal(session) {
-        Some(code) => Answer::Refused(code),
-        None => Answer::Climb,
-    }
-}
-
-/// The answer to CERT.
-fn judge_cert(session: &Session) -> Answer
-    ensures answer { result ≡ refusal_or Answer.Cert (plan_refusal session.now) }
-    ensures ready { IsOf session.now result }
-{
-    match plan_refusal(session) {
-        Some(code) => Answer::Refused(code),
-        None => Answer::Cert,
+        Some(_) => answer,
+        None => Answer::Refused(Code::NoPlan),
     }
 }
 
@@ -165,8 +144,8 @@ fn judge_request(session: &Session, request: Request) -> Answer
     ensures ready { IsOf session.now result }
 {
     match request {
-        Request::Climb => judge_climb(session),
-        Request::Cert => judge_cert(session),
+        Request::Climb => planned(session, Answer::Climb),
+        Request::Cert => planned(session, Answer::Cert),
         Request::Index => Answer::Show(Report::Index),
         Request::Links => Answer::Show(Report::Links),
         Request::Figures => Answer::Show(Report::Figures),

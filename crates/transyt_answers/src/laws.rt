@@ -29,6 +29,7 @@ ghost use Rattle.transyt_answers.specs.WorkedTrial.{trial_answers, trial_command
 
 /// Each step of a climb strictly lowers the index within every minimum green and intergreen, and a climb that ends as
 /// LOCAL ends at a network of which no listed move is allowed and lowers the index.
+#[tactic(auto, using(crate::proofs::StepLaws::climb_leads, transyt_climb::proofs::LocalLaws::local_climb))]
 pub fn steps_lower()
     ensures steps { (net : Network) (place left : ℕ) → IsValid net
         → LeadDown net (climb net place left).steps (climb net place left).net }

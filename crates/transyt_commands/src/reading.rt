@@ -29,6 +29,18 @@ pub fn read_command(line: &[u8]) -> Result<Option<Command>, Code>
     say(line, command_named(keyword, &further.numbers), &further)
 }
 
+/// The least and the most numbers that the command of a line takes; `None` where no command has its keyword.
+pub fn command_counts(line: &[u8]) -> Option<(usize, usize)>
+    ensures { result ≡ counts_of commands line.now }
+{
+    let (keyword, rest) = first_of(line);
+    let further = further_of(rest);
+    match command_named(keyword, &further.numbers) {
+        Some((counts, _)) => Some(counts),
+        None => None,
+    }
+}
+
 /// The least and the most numbers that a keyword takes, and the command that it is with these numbers.
 fn command_named(keyword: &[u8], numbers: &Numbers) -> Option<((usize, usize), Command)>
     ensures command { result ≡ with_numbers numbers.now (named commands keyword.now) }

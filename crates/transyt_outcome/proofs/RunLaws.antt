@@ -21,8 +21,8 @@ use Rattle.transyt_outcome.specs.declared.status.Status.{Status}
 use Rattle.transyt_outcome.specs.declared.status.Status.TheVariants.{Done, DeckRefused, ReadFault, TooLong, WriteFault}
 use Rattle.transyt_outcome.specs.declared.status.Status.TheVariants.{NoMemory}
 use Rattle.transyt_outcome.specs.Turns.{AnsweredWhole, ClosedWhole, is_refusal}
-use Rattle.transyt_outcome.specs.Outcome.{Finished, IsWritten, Row, Outcome}
-use Rattle.transyt_outcome.specs.Runs.{Answering, of_lines, answers_by, costs_by, StepsAll, StepsRow, StepsTaken, Ran}
+use Rattle.transyt_outcome.specs.Outcome.{Finished, IsWritten, Row}
+use Rattle.transyt_outcome.specs.Runs.{Answering, of_lines, answers_by, costs_by, StepsAll, StepsRow, Ran}
 use Rattle.transyt_outcome.specs.RunSoFar.{RunSoFar}
 use Rattle.transyt_outcome.proofs.SoFar.{so_far_none, so_far_on, all_texts, all_costs, written_none, written_on, written_next}
 use Rattle.transyt_outcome.proofs.LastLine.{finished_line, steps_line, part_of_line, steps_of_line, finished_end, part_of_end}
@@ -92,12 +92,8 @@ module _ {by : Answering} {answered : List (List ℕ) → Type 0} {count : ℕ} 
   ran p out {written_new} {steps_new} known is adds row steps_row =
       let P : Status → Type 0 = λ s. Ran by counted left left_new last_new written written_new steps steps_new s in
       subst P (sym is) (record {
-        taken = taken_by p;
-        out = out;
-        takes = takes_all p;
-        adds = adds;
-        row = row;
-        steps_row = steps_row;
+        outcome = record { taken = taken_by p; out = out; takes = takes_all p; adds = adds; row = row };
+        steps_taken = λ all. record { taken = taken_by p; takes = takes_all p; row = steps_row all };
       })
 
   -- all is answered, and the run ends as a refusal or done
@@ -229,14 +225,3 @@ module _ {by : Answering} {answered : List (List ℕ) → Type 0} {count : ℕ} 
       let most = subst P (take-append-drop 4194304 (taken_by p))
       (steps_cut way.so_far left_new first (drop 4194304 (taken_by p)) says.1) in
       omega (arith, had, most))
-
-module _ {by : Answering} {counted : Bool} {left left_new : Option (List ℕ)} {last_new : Option ℕ}
-    {written written_new : Option (List ℕ)} {steps steps_new : ℕ} {status : Status}
-    (run : Ran by counted left left_new last_new written written_new steps steps_new status) where
-  -- the outcome of a run over lines
-  pub outcome_of : Outcome (of_lines by) left left_new last_new written written_new status
-  outcome_of = record { taken = run.taken; out = run.out; takes = run.takes; adds = run.adds; row = run.row }
-
-  -- its steps, where all are counted
-  pub steps_of : counted ≡ true → StepsTaken by left left_new steps steps_new status
-  steps_of all = record { taken = run.taken; takes = run.takes; row = run.steps_row all }

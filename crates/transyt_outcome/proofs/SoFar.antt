@@ -1,8 +1,9 @@
 -- The lines answered so far, on plain lists.
-use Rattle.std.proofs.Common.{◌≡◌, ◌⊎◌, inl, inr, ℕ, zero, suc, ◌+◌, ◌-◌, ◌++◌, Bool, true, false, List, [], ◌∷◌}
+use Rattle.std.proofs.Common.{◌≡◌, ◌⊎◌, inl, inr, ℕ, ◌+◌, ◌-◌, ◌++◌, Bool, true, false, List, [], ◌∷◌}
 use Rattle.std.proofs.Common.{Option, None, Some, Result, IfSome, length, take, refl, sym, ◌∙◌, ap, subst, arith}
 use Rattle.std.proofs.Common.{append_assoc, length-append}
 use Rattle.std.proofs.lemmas.List.{append-nil, take_at}
+use Rattle.std.proofs.Math.Seq.{take-nil}
 use Rattle.transyt_io.specs.declared.reader.Line.{Line}
 use Rattle.transyt_io.specs.declared.reader.ReadStop.{ReadStop}
 use Rattle.transyt_io.specs.Lines.{lines, whole, lines_by}
@@ -101,10 +102,6 @@ if_some_all : {X : Type 0} → (P : X → Type 0) (o : Option X) → ((x : X) �
 if_some_all P None f = tt
 if_some_all P (Some x) f = f x
 
-take_nothing : (n : ℕ) → ◌≡◌ {A = List ℕ} (take n []) []
-take_nothing zero = refl
-take_nothing (suc n) = refl
-
 -- a front of some bytes is one of more
 pub front_longer : (a b c : List ℕ) → IsFront a b → IsFront a (b ++ c)
 front_longer a b c h = record {
@@ -117,7 +114,7 @@ pub written_none : (by : Answering) (last : Option ℕ) → IsWritten (of_lines 
 written_none by last =
     if_some_all (λ n. IsFront (answers_by by (whole (take (0 - n) []))) []) last (λ n. record {
       back = [];
-      parts = append-nil _ ∙ ap (λ (xs : List ℕ). answers_by by (whole xs)) (take_nothing (0 - n));
+      parts = append-nil _ ∙ ap (λ (xs : List ℕ). answers_by by (whole xs)) (take-nil (0 - n));
     })
 
 -- more is written

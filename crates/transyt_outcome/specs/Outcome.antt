@@ -77,6 +77,21 @@ pub record Outcome (by : Reporting) (left left_new : Option (List ℕ)) (last_ne
   pub adds : Adds written written_new out
   pub row : Row by left_new last_new taken out status
 
+-- the meaning of a status for the bytes written of a text, and for whether the text is a refusal
+abbrev pub TextRow : List ℕ → Bool → List ℕ → Status → Type 0
+TextRow text refused out Done = (out ≡ text) × (refused ≡ false)
+TextRow text refused out DeckRefused = (out ≡ text) × (refused ≡ true)
+TextRow text refused out WriteFault = IsFront out text
+TextRow text refused out NoMemory = out ≡ []
+TextRow text refused out _ = ⊥
+
+-- the outcome of writing a text: the bytes written, and what the status says of them
+pub record TextOutcome (text : List ℕ) (refused : Bool) (written written_new : Option (List ℕ))
+    (status : Status) : Type 0 where
+  pub out : List ℕ
+  pub adds : Adds written written_new out
+  pub row : TextRow text refused out status
+
 -- bytes after those that end the run change nothing
 pub record IsSettled (by : Reporting) : Type 0 where
   pub ends : (taken more : List ℕ) → EndsRun (by.ends taken) → by.ends (taken ++ more) ≡ by.ends taken

@@ -1,13 +1,13 @@
 -- A run over the lines of an input, whatever it is that answers them: its report, and its steps.
 use Rattle.std.specs.Prelude.{◌≡◌, ◌⊎◌, ℕ, ◌+◌, ◌++◌, ◌≤◌, List, [], Bool, true, Option}
 use Rattle.transyt_io.specs.Lines.{lines, whole}
-use Rattle.transyt_io.specs.Streams.{Takes, Adds, IsAtEnd}
+use Rattle.transyt_io.specs.Streams.{Takes, IsAtEnd}
 use Rattle.transyt_outcome.specs.declared.ending.Ending.{Ending}
 use Rattle.transyt_outcome.specs.declared.status.Status.{Status}
 use Rattle.transyt_outcome.specs.declared.status.Status.TheVariants.{Done, DeckRefused, ReadFault, TooLong, WriteFault}
 use Rattle.transyt_outcome.specs.declared.status.Status.TheVariants.{NoMemory, BadWords}
 use Rattle.transyt_outcome.specs.Turns.{answers_after, ending_after, costs_after, unless_ended, or_else}
-use Rattle.transyt_outcome.specs.Outcome.{Reporting, Row}
+use Rattle.transyt_outcome.specs.Outcome.{Reporting, Outcome}
 
 -- how lines are answered: the text of a line after the lines before it, how it ends the run if it does, the text at the end of the input and whether that is a refusal, and the steps of a line
 pub record Answering : Type 0 where
@@ -16,12 +16,6 @@ pub record Answering : Type 0 where
   pub closing : List (List ℕ) → List ℕ
   pub refused : List (List ℕ) → Bool
   pub cost : List (List ℕ) → List ℕ → ℕ
-
--- the answering of these parts
-abbrev pub answering : (List (List ℕ) → List ℕ → List ℕ) → (List (List ℕ) → List ℕ → Option Ending)
-    → (List (List ℕ) → List ℕ) → (List (List ℕ) → Bool) → (List (List ℕ) → List ℕ → ℕ) → Answering
-answering text ends closing refused cost =
-    record { text = text; ends = ends; closing = closing; refused = refused; cost = cost }
 
 -- the answers to lines, up to the one that ends the run
 abbrev pub answers_by : Answering → List (List ℕ) → List ℕ
@@ -80,13 +74,8 @@ pub record StepsTaken (by : Answering) (left left_new : Option (List ℕ)) (step
   pub takes : Takes left left_new taken
   pub row : StepsRow by left_new taken steps steps_new status
 
--- A run over lines: the bytes that it took, those that it wrote, and what its status says of both and, where all steps
--- are counted, of the steps. No public clause cites it.
+-- A run over lines: its outcome and, where all steps are counted, its steps. No public clause cites it.
 pub record Ran (by : Answering) (counted : Bool) (left left_new : Option (List ℕ)) (last_new : Option ℕ)
     (written written_new : Option (List ℕ)) (steps steps_new : ℕ) (status : Status) : Type 0 where
-  pub taken : List ℕ
-  pub out : List ℕ
-  pub takes : Takes left left_new taken
-  pub adds : Adds written written_new out
-  pub row : Row (of_lines by) left_new last_new taken out status
-  pub steps_row : counted ≡ true → StepsRow by left_new taken steps steps_new status
+  pub outcome : Outcome (of_lines by) left left_new last_new written written_new status
+  pub steps_taken : counted ≡ true → StepsTaken by left left_new steps steps_new status

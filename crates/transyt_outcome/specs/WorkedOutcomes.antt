@@ -4,7 +4,7 @@ use Rattle.transyt_outcome.specs.declared.ending.Ending.{Ending}
 use Rattle.transyt_outcome.specs.declared.ending.Ending.TheVariants as e
 use Rattle.transyt_outcome.specs.declared.status.Status.{Status}
 use Rattle.transyt_outcome.specs.declared.status.Status.TheVariants as s
-use Rattle.transyt_outcome.specs.Runs.{Answering, answering}
+use Rattle.transyt_outcome.specs.Runs.{Answering}
 
 -- a line that begins with S ends the run, and one that begins with R ends it as a refusal
 abbrev pub echo_ends : List ℕ → Option Ending
@@ -14,9 +14,13 @@ echo_ends (b ∷ bs) = if nat_eq b 83 then Some e.Stopped else if nat_eq b 82 th
 -- Each line is said again behind a `>`, and takes a step for each byte and a hundred for each line before it. The end of
 -- the input is told by how many lines there were, as a digit, and is a refusal after more than two.
 abbrev pub echo : Answering
-echo = answering (λ before line. 62 ∷ line ++ 10 ∷ []) (λ before line. echo_ends line)
-    (λ before. (48 + length before) ∷ 10 ∷ []) (λ before. nat_lt 2 (length before))
-    (λ before line. length line + 100 * length before)
+echo = record {
+  text = λ before line. 62 ∷ line ++ 10 ∷ [];
+  ends = λ before line. echo_ends line;
+  closing = λ before. (48 + length before) ∷ 10 ∷ [];
+  refused = λ before. nat_lt 2 (length before);
+  cost = λ before line. length line + 100 * length before;
+}
 
 -- lines, their answer and their report; the last has no line end
 abbrev pub two_lines : List ℕ

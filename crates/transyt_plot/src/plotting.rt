@@ -1,59 +1,41 @@
 //! The plot.
-ghost use Rattle.std.specs.Prelude.{◌≡◌, ◌≤◌, ◌<◌, length, flat_map};
-ghost use Rattle.std.specs.List.{range_with_len};
-ghost use Rattle.transyt_net.specs.Parts.{link_of};
-ghost use Rattle.transyt_sweep.specs.Sweeps.{evaluated};
+ghost use Rattle.std.specs.Prelude.{◌≡◌, ◌≤◌, ◌<◌, length};
 ghost use Rattle.transyt_text.specs.Prints.{PrintsOn};
 ghost use Rattle.transyt_plot.specs.Plot.{scale_line, step_lines, plot_of, plot_text};
 
 use crate::field::set_step;
 use crate::profiles::Profiles;
 use transyt_io::{Failed, LineBuffer, Sink, write_line};
-use transyt_net::Net;
-use transyt_report::{arrivals, go, greatest, out};
+use transyt_report::{arrivals, go, greatest, number_at, out};
 use transyt_session::Session;
-use transyt_text::print_form;
+use transyt_text::{Parts, print_form, print_parts};
 
-/// The card number of the link at a place.
-pub(crate) fn number_at(net: &Net, link: usize) -> u32
-    requires { link < length net.now.links }
-    ensures { result ≡ (link_of net.now link).number }
-{
-    let link = &net.links()[link];
-    link.number
+/// The lines of the steps of a plot, by its scale.
+#[derive(Clone, Copy)]
+struct StepLines<'a> {
+    scale: u64,
+    profiles: &'a Profiles<'a>,
 }
 
-/// Writes the line of a step.
-fn print_step<K: Sink>(
-    scale: u64,
-    step: usize,
-    profiles: &Profiles,
-    line: &mut LineBuffer,
-    sink: &mut K,
-) -> Result<(), Failed>
-    requires { step < length profiles.now.arrivals.now }
-    ensures { PrintsOn K.written K.faults sink.old sink.new result
-        (step_lines scale profiles.now.arrivals.now profiles.now.go.now profiles.now.out.now step) }
-{
-    set_step(scale, step, profiles, line);
-    write_line(line, sink)
-}
+impl Parts for StepLines<'_> {
+    ghost number = { λ self. length self.profiles.now.arrivals.now };
 
-/// Writes the lines of all steps.
-fn print_steps<K: Sink>(
-    scale: u64,
-    profiles: &Profiles,
-    line: &mut LineBuffer,
-    sink: &mut K,
-) -> Result<(), Failed>
-    ensures { PrintsOn K.written K.faults sink.old sink.new result
-        (flat_map (step_lines scale profiles.now.arrivals.now profiles.now.go.now profiles.now.out.now)
-        (range_with_len 0 (length profiles.now.arrivals.now))) }
-{
-    for step in 0..profiles.arrivals.len() {
-        print_step(scale, step, profiles, line, sink)?;
+    ghost text = { λ self.
+        step_lines self.scale self.profiles.now.arrivals.now self.profiles.now.go.now self.profiles.now.out.now };
+
+    fn count(&self) -> usize {
+        self.profiles.arrivals.len()
     }
-    Ok(())
+
+    fn print<K: Sink>(
+        &self,
+        place: usize,
+        line: &mut LineBuffer,
+        sink: &mut K,
+    ) -> Result<(), Failed> {
+        set_step(self.scale, place, self.profiles, line);
+        write_line(line, sink)
+    }
 }
 
 /// Writes the first line.
@@ -84,7 +66,7 @@ fn print_plot<K: Sink>(
     let comes = greatest(0, profiles.arrivals);
     let scale = greatest(greatest(comes, profiles.go), profiles.out);
     print_scale(number, scale, line, sink)?;
-    print_steps(scale, profiles, line, sink)
+    print_parts(&StepLines { scale, profiles }, line, sink)
 }
 
 /// Appends the plot of the link at a place, each line handed to `write` in one piece: the step in three digits, then
@@ -107,5 +89,5 @@ pub fn plot<K: Sink>(
         go: go(session, link),
         out: out(session, link),
     };
-    print_plot(number_at(session.net(), link), &profiles, line, sink)
+    print_plot(number_at(session, link), &profiles, line, sink)
 }

@@ -12,17 +12,14 @@ use Rattle.transyt_sweep.proofs.WorkedFigures.{figures_come_out, index_comes_out
 use Rattle.transyt_text.specs.Forms.{filled, form_line, values_line, values_text}
 use Rattle.transyt_report.specs.declared.showing.Report.TheVariants as r
 use Rattle.transyt_report.specs.Texts.{figures_line, in_line, index_line, go_line, node_line, out_line, queue_line}
-use Rattle.transyt_report.specs.Texts.{report_text, stage_line, timing_end, work_line, IsOfPlace}
+use Rattle.transyt_report.specs.Texts.{report_text, stage_line, timing_end, IsOfPlace}
 use Rattle.transyt_report.specs.WorkedTexts.{lines_of_two, lines_of_three, two_nodes, links_of_three, profile_of_fourth}
 use Rattle.transyt_report.specs.WorkedTexts.{queue_of_fourth}
+use Rattle.transyt_report.proofs.Worked.{index_is}
 
 -- INDEX
-index_by : index_line 556223009 ≡ codes "INDEX 556223009" ++ 10 ∷ []
-unfolding index_line form_line filled digits
-index_by = refl
-
 pub index_of_three : report_text three_junctions 1378 r.Index ≡ codes "INDEX 556223009" ++ 10 ∷ []
-index_of_three = ap index_line index_comes_out ∙ index_by
+index_of_three = ap index_line index_comes_out ∙ index_is
 
 -- the lines of links by their numbers and figures
 abbrev lines_by : List ℕ → List Figures → List ℕ
@@ -61,11 +58,6 @@ profile_is = refl
 pub queue_is : report_text three_junctions 1378 (r.Queue 3) ≡ queue_of_fourth
 unfolding queue_line values_line values_text filled digits sum_back greatest smoothed seen out_of evaluated
 queue_is = refl
-
--- WORK
-pub work_told : report_text three_junctions 1378 r.Work ≡ codes "WORK 1378" ++ 10 ∷ []
-unfolding work_line form_line filled digits
-work_told = refl
 
 -- the last place, and one past it
 pub last_place : IsOfPlace three_junctions (r.Profile 7) × IsOfPlace three_junctions (r.Queue 7)

@@ -1,7 +1,8 @@
 -- The first link with the greatest degree of saturation.
-use Rattle.std.proofs.Common.{◌≡◌, ℕ, ◌+◌, ◌<◌, ◌≤◌, true, false, List, length, map, get_or, Some, ap, subst, sym, ◌∙◌, arith}
+use Rattle.std.proofs.Common.{◌≡◌, ℕ, ◌+◌, ◌<◌, ◌≤◌, true, false, List, length, map, get_or, Option, Some, ap, subst, sym, ◌∙◌, arith}
 use Rattle.std.specs.Prelude.{nat_le, find}
 use Rattle.std.specs.List.{IsFirstMaxByKey, range_with_len, slice_get}
+use Rattle.std.specs.Option.{option_map_or}
 use Rattle.std.proofs.lemmas.Bool.{le-leb, lt-leb}
 use Rattle.std.proofs.lemmas.List.{get_or_default}
 use Rattle.std.proofs.lemmas.List.Folds.{find_at, list_all_at}
@@ -10,7 +11,7 @@ use Rattle.std.proofs.lemmas.List.Sums.{position_or_len_is, list_all-from_AllPas
 use Rattle.std.proofs.lemmas.Option.{slice_get-get_or}
 use Rattle.transyt_net.specs.Parts.{Network, link_of}
 use Rattle.transyt_report.specs.declared.measures.LinkFigures.{LinkFigures}
-use Rattle.transyt_report.specs.Measures.{degree, saturation_at, link_figures, all_link_figures, is_worst, number_or_none, worst_of}
+use Rattle.transyt_report.specs.Measures.{degree, saturation_at, link_figures, all_link_figures, is_worst, worst_of}
 
 -- the figures at a place are those of the link there
 figures_at : (net : Network) (l : ℕ) (d : LinkFigures) → l < length net.links
@@ -65,7 +66,7 @@ pub worst_is : (net : Network) (worst : ℕ)
 worst_is net worst is =
     let all : List LinkFigures = all_link_figures net in
     let whole : length all ≡ length net.links = length-map-range_with_len (link_figures net) 0 (length net.links) in
-    ap number_or_none
+    ap (λ (o : Option LinkFigures). option_map_or (λ (f : LinkFigures). f.link) o 0)
     (found all worst (link_figures net worst)
     (subst (λ (n : ℕ). IsFirstMaxByKey degree all n worst) (sym whole) is))
     ∙ ap (λ (f : LinkFigures). f.link) (figures_at net worst (link_figures net worst) is.0)

@@ -1,6 +1,7 @@
 -- The figures of links and of the network in the units of an engineer.
 use Rattle.std.specs.Prelude.{ℕ, ◌+◌, ◌*◌, ◌/◌, ◌==◌, nat_eq, nat_le, min, max, Bool, List, length, map, fold, find}
-use Rattle.std.specs.Prelude.{sum, sum_by, Option, None, Some, if◌then◌else◌}
+use Rattle.std.specs.Prelude.{sum, sum_by, if◌then◌else◌}
+use Rattle.std.specs.Option.{option_map_or}
 use Rattle.std.specs.List.{range_with_len, list_all}
 use Rattle.transyt_parts.specs.declared.link.Feed.{Feed}
 use Rattle.transyt_parts.specs.Parts.{LinkValue}
@@ -85,14 +86,9 @@ degree f = f.saturation
 abbrev pub is_worst : List LinkFigures → LinkFigures → Bool
 is_worst all f = list_all (λ (other : LinkFigures). nat_le (degree other) (degree f)) all
 
--- the card number of a link; 0 where there is none
-abbrev pub number_or_none : Option LinkFigures → ℕ
-number_or_none None = 0
-number_or_none (Some f) = f.link
-
 -- the card number of the first link than which none has a greater degree of saturation; 0 where there is no link
 abbrev pub worst_of : List LinkFigures → ℕ
-worst_of all = number_or_none (find (is_worst all) all)
+worst_of all = option_map_or (λ (f : LinkFigures). f.link) (find (is_worst all) all) 0
 
 -- the sum of a figure over all links
 abbrev pub over_links : (Network → ℕ → ℕ) → Network → ℕ

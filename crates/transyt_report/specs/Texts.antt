@@ -97,9 +97,4 @@ report_text net work r.Work = work_line work
 abbrev pub IsOfPlace : Network → Report → Type 0
 IsOfPlace net (r.Profile link) = link < length net.links
 IsOfPlace net (r.Queue link) = link < length net.links
-IsOfPlace net r.Index = Unit {0}
-IsOfPlace net r.Links = Unit {0}
-IsOfPlace net r.Figures = Unit {0}
-IsOfPlace net r.Timing = Unit {0}
-IsOfPlace net r.Chart = Unit {0}
-IsOfPlace net r.Work = Unit {0}
+IsOfPlace net _ = Unit {0}

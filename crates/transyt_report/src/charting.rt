@@ -1,6 +1,5 @@
 //! CHART.
-ghost use Rattle.std.specs.Prelude.{◌≡◌, ◌≤◌, ◌<◌, ◌+◌, ◌++◌, length, flat_map};
-ghost use Rattle.std.specs.List.{range_with_len};
+ghost use Rattle.std.specs.Prelude.{◌≡◌, ◌≤◌, ◌<◌, ◌+◌, ◌++◌, length};
 ghost use Rattle.transyt_text.specs.Prints.{PrintsOn};
 ghost use Rattle.transyt_report.specs.Chart.{step_mark, cycle_marks, chart_line, chart_line_at, chart_end, chart_text};
 
@@ -8,7 +7,7 @@ use crate::measures::number_at;
 use crate::profiles::{go, queue};
 use transyt_io::{Failed, LineBuffer, Sink, write_line};
 use transyt_session::Session;
-use transyt_text::{print_form, put_form};
+use transyt_text::{Parts, print_form, print_parts, put_form};
 
 /// The character of a step, by its GO and the queue at its end: a queue that goes, a green without a queue, a queue that
 /// stands, or neither.
@@ -67,35 +66,33 @@ fn print_cycle<K: Sink>(
     write_line(line, sink)
 }
 
-/// Writes the line of the link at a place.
-fn print_link<K: Sink>(
-    session: &Session,
-    link: usize,
-    line: &mut LineBuffer,
-    sink: &mut K,
-) -> Result<(), Failed>
-    requires { link < length session.now.net.links }
-    ensures { PrintsOn K.written K.faults sink.old sink.new result
-        (chart_line_at session.now.net link) }
-{
-    let number = number_at(session.net(), link);
-    print_cycle(number, go(session, link), queue(session, link), line, sink)
+/// The lines of the links in CHART.
+#[derive(Clone, Copy)]
+struct ChartLines<'a> {
+    session: &'a Session,
 }
 
-/// Writes the lines of all links.
-fn print_links<K: Sink>(
-    session: &Session,
-    line: &mut LineBuffer,
-    sink: &mut K,
-) -> Result<(), Failed>
-    ensures { PrintsOn K.written K.faults sink.old sink.new result
-        (flat_map (chart_line_at session.now.net) (range_with_len 0 (length session.now.net.links))) }
-{
-    let net = session.net();
-    for link in 0..net.links().len() {
-        print_link(session, link, line, sink)?;
+impl Parts for ChartLines<'_> {
+    ghost number = { λ self. length self.session.now.net.links };
+
+    ghost text = { λ self. chart_line_at self.session.now.net };
+
+    fn count(&self) -> usize {
+        let net = self.session.net();
+        net.links().len()
     }
-    Ok(())
+
+    fn print<K: Sink>(
+        &self,
+        place: usize,
+        line: &mut LineBuffer,
+        sink: &mut K,
+    ) -> Result<(), Failed> {
+        let number = number_at(self.session, place);
+        let go = go(self.session, place);
+        let queue = queue(self.session, place);
+        print_cycle(number, go, queue, line, sink)
+    }
 }
 
 /// Writes the last line.
@@ -115,6 +112,6 @@ pub(crate) fn print_chart<K: Sink>(
 ) -> Result<(), Failed>
     ensures { PrintsOn K.written K.faults sink.old sink.new result (chart_text session.now.net) }
 {
-    print_links(session, line, sink)?;
+    print_parts(&ChartLines { session }, line, sink)?;
     print_end(line, sink)
 }

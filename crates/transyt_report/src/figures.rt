@@ -1,6 +1,5 @@
 //! FIGURES.
-ghost use Rattle.std.specs.Prelude.{◌≡◌, ◌<◌, length, flat_map};
-ghost use Rattle.std.specs.List.{range_with_len};
+ghost use Rattle.std.specs.Prelude.{◌≡◌, ◌<◌, length};
 ghost use Rattle.transyt_text.specs.Prints.{PrintsOn};
 ghost use Rattle.transyt_report.specs.Measures.{network_figures};
 ghost use Rattle.transyt_report.specs.FiguresText.{link_figures_line, link_figures_at, total_line, figures_report};
@@ -9,7 +8,7 @@ use crate::measures::{LinkFigures, link_figures};
 use crate::totals::{NetworkFigures, network_figures};
 use transyt_io::{Failed, LineBuffer, Sink};
 use transyt_session::Session;
-use transyt_text::print_form;
+use transyt_text::{Parts, print_form, print_parts};
 
 /// Writes the line of a link.
 #[tactic(auto, unfolding(crate::specs::FiguresText::link_figures_line))]
@@ -33,34 +32,30 @@ fn print_link_figures<K: Sink>(
     print_form(form, &numbers, line, sink)
 }
 
-/// Writes the line of the link at a place.
-fn print_link_at<K: Sink>(
-    session: &Session,
-    link: usize,
-    line: &mut LineBuffer,
-    sink: &mut K,
-) -> Result<(), Failed>
-    requires { link < length session.now.net.links }
-    ensures { PrintsOn K.written K.faults sink.old sink.new result
-        (link_figures_at session.now.net link) }
-{
-    print_link_figures(link_figures(session, link), line, sink)
+/// The lines of the links in FIGURES.
+#[derive(Clone, Copy)]
+struct FiguresLines<'a> {
+    session: &'a Session,
 }
 
-/// Writes the lines of all links.
-fn print_all_links<K: Sink>(
-    session: &Session,
-    line: &mut LineBuffer,
-    sink: &mut K,
-) -> Result<(), Failed>
-    ensures { PrintsOn K.written K.faults sink.old sink.new result
-        (flat_map (link_figures_at session.now.net) (range_with_len 0 (length session.now.net.links))) }
-{
-    let net = session.net();
-    for link in 0..net.links().len() {
-        print_link_at(session, link, line, sink)?;
+impl Parts for FiguresLines<'_> {
+    ghost number = { λ self. length self.session.now.net.links };
+
+    ghost text = { λ self. link_figures_at self.session.now.net };
+
+    fn count(&self) -> usize {
+        let net = self.session.net();
+        net.links().len()
     }
-    Ok(())
+
+    fn print<K: Sink>(
+        &self,
+        place: usize,
+        line: &mut LineBuffer,
+        sink: &mut K,
+    ) -> Result<(), Failed> {
+        print_link_figures(link_figures(self.session, place), line, sink)
+    }
 }
 
 /// Writes the last line.
@@ -104,6 +99,6 @@ pub(crate) fn print_report<K: Sink>(
     ensures { PrintsOn K.written K.faults sink.old sink.new result
         (figures_report session.now.net) }
 {
-    print_all_links(session, line, sink)?;
+    print_parts(&FiguresLines { session }, line, sink)?;
     print_network(session, line, sink)
 }

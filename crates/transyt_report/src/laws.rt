@@ -34,7 +34,7 @@ pub fn worked_texts()
 
 /// Reports of the three junctions, whose places count from 0 and whose links are eight, come out as they are written
 /// beside the definitions.
-#[tactic(auto, using(crate::proofs::WorkedReports::index_of_three, crate::proofs::WorkedReports::links_are, crate::proofs::WorkedReports::timing_is, crate::proofs::WorkedReports::profile_is, crate::proofs::WorkedReports::queue_is, crate::proofs::WorkedReports::work_told, crate::proofs::WorkedReports::last_place, crate::proofs::WorkedReports::no_place))]
+#[tactic(auto, using(crate::proofs::WorkedReports::index_of_three, crate::proofs::WorkedReports::links_are, crate::proofs::WorkedReports::timing_is, crate::proofs::WorkedReports::profile_is, crate::proofs::WorkedReports::queue_is, crate::proofs::Worked::work_is, crate::proofs::WorkedReports::last_place, crate::proofs::WorkedReports::no_place))]
 pub fn worked_reports()
     ensures index { report_text three_junctions 1378 Report.Index ≡ codes "INDEX 556223009" ++ 10 ∷ [] }
     ensures links { report_text three_junctions 1378 Report.Links ≡ links_of_three }

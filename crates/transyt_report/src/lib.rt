@@ -18,7 +18,7 @@ mod timing;
 mod totals;
 
 pub use laws::{worked_charts, worked_measures, worked_reports, worked_texts};
-pub use measures::{LinkFigures, greatest, link_figures};
+pub use measures::{LinkFigures, greatest, link_figures, number_at};
 pub use moves::{cert_line, end_line, move_line, took_line};
 pub use profiles::{arrivals, go, out, queue};
 pub use showing::{Report, show};

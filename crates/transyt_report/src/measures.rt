@@ -32,10 +32,11 @@ pub struct LinkFigures {
 }
 
 /// The card number of the link at a place.
-pub(crate) fn number_at(net: &Net, link: usize) -> u32
-    requires { link < length net.now.links }
-    ensures { result ≡ (link_of net.now link).number }
+pub fn number_at(session: &Session, link: usize) -> u32
+    requires { link < length session.now.net.links }
+    ensures { result ≡ (link_of session.now.net link).number }
 {
+    let net = session.net();
     let link = &net.links()[link];
     link.number
 }
@@ -192,7 +193,7 @@ pub fn link_figures(session: &Session, link: usize) -> LinkFigures
     ensures { result ≡ link_figures session.now.net link }
 {
     let net = session.net();
-    let number = number_at(net, link);
+    let number = number_at(session, link);
     let frame = net.frame();
     let arrivals = all_arrivals(session, link);
     LinkFigures {

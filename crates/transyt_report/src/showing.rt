@@ -1,9 +1,8 @@
 //! The reports.
-ghost use Rattle.std.specs.Prelude.{◌≡◌, ◌<◌, length, flat_map};
-ghost use Rattle.std.specs.List.{range_with_len};
+ghost use Rattle.std.specs.Prelude.{◌≡◌, ◌<◌, length};
 ghost use Rattle.transyt_text.specs.Prints.{PrintsOn};
 ghost use Rattle.transyt_sweep.specs.Sweeps.{index};
-ghost use Rattle.transyt_report.specs.Texts.{index_line, figures_line, link_line, links_text, timing_text, in_line, go_line, out_line, queue_line};
+ghost use Rattle.transyt_report.specs.Texts.{index_line, link_line, links_text, timing_text, in_line, go_line, out_line, queue_line};
 ghost use Rattle.transyt_report.specs.Texts.{profile_text, work_line, report_text, IsOfPlace};
 
 use crate::charting::print_chart;
@@ -11,10 +10,9 @@ use crate::figures::print_report;
 use crate::measures::number_at;
 use crate::profiles::{arrivals, go, out, queue};
 use crate::timing::print_timing;
-use transyt_delay::Figures;
 use transyt_io::{Failed, LineBuffer, Sink};
 use transyt_session::Session;
-use transyt_text::{print_form, print_values};
+use transyt_text::{Parts, print_form, print_parts, print_values};
 
 /// A report of the session. A link is named by its place in card order, from 0.
 #[derive(Clone, Copy, Debug, PartialEq, Eq)]
@@ -50,60 +48,40 @@ fn print_index<K: Sink>(
     print_form(b"INDEX #", &[session.index()], line, sink)
 }
 
-/// Writes the line of a link of this number.
-#[tactic(auto, unfolding(crate::specs::Texts::figures_line))]
-fn print_figures<K: Sink>(
-    number: u32,
-    figures: Figures,
-    line: &mut LineBuffer,
-    sink: &mut K,
-) -> Result<(), Failed>
-    ensures { PrintsOn K.written K.faults sink.old sink.new result (figures_line number figures) }
-{
-    let numbers = [
-        u128::from(number),
-        u128::from(figures.uniform),
-        u128::from(figures.random),
-        u128::from(figures.stops),
-        figures.index,
-    ];
-    print_form(
-        b"LINK # UNIFORM # RANDOM # STOPS # INDEX #",
-        &numbers,
-        line,
-        sink,
-    )
+/// The lines of the links in LINKS.
+#[derive(Clone, Copy)]
+struct LinkLines<'a> {
+    session: &'a Session,
 }
 
-/// Writes the line of the link at a place.
-fn print_link<K: Sink>(
-    session: &Session,
-    link: usize,
-    line: &mut LineBuffer,
-    sink: &mut K,
-) -> Result<(), Failed>
-    requires { link < length session.now.net.links }
-    ensures { PrintsOn K.written K.faults sink.old sink.new result
-        (link_line session.now.net link) }
-{
-    print_figures(
-        number_at(session.net(), link),
-        session.figures(link),
-        line,
-        sink,
-    )
-}
+impl Parts for LinkLines<'_> {
+    ghost number = { λ self. length self.session.now.net.links };
 
-/// Writes the line of each link.
-fn print_each<K: Sink>(session: &Session, line: &mut LineBuffer, sink: &mut K) -> Result<(), Failed>
-    ensures { PrintsOn K.written K.faults sink.old sink.new result
-        (flat_map (link_line session.now.net) (range_with_len 0 (length session.now.net.links))) }
-{
-    let net = session.net();
-    for link in 0..net.links().len() {
-        print_link(session, link, line, sink)?;
+    ghost text = { λ self. link_line self.session.now.net };
+
+    fn count(&self) -> usize {
+        let net = self.session.net();
+        net.links().len()
     }
-    Ok(())
+
+    #[tactic(auto, unfolding(crate::specs::Texts::figures_line))]
+    fn print<K: Sink>(
+        &self,
+        place: usize,
+        line: &mut LineBuffer,
+        sink: &mut K,
+    ) -> Result<(), Failed> {
+        let figures = self.session.figures(place);
+        let numbers = [
+            u128::from(number_at(self.session, place)),
+            u128::from(figures.uniform),
+            u128::from(figures.random),
+            u128::from(figures.stops),
+            figures.index,
+        ];
+        let form = b"LINK # UNIFORM # RANDOM # STOPS # INDEX #";
+        print_form(form, &numbers, line, sink)
+    }
 }
 
 /// Writes LINKS.
@@ -114,7 +92,7 @@ fn print_links<K: Sink>(
 ) -> Result<(), Failed>
     ensures { PrintsOn K.written K.faults sink.old sink.new result (links_text session.now.net) }
 {
-    print_each(session, line, sink)?;
+    print_parts(&LinkLines { session }, line, sink)?;
     print_index(session, line, sink)
 }
 
@@ -129,7 +107,7 @@ fn print_in<K: Sink>(
     requires { link < length session.now.net.links }
     ensures { PrintsOn K.written K.faults sink.old sink.new result (in_line session.now.net link) }
 {
-    let number = [u128::from(number_at(session.net(), link))];
+    let number = [u128::from(number_at(session, link))];
     print_values(b"IN #", &number, arrivals(session, link), line, sink)
 }
 
@@ -144,7 +122,7 @@ fn print_go<K: Sink>(
     requires { link < length session.now.net.links }
     ensures { PrintsOn K.written K.faults sink.old sink.new result (go_line session.now.net link) }
 {
-    let number = [u128::from(number_at(session.net(), link))];
+    let number = [u128::from(number_at(session, link))];
     print_values(b"GO #", &number, go(session, link), line, sink)
 }
 
@@ -159,7 +137,7 @@ fn print_out<K: Sink>(
     requires { link < length session.now.net.links }
     ensures { PrintsOn K.written K.faults sink.old sink.new result (out_line session.now.net link) }
 {
-    let number = [u128::from(number_at(session.net(), link))];
+    let number = [u128::from(number_at(session, link))];
     print_values(b"OUT #", &number, out(session, link), line, sink)
 }
 
@@ -175,7 +153,7 @@ fn print_queue<K: Sink>(
     ensures { PrintsOn K.written K.faults sink.old sink.new result
         (queue_line session.now.net link) }
 {
-    let number = [u128::from(number_at(session.net(), link))];
+    let number = [u128::from(number_at(session, link))];
     print_values(b"QUEUE #", &number, queue(session, link), line, sink)
 }
 

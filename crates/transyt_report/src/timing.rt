@@ -1,6 +1,5 @@
 //! TIMING.
-ghost use Rattle.std.specs.Prelude.{◌≡◌, ◌<◌, ◌≤◌, ◌+◌, ◌%◌, length, flat_map};
-ghost use Rattle.std.specs.List.{range_with_len};
+ghost use Rattle.std.specs.Prelude.{◌≡◌, ◌<◌, ◌≤◌, ◌+◌, ◌%◌, length};
 ghost use Rattle.transyt_net.specs.Parts.{node_of};
 ghost use Rattle.transyt_text.specs.Prints.{PrintsOn};
 ghost use Rattle.transyt_report.specs.Texts.{stage_line, node_line, node_text, node_text_at, timing_end, timing_text};
@@ -8,7 +7,7 @@ ghost use Rattle.transyt_report.specs.Texts.{stage_line, node_line, node_text, n
 use transyt_io::{Failed, LineBuffer, Sink};
 use transyt_net::{Net, Node};
 use transyt_parts::stage_length;
-use transyt_text::print_form;
+use transyt_text::{Parts, print_form, print_parts};
 
 /// The node at a place.
 fn node_at(net: &Net, place: usize) -> &Node
@@ -28,54 +27,49 @@ fn step_of(change: u32, offset: u32, steps: u32) -> u64
     (change + offset) % u64::from(steps)
 }
 
-/// Writes the line of the stage at a place of a node.
-#[tactic(auto, unfolding(crate::specs::Texts::stage_line))]
-fn print_stage<K: Sink>(
+/// The lines of a node's stages, in a cycle of so many steps.
+#[derive(Clone, Copy)]
+struct StageLines<'a> {
     steps: u32,
-    node: &Node,
-    place: usize,
-    line: &mut LineBuffer,
-    sink: &mut K,
-) -> Result<(), Failed>
-    requires steps { 0 < steps }
-    requires place { place < length node.now.stages }
-    requires few { length node.now.stages ≤ 8 }
-    ensures { PrintsOn K.written K.faults sink.old sink.new result
-        (stage_line steps node.now place) }
-{
-    let stage = node.stages[place];
-    let number = place as u32 + 1;
-    let length = stage_length(node, steps, number);
-    let at = step_of(stage.change, node.offset, steps);
-    let numbers = [
-        u128::from(number),
-        u128::from(stage.change),
-        u128::from(at),
-        u128::from(length),
-        u128::from(stage.intergreen),
-        u128::from(length.saturating_sub(stage.intergreen)),
-        u128::from(stage.least),
-    ];
-    let form = b"STAGE # CHANGE # AT # LENGTH # INTERGREEN # GREEN # LEAST #";
-    print_form(form, &numbers, line, sink)
+    node: &'a Node,
+    ghost some: { 0 < steps },
+    ghost few: { length node.now.stages ≤ 8 },
 }
 
-/// Writes the lines of a node's stages.
-fn print_stages<K: Sink>(
-    steps: u32,
-    node: &Node,
-    line: &mut LineBuffer,
-    sink: &mut K,
-) -> Result<(), Failed>
-    requires steps { 0 < steps }
-    requires few { length node.now.stages ≤ 8 }
-    ensures { PrintsOn K.written K.faults sink.old sink.new result
-        (flat_map (stage_line steps node.now) (range_with_len 0 (length node.now.stages))) }
-{
-    for place in 0..node.stages.len() {
-        print_stage(steps, node, place, line, sink)?;
+impl Parts for StageLines<'_> {
+    ghost number = { λ self. length self.node.now.stages };
+
+    ghost text = { λ self. stage_line self.steps self.node.now };
+
+    fn count(&self) -> usize {
+        let node = self.node;
+        node.stages.len()
     }
-    Ok(())
+
+    #[tactic(auto, unfolding(crate::specs::Texts::stage_line))]
+    fn print<K: Sink>(
+        &self,
+        place: usize,
+        line: &mut LineBuffer,
+        sink: &mut K,
+    ) -> Result<(), Failed> {
+        let node = self.node;
+        let stage = node.stages[place];
+        let number = place as u32 + 1;
+        let length = stage_length(node, self.steps, number);
+        let at = step_of(stage.change, node.offset, self.steps);
+        let numbers = [
+            u128::from(number),
+            u128::from(stage.change),
+            u128::from(at),
+            u128::from(length),
+            u128::from(stage.intergreen),
+            u128::from(length.saturating_sub(stage.intergreen)),
+            u128::from(stage.least),
+        ];
+        let form = b"STAGE # CHANGE # AT # LENGTH # INTERGREEN # GREEN # LEAST #";
+        print_form(form, &numbers, line, sink)
+    }
 }
 
 /// Writes the line of a node.
@@ -100,32 +94,33 @@ fn print_node<K: Sink>(
     ensures { PrintsOn K.written K.faults sink.old sink.new result (node_text steps node.now) }
 {
     print_number(node, line, sink)?;
-    print_stages(steps, node, line, sink)
+    print_parts(&StageLines { steps, node }, line, sink)
 }
 
-/// Writes the lines of the node at a place and its stages.
-fn print_node_at<K: Sink>(
-    net: &Net,
-    place: usize,
-    line: &mut LineBuffer,
-    sink: &mut K,
-) -> Result<(), Failed>
-    requires { place < length net.now.nodes }
-    ensures { PrintsOn K.written K.faults sink.old sink.new result (node_text_at net.now place) }
-{
-    let frame = net.frame();
-    print_node(frame.step_count, node_at(net, place), line, sink)
+/// The lines of each node and its stages.
+#[derive(Clone, Copy)]
+struct NodeLines<'a> {
+    net: &'a Net,
 }
 
-/// Writes the lines of all nodes.
-fn print_nodes<K: Sink>(net: &Net, line: &mut LineBuffer, sink: &mut K) -> Result<(), Failed>
-    ensures { PrintsOn K.written K.faults sink.old sink.new result
-        (flat_map (node_text_at net.now) (range_with_len 0 (length net.now.nodes))) }
-{
-    for place in 0..net.nodes().len() {
-        print_node_at(net, place, line, sink)?;
+impl Parts for NodeLines<'_> {
+    ghost number = { λ self. length self.net.now.nodes };
+
+    ghost text = { λ self. node_text_at self.net.now };
+
+    fn count(&self) -> usize {
+        self.net.nodes().len()
     }
-    Ok(())
+
+    fn print<K: Sink>(
+        &self,
+        place: usize,
+        line: &mut LineBuffer,
+        sink: &mut K,
+    ) -> Result<(), Failed> {
+        let frame = self.net.frame();
+        print_node(frame.step_count, node_at(self.net, place), line, sink)
+    }
 }
 
 /// Writes the last line.
@@ -144,6 +139,6 @@ pub(crate) fn print_timing<K: Sink>(
 ) -> Result<(), Failed>
     ensures { PrintsOn K.written K.faults sink.old sink.new result (timing_text net.now) }
 {
-    print_nodes(net, line, sink)?;
+    print_parts(&NodeLines { net }, line, sink)?;
     print_end(line, sink)
 }

@@ -1,7 +1,7 @@
 //! The figures of a network in the units of an engineer.
 ghost use Rattle.std.specs.Prelude.{◌≡◌, ◌+◌, ◌<◌, length};
 ghost use Rattle.std.specs.List.{IsFirstMaxByKey};
-ghost use Rattle.transyt_report.specs.Measures.{degree, all_link_figures, worst_of, over_links, waiting_at, stops_at, network_figures};
+ghost use Rattle.transyt_report.specs.Measures.{degree, all_link_figures, worst_of, network_figures};
 
 use crate::measures::{number_at, saturation_at, stops_at, waiting_at};
 use transyt_session::Session;
@@ -17,30 +17,6 @@ pub struct NetworkFigures {
     pub index: u128,
     /// The card number of the link with the greatest degree of saturation, the first of equals; 0 without a link.
     pub worst: u32,
-}
-
-/// The sum of delays over all links.
-fn all_delay(session: &Session) -> u128
-    ensures { result ≡ over_links waiting_at session.now.net }
-{
-    let net = session.net();
-    let mut delay: u128 = 0;
-    for link in 0..net.links().len() {
-        delay += waiting_at(session, link);
-    }
-    delay
-}
-
-/// The sum of stops over all links.
-fn all_stops(session: &Session) -> u128
-    ensures { result ≡ over_links stops_at session.now.net }
-{
-    let net = session.net();
-    let mut stops: u128 = 0;
-    for link in 0..net.links().len() {
-        stops += u128::from(stops_at(session, link));
-    }
-    stops
 }
 
 /// The worse of two links, the first of equals: `worst` is the first link with the greatest degree of saturation among
@@ -81,16 +57,23 @@ fn worst(session: &Session) -> u32
     if net.links().is_empty() {
         return 0;
     }
-    number_at(net, worst_place(session))
+    number_at(session, worst_place(session))
 }
 
 /// The figures of the network now.
 pub fn network_figures(session: &Session) -> NetworkFigures
     ensures { result ≡ network_figures session.now.net }
 {
+    let net = session.net();
+    let mut delay: u128 = 0;
+    let mut stops: u128 = 0;
+    for link in 0..net.links().len() {
+        delay += waiting_at(session, link);
+        stops += u128::from(stops_at(session, link));
+    }
     NetworkFigures {
-        delay: all_delay(session),
-        stops: all_stops(session),
+        delay,
+        stops,
         index: session.index(),
         worst: worst(session),
     }

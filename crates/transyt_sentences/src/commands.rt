@@ -1,10 +1,11 @@
 //! Why a command was refused.
 
-use crate::fields::{command_counts, command_field};
+use crate::fields::command_field;
 use crate::input::{Part, Words, say_counts, say_no_number, say_odd, say_range};
 use crate::plans::{Plan, say_plan};
 use crate::sentence::Sentence;
 use crate::site::Site;
+use transyt_commands::command_counts;
 use transyt_syntax::Code;
 
 /// Why the command of this line, with its number from 1, is refused with this code on the network of the site.
@@ -15,7 +16,7 @@ pub fn on_command(number: u32, code: Code, line: &[u8], site: Site<'_>) -> Sente
         Code::LongLine => sentence.say("the line has more than 4096 bytes"),
         Code::OddByte => say_odd(&mut sentence, line, Part::Command, words.keyword),
         Code::WrongCount => {
-            let counts = command_counts(words.keyword).unwrap_or((0, 0));
+            let counts = command_counts(line).unwrap_or((0, 0));
             say_counts(&mut sentence, &words, counts);
         }
         Code::NoNumber => say_no_number(&mut sentence, &words),

@@ -134,7 +134,7 @@ pub(crate) fn command_field(keyword: &str, place: usize) -> Option<Field> {
 }
 
 /// How many numbers a card with this keyword takes, at least and at most; none where no card is called so.
-pub(crate) fn card_counts(keyword: &str, form: u32) -> Option<(u32, u32)> {
+pub(crate) fn card_counts(keyword: &str, form: u32) -> Option<(usize, usize)> {
     match keyword {
         "FORM" => Some((1, 1)),
         "CYCLE" => Some((5, 6)),
@@ -145,29 +145,6 @@ pub(crate) fn card_counts(keyword: &str, form: u32) -> Option<(u32, u32)> {
         "FEED" => Some((4, 4)),
         "STEPS" => Some((2, 17)),
         "END" => Some((0, 0)),
-        _ => None,
-    }
-}
-
-/// How many numbers a command with this keyword takes; none where no command is called so.
-pub(crate) fn command_counts(keyword: &str) -> Option<(u32, u32)> {
-    match keyword {
-        "OFFSET" | "ENTRY" | "SATURATION" => Some((2, 2)),
-        "CHANGE" | "PART" | "CRUISE" | "WEIGHT" => Some((3, 3)),
-        "PROFILE" | "PLOT" | "QUEUE" => Some((1, 1)),
-        "TRIAL"
-        | "BACK"
-        | "KEEP"
-        | "CLIMB"
-        | "CERT"
-        | "INDEX"
-        | "LINKS"
-        | "FIGURES"
-        | "CHART"
-        | "TIMING"
-        | "WORK"
-        | "DECK"
-        | "STOP" => Some((0, 0)),
         _ => None,
     }
 }

@@ -86,17 +86,21 @@ pub(crate) fn say_odd(sentence: &mut Sentence, line: &[u8], part: Part, keyword:
     sentence.say("' (keywords are capitals)");
 }
 
+/// A count, or the greatest that is said.
+fn said_count(count: usize) -> u32 {
+    u32::try_from(count).unwrap_or(u32::MAX)
+}
+
 /// Code 12: how many numbers there are, and how many it takes.
-pub(crate) fn say_counts(sentence: &mut Sentence, words: &Words<'_>, counts: (u32, u32)) {
+pub(crate) fn say_counts(sentence: &mut Sentence, words: &Words<'_>, counts: (usize, usize)) {
     let (least, most) = counts;
-    let given = u32::try_from(word_count(words.rest)).unwrap_or(u32::MAX);
     sentence.say(words.keyword);
-    sentence.say_with(" takes ", least);
+    sentence.say_with(" takes ", said_count(least));
     if least != most {
-        sentence.say_with(" to ", most);
+        sentence.say_with(" to ", said_count(most));
     }
     sentence.say(if most == 1 { " number" } else { " numbers" });
-    sentence.say_with(", and here are ", given);
+    sentence.say_with(", and here are ", said_count(word_count(words.rest)));
 }
 
 /// Code 13: the first word that is no number.

@@ -1,6 +1,5 @@
 -- The lemmas of the crate.
 mod OutcomeLaws
 mod Places
-pub mod Settled
 pub mod Worked
 pub mod WorkedEnd

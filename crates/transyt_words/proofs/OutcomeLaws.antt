@@ -1,12 +1,11 @@
 -- The outcome of a run that has taken its input whole and told its answer.
 use Rattle.std.proofs.Common.{◌≡◌, ℕ, ◌≤◌, List, Option, Some, None, length, refl, ap, subst, ◌∙◌, inr, inl}
 use Rattle.transyt_io.specs.Streams.{Takes, IsAtEnd}
-use Rattle.transyt_outcome.specs.Outcome.{Outcome, IsWritten, Row}
+use Rattle.transyt_outcome.specs.Outcome.{Outcome, IsWritten, Row, TextRow}
 use Rattle.transyt_outcome.specs.declared.status.Status.{Status}
-use Rattle.transyt_outcome.specs.declared.status.Status.TheVariants.{Done, BadWords, DeckRefused, ReadFault, WriteFault}
-use Rattle.transyt_outcome.specs.declared.status.Status.TheVariants.{NoMemory, TooLong}
-use Rattle.transyt_words.specs.Answer.{AnswerValue, of_whole}
-use Rattle.transyt_words.specs.Whole.{Told, ToldRow}
+use Rattle.transyt_outcome.specs.declared.status.Status.TheVariants.{Done, DeckRefused, WriteFault, NoMemory}
+use Rattle.transyt_words.specs.Answer.{AnswerValue, answer_text, of_whole}
+use Rattle.transyt_words.specs.Whole.{Told}
 
 -- nothing was to be written before the last read
 none_before : (answer : List ℕ → AnswerValue) (last : Option ℕ) (taken out : List ℕ)
@@ -16,7 +15,8 @@ none_before answer (Some n) taken out = record { back = out; parts = refl }
 
 -- each row of the answer is one of the outcome
 row_of_told : (answer : List ℕ → AnswerValue) (left : Option (List ℕ)) (last : Option ℕ) (taken out : List ℕ)
-    (status : Status) → IsAtEnd left → length taken ≤ 4194304 → ToldRow (answer taken) out status
+    (status : Status) → IsAtEnd left → length taken ≤ 4194304
+    → TextRow (answer_text (answer taken)) (answer taken).refused out status
     → Row (of_whole answer) left last taken out status
 row_of_told answer left last taken out Done end few row =
     record { out_is = row.0; status = row.1; ended = inl end; few = few }
@@ -24,9 +24,7 @@ row_of_told answer left last taken out DeckRefused end few row =
     record { out_is = row.0; status = row.1; ended = inl end; few = few }
 row_of_told answer left last taken out WriteFault end few row = (inr (end, row), none_before answer last taken out)
 row_of_told answer left last taken out NoMemory end few row = row
-row_of_told answer left last taken out ReadFault end few row = absurd row
-row_of_told answer left last taken out TooLong end few row = absurd row
-row_of_told answer left last taken out BadWords end few row = absurd row
+row_of_told answer left last taken out _ end few row = absurd row
 
 -- so the run has this outcome
 pub told_outcome : (answer : List ℕ → AnswerValue) (found : AnswerValue) (bytes taken : List ℕ)

@@ -4,12 +4,12 @@ use Rattle.std.proofs.Common.{refl, sym, ◌∙◌, lit≤, arith}
 use Rattle.std.specs.Fmt.{digits}
 use Rattle.transyt_syntax.specs.declared.code.Code.TheVariants.{Unknown}
 use Rattle.transyt_text.specs.Forms.{filled, form_line}
-use Rattle.transyt_outcome.specs.Outcome.{IsFront}
+use Rattle.transyt_outcome.specs.Outcome.{IsFront, TextRow}
 use Rattle.transyt_outcome.specs.WorkedOutcomes.{Each}
 use Rattle.transyt_outcome.specs.declared.status.Status.TheVariants.{Done}
 use Rattle.transyt_words.specs.Answer.{of_whole, answer_text, done, refusal}
 use Rattle.transyt_words.specs.Lines.{lines_text, refused_card}
-use Rattle.transyt_words.specs.Whole.{StepsWithin, Told, ToldRow}
+use Rattle.transyt_words.specs.Whole.{StepsWithin, Told}
 use Rattle.transyt_words.specs.WorkedTexts.{worked_lines}
 use Rattle.transyt_words.specs.WorkedTold.{two_lines, first_text, both_texts, told_rows, untold_rows}
 
@@ -46,7 +46,7 @@ both_are = refl
 front : (bytes back : List ℕ) → bytes ++ back ≡ both_texts → IsFront bytes (answer_text (done two_lines))
 front bytes back parts = record { back = back; parts = parts ∙ sym both_are }
 
-pub rows_told : Each (λ row. ToldRow row.0 row.1 row.2) told_rows
+pub rows_told : Each (λ row. TextRow (answer_text row.0) row.0.refused row.1 row.2) told_rows
 rows_told = (
   (sym both_are, refl),
   (
@@ -63,7 +63,7 @@ short is = let told : first_text ≡ both_texts = is ∙ both_are in grind arith
 other : ¬ IsFront (codes "ENTRY 3") (answer_text (done two_lines))
 other h = let told : codes "ENTRY 3" ++ h.back ≡ both_texts = h.parts ∙ both_are in grind arith
 
-pub rows_untold : Each (λ row. ¬ ToldRow row.0 row.1 row.2) untold_rows
+pub rows_untold : Each (λ row. ¬ TextRow (answer_text row.0) row.0.refused row.1 row.2) untold_rows
 rows_untold = (
   λ h. let refused = h.1 in grind arith,
   (λ h. short h.0, (λ h. let refused = h.1 in grind arith, (other, (λ h. grind arith, (λ h. h, tt))))),

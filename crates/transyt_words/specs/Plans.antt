@@ -53,14 +53,10 @@ answer_by by asked net rows = with_deck (table_lines by rows) (deck_of asked net
 abbrev pub plans_answer : Numbered → PlanList → Network → AnswerValue
 plans_answer by asked net = answer_by by asked net (table asked net)
 
--- the same with what stands after its deck, which isn't looked at
-abbrev pub plans_answer_after : Numbered → PlanList → Network → ℕ → List ℕ → AnswerValue
-plans_answer_after by asked net line after = plans_answer by asked net
-
--- the answer of `starts`, whatever the number of workers
+-- the answer of `starts`, whatever the number of workers; what stands after the deck isn't looked at
 abbrev pub starts_answer : ℕ → ℕ → Network → ℕ → List ℕ → AnswerValue
-starts_answer seed count = plans_answer_after Starts (starts seed count)
+starts_answer seed count net line after = plans_answer Starts (starts seed count) net
 
--- the answer of `cycles`, whatever the number of workers
+-- the same of `cycles`
 abbrev pub cycles_answer : CycleTimes → Network → ℕ → List ℕ → AnswerValue
-cycles_answer times = plans_answer_after Cycles (cycles times)
+cycles_answer times net line after = plans_answer Cycles (cycles times) net

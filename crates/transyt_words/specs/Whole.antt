@@ -1,25 +1,14 @@
 -- A run that takes its input whole.
-use Rattle.std.specs.Prelude.{◌≡◌, ◌≤◌, ◌+◌, ℕ, List, [], true, false, Option}
-use Rattle.transyt_io.specs.Streams.{Takes, Adds}
+use Rattle.std.specs.Prelude.{◌≤◌, ◌+◌, ℕ, List, Option}
+use Rattle.transyt_io.specs.Streams.{Takes}
 use Rattle.transyt_words.specs.Answer.{AnswerValue, answer_text}
-use Rattle.transyt_outcome.specs.Outcome.{IsFront}
+use Rattle.transyt_outcome.specs.Outcome.{TextOutcome}
 use Rattle.transyt_outcome.specs.declared.status.Status.{Status}
-use Rattle.transyt_outcome.specs.declared.status.Status.TheVariants.{Done, DeckRefused, ReadFault, TooLong, WriteFault}
-use Rattle.transyt_outcome.specs.declared.status.Status.TheVariants.{NoMemory}
-
--- the meaning of a status for the answer to an input and the bytes written
-abbrev pub ToldRow : AnswerValue → List ℕ → Status → Type 0
-ToldRow answer out Done = (out ≡ answer_text answer) × (answer.refused ≡ false)
-ToldRow answer out DeckRefused = (out ≡ answer_text answer) × (answer.refused ≡ true)
-ToldRow answer out WriteFault = IsFront out (answer_text answer)
-ToldRow answer out NoMemory = out ≡ []
-ToldRow answer out _ = ⊥
+use Rattle.transyt_outcome.specs.declared.status.Status.TheVariants.{ReadFault, TooLong, NoMemory}
 
 -- an input with this answer was answered
-pub record Told (answer : AnswerValue) (written written_new : Option (List ℕ)) (status : Status) : Type 0 where
-  pub out : List ℕ
-  pub adds : Adds written written_new out
-  pub row : ToldRow answer out status
+abbrev pub Told : AnswerValue → Option (List ℕ) → Option (List ℕ) → Status → Type 0
+Told answer = TextOutcome (answer_text answer) answer.refused
 
 -- a status with which nothing was written
 abbrev pub IsSilent : Status → Type 0

@@ -4,9 +4,9 @@ ghost use Rattle.std.specs.Prelude.{◌≡◌};
 ghost use Rattle.transyt_words.specs.Audit.{audit_answer, audit_line, audit_most};
 
 use crate::answer::Answer;
-use crate::deck_word::DeckWord;
+use crate::deck_word::{DeckWord, Host};
 use crate::line::{AnswerLine, one};
-use std::alloc::{AllocError, Global};
+use std::alloc::AllocError;
 use std::sync::ledger::Ledger;
 use std::thread::Threads;
 use transyt_audit::{Verdict, audit};
@@ -42,14 +42,13 @@ impl DeckWord for AuditWord {
 
     fn judge<R: Threads + Sync, L: Ledger>(
         &self,
-        _rt: &R,
-        alloc: Global,
+        host: Host<'_, R>,
         cut: &Cut,
         table: &[u8],
         steps: &mut Steps<L>,
     ) -> Result<Answer, AllocError> {
-        let verdict = audit(alloc, &cut.net, table, cut.line, steps)?;
-        let answer = Answer::done(one(alloc, audit_line(verdict))?);
+        let verdict = audit(host.alloc, &cut.net, table, cut.line, steps)?;
+        let answer = Answer::done(one(host.alloc, audit_line(verdict))?);
         match verdict {
             Verdict::Yes { .. } => Ok(answer),
             Verdict::No { line, code } => Ok(answer.with_remark(on_audit(line, code))),

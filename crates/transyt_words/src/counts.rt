@@ -4,7 +4,7 @@ ghost use Rattle.std.specs.Prelude.{◌≡◌, ◌++◌, IfOk, OnOk};
 ghost use Rattle.transyt_words.specs.Counts.{command_lines, counted_line, counts_answer, counts_lines, refused_row};
 
 use crate::answer::Answer;
-use crate::deck_word::DeckWord;
+use crate::deck_word::{DeckWord, Host};
 use crate::line::{AnswerLine, add, one};
 use std::alloc::{AllocError, Global};
 use std::sync::ledger::Ledger;
@@ -73,16 +73,15 @@ impl DeckWord for CountsWord {
 
     fn judge<R: Threads + Sync, L: Ledger>(
         &self,
-        _rt: &R,
-        alloc: Global,
+        host: Host<'_, R>,
         cut: &Cut,
         table: &[u8],
         _steps: &mut Steps<L>,
     ) -> Result<Answer, AllocError> {
-        match read_counts(alloc, table, &cut.net) {
-            Ok(counts) => Ok(Answer::done(counts_lines(alloc, &counts)?)),
+        match read_counts(host.alloc, table, &cut.net) {
+            Ok(counts) => Ok(Answer::done(counts_lines(host.alloc, &counts)?)),
             Err(CountStop::Refused { row, code }) => {
-                let lines = one(alloc, refused_row(row, code))?;
+                let lines = one(host.alloc, refused_row(row, code))?;
                 Ok(Answer::refusal(lines).with_remark(on_row(row, code)))
             }
             Err(CountStop::Memory) => Err(AllocError),

@@ -16,6 +16,15 @@ use std::thread::Threads;
 use transyt_deck::{CardStop, Cut, cut_deck};
 use transyt_steps::Steps;
 
+/// The runtime and the allocator that a word is handed.
+#[derive(Clone, Copy)]
+pub struct Host<'a, R> {
+    /// The runtime, whose threads climb at once.
+    pub rt: &'a R,
+    /// The allocator.
+    pub alloc: Global,
+}
+
 /// A word that takes a deck and what stands after it.
 pub trait DeckWord {
     /// The numbers that it asks for are in their ranges.
@@ -30,8 +39,7 @@ pub trait DeckWord {
     /// Answers a deck that was cut off and the bytes after it. All memory for the answer is taken here.
     fn judge<R: Threads + Sync, L: Ledger>(
         &self,
-        rt: &R,
-        alloc: Global,
+        host: Host<'_, R>,
         cut: &Cut,
         table: &[u8],
         steps: &mut Steps<L>,
@@ -60,8 +68,7 @@ fn bytes_from(input: &[u8], rest: usize) -> &[u8]
 /// All memory for the answer is taken here, that of each climb too. The deck text of an answer, if it has one, reads back
 /// as its network.
 pub fn judge_deck<R: Threads + Sync, W: DeckWord, L: Ledger>(
-    rt: &R,
-    alloc: Global,
+    host: Host<'_, R>,
     word: &W,
     input: &[u8],
     steps: &mut Steps<L>,
@@ -73,9 +80,10 @@ pub fn judge_deck<R: Threads + Sync, W: DeckWord, L: Ledger>(
     ensures steps { steps.new ≤ steps.old + most_after (W.most word.now) input.now }
     ensures more_steps { steps.old ≤ steps.new }
 {
+    let alloc = host.alloc;
     match cut_deck(alloc, input) {
         Ok(cut) => {
-            let found = word.judge(rt, alloc, &cut, bytes_from(input, cut.rest), steps);
+            let found = word.judge(host, &cut, bytes_from(input, cut.rest), steps);
             drop(cut);
             found
         }

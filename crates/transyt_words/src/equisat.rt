@@ -5,7 +5,7 @@ ghost use Rattle.transyt_words.specs.Equisat.{end_line, equisat_answer, equisat_
 ghost use Rattle.transyt_words.specs.Equisat.{share_lines, stage_line};
 
 use crate::answer::Answer;
-use crate::deck_word::DeckWord;
+use crate::deck_word::{DeckWord, Host};
 use crate::line::{AnswerLine, add};
 use std::alloc::{AllocError, Global};
 use std::sync::ledger::Ledger;
@@ -106,12 +106,11 @@ impl DeckWord for EquisatWord {
 
     fn judge<R: Threads + Sync, L: Ledger>(
         &self,
-        _rt: &R,
-        alloc: Global,
+        host: Host<'_, R>,
         cut: &Cut,
         _table: &[u8],
         _steps: &mut Steps<L>,
     ) -> Result<Answer, AllocError> {
-        Ok(Answer::done(equisat_lines(alloc, &cut.net)?))
+        Ok(Answer::done(equisat_lines(host.alloc, &cut.net)?))
     }
 }

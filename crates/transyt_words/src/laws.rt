@@ -3,24 +3,25 @@
 ghost use Rattle.std.specs.Prelude.{◌≡◌, ◌*◌, ◌++◌, ◌∷◌, [], codes, length, map, None, Some, true};
 ghost use Rattle.transyt_syntax.specs.declared.code.Code.{Code};
 ghost use Rattle.transyt_net.specs.WorkedNets.{town};
+ghost use Rattle.transyt_outcome.specs.Outcome.{TextRow};
 ghost use Rattle.transyt_outcome.specs.WorkedOutcomes.{Each};
 ghost use Rattle.transyt_outcome.specs.declared.status.Status.{Status};
 ghost use Rattle.transyt_equisat.specs.WorkedBalances.{worked_town};
 ghost use Rattle.transyt_audit.specs.declared.verdict.Verdict.{Verdict};
 ghost use Rattle.transyt_climb.specs.WorkedTurns.{idle};
 ghost use Rattle.transyt_climbs.specs.Times.{times_of};
-ghost use Rattle.transyt_climbs.specs.WorkedClimbs.{in_range, junction, out_of_range};
+ghost use Rattle.transyt_climbs.specs.WorkedClimbs.{junction};
 ghost use Rattle.transyt_scan.specs.WorkedScan.{from_44, three_rows};
 ghost use Rattle.transyt_words.specs.AfterDeck.{answer_of_cut, most_of_cut};
-ghost use Rattle.transyt_words.specs.Answer.{done, of_whole, refusal, with_deck};
-ghost use Rattle.transyt_words.specs.Asked.{cycles_of, over_times, starts_of};
+ghost use Rattle.transyt_words.specs.Answer.{answer_text, done, of_whole, refusal, with_deck};
+ghost use Rattle.transyt_words.specs.Asked.{starts_of};
 ghost use Rattle.transyt_words.specs.Audit.{audit_line, audit_most};
 ghost use Rattle.transyt_words.specs.Counts.{answer_of_counts, counted_line};
 ghost use Rattle.transyt_words.specs.Equisat.{equisat_answer};
 ghost use Rattle.transyt_words.specs.Lines.{line_of, lines_text, refused_card};
 ghost use Rattle.transyt_words.specs.Plans.{cycles, plans_answer, starts};
 ghost use Rattle.transyt_words.specs.Scan.{scan_answer, table_lines};
-ghost use Rattle.transyt_words.specs.Whole.{IsSilent, StepsWithin, Told, ToldRow};
+ghost use Rattle.transyt_words.specs.Whole.{IsSilent, StepsWithin, Told};
 ghost use Rattle.transyt_words.specs.WorkedAnswers.{balance_lines, cut_after_three, idle_lines, refused_at_seven, said_rest};
 ghost use Rattle.transyt_words.specs.WorkedAnswers.{scan_lines, steps_of_rest, worked_tables};
 ghost use Rattle.transyt_words.specs.WorkedPlans.{no_cycles, starts_in_range, starts_out_of_range, three_cycles, three_starts};
@@ -47,8 +48,8 @@ pub fn worked_texts()
 /// that it doesn't. With three statuses nothing was written.
 #[tactic(auto, using(crate::proofs::Worked::rows_told, crate::proofs::Worked::rows_untold, crate::proofs::Worked::told, crate::proofs::Worked::told_over))]
 pub fn worked_told()
-    ensures rows { Each (λ row. ToldRow row.0 row.1 row.2) told_rows }
-    ensures no_rows { Each (λ row. ¬ ToldRow row.0 row.1 row.2) untold_rows }
+    ensures rows { Each (λ row. TextRow (answer_text row.0) row.0.refused row.1 row.2) told_rows }
+    ensures no_rows { Each (λ row. ¬ TextRow (answer_text row.0) row.0.refused row.1 row.2) untold_rows }
     ensures told { Told (done two_lines) (Some (codes "x")) (Some (codes "x" ++ both_texts)) Status.Done }
     ensures told_over { ¬ Told (done two_lines) (Some (codes "x")) (Some both_texts) Status.Done }
     ensures silent { Each IsSilent (Status.ReadFault ∷ Status.TooLong ∷ Status.NoMemory ∷ []) }
@@ -73,15 +74,11 @@ pub fn worked_answers()
     ensures no_steps { most_of_cut steps_of_rest (2 ∷ 3 ∷ 5 ∷ 7 ∷ 11 ∷ []) refused_at_seven ≡ 0 }
 {}
 
-/// What `starts` and `cycles` may be asked for, each number at its limits, and one past them.
+/// What `starts` may be asked for, each number at its limits, and one past them.
 pub fn worked_asked()
     ensures within { map (λ a. starts_of a.0 a.1 a.2) starts_in_range
         ≡ map (λ a. Some (record { workers = a.0; seed = a.1; count = a.2 })) starts_in_range }
     ensures beyond { map (λ a. starts_of a.0 a.1 a.2) starts_out_of_range ≡ map (λ _. None) starts_out_of_range }
-    ensures times { map (λ t. cycles_of 8 t.low t.high t.by) in_range ≡ map (λ t. Some (over_times 8 t)) in_range }
-    ensures no_times { map (λ t. cycles_of 1 t.low t.high t.by) out_of_range ≡ map (λ _. None) out_of_range }
-    ensures no_worker { cycles_of 0 60 120 17 ≡ None }
-    ensures nine_workers { cycles_of 9 60 120 17 ≡ None }
 {}
 
 /// Worked answers of `starts` and `cycles`: of starts that are equal the first is the best; cycle times of each kind; cycle

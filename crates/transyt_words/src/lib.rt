@@ -34,7 +34,7 @@ pub use answer::Answer;
 pub use audit::AuditWord;
 pub use counts::CountsWord;
 pub use cycles::CyclesWord;
-pub use deck_word::{DeckWord, judge_deck};
+pub use deck_word::{DeckWord, Host, judge_deck};
 pub use equisat::EquisatWord;
 pub use laws::{worked_answers, worked_asked, worked_table, worked_texts, worked_told};
 pub use line::AnswerLine;

@@ -4,7 +4,7 @@ ghost use Rattle.std.specs.Prelude.{◌≡◌, ◌<◌, length, IfOk};
 ghost use Rattle.transyt_words.specs.Scan.{best_line, row_line, scan_answer, table_lines};
 
 use crate::answer::Answer;
-use crate::deck_word::DeckWord;
+use crate::deck_word::{DeckWord, Host};
 use crate::line::AnswerLine;
 use std::alloc::{AllocError, Global};
 use std::sync::ledger::Ledger;
@@ -64,15 +64,23 @@ impl DeckWord for ScanWord {
 
     fn judge<R: Threads + Sync, L: Ledger>(
         &self,
-        rt: &R,
-        alloc: Global,
+        host: Host<'_, R>,
         cut: &Cut,
         _table: &[u8],
         _steps: &mut Steps<L>,
     ) -> Result<Answer, AllocError> {
         let CycleTimes { low, high, by } = self.times;
-        let rows = scan(rt, alloc, &cut.net, low, high, by, self.workers, &IdleBench)?;
-        let lines = table_lines(alloc, &rows)?;
+        let rows = scan(
+            host.rt,
+            host.alloc,
+            &cut.net,
+            low,
+            high,
+            by,
+            self.workers,
+            &IdleBench,
+        )?;
+        let lines = table_lines(host.alloc, &rows)?;
         Ok(Answer::done(lines).with_remark(on_cycle_times()))
     }
 }

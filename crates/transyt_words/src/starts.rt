@@ -4,7 +4,7 @@ ghost use Rattle.std.specs.Prelude.{◌≡◌, IfSome};
 ghost use Rattle.transyt_words.specs.Asked.{IsStarts, starts_of};
 
 use crate::answer::Answer;
-use crate::deck_word::DeckWord;
+use crate::deck_word::{DeckWord, Host};
 use crate::table::{Numbered, TableWord, answer_net};
 use std::alloc::{AllocError, Global};
 use std::sync::ledger::Ledger;
@@ -92,12 +92,11 @@ impl DeckWord for StartsWord {
 
     fn judge<R: Threads + Sync, L: Ledger>(
         &self,
-        rt: &R,
-        alloc: Global,
+        host: Host<'_, R>,
         cut: &Cut,
         _table: &[u8],
         _steps: &mut Steps<L>,
     ) -> Result<Answer, AllocError> {
-        answer_net(rt, alloc, self, &cut.net)
+        answer_net(host, self, &cut.net)
     }
 }

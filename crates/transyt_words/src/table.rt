@@ -7,6 +7,7 @@ ghost use Rattle.transyt_words.specs.Table.{best_line, climbed_line, row_line, t
 ghost use Rattle.transyt_words.specs.declared.table.Numbered.{Numbered};
 
 use crate::answer::Answer;
+use crate::deck_word::Host;
 use crate::line::AnswerLine;
 use std::alloc::{AllocError, Global};
 use std::thread::Threads;
@@ -96,6 +97,7 @@ fn table_lines(alloc: Global, by: Numbered, rows: &[PlanRow]) -> Result<Vec<Answ
 }
 
 /// The same network, if there is one, whose deck text is known to read back.
+#[tactic(auto, using(transyt_deck::proofs::ReadBack::deck_read_back))]
 fn read_back(made: Option<Net>) -> Option<Net>
     ensures same { result ≡ made }
     ensures reads_back { DeckReadsBack result }
@@ -129,8 +131,7 @@ fn deck_of<P: Plans>(
 
 /// The answer to a network: the lines of its table, and the deck text of the network at the end of the best climb.
 pub(crate) fn answer_net<R: Threads + Sync, W: TableWord>(
-    rt: &R,
-    alloc: Global,
+    host: Host<'_, R>,
     asked: &W,
     net: &Net,
 ) -> Result<Answer, AllocError>
@@ -138,7 +139,8 @@ pub(crate) fn answer_net<R: Threads + Sync, W: TableWord>(
     ensures answer { IfOk result (λ found. found ≡ plans_answer (W.kind asked.now) (W.list asked.now) net.now) }
     ensures reads_back { IfOk result ReadsBack }
 {
-    let rows = climb_plans(rt, alloc, asked, net, &IdleBench)?;
+    let alloc = host.alloc;
+    let rows = climb_plans(host.rt, alloc, asked, net, &IdleBench)?;
     let lines = table_lines(alloc, asked.numbered(), &rows)?;
     let deck = deck_of(alloc, asked, net, best(&rows))?;
     Ok(Answer::with_deck(lines, deck))

@@ -10,9 +10,8 @@ ghost use Rattle.transyt_words.specs.Answer.{answer_text, deck_after, of_whole};
 ghost use Rattle.transyt_words.specs.Whole.{IsSilent, StepsWithin, Told};
 
 use crate::answer::Answer;
-use crate::deck_word::{DeckWord, judge_deck};
+use crate::deck_word::{DeckWord, Host, judge_deck};
 use crate::line::print_lines;
-use std::alloc::Global;
 use std::sync::ledger::Ledger;
 use std::thread::Threads;
 use transyt_deck::print_deck;
@@ -59,8 +58,7 @@ pub fn say<K: Sink>(found: &Answer, line: &mut LineBuffer, sink: &mut K) -> Stat
 /// Takes a source whole, and answers by a word what it gave. The memory for reading and writing is taken before the first
 /// read, and all other memory before the first line is written.
 pub fn answer_whole<R: Threads + Sync, W: DeckWord, S: Source, K: Sink, L: Ledger>(
-    rt: &R,
-    alloc: Global,
+    host: Host<'_, R>,
     word: &W,
     source: &mut S,
     sink: &mut K,
@@ -80,16 +78,16 @@ pub fn answer_whole<R: Threads + Sync, W: DeckWord, S: Source, K: Sink, L: Ledge
         (S.left source.old) (S.left source.new) steps.old steps.new }
     ensures more_steps { steps.old ≤ steps.new }
 {
-    let Ok(mut intake) = Intake::open(alloc) else {
+    let Ok(mut intake) = Intake::open(host.alloc) else {
         return Status::NoMemory;
     };
-    let Ok(mut line) = LineBuffer::open(alloc) else {
+    let Ok(mut line) = LineBuffer::open(host.alloc) else {
         return Status::NoMemory;
     };
     if let Err(stop) = intake.take_all(source) {
         return stopped_reading(stop);
     }
-    let Ok(found) = judge_deck(rt, alloc, word, intake.bytes(), steps) else {
+    let Ok(found) = judge_deck(host, word, intake.bytes(), steps) else {
         return Status::NoMemory;
     };
     let status = say(&found, &mut line, sink);

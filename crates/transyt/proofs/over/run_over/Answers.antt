@@ -13,7 +13,4 @@ returns-clause-ran g c =
 
 -- the report of the input
 pub returns-clause-headline : goal.returns-clause-headline
-returns-clause-headline g c =
-    given_headline _ _ _ _ _ _ _
-    c.args.given c.run_program-number.ensures.ran (ap (λ (end : StdEnd). end.told) c.new-source.ensures)
-    (ap (λ (end : StdEnd). end.told) c.new-sink.ensures) c.into_inner.ensures
+returns-clause-headline g c = given_headline _ _ _ _ _ c.args.given (returns-clause-ran g c)

@@ -1,9 +1,8 @@
 -- All is said by what was done for the word.
-use Rattle.std.proofs.Common.{Option, IfSome, sym, ◌∙◌, subst}
-use Rattle.std.specs.Option.{option_map}
+use Rattle.std.proofs.Common.{Option, sym, ◌∙◌, subst}
 use Rattle.transyt.specs.declared.word.Word.{Word}
 use Rattle.transyt.specs.Tasks.{task, TaskHeadline, TaskComplete, TaskTooLong, IsRun}
-use Rattle.transyt.proofs.TaskLaws.{word_settled, task_headline, task_complete, task_too_long, run_headline}
+use Rattle.transyt.proofs.TaskLaws.{word_settled, task_headline, task_complete, task_too_long, of_words, run_headline}
 use Rattle.transyt.proofs.ValidRuns.{climb_descends}
 use Rattle.transyt.proofs.top.transyt.Goals as goal
 
@@ -23,10 +22,7 @@ pub returns-clause-told : goal.returns-clause-told
 returns-clause-told g c = λ memory no_read no_write.
     let word = c.in-Some.word in
     let all = c.answer_word.ensures in
-    let P : Option Word → Type 0 = λ o. IfSome (option_map task o) (λ asked. TaskHeadline asked
-    (g.S.Source.left c.args.source.now) (g.K.Sink.written c.args.sink.now) (g.K.Sink.written c.answer_word.new.sink)
-    c.answer_word.result) in
-    subst P (sym c.in-Some.is ∙ c.word_of.ensures.word)
+    of_words (λ asked. TaskHeadline asked _ _ _ _) (sym c.in-Some.is ∙ c.word_of.ensures.word)
     (task_headline _ _ _ _ _ memory (λ e. no_read (all.read_fault e)) (λ e. no_write (all.write_fault e)) (task word)
     (word_settled word) all.outcome)
 
@@ -35,9 +31,7 @@ pub returns-clause-complete : goal.returns-clause-complete
 returns-clause-complete g c = λ memory no_read no_write.
     let word = c.in-Some.word in
     let all = c.answer_word.ensures in
-    let P : Option Word → Type 0 = λ o. IfSome (option_map task o) (λ asked. TaskComplete asked
-    (g.S.Source.left c.args.source.now) c.answer_word.result) in
-    subst P (sym c.in-Some.is ∙ c.word_of.ensures.word)
+    of_words (λ asked. TaskComplete asked _ _) (sym c.in-Some.is ∙ c.word_of.ensures.word)
     (task_complete _ _ _ _ _ memory (λ e. no_read (all.read_fault e)) (λ e. no_write (all.write_fault e)) (task word)
     (word_settled word) all.outcome)
 
@@ -46,9 +40,7 @@ pub returns-clause-too_long : goal.returns-clause-too_long
 returns-clause-too_long g c = λ memory no_read no_write.
     let word = c.in-Some.word in
     let all = c.answer_word.ensures in
-    let P : Option Word → Type 0 = λ o. IfSome (option_map task o) (λ asked. TaskTooLong asked
-    (g.S.Source.left c.args.source.now) c.answer_word.result) in
-    subst P (sym c.in-Some.is ∙ c.word_of.ensures.word)
+    of_words (λ asked. TaskTooLong asked _ _) (sym c.in-Some.is ∙ c.word_of.ensures.word)
     (task_too_long _ _ _ _ _ memory (λ e. no_read (all.read_fault e)) (λ e. no_write (all.write_fault e)) (task word)
     (word_settled word) all.outcome)
 

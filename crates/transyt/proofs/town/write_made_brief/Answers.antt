@@ -11,4 +11,4 @@ has_plan seed nodes = refl
 -- that of the code too
 pub write_brief-requires-clause-plan : goal.write_brief-requires-clause-plan
 write_brief-requires-clause-plan g c κs within =
-    subst (λ (net : Network). IsSome net.plan) (sym c.in-Ok.ensures) (has_plan c.args.seed c.args.nodes)
+    subst (λ (net : Network). IsSome net.plan) (sym c.in-Ok.ensures) (has_plan c.args.town.seed c.args.town.nodes)

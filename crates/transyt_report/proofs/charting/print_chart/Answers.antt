@@ -4,4 +4,4 @@ use Rattle.transyt_report.proofs.charting.print_chart.Goals as goal
 
 -- one text after the other
 pub returns : goal.returns
-returns g c = prints_both _ _ _ c.in_ok-print_links.ensures c.print_end.ensures
+returns g c = prints_both _ _ _ c.in_ok-print_parts.ensures c.print_end.ensures

@@ -4,4 +4,4 @@ use Rattle.transyt_report.proofs.figures.print_report.Goals as goal
 
 -- one text after the other
 pub returns : goal.returns
-returns g c = prints_both _ _ _ c.in_ok-print_all_links.ensures c.print_network.ensures
+returns g c = prints_both _ _ _ c.in_ok-print_parts.ensures c.print_network.ensures

@@ -4,4 +4,4 @@ use Rattle.transyt_report.proofs.timing.print_node.Goals as goal
 
 -- one text after the other
 pub returns : goal.returns
-returns g c = prints_both _ _ _ c.in_ok-print_number.ensures c.print_stages.ensures
+returns g c = prints_both _ _ _ c.in_ok-print_number.ensures c.print_parts.ensures

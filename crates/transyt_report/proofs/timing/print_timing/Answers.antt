@@ -4,4 +4,4 @@ use Rattle.transyt_report.proofs.timing.print_timing.Goals as goal
 
 -- one text after the other
 pub returns : goal.returns
-returns g c = prints_both _ _ _ c.in_ok-print_nodes.ensures c.print_end.ensures
+returns g c = prints_both _ _ _ c.in_ok-print_parts.ensures c.print_end.ensures

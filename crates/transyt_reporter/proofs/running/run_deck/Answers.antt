@@ -3,7 +3,6 @@ use Rattle.std.proofs.Common.{ℕ, List, Option, nat_eq, inl, arith, [], refl, a
 use Rattle.transyt_io.proofs.Told.{takes_nothing, adds_nothing}
 use Rattle.transyt_outcome.specs.Outcome.{Outcome}
 use Rattle.transyt_answers.specs.Report.{reporting_run}
-use Rattle.transyt_outcome.proofs.RunLaws.{outcome_of, steps_of}
 use Rattle.transyt_reporter.specs.Reporter.{ReporterValue}
 use Rattle.transyt_reporter.proofs.running.run_deck.Goals as goal
 
@@ -31,10 +30,10 @@ returns-clause-outcome g c =
     let W : Option (List ℕ) → Type 0 =
     λ w. Outcome reporting_run (g.S.Source.left c.args.source.now) (g.S.Source.left c.run-status.new.source)
     (g.S.Source.last c.run-status.new.source) (g.K.Sink.written c.args.sink.now) w c.run-status.result in
-    subst W (sym c.remark_refused.ensures.written) (outcome_of c.run-status.ensures.ran)
+    subst W (sym c.remark_refused.ensures.written) c.run-status.ensures.ran.outcome
 
 -- the steps
 pub returns-clause-steps : goal.returns-clause-steps
 returns-clause-steps g c = λ one.
-    steps_of c.run-status.ensures.ran
+    c.run-status.ensures.ran.steps_taken
     (ap (λ (r : ReporterValue). nat_eq r.workers 1) c.in-Ok.ensures.value ∙ ap (λ (n : ℕ). nat_eq n 1) one)
