@@ -49,7 +49,8 @@ desks_lent sessions s are =
       };
     }
 
-zero_set : (sessions : List SessionValue) (s : SessionValue) → 0 < length sessions → desk_zero (slice_set sessions 0 s) ≡ s
+-- is at desk 0
+pub zero_set : (sessions : List SessionValue) (s : SessionValue) → 0 < length sessions → desk_zero (slice_set sessions 0 s) ≡ s
 zero_set [] s some = absurd (omega arith)
 zero_set (x ∷ xs) s some = refl
 
@@ -177,12 +178,6 @@ pub lent_sessions : (desks : List Desk) (d : Desk)
     → sessions_of (slice_set desks 0 d) ≡ slice_set (sessions_of desks) 0 d.session
 lent_sessions [] d = refl
 lent_sessions (x ∷ xs) d = refl
-
--- is desk 0
-pub lent_zero : (desks : List Desk) (d : Desk) → 0 < length desks
-    → desk_zero (sessions_of (slice_set desks 0 d)) ≡ d.session
-lent_zero [] d some = absurd (omega arith)
-lent_zero (x ∷ xs) d some = refl
 
 -- desk 0 alone is desk 0
 pub first_zero : (desks : List Desk) → desk_zero (sessions_of (take 1 desks)) ≡ desk_zero (sessions_of desks)

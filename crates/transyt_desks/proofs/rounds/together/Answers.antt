@@ -1,34 +1,36 @@
--- The desks have tried the moves, and the turns are made at desk 0.
-use Rattle.std.proofs.Common.{◌≡◌, ℕ, ◌*◌, List, length, slice_index_or, sym, ap, ◌∙◌, subst, arith}
+-- The desks have tried the moves, and the turns are made at desk 0, lent out.
+use Rattle.std.proofs.Common.{◌≡◌, ◌*◌, ◌<◌, List, length, slice_set, sym, ap, ◌∙◌, subst, arith}
 use Rattle.transyt_session.specs.Session.{SessionValue}
-use Rattle.transyt_desks.specs.declared.desk.Desk.{Desk}
-use Rattle.transyt_desks.specs.declared.stretch.Stretch.{Stretch}
-use Rattle.transyt_desks.specs.Desks.{desk_zero, sessions_of}
-use Rattle.transyt_desks.specs.Rounds.{room_of, CanRound}
-use Rattle.transyt_desks.specs.Stretches.{IsStretch}
-use Rattle.transyt_desks.proofs.DeskLaws.{session_read, sessions_count}
+use Rattle.transyt_desks.specs.Desks.{desk_zero}
+use Rattle.transyt_desks.specs.Rounds.{CanRound, RoundsDesks}
+use Rattle.transyt_desks.proofs.RoundLaws.{rounds_zero}
 use Rattle.transyt_desks.proofs.rounds.together.Goals as goal
 
-pub settle-requires-clause-ready : goal.settle-requires-clause-ready
-settle-requires-clause-ready g c =
-    let desks : List Desk = c.try_reach-tried.new.desks in
-    let zero : (slice_index_or desks 0 c.index-desks-0.result).session ≡ desk_zero (sessions_of c.args.desks.now) =
-    session_read desks 0 c.index-desks-0.result (omega (arith, c.try_reach-tried.ensures.len, c.requires.desks.some, sessions_count c.args.desks.now)) ∙ ap desk_zero c.try_reach-tried.ensures.sessions in
+pub returns-then-is_over : goal.returns-then-is_over
+returns-then-is_over g c =
+    subst (λ n. RoundsDesks (n * c.args.each) c.args.climber.now c.args.desks.now c.turn_zero.new.climber c.turn_zero.new.desks
+    c.turn_zero.result) c.count-count.ensures.value c.turn_zero.ensures.made
+
+pub make_turns-requires-clause-ready : goal.make_turns-requires-clause-ready
+make_turns-requires-clause-ready g c =
+    let zero = c.session_mut.ensures.value ∙ ap desk_zero c.try_reach-tried.ensures.same in
     subst (CanRound c.args.climber.now) (sym zero) c.requires.ready
 
-pub settle-requires-clause-tried : goal.settle-requires-clause-tried
-settle-requires-clause-tried g c =
-    let olds : List Desk = c.args.desks.now in
-    let desks : List Desk = c.try_reach-tried.new.desks in
-    let tried : Stretch = c.try_reach-tried.result in
+pub make_turns-requires-clause-tried : goal.make_turns-requires-clause-tried
+make_turns-requires-clause-tried g c =
     let reach = c.reach_of-reach.ensures in
-    let zero : (slice_index_or desks 0 c.index-desks-0.result).session ≡ desk_zero (sessions_of olds) =
-    session_read desks 0 c.index-desks-0.result (omega (arith, c.try_reach-tried.ensures.len, c.requires.desks.some, sessions_count c.args.desks.now)) ∙ ap desk_zero c.try_reach-tried.ensures.sessions in
-    let places : ℕ = length olds * c.args.each in
-    subst (λ (s : SessionValue). IsStretch s.net c.args.climber.now.place c.args.climber.now.count 0
-    (room_of places c.args.climber.now) tried) (sym zero)
-    (subst (λ n. IsStretch (desk_zero (sessions_of olds)).net c.args.climber.now.place c.args.climber.now.count 0 n tried) reach.room
-    (subst (λ n. IsStretch (desk_zero (sessions_of olds)).net c.args.climber.now.place n 0
-    c.reach_of-reach.result.room tried) reach.list
-    (subst (λ p. IsStretch (desk_zero (sessions_of olds)).net p c.reach_of-reach.result.count 0
-    c.reach_of-reach.result.room tried) reach.place c.try_reach-tried.ensures.tried)))
+    let zero : c.session_mut.result.now ≡ desk_zero c.args.desks.now =
+    c.session_mut.ensures.value ∙ ap desk_zero c.try_reach-tried.ensures.same in
+    rw (reach.place, reach.list, reach.room, ← zero) at c.try_reach-tried.ensures.tried
+
+pub returns : goal.returns
+returns g c =
+    let desks : List SessionValue = c.try_reach-tried.new.self in
+    let some : 0 < length desks =
+    omega (arith, ap (λ (ss : List SessionValue). length ss) c.try_reach-tried.ensures.same, c.count-count.ensures.value, c.count-count.ensures.some) in
+    let made = rounds_zero (c.count-count.result * c.args.each) c.args.climber.now c.make_turns.new.climber desks
+    c.session_mut.result.now c.make_turns.new.session c.make_turns.result some c.session_mut.ensures.value c.make_turns.ensures in
+    subst (λ n. RoundsDesks (n * c.args.each) c.args.climber.now c.args.desks.now c.make_turns.new.climber
+    (slice_set desks 0 c.make_turns.new.session) c.make_turns.result) c.count-count.ensures.value
+    (subst (λ (olds : List SessionValue). RoundsDesks (c.count-count.result * c.args.each) c.args.climber.now olds
+    c.make_turns.new.climber (slice_set desks 0 c.make_turns.new.session) c.make_turns.result) c.try_reach-tried.ensures.same made)

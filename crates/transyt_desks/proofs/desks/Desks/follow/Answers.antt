@@ -3,7 +3,7 @@ use Rattle.std.proofs.Common.{◌≡◌, List, length, sym, ap, ◌∙◌, subst
 use Rattle.transyt_desks.specs.declared.desk.Desk.{Desk}
 use Rattle.transyt_desks.specs.Desks.{sessions_of, AreDesks}
 use Rattle.transyt_desks.proofs.DeskLaws.{sessions_count, written_whole, followed_desks}
-use Rattle.transyt_desks.proofs.desks.Desks.align.Goals as goal
+use Rattle.transyt_desks.proofs.desks.Desks.follow.Goals as goal
 
 pub invariant_of-self : goal.invariant_of-self
 invariant_of-self g c =

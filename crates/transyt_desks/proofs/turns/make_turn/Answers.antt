@@ -1,7 +1,7 @@
 -- A turn is a round of one place.
 use Rattle.transyt_climb.specs.Turns.{machine}
 use Rattle.transyt_desks.proofs.RoundLaws.{makes_one}
-use Rattle.transyt_desks.proofs.settling.take_turn.Goals as goal
+use Rattle.transyt_desks.proofs.turns.make_turn.Goals as goal
 
 pub returns-clause-made : goal.returns-clause-made
 returns-clause-made g c =
