@@ -8,7 +8,6 @@ use Rattle.transyt_climb.specs.declared.turn.Turn.TheVariants.{Passed}
 use Rattle.transyt_climb.specs.Turns.{Counters, Machine, machine, answer_of, turned, turns, is_end}
 use Rattle.transyt_climb.specs.Way.{IsRound}
 use Rattle.transyt_climb.proofs.TurnLaws.{by_look}
-use Rattle.transyt_climb.proofs.WayLaws.{round_one}
 use Rattle.transyt_desks.specs.declared.turns.Round.{Round}
 use Rattle.transyt_desks.specs.declared.stretch.Stretch.{Stretch}
 use Rattle.transyt_desks.specs.Stretches.{IsStretch}
@@ -42,18 +41,6 @@ pub turns_one : (m : Machine) → m.counters.since < m.counters.count → m.coun
     → turns_of 1 m ≡ 1
 turns_one m since looked =
     turns_number 1 m since looked ∙ ap (λ n. turns_up_to n m) (room_one m.counters since looked) ∙ up_to_one m
-
--- a turn is a round of a place
-pub makes_one : (places : ℕ) (m after : Machine) (last : Turn) → turns_of places m ≡ 1 → last ≡ answer_of m
-    → after ≡ turned m → after.counters.count ≡ move_count after.session.net → after.session.before ≡ None
-    → after.session.work ≤ m.session.work + 8000 → MakesRound places m after (record { turns = 1; last = last })
-makes_one places m after last one answer state kept closed few = record {
-  round = round_one m after last answer state;
-  turns = sym one;
-  kept = kept;
-  closed = closed;
-  few = omega (arith, few);
-}
 
 module _ (places : ℕ) (m : Machine) (s : Stretch) (ready : CanRound m.counters m.session)
     (place : m.counters.place < m.counters.count) (since : m.counters.since < m.counters.count)

@@ -1,31 +1,8 @@
 -- One try more.
-use Rattle.std.proofs.Common.{◌+◌, ap, ◌∙◌, arith}
-use Rattle.transyt_moves.specs.Moves.{move}
+use Rattle.std.proofs.Common.{◌+◌, arith}
 use Rattle.transyt_desks.specs.Desks.{desk_zero, sessions_of}
-use Rattle.transyt_desks.specs.Stretches.{place_at, work_found}
 use Rattle.transyt_desks.proofs.StretchLaws.{stretch_ended, stretch_found}
-use Rattle.transyt_desks.proofs.TriedLaws.{try_work}
 use Rattle.transyt_desks.proofs.finding.first_lower.Goals as goal
-
-pub after_find-stretch-requires : goal.after_find-stretch-requires
-after_find-stretch-requires c =
-    let net = (desk_zero (sessions_of c.args.desks.now)).net in
-    let so = c.loop-number.invariant in
-    let here = place_at c.args.reach.place c.args.reach.count c.loop-number.number in
-    let work = ap work_found c.find_at-found.ensures.found ∙ try_work net (move net here) in
-    record {
-      passed = omega (arith, so.stretch.inside, c.loop-number-test.true, c.requires.reach.room, c.requires.reach.many);
-      work = omega (
-        arith,
-        work,
-        c.find_at-found.ensures.few,
-        so.stretch.few,
-        so.stretch.inside,
-        c.loop-number-test.true,
-        c.requires.reach.room,
-        c.requires.reach.many,
-      );
-    }
 
 pub loop-number-preserved : goal.loop-number-preserved
 loop-number-preserved c =

@@ -1,20 +1,10 @@
 -- The desks have tried the moves, and the turns are made at desk 0, lent out.
-use Rattle.std.proofs.Common.{◌≡◌, ◌*◌, ◌<◌, List, length, slice_set, sym, ap, ◌∙◌, subst, arith}
+use Rattle.std.proofs.Common.{◌≡◌, ◌*◌, ◌<◌, List, length, slice_set, ap, ◌∙◌, subst, arith}
 use Rattle.transyt_session.specs.Session.{SessionValue}
 use Rattle.transyt_desks.specs.Desks.{desk_zero}
-use Rattle.transyt_desks.specs.Rounds.{CanRound, RoundsDesks}
+use Rattle.transyt_desks.specs.Rounds.{RoundsDesks}
 use Rattle.transyt_desks.proofs.RoundLaws.{rounds_zero}
 use Rattle.transyt_desks.proofs.rounds.together.Goals as goal
-
-pub returns-then-is_over : goal.returns-then-is_over
-returns-then-is_over g c =
-    subst (λ n. RoundsDesks (n * c.args.each) c.args.climber.now c.args.desks.now c.turn_zero.new.climber c.turn_zero.new.desks
-    c.turn_zero.result) c.count-count.ensures.value c.turn_zero.ensures.made
-
-pub make_turns-requires-clause-ready : goal.make_turns-requires-clause-ready
-make_turns-requires-clause-ready g c =
-    let zero = c.session_mut.ensures.value ∙ ap desk_zero c.try_reach-tried.ensures.same in
-    subst (CanRound c.args.climber.now) (sym zero) c.requires.ready
 
 pub make_turns-requires-clause-tried : goal.make_turns-requires-clause-tried
 make_turns-requires-clause-tried g c =
