@@ -1,7 +1,6 @@
 -- The desks and the steps that answering leaves.
-use Rattle.std.proofs.Common.{◌≡◌, ℕ, ◌+◌, ◌*◌, ◌≤◌, true, List, length, set, Option, None, IfSome, Result, refl, sym, ◌∙◌, ap, subst, arith}
+use Rattle.std.proofs.Common.{◌≡◌, ℕ, ◌+◌, ◌*◌, ◌≤◌, true, List, length, set, None, Result, refl, ◌∙◌, ap, subst, arith}
 use Rattle.std.proofs.lemmas.List.{length-set}
-use Rattle.transyt_net.specs.Shape.{SameShape}
 use Rattle.transyt_moves.specs.Moves.{move_count}
 use Rattle.transyt_track.specs.Work.{cert_work}
 use Rattle.transyt_session.specs.Session.{SessionValue}

@@ -1,6 +1,6 @@
 -- Each listed move is of an offset or of a change, and a round has no more turns than places are left, or one.
-use Rattle.std.proofs.Common.{◌+◌, ◌≡◌, ℕ, zero, suc, ◌-◌, ◌≤◌, Bool, true, false, List, [], ◌∷◌, ◌++◌, length, Option, None, Some, IfSome}
-use Rattle.std.proofs.Common.{if◌then◌else◌, refl, sym, subst, arith, slice_index_or, ◌==◌}
+use Rattle.std.proofs.Common.{◌+◌, ◌≡◌, ℕ, zero, suc, ◌-◌, ◌≤◌, Bool, true, List, [], ◌∷◌, ◌++◌, length, Option, None, Some, IfSome}
+use Rattle.std.proofs.Common.{refl, sym, subst, arith, slice_index_or}
 use Rattle.std.specs.List.{flat_map, range_with_len}
 use Rattle.std.proofs.lemmas.Bool.{cond_both}
 use Rattle.transyt_parts.specs.Parts.{NodeValue}
@@ -11,13 +11,11 @@ use Rattle.transyt_parts.specs.Valid.{IsPlan}
 use Rattle.transyt_net.specs.Valid.{IsValid}
 use Rattle.transyt_answers.specs.Commands.{budget_of}
 use Rattle.transyt_moves.specs.Moves.{offset_moves, change_moves, node_moves, size_moves, sizes_of, moves, move, move_count, no_move}
-use Rattle.transyt_sweep.specs.Climb.{least, lowers, moved}
-use Rattle.transyt_sweep.specs.Sweeps.{index}
+use Rattle.transyt_sweep.specs.Climb.{least}
 use Rattle.transyt_climb.specs.declared.turn.Turn.{Turn}
-use Rattle.transyt_climb.specs.declared.turn.Turn.TheVariants as turn
 use Rattle.transyt_climb.specs.Way.{IsRound}
 use Rattle.transyt_climb.proofs.TurnLaws.{by_answer, by_look}
-use Rattle.transyt_climb.specs.Turns.{Counters, start_at, start_of, Machine, answer_of, turns, is_end, look_answer}
+use Rattle.transyt_climb.specs.Turns.{Counters, start_at, start_of, Machine, answer_of, turns, is_end}
 use Rattle.transyt_desks.specs.Rounds.{is_took, up_to, turns_up_to, room_of, turns_of}
 use Rattle.transyt_report.specs.MoveTexts.{is_move}
 use Rattle.transyt_reporter.specs.Conditions.{IsStep}

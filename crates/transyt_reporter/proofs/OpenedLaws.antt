@@ -1,12 +1,11 @@
 -- What a complete deck opens: its session, desks that are kept to, and its steps.
-use Rattle.std.proofs.Common.{◌≡◌, ℕ, ◌+◌, ◌-◌, ◌*◌, ◌≤◌, length, None, Result, Ok, Err, IfOk, OnOk, OnErr, sym, ap, subst, ◌∙◌, arith}
+use Rattle.std.proofs.Common.{◌≡◌, ℕ, ◌-◌, ◌≤◌, None, Ok, arith}
 use Rattle.std.proofs.lemmas.List.{length-replicate}
 use Rattle.transyt_net.specs.Parts.{Network}
 use Rattle.transyt_deck.specs.Deck.{Deck, Refused, Complete, Open}
 use Rattle.transyt_deck.specs.Reader.{finished}
 use Rattle.transyt_session.specs.Session.{SessionValue, opened}
 use Rattle.transyt_desks.specs.Desks.{opened_desks}
-use Rattle.transyt_answers.specs.Report.{InSession, run_of, deck_steps}
 use Rattle.transyt_reporter.specs.Reporter.{AreKept}
 use Rattle.transyt_reporter.proofs.ReadyLaws.{ready_opened}
 

@@ -1,5 +1,5 @@
 -- Desks between two lines: a session of one shape at desk 0 leaves all of one shape.
-use Rattle.std.proofs.Common.{◌≡◌, ℕ, zero, suc, ◌-◌, ◌<◌, List, length, None, IfSome, refl, sym, ◌∙◌, ap, subst, arith, set}
+use Rattle.std.proofs.Common.{◌≡◌, ℕ, zero, suc, ◌-◌, ◌<◌, List, length, None, IfSome, refl, sym, ap, subst, arith, set}
 use Rattle.std.proofs.lemmas.List.{length-set, length-replicate}
 use Rattle.std.proofs.lemmas.Option.{MatchOption-from_none}
 use Rattle.transyt_net.specs.Shape.{shape, SameShape}

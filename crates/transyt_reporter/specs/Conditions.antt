@@ -1,5 +1,5 @@
 -- The invariant of the desks between two lines. No clause of the top call cites it.
-use Rattle.std.specs.Prelude.{ℕ, ◌+◌, ◌*◌, ◌≡◌, ◌<◌, ◌≤◌, true, length, Option, IfSome, List}
+use Rattle.std.specs.Prelude.{ℕ, ◌+◌, ◌≡◌, ◌<◌, ◌≤◌, true, length, Option, IfSome, List}
 use Rattle.std.specs.Prelude.{Result, OnOk, OnErr, IfOk, IsErrOf}
 use Rattle.transyt_io.specs.Streams.{Adds, AddsFront, Rose}
 use Rattle.transyt_deck.specs.Deck.{Deck}

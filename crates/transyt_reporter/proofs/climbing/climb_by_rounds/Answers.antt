@@ -1,5 +1,5 @@
 -- One round more of a climb on its way, whose line is written, or its last.
-use Rattle.std.proofs.Common.{◌≡◌, Result, Ok, Err, OnOk, length, refl, sym, ◌∙◌, ap, arith, rules}
+use Rattle.std.proofs.Common.{Result, Ok, Err, OnOk, length, refl, sym, ◌∙◌, ap, arith, rules}
 use Rattle.transyt_climb.specs.Turns.{Machine, machine}
 use Rattle.transyt_climb.proofs.CountedLaws.{climb_starts, climb_state, fewer_left}
 use Rattle.transyt_sweep.specs.Sweeps.{index}

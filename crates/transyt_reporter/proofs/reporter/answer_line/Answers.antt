@@ -59,6 +59,7 @@ returns-clause-whole g c before h =
 -- without memory nothing was written
 pub returns-clause-silent : goal.returns-clause-silent
 returns-clause-silent g c before h failed =
-    let P : ReporterValue → Type 0 = λ r. HasAnswered r before in
-    (answered_nothing _ before (subst P (sym c.reporter.view_is) h) (none_is c.reporter.inside.desks c.in_default.not-Some),
-    c.answer_card.ensures.silent failed)
+    let P : ReporterValue → Type 0 = λ r. HasAnswered r before in (
+      answered_nothing _ before (subst P (sym c.reporter.view_is) h) (none_is c.reporter.inside.desks c.in_default.not-Some),
+      c.answer_card.ensures.silent failed,
+    )
