@@ -164,16 +164,6 @@ pub lent_sessions : (desks : List Desk) (d : Desk)
 lent_sessions [] d = refl
 lent_sessions (x ∷ xs) d = refl
 
--- a whole list written over another of its length
-pub written_whole : (desks olds : List Desk) (n : ℕ) → length desks ≡ length olds → n ≡ length olds
-    → take n (desks ++ drop (length desks) olds) ≡ desks
-written_whole desks olds n same all =
-    ap (λ k. take n (desks ++ drop k olds)) same
-    ∙ ap (λ xs. take n (desks ++ xs)) (drop-length olds)
-    ∙ ap (take n) (append-nil desks)
-    ∙ ap (λ k. take k desks) (all ∙ sym same)
-    ∙ take-length desks
-
 -- desks whose sessions stayed have the same sessions
 pub same_sessions : (olds news : List Desk) → length news ≡ length olds
     → ((k : ℕ) (d : Desk) → k < length olds → (slice_index_or news k d).session ≡ (slice_index_or olds k d).session)
@@ -200,12 +190,3 @@ all_closed desks zero d others zero_closed less =
 all_closed desks (suc k) d others zero_closed less =
     ap (λ (s : SessionValue). s.before) (session_read desks (suc k) d less)
     ∙ others.closed (suc k) (omega arith) (omega (arith, sessions_count desks))
-
--- aligned desks keep to what desks keep to, where as many did
-pub followed_desks : (olds news : List SessionValue) → AreDesks olds → length news ≡ length olds → OthersClosed news
-    → AreDesks news
-followed_desks olds news are count closed = record {
-  some = omega (arith, are.some, count);
-  few = omega (arith, are.few, count);
-  others = closed;
-}

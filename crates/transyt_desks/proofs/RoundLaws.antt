@@ -89,18 +89,6 @@ module _ (places : ℕ) (m : Machine) (s : Stretch) (ready : CanRound m.counters
         few = omega (arith, few, work, tried.few);
       }
 
--- a round on the session of desk 0, lent out
-pub rounds_zero : (places : ℕ) (before after : Counters) (desks : List SessionValue) (lent s : SessionValue) (result : Round)
-    → 0 < length desks → lent ≡ desk_zero desks → MakesRound places (machine before lent) (machine after s) result
-    → RoundsDesks places before desks after (slice_set desks 0 s) result
-rounds_zero places before after desks lent s result some is made =
-    let new = sym (zero_set desks s some) in
-    record {
-      made = subst (λ (x : SessionValue). MakesRound places (machine before x) (machine after (desk_zero (slice_set desks 0 s))) result)
-          is (subst (λ (x : SessionValue). MakesRound places (machine before lent) (machine after x) result) new made);
-      others = ap (slice_set desks 0) new;
-    }
-
 -- it keeps the shapes of the networks alike
 pub alike_rounds : (places : ℕ) (before after : Counters) (olds news : List SessionValue) (result : Round)
     → 0 < length olds → AreAlike olds → RoundsDesks places before olds after news result → AreAlike news
