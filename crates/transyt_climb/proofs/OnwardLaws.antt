@@ -50,94 +50,49 @@ no_look net k n (Some r) =
 pub onward_budget : (net : Network) (k n : ℕ) → onward net k (suc n) 0 ≡ ended false net k 0
 onward_budget net k n = no_look net k n (least (λ r. lowers net ((k + r) % move_count net)) (suc n))
 
+-- a choice of what a function gives is what it gives of a choice
+choice : {A B : Type 0} (f : A → B) (b c : Bool) (x y : B) (u v : A) → b ≡ c → x ≡ f u → y ≡ f v
+    → (if b then x else y) ≡ f (if c then u else v)
+choice f b true x y u v same one two = ap (λ t. if t then x else y) same ∙ one
+choice f b false x y u v same one two = ap (λ t. if t then x else y) same ∙ two
+
+-- the first look before the others, where no step is taken
+ended_more : (local : Bool) (net : Network) (k n : ℕ)
+    → ended local net k (suc n)
+    ≡ looked (record { net = net; place = k % move_count net }) (ended local net ((k + 1) % move_count net) n)
+ended_more local net k n =
+    ap (λ ls. record { steps = []; local = local; looks = record { net = net; place = k % move_count net } ∷ ls; net = net })
+    (looks_mod net (k + 1) n)
+
+-- and where one is
+stepped_more : (net : Network) (k n place : ℕ) (c : Climb)
+    → stepped net k (suc n) place c
+    ≡ looked (record { net = net; place = k % move_count net }) (stepped net ((k + 1) % move_count net) n place c)
+stepped_more net k n place c =
+    ap (λ ls. record (stepped net k (suc n) place c) {
+      looks = record { net = net; place = k % move_count net } ∷ (ls ++ c.looks);
+    }) (looks_mod net (k + 1) n)
+
+-- the place after k and r more, round the list
+place_on : (n k r : ℕ) → (k + (r + 1)) % n ≡ ((k + 1) % n + r) % n
+place_on n k r = let sum : k + (r + 1) ≡ k + 1 + r = omega arith in ap (λ x. x % n) sum ∙ sym (mod-add-mod (k + 1) n r)
+
 -- the search after a place that was passed
-pub search_on : (net : Network) (k n left : ℕ) (found : Option ℕ)
+search_on : (net : Network) (k n left : ℕ) (found : Option ℕ)
     → after_search climb net k (suc n) (suc left) (option_map (λ r. r + 1) found)
     ≡ looked (record { net = net; place = k % move_count net })
     (after_search climb net ((k + 1) % move_count net) n left found)
-search_on net k n left None = by (nat_le n left) (grind (arith, nat_tests)) refl
-  where
-    by : (b : Bool) → nat_le (suc n) (suc left) ≡ nat_le n left → nat_le n left ≡ b
-        → (if nat_le (suc n) (suc left) then ended true net k (suc n) else ended false net k (suc left))
-        ≡ looked (record { net = net; place = k % move_count net })
-        (if nat_le n left then ended true net ((k + 1) % move_count net) n
-        else ended false net ((k + 1) % move_count net) left)
-    by true same all =
-        ap (λ b. if b then ended true net k (suc n) else ended false net k (suc left)) (same ∙ all)
-        ∙ ap (λ ls. record { steps = []; local = true; looks = record { net = net; place = k % move_count net } ∷ ls; net = net })
-        (looks_mod net (k + 1) n)
-        ∙ sym (ap (λ b. looked (record { net = net; place = k % move_count net })
-        (if b then ended true net ((k + 1) % move_count net) n else ended false net ((k + 1) % move_count net) left)) all)
-    by false same all =
-        ap (λ b. if b then ended true net k (suc n) else ended false net k (suc left)) (same ∙ all)
-        ∙ ap (λ ls. record { steps = []; local = false; looks = record { net = net; place = k % move_count net } ∷ ls; net = net })
-        (looks_mod net (k + 1) left)
-        ∙ sym (ap (λ b. looked (record { net = net; place = k % move_count net })
-        (if b then ended true net ((k + 1) % move_count net) n else ended false net ((k + 1) % move_count net) left)) all)
-search_on net k n left (Some r) = by (nat_lt r left) (grind (arith, nat_tests)) refl
-  where
-    from : Climb → Climb
-    from c = stepped net k (r + 1 + 1) ((k + (r + 1)) % move_count net) c
-
-    by : (b : Bool) → nat_lt (r + 1) (suc left) ≡ nat_lt r left → nat_lt r left ≡ b
-        → (if nat_lt (r + 1) (suc left)
-        then stepped net k (r + 1 + 1) ((k + (r + 1)) % move_count net)
-        (climb (moved net ((k + (r + 1)) % move_count net)) ((k + (r + 1)) % move_count net) (suc left - (r + 1 + 1)))
-        else ended false net k (suc left))
-        ≡ looked (record { net = net; place = k % move_count net })
-        (if nat_lt r left
-        then stepped net ((k + 1) % move_count net) (r + 1) (((k + 1) % move_count net + r) % move_count net)
-        (climb (moved net (((k + 1) % move_count net + r) % move_count net))
-        (((k + 1) % move_count net + r) % move_count net) (left - (r + 1)))
-        else ended false net ((k + 1) % move_count net) left)
-    by true same some =
-        let place : (k + (r + 1)) % move_count net ≡ ((k + 1) % move_count net + r) % move_count net =
-        ap (λ x. x % move_count net) (step_on k r) ∙ sym (mod-add-mod (k + 1) (move_count net) r) in
-        let less : suc left - (r + 1 + 1) ≡ left - (r + 1) = omega arith in
-        let more : r + 1 + 1 ≡ suc (r + 1) = omega arith in
-        ap (λ b. if b
-        then stepped net k (r + 1 + 1) ((k + (r + 1)) % move_count net)
-        (climb (moved net ((k + (r + 1)) % move_count net)) ((k + (r + 1)) % move_count net) (suc left - (r + 1 + 1)))
-        else ended false net k (suc left)) (same ∙ some)
-        ∙ ap (λ x. stepped net k (r + 1 + 1) ((k + (r + 1)) % move_count net)
-        (climb (moved net ((k + (r + 1)) % move_count net)) ((k + (r + 1)) % move_count net) x)) less
-        ∙ ap (λ p. stepped net k (r + 1 + 1) p (climb (moved net p) p (left - (r + 1)))) place
-        ∙ ap (λ x. stepped net k x (((k + 1) % move_count net + r) % move_count net)
-        (climb (moved net (((k + 1) % move_count net + r) % move_count net))
-        (((k + 1) % move_count net + r) % move_count net) (left - (r + 1)))) more
-        ∙ looks_on net k (r + 1) (((k + 1) % move_count net + r) % move_count net)
-        (climb (moved net (((k + 1) % move_count net + r) % move_count net))
-        (((k + 1) % move_count net + r) % move_count net) (left - (r + 1)))
-        ∙ sym (ap (λ b. looked (record { net = net; place = k % move_count net })
-        (if b
-        then stepped net ((k + 1) % move_count net) (r + 1) (((k + 1) % move_count net + r) % move_count net)
-        (climb (moved net (((k + 1) % move_count net + r) % move_count net))
-        (((k + 1) % move_count net + r) % move_count net) (left - (r + 1)))
-        else ended false net ((k + 1) % move_count net) left)) some)
-      where
-        step_on : (k r : ℕ) → k + (r + 1) ≡ k + 1 + r
-        step_on k r = omega arith
-
-        looks_on : (net : Network) (k n place : ℕ) (c : Climb)
-            → stepped net k (suc n) place c
-            ≡ looked (record { net = net; place = k % move_count net }) (stepped net ((k + 1) % move_count net) n place c)
-        looks_on net k n place c =
-            ap (λ ls. record (stepped net k (suc n) place c) {
-              looks = record { net = net; place = k % move_count net } ∷ (ls ++ c.looks);
-            }) (looks_mod net (k + 1) n)
-    by false same none =
-        ap (λ b. if b
-        then stepped net k (r + 1 + 1) ((k + (r + 1)) % move_count net)
-        (climb (moved net ((k + (r + 1)) % move_count net)) ((k + (r + 1)) % move_count net) (suc left - (r + 1 + 1)))
-        else ended false net k (suc left)) (same ∙ none)
-        ∙ ap (λ ls. record { steps = []; local = false; looks = record { net = net; place = k % move_count net } ∷ ls; net = net })
-        (looks_mod net (k + 1) left)
-        ∙ sym (ap (λ b. looked (record { net = net; place = k % move_count net })
-        (if b
-        then stepped net ((k + 1) % move_count net) (r + 1) (((k + 1) % move_count net + r) % move_count net)
-        (climb (moved net (((k + 1) % move_count net + r) % move_count net))
-        (((k + 1) % move_count net + r) % move_count net) (left - (r + 1)))
-        else ended false net ((k + 1) % move_count net) left)) none)
+search_on net k n left None =
+    choice (looked (record { net = net; place = k % move_count net })) (nat_le (suc n) (suc left)) (nat_le n left) _ _ _ _
+    (grind (arith, nat_tests)) (ended_more true net k n) (ended_more false net k left)
+search_on net k n left (Some r) =
+    let place = place_on (move_count net) k r in
+    let less : suc left - (r + 1 + 1) ≡ left - (r + 1) = omega arith in
+    let more : r + 1 + 1 ≡ suc (r + 1) = omega arith in
+    choice (looked (record { net = net; place = k % move_count net })) (nat_lt (r + 1) (suc left)) (nat_lt r left) _ _ _ _
+    (grind (arith, nat_tests))
+    ((λ i. stepped net k (more i) (place i) (climb (moved net (place i)) (place i) (less i))) ∙ stepped_more net k (r + 1) _ _)
+    (ended_more false net k left)
 
 -- a place whose move doesn't lower is passed
 pub onward_passes : (net : Network) (k n left : ℕ) → lowers net (k % move_count net) ≡ false
@@ -147,15 +102,10 @@ onward_passes net k n left passed =
     let none_more : k + 0 ≡ k = omega arith in
     let here : lowers net ((k + 0) % move_count net) ≡ false =
     ap (λ x. lowers net (x % move_count net)) none_more ∙ passed in
-    let round : (r : ℕ) → (k + (r + 1)) % move_count net ≡ ((k + 1) % move_count net + r) % move_count net =
-    λ r. (let e : k + (r + 1) ≡ k + 1 + r = omega arith in
-    ap (λ x. x % move_count net) e ∙ sym (mod-add-mod (k + 1) (move_count net) r)) in
     let same : (λ r. lowers net ((k + (r + 1)) % move_count net))
     ≡ (λ r. lowers net (((k + 1) % move_count net + r) % move_count net)) =
-    fun_ext (λ r. ap (lowers net) (round r)) in
-    ap (λ b. after_search climb net k (suc n) (suc left)
-    (if b then Some 0 else option_map (λ r. r + 1) (least (λ r. lowers net ((k + (r + 1)) % move_count net)) n))) here
-    ∙ ap (λ (test : ℕ → Bool). after_search climb net k (suc n) (suc left) (option_map (λ r. r + 1) (least test n))) same
+    fun_ext (λ r. ap (lowers net) (place_on (move_count net) k r)) in
+    (λ i. after_search climb net k (suc n) (suc left) (if here i then Some 0 else option_map (λ r. r + 1) (least (same i) n)))
     ∙ search_on net k n left (least (λ r. lowers net (((k + 1) % move_count net + r) % move_count net)) n)
 
 -- a place whose move lowers is a step
@@ -170,11 +120,5 @@ onward_takes net k n left lower =
     let some : nat_lt 0 (suc left) ≡ true = grind (arith, nat_tests) in
     ap (λ b. after_search climb net k (suc n) (suc left)
     (if b then Some 0 else option_map (λ r. r + 1) (least (λ r. lowers net ((k + (r + 1)) % move_count net)) n))) here
-    ∙ ap (λ b. if b
-    then stepped net k 1 ((k + 0) % move_count net)
-    (climb (moved net ((k + 0) % move_count net)) ((k + 0) % move_count net) (suc left - 1))
-    else ended false net k (suc left)) some
-    ∙ ap (λ x. stepped net k 1 ((k + 0) % move_count net)
-    (climb (moved net ((k + 0) % move_count net)) ((k + 0) % move_count net) x)) less
-    ∙ ap (λ x. stepped net k 1 (x % move_count net) (climb (moved net (x % move_count net)) (x % move_count net) left))
-    none_more
+    ∙ (λ i. let place = none_more i % move_count net in
+    if some i then stepped net k 1 place (climb (moved net place) place (less i)) else ended false net k (suc left))

@@ -1,17 +1,15 @@
--- A climb on its way: what a turn and a round leave of it.
-use Rattle.std.proofs.Common.{◌≡◌, ℕ, zero, suc, ◌+◌, ◌-◌, ◌<◌, Bool, true, false, Option, None, List, [], ◌∷◌, ◌++◌, length}
+-- A climb on its way: a turn takes its answer's step and leaves the rest of the climb, and so do the turns of a round.
+use Rattle.std.proofs.Common.{◌≡◌, ℕ, zero, suc, ◌+◌, ◌-◌, ◌<◌, Bool, true, false, None, List, [], ◌++◌}
 use Rattle.std.proofs.Common.{refl, ap, sym, ◌∙◌, subst, arith}
 use Rattle.std.proofs.lemmas.List.{append-nil, append_assoc}
-use Rattle.transyt_net.specs.Parts.{Network}
 use Rattle.transyt_sweep.specs.Climb.{Climb, Step, climb}
-use Rattle.transyt_track.specs.Work.{work_of}
 use Rattle.transyt_session.specs.Session.{SessionValue}
 use Rattle.transyt_climb.specs.declared.turn.Turn.{Turn}
 use Rattle.transyt_climb.specs.declared.turn.Turn.TheVariants.{Took, Passed, Local, Budget}
-use Rattle.transyt_climb.specs.Turns.{Machine, started, answer_of, after_look, after_answer, turned, turns, step_then, is_end, is_local}
-use Rattle.transyt_climb.specs.Way.{IsReady, IsRound, IsUnderWay, IsOver, climb_left, climbed}
-use Rattle.transyt_climb.proofs.TurnLaws.{rest, look_of, taken, over, goes, turn_goes, ready_turned, rest_start, start_ready}
-use Rattle.transyt_climb.proofs.OnwardLaws.{looked}
+use Rattle.transyt_climb.specs.Turns.{Machine, started, answer_of, after_look, after_answer, turned, turns, answers, step_then}
+use Rattle.transyt_climb.specs.Turns.{steps_in, is_end, is_local}
+use Rattle.transyt_climb.specs.Way.{IsReady, IsRound, HasCome, IsUnderWay, IsOver, AreClimb, climb_left, climbed}
+use Rattle.transyt_climb.proofs.TurnLaws.{over, goes, turn_goes, ready_turned, left_start, start_ready}
 
 -- the last turn of some
 pub turns_more : (n : ℕ) (m : Machine) → turns (n + 1) m ≡ turned (turns n m)
@@ -20,119 +18,112 @@ turns_more (suc n) m =
     let next : suc n + 1 ≡ suc (n + 1) = omega arith in
     ap (λ k. turns k m) next ∙ turns_more n (turned m)
 
--- the climb that is left, not unfolded
-left_is : (m : Machine) → climb_left m ≡ rest m
-unfolding climb_left
-left_is m = refl
+-- an end changes nothing, leaves no climb and takes no step
+end_is : (a : Turn) (m : Machine) → is_end a ≡ true
+    → (after_answer a m ≡ m) × (goes a m ≡ over (is_local a) m.session.net) × (step_then a [] ≡ [])
+end_is (Took place edit index) m end = absurd (cc)
+end_is Passed m end = absurd (cc)
+end_is Local m end = (refl, refl, refl)
+end_is Budget m end = (refl, refl, refl)
 
--- the climb that is left where a turn passes
-left_passed : (m : Machine) → IsReady m → answer_of m ≡ Passed
-    → climb_left m ≡ looked (look_of m) (climb_left (after_look false m))
-left_passed m ready is =
-    left_is m ∙ turn_goes m ready ∙ ap (λ a. goes a m) is
-    ∙ ap (looked (look_of m)) (sym (left_is (after_look false m)))
+-- the step of an answer, and others
+step_more : (a : Turn) (steps : List Step) → step_then a [] ++ steps ≡ step_then a steps
+step_more (Took place edit index) steps = refl
+step_more Passed steps = refl
+step_more Local steps = refl
+step_more Budget steps = refl
 
--- where a turn takes a step
-left_took : (m : Machine) (s : Step) → IsReady m → answer_of m ≡ Took s.place s.edit s.index
-    → climb_left m ≡ taken s (look_of m) (climb_left (after_look true m))
-left_took m s ready is =
-    left_is m ∙ turn_goes m ready ∙ ap (λ a. goes a m) is
-    ∙ ap (taken s (look_of m)) (sym (left_is (after_look true m)))
+module _ (whole : Climb) (work : ℕ) where
+  -- nothing is done more
+  come_same : (done : List Step) (m : Machine) (left : Climb) → HasCome whole work done m left
+      → HasCome whole work (done ++ []) m left
+  come_same done m left so = subst (λ d. HasCome whole work d m left) (sym (append-nil done)) so
 
--- where it ends the climb
-left_end : (m : Machine) (a : Turn) → IsReady m → answer_of m ≡ a → is_end a ≡ true
-    → climb_left m ≡ over (is_local a) m.session.net
-left_end m (Took place edit index) ready is end = let never : ⊥ = cc in absurd never
-left_end m Passed ready is end = let never : ⊥ = cc in absurd never
-left_end m Local ready is end = left_is m ∙ turn_goes m ready ∙ ap (λ a. goes a m) is
-left_end m Budget ready is end = left_is m ∙ turn_goes m ready ∙ ap (λ a. goes a m) is
+  come_on : (done : List Step) (m : Machine) (a : Turn) → HasCome whole work done m (goes a m) → climb_left m ≡ goes a m
+      → IsReady (after_answer a m)
+      → HasCome whole work (done ++ step_then a []) (after_answer a m) (climb_left (after_answer a m))
+  come_on done m (Took place edit index) so left ready = record {
+    ready = ready;
+    steps = so.steps ∙ sym (append_assoc done (step_then (Took place edit index) []) (climb_left (after_look true m)).steps);
+    local = so.local;
+    net = so.net;
+    looks = omega (arith, so.looks);
+    work_is = omega (arith, so.work_is);
+  }
+  come_on done m Passed so left ready = come_same done (after_look false m) (climb_left (after_look false m)) (record {
+    ready = ready;
+    steps = so.steps;
+    local = so.local;
+    net = so.net;
+    looks = omega (arith, so.looks);
+    work_is = omega (arith, so.work_is);
+  })
+  come_on done m Local so left ready = come_same done m (climb_left m) (subst (HasCome whole work done m) (sym left) so)
+  come_on done m Budget so left ready = come_same done m (climb_left m) (subst (HasCome whole work done m) (sym left) so)
 
--- the state after a turn that answers this
-turned_is : (m : Machine) (a : Turn) → answer_of m ≡ a → after_answer a m ≡ turned m
-turned_is m a is = ap (λ b. after_answer b m) (sym is)
+  -- a turn
+  come_turn : (done : List Step) (m : Machine) → HasCome whole work done m (climb_left m)
+      → HasCome whole work (done ++ step_then (answer_of m) []) (turned m) (climb_left (turned m))
+  come_turn done m so =
+      let left = turn_goes m so.ready in
+      come_on done m (answer_of m) (subst (HasCome whole work done m) left so) left (ready_turned m so.ready)
 
-way_passed : (whole : Climb) (work : ℕ) (done : List Step) (m : Machine) → IsUnderWay whole work done m
-    → answer_of m ≡ Passed → IsUnderWay whole work done (after_look false m)
-way_passed whole work done m way is =
-    let left : climb_left m ≡ looked (look_of m) (climb_left (after_look false m)) = left_passed m way.ready is in
-    let looks : length whole.looks ≡ m.counters.looked + length (looked (look_of m) (climb_left (after_look false m))).looks =
-    way.looks ∙ ap (λ (c : Climb). m.counters.looked + length c.looks) left in
-    let work_is : work + work_of whole.looks
-    ≡ m.session.work + work_of (looked (look_of m) (climb_left (after_look false m))).looks =
-    way.work_is ∙ ap (λ (c : Climb). m.session.work + work_of c.looks) left in
-    record {
-      ready = subst IsReady (sym (turned_is m Passed is)) (ready_turned m way.ready);
-      closed = refl;
-      steps = way.steps ∙ ap (λ (c : Climb). done ++ c.steps) left;
-      local = way.local ∙ ap (λ (c : Climb). c.local) left;
-      net = way.net ∙ ap (λ (c : Climb). c.net) left;
-      looks = omega (arith, looks);
-      work_is = omega (arith, work_is);
-    }
+  -- n turns
+  come_turns : (n : ℕ) (done : List Step) (m : Machine) → HasCome whole work done m (climb_left m)
+      → HasCome whole work (done ++ steps_in (answers n m)) (turns n m) (climb_left (turns n m))
+  come_turns zero done m so = come_same done m (climb_left m) so
+  come_turns (suc n) done m so =
+      let later = steps_in (answers n (turned m)) in
+      let steps = append_assoc done (step_then (answer_of m) []) later ∙ ap (λ s. done ++ s) (step_more (answer_of m) later) in
+      subst (λ d. HasCome whole work d (turns (suc n) m) (climb_left (turns (suc n) m))) steps
+      (come_turns n (done ++ step_then (answer_of m) []) (turned m) (come_turn done m so))
 
-way_took : (whole : Climb) (work : ℕ) (done : List Step) (m : Machine) (s : Step) → IsUnderWay whole work done m
-    → answer_of m ≡ Took s.place s.edit s.index → IsUnderWay whole work (done ++ s ∷ []) (after_look true m)
-way_took whole work done m s way is =
-    let left : climb_left m ≡ taken s (look_of m) (climb_left (after_look true m)) = left_took m s way.ready is in
-    let looks : length whole.looks ≡ m.counters.looked + length (taken s (look_of m) (climb_left (after_look true m))).looks =
-    way.looks ∙ ap (λ (c : Climb). m.counters.looked + length c.looks) left in
-    let work_is : work + work_of whole.looks
-    ≡ m.session.work + work_of (taken s (look_of m) (climb_left (after_look true m))).looks =
-    way.work_is ∙ ap (λ (c : Climb). m.session.work + work_of c.looks) left in
-    record {
-      ready = subst IsReady (sym (turned_is m (Took s.place s.edit s.index) is)) (ready_turned m way.ready);
-      closed = refl;
-      steps = way.steps ∙ ap (λ (c : Climb). done ++ c.steps) left
-          ∙ sym (append_assoc done (s ∷ []) (climb_left (after_look true m)).steps);
-      local = way.local ∙ ap (λ (c : Climb). c.local) left;
-      net = way.net ∙ ap (λ (c : Climb). c.net) left;
-      looks = omega (arith, looks);
-      work_is = omega (arith, work_is);
-    }
+  -- no climb is left before an end
+  come_end : (done : List Step) (m : Machine) (a : Turn) → HasCome whole work done m (climb_left m) → answer_of m ≡ a
+      → is_end a ≡ true → HasCome whole work done m (over (is_local a) m.session.net)
+  come_end done m a so is end =
+      subst (HasCome whole work done m) (turn_goes m so.ready ∙ ap (λ x. goes x m) is ∙ (end_is a m end).1) so
 
-way_on : (whole : Climb) (work : ℕ) (done : List Step) (m : Machine) (a : Turn) → IsUnderWay whole work done m
-    → answer_of m ≡ a → is_end a ≡ false → IsUnderWay whole work (done ++ step_then a []) (after_answer a m)
-way_on whole work done m (Took place edit index) way is going =
-    way_took whole work done m (record { place = place; edit = edit; index = index }) way is
-way_on whole work done m Passed way is going =
-    subst (λ steps. IsUnderWay whole work steps (after_look false m)) (sym (append-nil done))
-    (way_passed whole work done m way is)
-way_on whole work done m Local way is going = let never : ⊥ = cc in absurd never
-way_on whole work done m Budget way is going = let never : ⊥ = cc in absurd never
-
--- a turn that is no end goes on
-way_turn : (whole : Climb) (work : ℕ) (done : List Step) (m : Machine) (a : Turn) → IsUnderWay whole work done m
-    → a ≡ answer_of m → is_end a ≡ false → IsUnderWay whole work (done ++ step_then a []) (turned m)
-way_turn whole work done m a way is going =
-    subst (IsUnderWay whole work (done ++ step_then a [])) (turned_is m a (sym is))
-    (way_on whole work done m a way (sym is) going)
-
--- an end changes nothing
-end_same : (m : Machine) (a : Turn) → is_end a ≡ true → after_answer a m ≡ m
-end_same m (Took place edit index) end = let never : ⊥ = cc in absurd never
-end_same m Passed end = let never : ⊥ = cc in absurd never
-end_same m Local end = refl
-end_same m Budget end = refl
-
--- a turn that ends the climb
-way_end : (whole : Climb) (work : ℕ) (done : List Step) (m : Machine) (a : Turn) → IsUnderWay whole work done m
-    → a ≡ answer_of m → is_end a ≡ true → IsOver whole work done (is_local a) (turned m)
-way_end whole work done m a way is end =
-    let left : climb_left m ≡ over (is_local a) m.session.net = left_end m a way.ready (sym is) end in
-    let looks : length whole.looks ≡ m.counters.looked + length (over (is_local a) m.session.net).looks =
-    way.looks ∙ ap (λ (c : Climb). m.counters.looked + length c.looks) left in
-    let work_is : work + work_of whole.looks ≡ m.session.work + work_of (over (is_local a) m.session.net).looks =
-    way.work_is ∙ ap (λ (c : Climb). m.session.work + work_of c.looks) left in
-    subst (IsOver whole work done (is_local a)) (sym (end_same m a end) ∙ turned_is m a (sym is))
-    (record {
-      ready = way.ready;
-      closed = way.closed;
-      steps = way.steps ∙ ap (λ (c : Climb). done ++ c.steps) left ∙ append-nil done;
-      local_is = way.local ∙ ap (λ (c : Climb). c.local) left;
-      net = way.net ∙ ap (λ (c : Climb). c.net) left;
-      looks = omega (arith, looks);
-      work_is = omega (arith, work_is);
+-- a climb at its start
+come_start : (budget : ℕ) (s : SessionValue)
+    → HasCome (climb s.net 0 budget) s.work [] (started budget s) (climb_left (started budget s))
+come_start budget s =
+    subst (HasCome (climb s.net 0 budget) s.work [] (started budget s)) (sym (left_start budget s)) (record {
+      ready = start_ready budget s;
+      steps = refl;
+      local = refl;
+      net = refl;
+      looks = omega arith;
+      work_is = refl;
     })
+
+-- turns from the start up to an end are the climb
+pub turns_are_climb : (budget : ℕ) (s : SessionValue) (n : ℕ) → is_end (answer_of (turns n (started budget s))) ≡ true
+    → AreClimb (climb s.net 0 budget) n (started budget s)
+turns_are_climb budget s n end =
+    let whole = climb s.net 0 budget in
+    let done = steps_in (answers n (started budget s)) in
+    let m = turns n (started budget s) in
+    let so = come_end whole s.work done m (answer_of m)
+    (come_turns whole s.work n [] (started budget s) (come_start budget s)) refl end in
+    record {
+      steps = so.steps ∙ append-nil done;
+      local = so.local;
+      net = so.net;
+      looked = omega (arith, so.looks);
+      work = omega (arith, so.work_is);
+    }
+
+closed_answer : (a : Turn) (m : Machine) → m.session.before ≡ None → (after_answer a m).session.before ≡ None
+closed_answer (Took place edit index) m closed = refl
+closed_answer Passed m closed = refl
+closed_answer Local m closed = closed
+closed_answer Budget m closed = closed
+
+-- turns open no trial
+closed_turns : (n : ℕ) (m : Machine) → m.session.before ≡ None → (turns n m).session.before ≡ None
+closed_turns zero m closed = closed
+closed_turns (suc n) m closed = closed_turns n (turned m) (closed_answer (answer_of m) m closed)
 
 -- one turn is a round
 pub round_one : (m after : Machine) (a : Turn) → a ≡ answer_of m → after ≡ turned m → IsRound m after 1 a
@@ -155,51 +146,56 @@ round_rest n m after last round =
       last_is = round.last_is ∙ ap (λ k. answer_of (turns k m)) next;
     }
 
--- a climb at its start
+-- its steps are that of its last turn
+round_steps : (n : ℕ) (m after : Machine) (last : Turn) → IsRound m after n last → steps_in (answers n m) ≡ step_then last []
+round_steps zero m after last round = let some : 0 < 0 = round.some in absurd (omega arith)
+round_steps (suc zero) m after last round = ap (λ a. step_then a []) (sym round.last_is)
+round_steps (suc (suc n)) m after last round =
+    ap (λ a. step_then a (steps_in (answers (suc n) (turned m)))) (round.passed 0 (omega arith))
+    ∙ round_steps (suc n) (turned m) after last (round_rest n m after last round)
+
+-- after a round that ends the climb each turn is this end
+round_end : (n : ℕ) (m after : Machine) (last : Turn) → IsRound m after n last → is_end last ≡ true → answer_of after ≡ last
+round_end n m after last round end =
+    let before = turns (n - 1) m in
+    let n_is : n ≡ n - 1 + 1 = omega (arith, round.some) in
+    let same : turned before ≡ before = ap (λ a. after_answer a before) (sym round.last_is) ∙ (end_is last before end).0 in
+    ap answer_of (round.after_is ∙ ap (λ k. turns k m) n_is ∙ turns_more (n - 1) m ∙ same) ∙ sym round.last_is
+
+-- a climb at its start is on its way
 pub way_start : (budget : ℕ) (s : SessionValue) → s.before ≡ None
     → IsUnderWay (climb s.net 0 budget) s.work [] (started budget s)
-way_start budget s closed =
-    let left : climb s.net 0 budget ≡ climb_left (started budget s) =
-    sym (left_is (started budget s) ∙ rest_start budget s) in
-    record {
-      ready = start_ready budget s;
-      closed = closed;
-      steps = ap (λ (c : Climb). c.steps) left;
-      local = ap (λ (c : Climb). c.local) left;
-      net = ap (λ (c : Climb). c.net) left;
-      looks = ap (λ (c : Climb). length c.looks) left ∙ omega arith;
-      work_is = ap (λ (c : Climb). s.work + work_of c.looks) left;
-    }
+way_start budget s closed = record { closed = closed; come = come_start budget s }
 
--- a round that is no end goes on
+-- and stays so by a round, whose step is done
 pub way_round : (whole : Climb) (work : ℕ) (done : List Step) (m after : Machine) (count : ℕ) (last : Turn)
-    → IsUnderWay whole work done m → IsRound m after count last → is_end last ≡ false
+    → IsUnderWay whole work done m → IsRound m after count last
     → IsUnderWay whole work (done ++ step_then last []) after
-way_round whole work done m after zero last way round going = let some : 0 < 0 = round.some in absurd (omega arith)
-way_round whole work done m after (suc zero) last way round going =
-    subst (IsUnderWay whole work (done ++ step_then last [])) (sym round.after_is)
-    (way_turn whole work done m last way round.last_is going)
-way_round whole work done m after (suc (suc n)) last way round going =
-    let passed : answer_of m ≡ Passed = round.passed 0 (omega arith) in
-    way_round whole work done (turned m) after (suc n) last
-    (subst (IsUnderWay whole work done) (turned_is m Passed passed) (way_passed whole work done m way passed))
-    (round_rest n m after last round) going
+way_round whole work done m after count last way round =
+    subst (IsUnderWay whole work (done ++ step_then last [])) (sym round.after_is) (record {
+      closed = closed_turns count m way.closed;
+      come = subst (λ s. HasCome whole work (done ++ s) (turns count m) (climb_left (turns count m)))
+          (round_steps count m after last round) (come_turns whole work count done m way.come);
+    })
 
 -- a round that ends the climb
 pub way_over : (whole : Climb) (work : ℕ) (done : List Step) (m after : Machine) (count : ℕ) (last : Turn)
     → IsUnderWay whole work done m → IsRound m after count last → is_end last ≡ true
     → IsOver whole work done (is_local last) after
-way_over whole work done m after zero last way round end = let some : 0 < 0 = round.some in absurd (omega arith)
-way_over whole work done m after (suc zero) last way round end =
-    subst (IsOver whole work done (is_local last)) (sym round.after_is)
-    (way_end whole work done m last way round.last_is end)
-way_over whole work done m after (suc (suc n)) last way round end =
-    let passed : answer_of m ≡ Passed = round.passed 0 (omega arith) in
-    way_over whole work done (turned m) after (suc n) last
-    (subst (IsUnderWay whole work done) (turned_is m Passed passed) (way_passed whole work done m way passed))
-    (round_rest n m after last round) end
+way_over whole work done m after count last way round end =
+    let next = way_round whole work done m after count last way round in
+    let so = come_end whole work (done ++ step_then last []) after last next.come (round_end count m after last round end) end in
+    record {
+      ready = so.ready;
+      closed = next.closed;
+      steps = so.steps ∙ append-nil (done ++ step_then last []) ∙ ap (λ s. done ++ s) (end_is last m end).2 ∙ append-nil done;
+      local_is = so.local;
+      net = so.net;
+      looks = omega (arith, so.looks);
+      work_is = omega (arith, so.work_is);
+    }
 
--- what turns that are no end do to the counters of looks
+-- the looks of turns that are no end, by the counters
 pub record HasLooked (m after : Machine) (count : ℕ) : Type 0 where
   pub looked : after.counters.looked ≡ m.counters.looked + count
   pub budget : after.counters.budget ≡ m.counters.budget
@@ -207,21 +203,17 @@ pub record HasLooked (m after : Machine) (count : ℕ) : Type 0 where
 looked_one : (m : Machine) (a : Turn) → is_end a ≡ false → HasLooked m (after_answer a m) 1
 looked_one m (Took place edit index) going = record { looked = refl; budget = refl }
 looked_one m Passed going = record { looked = refl; budget = refl }
-looked_one m Local going = let never : ⊥ = cc in absurd never
-looked_one m Budget going = let never : ⊥ = cc in absurd never
-
-looked_turn : (m : Machine) (a : Turn) → a ≡ answer_of m → is_end a ≡ false → HasLooked m (turned m) 1
-looked_turn m a is going = subst (λ t. HasLooked m t 1) (turned_is m a (sym is)) (looked_one m a going)
+looked_one m Local going = absurd (cc)
+looked_one m Budget going = absurd (cc)
 
 -- a round that is no end looks once at each turn
 pub round_looks : (m after : Machine) (count : ℕ) (last : Turn) → IsRound m after count last → is_end last ≡ false
     → HasLooked m after count
 round_looks m after zero last round going = let some : 0 < 0 = round.some in absurd (omega arith)
 round_looks m after (suc zero) last round going =
-    subst (λ t. HasLooked m t 1) (sym round.after_is) (looked_turn m last round.last_is going)
+    subst (λ t. HasLooked m t 1) (sym round.after_is) (looked_one m (answer_of m) (ap is_end (sym round.last_is) ∙ going))
 round_looks m after (suc (suc n)) last round going =
-    let passed : answer_of m ≡ Passed = round.passed 0 (omega arith) in
-    let first : HasLooked m (turned m) 1 = looked_turn m Passed (sym passed) refl in
+    let first : HasLooked m (turned m) 1 = looked_one m (answer_of m) (ap is_end (round.passed 0 (omega arith))) in
     let later : HasLooked (turned m) after (suc n) =
     round_looks (turned m) after (suc n) last (round_rest n m after last round) going in
     record {
@@ -229,14 +221,8 @@ round_looks m after (suc (suc n)) last round going =
       budget = later.budget ∙ first.budget;
     }
 
-session_is : (s t : SessionValue) → s.net ≡ t.net → s.before ≡ t.before → s.work ≡ t.work → s ≡ t
-session_is s t n b w =
-    let made : Network → Option Network → ℕ → SessionValue =
-    λ x y z. record { net = x; before = y; work = z } in
-    ap (λ x. made x s.before s.work) n ∙ ap (λ x. made t.net x s.work) b ∙ ap (made t.net t.before) w
-
 -- the session of a climb that is over
 pub over_climbed : (budget : ℕ) (s : SessionValue) (done : List Step) (local : Bool) (m : Machine)
     → IsOver (climb s.net 0 budget) s.work done local m → m.session ≡ climbed budget s
 over_climbed budget s done local m ended =
-    session_is m.session (climbed budget s) (sym ended.net) ended.closed (sym ended.work_is)
+    λ i. record { net = sym ended.net i; before = ended.closed i; work = sym ended.work_is i }

@@ -33,14 +33,18 @@ climb_left m =
     onward m.session.net m.counters.place (m.counters.count - m.counters.since) (m.counters.budget - m.counters.looked)
 
 -- a climb that began with some work and has come to a state: the whole of it is the steps done and the climb left
-pub record IsUnderWay (whole : Climb) (work : ℕ) (done : List Step) (m : Machine) : Type 0 where
+pub record HasCome (whole : Climb) (work : ℕ) (done : List Step) (m : Machine) (left : Climb) : Type 0 where
   pub ready : IsReady m
+  pub steps : whole.steps ≡ done ++ left.steps
+  pub local : whole.local ≡ left.local
+  pub net : whole.net ≡ left.net
+  pub looks : length whole.looks ≡ m.counters.looked + length left.looks
+  pub work_is : work + work_of whole.looks ≡ m.session.work + work_of left.looks
+
+-- a climb on its way in a state, in which no trial is open
+pub record IsUnderWay (whole : Climb) (work : ℕ) (done : List Step) (m : Machine) : Type 0 where
   pub closed : m.session.before ≡ None
-  pub steps : whole.steps ≡ done ++ (climb_left m).steps
-  pub local : whole.local ≡ (climb_left m).local
-  pub net : whole.net ≡ (climb_left m).net
-  pub looks : length whole.looks ≡ m.counters.looked + length (climb_left m).looks
-  pub work_is : work + work_of whole.looks ≡ m.session.work + work_of (climb_left m).looks
+  pub come : HasCome whole work done m (climb_left m)
 
 -- a climb that began with some work and is over in a state
 pub record IsOver (whole : Climb) (work : ℕ) (done : List Step) (local : Bool) (m : Machine) : Type 0 where

@@ -1,13 +1,12 @@
 //! A whole climb on a session.
 
-ghost use Rattle.std.specs.Prelude.{◌≡◌, ℕ, ◌+◌, ◌^◌, ◌≤◌, [], length, None};
+ghost use Rattle.std.specs.Prelude.{◌≡◌, ℕ, ◌+◌, ◌^◌, ◌≤◌, length, None};
 ghost use Rattle.transyt_moves.specs.Moves.{move_count};
 ghost use Rattle.transyt_sweep.specs.Climb.{climb};
-ghost use Rattle.transyt_climb.specs.Turns.{start_at, step_then};
+ghost use Rattle.transyt_climb.specs.Turns.{start_at};
 ghost use Rattle.transyt_climb.specs.Way.{climbed};
 
 use crate::climber::Climber;
-use crate::turn::Turn;
 use std::sync::ledger::Ledger;
 use transyt_session::Session;
 use transyt_steps::Steps;
@@ -19,17 +18,6 @@ pub struct Ended {
     pub took: u32,
     /// Whether no move lowers the index; else the budget was spent.
     pub local: bool,
-}
-
-/// How many steps a turn took: one or none.
-fn steps_of(turn: Turn) -> u32
-    ensures value { result ≡ length (step_then turn []) }
-    ensures few { result ≤ 1 }
-{
-    match turn {
-        Turn::Took { .. } => 1,
-        _ => 0,
-    }
 }
 
 /// Climbs from the start to the end.
@@ -57,6 +45,6 @@ pub fn climb_on<L: Ledger>(
                 local: turn.is_local(),
             };
         }
-        took += steps_of(turn);
+        took += turn.step_count();
     }
 }

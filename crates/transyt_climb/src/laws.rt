@@ -30,7 +30,7 @@ pub fn rule_of_way()
     ensures starts { (budget : ℕ) (s : SessionValue) → s.before ≡ None
         → IsUnderWay (climb s.net 0 budget) s.work [] (started budget s) }
     ensures goes_on { (whole : Climb) (work : ℕ) (done : List Step) (m after : Machine) (count : ℕ) (last : Turn)
-        → IsUnderWay whole work done m → IsRound m after count last → is_end last ≡ false
+        → IsUnderWay whole work done m → IsRound m after count last
         → IsUnderWay whole work (done ++ step_then last []) after }
     ensures ends { (whole : Climb) (work : ℕ) (done : List Step) (m after : Machine) (count : ℕ) (last : Turn)
         → IsUnderWay whole work done m → IsRound m after count last → is_end last ≡ true

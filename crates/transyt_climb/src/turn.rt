@@ -1,7 +1,7 @@
 //! The answer of a climber's turn.
 
-ghost use Rattle.std.specs.Prelude.{◌≡◌};
-ghost use Rattle.transyt_climb.specs.Turns.{is_end, is_local};
+ghost use Rattle.std.specs.Prelude.{◌≡◌, ◌≤◌, [], length};
+ghost use Rattle.transyt_climb.specs.Turns.{is_end, is_local, step_then};
 
 use transyt_net::Edit;
 
@@ -31,5 +31,16 @@ impl Turn {
         ensures { result ≡ is_local self }
     {
         matches!(self, Turn::Local)
+    }
+
+    /// How many steps it took: one or none.
+    pub fn step_count(self) -> u32
+        ensures value { result ≡ length (step_then self []) }
+        ensures few { result ≤ 1 }
+    {
+        match self {
+            Turn::Took { .. } => 1,
+            _ => 0,
+        }
     }
 }

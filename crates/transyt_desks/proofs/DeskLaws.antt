@@ -9,7 +9,6 @@ use Rattle.std.proofs.lemmas.List.{get_or-map as get_or-map-at}
 use Rattle.std.proofs.lemmas.List.{append-nil}
 use Rattle.std.proofs.lemmas.Grind.{get_or_after_one}
 use Rattle.std.proofs.Math.Seq.{drop-length, take-length}
-use Rattle.transyt_net.specs.Parts.{Network}
 use Rattle.transyt_net.specs.Shape.{SameShape, shape as shape_word}
 use Rattle.transyt_moves.specs.Moves.{move_count}
 use Rattle.transyt_session.specs.Session.{SessionValue, opened}
@@ -49,7 +48,8 @@ desks_lent sessions s are =
       };
     }
 
-zero_set : (sessions : List SessionValue) (s : SessionValue) → 0 < length sessions → desk_zero (slice_set sessions 0 s) ≡ s
+-- is at desk 0
+pub zero_set : (sessions : List SessionValue) (s : SessionValue) → 0 < length sessions → desk_zero (slice_set sessions 0 s) ≡ s
 zero_set [] s some = absurd (omega arith)
 zero_set (x ∷ xs) s some = refl
 
@@ -97,7 +97,7 @@ pub sessions_more : (desks : List Desk) (s : SessionValue)
     → sessions_of (desks ++ new_desk s ∷ []) ≡ sessions_of desks ++ s ∷ []
 sessions_more desks s = map-append (λ (d : Desk). d.session) desks (new_desk s ∷ [])
 
-opened_at : (s : SessionValue) (n k : ℕ) → 0 < k → k < n → session_at (opened_desks s n) k ≡ opened s.net
+pub opened_at : (s : SessionValue) (n k : ℕ) → 0 < k → k < n → session_at (opened_desks s n) k ≡ opened s.net
 opened_at s n zero some less = absurd (omega arith)
 opened_at s n (suc k) some less = get_or-replicate (n - 1) k (opened s.net) no_session (omega arith)
 
@@ -113,91 +113,56 @@ opened_are s n some few =
       };
     }
 
--- the first desk before others
-joined_first : (xs ys : List Desk) → 0 < length xs → slice_index_or (take 1 xs ++ ys) 0 no_desk ≡ slice_index_or xs 0 no_desk
-joined_first [] ys some = absurd (omega arith)
-joined_first (x ∷ xs) ys some = refl
+-- the first desk alone
+pub first_desk : (desks : List Desk) → 0 < length desks → take 1 desks ≡ slice_index_or desks 0 no_desk ∷ []
+first_desk [] some = absurd (omega arith)
+first_desk (x ∷ xs) some = refl
 
-joined_other : (xs ys : List Desk) (k : ℕ) (d : Desk) → 0 < length xs
-    → slice_index_or (take 1 xs ++ ys) (suc k) d ≡ slice_index_or ys k d
-joined_other [] ys k d some = absurd (omega arith)
-joined_other (x ∷ xs) ys k d some = refl
-
-joined_count : (xs ys : List Desk) → 0 < length xs → length (take 1 xs ++ ys) ≡ length ys + 1
-joined_count [] ys some = absurd (omega arith)
-joined_count (x ∷ xs) ys some = omega arith
-
--- desk 0 with other desks after it is desk 0
-pub joined_zero : (xs ys : List Desk) → 0 < length xs
-    → desk_zero (sessions_of (take 1 xs ++ ys)) ≡ desk_zero (sessions_of xs)
-joined_zero xs ys some =
-    session_is (take 1 xs ++ ys) 0 ∙ ap (λ (d : Desk). d.session) (joined_first xs ys some) ∙ sym (session_is xs 0)
-
--- they are aligned where the others stand for its network
-pub joined_aligned : (xs ys : List Desk) (net : Network) → 0 < length xs → net ≡ (desk_zero (sessions_of xs)).net
-    → ((k : ℕ) (d : Desk) → k < length ys → (slice_index_or ys k d).session.net ≡ net)
-    → AreAligned (sessions_of (take 1 xs ++ ys))
-joined_aligned xs ys net some is all = record { same = same }
+-- a desk and others that stand for its network are aligned
+pub joined_aligned : (x : Desk) (ys : List Desk)
+    → ((k : ℕ) (d : Desk) → k < length ys → (slice_index_or ys k d).session.net ≡ x.session.net)
+    → AreAligned (sessions_of (x ∷ ys))
+joined_aligned x ys all = record { same = same }
   where
-    same : (k : ℕ) → k < length (sessions_of (take 1 xs ++ ys))
-        → (session_at (sessions_of (take 1 xs ++ ys)) k).net ≡ (desk_zero (sessions_of (take 1 xs ++ ys))).net
+    same : (k : ℕ) → k < length (sessions_of (x ∷ ys)) → (session_at (sessions_of (x ∷ ys)) k).net ≡ x.session.net
     same zero less = refl
     same (suc k) less =
-        let inside : k < length ys = omega (arith, sessions_count (take 1 xs ++ ys), joined_count xs ys some) in
-        ap (λ (s : SessionValue). s.net) (session_is (take 1 xs ++ ys) (suc k))
-        ∙ ap (λ (d : Desk). d.session.net) (joined_other xs ys k no_desk some)
-        ∙ all k no_desk inside ∙ is ∙ sym (ap (λ (s : SessionValue). s.net) (joined_zero xs ys some))
+        ap (λ (s : SessionValue). s.net) (session_is ys k) ∙ all k no_desk (omega (arith, less, sessions_count ys))
 
 -- and none but it has a trial where the others have none
-pub joined_closed : (xs ys : List Desk) → 0 < length xs
+pub joined_closed : (x : Desk) (ys : List Desk)
     → ((k : ℕ) (d : Desk) → k < length ys → (slice_index_or ys k d).session.before ≡ None)
-    → OthersClosed (sessions_of (take 1 xs ++ ys))
-joined_closed xs ys some all = record { closed = closed }
+    → OthersClosed (sessions_of (x ∷ ys))
+joined_closed x ys all = record { closed = closed }
   where
-    closed : (k : ℕ) → 0 < k → k < length (sessions_of (take 1 xs ++ ys))
-        → (session_at (sessions_of (take 1 xs ++ ys)) k).before ≡ None
+    closed : (k : ℕ) → 0 < k → k < length (sessions_of (x ∷ ys)) → (session_at (sessions_of (x ∷ ys)) k).before ≡ None
     closed zero other less = absurd (omega arith)
     closed (suc k) other less =
-        let inside : k < length ys = omega (arith, sessions_count (take 1 xs ++ ys), joined_count xs ys some) in
-        ap (λ (s : SessionValue). s.before) (session_is (take 1 xs ++ ys) (suc k))
-        ∙ ap (λ (d : Desk). d.session.before) (joined_other xs ys k no_desk some)
-        ∙ all k no_desk inside
+        ap (λ (s : SessionValue). s.before) (session_is ys k) ∙ all k no_desk (omega (arith, less, sessions_count ys))
 
--- the desks after the first
-pub other_read : (desks : List Desk) (k : ℕ) (d : Desk) → k < length (drop 1 desks)
-    → (slice_index_or (drop 1 desks) k d).session ≡ session_at (sessions_of desks) (k + 1)
-other_read desks k d less =
+-- a desk after the first, by its place among all
+pub record IsOther (desks : List Desk) (k : ℕ) (x : Desk) : Type 0 where
+  pub inside : k + 1 < length (sessions_of desks)
+  pub session : x.session ≡ session_at (sessions_of desks) (k + 1)
+
+pub other_read : (desks back : List Desk) (k : ℕ) (d : Desk) → back ≡ drop 1 desks → k < length back
+    → IsOther desks k (slice_index_or back k d)
+other_read desks back k d is less =
+    let there : k < length (drop 1 desks) = omega (arith, less, ap (λ (ds : List Desk). length ds) is) in
     let next : 1 + k ≡ k + 1 = omega arith in
-    ap (λ (x : Desk). x.session) (get_or_after_one desks k d)
-    ∙ session_read desks (1 + k) d (omega (arith, length-drop 1 desks))
-    ∙ ap (session_at (sessions_of desks)) next
+    record {
+      inside = omega (arith, there, length-drop 1 desks, sessions_count desks);
+      session = ap (λ (ds : List Desk). (slice_index_or ds k d).session) is
+          ∙ ap (λ (x : Desk). x.session) (get_or_after_one desks k d)
+          ∙ session_read desks (1 + k) d (omega (arith, there, length-drop 1 desks))
+          ∙ ap (session_at (sessions_of desks)) next;
+    }
 
 -- another desk in the place of desk 0
 pub lent_sessions : (desks : List Desk) (d : Desk)
     → sessions_of (slice_set desks 0 d) ≡ slice_set (sessions_of desks) 0 d.session
 lent_sessions [] d = refl
 lent_sessions (x ∷ xs) d = refl
-
--- is desk 0
-pub lent_zero : (desks : List Desk) (d : Desk) → 0 < length desks
-    → desk_zero (sessions_of (slice_set desks 0 d)) ≡ d.session
-lent_zero [] d some = absurd (omega arith)
-lent_zero (x ∷ xs) d some = refl
-
--- desk 0 alone is desk 0
-pub first_zero : (desks : List Desk) → desk_zero (sessions_of (take 1 desks)) ≡ desk_zero (sessions_of desks)
-first_zero [] = refl
-first_zero (x ∷ xs) = refl
-
--- a whole list written over another of its length
-pub written_whole : (desks olds : List Desk) (n : ℕ) → length desks ≡ length olds → n ≡ length olds
-    → take n (desks ++ drop (length desks) olds) ≡ desks
-written_whole desks olds n same all =
-    ap (λ k. take n (desks ++ drop k olds)) same
-    ∙ ap (λ xs. take n (desks ++ xs)) (drop-length olds)
-    ∙ ap (take n) (append-nil desks)
-    ∙ ap (λ k. take k desks) (all ∙ sym same)
-    ∙ take-length desks
 
 -- desks whose sessions stayed have the same sessions
 pub same_sessions : (olds news : List Desk) → length news ≡ length olds
@@ -225,12 +190,3 @@ all_closed desks zero d others zero_closed less =
 all_closed desks (suc k) d others zero_closed less =
     ap (λ (s : SessionValue). s.before) (session_read desks (suc k) d less)
     ∙ others.closed (suc k) (omega arith) (omega (arith, sessions_count desks))
-
--- aligned desks keep to what desks keep to, where as many did
-pub followed_desks : (olds news : List SessionValue) → AreDesks olds → length news ≡ length olds → OthersClosed news
-    → AreDesks news
-followed_desks olds news are count closed = record {
-  some = omega (arith, are.some, count);
-  few = omega (arith, are.few, count);
-  others = closed;
-}

@@ -1,11 +1,11 @@
 -- Finds: one try more, and the finds of all desks in the list's order.
-use Rattle.std.proofs.Common.{◌≡◌, ℕ, ◌+◌, ◌*◌, ◌/◌, ◌%◌, ◌<◌, ◌≤◌, List, length, slice_index_or, slice_set, Bool, true, false, nat_lt}
+use Rattle.std.proofs.Common.{◌≡◌, ℕ, ◌+◌, ◌*◌, ◌/◌, ◌%◌, ◌<◌, ◌≤◌, List, length, slice_index_or, slice_set}
 use Rattle.std.proofs.Common.{refl, ap, sym, ◌∙◌, subst, arith}
-use Rattle.std.proofs.lemmas.Bool.Decides.{nat_tests}
 use Rattle.std.proofs.lemmas.List.{get_or-set_other}
 use Rattle.std.proofs.lemmas.Grind.{get_or-set_at}
 use Rattle.std.proofs.Math.Nat.{mod-eq_of_lt}
-use Rattle.std.proofs.lemmas.Nat.{mul-le, mod_below}
+use borrow.Author.Count.{below_more}
+use Rattle.std.proofs.lemmas.Nat.{mod_below}
 use Rattle.transyt_net.specs.Parts.{Network}
 use Rattle.transyt_moves.specs.Moves.{move}
 use Rattle.transyt_track.specs.Work.{edit_work}
@@ -15,64 +15,21 @@ use Rattle.transyt_desks.specs.declared.desk.Desk.{Desk}
 use Rattle.transyt_desks.specs.declared.stretch.Reach.{Reach}
 use Rattle.transyt_desks.specs.Stretches.{IsReach, place_at}
 use Rattle.transyt_desks.specs.Desks.{desk_zero, no_desk, sessions_of, AreAligned}
-use Rattle.transyt_desks.specs.Finds.{AreFinds, AreFound, AreTriesAt, HasFound, turn_place}
+use Rattle.transyt_desks.specs.Finds.{AreFinds, AreFound, AreTriesAt, HasFound}
 use Rattle.transyt_desks.proofs.DeskLaws.{session_is, sessions_count}
-
--- no move was tried yet
-pub tries_none : (net : Network) (places : ℕ → ℕ) (tries : List Tried) → AreTriesAt net places 0 tries
-tries_none net places tries = record {
-  each = λ k d less. absurd (omega arith);
-  few = λ k less. absurd (omega arith);
-}
 
 -- one try more
 pub tries_more : (net : Network) (places : ℕ → ℕ) (n : ℕ) (tries : List Tried) (t : Tried) → n < length tries
     → AreTriesAt net places n tries → t ≡ try_of net (move net (places n)) → edit_work net (move net (places n)) ≤ 8000
     → AreTriesAt net places (n + 1) (slice_set tries n t)
-tries_more net places n tries t inside are is small = record { each = each; few = few }
-  where
-    each : (k : ℕ) (d : Tried) → k < n + 1 → slice_index_or (slice_set tries n t) k d ≡ try_of net (move net (places k))
-    each k d less = by (nat_lt k n) refl
-      where
-        by : (b : Bool) → nat_lt k n ≡ b → slice_index_or (slice_set tries n t) k d ≡ try_of net (move net (places k))
-        by true fewer =
-            let before : k < n = grind (arith, nat_tests) in
-            get_or-set_other tries n k t d (λ same. absurd (omega (arith, same, before))) ∙ are.each k d before
-        by false last =
-            let past : n ≤ k = grind (arith, nat_tests) in
-            let same : k ≡ n = omega (arith, past, less) in
-            get_or-set_at tries n k t d same inside ∙ is ∙ ap (λ j. try_of net (move net (places j))) (sym same)
-
-    few : (k : ℕ) → k < n + 1 → edit_work net (move net (places k)) ≤ 8000
-    few k less = by (nat_lt k n) refl
-      where
-        by : (b : Bool) → nat_lt k n ≡ b → edit_work net (move net (places k)) ≤ 8000
-        by true fewer =
-            let before : k < n = grind (arith, nat_tests) in
-            are.few k before
-        by false last =
-            let past : n ≤ k = grind (arith, nat_tests) in
-            let same : k ≡ n = omega (arith, past, less) in
-            subst (λ j. edit_work net (move net (places j)) ≤ 8000) (sym same) small
-
--- a turn that comes within the room is one before a turn that doesn't
-before_turn : (desk desks room last turn : ℕ) → room ≤ desk + last * desks → desk + turn * desks < room → turn < last
-before_turn desk desks room last turn past inside = by (nat_lt turn last) refl
-  where
-    by : (b : Bool) → nat_lt turn last ≡ b → turn < last
-    by true fewer = grind (arith, nat_tests)
-    by false more =
-        let after : last ≤ turn = grind (arith, nat_tests) in
-        absurd (omega (arith, past, inside, mul-le last desks turn desks after (omega arith)))
-
--- the tries of all turns are those of a desk
-pub finds_all : (net : Network) (reach : Reach) (desk last : ℕ) (finds : List Tried)
-    → AreTriesAt net (turn_place reach desk) last finds → reach.room ≤ desk + last * reach.desks
-    → AreFinds net reach desk finds
-finds_all net reach desk last finds are past = record {
-  each = λ turn d inside. are.each turn d (before_turn desk reach.desks reach.room last turn past inside);
-  few = λ turn inside. are.few turn (before_turn desk reach.desks reach.room last turn past inside);
-}
+tries_more net places n tries t inside are is small =
+    let P : ℕ → Type 0 = λ k. (d : Tried) → slice_index_or (slice_set tries n t) k d ≡ try_of net (move net (places k)) in
+    record {
+      each = λ k d less. below_more P n
+          (λ k fewer d. get_or-set_other tries n k t d (λ same. absurd (omega (arith, same, fewer))) ∙ are.each k d fewer)
+          (λ d. get_or-set_at tries n n t d refl inside ∙ is) k less d;
+      few = below_more (λ k. edit_work net (move net (places k)) ≤ 8000) n are.few small;
+    }
 
 -- the desk and the turn of the move with a number
 pub record IsTurnOf (reach : Reach) (number : ℕ) : Type 0 where

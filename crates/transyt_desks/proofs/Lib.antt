@@ -7,5 +7,4 @@ pub mod ShapeLaws
 pub mod StretchLaws
 pub mod RoundLaws
 pub mod WorkedLaws
-pub mod WorkedDeskLaws
 pub mod WorkedFindLaws

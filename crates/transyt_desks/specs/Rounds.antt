@@ -9,7 +9,7 @@ use Rattle.transyt_climb.specs.declared.turn.Turn.TheVariants.{Took, Passed, Loc
 use Rattle.transyt_climb.specs.Turns.{Counters, Machine, machine, answer_of, turns, is_end}
 use Rattle.transyt_climb.specs.Way.{IsRound}
 use Rattle.transyt_desks.specs.declared.policy.TheConstants.{PLACES_ALONE, PLACES_FOR_ONE, MOST_PLACES}
-use Rattle.transyt_desks.specs.declared.settling.Round.{Round}
+use Rattle.transyt_desks.specs.declared.turns.Round.{Round}
 use Rattle.transyt_desks.specs.declared.stretch.Reach.{Reach}
 use Rattle.transyt_desks.specs.Stretches.{IsReach}
 use Rattle.transyt_desks.specs.Desks.{desk_zero, with_zero}
@@ -29,10 +29,6 @@ up_to (Some r) n = r + 1
 -- the turns up to and with the first of n that takes a step, or all n
 unfoldable pub turns_up_to : ℕ → Machine → ℕ
 turns_up_to n m = up_to (least (λ r. is_took (answer_of (turns r m))) n) n
-
--- work grows by no more than the most work of an edit a turn
-abbrev pub AddsLittle : ℕ → ℕ → ℕ → Type 0
-AddsLittle before after turns = after ≤ before + 8000 * turns
 
 -- how many places are tried at once: one a worker, and none past the budget or a whole round of the list
 abbrev pub room_of : ℕ → Counters → ℕ
@@ -76,7 +72,7 @@ pub record MakesRound (places : ℕ) (before after : Machine) (result : Round) :
   pub turns : result.turns ≡ turns_of places before
   pub kept : after.counters.count ≡ move_count after.session.net
   pub closed : after.session.before ≡ None
-  pub few : AddsLittle before.session.work after.session.work result.turns
+  pub few : after.session.work ≤ before.session.work + 8000 * result.turns
 
 -- a round at desk 0: the other desks stay as they are
 pub record RoundsDesks (places : ℕ) (before : Counters) (olds : List SessionValue) (after : Counters) (news : List SessionValue)

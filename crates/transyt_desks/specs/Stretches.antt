@@ -32,11 +32,12 @@ passing s work = record { passed = s.passed + 1; work = s.work + work; lowers = 
 abbrev pub lowering : Stretch → Stretch
 lowering s = record { passed = s.passed; work = s.work; lowers = true }
 
--- a stretch after one try more
-abbrev pub after_try : Network → ℕ → Stretch → Stretch
-after_try net place s = if lowers net place then lowering s else passing s (edit_work net (move net place))
+-- the work of a try: none where the move is barred
+abbrev pub work_found : Tried → ℕ
+work_found Barred = 0
+work_found (Index index work) = work
 
--- the same, by the try, where the network has this index
+-- a stretch after one try more, by the try, where the network has this index
 abbrev pub after_found : ℕ → Tried → Stretch → Stretch
 after_found limit Barred s = passing s 0
 after_found limit (Index found work) s = if nat_lt found limit then lowering s else passing s work
@@ -47,13 +48,12 @@ work_before net place count zero = 0
 work_before net place count (suc n) =
     work_before net place count n + edit_work net (move net (place_at place count n))
 
--- the moves of a network with the numbers from one to before another, tried in the list's order up to the first that lowers
--- the index
-pub record IsStretch (net : Network) (place count from to : ℕ) (s : Stretch) : Type 0 where
-  pub inside : from + s.passed ≤ to
-  pub passes : (k : ℕ) → from ≤ k → k < from + s.passed → lowers net (place_at place count k) ≡ false
-  pub work : work_before net place count from + s.work ≡ work_before net place count (from + s.passed)
+-- the first moves of a network from a place on, tried in the list's order up to the first that lowers the index
+pub record IsStretch (net : Network) (place count to : ℕ) (s : Stretch) : Type 0 where
+  pub inside : s.passed ≤ to
+  pub passes : (k : ℕ) → k < s.passed → lowers net (place_at place count k) ≡ false
+  pub work : s.work ≡ work_before net place count s.passed
   pub few : s.work ≤ 8000 * s.passed
-  pub next : s.lowers ≡ true → from + s.passed < to
-  pub found : s.lowers ≡ true → lowers net (place_at place count (from + s.passed)) ≡ true
-  pub whole : s.lowers ≡ false → from + s.passed ≡ to
+  pub next : s.lowers ≡ true → s.passed < to
+  pub found : s.lowers ≡ true → lowers net (place_at place count s.passed) ≡ true
+  pub whole : s.lowers ≡ false → s.passed ≡ to

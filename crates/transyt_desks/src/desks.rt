@@ -3,19 +3,22 @@
 ghost use Rattle.std.specs.Prelude.{◌≡◌, ℕ, ◌+◌, ◌*◌, ◌^◌, ◌<◌, ◌≤◌, ◌↔◌, [], ◌∷◌, ◌++◌, length, None, true, false, IfOk, OnOk, IsTrue};
 ghost use Rattle.std.specs.Borrow.{sem};
 ghost use Rattle.transyt_climb.specs.Turns.{machine};
-ghost use Rattle.transyt_desks.specs.Desks.{desk_zero, new_desk, opened_desks, sessions_of, AreAligned, AreAlike, AreDesks};
+ghost use Rattle.transyt_desks.specs.Desks.{desk_zero, new_desk, opened_desks, AreAligned, AreAlike};
 ghost use Rattle.transyt_desks.specs.Finds.{AreTriesOf};
 ghost use Rattle.transyt_desks.specs.Lends.{LendsZero};
 ghost use Rattle.transyt_moves.specs.Moves.{move_count};
 ghost use Rattle.transyt_session.specs.Session.{SessionValue};
 ghost use Rattle.transyt_desks.specs.Rounds.{places_of, CanRound, MakesRound};
+ghost use Rattle.transyt_desks.specs.Stretches.{IsReach, IsStretch};
 
 use crate::crew::Crew;
 use crate::desk::{Desk, all_same, follow_zero};
-use crate::finding::find_moves;
+use crate::finding::{find_moves, try_reach};
 use crate::gate::Gate;
-use crate::rounds::{aligned_round, alike_round};
-use crate::settling::Round;
+use crate::policy::{each, goes_alone};
+use crate::rounds::{alone, together};
+use crate::stretch::{Reach, Stretch};
+use crate::turns::Round;
 use std::alloc::{AllocError, Global};
 use std::marker::Model;
 use std::sync::ledger::Ledger;
@@ -76,6 +79,25 @@ impl Desks {
         &mut desk.session
     }
 
+    /// How many desks there are.
+    pub(crate) fn count(&self) -> usize
+        ensures value { result ≡ length self.now }
+        ensures some { 0 < result }
+        ensures few { result ≤ 8 }
+    {
+        self.desks.len()
+    }
+
+    /// Lets every other desk stand for the network of desk 0.
+    fn follow<R: Threads + Sync>(&mut self, rt: &R)
+        requires shape { AreAlike self.old }
+        ensures aligned { AreAligned self.new }
+        ensures zero { desk_zero self.new ≡ desk_zero self.old }
+        ensures workers { length self.new ≡ length self.old }
+    {
+        follow_zero(rt, self.desks.as_mut_slice());
+    }
+
     /// Lets every other desk stand for the network of desk 0. It takes no memory, and does nothing with one desk.
     pub fn align<R: Threads + Sync, L: Ledger>(&mut self, rt: &R, steps: &mut Steps<L>)
         requires shape { AreAlike self.old }
@@ -84,7 +106,7 @@ impl Desks {
         ensures workers { length self.new ≡ length self.old }
         ensures alone { length self.old ≡ 1 → steps.new ≡ steps.old }
     {
-        follow_zero(rt, self.desks.as_mut_slice());
+        self.follow(rt);
     }
 
     /// Whether every desk stands for the network of desk 0.
@@ -117,7 +139,25 @@ impl Desks {
         ensures alike { AreAlike self.new }
         ensures workers { length self.new ≡ length self.old }
     {
-        try_alike(&Crew { rt, gate }, self.desks.as_mut_slice(), from, tries);
+        self.follow(rt);
+        find_moves(&Crew { rt, gate }, self.desks.as_mut_slice(), from, tries);
+    }
+
+    /// Tries the moves of a reach at desks that stand for one network, all at once, and gives them as a stretch.
+    pub(crate) fn try_reach<R: Threads + Sync, G: Gate>(
+        &mut self,
+        crew: &Crew<'_, R, G>,
+        reach: Reach,
+    ) -> Stretch
+        requires reach { IsReach reach }
+        requires desks { reach.desks ≡ length self.old }
+        requires aligned { AreAligned self.old }
+        requires moves { reach.count ≡ move_count (desk_zero self.old).net }
+        requires closed { (desk_zero self.old).before ≡ None }
+        ensures same { self.new ≡ self.old }
+        ensures tried { IsStretch (desk_zero self.old).net reach.place reach.count reach.room result }
+    {
+        try_reach(crew, self.desks.as_mut_slice(), reach)
     }
 
     /// A round: the next moves of the list are tried at once, one at each desk, and the first of them that lowers the
@@ -142,12 +182,12 @@ impl Desks {
         ensures steps { length self.old ≡ 1
             → steps.new + (desk_zero self.old).work ≡ steps.old + (desk_zero self.new).work }
     {
-        aligned_round(
-            &Crew { rt, gate },
-            self.desks.as_mut_slice(),
-            climber,
-            steps,
-        )
+        if self.count() == 1 {
+            return alone(gate, self, climber, steps);
+        }
+        let round = together(&Crew { rt, gate }, self, 1, climber, steps);
+        self.follow(rt);
+        round
     }
 
     /// A round in which desk 0 goes on alone for a while after a step, and then the desks try the next moves in turn, the
@@ -173,36 +213,12 @@ impl Desks {
         ensures steps { length self.old ≡ 1
             → steps.new + (desk_zero self.old).work ≡ steps.old + (desk_zero self.new).work }
     {
-        alike_round(
-            &Crew { rt, gate },
-            self.desks.as_mut_slice(),
-            climber,
-            steps,
-        )
+        if goes_alone(self.count(), climber) {
+            return alone(gate, self, climber, steps);
+        }
+        self.follow(rt);
+        together(&Crew { rt, gate }, self, each(climber), climber, steps)
     }
-}
-
-/// Tries consecutive moves from a place on at desks whose networks have one shape, all at once.
-fn try_alike<R: Threads + Sync, G: Gate>(
-    crew: &Crew<'_, R, G>,
-    desks: &mut [Desk],
-    from: u32,
-    tries: &mut [Tried],
-)
-    requires desks { AreDesks (sessions_of desks.old) }
-    requires alike { AreAlike (sessions_of desks.old) }
-    requires closed { (desk_zero (sessions_of desks.old)).before ≡ None }
-    requires places { from + length tries.old ≤ move_count (desk_zero (sessions_of desks.old)).net }
-    requires few { length tries.old ≤ 32 * length desks.old }
-    ensures tried { AreTriesOf (desk_zero (sessions_of desks.old)).net from (length tries.old) tries.new }
-    ensures count { length tries.new ≡ length tries.old }
-    ensures zero { desk_zero (sessions_of desks.new) ≡ desk_zero (sessions_of desks.old) }
-    ensures desks { AreDesks (sessions_of desks.new) }
-    ensures alike { AreAlike (sessions_of desks.new) }
-    ensures len { length desks.new ≡ length desks.old }
-{
-    follow_zero(crew.rt, desks);
-    find_moves(crew, desks, from, tries);
 }
 
 /// Adds a desk with this session.

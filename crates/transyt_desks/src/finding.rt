@@ -167,7 +167,7 @@ fn first_lower(desks: &[Desk], reach: Reach, limit: u128) -> Stretch
     requires reach { IsReach reach }
     requires limit { limit ≡ index (desk_zero (sessions_of desks.now)).net }
     requires found { AreFound reach desks.now }
-    ensures { IsStretch (desk_zero (sessions_of desks.now)).net reach.place reach.count 0 reach.room result }
+    ensures { IsStretch (desk_zero (sessions_of desks.now)).net reach.place reach.count reach.room result }
 {
     let mut stretch = untried();
     for number in 0..reach.room {
@@ -197,7 +197,7 @@ pub(crate) fn try_reach<R: Threads + Sync, G: Gate>(
     requires closed { (desk_zero (sessions_of desks.old)).before ≡ None }
     ensures len { length desks.new ≡ length desks.old }
     ensures sessions { sessions_of desks.new ≡ sessions_of desks.old }
-    ensures tried { IsStretch (desk_zero (sessions_of desks.old)).net reach.place reach.count 0 reach.room result }
+    ensures tried { IsStretch (desk_zero (sessions_of desks.old)).net reach.place reach.count reach.room result }
 {
     find_reach(crew, desks, reach);
     let limit = desks[0].session.index();

@@ -22,14 +22,14 @@ mod gate;
 mod laws;
 mod policy;
 mod rounds;
-mod settling;
 mod stretch;
+mod turns;
 
 pub use climbing::climb_by_rounds;
 pub use desks::Desks;
 pub use gate::{Gate, OpenGate};
 pub use laws::{worked_desks, worked_rounds};
-pub use settling::Round;
+pub use turns::Round;
 
 #[cfg(test)]
 mod tests;

@@ -1,18 +1,16 @@
-//! The rounds of desks.
+//! A round of desks: one turn at desk 0, or moves that every desk tries.
 
 ghost use Rattle.std.specs.Prelude.{◌≡◌, ℕ, ◌+◌, ◌*◌, ◌<◌, ◌≤◌, length, true, false};
 ghost use Rattle.transyt_climb.specs.Turns.{machine};
 ghost use Rattle.transyt_session.specs.Session.{SessionValue};
-ghost use Rattle.transyt_desks.specs.Desks.{desk_zero, sessions_of, AreAligned, AreAlike, AreDesks};
-ghost use Rattle.transyt_desks.specs.Rounds.{places_of, turns_of, CanRound, IsReachOf, MakesRound, RoundsDesks};
+ghost use Rattle.transyt_desks.specs.Desks.{desk_zero, AreAligned};
+ghost use Rattle.transyt_desks.specs.Rounds.{turns_of, CanRound, IsReachOf, RoundsDesks};
 
 use crate::crew::Crew;
-use crate::desk::{Desk, follow_zero};
-use crate::finding::try_reach;
+use crate::desks::Desks;
 use crate::gate::Gate;
-use crate::policy::{each, goes_alone};
-use crate::settling::{Round, settle, take_turn};
 use crate::stretch::Reach;
+use crate::turns::{Round, make_turn, make_turns};
 use std::sync::ledger::Ledger;
 use std::thread::Threads;
 use transyt_climb::Climber;
@@ -29,35 +27,31 @@ fn is_over(climber: &Climber) -> bool
 
 /// A round of one turn at desk 0, of which so many places are one. The other desks stay as they are.
 fn turn_zero<L: Ledger>(
-    desks: &mut [Desk],
+    desks: &mut Desks,
     climber: &mut Climber,
     places: u32,
     steps: &mut Steps<L>,
 ) -> Round
     requires some { 0 < length desks.old }
-    requires ready { CanRound climber.old (desk_zero (sessions_of desks.old)) }
-    requires one { turns_of places (machine climber.old (desk_zero (sessions_of desks.old))) ≡ 1 }
-    ensures made { RoundsDesks places climber.old (sessions_of desks.old) climber.new (sessions_of desks.new) result }
-    ensures len { length desks.new ≡ length desks.old }
-    ensures steps { steps.new + (desk_zero (sessions_of desks.old)).work
-        ≡ steps.old + (desk_zero (sessions_of desks.new)).work }
+    requires ready { CanRound climber.old (desk_zero desks.old) }
+    requires one { turns_of places (machine climber.old (desk_zero desks.old)) ≡ 1 }
+    ensures made { RoundsDesks places climber.old desks.old climber.new desks.new result }
+    ensures steps { steps.new + (desk_zero desks.old).work ≡ steps.old + (desk_zero desks.new).work }
 {
-    take_turn(climber, &mut desks[0].session, places, steps)
+    make_turn(climber, desks.session_mut(), places, steps)
 }
 
 /// A round of one turn at desk 0, which passes the gate.
-fn alone<G: Gate, L: Ledger>(
+pub(crate) fn alone<G: Gate, L: Ledger>(
     gate: &G,
-    desks: &mut [Desk],
+    desks: &mut Desks,
     climber: &mut Climber,
     steps: &mut Steps<L>,
 ) -> Round
     requires some { 0 < length desks.old }
-    requires ready { CanRound climber.old (desk_zero (sessions_of desks.old)) }
-    ensures made { RoundsDesks 1 climber.old (sessions_of desks.old) climber.new (sessions_of desks.new) result }
-    ensures len { length desks.new ≡ length desks.old }
-    ensures steps { steps.new + (desk_zero (sessions_of desks.old)).work
-        ≡ steps.old + (desk_zero (sessions_of desks.new)).work }
+    requires ready { CanRound climber.old (desk_zero desks.old) }
+    ensures made { RoundsDesks 1 climber.old desks.old climber.new desks.new result }
+    ensures steps { steps.new + (desk_zero desks.old).work ≡ steps.old + (desk_zero desks.new).work }
 {
     if is_over(climber) {
         return turn_zero(desks, climber, 1, steps);
@@ -86,103 +80,26 @@ fn reach_of(climber: &Climber, places: u32, desks: usize) -> Reach
     }
 }
 
-/// A round in which every desk tries moves.
-fn together<R: Threads + Sync, G: Gate, L: Ledger>(
+/// A round in which every desk tries so many moves, or the end of the climb.
+pub(crate) fn together<R: Threads + Sync, G: Gate, L: Ledger>(
     crew: &Crew<'_, R, G>,
-    desks: &mut [Desk],
+    desks: &mut Desks,
     each: u32,
     climber: &mut Climber,
     steps: &mut Steps<L>,
 ) -> Round
-    requires desks { AreDesks (sessions_of desks.old) }
-    requires aligned { AreAligned (sessions_of desks.old) }
-    requires ready { CanRound climber.old (desk_zero (sessions_of desks.old)) }
+    requires aligned { AreAligned desks.old }
+    requires ready { CanRound climber.old (desk_zero desks.old) }
     requires some { 0 < each }
     requires few { each ≤ 64 }
-    requires since { climber.old.since < climber.old.count }
-    requires looked { climber.old.looked < climber.old.budget }
-    ensures made { RoundsDesks (length desks.old * each) climber.old (sessions_of desks.old) climber.new
-        (sessions_of desks.new) result }
-    ensures len { length desks.new ≡ length desks.old }
+    ensures { RoundsDesks (length desks.old * each) climber.old desks.old climber.new desks.new result }
 {
-    let places = desks.len() as u32 * each;
-    let reach = reach_of(climber, places, desks.len());
-    let tried = try_reach(crew, desks, reach);
-    settle(climber, &mut desks[0].session, tried, places, steps)
-}
-
-/// A round in which every desk tries moves, or the end of the climb.
-fn round_on<R: Threads + Sync, G: Gate, L: Ledger>(
-    crew: &Crew<'_, R, G>,
-    desks: &mut [Desk],
-    each: u32,
-    climber: &mut Climber,
-    steps: &mut Steps<L>,
-) -> Round
-    requires desks { AreDesks (sessions_of desks.old) }
-    requires aligned { AreAligned (sessions_of desks.old) }
-    requires ready { CanRound climber.old (desk_zero (sessions_of desks.old)) }
-    requires some { 0 < each }
-    requires few { each ≤ 64 }
-    ensures made { RoundsDesks (length desks.old * each) climber.old (sessions_of desks.old) climber.new
-        (sessions_of desks.new) result }
-    ensures len { length desks.new ≡ length desks.old }
-{
+    let count = desks.count();
+    let places = count as u32 * each;
     if is_over(climber) {
-        let places = desks.len() as u32 * each;
         return turn_zero(desks, climber, places, steps);
     }
-    together(crew, desks, each, climber, steps)
-}
-
-/// A round of desks that stand for one network, before it and after it, in which each tries one move.
-pub(crate) fn aligned_round<R: Threads + Sync, G: Gate, L: Ledger>(
-    crew: &Crew<'_, R, G>,
-    desks: &mut [Desk],
-    climber: &mut Climber,
-    steps: &mut Steps<L>,
-) -> Round
-    requires desks { AreDesks (sessions_of desks.old) }
-    requires aligned { AreAligned (sessions_of desks.old) }
-    requires ready { CanRound climber.old (desk_zero (sessions_of desks.old)) }
-    ensures made { MakesRound (length desks.old) (machine climber.old (desk_zero (sessions_of desks.old)))
-        (machine climber.new (desk_zero (sessions_of desks.new))) result }
-    ensures desks { AreDesks (sessions_of desks.new) }
-    ensures aligned { AreAligned (sessions_of desks.new) }
-    ensures len { length desks.new ≡ length desks.old }
-    ensures steps { length desks.old ≡ 1 → steps.new + (desk_zero (sessions_of desks.old)).work
-        ≡ steps.old + (desk_zero (sessions_of desks.new)).work }
-{
-    if desks.len() == 1 {
-        return alone(crew.gate, desks, climber, steps);
-    }
-    let round = round_on(crew, desks, 1, climber, steps);
-    follow_zero(crew.rt, desks);
-    round
-}
-
-/// A round of desks whose networks have one shape, in which desk 0 goes on alone, or every desk tries moves.
-pub(crate) fn alike_round<R: Threads + Sync, G: Gate, L: Ledger>(
-    crew: &Crew<'_, R, G>,
-    desks: &mut [Desk],
-    climber: &mut Climber,
-    steps: &mut Steps<L>,
-) -> Round
-    requires desks { AreDesks (sessions_of desks.old) }
-    requires alike { AreAlike (sessions_of desks.old) }
-    requires ready { CanRound climber.old (desk_zero (sessions_of desks.old)) }
-    ensures made { MakesRound (places_of (length desks.old) climber.old)
-        (machine climber.old (desk_zero (sessions_of desks.old)))
-        (machine climber.new (desk_zero (sessions_of desks.new))) result }
-    ensures desks { AreDesks (sessions_of desks.new) }
-    ensures alike { AreAlike (sessions_of desks.new) }
-    ensures len { length desks.new ≡ length desks.old }
-    ensures steps { length desks.old ≡ 1 → steps.new + (desk_zero (sessions_of desks.old)).work
-        ≡ steps.old + (desk_zero (sessions_of desks.new)).work }
-{
-    if goes_alone(desks.len(), climber) {
-        return alone(crew.gate, desks, climber, steps);
-    }
-    follow_zero(crew.rt, desks);
-    round_on(crew, desks, each(climber), climber, steps)
+    let reach = reach_of(climber, places, count);
+    let tried = desks.try_reach(crew, reach);
+    make_turns(climber, desks.session_mut(), tried, places, steps)
 }

@@ -3,9 +3,8 @@
 ghost use Rattle.std.specs.Prelude.{◌≡◌, ℕ, ◌+◌, ◌^◌, ◌<◌, ◌≤◌, None};
 ghost use Rattle.transyt_moves.specs.Moves.{move, move_count};
 ghost use Rattle.transyt_track.specs.Work.{edit_work};
-ghost use Rattle.transyt_session.specs.declared.answers.Tried.TheVariants.{Index};
 ghost use Rattle.transyt_session.specs.Session.{try_of};
-ghost use Rattle.transyt_desks.specs.Stretches.{IsReach, after_found, passing, place_at, untried};
+ghost use Rattle.transyt_desks.specs.Stretches.{IsReach, after_found, passing, place_at, untried, work_found};
 
 use std::marker::Brand;
 use std::sync::ledger::{Blank, Ledger};
@@ -100,8 +99,7 @@ pub(crate) fn try_at(session: &mut Session, place: u32) -> Tried
 /// A stretch with one try more; `limit` is the index of the network.
 pub(crate) fn after_find(stretch: Stretch, found: Tried, limit: u128) -> Stretch
     requires passed { stretch.passed + 1 < 2 ^ 32 }
-    requires work { (index work : ℕ) → found ≡ Index index work → stretch.work + work < 2 ^ 64 }
-    requires small { stretch.work < 2 ^ 64 }
+    requires work { stretch.work + work_found found < 2 ^ 64 }
     ensures { result ≡ after_found limit found stretch }
 {
     match found {

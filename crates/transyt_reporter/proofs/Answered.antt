@@ -129,11 +129,3 @@ command_cost (Ok e) s after before line steps steps_new is state spent =
     let work : after.work ≡ (session_after s line).work = ap (λ (t : SessionValue). t.work) state in
     subst P is (omega (arith, spent, work, line_more s line))
 command_cost (Err stop) s after before line steps steps_new is state spent = tt
-
--- what holds where a call went well
-pub at_ok : {T E P : Type 0} (result : Result T E) (v : T) → result ≡ Ok v → OnOk result P → P
-at_ok {T} {E} {P} result v is h = let Q : Result T E → Type 0 = λ r. OnOk r P in subst Q is h
-
--- and of its value
-pub at_value : {T E : Type 0} (F : T → Type 0) (result : Result T E) (v : T) → result ≡ Ok v → IfOk result F → F v
-at_value {T} {E} F result v is h = let Q : Result T E → Type 0 = λ r. IfOk r F in subst Q is h

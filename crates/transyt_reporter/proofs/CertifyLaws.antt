@@ -1,19 +1,16 @@
 -- The lines of consecutive places, and the session after them.
-use Rattle.std.proofs.Common.{◌≡◌, ℕ, zero, suc, ◌+◌, ◌-◌, ◌*◌, ◌<◌, ◌≤◌, List, [], ◌∷◌, ◌++◌, Option, None, Some, Result, Ok, Err, OnOk}
-use Rattle.std.proofs.Common.{refl, sym, ◌∙◌, ap, subst, arith, append_assoc, flat_map}
+use Rattle.std.proofs.Common.{◌≡◌, ℕ, zero, suc, ◌+◌, ◌-◌, ◌<◌, ◌≤◌, List, ◌∷◌, ◌++◌, Option, Result, Ok, Err, OnOk}
+use Rattle.std.proofs.Common.{refl, sym, ◌∙◌, ap, arith, append_assoc, flat_map}
 use Rattle.std.proofs.lemmas.Grind.{flat_map-append}
 use Rattle.std.specs.List.{range_with_len}
 use Rattle.std.specs.Result.{IsErr}
 use Rattle.transyt_io.proofs.Told.{adds_both}
-use Rattle.transyt_net.specs.declared.edit.Edit.{Edit}
-use Rattle.transyt_net.specs.declared.edit.EditFault.{EditFault}
 use Rattle.transyt_net.specs.Parts.{Network}
-use Rattle.transyt_net.specs.EditFaults.{edit_fault}
 use Rattle.transyt_moves.specs.Moves.{move, move_count}
 use Rattle.transyt_sweep.specs.Sweeps.{index}
-use Rattle.transyt_track.specs.Work.{work_with, edit_work, cert_work}
+use Rattle.transyt_track.specs.Work.{edit_work, cert_work}
 use Rattle.transyt_session.specs.declared.answers.Tried.{Tried}
-use Rattle.transyt_session.specs.Session.{SessionValue, tried_with, try_of, credited}
+use Rattle.transyt_session.specs.Session.{SessionValue, try_of, credited}
 use Rattle.transyt_text.specs.Prints.{Prints, Printed}
 use Rattle.transyt_text.proofs.PrintLaws.{prints_both, prints_front, prints_same, adds_same}
 use Rattle.transyt_cert.specs.Certificate.{place_text, last_text, cert_text}
@@ -23,17 +20,10 @@ use Rattle.transyt_answers.specs.Commands.{after_answer}
 use Rattle.transyt_answers.proofs.CertLaws.{cert_more}
 use Rattle.std.specs.Prelude.{slice_index_or}
 use Rattle.transyt_desks.specs.Finds.{AreTriesOf}
-use Rattle.transyt_reporter.specs.Certifying.{HasCertified, places_text, work_found}
-
--- the work that a try found is that of its edit, by its fault
-found_work : (net : Network) (e : Edit) (fault : Option EditFault)
-    → work_found (tried_with net e fault) ≡ work_with net e fault
-found_work net e None = refl
-found_work net e (Some fault) = refl
-
--- and so of any edit
-pub try_work : (net : Network) (e : Edit) → work_found (try_of net e) ≡ edit_work net e
-try_work net e = found_work net e (edit_fault net e)
+use Rattle.transyt_desks.specs.Stretches.{work_found}
+use Rattle.transyt_desks.proofs.TriedLaws.{try_work}
+use Rattle.transyt_reporter.specs.Certifying.{HasCertified, places_text}
+use Rattle.transyt_reporter.proofs.ClimbTexts.{whole}
 
 -- the work of a try is little
 pub try_few : (net : Network) (from count : ℕ) (tries : List Tried) (k : ℕ) (d : Tried) → AreTriesOf net from count tries
@@ -60,15 +50,6 @@ pub places_both : (net : Network) (from first second both next : ℕ) → both �
 places_both net from first second both next both_is next_is =
     ap (flat_map (place_text net)) (range_both from first second both next both_is next_is)
     ∙ flat_map-append (place_text net) (range_with_len from first) (range_with_len next second)
-
--- what was written, as a call that went well
-whole : {T E : Type 0} (v : T) {a b : Option (List ℕ)} {f g : ℕ} (text : List ℕ) → Printed a b f g text
-    → Prints {T = T} {E = E} a b f g (Ok v) text
-whole v text so_far = record {
-  ok = so_far.adds;
-  err = tt;
-  cause = record { later = so_far.later; failed = tt };
-}
 
 -- the lines of a batch more are written
 pub batch_printed : {T E : Type 0} {v : T} (net : Network) (from count next : ℕ) (a b c : Option (List ℕ)) {f g h : ℕ}

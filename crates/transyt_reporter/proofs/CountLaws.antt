@@ -1,22 +1,18 @@
 -- How many lines a deck is read from.
-use Rattle.std.proofs.Common.{◌≡◌, ℕ, ◌+◌, ◌≤◌, List, Result, Ok, Err, refl, arith}
+use Rattle.std.proofs.Common.{◌≡◌, ℕ, ◌+◌, ◌<◌, ◌≤◌, List, Result, Ok, Err, refl, ap, arith}
 use Rattle.transyt_syntax.specs.declared.code.Code.{Code}
 use Rattle.transyt_deck.specs.declared.state.Part.TheVariants as p
 use Rattle.transyt_deck.specs.declared.state.State.{State}
 use Rattle.transyt_deck.specs.declared.state.State.TheVariants as s
 use Rattle.transyt_deck.specs.State.{state_after}
+use Rattle.transyt_deck.specs.Reader.{ReaderValue}
+use Rattle.transyt_reporter.specs.Reporter.{ReporterValue, IsReporter, reporter_of}
 use Rattle.transyt_deck.specs.Deck.{Deck, Refused, Complete, Open, deck_at, deck_by, next, line_count}
 
 -- a deck at a line
 count_at : (n : ℕ) (state : State) → line_count (deck_at n state) ≡ n
-count_at n s.Start = refl
-count_at n (s.Formed form) = refl
 count_at n (s.Making form p.Frame net) = refl
-count_at n (s.Making form p.Nodes net) = refl
-count_at n (s.Making form p.Links net) = refl
-count_at n (s.Making form p.Feeds net) = refl
-count_at n (s.Making form p.Plan net) = refl
-count_at n (s.Making form p.End net) = refl
+count_at n state = refl
 
 -- by the state after it or its code
 count_by : (n : ℕ) (r : Result State Code) → line_count (deck_by n r) ≡ n
@@ -28,3 +24,13 @@ pub count_next : (deck : Deck) (line : List ℕ) → line_count (next deck line)
 count_next (Refused number code) line = omega arith
 count_next (Complete number net) line = omega arith
 count_next (Open count state) line = let is = count_by (count + 1) (state_after state line) in omega (arith, is)
+
+-- a reporter whose reader has taken one line more, where it has counted it
+pub taken_reporter : (r : ReporterValue) (after : ReaderValue) (line : List ℕ) → IsReporter r → line_count r.cards.deck < r.lines
+    → after.deck ≡ next r.cards.deck line → IsReporter (reporter_of r.workers r.lines after r.desks)
+taken_reporter r after line is counted taken = record {
+  workers = is.workers;
+  some = is.some;
+  cards = omega (arith, counted, count_next r.cards.deck line, ap line_count taken);
+  desks = is.desks;
+}

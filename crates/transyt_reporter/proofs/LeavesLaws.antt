@@ -1,7 +1,6 @@
 -- The desks and the steps that answering leaves.
-use Rattle.std.proofs.Common.{◌≡◌, ℕ, ◌+◌, ◌*◌, ◌≤◌, true, List, length, set, Option, None, IfSome, Result, refl, sym, ◌∙◌, ap, subst, arith}
+use Rattle.std.proofs.Common.{◌≡◌, ℕ, ◌+◌, ◌*◌, ◌≤◌, true, List, length, set, None, Result, refl, ◌∙◌, ap, subst, arith}
 use Rattle.std.proofs.lemmas.List.{length-set}
-use Rattle.transyt_net.specs.Shape.{SameShape}
 use Rattle.transyt_moves.specs.Moves.{move_count}
 use Rattle.transyt_track.specs.Work.{cert_work}
 use Rattle.transyt_session.specs.Session.{SessionValue}
@@ -13,31 +12,20 @@ use Rattle.transyt_answers.specs.Commands.{after_answer}
 use Rattle.transyt_reporter.specs.Certifying.{HasCertified}
 use Rattle.transyt_reporter.specs.Conditions.{AreReady, Leaves}
 use Rattle.transyt_answers.specs.Conditions.{is_told}
-use Rattle.transyt_reporter.proofs.ReadyLaws.{ready_same, zero_set}
+use Rattle.transyt_reporter.proofs.ReadyLaws.{ready_same, ready_closed}
+use Rattle.transyt_desks.proofs.DeskLaws.{zero_set}
 
--- neither CLIMB nor CERT
+-- an answer that is neither CLIMB nor CERT is no more than its text
 pub told_by : (answer : Answer) → (answer ≡ a.Climb → ⊥) → (answer ≡ a.Cert → ⊥) → is_told answer ≡ true
-told_by a.Nothing climb cert = refl
-told_by a.Stop climb cert = refl
-told_by a.Done climb cert = refl
-told_by (a.Refused code) climb cert = refl
-told_by (a.Show what) climb cert = refl
-told_by (a.Plot place) climb cert = refl
-told_by a.Deck climb cert = refl
 told_by a.Climb climb cert = absurd (climb refl)
 told_by a.Cert climb cert = absurd (cert refl)
+told_by answer climb cert = refl
 
--- an answer that is no more than its text leaves the session
+-- and leaves the session
 pub told_same : (answer : Answer) (s : SessionValue) → is_told answer ≡ true → s ≡ after_answer answer s
-told_same a.Nothing s told = refl
-told_same a.Stop s told = refl
-told_same a.Done s told = refl
-told_same (a.Refused code) s told = refl
-told_same (a.Show what) s told = refl
-told_same (a.Plot place) s told = refl
-told_same a.Deck s told = refl
 told_same a.Climb s told = absurd (cc)
 told_same a.Cert s told = absurd (cc)
+told_same answer s told = refl
 
 -- and the desks
 pub told_leaves : (answer : Answer) (desks : List SessionValue) (steps : ℕ) → is_told answer ≡ true → AreReady desks
@@ -75,15 +63,10 @@ pub batches_leave : {T E : Type 0} (desks after : List SessionValue) (r : Result
     → move_count (desk_zero desks).net ≤ 57600 → AreAlike after → length after ≡ length desks → (length desks ≡ 1 → ⊥)
     → Leaves 8000072000 (after_answer a.Cert (desk_zero desks)) desks after steps steps
 batches_leave desks after r steps ready closed so most alike len several =
-    let P : Option _ → Type 0 = λ o. IfSome o (λ net. SameShape (desk_zero after).net net) in
     let end : cert_work (desk_zero desks).net (0 + move_count (desk_zero desks).net)
     ≡ cert_work (desk_zero desks).net (move_count (desk_zero desks).net) = ap (cert_work (desk_zero desks).net) (omega arith) in
     record {
-      ready = record {
-        some = omega (arith, ready.some, len);
-        alike = alike;
-        before = subst P (sym (so.before ∙ closed)) tt;
-      };
+      ready = ready_closed desks after ready alike len (so.before ∙ closed);
       len = len;
       few = omega (arith, so.few, most);
       work = omega (arith, so.some, end);
@@ -97,15 +80,13 @@ pub climb_leaves : (desks after : List SessionValue) (budget other steps steps_n
     → (desk_zero after).work ≤ (climbed budget (desk_zero desks)).work
     → (length desks ≡ 1 → steps_new + (desk_zero desks).work ≡ steps + (desk_zero after).work)
     → Leaves 8000072000 (climbed other (desk_zero desks)) desks after steps steps_new
-climb_leaves desks after budget other steps steps_new ready is small alike closed len few work made =
-    let P : Option _ → Type 0 = λ o. IfSome o (λ net. SameShape (desk_zero after).net net) in
-    record {
-      ready = record { some = omega (arith, ready.some, len); alike = alike; before = subst P (sym closed) tt };
-      len = len;
-      few = omega (arith, is, small, few);
-      work = subst (λ (b : ℕ). (desk_zero after).work ≤ (climbed b (desk_zero desks)).work) is work;
-      made = made;
-    }
+climb_leaves desks after budget other steps steps_new ready is small alike closed len few work made = record {
+  ready = ready_closed desks after ready alike len closed;
+  len = len;
+  few = omega (arith, is, small, few);
+  work = subst (λ (b : ℕ). (desk_zero after).work ≤ (climbed b (desk_zero desks)).work) is work;
+  made = made;
+}
 
 -- a command, which was judged at desk 0, lent out as `old`, and then said
 pub command_leaves : (desks after : List SessionValue) (old s said answered : SessionValue) (steps judged steps_new : ℕ)

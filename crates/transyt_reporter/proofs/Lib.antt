@@ -11,4 +11,3 @@ pub mod MoveLaws
 pub mod OpenedLaws
 pub mod ReadyLaws
 pub mod WorkedBrief
-pub mod RemarkLaws

@@ -1,7 +1,8 @@
 -- Each listed move is of an offset or of a change, and a round has no more turns than places are left, or one.
-use Rattle.std.proofs.Common.{◌+◌, ◌≡◌, ℕ, zero, suc, ◌-◌, ◌≤◌, Bool, true, false, List, [], ◌∷◌, ◌++◌, length, Option, None, Some, IfSome}
-use Rattle.std.proofs.Common.{if◌then◌else◌, refl, sym, subst, arith, slice_index_or, ◌==◌}
+use Rattle.std.proofs.Common.{◌+◌, ◌≡◌, ℕ, zero, suc, ◌-◌, ◌≤◌, Bool, true, List, [], ◌∷◌, ◌++◌, length, Option, None, Some, IfSome}
+use Rattle.std.proofs.Common.{refl, sym, subst, arith, slice_index_or}
 use Rattle.std.specs.List.{flat_map, range_with_len}
+use Rattle.std.proofs.lemmas.Bool.{cond_both}
 use Rattle.transyt_parts.specs.Parts.{NodeValue}
 use Rattle.transyt_net.specs.Parts.{Network}
 use Rattle.transyt_net.specs.declared.edit.Edit.{Edit}
@@ -10,12 +11,11 @@ use Rattle.transyt_parts.specs.Valid.{IsPlan}
 use Rattle.transyt_net.specs.Valid.{IsValid}
 use Rattle.transyt_answers.specs.Commands.{budget_of}
 use Rattle.transyt_moves.specs.Moves.{offset_moves, change_moves, node_moves, size_moves, sizes_of, moves, move, move_count, no_move}
-use Rattle.transyt_sweep.specs.Climb.{least, lowers, moved}
-use Rattle.transyt_sweep.specs.Sweeps.{index}
+use Rattle.transyt_sweep.specs.Climb.{least}
 use Rattle.transyt_climb.specs.declared.turn.Turn.{Turn}
-use Rattle.transyt_climb.specs.declared.turn.Turn.TheVariants as turn
 use Rattle.transyt_climb.specs.Way.{IsRound}
-use Rattle.transyt_climb.specs.Turns.{Counters, start_at, start_of, Machine, answer_of, turns, is_end, look_answer}
+use Rattle.transyt_climb.proofs.TurnLaws.{by_answer, by_look}
+use Rattle.transyt_climb.specs.Turns.{Counters, start_at, start_of, Machine, answer_of, turns, is_end}
 use Rattle.transyt_desks.specs.Rounds.{is_took, up_to, turns_up_to, room_of, turns_of}
 use Rattle.transyt_report.specs.MoveTexts.{is_move}
 use Rattle.transyt_reporter.specs.Conditions.{IsStep}
@@ -56,19 +56,11 @@ pub move_is : (net : Network) (place : ℕ) → is_move (move net place) ≡ tru
 unfolding move
 move_is net place = at_place (moves net) place (all_moves net)
 
--- what a turn answers is a step with such a move, or none
+-- the answer of a turn is a step with such a move, or none
 pub answer_steps : (m : Machine) → IsStep (answer_of m)
 answer_steps m =
-    let look : (b : Bool) → IsStep (if b
-    then turn.Took m.counters.place (move m.session.net m.counters.place) (index (moved m.session.net m.counters.place))
-    else turn.Passed) = elim [ true ↦ move_is m.session.net m.counters.place | false ↦ tt ] in
-    let budget : (b : Bool) → IsStep (if b then turn.Budget else look_answer m.session.net m.counters.place) =
-    elim [ true ↦ tt | false ↦ look (lowers m.session.net m.counters.place) ] in
-    let local : (b : Bool) → IsStep (if b then turn.Local
-    else if m.counters.looked == m.counters.budget then turn.Budget
-    else look_answer m.session.net m.counters.place) =
-    elim [ true ↦ tt | false ↦ budget (m.counters.looked == m.counters.budget) ] in
-    local (m.counters.since == m.counters.count)
+    by_answer m IsStep (λ gone. tt) (λ some spent. tt)
+    (λ some left. by_look m IsStep (λ lower. move_is m.session.net m.counters.place) (λ higher. tt))
 
 -- the last turn of a round is a step with such a move, or none
 pub steps_round : (before after : Machine) (count : ℕ) (last : Turn) → IsRound before after count last → IsStep last
@@ -105,8 +97,6 @@ pub turns_left : (m : Machine) (places : ℕ) {turns : ℕ} → turns ≡ turns_
 turns_left m places is inside =
     let up = few_turns (room_of places m.counters) m in
     let room : room_of places m.counters ≤ m.counters.budget - m.counters.looked = omega arith in
-    let by : (b : Bool) → m.counters.looked + (if b then 1 else turns_up_to (room_of places m.counters) m)
-    ≤ m.counters.budget + 1 =
-    elim [ true ↦ omega (arith, inside) | false ↦ omega (arith, up, room, inside) ] in
-    let most = by (is_end (answer_of m)) in
+    let most = cond_both (is_end (answer_of m)) 1 (turns_up_to (room_of places m.counters) m)
+    (λ n. m.counters.looked + n ≤ m.counters.budget + 1) (λ end. omega (arith, inside)) (λ on. omega (arith, up, room, inside)) in
     omega (arith, is, most)

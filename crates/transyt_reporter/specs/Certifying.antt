@@ -3,15 +3,8 @@ use Rattle.std.specs.Prelude.{ℕ, ◌≡◌, ◌+◌, ◌*◌, ◌≤◌, List,
 use Rattle.std.specs.List.{range_with_len}
 use Rattle.transyt_net.specs.Parts.{Network}
 use Rattle.transyt_track.specs.Work.{cert_work}
-use Rattle.transyt_session.specs.declared.answers.Tried.{Tried}
-use Rattle.transyt_session.specs.declared.answers.Tried.TheVariants.{Barred, Index}
 use Rattle.transyt_session.specs.Session.{SessionValue}
 use Rattle.transyt_cert.specs.Certificate.{place_text}
-
--- the work of a try: none where the move is barred
-abbrev pub work_found : Tried → ℕ
-work_found Barred = 0
-work_found (Index index work) = work
 
 -- the lines of so many places from one on
 abbrev pub places_text : Network → ℕ → ℕ → List ℕ

@@ -1,5 +1,5 @@
--- The invariant of the desks between two lines and during a climb. No clause of the top call cites it.
-use Rattle.std.specs.Prelude.{ℕ, ◌+◌, ◌*◌, ◌≡◌, ◌<◌, ◌≤◌, true, length, Option, IfSome, List}
+-- The invariant of the desks between two lines. No clause of the top call cites it.
+use Rattle.std.specs.Prelude.{ℕ, ◌+◌, ◌≡◌, ◌<◌, ◌≤◌, true, length, Option, IfSome, List}
 use Rattle.std.specs.Prelude.{Result, OnOk, OnErr, IfOk, IsErrOf}
 use Rattle.transyt_io.specs.Streams.{Adds, AddsFront, Rose}
 use Rattle.transyt_deck.specs.Deck.{Deck}
@@ -8,49 +8,17 @@ use Rattle.transyt_outcome.specs.declared.ending.Stop.{Stop}
 use Rattle.transyt_outcome.specs.declared.ending.Stop.TheVariants.{Write}
 use Rattle.transyt_answers.specs.Report.{deck_said, deck_ends, deck_steps}
 use Rattle.transyt_net.specs.Shape.{SameShape}
-use Rattle.transyt_sweep.specs.Climb.{Step, climb}
 use Rattle.transyt_session.specs.Session.{SessionValue}
 use Rattle.transyt_climb.specs.declared.turn.Turn.{Turn}
 use Rattle.transyt_climb.specs.declared.turn.Turn.TheVariants.{Took, Passed, Local, Budget}
-use Rattle.transyt_climb.specs.Turns.{Counters, machine}
-use Rattle.transyt_climb.specs.Way.{IsUnderWay}
 use Rattle.transyt_desks.specs.Desks.{desk_zero, AreAlike}
-use Rattle.transyt_text.specs.Prints.{Printed}
 use Rattle.transyt_report.specs.MoveTexts.{is_move}
-use Rattle.transyt_answers.specs.Commands.{steps_text}
 
 -- desks between two lines: each has the shape of desk 0, and so has the network before an open trial
 pub record AreReady (desks : List SessionValue) : Type 0 where
   pub some : 0 < length desks
   pub alike : AreAlike desks
   pub before : IfSome (desk_zero desks).before (λ net. SameShape (desk_zero desks).net net)
-
--- the most work of a session after so many looks of a climb that began with some work
-abbrev pub most_work : ℕ → ℕ → ℕ
-most_work work looked = work + 8000 * looked
-
--- a climb on its way over desks, from those of its start, with the steps done
-pub record ClimbSoFar (budget : ℕ) (first desks : List SessionValue) (counters : Counters) (done : List Step) : Type 0 where
-  pub way : IsUnderWay (climb (desk_zero first).net 0 budget) (desk_zero first).work done
-      (machine counters (desk_zero desks))
-  pub alike : AreAlike desks
-  pub len : length desks ≡ length first
-  pub budget_is : counters.budget ≡ budget
-  pub room : (desk_zero desks).work ≤ most_work (desk_zero first).work counters.looked
-
--- a climb whose steps are written as they are taken
-pub record ClimbWritten (budget : ℕ) (first desks : List SessionValue) (counters : Counters)
-    (written written_new : Option (List ℕ)) (faults faults_new : ℕ) : Type 0 where
-  pub done : List Step
-  pub climb : ClimbSoFar budget first desks counters done
-  pub printed : Printed written written_new faults faults_new (steps_text done)
-
--- a climb whose steps are counted
-pub record ClimbCounted (budget : ℕ) (first desks : List SessionValue) (counters : Counters) (count : ℕ) : Type 0 where
-  pub done : List Step
-  pub climb : ClimbSoFar budget first desks counters done
-  pub count_is : count ≡ length done
-  pub few : count ≤ counters.looked
 
 -- the edit of a step is one of an offset or a change
 abbrev pub IsStep : Turn → Type 0

@@ -1,12 +1,8 @@
 //! BRIEF: one climb on a network, told in one line.
 ghost use Rattle.std.specs.Prelude.{◌≡◌, ◌+◌, ◌*◌, ◌^◌, ◌≤◌, ◌∷◌, [], length, None, IsSome, IsErrOf, OnOk, OnErr};
 ghost use Rattle.transyt_io.specs.Streams.{Adds, AddsFront, Rose};
-ghost use Rattle.transyt_moves.specs.Moves.{move_count};
-ghost use Rattle.transyt_sweep.specs.Climb.{climb};
 ghost use Rattle.transyt_sweep.specs.Sweeps.{index};
-ghost use Rattle.transyt_climb.specs.Turns.{start_at};
-ghost use Rattle.transyt_climb.specs.Way.{climbed};
-ghost use Rattle.transyt_desks.specs.Desks.{desk_zero, AreAlike};
+ghost use Rattle.transyt_desks.specs.Desks.{desk_zero};
 ghost use Rattle.transyt_text.specs.Prints.{PrintsOn};
 ghost use Rattle.transyt_text.specs.Forms.{form_line};
 ghost use Rattle.transyt_track.specs.Work.{work_of};
@@ -14,14 +10,13 @@ ghost use Rattle.transyt_reporter.specs.Brief.{brief_form, brief_text, brief_ste
 ghost use Rattle.transyt_answers.specs.Commands.{climb_of};
 ghost use Rattle.transyt_reporter.specs.Conditions.{AreReady};
 
-use crate::climbing::{start_climber, steps_of};
+use crate::climbing::start_climber;
 use crate::opening::desks_of;
 use crate::workers::{Clerk, Workers};
 use std::alloc::Global;
 use std::sync::ledger::Ledger;
 use std::thread::Threads;
-use transyt_climb::Climber;
-use transyt_desks::{Desks, Gate};
+use transyt_desks::{Desks, Gate, climb_by_rounds};
 use transyt_io::{Failed, LineBuffer, Sink};
 use transyt_net::Net;
 use transyt_outcome::Stop;
@@ -59,39 +54,6 @@ fn before_climb(session: &Session) -> Before
     }
 }
 
-/// Climbs by rounds of the desks, from a climber at its start to its end, and counts the steps.
-fn count_steps<R: Threads + Sync, G: Gate, L: Ledger>(
-    workers: &Workers<'_, R, G>,
-    desks: &mut Desks,
-    climber: &mut Climber,
-    steps: &mut Steps<L>,
-) -> Climbed
-    requires start { climber.old ≡ start_at climber.old.budget (move_count (desk_zero desks.old).net) }
-    requires budget { climber.old.budget ≤ 1000000 }
-    requires alike { AreAlike desks.old }
-    requires closed { (desk_zero desks.old).before ≡ None }
-    requires room { (desk_zero desks.old).work ≤ 2 ^ 60 }
-    ensures took { result.took ≡ length (climb (desk_zero desks.old).net 0 climber.old.budget).steps }
-    ensures local { result.local ≡ (climb (desk_zero desks.old).net 0 climber.old.budget).local }
-    ensures looked { result.looked ≡ length (climb (desk_zero desks.old).net 0 climber.old.budget).looks }
-    ensures state { desk_zero desks.new ≡ climbed climber.old.budget (desk_zero desks.old) }
-    ensures steps { length desks.old ≡ 1
-        → steps.new + (desk_zero desks.old).work ≡ steps.old + (desk_zero desks.new).work }
-{
-    let mut took = 0;
-    loop {
-        let round = desks.stretch_round(workers.rt, climber, workers.gate, steps);
-        if round.last.is_end() {
-            return Climbed {
-                took,
-                looked: climber.looked(),
-                local: round.last.is_local(),
-            };
-        }
-        took += steps_of(round.last);
-    }
-}
-
 /// Climbs by the network's plan.
 fn climb_counted<R: Threads + Sync, G: Gate, L: Ledger>(
     workers: &Workers<'_, R, G>,
@@ -110,7 +72,12 @@ fn climb_counted<R: Threads + Sync, G: Gate, L: Ledger>(
         → steps.new ≡ steps.old + work_of (climb_of (desk_zero desks.old).net).looks }
 {
     let mut climber = start_climber(desks.session().net());
-    count_steps(workers, desks, &mut climber, steps)
+    let ended = climb_by_rounds(workers.rt, &mut climber, desks, workers.gate, steps);
+    Climbed {
+        took: ended.took,
+        looked: climber.looked(),
+        local: ended.local,
+    }
 }
 
 /// Writes the line of a climb, which led to this index.

@@ -7,7 +7,8 @@ ghost use Rattle.transyt_text.specs.Prints.{PrintsOn};
 ghost use Rattle.transyt_cert.specs.Certificate.{cert_text};
 ghost use Rattle.transyt_answers.specs.Commands.{after_answer};
 ghost use Rattle.transyt_desks.specs.Finds.{AreTriesOf};
-ghost use Rattle.transyt_reporter.specs.Certifying.{HasCertified, places_text, work_found};
+ghost use Rattle.transyt_desks.specs.Stretches.{work_found};
+ghost use Rattle.transyt_reporter.specs.Certifying.{HasCertified, places_text};
 ghost use Rattle.transyt_reporter.specs.Conditions.{AreReady, Leaves};
 
 use crate::workers::Clerk;

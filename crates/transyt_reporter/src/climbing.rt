@@ -22,17 +22,6 @@ use transyt_net::Net;
 use transyt_report::{end_line, took_line};
 use transyt_steps::Steps;
 
-/// How many steps a turn took: one or none.
-pub(crate) fn steps_of(turn: Turn) -> u32
-    ensures value { result ≡ length (step_then turn []) }
-    ensures few { result ≤ 1 }
-{
-    match turn {
-        Turn::Took { .. } => 1,
-        _ => 0,
-    }
-}
-
 /// Writes the line of the step that a turn took, and nothing where it took none.
 fn say_step<K: Sink>(turn: Turn, line: &mut LineBuffer, sink: &mut K) -> Result<(), Failed>
     requires { IsStep turn }

@@ -14,38 +14,26 @@ climb_on-ended-requires-clause-start g c =
     (planned c.args.session.now.net c.in-Some.climber
     (sym c.in-Some.is ∙ c.start.ensures ∙ ap (λ (n : Network). start_of n n.plan) c.net.ensures)).start
 
--- the row of a climb
-pub returns-clause-row : goal.returns-clause-row
-returns-clause-row g c =
+-- the row of a climb, and the network at its end
+pub returns : goal.returns
+returns g c =
     let net : Network = c.args.session.now.net in
+    let told = c.climb_on-ended.ensures in
     let plan : IsPlanned net c.in-Some.climber =
     planned net c.in-Some.climber
     (sym c.in-Some.is ∙ c.start.ensures ∙ ap (λ (n : Network). start_of n n.plan) c.net.ensures) in
-    row_is net (climb net 0 c.in-Some.climber.budget) plan.climb_is
-    c.index-from.ensures c.climb_on-ended.ensures.took c.climb_on-ended.ensures.local
-    (c.looked.ensures.value ∙ c.climb_on-ended.ensures.looks)
-    (c.index.ensures ∙ ap (λ (s : SessionValue). index s.net) c.climb_on-ended.ensures.state)
+    record {
+      row = row_is net (climb net 0 c.in-Some.climber.budget) plan.climb_is c.index-from.ensures told.took told.local
+          (c.looked.ensures.value ∙ told.looks) (c.index.ensures ∙ ap (λ (s : SessionValue). index s.net) told.state);
+      end = ap (λ (s : SessionValue). s.net) told.state ∙ ap (λ (k : Climb). k.net) (sym plan.climb_is);
+    }
 
--- the network at its end
-pub returns-clause-end : goal.returns-clause-end
-returns-clause-end g c =
+-- where nothing is listed the network stays
+pub returns-in_default : goal.returns-in_default
+returns-in_default g c =
     let net : Network = c.args.session.now.net in
-    let plan : IsPlanned net c.in-Some.climber =
-    planned net c.in-Some.climber
-    (sym c.in-Some.is ∙ c.start.ensures ∙ ap (λ (n : Network). start_of n n.plan) c.net.ensures) in
-    ap (λ (s : SessionValue). s.net) c.climb_on-ended.ensures.state ∙ ap (λ (k : Climb). k.net) (sym plan.climb_is)
-
--- the row where nothing is listed
-pub returns-in_default-clause-row : goal.returns-in_default-clause-row
-returns-in_default-clause-row g c =
-    let net : Network = c.args.session.now.net in
-    row_is net (ended true net 0 0)
-    (unplanned net (sym c.in_default.is ∙ c.start.ensures ∙ ap (λ (n : Network). start_of n n.plan) c.net.ensures))
-    c.index-from.ensures refl refl refl c.index-from.ensures
-
--- and the network stays
-pub returns-in_default-clause-end : goal.returns-in_default-clause-end
-returns-in_default-clause-end g c =
-    let net : Network = c.args.session.now.net in
-    ap (λ (k : Climb). k.net)
-    (sym (unplanned net (sym c.in_default.is ∙ c.start.ensures ∙ ap (λ (n : Network). start_of n n.plan) c.net.ensures)))
+    let none = unplanned net (sym c.in_default.is ∙ c.start.ensures ∙ ap (λ (n : Network). start_of n n.plan) c.net.ensures) in
+    record {
+      row = row_is net (ended true net 0 0) none c.index-from.ensures refl refl refl c.index-from.ensures;
+      end = ap (λ (k : Climb). k.net) (sym none);
+    }

@@ -7,6 +7,6 @@ use Rattle.transyt_desks.proofs.finding.first_lower.Given as goal
 -- they are one stretch
 abbrev pub invariant-loop-number : goal.invariant-loop-number
 invariant-loop-number l = record {
-  stretch : IsStretch (desk_zero (sessions_of l.desks)).net l.reach.place l.reach.count 0 l.number l.stretch;
+  stretch : IsStretch (desk_zero (sessions_of l.desks)).net l.reach.place l.reach.count l.number l.stretch;
   going : l.stretch.lowers ≡ false;
 }

@@ -1,6 +1,5 @@
 -- The lines of the places before this one are written, and their work is added.
 use Rattle.std.proofs.Common.{◌≡◌, ◌-◌, ◌≤◌, Ok, length}
-use Rattle.transyt_moves.specs.Moves.{move_count}
 use Rattle.transyt_desks.specs.Desks.{desk_zero, AreAlike}
 use Rattle.transyt_text.specs.Prints.{Printed}
 use Rattle.transyt_reporter.specs.Certifying.{HasCertified, places_text}

@@ -1,5 +1,5 @@
 -- The line of one place more is written, or broke off.
-use Rattle.std.proofs.Common.{◌≡◌, ◌+◌, ◌≤◌, ◌<◌, Ok, refl, sym, ap, subst, ◌∙◌, arith, length}
+use Rattle.std.proofs.Common.{◌+◌, ◌≤◌, ◌<◌, Ok, refl, sym, ap, subst, ◌∙◌, arith, length}
 use Rattle.std.specs.List.{range_with_len}
 use Rattle.std.proofs.lemmas.List.FromFn.{length-range_with_len, get_or-range_with_len}
 use Rattle.transyt_net.specs.Parts.{Network}

@@ -1,11 +1,8 @@
 -- A command is judged, and then said.
-use Rattle.std.proofs.Common.{ℕ, List, sym, ◌∙◌, ap, subst, set}
-use Rattle.transyt_io.specs.Streams.{Adds, AddsFront}
+use Rattle.std.proofs.Common.{sym, ◌∙◌, ap, subst, set}
 use Rattle.transyt_session.specs.Session.{SessionValue}
-use Rattle.transyt_desks.specs.Desks.{desk_zero}
-use Rattle.transyt_answers.specs.Commands.{answer_text, line_answer, line_judged}
+use Rattle.transyt_answers.specs.Commands.{line_judged}
 use Rattle.transyt_reporter.specs.Conditions.{AreReady}
-use Rattle.transyt_reporter.proofs.RemarkLaws.{adds_from, front_from, later_from, rose_from}
 use Rattle.transyt_reporter.proofs.ReadyLaws.{ready_judged}
 use Rattle.transyt_reporter.proofs.JudgedLaws.{text_is, after_is}
 use Rattle.transyt_reporter.proofs.LeavesLaws.{command_leaves}
@@ -23,39 +20,20 @@ say-requires-clause-ready g c κs within =
 -- the text is over the session before
 pub returns-in-Ok-clause-prints : goal.returns-in-Ok-clause-prints
 returns-in-Ok-clause-prints g c =
-    let zero = desk_zero c.args.desks.now in
-    let line = c.args.command.now in
     let judged = c.judge-answer.ensures in
-    let told = c.in-Ok.ensures.prints in
-    let remark = c.remark_command.ensures in
-    let P : List ℕ → Type 0 = λ xs. Adds (g.K.Sink.written c.remark_command.new.sink) (g.K.Sink.written c.say.new.sink) xs in
-    record {
-      ok = adds_from (answer_text zero (line_answer zero line)) remark.written
-          (subst P (text_is c.args.desks.now c.session_mut.result.now c.judge-answer.new.session c.judge-answer.result line
-          c.requires.ready.some c.session_mut.ensures.value judged.state judged.answer) told.ok);
-      err = tt;
-      cause = record { later = later_from remark.faults told.cause.later; failed = tt };
-    }
+    let text = text_is c.args.desks.now c.session_mut.result.now c.judge-answer.new.session c.judge-answer.result c.args.command.now
+    c.requires.ready.some c.session_mut.ensures.value judged.state judged.answer in
+    let told = rw (c.remark_command.ensures.written, c.remark_command.ensures.faults, text) at c.in-Ok.ensures.prints in
+    record { ok = told.ok; err = tt; cause = record { later = told.cause.later; failed = tt } }
 
 -- and where it broke off
 pub returns-in-Err-clause-prints : goal.returns-in-Err-clause-prints
 returns-in-Err-clause-prints g c =
-    let zero = desk_zero c.args.desks.now in
-    let line = c.args.command.now in
     let judged = c.judge-answer.ensures in
-    let told = c.in-Err.ensures.prints in
-    let remark = c.remark_command.ensures in
-    let P : List ℕ → Type 0 = λ xs. AddsFront (g.K.Sink.written c.remark_command.new.sink) (g.K.Sink.written c.say.new.sink) xs in
-    record {
-      ok = tt;
-      err = front_from (answer_text zero (line_answer zero line)) remark.written
-          (subst P (text_is c.args.desks.now c.session_mut.result.now c.judge-answer.new.session c.judge-answer.result line
-          c.requires.ready.some c.session_mut.ensures.value judged.state judged.answer) told.err);
-      cause = record {
-        later = later_from remark.faults told.cause.later;
-        failed = rose_from remark.faults told.cause.failed;
-      };
-    }
+    let text = text_is c.args.desks.now c.session_mut.result.now c.judge-answer.new.session c.judge-answer.result c.args.command.now
+    c.requires.ready.some c.session_mut.ensures.value judged.state judged.answer in
+    let told = rw (c.remark_command.ensures.written, c.remark_command.ensures.faults, text) at c.in-Err.ensures.prints in
+    record { ok = tt; err = told.err; cause = record { later = told.cause.later; failed = told.cause.failed } }
 
 -- the desks and the steps
 pub returns-in-Ok-clause-leaves : goal.returns-in-Ok-clause-leaves

@@ -1,29 +1,18 @@
 -- A certificate, a climb, and an answer that is no more than its text.
-use Rattle.std.proofs.Common.{sym, ap, subst}
+use Rattle.std.proofs.Common.{ap}
 use Rattle.transyt_session.specs.Session.{SessionValue}
-use Rattle.transyt_desks.specs.Desks.{desk_zero}
 use Rattle.transyt_text.proofs.PrintLaws.{prints_same}
-use Rattle.transyt_answers.specs.declared.answer.Answer.{Answer}
-use Rattle.transyt_answers.specs.Commands.{answer_text, after_answer}
-use Rattle.transyt_reporter.specs.Conditions.{Leaves}
+use Rattle.transyt_answers.specs.Commands.{answer_text}
 use Rattle.transyt_reporter.proofs.LeavesLaws.{told_by, told_leaves}
 use Rattle.transyt_reporter.proofs.saying.say.Goals as goal
 
 -- the desks and the steps of a certificate
 pub returns-in-Cert-clause-leaves : goal.returns-in-Cert-clause-leaves
-returns-in-Cert-clause-leaves g c =
-    let desks = c.args.desks.now in
-    let P : Answer → Type 0 = λ answer. Leaves 8000072000 (after_answer answer (desk_zero desks)) desks
-    c.certify.new.desks c.args.steps.now c.certify.new.steps in
-    subst P (sym c.in-Cert.is) c.certify.ensures.leaves
+returns-in-Cert-clause-leaves g c = rw c.in-Cert.is c.certify.ensures.leaves
 
 -- the desks and the steps of a climb
 pub returns-in-Climb-clause-leaves : goal.returns-in-Climb-clause-leaves
-returns-in-Climb-clause-leaves g c =
-    let desks = c.args.desks.now in
-    let P : Answer → Type 0 = λ answer. Leaves 8000072000 (after_answer answer (desk_zero desks)) desks
-    c.climb_on.new.desks c.args.steps.now c.climb_on.new.steps in
-    subst P (sym c.in-Climb.is) c.climb_on.ensures.leaves
+returns-in-Climb-clause-leaves g c = rw c.in-Climb.is c.climb_on.ensures.leaves
 
 -- any other answer is no more than its text
 pub say_text-requires-clause-told : goal.say_text-requires-clause-told

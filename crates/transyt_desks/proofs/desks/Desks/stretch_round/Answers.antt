@@ -1,48 +1,17 @@
--- The desks' sessions are those of the slice on which the round is made, before and after it.
-use Rattle.std.proofs.Common.{◌≡◌, List, length, sym, ap, ◌∙◌, subst}
-use Rattle.transyt_session.specs.Session.{SessionValue}
-use Rattle.transyt_climb.specs.Turns.{machine}
-use Rattle.transyt_desks.specs.declared.desk.Desk.{Desk}
-use Rattle.transyt_desks.specs.Desks.{desk_zero, sessions_of, AreDesks}
-use Rattle.transyt_desks.specs.Rounds.{places_of, MakesRound}
-use Rattle.transyt_desks.proofs.DeskLaws.{sessions_count, written_whole}
+-- Desk 0 goes on alone, or all follow it before they try.
+use Rattle.std.proofs.Common.{◌<◌, length, arith}
+use Rattle.transyt_desks.proofs.DeskLaws.{aligned_alike}
+use Rattle.transyt_desks.proofs.RoundLaws.{alike_rounds}
 use Rattle.transyt_desks.proofs.desks.Desks.stretch_round.Goals as goal
 
-pub invariant_of-self : goal.invariant_of-self
-invariant_of-self g c =
-    let items : List Desk = c.self.inside.desks.items in
-    let news : List Desk = c.alike_round.new.desks in
-    let count = ap (λ (ds : List Desk). length ds) c.as_mut_slice.ensures.value in
-    subst (λ (ds : List Desk). AreDesks (sessions_of ds))
-    (sym (written_whole news items c.self.inside.desks.len (c.alike_round.ensures.len ∙ count)
-    (sym c.as_mut_slice.ensures.len ∙ count)))
-    c.alike_round.ensures.desks
+pub returns-then-goes_alone-clause-alike : goal.returns-then-goes_alone-clause-alike
+returns-then-goes_alone-clause-alike g c =
+    let some : 0 < length c.args.self.now = omega (arith, c.count.ensures.value, c.count.ensures.some) in
+    alike_rounds 1 _ _ c.args.self.now c.alone.new.desks c.alone.result some c.requires.alike c.alone.ensures.made
 
-pub returns-clause-made : goal.returns-clause-made
-returns-clause-made g c =
-    let old : sessions_of c.as_mut_slice.result.now ≡ c.args.self.now =
-    ap sessions_of c.as_mut_slice.ensures.value ∙ c.self.view_is in
-    let count : length c.as_mut_slice.result.now ≡ length c.args.self.now =
-    sym (sessions_count c.as_mut_slice.result.now) ∙ ap (λ (ss : List SessionValue). length ss) old in
-    let items = ap (λ (ds : List Desk). length ds) c.as_mut_slice.ensures.value in
-    let whole = written_whole c.alike_round.new.desks c.self.inside.desks.items c.self.inside.desks.len
-    (c.alike_round.ensures.len ∙ items) (sym c.as_mut_slice.ensures.len ∙ items) in
-    subst (λ (ds : List Desk). MakesRound (places_of (length c.args.self.now) c.args.climber.now) (machine c.args.climber.now (desk_zero c.args.self.now))
-    (machine c.alike_round.new.climber (desk_zero (sessions_of ds))) c.alike_round.result) (sym whole)
-    (subst (λ (olds : List SessionValue). MakesRound (places_of (length c.args.self.now) c.args.climber.now) (machine c.args.climber.now (desk_zero olds))
-    (machine c.alike_round.new.climber (desk_zero (sessions_of c.alike_round.new.desks))) c.alike_round.result) old
-    (subst (λ n. MakesRound (places_of n c.args.climber.now) (machine c.args.climber.now (desk_zero (sessions_of c.as_mut_slice.result.now)))
-    (machine c.alike_round.new.climber (desk_zero (sessions_of c.alike_round.new.desks))) c.alike_round.result) count
-    c.alike_round.ensures.made))
-
-pub returns-clause-workers : goal.returns-clause-workers
-returns-clause-workers g c =
-    let old : sessions_of c.as_mut_slice.result.now ≡ c.args.self.now =
-    ap sessions_of c.as_mut_slice.ensures.value ∙ c.self.view_is in
-    let count : length c.as_mut_slice.result.now ≡ length c.args.self.now =
-    sym (sessions_count c.as_mut_slice.result.now) ∙ ap (λ (ss : List SessionValue). length ss) old in
-    let items = ap (λ (ds : List Desk). length ds) c.as_mut_slice.ensures.value in
-    let whole = written_whole c.alike_round.new.desks c.self.inside.desks.items c.self.inside.desks.len
-    (c.alike_round.ensures.len ∙ items) (sym c.as_mut_slice.ensures.len ∙ items) in
-    ap (λ (ds : List Desk). length (sessions_of ds)) whole
-    ∙ sessions_count c.alike_round.new.desks ∙ c.alike_round.ensures.len ∙ count
+pub returns-clause-alike : goal.returns-clause-alike
+returns-clause-alike g c =
+    let followed = c.follow.new.self in
+    let some : 0 < length followed = omega (arith, c.follow.ensures.workers, c.count.ensures.value, c.count.ensures.some) in
+    alike_rounds _ _ _ followed c.together.new.desks c.together.result some
+    (aligned_alike followed c.follow.ensures.aligned) c.together.ensures

@@ -32,7 +32,7 @@ fn note_passed(climber: &mut Climber, passed: u32)
 
 /// The turns of a round of so many places, which were tried before: those that pass are counted, and a move that lowers
 /// the index is made.
-pub(crate) fn settle<L: Ledger>(
+pub(crate) fn make_turns<L: Ledger>(
     climber: &mut Climber,
     session: &mut Session,
     tried: Stretch,
@@ -44,7 +44,7 @@ pub(crate) fn settle<L: Ledger>(
     requires place { climber.old.place < climber.old.count }
     requires since { climber.old.since < climber.old.count }
     requires looked { climber.old.looked < climber.old.budget }
-    requires tried { IsStretch session.old.net climber.old.place climber.old.count 0 (room_of places climber.old) tried }
+    requires tried { IsStretch session.old.net climber.old.place climber.old.count (room_of places climber.old) tried }
     ensures { MakesRound places (machine climber.old session.old) (machine climber.new session.new) result }
 {
     note_passed(climber, tried.passed);
@@ -63,7 +63,7 @@ pub(crate) fn settle<L: Ledger>(
 }
 
 /// A round of one turn, of which so many places are one.
-pub(crate) fn take_turn<L: Ledger>(
+pub(crate) fn make_turn<L: Ledger>(
     climber: &mut Climber,
     session: &mut Session,
     places: u32,

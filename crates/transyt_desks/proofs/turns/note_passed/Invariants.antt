@@ -1,7 +1,7 @@
 -- The looks so far are counted.
 use Rattle.std.proofs.Common.{◌≡◌}
 use Rattle.transyt_desks.specs.Rounds.{passed_by}
-use Rattle.transyt_desks.proofs.settling.note_passed.Given as goal
+use Rattle.transyt_desks.proofs.turns.note_passed.Given as goal
 
 -- so many
 abbrev pub invariant-loop-looked : goal.invariant-loop-looked

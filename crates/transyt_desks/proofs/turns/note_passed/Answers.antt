@@ -2,7 +2,7 @@
 use Rattle.std.proofs.Common.{◌∙◌, ap, false}
 use Rattle.transyt_climb.specs.Turns.{Counters, noted}
 use Rattle.transyt_desks.proofs.PassingLaws.{noted_more, noted_none}
-use Rattle.transyt_desks.proofs.settling.note_passed.Goals as goal
+use Rattle.transyt_desks.proofs.turns.note_passed.Goals as goal
 
 pub loop-looked-init : goal.loop-looked-init
 loop-looked-init c = noted_none c.args.climber.now c.requires.place
