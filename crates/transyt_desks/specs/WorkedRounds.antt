@@ -24,22 +24,22 @@ abbrev pub has_passed : ℕ → ℕ → Counters
 has_passed since looked = record { place = 4; since = since; looked = looked; budget = 2500; count = 1152 }
 
 -- numbers of desks and a climber, with how many places they try in a round of stretches: before any step, right after
--- one, and when 23, 24 and more places have passed since
+-- one, and when 7, 8 and more places have passed since
 abbrev pub worked_places : List (ℕ × Counters × ℕ)
 worked_places =
     (1, has_passed 0 0, 1)
     ∷ (1, has_passed 70 90, 1)
     ∷ (3, has_passed 0 0, 3)
     ∷ (3, has_passed 0 1, 1)
-    ∷ (8, has_passed 23 30, 1)
-    ∷ (8, has_passed 23 23, 1)
-    ∷ (2, has_passed 24 40, 12)
-    ∷ (8, has_passed 27 40, 48)
-    ∷ (3, has_passed 28 40, 21)
-    ∷ (3, has_passed 71 90, 51)
-    ∷ (2, has_passed 255 300, 126)
-    ∷ (2, has_passed 256 300, 128)
-    ∷ (8, has_passed 1000 1100, 512)
+    ∷ (8, has_passed 7 30, 1)
+    ∷ (8, has_passed 7 7, 1)
+    ∷ (2, has_passed 8 40, 4)
+    ∷ (8, has_passed 11 40, 16)
+    ∷ (3, has_passed 12 40, 9)
+    ∷ (3, has_passed 55 90, 39)
+    ∷ (2, has_passed 63 300, 30)
+    ∷ (2, has_passed 64 300, 32)
+    ∷ (8, has_passed 1000 1100, 128)
     ∷ []
 
 -- numbers of workers and a climber, with how many turns its round is where no move lowers the index
