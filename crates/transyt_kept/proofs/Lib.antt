@@ -2,6 +2,5 @@ pub mod FlagLaws
 pub mod WrittenLaws
 pub mod CarryLaws
 pub mod BackLaws
-pub mod CopyLaws
 pub mod DrawnLaws
 pub mod KeptLaws

@@ -1,5 +1,5 @@
 -- The rows that are saved while a mark is open.
-use Rattle.std.specs.Prelude.{◌≡◌, ℕ, ◌+◌, ◌*◌, ◌<◌, ◌≤◌, Bool, true, false, not, ◌&&◌, ◌||◌, List, length}
+use Rattle.std.specs.Prelude.{◌≡◌, ℕ, ◌+◌, ◌*◌, ◌<◌, ◌≤◌, Bool, true, false, not, ◌&&◌, List, length}
 use Rattle.std.specs.Prelude.{if◌then◌else◌, slice_index_or, slice_set, replicate, map, Option, Some, None}
 use Rattle.std.specs.List.{range_with_len}
 use Rattle.transyt_sweep.specs.Cell.{CellValue}
@@ -26,10 +26,6 @@ is_come_saved saved link = slice_index_or saved.come_flags link false
 -- whether its GO is
 abbrev pub is_go_saved : SavedValue → ℕ → Bool
 is_go_saved saved link = slice_index_or saved.go_flags link false
-
--- whether a link's arrivals, GO, queue or figures of the last sweep are saved
-abbrev pub is_shown_saved : SavedValue → ℕ → Bool
-is_shown_saved saved link = is_come_saved saved link || is_go_saved saved link
 
 -- the rows with a link's arrivals at the last sweep, its queue and its figures by this
 abbrev pub with_come_of : RowsValue → ℕ → CellValue → RowsValue
@@ -177,22 +173,3 @@ pub record AreDown (rows : RowsValue) (saved : SavedValue) : Type 0 where
   pub outs : (sweep link : ℕ) → sweep ≤ rows.sweeps → link < length rows.figures → is_out_saved saved sweep link ≡ false
   pub come : (link : ℕ) → link < length rows.figures → is_come_saved saved link ≡ false
   pub go : (link : ℕ) → link < length rows.figures → is_go_saved saved link ≡ false
-
--- a link's departures at a sweep by other rows, if they are saved, else by these
-abbrev pub copied_out : SavedValue → RowsValue → RowsValue → ℕ → ℕ → List ℕ
-copied_out saved from rows sweep link =
-    if is_out_saved saved sweep link then out_at from sweep link else out_at rows sweep link
-
--- the last sweep of a link by other rows, if its arrivals, GO, queue or figures are saved, else by these
-abbrev pub copied_shown : SavedValue → RowsValue → RowsValue → ℕ → CellValue
-copied_shown saved from rows link =
-    if is_shown_saved saved link then shown_at from link else shown_at rows link
-
--- the rows became those of others where any is saved
-pub record AreCopied (saved : SavedValue) (from old rows : RowsValue) : Type 0 where
-  pub size : SameSize rows old
-  pub outs : (sweep link : ℕ) → sweep ≤ old.sweeps → link < length old.figures
-      → out_at rows sweep link ≡ copied_out saved from old sweep link
-  pub shown : (link : ℕ) → link < length old.figures
-      → shown_at rows link
-      ≡ record (copied_shown saved from old link) { out = copied_out saved from old old.sweeps link }

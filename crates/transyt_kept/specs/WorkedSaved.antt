@@ -19,13 +19,6 @@ rows_before =
     (141 ∷ 142 ∷ 143 ∷ 144 ∷ []) (151 ∷ 152 ∷ 153 ∷ 154 ∷ []) (161 ∷ 162 ∷ 163 ∷ 164 ∷ [])
     (new_figures 101 102 103 104 ∷ new_figures 105 106 107 108 ∷ [])
 
--- rows of another tracker
-abbrev pub rows_other : RowsValue
-rows_other =
-    rows_of 2 2 (211 ∷ 212 ∷ 213 ∷ 214 ∷ 221 ∷ 222 ∷ 223 ∷ 224 ∷ 231 ∷ 232 ∷ 233 ∷ 234 ∷ [])
-    (241 ∷ 242 ∷ 243 ∷ 244 ∷ []) (251 ∷ 252 ∷ 253 ∷ 254 ∷ []) (261 ∷ 262 ∷ 263 ∷ 264 ∷ [])
-    (new_figures 201 202 203 204 ∷ new_figures 205 206 207 208 ∷ [])
-
 -- saved are the departures of the second link before the first sweep and of the first at the last, the arrivals of the
 -- first, and the GO of the second
 abbrev pub saved_two : SavedValue
@@ -36,13 +29,6 @@ saved_two = record {
   come_flags = true ∷ false ∷ [];
   go_flags = false ∷ true ∷ [];
   rows = rows_before;
-}
-
--- the arrivals of the first link are saved, and no GO; at the last sweep the departures of the second link
-abbrev pub saved_first : SavedValue
-saved_first = record saved_two {
-  out_flags = false ∷ true ∷ false ∷ false ∷ false ∷ true ∷ [];
-  go_flags = false ∷ false ∷ [];
 }
 
 -- sweeps and links, with their departures before
@@ -89,21 +75,3 @@ restored_come = record rows_restored { arrivals = 41 ∷ 42 ∷ 43 ∷ 44 ∷ []
 
 abbrev pub restored_first_go : RowsValue
 restored_first_go = record rows_restored { go = 151 ∷ 152 ∷ 153 ∷ 154 ∷ [] }
-
--- the rows now with those of the others where `saved_first` has one
-abbrev pub rows_copied : RowsValue
-rows_copied =
-    rows_of 2 2 (11 ∷ 12 ∷ 213 ∷ 214 ∷ 21 ∷ 22 ∷ 23 ∷ 24 ∷ 31 ∷ 32 ∷ 233 ∷ 234 ∷ []) (241 ∷ 242 ∷ 43 ∷ 44 ∷ [])
-    (251 ∷ 252 ∷ 53 ∷ 54 ∷ []) (261 ∷ 262 ∷ 63 ∷ 64 ∷ []) (new_figures 201 202 203 204 ∷ new_figures 5 6 7 8 ∷ [])
-
--- wrong in the departures of sweep 1, in the GO of the second link, and in an index
-abbrev pub copied_out_more : RowsValue
-copied_out_more = record rows_copied {
-  outs = 11 ∷ 12 ∷ 213 ∷ 214 ∷ 21 ∷ 22 ∷ 223 ∷ 224 ∷ 31 ∷ 32 ∷ 233 ∷ 234 ∷ [];
-}
-
-abbrev pub copied_second_go : RowsValue
-copied_second_go = record rows_copied { go = 251 ∷ 252 ∷ 253 ∷ 254 ∷ [] }
-
-abbrev pub copied_index : RowsValue
-copied_index = record rows_copied { figures = new_figures 201 202 203 4 ∷ new_figures 5 6 7 8 ∷ [] }

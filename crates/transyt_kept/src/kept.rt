@@ -1,6 +1,6 @@
 //! Rows with a mark and their calls.
 
-ghost use Rattle.std.specs.Prelude.{◌≡◌, ◌<◌, ◌≤◌, length, IfOk, IfSome, IsSome, Some, None};
+ghost use Rattle.std.specs.Prelude.{◌≡◌, ◌<◌, ◌≤◌, length, IfOk, IsSome, Some, None};
 ghost use Rattle.std.specs.Option.{is_some};
 ghost use Rattle.transyt_sweep.specs.Cell.{HasSteps};
 ghost use Rattle.transyt_sweep.specs.Rows.{Fits, SameSize, AreRows, pair_in, placed};
@@ -150,18 +150,5 @@ impl KeptRows {
         ensures { self.new ≡ unmarked (placed self.old.now sweep link (pair_in from.now sweep link)) }
     {
         self.rows.take_pair(sweep, link, from);
-    }
-
-    /// Other rows, which are those of the mark, become the rows now: only those that were written since are copied.
-    pub fn copy_changes(&self, net: &Net, rows: &mut KeptRows)
-        requires fits { Fits net.now self.now.now }
-        requires fits_there { Fits net.now rows.old.now }
-        requires marked { self.now.marked ≡ Some (by_link rows.old.now) }
-        requires closed { rows.old.marked ≡ None }
-        ensures size { SameSize rows.new.now rows.old.now }
-        ensures rows { by_link rows.new.now ≡ by_link self.now.now }
-        ensures closed { rows.new.marked ≡ None }
-    {
-        self.saved.copy_changes(net, &self.rows, &mut rows.rows);
     }
 }

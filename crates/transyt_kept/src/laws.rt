@@ -1,11 +1,10 @@
 //! Laws about the definitions.
 
 ghost use Rattle.std.specs.Prelude.{◌≡◌, [], ◌∷◌, map};
-ghost use Rattle.transyt_kept.specs.Saved.{AreCopied, by_link, old_out, old_rows, old_shown};
-ghost use Rattle.transyt_kept.specs.WorkedSaved.{copied_index, copied_out_more, copied_second_go};
+ghost use Rattle.transyt_kept.specs.Saved.{by_link, old_out, old_rows, old_shown};
 ghost use Rattle.transyt_kept.specs.WorkedSaved.{outs_before, restored_come, restored_first_go};
-ghost use Rattle.transyt_kept.specs.WorkedSaved.{restored_start, rows_copied, rows_now, rows_other, rows_restored};
-ghost use Rattle.transyt_kept.specs.WorkedSaved.{saved_first, saved_two, shown_before};
+ghost use Rattle.transyt_kept.specs.WorkedSaved.{restored_start, rows_now, rows_restored};
+ghost use Rattle.transyt_kept.specs.WorkedSaved.{saved_two, shown_before};
 
 /// The rows of the mark of the worked saved rows are the rows that are written beside them.
 pub fn worked_saved()
@@ -19,12 +18,4 @@ pub fn worked_restored()
     ensures not_start { by_link restored_start ≡ old_rows saved_two rows_now → ⊥ }
     ensures not_come { by_link restored_come ≡ old_rows saved_two rows_now → ⊥ }
     ensures not_first_go { by_link restored_first_go ≡ old_rows saved_two rows_now → ⊥ }
-{}
-
-/// They become those of others where anything is saved, and wrong ones haven't.
-pub fn worked_copied()
-    ensures copied { AreCopied saved_first rows_other rows_now rows_copied }
-    ensures not_out { AreCopied saved_first rows_other rows_now copied_out_more → ⊥ }
-    ensures not_second_go { AreCopied saved_first rows_other rows_now copied_second_go → ⊥ }
-    ensures not_index { AreCopied saved_first rows_other rows_now copied_index → ⊥ }
 {}

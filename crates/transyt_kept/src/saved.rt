@@ -1,16 +1,14 @@
 //! Saved rows: flags, and the rows that were there before they were written over.
 
-ghost use Rattle.std.specs.Prelude.{◌≡◌, ◌+◌, ◌*◌, ◌<◌, ◌≤◌, ◌||◌, ℕ, false, length, IfOk, if◌then◌else◌};
+ghost use Rattle.std.specs.Prelude.{◌≡◌, ◌+◌, ◌*◌, ◌<◌, ◌≤◌, ℕ, false, length, IfOk};
 ghost use Rattle.transyt_sweep.specs.Cell.{HasSteps};
-ghost use Rattle.transyt_sweep.specs.Rows.{Fits, SameSize, AreRows, out_at, shown_at};
-ghost use Rattle.transyt_sweep.specs.Rows.{with_out, with_come, with_go, with_rest, with_weights};
-ghost use Rattle.transyt_sweep.specs.Front.{AreMixed};
+ghost use Rattle.transyt_sweep.specs.Rows.{Fits, AreRows, shown_at};
+ghost use Rattle.transyt_sweep.specs.Rows.{with_out, with_come, with_go, with_weights};
 ghost use Rattle.transyt_sweep.specs.Sweeps.{start};
-ghost use Rattle.transyt_kept.specs.Saved.{is_out_saved, is_come_saved, is_go_saved, is_shown_saved};
+ghost use Rattle.transyt_kept.specs.Saved.{is_out_saved, is_come_saved, is_go_saved};
 ghost use Rattle.transyt_kept.specs.Saved.{out_kept, come_kept, go_kept};
-ghost use Rattle.transyt_kept.specs.Saved.{old_out, old_shown, copied_out, copied_shown, with_come_of};
 ghost use Rattle.transyt_kept.specs.Saved.{begun, settled, FitsRows, Carries, AreSaved};
-ghost use Rattle.transyt_kept.specs.Saved.{AreDown, AreCopied, GivesBack};
+ghost use Rattle.transyt_kept.specs.Saved.{AreDown, GivesBack};
 
 use crate::flags::{clear, no_flags};
 use std::alloc::{AllocError, Global};
@@ -77,14 +75,6 @@ impl Saved {
         ensures { result ≡ self.now.live }
     {
         self.live
-    }
-
-    /// Whether a link's arrivals, GO, queue or figures of the last sweep are saved.
-    pub(crate) fn is_shown_saved(&self, link: usize) -> bool
-        requires { link < self.now.link_count }
-        ensures { result ≡ is_shown_saved self.now link }
-    {
-        self.come_flags[link] || self.go_flags[link]
     }
 
     /// Sets a mark: none of the rows is saved.
@@ -188,17 +178,6 @@ impl Saved {
     {
         self.give_outs(net, rows);
         self.give_shown(net, rows);
-    }
-
-    /// Rows become those of others where any is saved.
-    pub(crate) fn copy_changes(&self, net: &Net, from: &Rows, rows: &mut Rows)
-        requires fits { Fits net.now rows.old }
-        requires fits_from { Fits net.now from.now }
-        requires fits_saved { FitsRows from.now self.now }
-        ensures { AreCopied self.now from.now rows.old rows.new }
-    {
-        self.copy_outs(net, from, rows);
-        self.copy_shown(net, from, rows);
     }
 
     /// The place of a pair's flag.
@@ -381,72 +360,6 @@ impl Saved {
         if self.is_go_saved(link) {
             self.rows.give_go(link, rows);
             self.go_flags[link] = false;
-        }
-    }
-
-    /// Departures become those of other rows where they are saved.
-    fn copy_outs(&self, net: &Net, from: &Rows, rows: &mut Rows)
-        requires fits { Fits net.now rows.old }
-        requires fits_from { Fits net.now from.now }
-        requires fits_saved { FitsRows from.now self.now }
-        ensures outs { AreMixed net.now (copied_out self.now from.now rows.old) (out_at rows.old)
-            (net.now.frame.sweeps + 1) 0 rows.new }
-        ensures rest { rows.new ≡ record rows.old { outs = rows.new.outs } }
-    {
-        for sweep in 0..net.frame().sweeps + 1 {
-            for link in 0..net.links().len() {
-                self.copy_out(sweep, link, from, rows);
-            }
-        }
-    }
-
-    /// A link's departures at a sweep become those of other rows, if they are saved.
-    fn copy_out(&self, sweep: u32, link: usize, from: &Rows, rows: &mut Rows)
-        requires fits { FitsRows from.now self.now }
-        requires size { SameSize rows.old from.now }
-        requires sweep { sweep ≤ rows.old.sweeps }
-        requires link { link < length rows.old.figures }
-        ensures value { rows.new ≡ (if is_out_saved self.now sweep link
-            then with_out rows.old sweep link (out_at from.now sweep link) else rows.old) }
-        ensures kept { AreRows rows.old }
-        ensures kept_from { AreRows from.now }
-    {
-        rows.index();
-        from.index();
-        if self.is_out_saved(sweep, link) {
-            rows.take_departures(sweep, link, from);
-        }
-    }
-
-    /// The rest of the last sweep becomes that of other rows, link by link, where any of the link's is saved.
-    fn copy_shown(&self, net: &Net, from: &Rows, rows: &mut Rows)
-        requires fits { Fits net.now rows.old }
-        requires fits_from { Fits net.now from.now }
-        requires fits_saved { FitsRows from.now self.now }
-        ensures size { SameSize rows.new rows.old }
-        ensures outs { rows.new.outs ≡ rows.old.outs }
-        ensures shown { (link : ℕ) → link < length rows.old.figures → shown_at rows.new link
-            ≡ record (copied_shown self.now from.now rows.old link) { out = out_at rows.old rows.old.sweeps link } }
-    {
-        for link in 0..net.links().len() {
-            self.copy_link(link, from, rows);
-        }
-    }
-
-    /// A link's arrivals, GO, queue and figures of the last sweep become those of other rows, if any is saved.
-    fn copy_link(&self, link: usize, from: &Rows, rows: &mut Rows)
-        requires fits { FitsRows from.now self.now }
-        requires size { SameSize rows.old from.now }
-        requires link { link < length rows.old.figures }
-        ensures value { rows.new ≡ (if is_shown_saved self.now link
-            then with_rest rows.old link (shown_at from.now link) else rows.old) }
-        ensures kept { AreRows rows.old }
-        ensures kept_from { AreRows from.now }
-    {
-        rows.index();
-        from.index();
-        if self.is_shown_saved(link) {
-            rows.take_shown(link, from);
         }
     }
 }

@@ -1,6 +1,5 @@
 -- What a tracker keeps to stays.
 use Rattle.std.proofs.Common.{◌≡◌, ℕ, Bool, List, length, Option, Some, None, IsSome, refl, ap, sym, subst, ◌∙◌}
-use Rattle.std.specs.Option.{is_some}
 use Rattle.transyt_parts.specs.declared.frame.Frame.{Frame}
 use Rattle.transyt_net.specs.Parts.{Network}
 use Rattle.transyt_net.specs.Shape.{shape, SameShape}
@@ -30,24 +29,10 @@ pub open_mark : (mark : Option RowsByLink) (marked : Network) → IsSome (mark_o
 open_mark (Some rows) marked some back = ap Some back
 open_mark None marked none back = absurd (cc)
 
--- and tells which network is marked
-pub marked_is : (mark : Option RowsByLink) (marked net : Network) → mark_of mark marked ≡ Some net → marked ≡ net
-marked_is (Some rows) marked net e = cc
-marked_is None marked net e = absurd (cc)
-
-pub is_open : (mark : Option RowsByLink) (marked net : Network) → mark_of mark marked ≡ Some net
-    → IsSome (mark_of mark marked)
-is_open mark marked net e = subst IsSome (sym e) refl
-
 -- with no marked network there is no mark
 pub no_mark : (mark : Option RowsByLink) (marked : Network) → mark_of mark marked ≡ None → mark ≡ None
 no_mark (Some rows) marked e = absurd (cc)
 no_mark None marked e = refl
-
--- a mark is open where a network is marked
-pub some_mark : (mark : Option RowsByLink) (marked : Network) → is_some mark ≡ is_some (mark_of mark marked)
-some_mark (Some rows) marked = refl
-some_mark None marked = refl
 
 -- no mark is open
 closed_mark : (mark : Option RowsByLink) (marked : Network) → mark ≡ None → AreOfMark marked mark

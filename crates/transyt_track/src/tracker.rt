@@ -1,7 +1,7 @@
 //! A tracker and its calls.
 
 ghost use Rattle.std.specs.Prelude.{◌≡◌, ◌+◌, ◌*◌, ◌≤◌, ◌<◌, length, IfOk, OnOk, OnErr, None, Some, IsSome};
-ghost use Rattle.std.specs.Prelude.{if◌then◌else◌, nat_lt, true};
+ghost use Rattle.std.specs.Prelude.{if◌then◌else◌, nat_lt};
 ghost use Rattle.std.specs.Option.{is_some};
 ghost use Rattle.transyt_net.specs.EditFaults.{edit_fault};
 ghost use Rattle.transyt_net.specs.Edits.{with_edit};
@@ -9,7 +9,6 @@ ghost use Rattle.transyt_net.specs.Shape.{SameShape};
 ghost use Rattle.transyt_sweep.specs.Front.{AreEvaluation};
 ghost use Rattle.transyt_sweep.specs.Sweeps.{out_of, evaluated, index};
 ghost use Rattle.transyt_track.specs.Due.{due};
-ghost use Rattle.transyt_kept.specs.Saved.{KeptValue};
 ghost use Rattle.transyt_track.specs.Kept.{evaluation_of};
 ghost use Rattle.transyt_track.specs.Tracker.{tracker_of, unmarked, IsTracking};
 
@@ -291,21 +290,6 @@ impl Tracker {
         ensures mark { self.new.mark ≡ None }
     {
         copy_rows(&from.net, from.front.kept.rows(), &mut self.front.kept);
-        self.net.take_numbers(&from.net);
-    }
-
-    /// Stands for the network of another tracker, whose mark is the network that this one stands for. Only what changed
-    /// since that mark is copied; it works out no link and takes no memory.
-    pub fn take_changes(&mut self, from: &Tracker)
-        requires marked { from.now.mark ≡ Some self.old.net }
-        requires closed { self.old.mark ≡ None }
-        ensures net { self.new.net ≡ from.now.net }
-        ensures mark { self.new.mark ≡ None }
-        ensures shape { SameShape self.old.net self.new.net }
-    {
-        from.front
-            .kept
-            .copy_changes(&from.net, &mut self.front.kept);
         self.net.take_numbers(&from.net);
     }
 
