@@ -13,4 +13,4 @@ mod laws;
 mod saved;
 
 pub use kept::KeptRows;
-pub use laws::{worked_restored, worked_saved};
+pub use laws::worked_saved;

@@ -6,14 +6,13 @@ use Rattle.transyt_net.specs.Shape.{shape, SameShape}
 use Rattle.transyt_sweep.specs.Cell.{CellValue}
 use Rattle.transyt_sweep.specs.Rows.{RowsValue, Fits}
 use Rattle.transyt_sweep.specs.Front.{AreEvaluation}
-use Rattle.transyt_kept.specs.Saved.{RowsByLink, KeptValue, by_link}
+use Rattle.transyt_kept.specs.Saved.{KeptValue}
 use Rattle.transyt_track.specs.Own.{PlacesValue, ArePlaces, all_places}
 use Rattle.transyt_track.specs.Readers.{AreReaders}
-use Rattle.transyt_track.specs.Kept.{AreOfMark, evaluation_of}
+use Rattle.transyt_track.specs.Kept.{AreOfMark}
 use Rattle.transyt_track.specs.Tracker.{mark_of, IsTracking}
 use Rattle.transyt_track.proofs.ShapeLaws.{shape_frame, shape_count, shape_table, shape_readers}
 use Rattle.transyt_track.proofs.PlaceLaws.{all_places_are}
-use Rattle.transyt_track.proofs.EvaluationLaws.{evaluation_by_link}
 
 -- rows that fit one network fit each of its shape
 pub fits_shape : (a b : Network) → SameShape a b → (rows : RowsValue) → Fits a rows → Fits b rows
@@ -23,19 +22,18 @@ fits_shape a b same rows fits = record {
   link_count = fits.link_count ∙ shape_count a b same;
 }
 
--- an open mark has the rows of the marked network
-pub open_mark : (mark : Option RowsByLink) (marked : Network) → IsSome (mark_of mark marked) → AreOfMark marked mark
-    → mark ≡ Some (evaluation_of marked)
-open_mark (Some rows) marked some back = ap Some back
-open_mark None marked none back = absurd (cc)
+-- with a marked network there is a mark
+pub open_mark : (mark : Option RowsValue) (marked : Network) → IsSome (mark_of mark marked) → IsSome mark
+open_mark (Some rows) marked some = refl
+open_mark None marked none = absurd (cc)
 
 -- with no marked network there is no mark
-pub no_mark : (mark : Option RowsByLink) (marked : Network) → mark_of mark marked ≡ None → mark ≡ None
+pub no_mark : (mark : Option RowsValue) (marked : Network) → mark_of mark marked ≡ None → mark ≡ None
 no_mark (Some rows) marked e = absurd (cc)
 no_mark None marked e = refl
 
 -- no mark is open
-closed_mark : (mark : Option RowsByLink) (marked : Network) → mark ≡ None → AreOfMark marked mark
+closed_mark : (mark : Option RowsValue) (marked : Network) → mark ≡ None → AreOfMark marked mark
 closed_mark mark marked closed = subst (AreOfMark marked) (sym closed) tt
 
 -- a new tracker
@@ -79,12 +77,12 @@ module _ (net marked : Network) (kept : KeptValue) (places : List PlacesValue) (
   }
 
   -- a mark is set
-  pub begun_tracks : IsTracking net net (record kept { marked = Some (by_link kept.now) }) places readers own_changed
+  pub begun_tracks : IsTracking net net (record kept { marked = Some kept.now }) places readers own_changed
       awaited scratch
   begun_tracks = record {
     shape = refl;
     evaluation = tracking.evaluation;
-    back = evaluation_by_link net kept.now tracking.evaluation;
+    back = tracking.evaluation;
     table = tracking.table;
     reading = tracking.reading;
     own_count = tracking.own_count;

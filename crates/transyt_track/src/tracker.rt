@@ -9,7 +9,7 @@ ghost use Rattle.transyt_net.specs.Shape.{SameShape};
 ghost use Rattle.transyt_sweep.specs.Front.{AreEvaluation};
 ghost use Rattle.transyt_sweep.specs.Sweeps.{out_of, evaluated, index};
 ghost use Rattle.transyt_track.specs.Due.{due};
-ghost use Rattle.transyt_track.specs.Kept.{evaluation_of};
+ghost use Rattle.transyt_track.specs.Kept.{AreOfMark};
 ghost use Rattle.transyt_track.specs.Tracker.{tracker_of, unmarked, IsTracking};
 
 use crate::change::{Change, Front};
@@ -310,7 +310,7 @@ impl Tracker {
         ensures mark { self.new.mark ≡ None }
         ensures shape { SameShape self.old.net self.new.net }
     {
-        go_back(&self.net, &self.marked, &mut self.front.kept);
+        go_back(&self.marked, &mut self.front.kept);
         mem::swap(&mut self.net, &mut self.marked);
     }
 
@@ -339,7 +339,8 @@ fn settle_on(net: &mut Net, after: &Net, e: Edit, keeps: bool, kept: &mut KeptRo
     requires allowed { edit_fault net.old e ≡ None }
     requires after { after.now ≡ with_edit net.old e }
     requires rows { AreEvaluation after.now kept.old.now }
-    requires marked { kept.old.marked ≡ Some (evaluation_of net.old) }
+    requires marked { IsSome kept.old.marked }
+    requires mark { AreOfMark net.old kept.old.marked }
     ensures net { net.new ≡ (if keeps then after.now else net.old) }
     ensures shape { SameShape after.now net.new }
     ensures rows { AreEvaluation net.new kept.new.now }
@@ -350,5 +351,5 @@ fn settle_on(net: &mut Net, after: &Net, e: Edit, keeps: bool, kept: &mut KeptRo
         kept.settle();
         return;
     }
-    go_back(after, net, kept);
+    go_back(net, kept);
 }
