@@ -86,9 +86,9 @@ module _ {A : Type 0} where
 
 -- after a write each row has its place
 pub places_put : {A : Type 0} {flags : List Bool} {saved now : List A} → HavePlaces flags saved now
-    → (b f : Bool) (p : ℕ) (x y : A) → HavePlaces (put_if b flags p f) (put_if b saved p x) (set now p y)
-places_put {A} {flags} {saved} {now} places b f p x y = record {
-  many = length-put_if b flags p f ∙ places.many ∙ sym (length-set now p y);
+    → (a b f : Bool) (p : ℕ) (x y : A) → HavePlaces (put_if a flags p f) (put_if b saved p x) (set now p y)
+places_put {A} {flags} {saved} {now} places a b f p x y = record {
+  many = length-put_if a flags p f ∙ places.many ∙ sym (length-set now p y);
   room = length-put_if b saved p x ∙ places.room ∙ sym (length-set now p y);
 }
 

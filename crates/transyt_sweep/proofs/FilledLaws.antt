@@ -83,22 +83,12 @@ empty_started net = record {
 -- one link more is started
 pub started_put : (net : Network) (l : ℕ) (rows : RowsValue) → AreStarted net 0 l rows → AreRows rows
     → l < length net.links → AreStarted net 0 (l + 1) (with_out rows 0 l (start net l))
-started_put net l rows started kept inside = record {
-  outs = mixed_put net (out_of net) (empty_out net) 0 l rows started.outs kept (start net l) (omega arith) inside
-      (sym (out_of_start net l));
-  arrivals = started.arrivals;
-  go = started.go;
-  queue = started.queue;
-  figures = started.figures;
-}
+started_put net l rows started kept inside =
+    assumption (mixed_put net (out_of net) (empty_out net) 0 l rows started.outs kept (start net l) (omega arith) inside
+    (sym (out_of_start net l)))
 
 -- all of them
 pub started_end : (net : Network) (l : ℕ) (rows : RowsValue) → length net.links ≡ l → AreStarted net 0 l rows
     → AreOpened net rows
-started_end net l rows all started = record {
-  outs = mixed_turn net (out_of net) (empty_out net) 0 l rows all started.outs;
-  arrivals = started.arrivals;
-  go = started.go;
-  queue = started.queue;
-  figures = started.figures;
-}
+started_end net l rows all started =
+    assumption (mixed_turn net (out_of net) (empty_out net) 0 l rows all started.outs)

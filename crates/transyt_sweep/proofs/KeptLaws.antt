@@ -1,12 +1,12 @@
 -- The facts of rows stay where a part of them is written.
 use Rattle.std.proofs.Common.{◌≡◌, ℕ, ◌+◌, ◌-◌, ◌*◌, ◌^◌, ◌<◌, ◌≤◌, List, length, get_or, set, replicate, All}
-use Rattle.std.proofs.Common.{ap, sym, ◌∙◌, arith, sum_by}
+use Rattle.std.proofs.Common.{rules, ap, sym, ◌∙◌, arith, sum_by}
 use Rattle.std.proofs.lemmas.List.{length-set, length-replicate}
 use Rattle.std.proofs.lemmas.List.Elements.{All-set, All-replicate}
 use Rattle.std.proofs.lemmas.List.Folds.{sum_by-replicate}
 use Rattle.transyt_delay.specs.declared.figures.Figures.{Figures}
 use Rattle.transyt_sweep.specs.Rows.{RowsValue, rows_of, empty_table, no_figures, with_go, with_figures}
-use Rattle.transyt_sweep.specs.Rows.{AreRows, AreSized, AreSmall, SameSize}
+use Rattle.transyt_sweep.specs.Rows.{AreRows, AreSmall, SameSize}
 use Rattle.transyt_sweep.specs.Table.{AreKept}
 use Rattle.transyt_sweep.proofs.IndexLaws.{weighed_sum}
 use Rattle.transyt_sweep.proofs.RowLaws.{sized_set, sized_empty}
@@ -24,65 +24,23 @@ module _ {rows : RowsValue} (kept : AreRows rows) where
   -- departures are written
   pub out_written : (p : ℕ) (x : List ℕ) → length x ≡ rows.step_count → All (λ v. v < 2 ^ 30) x
       → AreRows (record rows { outs = set rows.outs p x })
-  out_written p x long small = record {
-    steps = kept.steps;
-    sweeps = kept.sweeps;
-    links = kept.links;
-    outs = sized_set kept.outs p x long;
-    arrivals = kept.arrivals;
-    go = kept.go;
-    queue = kept.queue;
-    small = All-set (λ y. All (λ v. v < 2 ^ 30) y) rows.outs p x small kept.small;
-    figures = kept.figures;
-  }
+  out_written p x long small =
+      search (rules, sized_set, All-set (λ y. All (λ v. v < 2 ^ 30) y) rows.outs p x small kept.small)
 
   -- the arrivals of a link and its queue are
   pub arrivals_written : (l : ℕ) (a q : List ℕ) → length a ≡ rows.step_count → length q ≡ rows.step_count
       → AreRows (record rows { arrivals = set rows.arrivals l a; queue = set rows.queue l q })
-  arrivals_written l a q a_long q_long = record {
-    steps = kept.steps;
-    sweeps = kept.sweeps;
-    links = kept.links;
-    outs = kept.outs;
-    arrivals = sized_set kept.arrivals l a a_long;
-    go = kept.go;
-    queue = sized_set kept.queue l q q_long;
-    small = kept.small;
-    figures = kept.figures;
-  }
+  arrivals_written l a q a_long q_long = search (rules, sized_set)
 
   -- its GO is
   pub go_written : (l : ℕ) (g : List ℕ) → length g ≡ rows.step_count → AreRows (with_go rows l g)
-  go_written l g long = record {
-    steps = kept.steps;
-    sweeps = kept.sweeps;
-    links = kept.links;
-    outs = kept.outs;
-    arrivals = kept.arrivals;
-    go = sized_set kept.go l g long;
-    queue = kept.queue;
-    small = kept.small;
-    figures = kept.figures;
-  }
+  go_written l g long = search (rules, sized_set)
 
   -- its figures are
   pub figures_written : (l : ℕ) (f : Figures) → AreSmall f → AreRows (with_figures rows l f)
   figures_written l f small =
       let same : length rows.figures ≡ length (set rows.figures l f) = sym (length-set rows.figures l f) in
-      let sized : (table : List (List ℕ)) → AreSized (length rows.figures) rows.step_count table
-      → AreSized (length (set rows.figures l f)) rows.step_count table
-      = λ table was. record { many = was.many ∙ same; steps = was.steps } in
-      record {
-        steps = kept.steps;
-        sweeps = kept.sweeps;
-        links = omega (arith, same, kept.links);
-        outs = record { many = kept.outs.many ∙ ap (λ n. (rows.sweeps + 1) * n) same; steps = kept.outs.steps };
-        arrivals = sized rows.arrivals kept.arrivals;
-        go = sized rows.go kept.go;
-        queue = sized rows.queue kept.queue;
-        small = kept.small;
-        figures = All-set AreSmall rows.figures l f small kept.figures;
-      }
+      grind (arith, same, All-set AreSmall rows.figures l f small kept.figures, ap (λ n. (rows.sweeps + 1) * n) same)
 
   -- and the index goes by the difference
   pub kept_figures : (index l : ℕ) (f was : Figures) → index ≡ sum_by (λ (g : Figures). g.index) rows.figures
@@ -100,24 +58,11 @@ pub empty_are : (n sweeps links : ℕ) → n ≤ 120 → sweeps ≤ 8 → links 
 empty_are n sweeps links steps swept few =
     let zero_value : ℕ = 0 in
     let same : links ≡ length (replicate links no_figures) = sym (length-replicate links no_figures) in
-    let sized : AreSized (length (replicate links no_figures)) n (empty_table links n) =
-    record { many = (sized_empty links n).many ∙ same; steps = (sized_empty links n).steps } in
-    record {
-      steps = steps;
-      sweeps = swept;
-      links = omega (arith, few, same);
-      outs = record {
-        many = (sized_empty ((sweeps + 1) * links) n).many ∙ ap (λ k. (sweeps + 1) * k) same;
-        steps = (sized_empty ((sweeps + 1) * links) n).steps;
-      };
-      arrivals = sized;
-      go = sized;
-      queue = sized;
-      small = All-replicate (λ y. All (λ v. v < 2 ^ 30) y) ((sweeps + 1) * links) (replicate n zero_value)
-          (All-replicate (λ v. v < 2 ^ 30) n zero_value (omega arith));
-      figures = All-replicate AreSmall links no_figures
-          (record { uniform = omega arith; random = omega arith; index = omega arith });
-    }
+    let small = All-replicate (λ y. All (λ v. v < 2 ^ 30) y) ((sweeps + 1) * links) (replicate n zero_value)
+    (All-replicate (λ v. v < 2 ^ 30) n zero_value (omega arith)) in
+    let none = All-replicate AreSmall links no_figures
+    (record { uniform = omega arith; random = omega arith; index = omega arith }) in
+    grind (arith, same, ap (λ k. (sweeps + 1) * k) same, sized_empty links n, sized_empty ((sweeps + 1) * links) n, small, none)
 
 -- and their index is 0
 pub empty_index : (links : ℕ) → sum_by (λ (f : Figures). f.index) (replicate links no_figures) ≡ 0

@@ -41,13 +41,7 @@ module _ (rows : RowsValue) (kept : AreRows rows) (s l : ℕ) (c : CellValue) (i
           let out = out_elsewhere rows s l inside c.out rows.sweeps k there
           (λ e _. earlier (sym e)) in
           ap (λ b. shown_at (all_of rows s l c b) k) test
-          ∙ (λ j. record {
-            arrivals = (shown_at rows k).arrivals;
-            go = (shown_at rows k).go;
-            queue = (shown_at rows k).queue;
-            out = out j;
-            figures = (shown_at rows k).figures;
-          })
+          ∙ ap (λ x. record (shown_at rows k) { out = x }) out
 
 -- figures that are written don't move departures
 pub figures_out : (rows : RowsValue) (l : ℕ) (f : Figures) (t k : ℕ)
@@ -64,13 +58,7 @@ pub figures_here : (rows : RowsValue) (l : ℕ) (f : Figures) → l < length row
 figures_here rows l f inside =
     let out = figures_out rows l f rows.sweeps l in
     let here = get_or-set_at rows.figures l l f no_figures refl inside in
-    (λ j. record {
-      arrivals = (shown_at rows l).arrivals;
-      go = (shown_at rows l).go;
-      queue = (shown_at rows l).queue;
-      out = out j;
-      figures = here j;
-    })
+    (λ j. record (shown_at rows l) { out = out j; figures = here j })
 
 -- figures of one link leave the last sweep of each other
 pub figures_elsewhere : (rows : RowsValue) (l : ℕ) (f : Figures) (k : ℕ) → k ≢ l
@@ -78,10 +66,4 @@ pub figures_elsewhere : (rows : RowsValue) (l : ℕ) (f : Figures) (k : ℕ) →
 figures_elsewhere rows l f k other =
     let out = figures_out rows l f rows.sweeps k in
     let there = get_or-set_other rows.figures l k f no_figures other in
-    (λ j. record {
-      arrivals = (shown_at rows k).arrivals;
-      go = (shown_at rows k).go;
-      queue = (shown_at rows k).queue;
-      out = out j;
-      figures = there j;
-    })
+    (λ j. record (shown_at rows k) { out = out j; figures = there j })

@@ -145,13 +145,7 @@ module _ (a b : Network) (same : SameShape a b) where
     shown_out k there =
         let out = out_elsewhere rows 0 l (omega (arith, starting.outs.fits.link_count)) (start b l) rows.sweeps k
         (omega (arith, starting.outs.fits.link_count)) (λ e _. absurd (omega (arith, e, starting.outs.fits.sweeps))) in
-        (λ j. record {
-          arrivals = (shown_at rows k).arrivals;
-          go = (shown_at rows k).go;
-          queue = (shown_at rows k).queue;
-          out = out j;
-          figures = (shown_at rows k).figures;
-        })
+        ap (λ x. record (shown_at rows k) { out = x }) out
 
     -- one link more, which is started where it differs
     pub started_put : AreRows rows → differs a b 0 l ≡ true

@@ -44,16 +44,13 @@ pub opened_tracks : (net marked : Network) (kept : KeptValue) (places : List Pla
     → length scratch.arrivals ≡ net.frame.step_count
     → IsTracking net marked kept places readers own_changed awaited scratch
 opened_tracks net marked kept places readers own_changed awaited scratch copied evaluation closed all reading own_len
-    awaited_len steps = record {
-      shape = sym (ap shape copied);
-      evaluation = evaluation;
-      back = closed_mark kept.marked marked closed;
-      table = subst (ArePlaces net) (sym all) (all_places_are net);
-      reading = reading;
-      own_count = own_len;
-      awaited_count = awaited_len;
-      steps = steps;
-    }
+    awaited_len steps =
+    let same : SameShape net marked = sym (ap shape copied) in
+    assumption (
+      same,
+      closed_mark kept.marked marked closed,
+      subst (ArePlaces net) (sym all) (all_places_are net),
+    )
 
 module _ (net marked : Network) (kept : KeptValue) (places : List PlacesValue) (readers : List (List ℕ))
     (own_changed awaited : List Bool) (scratch : CellValue)
@@ -65,30 +62,19 @@ module _ (net marked : Network) (kept : KeptValue) (places : List PlacesValue) (
       → length own_changed1 ≡ length after.links → length awaited1 ≡ length after.links
       → length scratch1.arrivals ≡ after.frame.step_count
       → IsTracking after marked kept1 places readers own_changed1 awaited1 scratch1
-  followed_tracks after same kept1 own_changed1 awaited1 scratch1 evaluation stays own_len awaited_len steps = record {
-    shape = sym same ∙ tracking.shape;
-    evaluation = evaluation;
-    back = subst (AreOfMark marked) (sym stays) tracking.back;
-    table = shape_table net after same places tracking.table;
-    reading = shape_readers net after same readers tracking.reading;
-    own_count = own_len;
-    awaited_count = awaited_len;
-    steps = steps;
-  }
+  followed_tracks after same kept1 own_changed1 awaited1 scratch1 evaluation stays own_len awaited_len steps =
+      let shapes : SameShape after marked = sym same ∙ tracking.shape in
+      assumption (
+        shapes,
+        subst (AreOfMark marked) (sym stays) tracking.back,
+        shape_table net after same places tracking.table,
+        shape_readers net after same readers tracking.reading,
+      )
 
   -- a mark is set
   pub begun_tracks : IsTracking net net (record kept { marked = Some kept.now }) places readers own_changed
       awaited scratch
-  begun_tracks = record {
-    shape = refl;
-    evaluation = tracking.evaluation;
-    back = tracking.evaluation;
-    table = tracking.table;
-    reading = tracking.reading;
-    own_count = tracking.own_count;
-    awaited_count = tracking.awaited_count;
-    steps = tracking.steps;
-  }
+  begun_tracks = let same : SameShape net net = refl in assumption (same)
 
   -- the rows are those of another network, and no mark is open
   pub closed_tracks : (after other : Network) → SameShape net after → SameShape after other → (kept1 : KeptValue)
@@ -97,13 +83,11 @@ module _ (net marked : Network) (kept : KeptValue) (places : List PlacesValue) (
   closed_tracks after other same same_other kept1 evaluation closed =
       let frame = shape_frame net after same in
       let count = shape_count net after same in
-      record {
-        shape = same_other;
-        evaluation = evaluation;
-        back = closed_mark kept1.marked other closed;
-        table = shape_table net after same places tracking.table;
-        reading = shape_readers net after same readers tracking.reading;
-        own_count = tracking.own_count ∙ count;
-        awaited_count = tracking.awaited_count ∙ count;
-        steps = tracking.steps ∙ ap (λ (f : Frame). f.step_count) frame;
-      }
+      assumption (
+        closed_mark kept1.marked other closed,
+        shape_table net after same places tracking.table,
+        shape_readers net after same readers tracking.reading,
+        tracking.own_count ∙ count,
+        tracking.awaited_count ∙ count,
+        tracking.steps ∙ ap (λ (f : Frame). f.step_count) frame,
+      )

@@ -1,12 +1,12 @@
 -- The figures are saved with arrivals and queue, and then written over.
-use Rattle.transyt_kept.proofs.KeptLaws.{marked_weighed, fits_weighed}
+use Rattle.std.proofs.Common.{rules}
+use Rattle.transyt_kept.proofs.OldLaws.{places_put, length-put_if}
+use Rattle.transyt_kept.proofs.KeptLaws.{marked_weighed}
 use Rattle.transyt_kept.proofs.kept.KeptRows.reweigh.Goals as goal
 
 pub invariant_of-self : goal.invariant_of-self
 invariant_of-self c =
-    let i = c.self.inside in
-    rw (c.save_arrivals.ensures, c.reweigh.ensures)
-    (fits_weighed i.rows i.saved c.self.invariant c.args.net.now c.args.link)
+    rw (c.save_arrivals.ensures, c.reweigh.ensures) (search (rules, c.self.invariant, places_put, length-put_if))
 
 pub returns : goal.returns
 returns c =
