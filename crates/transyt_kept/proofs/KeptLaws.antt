@@ -1,140 +1,208 @@
--- Rows with a mark: right after it was set its rows are those now; and they are what is given back, or copied.
-use Rattle.std.proofs.Common.{◌≡◌, ℕ, ◌+◌, ◌*◌, ◌<◌, ◌≤◌, Bool, true, false, List, length, replicate, get_or, Some, None}
-use Rattle.std.proofs.Common.{IsSome, refl, ap, sym, subst, ◌∙◌, arith, ◌⊎◌, inl, inr, if◌then◌else◌}
-use Rattle.std.proofs.lemmas.Bool.{cases_lt, or_parts}
-use Rattle.std.proofs.lemmas.List.{get_or-replicate, length-replicate}
-use Rattle.std.proofs.lemmas.Option.{same_Some}
-use Rattle.std.proofs.Math.ListN.{get_or-eq_default}
+-- Rows with a mark: its rows stay where rows are written or given back, and right after it was set they are those now.
+use Rattle.std.proofs.Common.{◌≡◌, ◌≢◌, ℕ, ◌+◌, ◌*◌, ◌<◌, ◌≤◌, ◌==◌, Bool, true, false, List, [], length, set, get_or}
+use Rattle.std.proofs.Common.{Some, IsSome, refl, rules, ap, sym, subst, ◌∙◌, arith, ◌⊎◌, inl, inr, if◌then◌else◌}
+use Rattle.std.proofs.lemmas.Bool.{cases_lt, cases_eq}
+use Rattle.std.proofs.lemmas.List.{length-set, get_or-replicate, get_or_past, length-replicate, set-get_or}
+use Rattle.std.proofs.lemmas.List.{get_or-set_other}
+use Rattle.std.proofs.lemmas.Grind.{get_or-set_at}
+use Rattle.transyt_delay.specs.declared.figures.Figures.{Figures}
 use Rattle.transyt_sweep.specs.Cell.{CellValue}
-use Rattle.transyt_sweep.specs.Rows.{RowsValue, SameSize, out_at, shown_at}
-use Rattle.transyt_kept.specs.Saved.{SavedValue, is_out_saved, is_come_saved, is_go_saved, is_shown_saved, part_by}
-use Rattle.transyt_kept.specs.Saved.{old_out, old_shown, old_rows, marked_by, kept_of, rows_by, by_link, begun}
-use Rattle.transyt_kept.specs.Saved.{copied_out, copied_shown, GivesBack, AreDown, AreCopied}
-use Rattle.transyt_kept.proofs.DrawnLaws.{rows_ext, outs_at, shown_of}
+use Rattle.transyt_net.specs.Parts.{Network}
+use Rattle.transyt_sweep.specs.Rows.{RowsValue, row, shown_at, with_out, with_arrivals, with_go, with_rest, placed}
+use Rattle.transyt_sweep.specs.Rows.{reweighed, with_figures, with_weights}
+use Rattle.transyt_sweep.specs.Rows.{no_figures, AreRows, Fits, SameSize}
+use Rattle.transyt_kept.specs.Saved.{SavedValue, FitsRows, GivesBack, old_rows, old_of, marked_by, kept_of, is_up}
+use Rattle.transyt_kept.specs.Saved.{out_kept, arrivals_kept, go_kept, begun, all_down, AreDownTo}
+use Rattle.transyt_kept.proofs.OldLaws.{old_put, old_give, old_none, length-old_of, places_put}
 
-no_flag : (n p : ℕ) → get_or (replicate n false) p false ≡ false
-no_flag n p = by (cases_lt p n)
+-- rows with a mark, where those of an open mark stay
+kept_same : (rows new : RowsValue) (saved new_saved : SavedValue) → new_saved.live ≡ saved.live
+    → (saved.live ≡ true → old_rows new_saved new ≡ old_rows saved rows)
+    → kept_of new new_saved ≡ record (kept_of rows saved) { now = new }
+kept_same rows new saved new_saved live same =
+    ap (λ b. record { now = new; marked = marked_by b (old_rows new_saved new) }) live ∙ by saved.live refl
   where
-    by : (p < n) ⊎ (n ≤ p) → get_or (replicate n false) p false ≡ false
-    by (inl inside) = get_or-replicate n p false false inside
-    by (inr past) = get_or-eq_default (replicate n false) false (omega (arith, length-replicate n false))
+    by : (b : Bool) → saved.live ≡ b → record { now = new; marked = marked_by b (old_rows new_saved new) }
+        ≡ record (kept_of rows saved) { now = new; marked = marked_by b (old_rows saved rows) }
+    by true open_now = ap (λ old. record { now = new; marked = Some old }) (same open_now)
+    by false closed = refl
 
--- all of a link at the last sweep by whether its arrivals and its GO are saved
-abbrev shown_by : SavedValue → RowsValue → List ℕ → Bool → Bool → ℕ → CellValue
-shown_by saved rows out come go k = record {
-  arrivals = part_by come (λ c. c.arrivals) saved rows k;
-  go = part_by go (λ c. c.go) saved rows k;
-  queue = part_by come (λ c. c.queue) saved rows k;
-  out = out;
-  figures = part_by come (λ c. c.figures) saved rows k;
-}
+module _ (rows : RowsValue) (saved : SavedValue) (fits : FitsRows rows saved) where
+  -- departures are saved, and then written over
+  pub marked_out : (p : ℕ) (x : List ℕ) → kept_of (record rows { outs = set rows.outs p x }) (out_kept saved rows p)
+      ≡ record (kept_of rows saved) { now = record rows { outs = set rows.outs p x } }
+  marked_out p x =
+      kept_same rows (record rows { outs = set rows.outs p x }) saved (out_kept saved rows p) refl (λ live.
+      let outs = old_put saved.out_flags saved.rows.outs rows.outs fits.outs saved.live live p x [] in
+      (λ j. record (old_rows saved rows) { outs = outs j }))
 
--- where nothing is saved of a link, it is that of the rows now
-pub shown_unsaved : (saved : SavedValue) (rows : RowsValue) (k : ℕ) → is_out_saved saved rows.sweeps k ≡ false
-    → is_come_saved saved k ≡ false → is_go_saved saved k ≡ false → old_shown saved rows k ≡ shown_at rows k
-shown_unsaved saved rows k out come go =
-    (λ j. shown_by saved rows (if out j then out_at saved.rows rows.sweeps k else out_at rows rows.sweeps k) (come j) (go j) k)
+  -- and so are arrivals, queue and figures
+  pub marked_arrivals : (l : ℕ) (a q : List ℕ) (f : Figures)
+      → kept_of (with_arrivals rows l a q f) (arrivals_kept saved l (shown_at rows l))
+      ≡ record (kept_of rows saved) { now = with_arrivals rows l a q f }
+  marked_arrivals l a q f =
+      kept_same rows (with_arrivals rows l a q f) saved (arrivals_kept saved l (shown_at rows l)) refl (λ live.
+      let flags : List Bool = saved.arrivals_flags in
+      let arrivals = old_put flags saved.rows.arrivals rows.arrivals fits.arrivals saved.live live l a [] in
+      let queue = old_put flags saved.rows.queue rows.queue fits.queue saved.live live l q [] in
+      let figures = old_put flags saved.rows.figures rows.figures fits.figures saved.live live l f no_figures in
+      (λ j. record (old_rows saved rows) { arrivals = arrivals j; queue = queue j; figures = figures j }))
+
+  -- and GO
+  pub marked_go : (l : ℕ) (g : List ℕ) → kept_of (with_go rows l g) (go_kept saved l (row rows.go l))
+      ≡ record (kept_of rows saved) { now = with_go rows l g }
+  marked_go l g =
+      kept_same rows (with_go rows l g) saved (go_kept saved l (row rows.go l)) refl (λ live.
+      let go = old_put saved.go_flags saved.rows.go rows.go fits.go saved.live live l g [] in
+      (λ j. record (old_rows saved rows) { go = go j }))
+
+  -- so they are where a link is weighed anew
+  written : (l : ℕ) (f : Figures)
+      → with_arrivals rows l (row rows.arrivals l) (row rows.queue l) f ≡ with_figures rows l f
+  written l f =
+      let arrivals = set-get_or rows.arrivals l [] in
+      let queue = set-get_or rows.queue l [] in
+      (λ j. record (with_figures rows l f) { arrivals = arrivals j; queue = queue j })
+
+  pub marked_weighed : (net : Network) (l : ℕ) → kept_of (with_weights rows net l) (arrivals_kept saved l (shown_at rows l))
+      ≡ record (kept_of rows saved) { now = with_weights rows net l }
+  marked_weighed net l =
+      let f : Figures = reweighed net l (shown_at rows l).figures in
+      subst (λ new. kept_of new (arrivals_kept saved l (shown_at rows l)) ≡ record (kept_of rows saved) { now = new })
+      (written l f) (marked_arrivals l (row rows.arrivals l) (row rows.queue l) f)
+
+  -- saved departures are given back, and aren't saved then
+  pub given_out : (p : ℕ) → is_up saved.out_flags p ≡ true
+      → GivesBack rows saved (record rows { outs = set rows.outs p (row saved.rows.outs p) })
+      (record saved { out_flags = set saved.out_flags p false })
+  given_out p up =
+      let outs = ap (λ s. old_of (set saved.out_flags p false) s (set rows.outs p (row saved.rows.outs p)))
+      (sym (set-get_or saved.rows.outs p []))
+      ∙ old_give saved.out_flags saved.rows.outs rows.outs fits.outs (row saved.rows.outs p) p [] up in
+      record {
+        fits = search (rules, places_put fits.outs true false);
+        old = (λ j. record (old_rows saved rows) { outs = outs j });
+      }
+
+  -- and so are arrivals, queue and figures, which change places
+  pub given_arrivals : (l : ℕ) → is_up saved.arrivals_flags l ≡ true
+      → GivesBack rows saved
+      (with_arrivals rows l (row saved.rows.arrivals l) (row saved.rows.queue l) (get_or saved.rows.figures l no_figures))
+      (record saved {
+        arrivals_flags = set saved.arrivals_flags l false;
+        rows = with_arrivals saved.rows l (row rows.arrivals l) (row rows.queue l) (get_or rows.figures l no_figures);
+      })
+  given_arrivals l up =
+      let flags : List Bool = saved.arrivals_flags in
+      let now = shown_at rows l in
+      let was = shown_at saved.rows l in
+      let arrivals = old_give flags saved.rows.arrivals rows.arrivals fits.arrivals now.arrivals l [] up in
+      let queue = old_give flags saved.rows.queue rows.queue fits.queue now.queue l [] up in
+      let figures = old_give flags saved.rows.figures rows.figures fits.figures now.figures l no_figures up in
+      record {
+        fits = search (rules, places_put, length-set);
+        old = (λ j. record (old_rows saved rows) { arrivals = arrivals j; queue = queue j; figures = figures j });
+      }
+
+  -- and GO
+  pub given_go : (l : ℕ) → is_up saved.go_flags l ≡ true
+      → GivesBack rows saved (with_go rows l (row saved.rows.go l))
+      (record saved { go_flags = set saved.go_flags l false; rows = with_go saved.rows l (row rows.go l) })
+  given_go l up =
+      let go = old_give saved.go_flags saved.rows.go rows.go fits.go (row rows.go l) l [] up in
+      record {
+        fits = search (rules, places_put, length-set);
+        old = (λ j. record (old_rows saved rows) { go = go j });
+      }
+
+-- where no flag is up the rows of the mark are those now
+pub none_old : (rows : RowsValue) (saved : SavedValue) → ((p : ℕ) → is_up saved.out_flags p ≡ false)
+    → ((p : ℕ) → is_up saved.arrivals_flags p ≡ false) → ((p : ℕ) → is_up saved.go_flags p ≡ false)
+    → old_rows saved rows ≡ rows
+none_old rows saved no_out no_arrivals no_go =
+    let outs = old_none saved.out_flags saved.rows.outs rows.outs no_out in
+    let arrivals = old_none saved.arrivals_flags saved.rows.arrivals rows.arrivals no_arrivals in
+    let go = old_none saved.go_flags saved.rows.go rows.go no_go in
+    let queue = old_none saved.arrivals_flags saved.rows.queue rows.queue no_arrivals in
+    let figures = old_none saved.arrivals_flags saved.rows.figures rows.figures no_arrivals in
+    (λ j. record rows { outs = outs j; arrivals = arrivals j; go = go j; queue = queue j; figures = figures j })
+
+-- flags of which none is up before their end
+pub all_are_down : (flags : List Bool) → AreDownTo (length flags) flags → (p : ℕ) → is_up flags p ≡ false
+all_are_down flags down p = by (cases_lt p (length flags))
+  where
+    by : (p < length flags) ⊎ (length flags ≤ p) → is_up flags p ≡ false
+    by (inl inside) = down p inside
+    by (inr past) = get_or_past flags p false past
+
+no_flag : (flags : List Bool) (p : ℕ) → is_up (all_down flags) p ≡ false
+no_flag flags =
+    all_are_down (all_down flags)
+    (λ p inside. get_or-replicate (length flags) p false false
+    (omega (arith, inside, length-replicate (length flags) false)))
 
 -- right after a mark was set its rows are those now
 pub begun_now : (rows : RowsValue) (saved : SavedValue)
-    → kept_of rows (begun saved) ≡ record { now = rows; marked = Some (by_link rows) }
+    → kept_of rows (begun saved) ≡ record { now = rows; marked = Some rows }
 begun_now rows saved =
-    let outs : (t k : ℕ) → old_out (begun saved) rows t k ≡ out_at rows t k =
-    λ t k. ap (λ b. if b then out_at saved.rows t k else out_at rows t k)
-    (no_flag (length saved.out_flags) (t * saved.link_count + k)) in
-    let shown : (k : ℕ) → old_shown (begun saved) rows k ≡ shown_at rows k =
-    λ k. shown_unsaved (begun saved) rows k
-    (no_flag (length saved.out_flags) (rows.sweeps * saved.link_count + k)) (no_flag (length saved.come_flags) k)
-    (no_flag (length saved.go_flags) k) in
-    (λ j. record {
-      now = rows;
-      marked = Some (rows_by rows.sweeps (length rows.figures) (λ t k. outs t k j) (λ k. shown k j));
-    })
+    let none = none_old rows (begun saved) (no_flag saved.out_flags) (no_flag saved.arrivals_flags)
+    (no_flag saved.go_flags) in
+    (λ j. record { now = rows; marked = Some (none j) })
 
--- where no row is saved those of an open mark are those now
-down_rows : (rows : RowsValue) (saved : SavedValue) → AreDown rows saved → IsSome (kept_of rows saved).marked
-    → (kept_of rows saved).marked ≡ Some (by_link rows)
-down_rows rows saved down = by saved.live
+-- a flag more is down
+pub down_more : (flags : List Bool) (end : ℕ) → end < length flags → AreDownTo end flags
+    → AreDownTo (end + 1) (set flags end false)
+down_more flags end inside down p before = by (cases_eq p end)
   where
-    by : (b : Bool) → IsSome (marked_by b (old_rows saved rows)) → marked_by b (old_rows saved rows) ≡ Some (by_link rows)
-    by true some =
-        ap Some (rows_ext rows.sweeps (length rows.figures) (old_out saved rows) (out_at rows) (old_shown saved rows)
-        (shown_at rows)
-        (λ t k within there. ap (λ b. if b then out_at saved.rows t k else out_at rows t k) (down.outs t k within there))
-        (λ k there. shown_unsaved saved rows k (down.outs rows.sweeps k (omega arith) there) (down.come k there)
-        (down.go k there)))
+    by : (p ≡ end) ⊎ (p ≡ end → ⊥) → is_up (set flags end false) p ≡ false
+    by (inl same) = get_or-set_at flags end p false false same inside
+    by (inr apart) =
+        let other : p ≢ end = apart in
+        get_or-set_other flags end p false false other ∙ down p (omega (arith, before, other))
+
+-- new saved rows have a place for each row
+pub opened_fits : (net : Network) (rows : RowsValue) (saved : SavedValue) → AreRows rows → AreRows saved.rows
+    → Fits net rows → Fits net saved.rows
+    → length saved.out_flags ≡ (net.frame.sweeps + 1) * length net.links
+    → length saved.arrivals_flags ≡ length net.links → length saved.go_flags ≡ length net.links → FitsRows rows saved
+opened_fits net rows saved kept saved_kept fits saved_fits out arrivals go =
+    let outs : (r : RowsValue) → AreRows r → Fits net r → length r.outs ≡ (net.frame.sweeps + 1) * length net.links =
+    λ r k f. k.outs.many ∙ (λ j. (f.sweeps j + 1) * f.link_count j) in
+    let now = outs rows kept fits in
+    let was = outs saved.rows saved_kept saved_fits in
+    grind (arith, kept.arrivals.many, saved_kept.arrivals.many, kept.go.many, saved_kept.go.many, kept.queue.many, saved_kept.queue.many)
+
+-- so have rows of which a pair is written
+pub fits_placed : (rows : RowsValue) (saved : SavedValue) → FitsRows rows saved → (s l : ℕ) (c : CellValue)
+    → FitsRows (placed rows s l c) saved
+fits_placed rows saved fits s l c = by (s == rows.sweeps)
+  where
+    by : (b : Bool) → FitsRows (if b then with_rest (with_out rows s l c.out) l c else with_out rows s l c.out) saved
+    by true = search (rules, places_put)
+    by false = search (rules, places_put)
+
+-- rows and saved rows have one size
+pub same_size : (rows : RowsValue) (saved : SavedValue) → FitsRows rows saved → SameSize saved.rows rows
+same_size rows saved fits = record {
+  step_count = fits.step_count;
+  sweeps = fits.sweeps;
+  link_count = fits.figures.room;
+}
+
+-- rows of the mark are as many as the rows now
+pub old_size : (rows : RowsValue) (saved : SavedValue) → SameSize (old_rows saved rows) rows
+old_size rows saved = record {
+  step_count = refl;
+  sweeps = refl;
+  link_count = length-old_of saved.arrivals_flags saved.rows.figures rows.figures;
+}
+
+-- while a mark is open they are the rows of the mark
+pub was_open : (rows : RowsValue) (saved : SavedValue) → IsSome (kept_of rows saved).marked
+    → (kept_of rows saved).marked ≡ Some (old_rows saved rows)
+was_open rows saved = by saved.live
+  where
+    by : (b : Bool) → IsSome (marked_by b (old_rows saved rows))
+        → marked_by b (old_rows saved rows) ≡ Some (old_rows saved rows)
+    by true some = refl
     by false none = absurd (cc)
-
--- the rows that went back are those of the mark
-pub went_back : (saved new : SavedValue) (old rows : RowsValue) → IsSome (kept_of old saved).marked
-    → GivesBack old saved rows new → AreDown rows new → (kept_of old saved).marked ≡ Some (by_link rows)
-went_back saved new old rows some back down =
-    sym back.carries.marked ∙ down_rows rows new down (subst IsSome (sym back.carries.marked) some)
-
--- the rows of an open mark
-pub marked_rows : (rows other : RowsValue) (saved : SavedValue) → (kept_of rows saved).marked ≡ Some (by_link other)
-    → by_link other ≡ old_rows saved rows
-marked_rows rows other saved = by saved.live
-  where
-    by : (b : Bool) → marked_by b (old_rows saved rows) ≡ Some (by_link other) → by_link other ≡ old_rows saved rows
-    by true same = sym (same_Some (old_rows saved rows) (by_link other) same)
-    by false same = absurd (cc)
-
--- rows of the mark, with what changed since copied, are the rows now
-module _ (saved : SavedValue) (from old rows : RowsValue) (size : SameSize old from)
-    (was : by_link old ≡ old_rows saved from) (copy : AreCopied saved from old rows) where
-  alike : rows_by from.sweeps (length from.figures) (out_at old) (shown_at old) ≡ old_rows saved from
-  alike = (λ j. rows_by (sym size.sweeps j) (sym size.link_count j) (out_at old) (shown_at old)) ∙ was
-
-  out_now : (t k : ℕ) → t ≤ old.sweeps → k < length old.figures → copied_out saved from old t k ≡ out_at from t k
-  out_now t k within there = by (is_out_saved saved t k) refl
-    where
-      by : (b : Bool) → is_out_saved saved t k ≡ b
-          → (if is_out_saved saved t k then out_at from t k else out_at old t k) ≡ out_at from t k
-      by true told = ap (λ b. if b then out_at from t k else out_at old t k) told
-      by false told =
-          ap (λ b. if b then out_at from t k else out_at old t k) told
-          ∙ outs_at from.sweeps (length from.figures) (out_at old) (old_out saved from) (shown_at old)
-          (old_shown saved from) alike t k (omega (arith, size.sweeps)) (omega (arith, size.link_count))
-          ∙ ap (λ b. if b then out_at saved.rows t k else out_at from t k) told
-
-  shown_now : (k : ℕ) → k < length old.figures
-      → record (copied_shown saved from old k) { out = copied_out saved from old old.sweeps k } ≡ shown_at from k
-  shown_now k there = ap (λ x. record (copied_shown saved from old k) { out = x }) leaving ∙ by (is_shown_saved saved k) refl
-    where
-      leaving : copied_out saved from old old.sweeps k ≡ out_at from from.sweeps k
-      leaving = out_now old.sweeps k (omega arith) there ∙ ap (λ t. out_at from t k) size.sweeps
-
-      by : (b : Bool) → is_shown_saved saved k ≡ b
-          → record (if is_shown_saved saved k then shown_at from k else shown_at old k) { out = out_at from from.sweeps k }
-          ≡ shown_at from k
-      by true told =
-          ap (λ b. record (if b then shown_at from k else shown_at old k) { out = out_at from from.sweeps k }) told
-      by false told =
-          let parts = or_parts (is_come_saved saved k) (is_go_saved saved k) told in
-          ap (λ b. record (if b then shown_at from k else shown_at old k) { out = out_at from from.sweeps k }) told
-          ∙ ap (λ (c : CellValue). record c { out = out_at from from.sweeps k })
-          (shown_of from.sweeps (length from.figures) (out_at old) (old_out saved from) (shown_at old)
-          (old_shown saved from) alike k (omega (arith, size.link_count)))
-          ∙ (λ j. shown_by saved from (out_at from from.sweeps k) (parts.0 j) (parts.1 j) k)
-
-  -- they are equal by sweep and link
-  pub copied_now : by_link rows ≡ by_link from
-  copied_now =
-      let sized = copy.size in
-      (λ j. rows_by (sized.sweeps j) (sized.link_count j) (out_at rows) (shown_at rows))
-      ∙ rows_ext old.sweeps (length old.figures) (out_at rows) (out_at from) (shown_at rows) (shown_at from)
-      (λ t k within there. copy.outs t k within there ∙ out_now t k within there)
-      (λ k there. copy.shown k there ∙ shown_now k there)
-      ∙ (λ j. rows_by (size.sweeps j) (size.link_count j) (out_at from) (shown_at from))
-
--- with no mark open none of its rows are there
-pub closed_of : (rows : RowsValue) (saved : SavedValue) → saved.live ≡ false → (kept_of rows saved).marked ≡ None
-closed_of rows saved closed = ap (λ b. marked_by b (old_rows saved rows)) closed
-
-pub closed_is : (rows : RowsValue) (saved : SavedValue) → (kept_of rows saved).marked ≡ None → saved.live ≡ false
-closed_is rows saved = by saved.live refl
-  where
-    by : (b : Bool) → saved.live ≡ b → marked_by b (old_rows saved rows) ≡ None → saved.live ≡ false
-    by true open_now none = absurd (cc)
-    by false closed none = closed

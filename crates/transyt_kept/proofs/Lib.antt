@@ -1,7 +1,2 @@
-pub mod FlagLaws
-pub mod WrittenLaws
-pub mod CarryLaws
-pub mod BackLaws
-pub mod CopyLaws
-pub mod DrawnLaws
+pub mod OldLaws
 pub mod KeptLaws

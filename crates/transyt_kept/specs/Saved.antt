@@ -1,122 +1,43 @@
 -- The rows that are saved while a mark is open.
-use Rattle.std.specs.Prelude.{◌≡◌, ℕ, ◌+◌, ◌*◌, ◌<◌, ◌≤◌, Bool, true, false, not, ◌&&◌, ◌||◌, List, length}
-use Rattle.std.specs.Prelude.{if◌then◌else◌, slice_index_or, slice_set, replicate, map, Option, Some, None}
-use Rattle.std.specs.List.{range_with_len}
+use Rattle.std.specs.Prelude.{◌≡◌, ℕ, ◌<◌, Bool, true, false, not, ◌&&◌, List, [], ◌∷◌, length}
+use Rattle.std.specs.Prelude.{if◌then◌else◌, slice_index_or, slice_set, replicate, Option, Some, None}
 use Rattle.transyt_sweep.specs.Cell.{CellValue}
-use Rattle.transyt_sweep.specs.Rows.{RowsValue, SameSize, out_at, shown_at, with_out, with_come, with_go}
+use Rattle.transyt_sweep.specs.Rows.{RowsValue, row}
 
 -- Saved rows: whether a mark is open, the rows, and flags, up where a row is saved: departures for each sweep and link,
 -- arrivals with queue and figures for each link, and GO for each link.
 pub record SavedValue : Type 0 where
   pub live : Bool
-  pub link_count : ℕ
   pub out_flags : List Bool
-  pub come_flags : List Bool
+  pub arrivals_flags : List Bool
   pub go_flags : List Bool
   pub rows : RowsValue
 
--- whether a link's departures at a sweep are saved
-abbrev pub is_out_saved : SavedValue → ℕ → ℕ → Bool
-is_out_saved saved sweep link = slice_index_or saved.out_flags (sweep * saved.link_count + link) false
+-- each row by the saved one where its flag is up, else as it is now
+abbrev pub old_of : {A : Type 0} → List Bool → List A → List A → List A
+old_of flags saved [] = []
+old_of (up ∷ flags) (row ∷ saved) (x ∷ now) = (if up then row else x) ∷ old_of flags saved now
+old_of _ _ (x ∷ now) = x ∷ now
 
--- whether its arrivals at the last sweep are, with its queue and figures
-abbrev pub is_come_saved : SavedValue → ℕ → Bool
-is_come_saved saved link = slice_index_or saved.come_flags link false
-
--- whether its GO is
-abbrev pub is_go_saved : SavedValue → ℕ → Bool
-is_go_saved saved link = slice_index_or saved.go_flags link false
-
--- whether a link's arrivals, GO, queue or figures of the last sweep are saved
-abbrev pub is_shown_saved : SavedValue → ℕ → Bool
-is_shown_saved saved link = is_come_saved saved link || is_go_saved saved link
-
--- the rows with a link's arrivals at the last sweep, its queue and its figures by this
-abbrev pub with_come_of : RowsValue → ℕ → CellValue → RowsValue
-with_come_of rows link cell = with_come rows link cell.arrivals cell.queue cell.figures
-
--- the saved rows with a link's departures at a sweep by the rows, if a mark is open and none are saved
-abbrev pub out_kept : SavedValue → RowsValue → ℕ → ℕ → SavedValue
-out_kept saved rows sweep link =
-    if saved.live && not (is_out_saved saved sweep link)
-    then record saved {
-      out_flags = slice_set saved.out_flags (sweep * saved.link_count + link) true;
-      rows = with_out saved.rows sweep link (out_at rows sweep link);
-    }
-    else saved
-
--- the saved rows with a link's arrivals, queue and figures by this, if a mark is open and none are saved
-abbrev pub come_kept : SavedValue → ℕ → CellValue → SavedValue
-come_kept saved link cell =
-    if saved.live && not (is_come_saved saved link)
-    then record saved {
-      come_flags = slice_set saved.come_flags link true;
-      rows = with_come_of saved.rows link cell;
-    }
-    else saved
-
--- the saved rows with this as a link's GO, if a mark is open and none is saved
-abbrev pub go_kept : SavedValue → ℕ → List ℕ → SavedValue
-go_kept saved link go =
-    if saved.live && not (is_go_saved saved link)
-    then record saved {
-      go_flags = slice_set saved.go_flags link true;
-      rows = with_go saved.rows link go;
-    }
-    else saved
-
--- a link's departures at a sweep by the saved row, if there is one, else by the row now
-abbrev pub old_out : SavedValue → RowsValue → ℕ → ℕ → List ℕ
-old_out saved rows sweep link =
-    if is_out_saved saved sweep link then out_at saved.rows sweep link else out_at rows sweep link
-
--- a part of the last sweep of a link by its saved row, if it is saved, else by its row now
-abbrev pub part_by : {A : Type 0} → Bool → (CellValue → A) → SavedValue → RowsValue → ℕ → A
-part_by is_saved part saved rows link = if is_saved then part (shown_at saved.rows link) else part (shown_at rows link)
-
--- the last sweep of a link in the same way, each row of it by itself
-abbrev pub old_shown : SavedValue → RowsValue → ℕ → CellValue
-old_shown saved rows link = record {
-  arrivals = part_by (is_come_saved saved link) (λ c. c.arrivals) saved rows link;
-  go = part_by (is_go_saved saved link) (λ c. c.go) saved rows link;
-  queue = part_by (is_come_saved saved link) (λ c. c.queue) saved rows link;
-  out = old_out saved rows rows.sweeps link;
-  figures = part_by (is_come_saved saved link) (λ c. c.figures) saved rows link;
+-- the rows of the mark
+abbrev pub old_rows : SavedValue → RowsValue → RowsValue
+old_rows saved rows = record rows {
+  outs = old_of saved.out_flags saved.rows.outs rows.outs;
+  arrivals = old_of saved.arrivals_flags saved.rows.arrivals rows.arrivals;
+  go = old_of saved.go_flags saved.rows.go rows.go;
+  queue = old_of saved.arrivals_flags saved.rows.queue rows.queue;
+  figures = old_of saved.arrivals_flags saved.rows.figures rows.figures;
 }
-
--- Rows by sweep and link: for each sweep and link the departures, and for each link all of the last sweep.
-pub record RowsByLink : Type 0 where
-  pub outs : List (List (List ℕ))
-  pub shown : List CellValue
-
--- so many values of a function
-abbrev pub listed : {A : Type 0} → ℕ → (ℕ → A) → List A
-listed count f = map f (range_with_len 0 count)
-
--- rows of so many sweeps and links, by functions of a sweep and a link
-abbrev pub rows_by : ℕ → ℕ → (ℕ → ℕ → List ℕ) → (ℕ → CellValue) → RowsByLink
-rows_by sweeps links outs shown = record {
-  outs = listed (sweeps + 1) (λ sweep. listed links (outs sweep));
-  shown = listed links shown;
-}
-
--- the rows now, by sweep and link
-abbrev pub by_link : RowsValue → RowsByLink
-by_link rows = rows_by rows.sweeps (length rows.figures) (out_at rows) (shown_at rows)
-
--- the rows of the mark, each by the saved one, if there is one, else by the row now
-abbrev pub old_rows : SavedValue → RowsValue → RowsByLink
-old_rows saved rows = rows_by rows.sweeps (length rows.figures) (old_out saved rows) (old_shown saved rows)
 
 -- these rows, if a mark is open
-abbrev pub marked_by : Bool → RowsByLink → Option RowsByLink
+abbrev pub marked_by : Bool → RowsValue → Option RowsValue
 marked_by true rows = Some rows
 marked_by false rows = None
 
 -- Rows with a mark: the rows now, and those of the mark, if one is open.
 pub record KeptValue : Type 0 where
   pub now : RowsValue
-  pub marked : Option RowsByLink
+  pub marked : Option RowsValue
 
 -- the rows and the saved rows as rows with a mark
 abbrev pub kept_of : RowsValue → SavedValue → KeptValue
@@ -126,25 +47,60 @@ kept_of rows saved = record { now = rows; marked = marked_by saved.live (old_row
 abbrev pub unmarked : RowsValue → KeptValue
 unmarked rows = record { now = rows; marked = None }
 
--- the saved rows have the size of the rows
+-- there are a flag and a place to save for each row
+pub record HavePlaces {A : Type 0} (flags : List Bool) (saved now : List A) : Type 0 where
+  pub many : length flags ≡ length now
+  pub room : length saved ≡ length now
+
+-- so it is with all rows
 pub record FitsRows (rows : RowsValue) (saved : SavedValue) : Type 0 where
-  pub size : SameSize saved.rows rows
-  pub links : saved.link_count ≡ length rows.figures
+  pub step_count : saved.rows.step_count ≡ rows.step_count
+  pub sweeps : saved.rows.sweeps ≡ rows.sweeps
+  pub outs : HavePlaces saved.out_flags saved.rows.outs rows.outs
+  pub arrivals : HavePlaces saved.arrivals_flags saved.rows.arrivals rows.arrivals
+  pub go : HavePlaces saved.go_flags saved.rows.go rows.go
+  pub queue : HavePlaces saved.arrivals_flags saved.rows.queue rows.queue
+  pub figures : HavePlaces saved.arrivals_flags saved.rows.figures rows.figures
+  pub links : length saved.go_flags ≡ length saved.arrivals_flags
 
--- rows and saved rows after a write: their size and the rows of the mark stay
-pub record Carries (rows : RowsValue) (saved : SavedValue) (new_rows : RowsValue) (new_saved : SavedValue) : Type 0
-  where
-    pub fits : FitsRows new_rows new_saved
-    pub marked : (kept_of new_rows new_saved).marked ≡ (kept_of rows saved).marked
+-- whether a flag is up
+abbrev pub is_up : List Bool → ℕ → Bool
+is_up flags place = slice_index_or flags place false
 
--- the parts of saved rows: a flag for each pair of a sweep and a link, and two for each link
-pub record AreSaved (link_count : ℕ) (out_flags come_flags go_flags : List Bool) (rows : RowsValue) : Type 0 where
-  pub links : link_count ≡ length rows.figures
-  pub few : link_count ≤ 1000
-  pub sweeps : rows.sweeps ≤ 8
-  pub outs : length out_flags ≡ (rows.sweeps + 1) * link_count
-  pub comes : length come_flags ≡ link_count
-  pub goes : length go_flags ≡ link_count
+-- x at a place, if a test holds
+abbrev pub put_if : {A : Type 0} → Bool → List A → ℕ → A → List A
+put_if test xs place x = if test then slice_set xs place x else xs
+
+-- the saved rows with the departures at a place by the rows, if a mark is open and none are saved
+abbrev pub out_kept : SavedValue → RowsValue → ℕ → SavedValue
+out_kept saved rows place =
+    let first = saved.live && not (is_up saved.out_flags place) in
+    record saved {
+      out_flags = put_if first saved.out_flags place true;
+      rows = record saved.rows { outs = put_if first saved.rows.outs place (row rows.outs place) };
+    }
+
+-- the saved rows with a link's arrivals, queue and figures by this, if a mark is open and none are saved
+abbrev pub arrivals_kept : SavedValue → ℕ → CellValue → SavedValue
+arrivals_kept saved link cell =
+    let first = saved.live && not (is_up saved.arrivals_flags link) in
+    record saved {
+      arrivals_flags = put_if first saved.arrivals_flags link true;
+      rows = record saved.rows {
+        arrivals = put_if first saved.rows.arrivals link cell.arrivals;
+        queue = put_if first saved.rows.queue link cell.queue;
+        figures = put_if first saved.rows.figures link cell.figures;
+      };
+    }
+
+-- the saved rows with this as a link's GO, if a mark is open and none is saved
+abbrev pub go_kept : SavedValue → ℕ → List ℕ → SavedValue
+go_kept saved link go =
+    let first = saved.live && not (is_up saved.go_flags link) in
+    record saved {
+      go_flags = put_if first saved.go_flags link true;
+      rows = record saved.rows { go = put_if first saved.rows.go link go };
+    }
 
 -- as many flags, all down
 abbrev pub all_down : List Bool → List Bool
@@ -155,44 +111,16 @@ abbrev pub begun : SavedValue → SavedValue
 begun saved = record saved {
   live = true;
   out_flags = all_down saved.out_flags;
-  come_flags = all_down saved.come_flags;
+  arrivals_flags = all_down saved.arrivals_flags;
   go_flags = all_down saved.go_flags;
 }
 
--- the saved rows with the mark gone
-abbrev pub settled : SavedValue → SavedValue
-settled saved = record saved { live = false }
+-- no flag before a place is up
+abbrev pub AreDownTo : ℕ → List Bool → Type 0
+AreDownTo end flags = (place : ℕ) → place < end → is_up flags place ≡ false
 
--- saved rows were given back: the size and the rows of the mark stay, and where none was saved none is
+-- rows were given back: those of the mark stay, and each has its place
 pub record GivesBack (rows : RowsValue) (saved : SavedValue) (new_rows : RowsValue) (new_saved : SavedValue) : Type 0
   where
-    pub size : SameSize new_rows rows
-    pub carries : Carries rows saved new_rows new_saved
-    pub outs : (sweep link : ℕ) → is_out_saved saved sweep link ≡ false → is_out_saved new_saved sweep link ≡ false
-    pub come : (link : ℕ) → is_come_saved saved link ≡ false → is_come_saved new_saved link ≡ false
-    pub go : (link : ℕ) → is_go_saved saved link ≡ false → is_go_saved new_saved link ≡ false
-
--- no row is saved
-pub record AreDown (rows : RowsValue) (saved : SavedValue) : Type 0 where
-  pub outs : (sweep link : ℕ) → sweep ≤ rows.sweeps → link < length rows.figures → is_out_saved saved sweep link ≡ false
-  pub come : (link : ℕ) → link < length rows.figures → is_come_saved saved link ≡ false
-  pub go : (link : ℕ) → link < length rows.figures → is_go_saved saved link ≡ false
-
--- a link's departures at a sweep by other rows, if they are saved, else by these
-abbrev pub copied_out : SavedValue → RowsValue → RowsValue → ℕ → ℕ → List ℕ
-copied_out saved from rows sweep link =
-    if is_out_saved saved sweep link then out_at from sweep link else out_at rows sweep link
-
--- the last sweep of a link by other rows, if its arrivals, GO, queue or figures are saved, else by these
-abbrev pub copied_shown : SavedValue → RowsValue → RowsValue → ℕ → CellValue
-copied_shown saved from rows link =
-    if is_shown_saved saved link then shown_at from link else shown_at rows link
-
--- the rows became those of others where any is saved
-pub record AreCopied (saved : SavedValue) (from old rows : RowsValue) : Type 0 where
-  pub size : SameSize rows old
-  pub outs : (sweep link : ℕ) → sweep ≤ old.sweeps → link < length old.figures
-      → out_at rows sweep link ≡ copied_out saved from old sweep link
-  pub shown : (link : ℕ) → link < length old.figures
-      → shown_at rows link
-      ≡ record (copied_shown saved from old link) { out = copied_out saved from old old.sweeps link }
+    pub fits : FitsRows new_rows new_saved
+    pub old : old_rows new_saved new_rows ≡ old_rows saved rows

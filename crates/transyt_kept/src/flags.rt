@@ -1,6 +1,6 @@
 //! Flags, up where a row is saved.
 
-ghost use Rattle.std.specs.Prelude.{◌≡◌, false, length, replicate, IfOk};
+ghost use Rattle.std.specs.Prelude.{◌≡◌, false, replicate, IfOk};
 ghost use Rattle.transyt_kept.specs.Saved.{all_down};
 
 use std::alloc::{AllocError, Global};

@@ -1,12 +1,12 @@
 //! Rows with a mark and their calls.
 
-ghost use Rattle.std.specs.Prelude.{◌≡◌, ◌<◌, ◌≤◌, length, IfOk, IfSome, IsSome, Some, None};
+ghost use Rattle.std.specs.Prelude.{◌≡◌, ◌<◌, ◌≤◌, length, IfOk, IsSome, Some, None};
 ghost use Rattle.std.specs.Option.{is_some};
 ghost use Rattle.transyt_sweep.specs.Cell.{HasSteps};
 ghost use Rattle.transyt_sweep.specs.Rows.{Fits, SameSize, AreRows, pair_in, placed};
-ghost use Rattle.transyt_sweep.specs.Rows.{with_out, with_come, with_go, with_weights};
+ghost use Rattle.transyt_sweep.specs.Rows.{with_out, with_arrivals, with_go, with_weights};
 ghost use Rattle.transyt_sweep.specs.Sweeps.{start};
-ghost use Rattle.transyt_kept.specs.Saved.{KeptValue, unmarked, by_link};
+ghost use Rattle.transyt_kept.specs.Saved.{KeptValue, unmarked};
 
 use crate::saved::Saved;
 use std::alloc::{AllocError, Global};
@@ -30,7 +30,7 @@ impl Model for KeptRows {
 
     ghost view = { λ k. kept_of k.rows k.saved };
 
-    // the saved rows are as many and as long
+    // there is a place to save each row
     ghost invariant = { λ k. FitsRows k.rows k.saved };
 }
 
@@ -40,6 +40,7 @@ impl KeptRows {
         requires { Fits net.now rows }
         ensures { IfOk result (λ kept. kept ≡ unmarked rows) }
     {
+        rows.index();
         let Ok(saved) = Saved::open(alloc, net) else {
             drop(rows);
             return Err(AllocError);
@@ -63,7 +64,7 @@ impl KeptRows {
 
     /// Sets a mark: it stands for the rows now.
     pub fn begin(&mut self)
-        ensures { self.new ≡ record self.old { marked = Some (by_link self.old.now) } }
+        ensures { self.new ≡ record self.old { marked = Some self.old.now } }
     {
         self.saved.begin();
     }
@@ -76,14 +77,13 @@ impl KeptRows {
     }
 
     /// The rows become those of the mark, and the mark is gone.
-    pub fn restore(&mut self, net: &Net)
-        requires fits { Fits net.now self.old.now }
-        requires marked { IsSome self.old.marked }
+    pub fn restore(&mut self)
+        requires { IsSome self.old.marked }
         ensures size { SameSize self.new.now self.old.now }
-        ensures rows { self.old.marked ≡ Some (by_link self.new.now) }
+        ensures rows { self.old.marked ≡ Some self.new.now }
         ensures marked { self.new.marked ≡ None }
     {
-        self.saved.restore(net, &mut self.rows);
+        self.saved.restore(&mut self.rows);
         self.saved.settle();
     }
 
@@ -94,21 +94,24 @@ impl KeptRows {
         requires steps { HasSteps self.old.now.step_count scratch.now }
         ensures { self.new ≡ record self.old { now = with_out self.old.now sweep link scratch.now.out } }
     {
-        self.saved.take_out(sweep, link, scratch, &mut self.rows);
+        let place = self.rows.pair_place(sweep, link);
+        self.saved.save_out(place, &self.rows);
+        self.rows.take_out(sweep, link, scratch);
     }
 
     /// Writes a link's arrivals at the last sweep, its queue and its figures from a scratch, which is left with other
     /// rows. Nothing is copied.
-    pub fn take_come(&mut self, link: usize, scratch: &mut Scratch)
+    pub fn take_arrivals(&mut self, link: usize, scratch: &mut Scratch)
         requires link { link < length self.old.now.figures }
         requires steps { HasSteps self.old.now.step_count scratch.old }
         ensures value { self.new ≡ record self.old {
-          now = with_come self.old.now link scratch.old.arrivals scratch.old.queue scratch.old.figures;
+          now = with_arrivals self.old.now link scratch.old.arrivals scratch.old.queue scratch.old.figures;
         } }
         ensures go { scratch.new.go ≡ scratch.old.go }
         ensures steps { length scratch.new.arrivals ≡ self.old.now.step_count }
     {
-        self.saved.take_come(link, scratch, &mut self.rows);
+        self.rows.exchange_arrivals(link, scratch);
+        self.saved.keep_arrivals(link, scratch);
     }
 
     /// Writes a link's GO at the last sweep from a scratch, which is left with another row. Nothing is copied.
@@ -119,7 +122,8 @@ impl KeptRows {
         ensures value { self.new ≡ record self.old { now = with_go self.old.now link scratch.old.go } }
         ensures steps { length scratch.new.arrivals ≡ self.old.now.step_count }
     {
-        self.saved.take_go(link, scratch, &mut self.rows);
+        self.rows.exchange_go(link, scratch);
+        self.saved.keep_go(link, scratch);
     }
 
     /// Writes a link's departures before the first sweep by its total flow.
@@ -129,7 +133,9 @@ impl KeptRows {
         ensures value { self.new ≡ record self.old { now = with_out self.old.now 0 link (start net.now link) } }
         ensures rows { AreRows self.old.now }
     {
-        self.saved.start(net, link, &mut self.rows);
+        let place = self.rows.pair_place(0, link);
+        self.saved.save_out(place, &self.rows);
+        self.rows.start(net, link);
     }
 
     /// Weighs a link anew by the network's weights. It is no step.
@@ -138,7 +144,8 @@ impl KeptRows {
         requires link { link < length net.now.links }
         ensures { self.new ≡ record self.old { now = with_weights self.old.now net.now link } }
     {
-        self.saved.reweigh(net, link, &mut self.rows);
+        self.saved.save_arrivals(link, &self.rows);
+        self.rows.reweigh(net, link);
     }
 
     /// With no mark open, a link at a sweep becomes that of other rows, at the last sweep all of it.
@@ -150,18 +157,5 @@ impl KeptRows {
         ensures { self.new ≡ unmarked (placed self.old.now sweep link (pair_in from.now sweep link)) }
     {
         self.rows.take_pair(sweep, link, from);
-    }
-
-    /// Other rows, which are those of the mark, become the rows now: only those that were written since are copied.
-    pub fn copy_changes(&self, net: &Net, rows: &mut KeptRows)
-        requires fits { Fits net.now self.now.now }
-        requires fits_there { Fits net.now rows.old.now }
-        requires marked { self.now.marked ≡ Some (by_link rows.old.now) }
-        requires closed { rows.old.marked ≡ None }
-        ensures size { SameSize rows.new.now rows.old.now }
-        ensures rows { by_link rows.new.now ≡ by_link self.now.now }
-        ensures closed { rows.new.marked ≡ None }
-    {
-        self.saved.copy_changes(net, &self.rows, &mut rows.rows);
     }
 }

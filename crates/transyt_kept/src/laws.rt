@@ -1,30 +1,10 @@
 //! Laws about the definitions.
 
-ghost use Rattle.std.specs.Prelude.{◌≡◌, [], ◌∷◌, map};
-ghost use Rattle.transyt_kept.specs.Saved.{AreCopied, by_link, old_out, old_rows, old_shown};
-ghost use Rattle.transyt_kept.specs.WorkedSaved.{copied_index, copied_out_more, copied_second_go};
-ghost use Rattle.transyt_kept.specs.WorkedSaved.{outs_before, restored_come, restored_first_go};
-ghost use Rattle.transyt_kept.specs.WorkedSaved.{restored_start, rows_copied, rows_now, rows_other, rows_restored};
-ghost use Rattle.transyt_kept.specs.WorkedSaved.{saved_first, saved_two, shown_before};
+ghost use Rattle.std.specs.Prelude.{◌≡◌};
+ghost use Rattle.transyt_kept.specs.Saved.{old_rows};
+ghost use Rattle.transyt_kept.specs.WorkedSaved.{rows_marked, rows_now, saved_two};
 
 /// The rows of the mark of the worked saved rows are the rows that are written beside them.
 pub fn worked_saved()
-    ensures outs { map (λ row. old_out saved_two rows_now row.0 row.1) outs_before ≡ map (λ row. row.2) outs_before }
-    ensures shown { map (old_shown saved_two rows_now) (0 ∷ 1 ∷ []) ≡ shown_before }
-{}
-
-/// These rows have those of the mark, and wrong ones don't.
-pub fn worked_restored()
-    ensures restored { by_link rows_restored ≡ old_rows saved_two rows_now }
-    ensures not_start { by_link restored_start ≡ old_rows saved_two rows_now → ⊥ }
-    ensures not_come { by_link restored_come ≡ old_rows saved_two rows_now → ⊥ }
-    ensures not_first_go { by_link restored_first_go ≡ old_rows saved_two rows_now → ⊥ }
-{}
-
-/// They become those of others where anything is saved, and wrong ones haven't.
-pub fn worked_copied()
-    ensures copied { AreCopied saved_first rows_other rows_now rows_copied }
-    ensures not_out { AreCopied saved_first rows_other rows_now copied_out_more → ⊥ }
-    ensures not_second_go { AreCopied saved_first rows_other rows_now copied_second_go → ⊥ }
-    ensures not_index { AreCopied saved_first rows_other rows_now copied_index → ⊥ }
+    ensures { old_rows saved_two rows_now ≡ rows_marked }
 {}

@@ -1,16 +1,9 @@
 //! Saved rows: flags, and the rows that were there before they were written over.
 
-ghost use Rattle.std.specs.Prelude.{◌≡◌, ◌+◌, ◌*◌, ◌<◌, ◌≤◌, ◌||◌, ℕ, false, length, IfOk, if◌then◌else◌};
-ghost use Rattle.transyt_sweep.specs.Cell.{HasSteps};
-ghost use Rattle.transyt_sweep.specs.Rows.{Fits, SameSize, AreRows, out_at, shown_at};
-ghost use Rattle.transyt_sweep.specs.Rows.{with_out, with_come, with_go, with_rest, with_weights};
-ghost use Rattle.transyt_sweep.specs.Front.{AreMixed};
-ghost use Rattle.transyt_sweep.specs.Sweeps.{start};
-ghost use Rattle.transyt_kept.specs.Saved.{is_out_saved, is_come_saved, is_go_saved, is_shown_saved};
-ghost use Rattle.transyt_kept.specs.Saved.{out_kept, come_kept, go_kept};
-ghost use Rattle.transyt_kept.specs.Saved.{old_out, old_shown, copied_out, copied_shown, with_come_of};
-ghost use Rattle.transyt_kept.specs.Saved.{begun, settled, FitsRows, Carries, AreSaved};
-ghost use Rattle.transyt_kept.specs.Saved.{AreDown, AreCopied, GivesBack};
+ghost use Rattle.std.specs.Prelude.{◌≡◌, ◌+◌, ◌*◌, ◌<◌, false, length, slice_set, IfOk};
+ghost use Rattle.transyt_sweep.specs.Rows.{Fits, AreRows, shown_at};
+ghost use Rattle.transyt_kept.specs.Saved.{out_kept, arrivals_kept, go_kept, old_rows};
+ghost use Rattle.transyt_kept.specs.Saved.{begun, FitsRows, GivesBack, AreDownTo};
 
 use crate::flags::{clear, no_flags};
 use std::alloc::{AllocError, Global};
@@ -22,31 +15,27 @@ use transyt_sweep::{Rows, SavedRows, Scratch};
 #[derive(Drop)]
 pub(crate) struct Saved {
     live: bool,
-    link_count: usize,
     // a flag for each pair of a sweep and a link: its departures are saved
     out_flags: Vec<bool>,
     // a flag for each link: its arrivals at the last sweep are saved, with the queue and the figures
-    come_flags: Vec<bool>,
+    arrivals_flags: Vec<bool>,
     // and: its GO is saved
     go_flags: Vec<bool>,
     rows: SavedRows,
 }
 
 impl Model for Saved {
-    ghost use Rattle.transyt_kept.specs.Saved.{SavedValue, AreSaved};
+    ghost use Rattle.transyt_kept.specs.Saved.{SavedValue};
 
     ghost Value = { SavedValue };
 
     ghost view = { λ s. record {
       live = s.live;
-      link_count = s.link_count;
       out_flags = s.out_flags.items;
-      come_flags = s.come_flags.items;
+      arrivals_flags = s.arrivals_flags.items;
       go_flags = s.go_flags.items;
       rows = s.rows;
     } };
-
-    ghost invariant = { λ s. AreSaved s.link_count s.out_flags.items s.come_flags.items s.go_flags.items s.rows };
 }
 
 impl Saved {
@@ -54,19 +43,22 @@ impl Saved {
     pub(crate) fn open(alloc: Global, net: &Net) -> Result<Saved, AllocError>
         ensures live { IfOk result (λ saved. saved.live ≡ false) }
         ensures fits { IfOk result (λ saved. Fits net.now saved.rows) }
-        ensures links { IfOk result (λ saved. saved.link_count ≡ length net.now.links) }
+        ensures rows { IfOk result (λ saved. AreRows saved.rows) }
+        ensures outs { IfOk result (λ saved.
+            length saved.out_flags ≡ (net.now.frame.sweeps + 1) * length net.now.links) }
+        ensures arrivals { IfOk result (λ saved. length saved.arrivals_flags ≡ length net.now.links) }
+        ensures go { IfOk result (λ saved. length saved.go_flags ≡ length net.now.links) }
     {
         let link_count = net.links().len();
         let pairs = (net.frame().sweeps as usize + 1) * link_count;
         let out_flags = no_flags(alloc, pairs)?;
-        let come_flags = no_flags(alloc, link_count)?;
+        let arrivals_flags = no_flags(alloc, link_count)?;
         let go_flags = no_flags(alloc, link_count)?;
         let rows = SavedRows::open(alloc, net)?;
         Ok(Saved {
             live: false,
-            link_count,
             out_flags,
-            come_flags,
+            arrivals_flags,
             go_flags,
             rows,
         })
@@ -79,374 +71,156 @@ impl Saved {
         self.live
     }
 
-    /// Whether a link's arrivals, GO, queue or figures of the last sweep are saved.
-    pub(crate) fn is_shown_saved(&self, link: usize) -> bool
-        requires { link < self.now.link_count }
-        ensures { result ≡ is_shown_saved self.now link }
-    {
-        self.come_flags[link] || self.go_flags[link]
-    }
-
     /// Sets a mark: none of the rows is saved.
     pub(crate) fn begin(&mut self)
         ensures { self.new ≡ begun self.old }
     {
         clear(&mut self.out_flags);
-        clear(&mut self.come_flags);
+        clear(&mut self.arrivals_flags);
         clear(&mut self.go_flags);
         self.live = true;
     }
 
     /// The mark is gone.
     pub(crate) fn settle(&mut self)
-        ensures { self.new ≡ settled self.old }
+        ensures { self.new ≡ record self.old { live = false } }
     {
         self.live = false;
     }
 
-    /// Writes a link's departures at a sweep from a scratch. While a mark is open, the first write saves the row before
-    /// it.
-    pub(crate) fn take_out(&mut self, sweep: u32, link: usize, scratch: &Scratch, rows: &mut Rows)
-        requires fits { FitsRows rows.old self.old }
-        requires sweep { sweep ≤ rows.old.sweeps }
-        requires link { link < length rows.old.figures }
-        requires steps { HasSteps rows.old.step_count scratch.now }
-        ensures value { rows.new ≡ with_out rows.old sweep link scratch.now.out }
-        ensures carries { Carries rows.old self.old rows.new self.new }
-        ensures kept { AreRows rows.old }
-    {
-        self.save_out(sweep, link, rows);
-        rows.take_out(sweep, link, scratch);
-    }
-
-    /// Writes a link's arrivals at the last sweep, its queue and its figures from a scratch, which is left with other
-    /// rows. While a mark is open, the first write saves those that were there. Nothing is copied.
-    pub(crate) fn take_come(&mut self, link: usize, scratch: &mut Scratch, rows: &mut Rows)
-        requires fits { FitsRows rows.old self.old }
-        requires link { link < length rows.old.figures }
-        requires steps { HasSteps rows.old.step_count scratch.old }
-        ensures value { rows.new
-            ≡ with_come rows.old link scratch.old.arrivals scratch.old.queue scratch.old.figures }
-        ensures carries { Carries rows.old self.old rows.new self.new }
-        ensures go { scratch.new.go ≡ scratch.old.go }
-        ensures steps { length scratch.new.arrivals ≡ rows.old.step_count }
-        ensures kept { AreRows rows.old }
-    {
-        rows.exchange_come(link, scratch);
-        self.keep_come(link, scratch);
-    }
-
-    /// Writes a link's GO at the last sweep from a scratch, which is left with another row. While a mark is open, the
-    /// first write saves the row that was there. Nothing is copied.
-    pub(crate) fn take_go(&mut self, link: usize, scratch: &mut Scratch, rows: &mut Rows)
-        requires fits { FitsRows rows.old self.old }
-        requires link { link < length rows.old.figures }
-        requires steps { length scratch.old.arrivals ≡ rows.old.step_count }
-        requires go_steps { length scratch.old.go ≡ rows.old.step_count }
-        ensures value { rows.new ≡ with_go rows.old link scratch.old.go }
-        ensures carries { Carries rows.old self.old rows.new self.new }
-        ensures steps { length scratch.new.arrivals ≡ rows.old.step_count }
-        ensures kept { AreRows rows.old }
-    {
-        rows.exchange_go(link, scratch);
-        self.keep_go(link, scratch);
-    }
-
-    /// Writes a link's departures before the first sweep by its total flow. While a mark is open, the first write saves
-    /// the row that was there.
-    pub(crate) fn start(&mut self, net: &Net, link: usize, rows: &mut Rows)
-        requires fits { Fits net.now rows.old }
-        requires fits_saved { FitsRows rows.old self.old }
-        requires link { link < length net.now.links }
-        ensures value { rows.new ≡ with_out rows.old 0 link (start net.now link) }
-        ensures carries { Carries rows.old self.old rows.new self.new }
-        ensures kept { AreRows rows.old }
-    {
-        self.save_out(0, link, rows);
-        rows.start(net, link);
-    }
-
-    /// Weighs a link anew. While a mark is open, its arrivals at the last sweep, its queue and its figures are saved before
-    /// the first such write.
-    pub(crate) fn reweigh(&mut self, net: &Net, link: usize, rows: &mut Rows)
-        requires fits { Fits net.now rows.old }
-        requires fits_saved { FitsRows rows.old self.old }
-        requires link { link < length net.now.links }
-        ensures value { rows.new ≡ with_weights rows.old net.now link }
-        ensures carries { Carries rows.old self.old rows.new self.new }
-    {
-        self.save_come(link, rows);
-        rows.reweigh(net, link);
-    }
-
-    /// Each saved row is given back, and none is saved then.
-    pub(crate) fn restore(&mut self, net: &Net, rows: &mut Rows)
-        requires fits { Fits net.now rows.old }
-        requires fits_saved { FitsRows rows.old self.old }
-        ensures back { GivesBack rows.old self.old rows.new self.new }
-        ensures down { AreDown rows.new self.new }
-    {
-        self.give_outs(net, rows);
-        self.give_shown(net, rows);
-    }
-
-    /// Rows become those of others where any is saved.
-    pub(crate) fn copy_changes(&self, net: &Net, from: &Rows, rows: &mut Rows)
-        requires fits { Fits net.now rows.old }
-        requires fits_from { Fits net.now from.now }
-        requires fits_saved { FitsRows from.now self.now }
-        ensures { AreCopied self.now from.now rows.old rows.new }
-    {
-        self.copy_outs(net, from, rows);
-        self.copy_shown(net, from, rows);
-    }
-
-    /// The place of a pair's flag.
-    fn place(&self, sweep: u32, link: usize) -> usize
-        requires sweep { sweep ≤ self.now.rows.sweeps }
-        requires link { link < self.now.link_count }
-        ensures value { result ≡ sweep * self.now.link_count + link }
-        ensures within { result < length self.now.out_flags }
-    {
-        sweep as usize * self.link_count + link
-    }
-
-    /// Whether a link's departures at a sweep are saved.
-    fn is_out_saved(&self, sweep: u32, link: usize) -> bool
-        requires sweep { sweep ≤ self.now.rows.sweeps }
-        requires link { link < self.now.link_count }
-        ensures { result ≡ is_out_saved self.now sweep link }
-    {
-        self.out_flags[self.place(sweep, link)]
-    }
-
-    /// Whether a link's arrivals at the last sweep are saved, with its queue and figures.
-    fn is_come_saved(&self, link: usize) -> bool
-        requires { link < self.now.link_count }
-        ensures { result ≡ is_come_saved self.now link }
-    {
-        self.come_flags[link]
-    }
-
-    /// Whether a link's GO is saved.
-    fn is_go_saved(&self, link: usize) -> bool
-        requires { link < self.now.link_count }
-        ensures { result ≡ is_go_saved self.now link }
-    {
-        self.go_flags[link]
-    }
-
-    /// Saves a link's departures at a sweep, if a mark is open and none are saved.
-    fn save_out(&mut self, sweep: u32, link: usize, rows: &Rows)
+    /// Saves the departures at a place, if a mark is open and none are saved.
+    #[tactic(auto, using(crate::proofs::KeptLaws::same_size))]
+    pub(crate) fn save_out(&mut self, place: usize, rows: &Rows)
         requires fits { FitsRows rows.now self.old }
-        requires sweep { sweep ≤ rows.now.sweeps }
-        requires link { link < length rows.now.figures }
-        ensures value { self.new ≡ out_kept self.old rows.now sweep link }
-        ensures rows { AreRows self.old.rows }
-        ensures room { AreSaved self.old.link_count self.old.out_flags self.old.come_flags self.old.go_flags
-            self.old.rows }
+        requires place { place < length rows.now.outs }
+        ensures { self.new ≡ out_kept self.old rows.now place }
     {
-        self.rows.sweeps();
-        if self.live && !self.is_out_saved(sweep, link) {
-            let place = self.place(sweep, link);
+        if self.live && !self.out_flags[place] {
             self.out_flags[place] = true;
-            self.rows.save_out(sweep, link, rows);
+            self.rows.save_out(place, rows);
         }
     }
 
     /// Saves a link's arrivals at the last sweep, its queue and its figures, if a mark is open and none are saved.
-    fn save_come(&mut self, link: usize, rows: &Rows)
+    #[tactic(auto, using(crate::proofs::KeptLaws::same_size))]
+    pub(crate) fn save_arrivals(&mut self, link: usize, rows: &Rows)
         requires fits { FitsRows rows.now self.old }
         requires link { link < length rows.now.figures }
-        ensures value { self.new ≡ come_kept self.old link (shown_at rows.now link) }
-        ensures rows { AreRows self.old.rows }
-        ensures kept { AreRows rows.now }
-        ensures room { AreSaved self.old.link_count self.old.out_flags self.old.come_flags self.old.go_flags
-            self.old.rows }
+        ensures { self.new ≡ arrivals_kept self.old link (shown_at rows.now link) }
     {
-        rows.index();
-        self.rows.sweeps();
-        if self.live && !self.is_come_saved(link) {
-            self.come_flags[link] = true;
-            self.rows.save_come(link, rows);
+        if self.live && !self.arrivals_flags[link] {
+            self.arrivals_flags[link] = true;
+            self.rows.save_arrivals(link, rows);
         }
     }
 
-    /// Saves the arrivals, queue and figures of a scratch as the link's, if a mark is open and none are saved.
-    fn keep_come(&mut self, link: usize, scratch: &mut Scratch)
-        requires link { link < self.old.link_count }
+    /// Saves the arrivals, queue and figures of a scratch as the link's, if a mark is open and none are saved. The scratch
+    /// is left with other rows.
+    pub(crate) fn keep_arrivals(&mut self, link: usize, scratch: &mut Scratch)
+        requires flag { link < length self.old.arrivals_flags }
+        requires link { link < length self.old.rows.figures }
         requires steps { length scratch.old.arrivals ≡ self.old.rows.step_count }
-        ensures value { self.new ≡ come_kept self.old link scratch.old }
+        ensures value { self.new ≡ arrivals_kept self.old link scratch.old }
         ensures go { scratch.new.go ≡ scratch.old.go }
         ensures steps { length scratch.new.arrivals ≡ self.old.rows.step_count }
-        ensures rows { AreRows self.old.rows }
-        ensures room { AreSaved self.old.link_count self.old.out_flags self.old.come_flags self.old.go_flags
-            self.old.rows }
     {
-        self.rows.sweeps();
-        if self.live && !self.is_come_saved(link) {
-            self.come_flags[link] = true;
-            self.rows.exchange_come(link, scratch);
+        if self.live && !self.arrivals_flags[link] {
+            self.arrivals_flags[link] = true;
+            self.rows.exchange_arrivals(link, scratch);
         }
     }
 
-    /// Saves the GO of a scratch as the link's, if a mark is open and none is saved.
-    fn keep_go(&mut self, link: usize, scratch: &mut Scratch)
-        requires link { link < self.old.link_count }
+    /// Saves the GO of a scratch as the link's, if a mark is open and none is saved. The scratch is left with another row.
+    pub(crate) fn keep_go(&mut self, link: usize, scratch: &mut Scratch)
+        requires flag { link < length self.old.go_flags }
+        requires link { link < length self.old.rows.figures }
         requires steps { length scratch.old.arrivals ≡ self.old.rows.step_count }
         ensures value { self.new ≡ go_kept self.old link scratch.old.go }
         ensures steps { length scratch.new.arrivals ≡ self.old.rows.step_count }
-        ensures rows { AreRows self.old.rows }
-        ensures room { AreSaved self.old.link_count self.old.out_flags self.old.come_flags self.old.go_flags
-            self.old.rows }
     {
-        self.rows.sweeps();
-        if self.live && !self.is_go_saved(link) {
+        if self.live && !self.go_flags[link] {
             self.go_flags[link] = true;
             self.rows.exchange_go(link, scratch);
         }
     }
 
-    /// All saved departures are given back.
-    fn give_outs(&mut self, net: &Net, rows: &mut Rows)
-        requires fits { Fits net.now rows.old }
-        requires fits_saved { FitsRows rows.old self.old }
-        ensures back { GivesBack rows.old self.old rows.new self.new }
-        ensures down { (sweep link : ℕ) → sweep ≤ net.now.frame.sweeps → link < length net.now.links
-            → is_out_saved self.new sweep link ≡ false }
+    /// Each saved row is given back.
+    pub(crate) fn restore(&mut self, rows: &mut Rows)
+        requires { FitsRows rows.old self.old }
+        ensures fits { FitsRows rows.new self.new }
+        ensures rows { rows.new ≡ old_rows self.old rows.old }
     {
-        for sweep in 0..net.frame().sweeps + 1 {
-            for link in 0..net.links().len() {
-                self.give_out(sweep, link, rows);
-            }
+        self.give_outs(rows);
+        self.give_shown(rows);
+    }
+
+    /// All saved departures are given back.
+    fn give_outs(&mut self, rows: &mut Rows)
+        requires { FitsRows rows.old self.old }
+        ensures back { GivesBack rows.old self.old rows.new self.new }
+        ensures down { AreDownTo (length self.new.out_flags) self.new.out_flags }
+    {
+        for place in 0..self.out_flags.len() {
+            self.give_out(place, rows);
         }
     }
 
-    /// A link's departures at a sweep are given back, if they are saved.
-    fn give_out(&mut self, sweep: u32, link: usize, rows: &mut Rows)
+    /// The departures at a place are given back, if they are saved.
+    #[tactic(auto, using(crate::proofs::KeptLaws::same_size))]
+    fn give_out(&mut self, place: usize, rows: &mut Rows)
         requires fits { FitsRows rows.old self.old }
-        requires sweep { sweep ≤ rows.old.sweeps }
-        requires link { link < length rows.old.figures }
+        requires place { place < length self.old.out_flags }
         ensures back { GivesBack rows.old self.old rows.new self.new }
-        ensures down { is_out_saved self.new sweep link ≡ false }
+        ensures flags { self.new.out_flags ≡ slice_set self.old.out_flags place false }
     {
-        rows.index();
-        self.rows.sweeps();
-        if self.is_out_saved(sweep, link) {
-            self.rows.give_out(sweep, link, rows);
-            let place = self.place(sweep, link);
+        if self.out_flags[place] {
+            self.rows.give_out(place, rows);
             self.out_flags[place] = false;
         }
     }
 
     /// All saved arrivals, queues, figures and GO of the last sweep are given back.
-    fn give_shown(&mut self, net: &Net, rows: &mut Rows)
-        requires fits { Fits net.now rows.old }
-        requires fits_saved { FitsRows rows.old self.old }
+    fn give_shown(&mut self, rows: &mut Rows)
+        requires { FitsRows rows.old self.old }
         ensures back { GivesBack rows.old self.old rows.new self.new }
-        ensures come { (link : ℕ) → link < length net.now.links → is_come_saved self.new link ≡ false }
-        ensures go { (link : ℕ) → link < length net.now.links → is_go_saved self.new link ≡ false }
+        ensures outs { self.new.out_flags ≡ self.old.out_flags }
+        ensures arrivals { AreDownTo (length self.new.arrivals_flags) self.new.arrivals_flags }
+        ensures go { AreDownTo (length self.new.arrivals_flags) self.new.go_flags }
     {
-        for link in 0..net.links().len() {
-            self.give_come(link, rows);
+        for link in 0..self.arrivals_flags.len() {
+            self.give_arrivals(link, rows);
             self.give_go(link, rows);
         }
     }
 
     /// A link's arrivals at the last sweep, its queue and its figures are given back, if they are saved; the two change
     /// places.
-    fn give_come(&mut self, link: usize, rows: &mut Rows)
+    #[tactic(auto, using(crate::proofs::KeptLaws::same_size))]
+    fn give_arrivals(&mut self, link: usize, rows: &mut Rows)
         requires fits { FitsRows rows.old self.old }
-        requires link { link < length rows.old.figures }
+        requires link { link < length self.old.arrivals_flags }
         ensures back { GivesBack rows.old self.old rows.new self.new }
-        ensures down { is_come_saved self.new link ≡ false }
+        ensures flags { self.new.arrivals_flags ≡ slice_set self.old.arrivals_flags link false }
+        ensures rest { self.new ≡ record self.old { arrivals_flags = self.new.arrivals_flags; rows = self.new.rows } }
     {
-        rows.index();
-        self.rows.sweeps();
-        if self.is_come_saved(link) {
-            self.rows.give_come(link, rows);
-            self.come_flags[link] = false;
+        if self.arrivals_flags[link] {
+            self.rows.give_arrivals(link, rows);
+            self.arrivals_flags[link] = false;
         }
     }
 
     /// A link's GO is given back, if it is saved; the two rows change places.
+    #[tactic(auto, using(crate::proofs::KeptLaws::same_size))]
     fn give_go(&mut self, link: usize, rows: &mut Rows)
         requires fits { FitsRows rows.old self.old }
-        requires link { link < length rows.old.figures }
+        requires link { link < length self.old.arrivals_flags }
         ensures back { GivesBack rows.old self.old rows.new self.new }
-        ensures down { is_go_saved self.new link ≡ false }
+        ensures flags { self.new.go_flags ≡ slice_set self.old.go_flags link false }
+        ensures rest { self.new ≡ record self.old { go_flags = self.new.go_flags; rows = self.new.rows } }
     {
-        rows.index();
-        self.rows.sweeps();
-        if self.is_go_saved(link) {
+        if self.go_flags[link] {
             self.rows.give_go(link, rows);
             self.go_flags[link] = false;
-        }
-    }
-
-    /// Departures become those of other rows where they are saved.
-    fn copy_outs(&self, net: &Net, from: &Rows, rows: &mut Rows)
-        requires fits { Fits net.now rows.old }
-        requires fits_from { Fits net.now from.now }
-        requires fits_saved { FitsRows from.now self.now }
-        ensures outs { AreMixed net.now (copied_out self.now from.now rows.old) (out_at rows.old)
-            (net.now.frame.sweeps + 1) 0 rows.new }
-        ensures rest { rows.new ≡ record rows.old { outs = rows.new.outs } }
-    {
-        for sweep in 0..net.frame().sweeps + 1 {
-            for link in 0..net.links().len() {
-                self.copy_out(sweep, link, from, rows);
-            }
-        }
-    }
-
-    /// A link's departures at a sweep become those of other rows, if they are saved.
-    fn copy_out(&self, sweep: u32, link: usize, from: &Rows, rows: &mut Rows)
-        requires fits { FitsRows from.now self.now }
-        requires size { SameSize rows.old from.now }
-        requires sweep { sweep ≤ rows.old.sweeps }
-        requires link { link < length rows.old.figures }
-        ensures value { rows.new ≡ (if is_out_saved self.now sweep link
-            then with_out rows.old sweep link (out_at from.now sweep link) else rows.old) }
-        ensures kept { AreRows rows.old }
-        ensures kept_from { AreRows from.now }
-    {
-        rows.index();
-        from.index();
-        if self.is_out_saved(sweep, link) {
-            rows.take_departures(sweep, link, from);
-        }
-    }
-
-    /// The rest of the last sweep becomes that of other rows, link by link, where any of the link's is saved.
-    fn copy_shown(&self, net: &Net, from: &Rows, rows: &mut Rows)
-        requires fits { Fits net.now rows.old }
-        requires fits_from { Fits net.now from.now }
-        requires fits_saved { FitsRows from.now self.now }
-        ensures size { SameSize rows.new rows.old }
-        ensures outs { rows.new.outs ≡ rows.old.outs }
-        ensures shown { (link : ℕ) → link < length rows.old.figures → shown_at rows.new link
-            ≡ record (copied_shown self.now from.now rows.old link) { out = out_at rows.old rows.old.sweeps link } }
-    {
-        for link in 0..net.links().len() {
-            self.copy_link(link, from, rows);
-        }
-    }
-
-    /// A link's arrivals, GO, queue and figures of the last sweep become those of other rows, if any is saved.
-    fn copy_link(&self, link: usize, from: &Rows, rows: &mut Rows)
-        requires fits { FitsRows from.now self.now }
-        requires size { SameSize rows.old from.now }
-        requires link { link < length rows.old.figures }
-        ensures value { rows.new ≡ (if is_shown_saved self.now link
-            then with_rest rows.old link (shown_at from.now link) else rows.old) }
-        ensures kept { AreRows rows.old }
-        ensures kept_from { AreRows from.now }
-    {
-        rows.index();
-        from.index();
-        if self.is_shown_saved(link) {
-            rows.take_shown(link, from);
         }
     }
 }

@@ -91,7 +91,3 @@ credited work s = record { net = s.net; before = s.before; work = s.work + work 
 -- a session that stands for another network
 abbrev pub standing_for : Network → SessionValue → SessionValue
 standing_for net s = record { net = net; before = None; work = s.work }
-
--- a session with an open trial, in which it stands for another network
-abbrev pub trial_for : Network → SessionValue → SessionValue
-trial_for net s = record { net = net; before = Some s.net; work = s.work }

@@ -5,7 +5,7 @@ ghost use Rattle.transyt_net.specs.declared.edit.Edit.TheVariants.{Offset, Chang
 ghost use Rattle.transyt_sweep.specs.Sweeps.{index};
 ghost use Rattle.transyt_track.specs.WorkedWork.{junctions};
 ghost use Rattle.transyt_session.specs.declared.answers.Tried.TheVariants.{Barred, Index};
-ghost use Rattle.transyt_session.specs.Session.{opened, edited, reply_to, try_of, trial_of, back_of, keep_of, credited, standing_for, trial_for, lowered, lower_index};
+ghost use Rattle.transyt_session.specs.Session.{opened, edited, reply_to, try_of, trial_of, back_of, keep_of, credited, standing_for, lowered, lower_index};
 ghost use Rattle.transyt_session.specs.WorkedSessions.{shifted, begun, in_trial, taken_back, kept, worked_replies};
 
 /// A worked session after each call, and the answers to edits.
@@ -21,7 +21,6 @@ pub fn worked_session()
     ensures credit { credited 3 in_trial ≡ record in_trial { work = 14 } }
     ensures stand { standing_for shifted taken_back ≡ kept }
     ensures stand_in_trial { standing_for junctions in_trial ≡ taken_back }
-    ensures open_for { trial_for shifted begun ≡ record in_trial { work = 5 } }
     ensures replies { map (λ row. reply_to junctions row.0) worked_replies ≡ map (λ row. row.1) worked_replies }
     ensures tried { try_of junctions (Offset 21 9) ≡ Index (index shifted) 6 }
     ensures refused_look { lowered (Offset 21 15) in_trial ≡ kept }

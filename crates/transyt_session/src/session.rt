@@ -1,13 +1,13 @@
 //! The session.
 
-ghost use Rattle.std.specs.Prelude.{◌≡◌, ℕ, ◌+◌, ◌*◌, ◌^◌, ◌≤◌, ◌<◌, length, Option, Some, None, IfOk, IfErr, OnOk, OnErr, is_some, is_none, is_err};
+ghost use Rattle.std.specs.Prelude.{◌≡◌, ◌+◌, ◌*◌, ◌^◌, ◌≤◌, ◌<◌, length, Option, Some, None, IfOk, IfErr, OnOk, OnErr, is_some, is_none, is_err};
 ghost use Rattle.transyt_net.specs.EditFaults.{edit_fault};
 ghost use Rattle.transyt_net.specs.Edits.{with_edit};
 ghost use Rattle.transyt_net.specs.Shape.{SameShape};
 ghost use Rattle.transyt_sweep.specs.Sweeps.{index, out_of, evaluated};
 ghost use Rattle.transyt_track.specs.Due.{due};
 ghost use Rattle.transyt_track.specs.Work.{edit_work};
-ghost use Rattle.transyt_session.specs.Session.{SessionValue, opened, edited_net, edited, reply_to, try_of, trial_of, back_of, keep_of, credited, standing_for, trial_for, lowered, lower_index};
+ghost use Rattle.transyt_session.specs.Session.{SessionValue, opened, edited_net, edited, reply_to, try_of, trial_of, back_of, keep_of, credited, standing_for, lowered, lower_index};
 
 use crate::answers::{NoTrial, Reply, TrialOpen, Tried};
 use std::alloc::{AllocError, Global};
@@ -267,30 +267,6 @@ impl Session {
     {
         self.net.take_numbers(net);
         self.tracker.follow(net, steps);
-    }
-
-    /// Opens a trial, in which it stands for another network of the same shape, with the work as it was. It takes no
-    /// memory.
-    pub fn trial_for<L: Ledger>(&mut self, net: &Net, steps: &mut Steps<L>)
-        requires shape { SameShape self.old.net net.now }
-        requires closed { self.old.before ≡ None }
-        ensures state { self.new ≡ trial_for net.now self.old }
-        ensures steps { steps.new ≡ steps.old + due self.old.net net.now }
-    {
-        self.tracker.begin();
-        self.net.take_numbers(net);
-        self.tracker.follow(net, steps);
-    }
-
-    /// Stands for the network of another session, which has an open trial of it and stood for this one's before, with
-    /// the work as it was. It copies only rows that changed in the trial, works out nothing and takes no memory.
-    pub fn take_trial(&mut self, from: &Session)
-        requires before { from.now.before ≡ Some self.old.net }
-        requires closed { self.old.before ≡ None }
-        ensures { self.new ≡ standing_for from.now.net self.old }
-    {
-        self.tracker.take_changes(&from.tracker);
-        self.net.take_numbers(self.tracker.net());
     }
 
     /// Stands for the network of another session of the same shape from now on, with the work as it was. It works out

@@ -1,19 +1,18 @@
 -- The rows are filled link by link and sweep by sweep.
-use Rattle.std.proofs.Common.{◌≡◌, ℕ, ◌+◌, ◌-◌, ◌*◌, ◌<◌, ◌≤◌, Bool, true, false, cond, length, drop, take}
-use Rattle.std.proofs.Common.{replicate, refl, ap, sym, subst, ◌∙◌, arith}
+use Rattle.std.proofs.Common.{◌≡◌, ℕ, ◌+◌, ◌*◌, ◌<◌, ◌≤◌, Bool, true, false, cond, [], length}
+use Rattle.std.proofs.Common.{refl, ap, sym, ◌∙◌, arith}
 use Rattle.std.proofs.Common.{◌==◌, if◌then◌else◌}
-use Rattle.std.proofs.lemmas.List.{length-replicate, drop-replicate, take-replicate}
+use Rattle.std.proofs.lemmas.List.{length-replicate, get_or-replicate}
 use Rattle.transyt_profile.specs.Profile.{uniform}
 use Rattle.transyt_net.specs.Parts.{Network}
-use Rattle.transyt_sweep.specs.Cell.{CellValue, HasSteps}
-use Rattle.transyt_sweep.specs.Sweeps.{out_of, start, read_of, worked_at}
-use Rattle.transyt_sweep.specs.Rows.{RowsValue, row, with_out, with_shown, placed, no_figures}
+use Rattle.transyt_sweep.specs.Cell.{CellValue}
+use Rattle.transyt_sweep.specs.Sweeps.{out_of, start, worked_at}
+use Rattle.transyt_sweep.specs.Rows.{RowsValue, row, with_out, with_rest, placed, no_figures}
 use Rattle.transyt_sweep.specs.Front.{empty_out, empty_rows}
 use Rattle.transyt_sweep.specs.Rows.{AreRows}
 use Rattle.transyt_sweep.specs.Front.{AreMixed, AreOpened, AreStarted, AreFilled, AreEvaluation, is_before}
 use Rattle.transyt_sweep.proofs.SweepLaws.{out_of_start, out_of_pair}
-use Rattle.transyt_sweep.proofs.PairLaws.{pair_room}
-use Rattle.transyt_sweep.proofs.StepLaws.{worked_steps}
+use Rattle.transyt_sweep.proofs.PairLaws.{pair_inside}
 use Rattle.transyt_sweep.proofs.FrontLaws.{mixed_put, mixed_shown, mixed_turn, before_turn, before_end}
 use Rattle.transyt_sweep.proofs.FrontLaws.{not_before_first}
 use Rattle.transyt_sweep.proofs.ShownLaws.{shown_put}
@@ -24,24 +23,16 @@ module _ (net : Network) (s l : ℕ) (rows : RowsValue) (filled : AreFilled net 
       → c ≡ worked_at net s l → AreFilled net s (l + 1) (placed rows s l c)
   filled_put kept c first swept inside made = record {
     outs = outs (s == rows.sweeps);
-    shown = shown_put net s l rows c filled.outs.fits kept filled.shown swept inside long_in made;
+    shown = shown_put net s l rows c filled.outs.fits kept filled.shown swept inside made;
   }
     where
-      long : HasSteps net.frame.step_count c
-      long = subst (HasSteps net.frame.step_count) (sym made) (worked_steps net (read_of net s l) l)
-
-      long_in : HasSteps rows.step_count c
-      long_in = subst (λ n. HasSteps n c) (sym filled.outs.fits.step_count) long
-
       put : AreMixed net (out_of net) (empty_out net) s (l + 1) (with_out rows s l c.out)
-      put = mixed_put net (out_of net) (empty_out net) s l rows filled.outs kept c.out swept inside long.out
+      put = mixed_put net (out_of net) (empty_out net) s l rows filled.outs kept c.out swept inside
           (ap (λ (v : CellValue). v.out) made ∙ sym (out_of_pair net s l first))
 
       outs : (b : Bool) → AreMixed net (out_of net) (empty_out net) s (l + 1)
-          (if b then with_shown (with_out rows s l c.out) l c.arrivals c.go c.queue c.figures
-          else with_out rows s l c.out)
-      outs true = mixed_shown net (out_of net) (empty_out net) s (l + 1) (with_out rows s l c.out) put l c.arrivals
-          c.go c.queue c.figures
+          (if b then with_rest (with_out rows s l c.out) l c else with_out rows s l c.out)
+      outs true = mixed_shown net (out_of net) (empty_out net) s (l + 1) (with_out rows s l c.out) put l c
       outs false = put
 
   -- at the end of a sweep the next begins
@@ -72,25 +63,15 @@ opened_filled net rows some opened = record {
       absurd (cc);
 }
 
--- a row of rows of 0
-empty_row : (m n p : ℕ) → p * n + n ≤ m → row n (replicate m 0) p ≡ uniform n 0
-empty_row m n p room =
-    let none : ℕ = 0 in
-    let width : p * n + n - p * n ≡ n = omega arith in
-    ap (λ k. take k (drop (p * n) (replicate m none))) width
-    ∙ ap (take n) (drop-replicate (p * n) m none)
-    ∙ take-replicate n (m - p * n) none (omega arith)
-
 -- rows of 0, before any link is started
-pub empty_started : (net : Network) → AreStarted net 0 (empty_rows net)
+pub empty_started : (net : Network) → AreStarted net 0 0 (empty_rows net)
 empty_started net = record {
   outs = record {
     fits = record { step_count = refl; sweeps = refl; link_count = length-replicate (length net.links) no_figures };
     outs = λ t k swept inside.
-        ap (λ n. row net.frame.step_count (empty_rows net).outs (t * n + k))
-        (length-replicate (length net.links) no_figures)
-        ∙ empty_row ((net.frame.sweeps + 1) * length net.links * net.frame.step_count) net.frame.step_count
-        (t * length net.links + k) (pair_room net.frame.sweeps (length net.links) net.frame.step_count t k swept inside)
+        ap (λ n. row (empty_rows net).outs (t * n + k)) (length-replicate (length net.links) no_figures)
+        ∙ get_or-replicate ((net.frame.sweeps + 1) * length net.links) (t * length net.links + k)
+        (uniform net.frame.step_count 0) [] (pair_inside net.frame.sweeps (length net.links) t k swept inside)
         ∙ sym (ap (λ b. cond b (out_of net t k) (empty_out net t k)) (not_before_first t k 0 (omega arith)));
   };
   arrivals = refl;
@@ -100,24 +81,14 @@ empty_started net = record {
 }
 
 -- one link more is started
-pub started_put : (net : Network) (l : ℕ) (rows : RowsValue) → AreStarted net l rows → AreRows rows
-    → l < length net.links → AreStarted net (l + 1) (with_out rows 0 l (start net l))
-started_put net l rows started kept inside = record {
-  outs = mixed_put net (out_of net) (empty_out net) 0 l rows started.outs kept (start net l) (omega arith) inside
-      (length-replicate net.frame.step_count _) (sym (out_of_start net l));
-  arrivals = started.arrivals;
-  go = started.go;
-  queue = started.queue;
-  figures = started.figures;
-}
+pub started_put : (net : Network) (l : ℕ) (rows : RowsValue) → AreStarted net 0 l rows → AreRows rows
+    → l < length net.links → AreStarted net 0 (l + 1) (with_out rows 0 l (start net l))
+started_put net l rows started kept inside =
+    assumption (mixed_put net (out_of net) (empty_out net) 0 l rows started.outs kept (start net l) (omega arith) inside
+    (sym (out_of_start net l)))
 
 -- all of them
-pub started_end : (net : Network) (l : ℕ) (rows : RowsValue) → length net.links ≡ l → AreStarted net l rows
+pub started_end : (net : Network) (l : ℕ) (rows : RowsValue) → length net.links ≡ l → AreStarted net 0 l rows
     → AreOpened net rows
-started_end net l rows all started = record {
-  outs = mixed_turn net (out_of net) (empty_out net) 0 l rows all started.outs;
-  arrivals = started.arrivals;
-  go = started.go;
-  queue = started.queue;
-  figures = started.figures;
-}
+started_end net l rows all started =
+    assumption (mixed_turn net (out_of net) (empty_out net) 0 l rows all started.outs)

@@ -4,11 +4,10 @@ use Rattle.std.proofs.Common.{◌⊎◌, inl, inr, if◌then◌else◌}
 use Rattle.std.proofs.lemmas.Bool.{cases_eq}
 use Rattle.std.proofs.lemmas.Bool.Decides.{nat_tests}
 use Rattle.std.proofs.lemmas.List.{length-set}
-use Rattle.transyt_delay.specs.declared.figures.Figures.{Figures}
 use Rattle.transyt_net.specs.Parts.{Network}
-use Rattle.transyt_sweep.specs.Cell.{worked}
+use Rattle.transyt_sweep.specs.Cell.{CellValue, worked}
 use Rattle.transyt_sweep.specs.Sweeps.{read_at, out_of, read_of, worked_at}
-use Rattle.transyt_sweep.specs.Rows.{RowsValue, row, out_at, read_in, with_out, with_shown}
+use Rattle.transyt_sweep.specs.Rows.{RowsValue, row, out_at, read_in, with_out, with_rest}
 use Rattle.transyt_sweep.specs.Rows.{AreRows}
 use Rattle.transyt_sweep.specs.Front.{AreMixed, is_before}
 use Rattle.transyt_sweep.proofs.PairLaws.{out_here, out_elsewhere}
@@ -34,15 +33,14 @@ pub before_end : (t k sweeps : ℕ) → t ≤ sweeps → is_before t k (sweeps +
 before_end t k sweeps swept = grind (arith, nat_tests)
 
 -- the rest of the last sweep doesn't move what leaves
-pub out_shown : (rows : RowsValue) (l : ℕ) (a g q : List ℕ) (f : Figures) (t k : ℕ)
-    → out_at (with_shown rows l a g q f) t k ≡ out_at rows t k
-out_shown rows l a g q f t k = ap (λ n. row rows.step_count rows.outs (t * n + k)) (length-set rows.figures l f)
+pub out_shown : (rows : RowsValue) (l : ℕ) (c : CellValue) (t k : ℕ) → out_at (with_rest rows l c) t k ≡ out_at rows t k
+out_shown rows l c t k = ap (λ n. row rows.outs (t * n + k)) (length-set rows.figures l c.figures)
 
 module _ (net : Network) (f g : ℕ → ℕ → List ℕ) (s l : ℕ) (rows : RowsValue) (mixed : AreMixed net f g s l rows) where
   -- one link more
-  pub mixed_put : AreRows rows → (x : List ℕ) → s ≤ net.frame.sweeps → l < length net.links
-      → length x ≡ net.frame.step_count → x ≡ f s l → AreMixed net f g s (l + 1) (with_out rows s l x)
-  mixed_put kept x swept inside len made = record {
+  pub mixed_put : AreRows rows → (x : List ℕ) → s ≤ net.frame.sweeps → l < length net.links → x ≡ f s l
+      → AreMixed net f g s (l + 1) (with_out rows s l x)
+  mixed_put kept x swept inside made = record {
     fits = record {
       step_count = mixed.fits.step_count;
       sweeps = mixed.fits.sweeps;
@@ -51,19 +49,13 @@ module _ (net : Network) (f g : ℕ → ℕ → List ℕ) (s l : ℕ) (rows : Ro
     outs = λ t k within there. by t k within there (cases_eq t s) (cases_eq k l);
   }
     where
-      long : length x ≡ rows.step_count
-      long = len ∙ sym mixed.fits.step_count
-
-      swept_in : s ≤ rows.sweeps
-      swept_in = omega (arith, mixed.fits.sweeps)
-
       inside_in : l < length rows.figures
       inside_in = omega (arith, mixed.fits.link_count)
 
       elsewhere : (t k : ℕ) → t ≤ net.frame.sweeps → k < length net.links → (t ≡ s → k ≡ l → ⊥)
           → out_at (with_out rows s l x) t k ≡ (if is_before t k s (l + 1) then f t k else g t k)
       elsewhere t k within there apart =
-          out_elsewhere rows kept s l x swept_in inside_in long t k (omega (arith, mixed.fits.link_count)) apart
+          out_elsewhere rows s l inside_in x t k (omega (arith, mixed.fits.link_count)) apart
           ∙ mixed.outs t k within there
           ∙ ap (λ b. cond b (f t k) (g t k)) (sym (before_other t k s l apart))
 
@@ -72,7 +64,7 @@ module _ (net : Network) (f g : ℕ → ℕ → List ℕ) (s l : ℕ) (rows : Ro
       by t k within there (inl sweep) (inl link) =
           ap (λ u. out_at (with_out rows s l x) u k) sweep
           ∙ ap (out_at (with_out rows s l x) s) link
-          ∙ out_here rows kept s l x swept_in inside_in long
+          ∙ out_here rows kept s l (omega (arith, mixed.fits.sweeps)) inside_in x
           ∙ made
           ∙ ap (f s) (sym link)
           ∙ ap (λ u. f u k) (sym sweep)
@@ -82,14 +74,14 @@ module _ (net : Network) (f g : ℕ → ℕ → List ℕ) (s l : ℕ) (rows : Ro
       by t k within there (inr other) _ = elsewhere t k within there (λ e _. other e)
 
   -- with the rest of the last sweep written, what leaves is the same
-  pub mixed_shown : (m : ℕ) (a b q : List ℕ) (w : Figures) → AreMixed net f g s l (with_shown rows m a b q w)
-  mixed_shown m a b q w = record {
+  pub mixed_shown : (m : ℕ) (c : CellValue) → AreMixed net f g s l (with_rest rows m c)
+  mixed_shown m c = record {
     fits = record {
       step_count = mixed.fits.step_count;
       sweeps = mixed.fits.sweeps;
-      link_count = length-set rows.figures m w ∙ mixed.fits.link_count;
+      link_count = length-set rows.figures m c.figures ∙ mixed.fits.link_count;
     };
-    outs = λ t k within there. out_shown rows m a b q w t k ∙ mixed.outs t k within there;
+    outs = λ t k within there. out_shown rows m c t k ∙ mixed.outs t k within there;
   }
 
 -- at the end of a sweep the next begins

@@ -1,15 +1,14 @@
 -- The kept index of a network.
 use Rattle.std.proofs.Common.{◌≡◌, ℕ, ◌+◌, ◌-◌, ◌*◌, ◌^◌, ◌<◌, ◌≤◌, List, length, get_or, set, All, sum_by, map, sum}
 use Rattle.std.proofs.Common.{ap, sym, ◌∙◌, arith}
-use Rattle.std.proofs.lemmas.List.{length-set, length-map, get_or-map}
+use Rattle.std.proofs.lemmas.List.{length-map, get_or-map}
 use Rattle.std.proofs.lemmas.List.FromFn.{fill_by_all}
-use Rattle.std.proofs.lemmas.List.Elements.{All-set}
 use Rattle.std.proofs.lemmas.List.Sums.{sum_by-set, sum_by-le, get_or-le-sum_by, sum-map}
 use Rattle.transyt_delay.specs.declared.figures.Figures.{Figures}
 use Rattle.transyt_net.specs.Parts.{Network}
 use Rattle.transyt_sweep.specs.Cell.{CellValue}
 use Rattle.transyt_sweep.specs.Sweeps.{index_at, index}
-use Rattle.transyt_sweep.specs.Rows.{RowsValue, AreSmall, AreRows, with_figures, index_in, no_figures}
+use Rattle.transyt_sweep.specs.Rows.{RowsValue, AreSmall, index_in, no_figures}
 use Rattle.transyt_sweep.specs.Front.{AreEvaluation}
 
 abbrev by_index : Figures → ℕ
@@ -28,23 +27,6 @@ pub sum_fits : (figures : List Figures) (index : ℕ) → index ≡ sum_by by_in
 sum_fits figures index sum few small =
     let each : All (λ f. by_index f ≤ 2 ^ 89) figures = λ k d h. let one = small k d h in omega (arith, one.index) in
     omega (arith, sum_by-le by_index (2 ^ 89) figures each)
-
--- they are still rows
-pub kept_with_figures : (rows : RowsValue) → AreRows rows → (l : ℕ) (f : Figures) → AreSmall f
-    → AreRows (with_figures rows l f)
-kept_with_figures rows kept l f small =
-    let same : length (set rows.figures l f) ≡ length rows.figures = length-set rows.figures l f in
-    record {
-      steps = kept.steps;
-      sweeps = kept.sweeps;
-      links = omega (arith, same, kept.links);
-      outs = kept.outs ∙ ap (λ n. (rows.sweeps + 1) * n * rows.step_count) (sym same);
-      arrivals = kept.arrivals ∙ ap (λ n. n * rows.step_count) (sym same);
-      go = kept.go ∙ ap (λ n. n * rows.step_count) (sym same);
-      queue = kept.queue ∙ ap (λ n. n * rows.step_count) (sym same);
-      small = kept.small;
-      figures = All-set AreSmall rows.figures l f small kept.figures;
-    }
 
 -- the sum of the links' indexes of an evaluation is the network's index
 pub index_is : (net : Network) (rows : RowsValue) → AreEvaluation net rows → index_in rows ≡ index net

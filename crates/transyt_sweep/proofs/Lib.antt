@@ -2,6 +2,7 @@ pub mod SweepLaws
 pub mod RowLaws
 pub mod PairLaws
 pub mod TableLaws
+pub mod FlatLaws
 pub mod FactorLaws
 pub mod FeederLaws
 pub mod InflowLaws
@@ -13,7 +14,6 @@ pub mod ReadLaws
 pub mod FrontLaws
 pub mod StepLaws
 pub mod ShownLaws
-pub mod ComeLaws
 pub mod FilledLaws
 pub mod SmallLaws
 pub mod ClimbLaws

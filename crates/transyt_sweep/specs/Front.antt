@@ -4,7 +4,7 @@ use Rattle.std.specs.Prelude.{if◌then◌else◌}
 use Rattle.transyt_profile.specs.Profile.{uniform}
 use Rattle.transyt_net.specs.Parts.{Network}
 use Rattle.transyt_sweep.specs.Sweeps.{out_of, evaluated}
-use Rattle.transyt_sweep.specs.Rows.{RowsValue, rows_of, out_at, shown_at, no_figures, Fits}
+use Rattle.transyt_sweep.specs.Rows.{RowsValue, rows_of, empty_table, out_at, shown_at, no_figures, Fits}
 
 -- whether link k at sweep t is worked out before link l at sweep s
 abbrev pub is_before : ℕ → ℕ → ℕ → ℕ → Bool
@@ -35,25 +35,21 @@ empty_out net s l = uniform net.frame.step_count 0
 abbrev pub empty_rows : Network → RowsValue
 empty_rows net =
     rows_of net.frame.step_count net.frame.sweeps
-    (replicate ((net.frame.sweeps + 1) * length net.links * net.frame.step_count) 0)
-    (replicate (length net.links * net.frame.step_count) 0) (replicate (length net.links * net.frame.step_count) 0)
-    (replicate (length net.links * net.frame.step_count) 0) (replicate (length net.links) no_figures)
+    (empty_table ((net.frame.sweeps + 1) * length net.links) net.frame.step_count)
+    (empty_table (length net.links) net.frame.step_count) (empty_table (length net.links) net.frame.step_count)
+    (empty_table (length net.links) net.frame.step_count) (replicate (length net.links) no_figures)
+
+-- before link l at sweep s the rows have their departures, and all else is 0
+pub record AreStarted (net : Network) (s l : ℕ) (rows : RowsValue) : Type 0 where
+  pub outs : AreMixed net (out_of net) (empty_out net) s l rows
+  pub arrivals : rows.arrivals ≡ empty_table (length net.links) net.frame.step_count
+  pub go : rows.go ≡ empty_table (length net.links) net.frame.step_count
+  pub queue : rows.queue ≡ empty_table (length net.links) net.frame.step_count
+  pub figures : rows.figures ≡ replicate (length net.links) no_figures
 
 -- new rows: before the first sweep the total flow of each link leaves, and all else is 0
-pub record AreOpened (net : Network) (rows : RowsValue) : Type 0 where
-  pub outs : AreMixed net (out_of net) (empty_out net) 1 0 rows
-  pub arrivals : rows.arrivals ≡ replicate (length net.links * net.frame.step_count) 0
-  pub go : rows.go ≡ replicate (length net.links * net.frame.step_count) 0
-  pub queue : rows.queue ≡ replicate (length net.links * net.frame.step_count) 0
-  pub figures : rows.figures ≡ replicate (length net.links) no_figures
-
--- before the first sweep the links before link l have their total flow, and all else is 0
-pub record AreStarted (net : Network) (l : ℕ) (rows : RowsValue) : Type 0 where
-  pub outs : AreMixed net (out_of net) (empty_out net) 0 l rows
-  pub arrivals : rows.arrivals ≡ replicate (length net.links * net.frame.step_count) 0
-  pub go : rows.go ≡ replicate (length net.links * net.frame.step_count) 0
-  pub queue : rows.queue ≡ replicate (length net.links * net.frame.step_count) 0
-  pub figures : rows.figures ≡ replicate (length net.links) no_figures
+abbrev pub AreOpened : Network → RowsValue → Type 0
+AreOpened net rows = AreStarted net 1 0 rows
 
 -- the rows are the evaluation as far as link l at sweep s
 pub record AreFilled (net : Network) (s l : ℕ) (rows : RowsValue) : Type 0 where

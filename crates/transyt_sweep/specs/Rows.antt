@@ -1,28 +1,28 @@
 -- The rows of an evaluation: the departures of each link at each sweep, and the rest of the last sweep.
-use Rattle.std.specs.Prelude.{◌≡◌, ℕ, ◌+◌, ◌*◌, ◌^◌, ◌<◌, ◌≤◌, ◌==◌, List, length, take, drop, ◌++◌}
-use Rattle.std.specs.Prelude.{slice_range, slice_set, slice_index_or, All, sum_by, if◌then◌else◌}
+use Rattle.std.specs.Prelude.{◌≡◌, ℕ, ◌+◌, ◌*◌, ◌^◌, ◌<◌, ◌≤◌, ◌==◌, List, [], length, replicate}
+use Rattle.std.specs.Prelude.{slice_set, slice_index_or, All, sum_by, if◌then◌else◌}
 use Rattle.transyt_delay.specs.declared.figures.Figures.{Figures}
 use Rattle.transyt_delay.specs.Index.{index_of}
 use Rattle.transyt_net.specs.Parts.{Network, link_of}
 use Rattle.transyt_sweep.specs.Cell.{CellValue}
 use Rattle.transyt_sweep.specs.Sweeps.{read_at}
 
--- row p of rows of n values each
-abbrev pub row : ℕ → List ℕ → ℕ → List ℕ
-row n rows p = slice_range rows (p * n) (p * n + n)
+-- row p of rows
+abbrev pub row : List (List ℕ) → ℕ → List ℕ
+row rows p = slice_index_or rows p []
 
--- the rows with x as row p
-abbrev pub put_row : ℕ → List ℕ → ℕ → List ℕ → List ℕ
-put_row n rows p x = take (p * n) rows ++ (x ++ drop n (drop (p * n) rows))
+-- rows of n values, all 0
+abbrev pub empty_table : ℕ → ℕ → List (List ℕ)
+empty_table count n = replicate count (replicate n 0)
 
 -- The rows: `outs` has a row for each link of each sweep, from sweep 0 on, in order; the others have one for each link.
 pub record RowsValue : Type 0 where
   pub step_count : ℕ
   pub sweeps : ℕ
-  pub outs : List ℕ
-  pub arrivals : List ℕ
-  pub go : List ℕ
-  pub queue : List ℕ
+  pub outs : List (List ℕ)
+  pub arrivals : List (List ℕ)
+  pub go : List (List ℕ)
+  pub queue : List (List ℕ)
   pub figures : List Figures
 
 -- which of the rows is that of link l at sweep s
@@ -31,7 +31,7 @@ pair_place rows s l = s * length rows.figures + l
 
 -- the departures of link l at sweep s
 abbrev pub out_at : RowsValue → ℕ → ℕ → List ℕ
-out_at rows s l = row rows.step_count rows.outs (pair_place rows s l)
+out_at rows s l = row rows.outs (pair_place rows s l)
 
 -- the figures that stand for none
 abbrev pub no_figures : Figures
@@ -40,9 +40,9 @@ no_figures = record { uniform = 0; random = 0; stops = 0; index = 0 }
 -- link l: its departures at sweep s, and the rest of the last sweep
 abbrev pub pair_in : RowsValue → ℕ → ℕ → CellValue
 pair_in rows s l = record {
-  arrivals = row rows.step_count rows.arrivals l;
-  go = row rows.step_count rows.go l;
-  queue = row rows.step_count rows.queue l;
+  arrivals = row rows.arrivals l;
+  go = row rows.go l;
+  queue = row rows.queue l;
   out = out_at rows s l;
   figures = slice_index_or rows.figures l no_figures;
 }
@@ -57,42 +57,37 @@ read_in rows s l j = out_at rows (read_at s l j) j
 
 -- the rows with x as the departures of link l at sweep s
 abbrev pub with_out : RowsValue → ℕ → ℕ → List ℕ → RowsValue
-with_out rows s l x = record rows { outs = put_row rows.step_count rows.outs (pair_place rows s l) x }
+with_out rows s l x = record rows { outs = slice_set rows.outs (pair_place rows s l) x }
 
 -- the rows with these figures of link l
 abbrev pub with_figures : RowsValue → ℕ → Figures → RowsValue
 with_figures rows l f = record rows { figures = slice_set rows.figures l f }
 
--- the rows with this of link l at the last sweep, its departures apart
-abbrev pub with_shown : RowsValue → ℕ → List ℕ → List ℕ → List ℕ → Figures → RowsValue
-with_shown rows l arrivals go queue f = record rows {
-  arrivals = put_row rows.step_count rows.arrivals l arrivals;
-  go = put_row rows.step_count rows.go l go;
-  queue = put_row rows.step_count rows.queue l queue;
-  figures = slice_set rows.figures l f;
-}
-
--- the same of a cell
+-- the rows with this cell of link l at the last sweep, its departures apart
 abbrev pub with_rest : RowsValue → ℕ → CellValue → RowsValue
-with_rest rows l c = with_shown rows l c.arrivals c.go c.queue c.figures
+with_rest rows l c = record rows {
+  arrivals = slice_set rows.arrivals l c.arrivals;
+  go = slice_set rows.go l c.go;
+  queue = slice_set rows.queue l c.queue;
+  figures = slice_set rows.figures l c.figures;
+}
 
 -- the rows with link l at sweep s; at the last sweep all of it is kept
 abbrev pub placed : RowsValue → ℕ → ℕ → CellValue → RowsValue
 placed rows s l c =
-    if s == rows.sweeps then with_shown (with_out rows s l c.out) l c.arrivals c.go c.queue c.figures
-    else with_out rows s l c.out
+    if s == rows.sweeps then with_rest (with_out rows s l c.out) l c else with_out rows s l c.out
 
 -- the rows with these arrivals of link l at the last sweep, this queue and these figures
-abbrev pub with_come : RowsValue → ℕ → List ℕ → List ℕ → Figures → RowsValue
-with_come rows l arrivals queue f = record rows {
-  arrivals = put_row rows.step_count rows.arrivals l arrivals;
-  queue = put_row rows.step_count rows.queue l queue;
+abbrev pub with_arrivals : RowsValue → ℕ → List ℕ → List ℕ → Figures → RowsValue
+with_arrivals rows l arrivals queue f = record rows {
+  arrivals = slice_set rows.arrivals l arrivals;
+  queue = slice_set rows.queue l queue;
   figures = slice_set rows.figures l f;
 }
 
 -- the rows with this GO of link l at the last sweep
 abbrev pub with_go : RowsValue → ℕ → List ℕ → RowsValue
-with_go rows l go = record rows { go = put_row rows.step_count rows.go l go }
+with_go rows l go = record rows { go = slice_set rows.go l go }
 
 -- the figures with the index that these weights give
 abbrev pub reweighed : Network → ℕ → Figures → Figures
@@ -126,20 +121,25 @@ pub record AreSmall (f : Figures) : Type 0 where
   pub random : f.random < 2 ^ 63
   pub index : f.index < 2 ^ 89
 
+-- rows of this number, each of n values
+pub record AreSized (count n : ℕ) (rows : List (List ℕ)) : Type 0 where
+  pub many : length rows ≡ count
+  pub steps : All (λ x. length x ≡ n) rows
+
 -- the facts of all rows
 pub record AreRows (rows : RowsValue) : Type 0 where
   pub steps : rows.step_count ≤ 120
   pub sweeps : rows.sweeps ≤ 8
   pub links : length rows.figures ≤ 1000
-  pub outs : length rows.outs ≡ (rows.sweeps + 1) * length rows.figures * rows.step_count
-  pub arrivals : length rows.arrivals ≡ length rows.figures * rows.step_count
-  pub go : length rows.go ≡ length rows.figures * rows.step_count
-  pub queue : length rows.queue ≡ length rows.figures * rows.step_count
-  pub small : All (λ v. v < 2 ^ 30) rows.outs
+  pub outs : AreSized ((rows.sweeps + 1) * length rows.figures) rows.step_count rows.outs
+  pub arrivals : AreSized (length rows.figures) rows.step_count rows.arrivals
+  pub go : AreSized (length rows.figures) rows.step_count rows.go
+  pub queue : AreSized (length rows.figures) rows.step_count rows.queue
+  pub small : All (λ x. All (λ v. v < 2 ^ 30) x) rows.outs
   pub figures : All AreSmall rows.figures
 
 -- rows of these parts
-abbrev pub rows_of : ℕ → ℕ → List ℕ → List ℕ → List ℕ → List ℕ → List Figures → RowsValue
+abbrev pub rows_of : ℕ → ℕ → List (List ℕ) → List (List ℕ) → List (List ℕ) → List (List ℕ) → List Figures → RowsValue
 rows_of step_count sweeps outs arrivals go queue figures = record {
   step_count = step_count;
   sweeps = sweeps;

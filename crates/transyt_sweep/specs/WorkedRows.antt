@@ -8,9 +8,9 @@ use Rattle.transyt_sweep.specs.WorkedLinks.{new_figures}
 -- rows in which each value tells its place
 abbrev pub rows : RowsValue
 rows =
-    rows_of 3 1 (1 ∷ 2 ∷ 3 ∷ 4 ∷ 5 ∷ 6 ∷ 11 ∷ 12 ∷ 13 ∷ 14 ∷ 15 ∷ 16 ∷ []) (31 ∷ 32 ∷ 33 ∷ 34 ∷ 35 ∷ 36 ∷ [])
-    (41 ∷ 42 ∷ 43 ∷ 44 ∷ 45 ∷ 46 ∷ []) (51 ∷ 52 ∷ 53 ∷ 54 ∷ 55 ∷ 56 ∷ [])
-    (new_figures 61 62 63 64 ∷ new_figures 71 72 73 74 ∷ [])
+    rows_of 3 1 ((1 ∷ 2 ∷ 3 ∷ []) ∷ (4 ∷ 5 ∷ 6 ∷ []) ∷ (11 ∷ 12 ∷ 13 ∷ []) ∷ (14 ∷ 15 ∷ 16 ∷ []) ∷ [])
+    ((31 ∷ 32 ∷ 33 ∷ []) ∷ (34 ∷ 35 ∷ 36 ∷ []) ∷ []) ((41 ∷ 42 ∷ 43 ∷ []) ∷ (44 ∷ 45 ∷ 46 ∷ []) ∷ [])
+    ((51 ∷ 52 ∷ 53 ∷ []) ∷ (54 ∷ 55 ∷ 56 ∷ []) ∷ []) (new_figures 61 62 63 64 ∷ new_figures 71 72 73 74 ∷ [])
 
 -- the second link at the last sweep
 abbrev pub second_link : CellValue
@@ -35,33 +35,30 @@ another = record {
 -- the rows with it as the second link before the last sweep: only its departures are kept
 abbrev pub placed_before : RowsValue
 placed_before =
-    record rows { outs = 1 ∷ 2 ∷ 3 ∷ 17 ∷ 18 ∷ 19 ∷ 11 ∷ 12 ∷ 13 ∷ 14 ∷ 15 ∷ 16 ∷ [] }
+    record rows { outs = (1 ∷ 2 ∷ 3 ∷ []) ∷ (17 ∷ 18 ∷ 19 ∷ []) ∷ (11 ∷ 12 ∷ 13 ∷ []) ∷ (14 ∷ 15 ∷ 16 ∷ []) ∷ [] }
 
 -- the rows with it as the first link at the last sweep: all of it is kept
 abbrev pub placed_last : RowsValue
 placed_last =
-    rows_of 3 1 (1 ∷ 2 ∷ 3 ∷ 4 ∷ 5 ∷ 6 ∷ 17 ∷ 18 ∷ 19 ∷ 14 ∷ 15 ∷ 16 ∷ []) (37 ∷ 38 ∷ 39 ∷ 34 ∷ 35 ∷ 36 ∷ [])
-    (47 ∷ 48 ∷ 49 ∷ 44 ∷ 45 ∷ 46 ∷ []) (57 ∷ 58 ∷ 59 ∷ 54 ∷ 55 ∷ 56 ∷ [])
-    (new_figures 1 2 3 4 ∷ new_figures 71 72 73 74 ∷ [])
+    rows_of 3 1 ((1 ∷ 2 ∷ 3 ∷ []) ∷ (4 ∷ 5 ∷ 6 ∷ []) ∷ (17 ∷ 18 ∷ 19 ∷ []) ∷ (14 ∷ 15 ∷ 16 ∷ []) ∷ [])
+    ((37 ∷ 38 ∷ 39 ∷ []) ∷ (34 ∷ 35 ∷ 36 ∷ []) ∷ []) ((47 ∷ 48 ∷ 49 ∷ []) ∷ (44 ∷ 45 ∷ 46 ∷ []) ∷ [])
+    ((57 ∷ 58 ∷ 59 ∷ []) ∷ (54 ∷ 55 ∷ 56 ∷ []) ∷ []) (new_figures 1 2 3 4 ∷ new_figures 71 72 73 74 ∷ [])
 
 -- the rows with all of it but its departures as the first link
 abbrev pub with_another : RowsValue
-with_another =
-    rows_of 3 1 (1 ∷ 2 ∷ 3 ∷ 4 ∷ 5 ∷ 6 ∷ 11 ∷ 12 ∷ 13 ∷ 14 ∷ 15 ∷ 16 ∷ []) (37 ∷ 38 ∷ 39 ∷ 34 ∷ 35 ∷ 36 ∷ [])
-    (47 ∷ 48 ∷ 49 ∷ 44 ∷ 45 ∷ 46 ∷ []) (57 ∷ 58 ∷ 59 ∷ 54 ∷ 55 ∷ 56 ∷ [])
-    (new_figures 1 2 3 4 ∷ new_figures 71 72 73 74 ∷ [])
+with_another = record placed_last { outs = rows.outs }
 
 -- the rows with its arrivals, queue and figures as those of the second link
-abbrev pub come_of_another : RowsValue
-come_of_another =
-    rows_of 3 1 (1 ∷ 2 ∷ 3 ∷ 4 ∷ 5 ∷ 6 ∷ 11 ∷ 12 ∷ 13 ∷ 14 ∷ 15 ∷ 16 ∷ []) (31 ∷ 32 ∷ 33 ∷ 37 ∷ 38 ∷ 39 ∷ [])
-    (41 ∷ 42 ∷ 43 ∷ 44 ∷ 45 ∷ 46 ∷ []) (51 ∷ 52 ∷ 53 ∷ 57 ∷ 58 ∷ 59 ∷ [])
-    (new_figures 61 62 63 64 ∷ new_figures 1 2 3 4 ∷ [])
+abbrev pub arrivals_of_another : RowsValue
+arrivals_of_another = record rows {
+  arrivals = (31 ∷ 32 ∷ 33 ∷ []) ∷ (37 ∷ 38 ∷ 39 ∷ []) ∷ [];
+  queue = (51 ∷ 52 ∷ 53 ∷ []) ∷ (57 ∷ 58 ∷ 59 ∷ []) ∷ [];
+  figures = new_figures 61 62 63 64 ∷ new_figures 1 2 3 4 ∷ [];
+}
 
 -- the rows with its GO as that of the second link
 abbrev pub go_of_another : RowsValue
-go_of_another =
-    record rows { go = 41 ∷ 42 ∷ 43 ∷ 47 ∷ 48 ∷ 49 ∷ [] }
+go_of_another = record rows { go = (41 ∷ 42 ∷ 43 ∷ []) ∷ (47 ∷ 48 ∷ 49 ∷ []) ∷ [] }
 
 -- the figures with the second link's index by the weights of the second of the three junctions' links, 5 and 7, and
 -- their 37 hundredths for a stop: 5 * (71 + 72) + 7 * 37 * 73 / 100

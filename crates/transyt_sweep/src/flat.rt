@@ -1,9 +1,8 @@
 //! Rows of equal length, one after another in one piece of memory.
 
-ghost use Rattle.std.specs.Prelude.{◌≡◌, ◌*◌, ◌^◌, ◌<◌, length, IfOk};
+ghost use Rattle.std.specs.Prelude.{◌≡◌, ◌*◌, ◌^◌, ◌<◌, length, slice_set, IfOk};
 ghost use Rattle.transyt_profile.specs.Profile.{uniform};
-ghost use Rattle.transyt_sweep.specs.Rows.{row};
-ghost use Rattle.transyt_sweep.specs.Table.{IsTable, empty_table, with_row};
+ghost use Rattle.transyt_sweep.specs.Rows.{row, empty_table};
 
 use crate::narrow::NarrowTable;
 use std::alloc::{AllocError, Global};
@@ -19,22 +18,19 @@ pub(crate) struct FlatTable {
 }
 
 impl Model for FlatTable {
-    ghost use Rattle.std.specs.Prelude.{◌≡◌, ◌*◌, length};
-    ghost use Rattle.transyt_sweep.specs.Table.{TableValue};
+    ghost use Rattle.std.specs.Prelude.{◌≡◌, ◌*◌, ℕ, List, length};
+    ghost use Rattle.transyt_sweep.specs.Table.{cut_rows};
 
-    ghost Value = { TableValue };
+    ghost Value = { List (List ℕ) };
 
-    ghost view = { λ t. record {
-      step_count = t.step_count;
-      count = t.count;
-      items = t.values.items;
-    } };
+    ghost view = { λ t. cut_rows t.count t.step_count t.values.items };
 
     ghost invariant = { λ t. length t.values.items ≡ t.count * t.step_count };
 }
 
 impl FlatTable {
     /// A table of `count` rows of `step_count` values, all 0. All its memory is taken here.
+    #[tactic(auto, using(crate::proofs::FlatLaws::cut_empty))]
     pub(crate) fn empty(
         alloc: Global,
         count: usize,
@@ -51,39 +47,43 @@ impl FlatTable {
     }
 
     /// The row at a place.
+    #[tactic(auto, using(crate::proofs::FlatLaws::cut_length, crate::proofs::FlatLaws::cut_row))]
     pub(crate) fn row(&self, place: usize) -> &[u64]
-        requires { place < self.now.count }
-        ensures value { result.now ≡ row self.now.step_count self.now.items place }
-        ensures length { length result.now ≡ self.now.step_count }
+        requires { place < length self.now }
+        ensures { result.now ≡ row self.now place }
     {
         let from = place * self.step_count;
         &self.values[from..from + self.step_count]
     }
 
     /// Puts a row in its place.
+    #[tactic(auto, using(crate::proofs::FlatLaws::cut_length, crate::proofs::FlatLaws::cut_steps))]
     pub(crate) fn put(&mut self, place: usize, values: &[u64])
-        requires place { place < self.old.count }
-        requires steps { length values.now ≡ self.old.step_count }
-        ensures { self.new ≡ with_row self.old place values.now }
+        requires place { place < length self.old }
+        requires steps { length values.now ≡ length (row self.old place) }
+        ensures { self.new ≡ slice_set self.old place values.now }
     {
         let from = place * self.step_count;
         self.values[from..from + self.step_count].copy_from_slice(values);
     }
 
     /// Puts a row of one value at each step in its place.
+    #[tactic(auto, using(crate::proofs::FlatLaws::cut_length, crate::proofs::FlatLaws::cut_steps))]
     pub(crate) fn fill(&mut self, place: usize, value: u64)
-        requires { place < self.old.count }
-        ensures { self.new ≡ with_row self.old place (uniform self.old.step_count value) }
+        requires { place < length self.old }
+        ensures { self.new ≡ slice_set self.old place (uniform (length (row self.old place)) value) }
     {
         let from = place * self.step_count;
         fill_uniform(value, &mut self.values[from..from + self.step_count]);
     }
 
-    /// The row at a place becomes that of a narrow table of the same size.
+    /// The row at a place becomes that of a narrow table, which is as long.
+    #[tactic(auto, using(crate::proofs::FlatLaws::cut_length, crate::proofs::FlatLaws::cut_steps))]
     pub(crate) fn take_narrow(&mut self, place: usize, from: &NarrowTable)
-        requires place { place < self.old.count }
-        requires size { IsTable self.old.count self.old.step_count from.now }
-        ensures { self.new ≡ with_row self.old place (row self.old.step_count from.now.items place) }
+        requires place { place < length self.old }
+        requires there { place < length from.now }
+        requires steps { length (row from.now place) ≡ length (row self.old place) }
+        ensures { self.new ≡ slice_set self.old place (row from.now place) }
     {
         let start = place * self.step_count;
         from.copy_row(place, &mut self.values[start..start + self.step_count]);

@@ -1,7 +1,7 @@
 //! The sweeps: each link worked out at each sweep, one after another, and the rows that this gives.
 //!
-//! `Rows` are seen as the record `RowsValue` of `specs/Rows`, whose lists hold one row after another, and `Scratch`
-//! as the `CellValue` of `specs/Cell`: all of one link at one sweep. Profiles are in millionths of a vehicle per step.
+//! `Rows` are seen as the record `RowsValue` of `specs/Rows`, whose lists are lists of rows, and `Scratch` as the
+//! `CellValue` of `specs/Cell`: all of one link at one sweep. Profiles are in millionths of a vehicle per step.
 //! Cite first: `out_of` of `specs/Sweeps` for the departures of a link at a sweep, `evaluated` and `index` there for the
 //! evaluation, `worked` of `specs/Cell` for one link's work from the departures that it reads, `out_at` of `specs/Rows`
 //! for a row, and `AreEvaluation` of `specs/Front`. `SavedRows`, rows that were written over, are seen as `Rows` are.

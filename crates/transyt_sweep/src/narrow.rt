@@ -1,9 +1,8 @@
 //! Rows of equal length of values below 2^32, one after another in one piece of memory, half as large as that of a
 //! `FlatTable`.
 
-ghost use Rattle.std.specs.Prelude.{◌≡◌, ◌*◌, ◌^◌, ◌<◌, length, All, IfOk};
-ghost use Rattle.transyt_sweep.specs.Rows.{row};
-ghost use Rattle.transyt_sweep.specs.Table.{empty_table, with_row};
+ghost use Rattle.std.specs.Prelude.{◌≡◌, ◌*◌, ◌^◌, ◌<◌, length, slice_set, All, IfOk};
+ghost use Rattle.transyt_sweep.specs.Rows.{row, empty_table};
 
 use std::alloc::{AllocError, Global};
 use std::marker::Model;
@@ -17,16 +16,12 @@ pub(crate) struct NarrowTable {
 }
 
 impl Model for NarrowTable {
-    ghost use Rattle.std.specs.Prelude.{◌≡◌, ◌*◌, length};
-    ghost use Rattle.transyt_sweep.specs.Table.{TableValue};
+    ghost use Rattle.std.specs.Prelude.{◌≡◌, ◌*◌, ℕ, List, length};
+    ghost use Rattle.transyt_sweep.specs.Table.{cut_rows};
 
-    ghost Value = { TableValue };
+    ghost Value = { List (List ℕ) };
 
-    ghost view = { λ t. record {
-      step_count = t.step_count;
-      count = t.count;
-      items = t.values.items;
-    } };
+    ghost view = { λ t. cut_rows t.count t.step_count t.values.items };
 
     ghost invariant = { λ t. length t.values.items ≡ t.count * t.step_count };
 }
@@ -54,6 +49,7 @@ fn widen_into(values: &[u32], out: &mut [u64])
 
 impl NarrowTable {
     /// A table of `count` rows of `step_count` values, all 0. All its memory is taken here.
+    #[tactic(auto, using(crate::proofs::FlatLaws::cut_empty))]
     pub(crate) fn empty(
         alloc: Global,
         count: usize,
@@ -70,21 +66,23 @@ impl NarrowTable {
     }
 
     /// Puts a row in its place.
+    #[tactic(auto, using(crate::proofs::FlatLaws::cut_length, crate::proofs::FlatLaws::cut_steps))]
     pub(crate) fn put(&mut self, place: usize, values: &[u64])
-        requires place { place < self.old.count }
-        requires steps { length values.now ≡ self.old.step_count }
+        requires place { place < length self.old }
+        requires steps { length values.now ≡ length (row self.old place) }
         requires small { All (λ v. v < 2 ^ 32) values.now }
-        ensures { self.new ≡ with_row self.old place values.now }
+        ensures { self.new ≡ slice_set self.old place values.now }
     {
         let from = place * self.step_count;
         narrow_into(values, &mut self.values[from..from + self.step_count]);
     }
 
     /// Writes the row at a place to `out`.
+    #[tactic(auto, using(crate::proofs::FlatLaws::cut_length, crate::proofs::FlatLaws::cut_row, crate::proofs::FlatLaws::cut_steps))]
     pub(crate) fn copy_row(&self, place: usize, out: &mut [u64])
-        requires place { place < self.now.count }
-        requires steps { length out.old ≡ self.now.step_count }
-        ensures { out.new ≡ row self.now.step_count self.now.items place }
+        requires place { place < length self.now }
+        requires steps { length out.old ≡ length (row self.now place) }
+        ensures { out.new ≡ row self.now place }
     {
         let from = place * self.step_count;
         widen_into(&self.values[from..from + self.step_count], out);

@@ -1,10 +1,10 @@
 //! The rows of an evaluation, with all that is read of them and written in them.
 
-ghost use Rattle.std.specs.Prelude.{◌≡◌, ◌+◌, ◌*◌, ◌<◌, ◌≤◌, ◌^◌, ℕ, length, All, sum_by, slice_index_or, IfOk};
+ghost use Rattle.std.specs.Prelude.{◌≡◌, ◌+◌, ◌*◌, ◌<◌, ◌≤◌, ◌^◌, length, All, slice_index_or, slice_set, IfOk};
 ghost use Rattle.transyt_delay.specs.declared.figures.Figures.{Figures};
 ghost use Rattle.transyt_sweep.specs.Rows.{RowsValue, row, out_at, read_in, pair_place, pair_in, index_in, no_figures};
-ghost use Rattle.transyt_sweep.specs.Rows.{with_out, with_weights, with_figures, with_shown, placed};
-ghost use Rattle.transyt_sweep.specs.Rows.{shown_at, with_rest, with_come, with_go};
+ghost use Rattle.transyt_sweep.specs.Rows.{with_out, with_weights, with_figures, placed};
+ghost use Rattle.transyt_sweep.specs.Rows.{shown_at, with_rest, with_arrivals, with_go};
 ghost use Rattle.transyt_sweep.specs.Rows.{Fits, SameSize, AreRows, AreSmall};
 ghost use Rattle.transyt_sweep.specs.Front.{AreOpened, empty_rows};
 ghost use Rattle.transyt_sweep.specs.Sweeps.{read_at, start};
@@ -42,10 +42,11 @@ impl Model for Rows {
     ghost Value = { RowsValue };
 
     ghost view = { λ r.
-        rows_of r.step_count r.sweeps r.outs.items r.arrivals.items r.go.items r.queue.items r.figures.items };
+        rows_of r.step_count r.sweeps r.outs r.arrivals r.go r.queue r.figures.items };
 
     // the kept index is the sum of the figures' indexes
-    ghost invariant = { λ r. AreKept r.step_count r.sweeps r.outs r.arrivals r.go r.queue r.figures.items r.index };
+    ghost invariant = { λ r. AreKept
+        (rows_of r.step_count r.sweeps r.outs r.arrivals r.go r.queue r.figures.items) r.index };
 }
 
 /// The sweep at which a link, at a sweep, reads another.
@@ -96,11 +97,11 @@ impl Rows {
     }
 
     /// Which of the rows of departures is that of a link at a sweep.
-    pub(crate) fn pair_place(&self, sweep: u32, link: usize) -> usize
+    pub fn pair_place(&self, sweep: u32, link: usize) -> usize
         requires sweep { sweep ≤ self.now.sweeps }
         requires link { link < length self.now.figures }
         ensures value { result ≡ pair_place self.now sweep link }
-        ensures within { result < (self.now.sweeps + 1) * length self.now.figures }
+        ensures within { result < length self.now.outs }
     {
         sweep as usize * self.figures.len() + link
     }
@@ -108,7 +109,7 @@ impl Rows {
     /// The arrivals of a link at the last sweep, before any cut, in millionths of a vehicle per step.
     pub fn arrivals(&self, link: usize) -> &[u64]
         requires { link < length self.now.figures }
-        ensures value { result.now ≡ row self.now.step_count self.now.arrivals link }
+        ensures value { result.now ≡ row self.now.arrivals link }
         ensures steps { length result.now ≡ self.now.step_count }
     {
         self.arrivals.row(link)
@@ -117,7 +118,7 @@ impl Rows {
     /// The GO of a link at the last sweep, in millionths of a vehicle per step.
     pub fn go(&self, link: usize) -> &[u64]
         requires { link < length self.now.figures }
-        ensures value { result.now ≡ row self.now.step_count self.now.go link }
+        ensures value { result.now ≡ row self.now.go link }
         ensures steps { length result.now ≡ self.now.step_count }
     {
         self.go.row(link)
@@ -126,7 +127,7 @@ impl Rows {
     /// The queue at the end of each step of the last sweep, in millionths of a vehicle.
     pub fn queue(&self, link: usize) -> &[u64]
         requires { link < length self.now.figures }
-        ensures value { result.now ≡ row self.now.step_count self.now.queue link }
+        ensures value { result.now ≡ row self.now.queue link }
         ensures steps { length result.now ≡ self.now.step_count }
     {
         self.queue.row(link)
@@ -191,7 +192,8 @@ impl Rows {
         ensures kept { AreRows self.old }
     {
         let value = net.per_step(net.total_flow(link));
-        self.outs.fill(link, value);
+        let place = self.pair_place(0, link);
+        self.outs.fill(place, value);
     }
 
     /// Keeps a link at a sweep: its departures, and at the last sweep all of it.
@@ -227,14 +229,14 @@ impl Rows {
 
     /// The arrivals of a link at the last sweep, its queue and its figures change places with those in `scratch`. No row is
     /// copied.
-    pub fn exchange_come(&mut self, link: usize, scratch: &mut Scratch)
+    pub fn exchange_arrivals(&mut self, link: usize, scratch: &mut Scratch)
         requires link { link < length self.old.figures }
         requires steps { length scratch.old.arrivals ≡ self.old.step_count }
         ensures value { self.new
-            ≡ with_come self.old link scratch.old.arrivals scratch.old.queue scratch.old.figures }
+            ≡ with_arrivals self.old link scratch.old.arrivals scratch.old.queue scratch.old.figures }
         ensures left { scratch.new ≡ record scratch.old {
-          arrivals = row self.old.step_count self.old.arrivals link;
-          queue = row self.old.step_count self.old.queue link;
+          arrivals = row self.old.arrivals link;
+          queue = row self.old.queue link;
           figures = slice_index_or self.old.figures link no_figures;
         } }
         ensures left_steps { length scratch.new.arrivals ≡ self.old.step_count }
@@ -252,7 +254,7 @@ impl Rows {
         requires link { link < length self.old.figures }
         requires steps { length scratch.old.arrivals ≡ self.old.step_count }
         ensures value { self.new ≡ with_go self.old link scratch.old.go }
-        ensures left { scratch.new ≡ record scratch.old { go = row self.old.step_count self.old.go link } }
+        ensures left { scratch.new ≡ record scratch.old { go = row self.old.go link } }
         ensures left_steps { length scratch.new.arrivals ≡ self.old.step_count }
         ensures kept { AreRows self.old }
     {
@@ -274,25 +276,21 @@ impl Rows {
     }
 
     /// The departures of a link at a sweep become those of other rows.
-    pub fn take_departures(&mut self, sweep: u32, link: usize, from: &Rows)
+    fn take_departures(&mut self, sweep: u32, link: usize, from: &Rows)
         requires last { sweep ≤ self.old.sweeps }
         requires link { link < length self.old.figures }
         requires size { SameSize self.old from.now }
-        ensures value { self.new ≡ with_out self.old sweep link (out_at from.now sweep link) }
-        ensures kept { AreRows self.old }
-        ensures kept_there { AreRows from.now }
+        ensures { self.new ≡ with_out self.old sweep link (out_at from.now sweep link) }
     {
         let place = from.pair_place(sweep, link);
         self.put_out(sweep, link, from.outs.row(place));
     }
 
     /// The rest of a link at the last sweep becomes that of other rows.
-    pub fn take_shown(&mut self, link: usize, from: &Rows)
+    fn take_shown(&mut self, link: usize, from: &Rows)
         requires link { link < length self.old.figures }
         requires size { SameSize self.old from.now }
-        ensures value { self.new ≡ with_rest self.old link (shown_at from.now link) }
-        ensures kept { AreRows self.old }
-        ensures kept_there { AreRows from.now }
+        ensures { self.new ≡ with_rest self.old link (shown_at from.now link) }
     {
         self.show(
             link,
@@ -341,7 +339,12 @@ impl Rows {
         requires go { length go.now ≡ self.old.step_count }
         requires queue { length queue.now ≡ self.old.step_count }
         requires figures { AreSmall figures }
-        ensures value { self.new ≡ with_shown self.old link arrivals.now go.now queue.now figures }
+        ensures value { self.new ≡ record self.old {
+          arrivals = slice_set self.old.arrivals link arrivals.now;
+          go = slice_set self.old.go link go.now;
+          queue = slice_set self.old.queue link queue.now;
+          figures = slice_set self.old.figures link figures;
+        } }
         ensures kept { AreRows self.old }
     {
         self.arrivals.put(link, arrivals);

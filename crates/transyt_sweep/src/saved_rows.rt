@@ -1,7 +1,7 @@
 //! Rows that were written over, and how they are saved and given back.
 
-ghost use Rattle.std.specs.Prelude.{◌≡◌, ◌<◌, ◌≤◌, length, slice_index_or, IfOk};
-ghost use Rattle.transyt_sweep.specs.Rows.{row, out_at, no_figures, with_out, with_come, with_go};
+ghost use Rattle.std.specs.Prelude.{◌≡◌, ◌<◌, length, slice_index_or, slice_set, IfOk};
+ghost use Rattle.transyt_sweep.specs.Rows.{row, no_figures, with_arrivals, with_go};
 ghost use Rattle.transyt_sweep.specs.Rows.{Fits, SameSize, AreRows};
 
 use crate::asked::Asked;
@@ -29,15 +29,15 @@ pub struct SavedRows {
 }
 
 impl Model for SavedRows {
-    ghost use Rattle.transyt_sweep.specs.Rows.{RowsValue, rows_of};
-    ghost use Rattle.transyt_sweep.specs.Table.{AreKeptApart};
+    ghost use Rattle.transyt_sweep.specs.Rows.{RowsValue, AreRows, rows_of};
 
     ghost Value = { RowsValue };
 
     ghost view = { λ r.
-        rows_of r.step_count r.sweeps r.outs.items r.arrivals.items r.go.items r.queue.items r.figures.items };
+        rows_of r.step_count r.sweeps r.outs r.arrivals r.go r.queue r.figures.items };
 
-    ghost invariant = { λ r. AreKeptApart r.step_count r.sweeps r.outs r.arrivals r.go r.queue r.figures.items };
+    ghost invariant = { λ r. AreRows
+        (rows_of r.step_count r.sweeps r.outs r.arrivals r.go r.queue r.figures.items) };
 }
 
 impl SavedRows {
@@ -73,38 +73,38 @@ impl SavedRows {
         self.sweeps
     }
 
-    /// Saves the departures of a link at a sweep of these rows.
-    pub fn save_out(&mut self, sweep: u32, link: usize, rows: &Rows)
-        requires sweep { sweep ≤ rows.now.sweeps }
-        requires link { link < length rows.now.figures }
+    /// Saves the departures at a place of these rows.
+    pub fn save_out(&mut self, place: usize, rows: &Rows)
+        requires place { place < length rows.now.outs }
         requires size { SameSize self.old rows.now }
-        ensures value { self.new ≡ with_out self.old sweep link (out_at rows.now sweep link) }
+        ensures value { self.new ≡ record self.old {
+          outs = slice_set self.old.outs place (row rows.now.outs place);
+        } }
         ensures kept { AreRows self.old }
         ensures kept_there { AreRows rows.now }
     {
-        let place = rows.pair_place(sweep, link);
         self.outs.put(place, rows.outs.row(place));
     }
 
-    /// The departures of a link at a sweep of these rows become those that were saved.
-    pub fn give_out(&self, sweep: u32, link: usize, rows: &mut Rows)
-        requires sweep { sweep ≤ rows.old.sweeps }
-        requires link { link < length rows.old.figures }
+    /// The departures at a place of these rows become those that were saved.
+    pub fn give_out(&self, place: usize, rows: &mut Rows)
+        requires place { place < length rows.old.outs }
         requires size { SameSize self.now rows.old }
-        ensures value { rows.new ≡ with_out rows.old sweep link (out_at self.now sweep link) }
+        ensures value { rows.new ≡ record rows.old {
+          outs = slice_set rows.old.outs place (row self.now.outs place);
+        } }
         ensures kept { AreRows rows.old }
         ensures kept_saved { AreRows self.now }
     {
-        let place = rows.pair_place(sweep, link);
         rows.outs.take_narrow(place, &self.outs);
     }
 
     /// Saves the arrivals of a link of these rows at the last sweep, its queue and its figures.
-    pub fn save_come(&mut self, link: usize, rows: &Rows)
+    pub fn save_arrivals(&mut self, link: usize, rows: &Rows)
         requires link { link < length rows.now.figures }
         requires size { SameSize self.old rows.now }
-        ensures value { self.new ≡ with_come self.old link (row rows.now.step_count rows.now.arrivals link)
-            (row rows.now.step_count rows.now.queue link) (slice_index_or rows.now.figures link no_figures) }
+        ensures value { self.new ≡ with_arrivals self.old link (row rows.now.arrivals link)
+            (row rows.now.queue link) (slice_index_or rows.now.figures link no_figures) }
         ensures kept { AreRows self.old }
     {
         self.arrivals.put(link, rows.arrivals(link));
@@ -114,14 +114,14 @@ impl SavedRows {
 
     /// The arrivals of a link at the last sweep, its queue and its figures, as they were saved, change places with those in
     /// `scratch`. No row is copied.
-    pub fn exchange_come(&mut self, link: usize, scratch: &mut Scratch)
+    pub fn exchange_arrivals(&mut self, link: usize, scratch: &mut Scratch)
         requires link { link < length self.old.figures }
         requires steps { length scratch.old.arrivals ≡ self.old.step_count }
         ensures value { self.new
-            ≡ with_come self.old link scratch.old.arrivals scratch.old.queue scratch.old.figures }
+            ≡ with_arrivals self.old link scratch.old.arrivals scratch.old.queue scratch.old.figures }
         ensures left { scratch.new ≡ record scratch.old {
-          arrivals = row self.old.step_count self.old.arrivals link;
-          queue = row self.old.step_count self.old.queue link;
+          arrivals = row self.old.arrivals link;
+          queue = row self.old.queue link;
           figures = slice_index_or self.old.figures link no_figures;
         } }
         ensures left_steps { length scratch.new.arrivals ≡ self.old.step_count }
@@ -139,7 +139,7 @@ impl SavedRows {
         requires link { link < length self.old.figures }
         requires steps { length scratch.old.arrivals ≡ self.old.step_count }
         ensures value { self.new ≡ with_go self.old link scratch.old.go }
-        ensures left { scratch.new ≡ record scratch.old { go = row self.old.step_count self.old.go link } }
+        ensures left { scratch.new ≡ record scratch.old { go = row self.old.go link } }
         ensures left_steps { length scratch.new.arrivals ≡ self.old.step_count }
         ensures kept { AreRows self.old }
     {
@@ -149,13 +149,13 @@ impl SavedRows {
 
     /// The arrivals of a link at the last sweep, its queue and its figures change places here and in these rows. No row is
     /// copied.
-    pub fn give_come(&mut self, link: usize, rows: &mut Rows)
+    pub fn give_arrivals(&mut self, link: usize, rows: &mut Rows)
         requires link { link < length rows.old.figures }
         requires size { SameSize self.old rows.old }
-        ensures here { self.new ≡ with_come self.old link (row rows.old.step_count rows.old.arrivals link)
-            (row rows.old.step_count rows.old.queue link) (slice_index_or rows.old.figures link no_figures) }
-        ensures there { rows.new ≡ with_come rows.old link (row self.old.step_count self.old.arrivals link)
-            (row self.old.step_count self.old.queue link) (slice_index_or self.old.figures link no_figures) }
+        ensures here { self.new ≡ with_arrivals self.old link (row rows.old.arrivals link)
+            (row rows.old.queue link) (slice_index_or rows.old.figures link no_figures) }
+        ensures there { rows.new ≡ with_arrivals rows.old link (row self.old.arrivals link)
+            (row self.old.queue link) (slice_index_or self.old.figures link no_figures) }
         ensures kept { AreRows self.old }
         ensures kept_there { AreRows rows.old }
     {
@@ -170,8 +170,8 @@ impl SavedRows {
     pub fn give_go(&mut self, link: usize, rows: &mut Rows)
         requires link { link < length rows.old.figures }
         requires size { SameSize self.old rows.old }
-        ensures here { self.new ≡ with_go self.old link (row rows.old.step_count rows.old.go link) }
-        ensures there { rows.new ≡ with_go rows.old link (row self.old.step_count self.old.go link) }
+        ensures here { self.new ≡ with_go self.old link (row rows.old.go link) }
+        ensures there { rows.new ≡ with_go rows.old link (row self.old.go link) }
         ensures kept { AreRows self.old }
         ensures kept_there { AreRows rows.old }
     {

@@ -1,14 +1,13 @@
 -- The rows become those of an evaluation, pair by pair.
 use Rattle.std.proofs.Common.{◌≡◌, ℕ, ◌+◌, ◌<◌, ◌≤◌, cond, List, length, ap, sym}
-use Rattle.std.proofs.Common.{subst, ◌∙◌, arith}
+use Rattle.std.proofs.Common.{◌∙◌, arith}
 use Rattle.transyt_net.specs.Parts.{Network}
-use Rattle.transyt_sweep.specs.Cell.{CellValue, HasSteps}
+use Rattle.transyt_sweep.specs.Cell.{CellValue}
 use Rattle.transyt_sweep.specs.Sweeps.{out_of, evaluated}
 use Rattle.transyt_sweep.specs.Rows.{RowsValue, out_at, shown_at, pair_in, placed}
 use Rattle.transyt_sweep.specs.Rows.{AreRows}
 use Rattle.transyt_sweep.specs.Front.{AreEvaluation}
 use Rattle.transyt_sweep.proofs.FrontLaws.{mixed_turn, before_end}
-use Rattle.transyt_kept.proofs.WrittenLaws.{pair_steps}
 use Rattle.transyt_track.specs.Front.{AreBetween}
 use Rattle.transyt_track.proofs.MixedLaws.{mixed_placed, shown_placed, shown_turn}
 
@@ -23,12 +22,11 @@ module _ (net : Network) (f : ℕ → ℕ → List ℕ) (shown_f : ℕ → CellV
 
   -- one pair more is written
   pub between_placed : AreRows rows → (c : CellValue) → s ≤ net.frame.sweeps → l < length net.links
-      → HasSteps rows.step_count c → c.out ≡ f s l → (net.frame.sweeps ≡ s → c ≡ shown_f l)
+      → c.out ≡ f s l → (net.frame.sweeps ≡ s → c ≡ shown_f l)
       → AreBetween net f shown_f g shown_g s (l + 1) (placed rows s l c)
-  between_placed kept c swept inside long out shown = record {
-    outs = mixed_placed net f g s l rows between.outs kept c swept inside
-        (subst (λ n. HasSteps n c) between.outs.fits.step_count long) out;
-    shown = shown_placed net shown_f shown_g s l rows between.shown between.outs.fits kept c swept inside long shown;
+  between_placed kept c swept inside out shown = record {
+    outs = mixed_placed net f g s l rows between.outs kept c swept inside out;
+    shown = shown_placed net shown_f shown_g s l rows between.shown between.outs.fits kept c swept inside shown;
   }
 
 -- after the last sweep all is that of f
@@ -50,14 +48,12 @@ between_shown net f shown_f g shown_g rows between k there =
 
 -- one pair more is copied
 pub copied_put : (net : Network) (from : RowsValue) (g : ℕ → ℕ → List ℕ) (shown_g : ℕ → CellValue) (s l : ℕ)
-    (rows : RowsValue) → AreEvaluation net from → AreRows from
+    (rows : RowsValue) → AreEvaluation net from
     → AreBetween net (out_of net) (evaluated net) g shown_g s l rows → AreRows rows → s ≤ net.frame.sweeps
     → l < length net.links
     → AreBetween net (out_of net) (evaluated net) g shown_g s (l + 1) (placed rows s l (pair_in from s l))
-copied_put net from g shown_g s l rows evaluation from_kept between kept swept inside =
+copied_put net from g shown_g s l rows evaluation between kept swept inside =
     between_placed net (out_of net) (evaluated net) g shown_g s l rows between kept (pair_in from s l) swept inside
-    (subst (λ n. HasSteps n (pair_in from s l)) (evaluation.fits.step_count ∙ sym between.outs.fits.step_count)
-    (pair_steps from from_kept s l (omega (arith, evaluation.fits.sweeps)) (omega (arith, evaluation.fits.link_count))))
     (evaluation.outs s l swept inside)
     (λ last. ap (λ t. pair_in from t l) (sym last ∙ sym evaluation.fits.sweeps) ∙ evaluation.shown l inside)
 

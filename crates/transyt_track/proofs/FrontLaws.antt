@@ -13,13 +13,12 @@ use Rattle.std.proofs.lemmas.Grind.{get_or-set_at}
 use Rattle.transyt_net.specs.Parts.{Network}
 use Rattle.transyt_net.specs.Shape.{SameShape}
 use Rattle.transyt_parts.specs.declared.frame.Frame.{Frame}
-use Rattle.transyt_sweep.specs.Cell.{CellValue, HasSteps}
-use Rattle.transyt_sweep.specs.Sweeps.{out_of, read_of, worked_at, evaluated}
+use Rattle.transyt_sweep.specs.Cell.{CellValue}
+use Rattle.transyt_sweep.specs.Sweeps.{out_of, worked_at, evaluated}
 use Rattle.transyt_sweep.specs.Rows.{RowsValue, out_at, shown_at, with_weights, reweighed, placed}
 use Rattle.transyt_sweep.specs.Rows.{AreRows}
 use Rattle.transyt_sweep.specs.Front.{AreMixed, AreEvaluation}
 use Rattle.transyt_sweep.proofs.SweepLaws.{out_of_pair, evaluated_is}
-use Rattle.transyt_sweep.proofs.StepLaws.{worked_steps}
 use Rattle.transyt_sweep.proofs.FrontLaws.{mixed_turn, before_end}
 use Rattle.transyt_track.specs.Own.{places_at}
 use Rattle.transyt_track.specs.Due.{differs, read_differs, is_due, is_some_and}
@@ -27,9 +26,8 @@ use Rattle.transyt_track.specs.Readers.{AreReaders, reads}
 use Rattle.transyt_track.specs.Front.{AreShownMixed, AreFlags, flag, AreAt, awaits, left_at, own_differs}
 use Rattle.transyt_track.proofs.AwaitLaws.{awaits_here, awaits_on, awaits_own, awaits_turn, or_false}
 use Rattle.transyt_track.proofs.PlaceLaws.{feeders_inside, rule_inside}
-use Rattle.transyt_kept.proofs.WrittenLaws.{figures_here, figures_elsewhere}
-use Rattle.transyt_kept.proofs.BackLaws.{mixed_left}
-use Rattle.transyt_track.proofs.MixedLaws.{mixed_here, mixed_placed, mixed_figures, shown_moved}
+use Rattle.transyt_track.proofs.MixedLaws.{mixed_here, mixed_placed, mixed_figures, shown_moved, mixed_left}
+use Rattle.transyt_track.proofs.PlacedLaws.{figures_here, figures_elsewhere}
 use Rattle.transyt_track.proofs.MixedLaws.{shown_now, shown_placed, shown_turn}
 use Rattle.transyt_track.proofs.DueLaws.{differs_is}
 use Rattle.transyt_track.proofs.LeftLaws.{left_out, left_worked}
@@ -130,13 +128,10 @@ module _ (a b : Network) (s l : ℕ) (rows : RowsValue) (awaited : List Bool) (a
         → AreFlags (awaits a b s (l + 1)) (length b.links) passed
         → AreAt a b s (l + 1) (placed rows s l c) passed
     turned_worked kept c made passed flags =
-        let long : HasSteps b.frame.step_count c = subst (HasSteps b.frame.step_count) (sym made)
-        (worked_steps b (read_of b s l) l) in
         let out : c.out ≡ out_of b s l = ap (λ (v : CellValue). v.out) made ∙ sym (out_of_pair b s l first) in
         record {
-          outs = mixed_placed b (out_of b) (out_of a) s l rows at.outs kept c swept inside long out;
+          outs = mixed_placed b (out_of b) (out_of a) s l rows at.outs kept c swept inside out;
           shown = shown_placed b (evaluated b) (evaluated a) s l rows at.shown at.outs.fits kept c swept inside
-              (subst (λ n. HasSteps n c) (sym at.outs.fits.step_count) long)
               (λ last. made ∙ ap (λ t. worked_at b t l) (sym last) ∙ sym (evaluated_is b l));
           flags = flags;
         }

@@ -14,7 +14,6 @@ pub mod FrontLaws
 pub mod GoLaws
 pub mod StartLaws
 pub mod EditedLaws
-pub mod EvaluationLaws
 pub mod BackLaws
 pub mod TrackLaws
 pub mod RuleLaws

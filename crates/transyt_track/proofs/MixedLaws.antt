@@ -2,17 +2,50 @@
 use Rattle.std.proofs.Common.{◌≡◌, ℕ, ◌+◌, ◌<◌, ◌≤◌, Bool, true, false, cond, List, length, ap, sym, ◌∙◌, arith}
 use Rattle.std.proofs.Common.{◌==◌, ◌⊎◌, inl, inr, if◌then◌else◌}
 use Rattle.std.proofs.lemmas.Bool.{cases_eq}
+use Rattle.std.proofs.lemmas.Bool.Decides.{nat_tests}
 use Rattle.transyt_delay.specs.declared.figures.Figures.{Figures}
 use Rattle.transyt_net.specs.Parts.{Network}
-use Rattle.transyt_sweep.specs.Cell.{CellValue, HasSteps}
-use Rattle.transyt_sweep.specs.Rows.{RowsValue, out_at, with_out, with_figures, with_shown, placed, shown_at}
+use Rattle.transyt_sweep.specs.Cell.{CellValue}
+use Rattle.transyt_sweep.specs.Rows.{RowsValue, out_at, with_out, with_figures, with_rest, placed, shown_at}
 use Rattle.transyt_sweep.specs.Rows.{Fits, SameSize, AreRows}
 use Rattle.transyt_sweep.specs.Front.{AreMixed, is_before}
 use Rattle.transyt_sweep.proofs.FrontLaws.{before_self, before_other, before_turn, mixed_put, mixed_shown}
 use Rattle.transyt_track.specs.Front.{AreShownMixed}
-use Rattle.transyt_kept.proofs.WrittenLaws.{figures_out, figures_size}
-use Rattle.transyt_kept.proofs.BackLaws.{before_here}
-use Rattle.transyt_track.proofs.PlacedLaws.{placed_last, placed_stays}
+use Rattle.transyt_track.proofs.PlacedLaws.{placed_last, placed_stays, figures_out, figures_size}
+
+-- no pair comes before itself
+pub before_here : (s l : ℕ) → is_before s l s l ≡ false
+before_here s l = grind (arith, nat_tests)
+
+-- two answers of which one holds before a front move with it where they are equal there
+step_at : {A : Type 0} (f g : ℕ → ℕ → A) (t k s l : ℕ) → f s l ≡ g s l
+    → (if is_before t k s l then f t k else g t k) ≡ (if is_before t k s (l + 1) then f t k else g t k)
+step_at {A} f g t k s l same = by (cases_eq t s) (cases_eq k l)
+  where
+    other : (t ≡ s → k ≡ l → ⊥)
+        → (if is_before t k s l then f t k else g t k) ≡ (if is_before t k s (l + 1) then f t k else g t k)
+    other apart = ap (λ b. cond b (f t k) (g t k)) (sym (before_other t k s l apart))
+
+    by : (t ≡ s) ⊎ (t ≡ s → ⊥) → (k ≡ l) ⊎ (k ≡ l → ⊥)
+        → (if is_before t k s l then f t k else g t k) ≡ (if is_before t k s (l + 1) then f t k else g t k)
+    by (inl sweep) (inl link) =
+        ap (λ u. if is_before u k s l then f u k else g u k) sweep
+        ∙ ap (λ u. if is_before s u s l then f s u else g s u) link
+        ∙ ap (λ b. cond b (f s l) (g s l)) (before_here s l)
+        ∙ sym same
+        ∙ sym (ap (λ b. cond b (f s l) (g s l)) (before_self s l))
+        ∙ sym (ap (λ u. if is_before s u s (l + 1) then f s u else g s u) link)
+        ∙ sym (ap (λ u. if is_before u k s (l + 1) then f u k else g u k) sweep)
+    by (inl sweep) (inr apart) = other (λ _ e. apart e)
+    by (inr apart) _ = other (λ e _. apart e)
+
+-- a pair in which both are equal is left as it is
+pub mixed_left : (net : Network) (f g : ℕ → ℕ → List ℕ) (s l : ℕ) (rows : RowsValue) → AreMixed net f g s l rows
+    → f s l ≡ g s l → AreMixed net f g s (l + 1) rows
+mixed_left net f g s l rows mixed same = record {
+  fits = mixed.fits;
+  outs = λ t k within there. mixed.outs t k within there ∙ step_at f g t k s l same;
+}
 
 -- rows of the same size fit the same network
 pub fits_same : (net : Network) (x y : RowsValue) → SameSize x y → Fits net y → Fits net x
@@ -28,17 +61,16 @@ module _ (net : Network) (f g : ℕ → ℕ → List ℕ) (s l : ℕ) (rows : Ro
   mixed_here swept inside = mixed.outs s l swept inside ∙ ap (λ b. cond b (f s l) (g s l)) (before_here s l)
 
   -- a pair is written, at the last sweep all of it
-  pub mixed_placed : AreRows rows → (c : CellValue) → s ≤ net.frame.sweeps → l < length net.links
-      → HasSteps net.frame.step_count c → c.out ≡ f s l → AreMixed net f g s (l + 1) (placed rows s l c)
-  mixed_placed kept c swept inside long made = by (s == rows.sweeps)
+  pub mixed_placed : AreRows rows → (c : CellValue) → s ≤ net.frame.sweeps → l < length net.links → c.out ≡ f s l
+      → AreMixed net f g s (l + 1) (placed rows s l c)
+  mixed_placed kept c swept inside made = by (s == rows.sweeps)
     where
       put : AreMixed net f g s (l + 1) (with_out rows s l c.out)
-      put = mixed_put net f g s l rows mixed kept c.out swept inside long.out made
+      put = mixed_put net f g s l rows mixed kept c.out swept inside made
 
       by : (b : Bool) → AreMixed net f g s (l + 1)
-          (if b then with_shown (with_out rows s l c.out) l c.arrivals c.go c.queue c.figures else with_out rows s l
-          c.out)
-      by true = mixed_shown net f g s (l + 1) (with_out rows s l c.out) put l c.arrivals c.go c.queue c.figures
+          (if b then with_rest (with_out rows s l c.out) l c else with_out rows s l c.out)
+      by true = mixed_shown net f g s (l + 1) (with_out rows s l c.out) put l c
       by false = put
 
   -- figures are written
@@ -94,12 +126,10 @@ module _ (net : Network) (f g : ℕ → CellValue) (s l : ℕ) (rows : RowsValue
 
     -- a pair is written
     pub shown_placed : Fits net rows → AreRows rows → (c : CellValue) → s ≤ net.frame.sweeps → l < length net.links
-        → HasSteps rows.step_count c → (net.frame.sweeps ≡ s → c ≡ f l)
-        → AreShownMixed net f g s (l + 1) (placed rows s l c)
-    shown_placed fits kept c swept inside long made =
-        let swept_in : s ≤ rows.sweeps = omega (arith, fits.sweeps) in
+        → (net.frame.sweeps ≡ s → c ≡ f l) → AreShownMixed net f g s (l + 1) (placed rows s l c)
+    shown_placed fits kept c swept inside made =
         let inside_in : l < length rows.figures = omega (arith, fits.link_count) in
         shown_moved (placed rows s l c) inside
-        (λ last. placed_last rows kept s l c swept_in inside_in long (sym (fits.sweeps ∙ last)) ∙ made last)
-        (λ k there apart. placed_stays rows kept s l c swept_in inside_in long k (omega (arith, fits.link_count))
+        (λ last. placed_last rows kept s l c inside_in (sym (fits.sweeps ∙ last)) ∙ made last)
+        (λ k there apart. placed_stays rows kept s l c inside_in k (omega (arith, fits.link_count))
         (λ e. apart (sym fits.sweeps ∙ sym e)))

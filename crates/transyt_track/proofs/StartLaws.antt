@@ -8,7 +8,7 @@ use Rattle.std.proofs.lemmas.Slice.Eq.{bytes_eq-Decides}
 use Rattle.std.proofs.Math.Nat.{div-mul-le_self, lt-div-mul-add, lt_of_mul-lt-mul_right, mul-le-mul_right}
 use Rattle.std.proofs.lemmas.Bool.{cases_eq, cases_lt}
 use Rattle.std.proofs.lemmas.Bool.Decides.{nat_tests}
-use Rattle.std.proofs.lemmas.List.{length-set, length-replicate, get_or-replicate, get_or-set_other}
+use Rattle.std.proofs.lemmas.List.{length-set, get_or-replicate, get_or-set_other}
 use Rattle.std.proofs.lemmas.Grind.{get_or-set_at}
 use Rattle.transyt_profile.specs.Profile.{uniform}
 use Rattle.transyt_parts.specs.declared.frame.Frame.{Frame}
@@ -25,8 +25,7 @@ use Rattle.transyt_sweep.proofs.PairLaws.{out_elsewhere}
 use Rattle.transyt_sweep.proofs.FrontLaws.{mixed_put, mixed_turn, not_before_first}
 use Rattle.transyt_track.specs.Due.{differs}
 use Rattle.transyt_track.specs.Front.{flag, own_differs, total_differs, AreAt, AreFlags, AreStarting, awaits}
-use Rattle.transyt_kept.proofs.BackLaws.{mixed_left}
-use Rattle.transyt_track.proofs.MixedLaws.{shown_moved, shown_turn}
+use Rattle.transyt_track.proofs.MixedLaws.{shown_moved, shown_turn, mixed_left}
 use Rattle.transyt_track.proofs.AwaitLaws.{awaits_none}
 use Rattle.transyt_track.proofs.RuleLaws.{same_number}
 use Rattle.transyt_track.proofs.DueLaws.{same_out, differs_is}
@@ -142,28 +141,20 @@ module _ (a b : Network) (same : SameShape a b) where
             let apart : m ≢ l = other in
             get_or-set_other changed l m d false other ∙ starting.flagged m (omega arith)
 
-    shown_out : (k : ℕ) → k < length b.links → AreRows rows
-        → shown_at (with_out rows 0 l (start b l)) k ≡ shown_at rows k
-    shown_out k there kept =
-        let out = out_elsewhere rows kept 0 l (start b l) (omega arith) (omega (arith, starting.outs.fits.link_count))
-        (length-replicate b.frame.step_count _ ∙ sym starting.outs.fits.step_count) rows.sweeps k
+    shown_out : (k : ℕ) → k < length b.links → shown_at (with_out rows 0 l (start b l)) k ≡ shown_at rows k
+    shown_out k there =
+        let out = out_elsewhere rows 0 l (omega (arith, starting.outs.fits.link_count)) (start b l) rows.sweeps k
         (omega (arith, starting.outs.fits.link_count)) (λ e _. absurd (omega (arith, e, starting.outs.fits.sweeps))) in
-        (λ j. record {
-          arrivals = (shown_at rows k).arrivals;
-          go = (shown_at rows k).go;
-          queue = (shown_at rows k).queue;
-          out = out j;
-          figures = (shown_at rows k).figures;
-        })
+        ap (λ x. record (shown_at rows k) { out = x }) out
 
     -- one link more, which is started where it differs
     pub started_put : AreRows rows → differs a b 0 l ≡ true
         → AreStarting a b (l + 1) (with_out rows 0 l (start b l)) (set changed l true)
     started_put kept moves = record {
       outs = mixed_put b (out_of b) (out_of a) 0 l rows starting.outs kept (start b l) (omega arith) inside
-          (length-replicate b.frame.step_count _) (sym (out_of_start b l));
+          (sym (out_of_start b l));
       shown = shown_moved b (evaluated b) (evaluated a) 0 l rows starting.shown (with_out rows 0 l (start b l)) inside
-          (λ last. absurd (omega (arith, last))) (λ k there _. shown_out k there kept);
+          (λ last. absurd (omega (arith, last))) (λ k there _. shown_out k there);
       count = length-set changed l true ∙ starting.count;
       flagged = flags_more true (sym moves);
     }

@@ -1,20 +1,18 @@
 -- What a tracker keeps to stays.
 use Rattle.std.proofs.Common.{◌≡◌, ℕ, Bool, List, length, Option, Some, None, IsSome, refl, ap, sym, subst, ◌∙◌}
-use Rattle.std.specs.Option.{is_some}
 use Rattle.transyt_parts.specs.declared.frame.Frame.{Frame}
 use Rattle.transyt_net.specs.Parts.{Network}
 use Rattle.transyt_net.specs.Shape.{shape, SameShape}
 use Rattle.transyt_sweep.specs.Cell.{CellValue}
 use Rattle.transyt_sweep.specs.Rows.{RowsValue, Fits}
 use Rattle.transyt_sweep.specs.Front.{AreEvaluation}
-use Rattle.transyt_kept.specs.Saved.{RowsByLink, KeptValue, by_link}
+use Rattle.transyt_kept.specs.Saved.{KeptValue}
 use Rattle.transyt_track.specs.Own.{PlacesValue, ArePlaces, all_places}
 use Rattle.transyt_track.specs.Readers.{AreReaders}
-use Rattle.transyt_track.specs.Kept.{AreOfMark, evaluation_of}
+use Rattle.transyt_track.specs.Kept.{AreOfMark}
 use Rattle.transyt_track.specs.Tracker.{mark_of, IsTracking}
 use Rattle.transyt_track.proofs.ShapeLaws.{shape_frame, shape_count, shape_table, shape_readers}
 use Rattle.transyt_track.proofs.PlaceLaws.{all_places_are}
-use Rattle.transyt_track.proofs.EvaluationLaws.{evaluation_by_link}
 
 -- rows that fit one network fit each of its shape
 pub fits_shape : (a b : Network) → SameShape a b → (rows : RowsValue) → Fits a rows → Fits b rows
@@ -24,33 +22,18 @@ fits_shape a b same rows fits = record {
   link_count = fits.link_count ∙ shape_count a b same;
 }
 
--- an open mark has the rows of the marked network
-pub open_mark : (mark : Option RowsByLink) (marked : Network) → IsSome (mark_of mark marked) → AreOfMark marked mark
-    → mark ≡ Some (evaluation_of marked)
-open_mark (Some rows) marked some back = ap Some back
-open_mark None marked none back = absurd (cc)
-
--- and tells which network is marked
-pub marked_is : (mark : Option RowsByLink) (marked net : Network) → mark_of mark marked ≡ Some net → marked ≡ net
-marked_is (Some rows) marked net e = cc
-marked_is None marked net e = absurd (cc)
-
-pub is_open : (mark : Option RowsByLink) (marked net : Network) → mark_of mark marked ≡ Some net
-    → IsSome (mark_of mark marked)
-is_open mark marked net e = subst IsSome (sym e) refl
+-- with a marked network there is a mark
+pub open_mark : (mark : Option RowsValue) (marked : Network) → IsSome (mark_of mark marked) → IsSome mark
+open_mark (Some rows) marked some = refl
+open_mark None marked none = absurd (cc)
 
 -- with no marked network there is no mark
-pub no_mark : (mark : Option RowsByLink) (marked : Network) → mark_of mark marked ≡ None → mark ≡ None
+pub no_mark : (mark : Option RowsValue) (marked : Network) → mark_of mark marked ≡ None → mark ≡ None
 no_mark (Some rows) marked e = absurd (cc)
 no_mark None marked e = refl
 
--- a mark is open where a network is marked
-pub some_mark : (mark : Option RowsByLink) (marked : Network) → is_some mark ≡ is_some (mark_of mark marked)
-some_mark (Some rows) marked = refl
-some_mark None marked = refl
-
 -- no mark is open
-closed_mark : (mark : Option RowsByLink) (marked : Network) → mark ≡ None → AreOfMark marked mark
+closed_mark : (mark : Option RowsValue) (marked : Network) → mark ≡ None → AreOfMark marked mark
 closed_mark mark marked closed = subst (AreOfMark marked) (sym closed) tt
 
 -- a new tracker
@@ -61,16 +44,13 @@ pub opened_tracks : (net marked : Network) (kept : KeptValue) (places : List Pla
     → length scratch.arrivals ≡ net.frame.step_count
     → IsTracking net marked kept places readers own_changed awaited scratch
 opened_tracks net marked kept places readers own_changed awaited scratch copied evaluation closed all reading own_len
-    awaited_len steps = record {
-      shape = sym (ap shape copied);
-      evaluation = evaluation;
-      back = closed_mark kept.marked marked closed;
-      table = subst (ArePlaces net) (sym all) (all_places_are net);
-      reading = reading;
-      own_count = own_len;
-      awaited_count = awaited_len;
-      steps = steps;
-    }
+    awaited_len steps =
+    let same : SameShape net marked = sym (ap shape copied) in
+    assumption (
+      same,
+      closed_mark kept.marked marked closed,
+      subst (ArePlaces net) (sym all) (all_places_are net),
+    )
 
 module _ (net marked : Network) (kept : KeptValue) (places : List PlacesValue) (readers : List (List ℕ))
     (own_changed awaited : List Bool) (scratch : CellValue)
@@ -82,30 +62,19 @@ module _ (net marked : Network) (kept : KeptValue) (places : List PlacesValue) (
       → length own_changed1 ≡ length after.links → length awaited1 ≡ length after.links
       → length scratch1.arrivals ≡ after.frame.step_count
       → IsTracking after marked kept1 places readers own_changed1 awaited1 scratch1
-  followed_tracks after same kept1 own_changed1 awaited1 scratch1 evaluation stays own_len awaited_len steps = record {
-    shape = sym same ∙ tracking.shape;
-    evaluation = evaluation;
-    back = subst (AreOfMark marked) (sym stays) tracking.back;
-    table = shape_table net after same places tracking.table;
-    reading = shape_readers net after same readers tracking.reading;
-    own_count = own_len;
-    awaited_count = awaited_len;
-    steps = steps;
-  }
+  followed_tracks after same kept1 own_changed1 awaited1 scratch1 evaluation stays own_len awaited_len steps =
+      let shapes : SameShape after marked = sym same ∙ tracking.shape in
+      assumption (
+        shapes,
+        subst (AreOfMark marked) (sym stays) tracking.back,
+        shape_table net after same places tracking.table,
+        shape_readers net after same readers tracking.reading,
+      )
 
   -- a mark is set
-  pub begun_tracks : IsTracking net net (record kept { marked = Some (by_link kept.now) }) places readers own_changed
+  pub begun_tracks : IsTracking net net (record kept { marked = Some kept.now }) places readers own_changed
       awaited scratch
-  begun_tracks = record {
-    shape = refl;
-    evaluation = tracking.evaluation;
-    back = evaluation_by_link net kept.now tracking.evaluation;
-    table = tracking.table;
-    reading = tracking.reading;
-    own_count = tracking.own_count;
-    awaited_count = tracking.awaited_count;
-    steps = tracking.steps;
-  }
+  begun_tracks = let same : SameShape net net = refl in assumption (same)
 
   -- the rows are those of another network, and no mark is open
   pub closed_tracks : (after other : Network) → SameShape net after → SameShape after other → (kept1 : KeptValue)
@@ -114,13 +83,11 @@ module _ (net marked : Network) (kept : KeptValue) (places : List PlacesValue) (
   closed_tracks after other same same_other kept1 evaluation closed =
       let frame = shape_frame net after same in
       let count = shape_count net after same in
-      record {
-        shape = same_other;
-        evaluation = evaluation;
-        back = closed_mark kept1.marked other closed;
-        table = shape_table net after same places tracking.table;
-        reading = shape_readers net after same readers tracking.reading;
-        own_count = tracking.own_count ∙ count;
-        awaited_count = tracking.awaited_count ∙ count;
-        steps = tracking.steps ∙ ap (λ (f : Frame). f.step_count) frame;
-      }
+      assumption (
+        closed_mark kept1.marked other closed,
+        shape_table net after same places tracking.table,
+        shape_readers net after same readers tracking.reading,
+        tracking.own_count ∙ count,
+        tracking.awaited_count ∙ count,
+        tracking.steps ∙ ap (λ (f : Frame). f.step_count) frame,
+      )

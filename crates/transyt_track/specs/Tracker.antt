@@ -3,10 +3,11 @@ use Rattle.std.specs.Prelude.{◌≡◌, ℕ, Bool, List, length, Option, Some, 
 use Rattle.transyt_net.specs.Parts.{Network}
 use Rattle.transyt_net.specs.Shape.{SameShape}
 use Rattle.transyt_sweep.specs.Cell.{CellValue}
+use Rattle.transyt_sweep.specs.Rows.{RowsValue}
 use Rattle.transyt_sweep.specs.Front.{AreEvaluation}
 use Rattle.transyt_track.specs.Own.{PlacesValue, ArePlaces}
 use Rattle.transyt_track.specs.Readers.{AreReaders}
-use Rattle.transyt_kept.specs.Saved.{RowsByLink, KeptValue}
+use Rattle.transyt_kept.specs.Saved.{KeptValue}
 use Rattle.transyt_track.specs.Kept.{AreOfMark}
 
 -- a tracker: the network that it stands for, and the one that its open mark stands for, or none
@@ -19,12 +20,12 @@ abbrev pub unmarked : Network → TrackerValue
 unmarked net = record { net = net; mark = None }
 
 -- the network that was marked, if a mark is open
-abbrev pub mark_of : Option RowsByLink → Network → Option Network
+abbrev pub mark_of : Option RowsValue → Network → Option Network
 mark_of (Some rows) marked = Some marked
 mark_of None marked = None
 
 -- the tracker of these parts
-abbrev pub tracker_of : Network → Option RowsByLink → Network → TrackerValue
+abbrev pub tracker_of : Network → Option RowsValue → Network → TrackerValue
 tracker_of net mark marked = record { net = net; mark = mark_of mark marked }
 
 -- the rows are the evaluation of the network, and those of the mark that of the marked one. No public clause cites it.

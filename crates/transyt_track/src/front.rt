@@ -1,6 +1,6 @@
 //! The front: the rows go over from one network to another of its shape, a link at a sweep at a time, in order.
 
-ghost use Rattle.std.specs.Prelude.{◌≡◌, ◌+◌, ◌<◌, ◌≤◌, ◌||◌, ◌&&◌, ℕ, false, not, length, nat_eq, if◌then◌else◌, All};
+ghost use Rattle.std.specs.Prelude.{◌≡◌, ◌+◌, ◌<◌, ◌≤◌, ◌||◌, ◌&&◌, ℕ, not, length, nat_eq, if◌then◌else◌, All};
 ghost use Rattle.std.specs.Str.{bytes_eq};
 ghost use Rattle.std.specs.List.{list_any};
 ghost use Rattle.std.specs.Option.{is_some};
@@ -9,7 +9,6 @@ ghost use Rattle.transyt_sweep.specs.Front.{AreEvaluation};
 ghost use Rattle.transyt_track.specs.Due.{is_due, due_at, due};
 ghost use Rattle.transyt_track.specs.Change.{HasRoom, IsChange, IsFront};
 ghost use Rattle.transyt_track.specs.Front.{flag};
-ghost use Rattle.transyt_kept.specs.Saved.{KeptValue};
 
 use crate::change::{Change, Front};
 use crate::readers::Readers;

@@ -1,7 +1,7 @@
 //! The own data of a link, and where its node and the links that it reads stand.
 
 ghost use Rattle.std.specs.Prelude.{◌≡◌, ◌↔◌, ◌<◌, length, map, IfOk, IfSome, IsTrue};
-ghost use Rattle.transyt_net.specs.Parts.{Network, link_of};
+ghost use Rattle.transyt_net.specs.Parts.{link_of};
 ghost use Rattle.transyt_net.specs.Edits.{with_edit};
 ghost use Rattle.transyt_net.specs.Valid.{IsValid, link_place};
 ghost use Rattle.transyt_track.specs.Own.{change_of, flow_of, cruise_of, feeder_place, rule_place, node_place};

@@ -4,7 +4,6 @@ ghost use Rattle.std.specs.Prelude.{◌≡◌, ◌<◌, ◌≤◌, false, length
 ghost use Rattle.transyt_sweep.specs.Cell.{HasSteps};
 ghost use Rattle.transyt_sweep.specs.Rows.{Fits, AreRows, out_at, shown_at, placed, with_out, with_rest};
 ghost use Rattle.transyt_sweep.specs.Sweeps.{evaluated};
-ghost use Rattle.transyt_kept.specs.Saved.{KeptValue};
 ghost use Rattle.transyt_track.specs.Change.{IsChange};
 ghost use Rattle.transyt_track.specs.Front.{left_at};
 
@@ -35,7 +34,7 @@ fn place_shown(link: usize, may_differ: bool, scratch: &mut Scratch, kept: &mut 
     ensures value { kept.new ≡ record kept.old { now = with_rest kept.old.now link scratch.old } }
     ensures steps { length scratch.new.arrivals ≡ kept.old.now.step_count }
 {
-    kept.take_come(link, scratch);
+    kept.take_arrivals(link, scratch);
     if may_differ {
         kept.take_go(link, scratch);
     }

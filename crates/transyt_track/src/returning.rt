@@ -1,25 +1,23 @@
 //! All rows go back to those of the mark, or become a copy.
 
-ghost use Rattle.std.specs.Prelude.{◌≡◌, ◌<◌, ◌≤◌, length, Some, None};
-ghost use Rattle.transyt_net.specs.Shape.{SameShape};
+ghost use Rattle.std.specs.Prelude.{◌≡◌, ◌<◌, ◌≤◌, length, IsSome, None};
 ghost use Rattle.transyt_sweep.specs.Rows.{Fits, AreRows, pair_in, placed};
 ghost use Rattle.transyt_sweep.specs.Front.{AreEvaluation};
-ghost use Rattle.transyt_kept.specs.Saved.{KeptValue, unmarked};
-ghost use Rattle.transyt_track.specs.Kept.{evaluation_of};
+ghost use Rattle.transyt_kept.specs.Saved.{unmarked};
+ghost use Rattle.transyt_track.specs.Kept.{AreOfMark};
 
 use transyt_kept::KeptRows;
 use transyt_net::Net;
 use transyt_sweep::Rows;
 
 /// The rows go back to those of the marked network, and the mark is gone.
-pub(crate) fn go_back(net: &Net, marked: &Net, kept: &mut KeptRows)
-    requires shape { SameShape net.now marked.now }
-    requires rows { AreEvaluation net.now kept.old.now }
-    requires marked { kept.old.marked ≡ Some (evaluation_of marked.now) }
+pub(crate) fn go_back(marked: &Net, kept: &mut KeptRows)
+    requires marked { IsSome kept.old.marked }
+    requires mark { AreOfMark marked.now kept.old.marked }
     ensures rows { AreEvaluation marked.now kept.new.now }
     ensures closed { kept.new.marked ≡ None }
 {
-    kept.restore(net);
+    kept.restore();
 }
 
 /// All rows become those of an evaluation of the network.
@@ -46,9 +44,7 @@ fn copy_pair(net: &Net, sweep: u32, link: usize, from: &Rows, kept: &mut KeptRow
     requires link { link < length net.now.links }
     ensures value { kept.new ≡ unmarked (placed kept.old.now sweep link (pair_in from.now sweep link)) }
     ensures rows { AreRows kept.old.now }
-    ensures from { AreRows from.now }
 {
     kept.rows().index();
-    from.index();
     kept.take_pair(sweep, link, from);
 }

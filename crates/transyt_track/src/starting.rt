@@ -1,6 +1,6 @@
 //! Before the first sweep: which links' own data differ, which links are started anew, and which are due first.
 
-ghost use Rattle.std.specs.Prelude.{◌≡◌, ◌+◌, ◌<◌, ◌≤◌, ℕ, length, All, IfSome};
+ghost use Rattle.std.specs.Prelude.{◌≡◌, ◌+◌, ◌<◌, ◌≤◌, length, All, IfSome};
 ghost use Rattle.std.specs.List.{list_any};
 ghost use Rattle.transyt_net.specs.Shape.{SameShape};
 ghost use Rattle.transyt_sweep.specs.Front.{AreEvaluation};
@@ -9,7 +9,6 @@ ghost use Rattle.transyt_track.specs.Change.{HasRoom, IsChange, IsFront};
 ghost use Rattle.transyt_track.specs.Due.{differs, is_some_and};
 ghost use Rattle.transyt_track.specs.Front.{flag, flag_from, AreFlags, AreDownWhere, own_differs, total_differs};
 ghost use Rattle.transyt_track.specs.Front.{awaits, AreStarting};
-ghost use Rattle.transyt_kept.specs.Saved.{KeptValue};
 
 use crate::change::{Change, Front};
 use crate::own::{Places, other_total, same_data, same_times};

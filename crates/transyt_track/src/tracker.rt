@@ -1,7 +1,7 @@
 //! A tracker and its calls.
 
 ghost use Rattle.std.specs.Prelude.{◌≡◌, ◌+◌, ◌*◌, ◌≤◌, ◌<◌, length, IfOk, OnOk, OnErr, None, Some, IsSome};
-ghost use Rattle.std.specs.Prelude.{if◌then◌else◌, nat_lt, true};
+ghost use Rattle.std.specs.Prelude.{if◌then◌else◌, nat_lt};
 ghost use Rattle.std.specs.Option.{is_some};
 ghost use Rattle.transyt_net.specs.EditFaults.{edit_fault};
 ghost use Rattle.transyt_net.specs.Edits.{with_edit};
@@ -9,8 +9,7 @@ ghost use Rattle.transyt_net.specs.Shape.{SameShape};
 ghost use Rattle.transyt_sweep.specs.Front.{AreEvaluation};
 ghost use Rattle.transyt_sweep.specs.Sweeps.{out_of, evaluated, index};
 ghost use Rattle.transyt_track.specs.Due.{due};
-ghost use Rattle.transyt_kept.specs.Saved.{KeptValue};
-ghost use Rattle.transyt_track.specs.Kept.{evaluation_of};
+ghost use Rattle.transyt_track.specs.Kept.{AreOfMark};
 ghost use Rattle.transyt_track.specs.Tracker.{tracker_of, unmarked, IsTracking};
 
 use crate::change::{Change, Front};
@@ -294,21 +293,6 @@ impl Tracker {
         self.net.take_numbers(&from.net);
     }
 
-    /// Stands for the network of another tracker, whose mark is the network that this one stands for. Only what changed
-    /// since that mark is copied; it works out no link and takes no memory.
-    pub fn take_changes(&mut self, from: &Tracker)
-        requires marked { from.now.mark ≡ Some self.old.net }
-        requires closed { self.old.mark ≡ None }
-        ensures net { self.new.net ≡ from.now.net }
-        ensures mark { self.new.mark ≡ None }
-        ensures shape { SameShape self.old.net self.new.net }
-    {
-        from.front
-            .kept
-            .copy_changes(&from.net, &mut self.front.kept);
-        self.net.take_numbers(&from.net);
-    }
-
     /// Marks the network that it stands for. It takes no memory.
     pub fn begin(&mut self)
         requires { self.old.mark ≡ None }
@@ -326,7 +310,7 @@ impl Tracker {
         ensures mark { self.new.mark ≡ None }
         ensures shape { SameShape self.old.net self.new.net }
     {
-        go_back(&self.net, &self.marked, &mut self.front.kept);
+        go_back(&self.marked, &mut self.front.kept);
         mem::swap(&mut self.net, &mut self.marked);
     }
 
@@ -355,7 +339,8 @@ fn settle_on(net: &mut Net, after: &Net, e: Edit, keeps: bool, kept: &mut KeptRo
     requires allowed { edit_fault net.old e ≡ None }
     requires after { after.now ≡ with_edit net.old e }
     requires rows { AreEvaluation after.now kept.old.now }
-    requires marked { kept.old.marked ≡ Some (evaluation_of net.old) }
+    requires marked { IsSome kept.old.marked }
+    requires mark { AreOfMark net.old kept.old.marked }
     ensures net { net.new ≡ (if keeps then after.now else net.old) }
     ensures shape { SameShape after.now net.new }
     ensures rows { AreEvaluation net.new kept.new.now }
@@ -366,5 +351,5 @@ fn settle_on(net: &mut Net, after: &Net, e: Edit, keeps: bool, kept: &mut KeptRo
         kept.settle();
         return;
     }
-    go_back(after, net, kept);
+    go_back(net, kept);
 }

@@ -6,7 +6,7 @@ use Rattle.transyt_sweep.proofs.rows.fill_starts.Goals as goal
 
 -- none is
 pub loop-link-init : goal.loop-link-init
-loop-link-init c = subst (AreStarted c.args.net.now 0) (sym c.requires) (empty_started c.args.net.now)
+loop-link-init c = subst (AreStarted c.args.net.now 0 0) (sym c.requires) (empty_started c.args.net.now)
 
 -- the rows have the network's numbers
 pub start-requires-clause-fits : goal.start-requires-clause-fits
@@ -15,7 +15,7 @@ start-requires-clause-fits c = c.loop-link.invariant.outs.fits
 -- one more is
 pub loop-link-preserved : goal.loop-link-preserved
 loop-link-preserved c =
-    subst (AreStarted c.args.net.now (c.loop-link.link + 1)) (sym c.start.ensures.value)
+    subst (AreStarted c.args.net.now 0 (c.loop-link.link + 1)) (sym c.start.ensures.value)
     (started_put c.args.net.now c.loop-link.link c.loop-link.rows c.loop-link.invariant c.start.ensures.kept
     (omega (arith, c.loop-link-test.true, ap length c.links-link-end.ensures.value)))
 

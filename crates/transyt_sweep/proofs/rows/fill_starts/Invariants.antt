@@ -4,4 +4,4 @@ use Rattle.transyt_sweep.proofs.rows.fill_starts.Given as goal
 
 -- those so far are started
 abbrev pub invariant-loop-link : goal.invariant-loop-link
-invariant-loop-link l = AreStarted l.net l.link l.rows
+invariant-loop-link l = AreStarted l.net 0 l.link l.rows

@@ -1,12 +1,14 @@
 -- What doesn't differ is written already.
-use Rattle.std.proofs.Common.{ap, sym, ◌∙◌}
-use Rattle.transyt_sweep.specs.Rows.{RowsValue, with_out}
-use Rattle.transyt_sweep.proofs.PairLaws.{out_again}
+use Rattle.std.proofs.Common.{[], ap, sym, ◌∙◌}
+use Rattle.std.proofs.lemmas.List.{set-get_or}
+use Rattle.transyt_sweep.specs.Rows.{RowsValue, pair_place, with_out}
 use Rattle.transyt_track.proofs.replacing.place_out.Goals as goal
 
 pub returns-else-differs : goal.returns-else-differs
 returns-else-differs c =
     let rows = c.args.kept.now.now in
+    let s = c.args.sweep in
+    let l = c.args.link in
     ap (λ (r : RowsValue). record c.args.kept.now { now = r })
-    (sym (out_again rows c.args.sweep c.args.link)
-    ∙ ap (with_out rows c.args.sweep c.args.link) (c.requires.same c.if-differs.false))
+    (ap (λ o. record rows { outs = o }) (sym (set-get_or rows.outs (pair_place rows s l) []))
+    ∙ ap (with_out rows s l) (c.requires.same c.if-differs.false))

@@ -18,7 +18,7 @@ loop-link-preserved c =
     (arith, c.loop-link-test.true, ap length c.links-link-end.ensures.value) in
     record {
       rows = rw c.copy_pair.ensures.value (copied_put net c.args.from.now (out_at old) (shown_at old) c.loop-sweep.sweep
-          c.loop-link.link c.loop-link.kept.now c.requires.from c.copy_pair.ensures.from
+          c.loop-link.link c.loop-link.kept.now c.requires.from
           c.loop-link.invariant.rows c.copy_pair.ensures.rows swept inside);
       closed = ap (λ (k : KeptValue). k.marked) c.copy_pair.ensures.value;
     }

@@ -1,31 +1,16 @@
 -- The saved row changes places with that now, and isn't saved then.
-use Rattle.std.proofs.Common.{◌≡◌, ◌<◌, true, length, refl, ap, sym, subst, ◌∙◌, arith}
-use Rattle.transyt_sweep.specs.Rows.{shown_at}
-use Rattle.transyt_kept.specs.Saved.{SavedValue, is_go_saved, FitsRows}
-use Rattle.transyt_kept.proofs.CarryLaws.{given_go}
-use Rattle.transyt_kept.proofs.WrittenLaws.{shown_steps}
+use Rattle.std.proofs.Common.{◌≡◌, ◌<◌, true, false, length, ap, sym, subst, ◌∙◌, arith}
+use Rattle.std.proofs.lemmas.List.{get_or_read}
+use Rattle.transyt_kept.specs.Saved.{SavedValue, FitsRows, is_up}
+use Rattle.transyt_kept.proofs.KeptLaws.{given_go}
 use Rattle.transyt_kept.proofs.saved.Saved.give_go.Goals as goal
 
-pub returns-then-is_go_saved-clause-back : goal.returns-then-is_go_saved-clause-back
-returns-then-is_go_saved-clause-back c =
-    let i = c.self.inside in
-    let l = c.args.link in
-    let rows = c.args.rows.now in
-    let saved : SavedValue = record {
-      live = i.live;
-      link_count = i.link_count;
-      out_flags = i.out_flags.items;
-      come_flags = i.come_flags.items;
-      go_flags = i.go_flags.items;
-      rows = i.rows;
-    } in
-    let fits : FitsRows rows saved = subst (FitsRows rows) (sym c.self.view_is) c.requires.fits in
-    let inside : l < length i.rows.figures = omega (arith, c.requires.link, fits.size.link_count) in
-    let up : is_go_saved saved l ≡ true =
-    ap (λ (s : SavedValue). is_go_saved s l) c.self.view_is ∙ sym c.is_go_saved.ensures ∙ c.if-is_go_saved.true in
-    let say = c.give_go.ensures in
-    let was = shown_steps rows say.kept_there l c.requires.link in
-    let there = shown_steps i.rows say.kept l inside in
-    rw (← c.self.view_is, say.there, say.here)
-    (given_go rows saved fits say.kept_there say.kept c.self.invariant l c.requires.link (shown_at i.rows l).go
-    (there.go ∙ fits.size.step_count) was.go up refl)
+pub returns-then-index-clause-back : goal.returns-then-index-clause-back
+returns-then-index-clause-back c =
+    let flags = c.self.inside.go_flags.items in
+    let inside : c.args.link < length flags =
+    omega (arith, c.requires.link, c.requires.fits.links, ap (λ (s : SavedValue). length s.go_flags) c.self.view_is) in
+    let up : is_up flags c.args.link ≡ true =
+    sym (get_or_read flags c.args.link c.index.result.now inside c.index.ensures false) ∙ c.if-index.true in
+    rw (← c.self.view_is, c.give_go.ensures.here, c.give_go.ensures.there)
+    (given_go c.args.rows.now _ (subst (FitsRows c.args.rows.now) (sym c.self.view_is) c.requires.fits) c.args.link up)

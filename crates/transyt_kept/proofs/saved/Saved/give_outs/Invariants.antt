@@ -1,17 +1,11 @@
--- The pairs so far were given back.
-use Rattle.std.proofs.Common.{◌≡◌, ◌<◌, ℕ, true, false, length}
-use Rattle.transyt_sweep.specs.Front.{is_before}
-use Rattle.transyt_kept.specs.Saved.{is_out_saved, GivesBack}
+-- The places so far were given back.
+use Rattle.std.proofs.Common.{◌≡◌, length}
+use Rattle.transyt_kept.specs.Saved.{GivesBack, AreDownTo}
 use Rattle.transyt_kept.proofs.saved.Saved.give_outs.Given as goal
 
-abbrev pub invariant-loop-sweep : goal.invariant-loop-sweep
-invariant-loop-sweep l = record {
+abbrev pub invariant-loop-place : goal.invariant-loop-place
+invariant-loop-place l = record {
   back : GivesBack l.fn.rows l.fn.self l.rows l.self;
-  down : (t k : ℕ) → k < length l.net.links → is_before t k l.sweep 0 ≡ true → is_out_saved l.self t k ≡ false;
-}
-
-abbrev pub invariant-loop-link : goal.invariant-loop-link
-invariant-loop-link l = record {
-  back : GivesBack l.fn.rows l.fn.self l.rows l.self;
-  down : (t k : ℕ) → k < length l.net.links → is_before t k l.sweep l.link ≡ true → is_out_saved l.self t k ≡ false;
+  down : AreDownTo l.place l.self.out_flags;
+  count : length l.self.out_flags ≡ length l.fn.self.out_flags;
 }

@@ -1,73 +1,26 @@
--- One link more goes back.
-use Rattle.std.proofs.Common.{◌≡◌, ◌+◌, ◌<◌, ℕ, Bool, false, length, ap, ◌∙◌, arith, ◌⊎◌, inl, inr}
-use Rattle.std.proofs.lemmas.Bool.{cases_eq}
-use Rattle.transyt_kept.specs.Saved.{is_come_saved, is_go_saved}
-use Rattle.transyt_kept.proofs.CarryLaws.{gives_same, gives_more}
+-- One link more is given back.
+use Rattle.std.proofs.Common.{◌<◌, ◌+◌, false, length, set, sym, subst, ap, ◌∙◌, arith}
+use Rattle.std.proofs.lemmas.List.{length-set}
+use Rattle.transyt_kept.specs.Saved.{SavedValue, AreDownTo}
+use Rattle.transyt_kept.proofs.KeptLaws.{down_more}
 use Rattle.transyt_kept.proofs.saved.Saved.give_shown.Goals as goal
-
--- the links before the next one
-down_more : (l : ℕ) (was new : ℕ → Bool) → ((k : ℕ) → k < l → was k ≡ false)
-    → ((k : ℕ) → was k ≡ false → new k ≡ false) → new l ≡ false → (k : ℕ) → k < l + 1 → new k ≡ false
-down_more l was new down stays here k before = by (cases_eq k l)
-  where
-    by : (k ≡ l) ⊎ (k ≡ l → ⊥) → new k ≡ false
-    by (inl same) = ap new same ∙ here
-    by (inr apart) = stays k (down k (omega (arith, before, apart)))
-
-pub loop-link-init : goal.loop-link-init
-loop-link-init c = record {
-  back = gives_same c.args.rows.now c.args.self.now c.requires.fits_saved;
-  come = λ k none. absurd (omega arith);
-  go = λ k none. absurd (omega arith);
-}
-
-pub give_come-requires-clause-fits : goal.give_come-requires-clause-fits
-give_come-requires-clause-fits c = c.loop-link.invariant.back.carries.fits
-
-pub give_come-requires-clause-link : goal.give_come-requires-clause-link
-give_come-requires-clause-link c =
-    omega (
-      arith,
-      c.loop-link-test.true,
-      ap length c.links-link-end.ensures.value,
-      c.requires.fits.link_count,
-      c.loop-link.invariant.back.size.link_count,
-    )
-
-pub give_go-requires-clause-fits : goal.give_go-requires-clause-fits
-give_go-requires-clause-fits c = c.give_come.ensures.back.carries.fits
-
-pub give_go-requires-clause-link : goal.give_go-requires-clause-link
-give_go-requires-clause-link c =
-    omega (
-      arith,
-      c.loop-link-test.true,
-      ap length c.links-link-end.ensures.value,
-      c.requires.fits.link_count,
-      c.loop-link.invariant.back.size.link_count,
-      c.give_come.ensures.back.size.link_count,
-    )
 
 pub loop-link-preserved : goal.loop-link-preserved
 loop-link-preserved c =
     let so = c.loop-link.invariant in
-    let one = c.give_come.ensures in
+    let link = c.loop-link.link in
+    let one = c.give_arrivals.ensures in
     let two = c.give_go.ensures in
-    let l = c.loop-link.link in
+    let arrivals = ap (λ (s : SavedValue). s.arrivals_flags) two.rest ∙ one.flags in
+    let go = two.flags ∙ ap (λ (s : SavedValue). set s.go_flags link false) one.rest in
+    let inside : link < length c.loop-link.self.arrivals_flags =
+    omega (arith, so.count, ap (λ (s : SavedValue). length s.arrivals_flags) c.self.view_is) in
+    let inside_go : link < length c.loop-link.self.go_flags = omega (arith, inside, so.back.fits.links) in
     record {
-      back = gives_more c.args.rows.now c.args.self.now c.give_come.new.rows c.give_come.new.self c.give_go.new.rows
-          c.give_go.new.self (gives_more c.args.rows.now c.args.self.now c.loop-link.rows c.loop-link.self
-          c.give_come.new.rows c.give_come.new.self so.back one.back) two.back;
-      come = down_more l (is_come_saved c.loop-link.self) (is_come_saved c.give_go.new.self) so.come
-          (λ k down. two.back.come k (one.back.come k down)) (two.back.come l one.down);
-      go = down_more l (is_go_saved c.loop-link.self) (is_go_saved c.give_go.new.self) so.go
-          (λ k down. two.back.go k (one.back.go k down)) two.down;
+      back = record { fits = two.back.fits; old = two.back.old ∙ one.back.old ∙ so.back.old };
+      outs = ap (λ (s : SavedValue). s.out_flags) two.rest ∙ ap (λ (s : SavedValue). s.out_flags) one.rest ∙ so.outs;
+      arrivals = subst (AreDownTo (link + 1)) (sym arrivals)
+          (down_more c.loop-link.self.arrivals_flags link inside so.arrivals);
+      go = subst (AreDownTo (link + 1)) (sym go) (down_more c.loop-link.self.go_flags link inside_go so.go);
+      count = ap length arrivals ∙ length-set c.loop-link.self.arrivals_flags link false ∙ so.count;
     }
-
-pub returns-clause-come : goal.returns-clause-come
-returns-clause-come c = λ k there.
-    c.loop-link.invariant.come k (omega (arith, there, ap length c.links-link-end.ensures.value))
-
-pub returns-clause-go : goal.returns-clause-go
-returns-clause-go c = λ k there.
-    c.loop-link.invariant.go k (omega (arith, there, ap length c.links-link-end.ensures.value))

@@ -1,7 +1,8 @@
 -- Rows of 0 keep to what rows keep to, and their index is 0.
-use Rattle.std.proofs.Common.{◌≤◌, length, rules, arith, ap}
+use Rattle.std.proofs.Common.{◌≡◌, ◌≤◌, replicate, length, rules, arith, ap, sym}
 use Rattle.transyt_parts.specs.declared.frame.Frame.{Frame}
-use Rattle.transyt_sweep.proofs.KeptLaws.{kept_empty}
+use Rattle.transyt_sweep.specs.Rows.{no_figures}
+use Rattle.transyt_sweep.proofs.KeptLaws.{empty_are, empty_index}
 use Rattle.transyt_sweep.proofs.rows.Rows.empty.Goals as goal
 
 pub invariant_of-result : goal.invariant_of-result
@@ -14,6 +15,6 @@ invariant_of-result c =
     omega (arith, valid.sound.frame.step_count.1, ap (λ (f : Frame). f.step_count) same) in
     let swept : frame.sweeps ≤ 8 = omega (arith, valid.sound.frame.sweeps.1, ap (λ (f : Frame). f.sweeps) same) in
     let few : links ≤ 1000 = omega (arith, valid.sound.link_count, ap length c.links-link_count.ensures.value) in
-    kept_empty frame.step_count frame.sweeps c.in_ok-empty.field-0 c.in_ok-empty-2.field-0 c.in_ok-empty-3.field-0
-    c.in_ok-empty-4.field-0 c.in_ok-vec.field-0.items links steps swept few c.in_ok-empty.ensures
-    c.in_ok-empty-2.ensures c.in_ok-empty-3.ensures c.in_ok-empty-4.ensures (search rules)
+    let unweighed : c.in_ok-vec.field-0.items ≡ replicate links no_figures = search rules in
+    rw (c.in_ok-empty.ensures, c.in_ok-empty-2.ensures, c.in_ok-empty-3.ensures, c.in_ok-empty-4.ensures, unweighed)
+    (record { rows = empty_are frame.step_count frame.sweeps links steps swept few; index_sum = sym (empty_index links) })

@@ -19,5 +19,6 @@ invariant_of-self c =
     let i = c.self.inside in
     let inside : c.args.link < length i.figures.items =
     omega (arith, c.requires.link, ap (λ (v : RowsValue). length v.figures) c.self.view_is) in
-    kept_figures i.step_count i.sweeps i.outs i.arrivals i.go i.queue i.figures.items i.index c.self.invariant c.args.link
-    c.args.figures c.index.result.now inside c.requires.figures c.index.ensures
+    kept_figures c.self.invariant.rows
+    i.index c.args.link c.args.figures c.index.result.now c.self.invariant.index_sum inside c.requires.figures
+    c.index.ensures

@@ -1,11 +1,14 @@
 -- One row is written, of values that are small.
-use Rattle.transyt_sweep.proofs.KeptLaws.{kept_at}
+use Rattle.std.proofs.Common.{ap, sym, ◌∙◌}
+use Rattle.transyt_sweep.specs.Rows.{RowsValue}
+use Rattle.transyt_sweep.proofs.KeptLaws.{out_written}
 use Rattle.transyt_sweep.proofs.rows.Rows.put_out.Goals as goal
 
 pub invariant_of-self : goal.invariant_of-self
 invariant_of-self c =
     let i = c.self.inside in
-    kept_at i.step_count i.sweeps i.outs i.arrivals i.go i.queue i.figures.items i.index c.self.invariant
-    c.args.self.now c.self.view_is c.args.sweep c.args.link c.requires.last c.requires.link c.args.values.now
-    c.pair_place-place.result c.put.new.self c.requires.steps c.requires.small c.pair_place-place.ensures.value
-    c.put.ensures
+    rw c.put.ensures (record {
+      rows = out_written c.self.invariant.rows c.pair_place-place.result c.args.values.now
+          (c.requires.steps ∙ sym (ap (λ (v : RowsValue). v.step_count) c.self.view_is)) c.requires.small;
+      index_sum = c.self.invariant.index_sum;
+    })

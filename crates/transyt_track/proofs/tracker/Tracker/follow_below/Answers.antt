@@ -1,5 +1,5 @@
 -- The rows are those of the network with the edit made, or those from before it.
-use Rattle.std.proofs.Common.{◌≡◌, IfSome, Some, ap, sym, subst, if◌then◌else◌, nat_lt, ◌∙◌}
+use Rattle.std.proofs.Common.{◌≡◌, IfSome, IsSome, Some, refl, ap, sym, subst, if◌then◌else◌, nat_lt, ◌∙◌}
 use Rattle.transyt_parts.specs.declared.frame.Frame.{Frame}
 use Rattle.transyt_net.specs.Shape.{shape, SameShape}
 use Rattle.transyt_net.specs.Edits.{with_edit}
@@ -7,22 +7,25 @@ use Rattle.transyt_track.specs.Own.{ArePlaces, DifferAt}
 use Rattle.transyt_sweep.specs.Rows.{index_in}
 use Rattle.transyt_sweep.specs.Sweeps.{index}
 use Rattle.transyt_sweep.proofs.IndexLaws.{index_is}
-use Rattle.transyt_kept.specs.Saved.{KeptValue, by_link}
+use Rattle.transyt_kept.specs.Saved.{KeptValue}
 use Rattle.transyt_track.specs.Due.{due}
+use Rattle.transyt_track.specs.Kept.{AreOfMark}
 use Rattle.transyt_track.specs.Readers.{AreReaders}
 use Rattle.transyt_track.specs.Tracker.{TrackerValue, IsTracking}
 use Rattle.transyt_track.proofs.ShapeLaws.{shape_frame, shape_count}
-use Rattle.transyt_track.proofs.EvaluationLaws.{evaluation_by_link}
 use Rattle.transyt_track.proofs.TrackLaws.{begun_tracks, followed_tracks, closed_tracks}
 use Rattle.transyt_track.proofs.tracker.Tracker.follow_below.Goals as goal
 
 -- the mark has the rows of the network from before the edit
 pub settle_on-requires-clause-marked : goal.settle_on-requires-clause-marked
 settle_on-requires-clause-marked g c =
-    let i = c.self.inside in
-    c.follow_rows-due.ensures.marked
-    ∙ ap (λ (k : KeptValue). k.marked) c.begin.ensures
-    ∙ ap Some (evaluation_by_link i.net i.front.kept.now c.self.invariant.evaluation)
+    subst IsSome (sym (c.follow_rows-due.ensures.marked ∙ ap (λ (k : KeptValue). k.marked) c.begin.ensures)) refl
+
+pub settle_on-requires-clause-mark : goal.settle_on-requires-clause-mark
+settle_on-requires-clause-mark g c =
+    subst (AreOfMark c.self.inside.net)
+    (sym (c.follow_rows-due.ensures.marked ∙ ap (λ (k : KeptValue). k.marked) c.begin.ensures))
+    c.self.invariant.evaluation
 
 pub invariant_of-self : goal.invariant_of-self
 invariant_of-self g c =
@@ -35,7 +38,7 @@ invariant_of-self g c =
     ap (λ (t : TrackerValue). shape t.net) c.self.view_is ∙ c.requires.shape in
     let followed : IsTracking c.args.after.now i.net new.front.kept i.places.items i.readers.items
     new.front.own_changed.items new.front.awaited.items new.front.scratch =
-    followed_tracks i.net i.net (record i.front.kept { marked = Some (by_link i.front.kept.now) }) i.places.items
+    followed_tracks i.net i.net (record i.front.kept { marked = Some i.front.kept.now }) i.places.items
     i.readers.items i.front.own_changed.items i.front.awaited.items i.front.scratch
     (begun_tracks i.net i.marked i.front.kept i.places.items i.readers.items i.front.own_changed.items
     i.front.awaited.items i.front.scratch was)

@@ -7,7 +7,7 @@ use Rattle.transyt_track.proofs.tracker.Tracker.restore.Goals as goal
 pub go_back-requires-clause-marked : goal.go_back-requires-clause-marked
 go_back-requires-clause-marked c =
     open_mark c.self.inside.front.kept.marked c.self.inside.marked
-    (subst (λ (t : TrackerValue). IsSome t.mark) (sym c.self.view_is) c.requires) c.self.invariant.back
+    (subst (λ (t : TrackerValue). IsSome t.mark) (sym c.self.view_is) c.requires)
 
 pub invariant_of-self : goal.invariant_of-self
 invariant_of-self c =
