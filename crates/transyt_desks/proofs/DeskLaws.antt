@@ -6,9 +6,7 @@ use Rattle.std.proofs.lemmas.List.{length-map, map-append, same_lists, get_or_de
 use Rattle.std.proofs.lemmas.List.{length-replicate, get_or-replicate, replicate-append-replicate}
 use Rattle.std.proofs.lemmas.List.{length-set, length-drop}
 use Rattle.std.proofs.lemmas.List.{get_or-map as get_or-map-at}
-use Rattle.std.proofs.lemmas.List.{append-nil}
 use Rattle.std.proofs.lemmas.Grind.{get_or_after_one}
-use Rattle.std.proofs.Math.Seq.{drop-length, take-length}
 use Rattle.transyt_net.specs.Shape.{SameShape, shape as shape_word}
 use Rattle.transyt_moves.specs.Moves.{move_count}
 use Rattle.transyt_session.specs.Session.{SessionValue, opened}

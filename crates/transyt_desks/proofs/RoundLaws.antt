@@ -1,5 +1,5 @@
 -- A round: how many turns it is, one turn, and the turns of a stretch.
-use Rattle.std.proofs.Common.{◌≡◌, ℕ, ◌+◌, ◌<◌, ◌≤◌, true, false, None, List, length, slice_set, refl, ap, sym, ◌∙◌, subst, arith}
+use Rattle.std.proofs.Common.{◌≡◌, ℕ, ◌+◌, ◌<◌, ◌≤◌, true, false, None, List, length, refl, ap, sym, ◌∙◌, subst, arith}
 use Rattle.std.proofs.Common.{if◌then◌else◌}
 use Rattle.transyt_moves.specs.Moves.{move_count}
 use Rattle.transyt_session.specs.Session.{SessionValue, credited}
@@ -17,7 +17,7 @@ use Rattle.transyt_desks.proofs.TriedLaws.{answers_look, answers_took}
 use Rattle.transyt_desks.proofs.LeastLaws.{up_to_one}
 use Rattle.transyt_desks.proofs.PassingLaws.{ArePassing, still_on, next_lowers, stretch_passing, stretch_passed}
 use Rattle.transyt_desks.proofs.PassingLaws.{number_passed, number_took, round_passed, round_took}
-use Rattle.transyt_desks.proofs.DeskLaws.{alike_lent, zero_set}
+use Rattle.transyt_desks.proofs.DeskLaws.{alike_lent}
 use Rattle.transyt_desks.proofs.ShapeLaws.{shape_round}
 
 -- a look is no end

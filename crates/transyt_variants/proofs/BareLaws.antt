@@ -1,10 +1,8 @@
 -- The bare network of a cycle time is valid.
-use Rattle.std.proofs.Common.{◌≡◌, ℕ, zero, suc, ◌+◌, ◌-◌, ◌*◌, ◌/◌, ◌%◌, ◌<◌, ◌≤◌, Bool, true, false, ◌&&◌, List, [], ◌∷◌}
-use Rattle.std.proofs.Common.{map, length, sum, get_or, Option, Some, None, IfSome, nat_lt, nat_le, cond, refl, sym, ap, ◌∙◌, arith, All, subst}
-use Rattle.std.specs.List.{list_all, find}
-use Rattle.std.specs.Option.{option_map}
+use Rattle.std.proofs.Common.{◌≡◌, ℕ, zero, suc, ◌+◌, ◌-◌, ◌<◌, ◌≤◌, true, List, [], ◌∷◌}
+use Rattle.std.proofs.Common.{map, length, sum, get_or, Option, Some, None, IfSome, nat_lt, refl, sym, ap, ◌∙◌, arith, All, subst}
+use Rattle.std.specs.List.{list_all}
 use Rattle.std.proofs.Math.Nat.{mod-lt, div-lt_iff_lt-mul, mul-lt-mul_of_pos_right}
-use Rattle.std.proofs.lemmas.Bool.{and_parts}
 use Rattle.std.proofs.lemmas.Bool.Decides.{nat_tests}
 use Rattle.std.proofs.lemmas.List.{length-map, get_or-map}
 use Rattle.std.proofs.lemmas.List.Elements.{All-nil, All-cons, All-map, All-weaker}
@@ -29,7 +27,7 @@ use Rattle.transyt_equisat.proofs.TimedPlans.{AreTimed, timed_allowed}
 use Rattle.transyt_variants.specs.Cycles.{steps_of, has_short_lags, has_short_sizes, may_have, least_length, first_barred}
 use Rattle.transyt_variants.specs.Cycles.{scaled, scaled_stage, scaled_stages, filled_greens, laid_stage, laid, bare_stages, bare_plan, frame_at, bare_net}
 use Rattle.transyt_variants.specs.Needs.{HasBarePlan, CanHave}
-use Rattle.transyt_variants.proofs.ValidLaws.{HasShortLags, valid_signals}
+use Rattle.transyt_variants.proofs.ValidLaws.{valid_signals}
 use Rattle.transyt_variants.proofs.StartLaws.{map_places, all_places}
 
 -- a step in a cycle of others is one of its steps

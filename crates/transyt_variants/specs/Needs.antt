@@ -1,5 +1,5 @@
 -- The conditions of the calls that make a bare plan. No public clause cites these.
-use Rattle.std.specs.Prelude.{ℕ, ◌≡◌, ◌<◌, ◌≤◌, true, length, None}
+use Rattle.std.specs.Prelude.{ℕ, ◌≡◌, ◌≤◌, true, length, None}
 use Rattle.transyt_parts.specs.Parts.{NodeValue}
 use Rattle.transyt_parts.specs.Valid.{IsNode}
 use Rattle.transyt_net.specs.Parts.{Network}

@@ -1,5 +1,5 @@
 -- The rows that were all made are the table.
-use Rattle.std.proofs.Common.{◌≡◌, ℕ, List, Option, Some, map, drop, length, ap, sym, ◌∙◌, arith, rules}
+use Rattle.std.proofs.Common.{◌≡◌, List, Option, Some, map, drop, length, ap, sym, ◌∙◌, arith, rules}
 use Rattle.std.proofs.lemmas.List.{length-map, take-append-le, take_all}
 use Rattle.std.proofs.lemmas.Result.{IfOk-weaker}
 use Rattle.transyt_climbs.specs.declared.row.PlanRow.{PlanRow}
