@@ -1,4 +1,4 @@
--- Desks as a list, and the sessions of desks.
+-- Desks as a list: each session is that of its desk, so facts of all desks are facts of their sessions.
 use Rattle.std.proofs.Common.{◌≡◌, ℕ, zero, suc, ◌+◌, ◌-◌, ◌<◌, ◌≤◌, List, [], ◌∷◌, ◌++◌, length, take, drop}
 use Rattle.std.proofs.Common.{slice_index_or, slice_set, replicate, refl, ap, sym, ◌∙◌, arith, None}
 use Rattle.std.proofs.Math.ListN.{get_or-map}

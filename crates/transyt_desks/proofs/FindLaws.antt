@@ -1,4 +1,4 @@
--- Finds: one try more, and the finds of all desks in the list's order.
+-- Finds: a move's desk is the rest of its number by the number of desks, and its turn the quotient.
 use Rattle.std.proofs.Common.{◌≡◌, ℕ, ◌+◌, ◌*◌, ◌/◌, ◌%◌, ◌<◌, ◌≤◌, List, length, slice_index_or, slice_set}
 use Rattle.std.proofs.Common.{refl, ap, sym, ◌∙◌, subst, arith}
 use Rattle.std.proofs.lemmas.List.{get_or-set_other}

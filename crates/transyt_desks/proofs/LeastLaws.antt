@@ -1,4 +1,4 @@
--- The number of turns of a round: up to and with the first that takes a step.
+-- The number of turns of a round: the least turn that takes a step is found where all before it take none.
 use Rattle.std.proofs.Common.{◌≡◌, ℕ, zero, suc, ◌+◌, ◌<◌, Bool, true, false, Some, None, refl, ap, ◌∙◌, arith, if◌then◌else◌}
 use Rattle.std.specs.Option.{option_map}
 use Rattle.transyt_sweep.specs.Climb.{least}

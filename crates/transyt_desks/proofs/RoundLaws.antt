@@ -1,4 +1,4 @@
--- A round: how many turns it is, one turn, and the turns of a stretch.
+-- A round: a turn that is no end is a look, so the round is the turns of a stretch, and one more where a move lowers.
 use Rattle.std.proofs.Common.{◌≡◌, ℕ, ◌+◌, ◌<◌, ◌≤◌, true, false, None, List, length, refl, ap, sym, ◌∙◌, subst, arith}
 use Rattle.std.proofs.Common.{if◌then◌else◌}
 use Rattle.transyt_moves.specs.Moves.{move_count}

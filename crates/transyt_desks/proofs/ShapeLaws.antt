@@ -1,4 +1,4 @@
--- Turns keep the shape of the network.
+-- Turns keep the shape of the network, since a move sets an offset or a change.
 use Rattle.std.proofs.Common.{ℕ, zero, suc, Bool, true, false, if◌then◌else◌, refl, ap, ◌∙◌}
 use Rattle.transyt_net.specs.Parts.{Network}
 use Rattle.transyt_net.specs.Shape.{SameShape, shape as shape_word}

@@ -1,4 +1,4 @@
--- Stretches: one try more, by what it finds.
+-- Stretches: one try more adds its work where the move doesn't lower the index, and else ends the stretch.
 use Rattle.std.proofs.Common.{◌≡◌, ℕ, suc, ◌+◌, ◌≤◌, true, false, ap, sym, ◌∙◌, subst, arith}
 use Rattle.std.proofs.lemmas.Bool.{cond_both}
 use borrow.Author.Count.{below_more}

@@ -1,4 +1,4 @@
--- What a line adds to what its lines have come to.
+-- A line more: its text and its end are those of the state before it, and the state after it is one step more.
 use Rattle.std.proofs.Common.{◌≡◌, ℕ, ◌+◌, ◌++◌, true, List, [], ◌∷◌, Option, None, Some, IfNone, Result, Ok, Err, IfOk, OnOk, refl, sym, ◌∙◌, ap, subst, arith}
 use Rattle.std.proofs.Common.{append_assoc}
 use Rattle.std.proofs.lemmas.List.{append-nil}
@@ -107,7 +107,7 @@ module _ (r : ReporterValue) (before : List (List ℕ)) (h : HasAnswered r befor
       let both = cases after.desks refl in
       record { is = state ∙ at; awaited = both.0; live = live; quiet = both.1 }
 
--- what was said of a line answers it
+-- the text and the end of a line are its answer
 pub told_whole : (result : Result (Option Ending) Stop) (said : List ℕ) (end : Option Ending)
     (has_answered : List (List ℕ) → Type 0) (before : List (List ℕ)) (line : List ℕ) (old new : Option (List ℕ))
     → said ≡ text before line → end ≡ ends before line → OnOk result (Adds old new said)

@@ -1,4 +1,4 @@
--- What a line of the deck did where there was no memory.
+-- Out of memory a line of the deck has written nothing, and its steps are no more than those of END.
 use Rattle.std.proofs.Common.{ℕ, ◌+◌, ◌≤◌, List, [], Option, Err, refl, arith}
 use Rattle.transyt_io.proofs.Told.{adds_nothing}
 use Rattle.transyt_deck.specs.Deck.{Deck}

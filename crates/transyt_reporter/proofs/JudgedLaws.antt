@@ -14,7 +14,7 @@ module _ (desks : List SessionValue) (lent s : SessionValue) (answer : Answer) (
   pub zero_is : desk_zero (set desks 0 s) ≡ line_judged (desk_zero desks) line
   zero_is = zero_set desks s some ∙ state ∙ ap (λ (s : SessionValue). line_judged s line) value
 
-  -- what is answered to the line
+  -- the answer to the line
   pub answer_is : answer ≡ line_answer (desk_zero desks) line
   answer_is = told ∙ ap (λ (s : SessionValue). line_answer s line) value
 

@@ -1,4 +1,4 @@
--- What a complete deck opens: its session, desks that are kept to, and its steps.
+-- A complete deck is its network's: so are its session, its desks and its steps.
 use Rattle.std.proofs.Common.{◌≡◌, ℕ, ◌-◌, ◌≤◌, None, Ok, arith}
 use Rattle.std.proofs.lemmas.List.{length-replicate}
 use Rattle.transyt_net.specs.Parts.{Network}

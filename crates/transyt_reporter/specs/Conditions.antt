@@ -36,7 +36,7 @@ pub record Leaves (most : ℕ) (answered : SessionValue) (old new : List Session
   pub work : (desk_zero new).work ≤ answered.work
   pub made : length old ≡ 1 → steps_new + (desk_zero old).work ≡ steps + (desk_zero new).work
 
--- what a line before END or END did, where this is the deck with it: its text was written whole, or a front of it; its
+-- a line before END or END was answered, where this is the deck with it: its text was written whole, or a front of it; its
 -- steps were taken, or no more than they; and it ends the run where the deck does
 pub record AnswersDeck (deck : Deck) (result : Result (Option Ending) Stop) (written written_new : Option (List ℕ))
     (faults faults_new steps steps_new : ℕ) : Type 0 where

@@ -1,4 +1,4 @@
-//! What was judged is said: CLIMB and CERT are carried out as they are written.
+//! The answer to a judged command is said: CLIMB and CERT are carried out as they are written.
 ghost use Rattle.std.specs.Prelude.{◌≡◌, ◌^◌, ◌≤◌, length, OnOk};
 ghost use Rattle.transyt_desks.specs.Desks.{desk_zero};
 ghost use Rattle.transyt_text.specs.Prints.{PrintsOn};

@@ -8,9 +8,9 @@ use transyt_io::LineBuffer;
 /// One to eight workers, who try moves at once: how many, the runtime that starts them, and the gate that they pass.
 #[derive(Drop)]
 pub struct Workers<'a, R, G> {
-    /// What starts them.
+    /// The runtime that starts them.
     pub rt: &'a R,
-    /// What each passes with the moves that it tries.
+    /// The gate that each passes with the moves that it tries.
     pub gate: &'a G,
     /// How many they are.
     pub count: u32,
@@ -18,7 +18,7 @@ pub struct Workers<'a, R, G> {
     ghost most: { count ≤ 8 },
 }
 
-/// What carries the commands out and writes the answers: the workers, the line that is written, the number of the line
+/// The state that commands are carried out and answered with: the workers, the line that is written, the number of the line
 /// that is answered, and how many commands were refused.
 #[derive(Drop)]
 pub(crate) struct Clerk<'a, R, G> {

@@ -5,7 +5,7 @@ use Rattle.transyt_text.specs.Prints.{Printed}
 use Rattle.transyt_reporter.specs.Certifying.{HasCertified, places_text}
 use Rattle.transyt_reporter.proofs.certifying.certify_by_desks.Given as goal
 
--- what is written, and the desks
+-- the text so far, and the desks
 abbrev pub invariant-loop-from : goal.invariant-loop-from
 invariant-loop-from g l = record {
   printed : Printed (g.K.Sink.written l.fn.sink) (g.K.Sink.written l.sink) (g.K.Sink.faults l.fn.sink)

@@ -6,7 +6,7 @@ use Rattle.transyt_text.specs.Prints.{Printed}
 use Rattle.transyt_reporter.specs.Certifying.{HasCertified}
 use Rattle.transyt_reporter.proofs.certifying.certify_tried.Given as goal
 
--- what is written, and the session
+-- the text so far, and the session
 abbrev pub invariant-loop-number : goal.invariant-loop-number
 invariant-loop-number g l = record {
   printed : Printed (g.K.Sink.written l.fn.sink) (g.K.Sink.written l.sink) (g.K.Sink.faults l.fn.sink)
