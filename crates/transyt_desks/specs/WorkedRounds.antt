@@ -24,22 +24,22 @@ abbrev pub has_passed : ℕ → ℕ → Counters
 has_passed since looked = record { place = 4; since = since; looked = looked; budget = 2500; count = 1152 }
 
 -- numbers of desks and a climber, with how many places they try in a round of stretches: before any step, right after
--- one, and when 7, 8 and more places have passed since
+-- one, and when 15, 16 and more places have passed since
 abbrev pub worked_places : List (ℕ × Counters × ℕ)
 worked_places =
     (1, has_passed 0 0, 1)
     ∷ (1, has_passed 70 90, 1)
     ∷ (3, has_passed 0 0, 3)
     ∷ (3, has_passed 0 1, 1)
-    ∷ (8, has_passed 7 30, 1)
-    ∷ (8, has_passed 7 7, 1)
-    ∷ (2, has_passed 8 40, 4)
-    ∷ (8, has_passed 11 40, 16)
-    ∷ (3, has_passed 12 40, 9)
-    ∷ (3, has_passed 55 90, 39)
-    ∷ (2, has_passed 63 300, 30)
-    ∷ (2, has_passed 64 300, 32)
-    ∷ (8, has_passed 1000 1100, 128)
+    ∷ (8, has_passed 15 30, 1)
+    ∷ (8, has_passed 15 15, 1)
+    ∷ (2, has_passed 16 40, 8)
+    ∷ (8, has_passed 19 40, 32)
+    ∷ (3, has_passed 20 40, 15)
+    ∷ (3, has_passed 71 90, 51)
+    ∷ (2, has_passed 127 300, 62)
+    ∷ (2, has_passed 128 300, 64)
+    ∷ (8, has_passed 1000 1100, 256)
     ∷ []
 
 -- numbers of workers and a climber, with how many turns its round is where no move lowers the index

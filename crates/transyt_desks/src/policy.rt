@@ -6,13 +6,13 @@ ghost use Rattle.transyt_desks.specs.Rounds.{each_of, goes_alone};
 use transyt_climb::Climber;
 
 /// Up to so many places after a step, desk 0 goes on alone.
-pub(crate) const PLACES_ALONE: u32 = 8;
+pub(crate) const PLACES_ALONE: u32 = 16;
 
 /// For so many places since the last step, each desk tries one.
 pub(crate) const PLACES_FOR_ONE: u32 = 4;
 
 /// Each desk tries at most so many places.
-pub(crate) const MOST_PLACES: u32 = 16;
+pub(crate) const MOST_PLACES: u32 = 32;
 
 /// Whether desk 0 of so many goes on alone.
 pub(crate) fn goes_alone(desks: usize, climber: &Climber) -> bool
