@@ -81,7 +81,7 @@ named_many : IsNamed (Some TooMany)
 unfolding IsNamed
 named_many = tt
 
--- what a card made: a sound network and, at END, a plan of each node
+-- the result of a card: a sound network and, at END, a plan of each node
 abbrev IsMade : Result (Part × Network) Code → Type 0
 IsMade (Ok made) = IsSound made.1 × (made.0 ≡ p.End → first_fault made.1.frame.step_count made.1.nodes ≡ None)
 IsMade (Err code) = Unit {0}

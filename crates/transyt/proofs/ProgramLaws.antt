@@ -12,7 +12,7 @@ use Rattle.transyt.specs.Tasks.{Task, Reads, Writes, task, task_of, TaskOutcome,
 use Rattle.transyt.specs.Words.{word_of}
 use Rattle.transyt.proofs.TaskLaws.{word_settled, task_headline, run_headline}
 
--- what the program did, where the words that were shown to the top call are those that it was given
+-- the run of the program, where the words shown to the top call are those that it was given
 pub program_ran : (shown given : List (List ℕ)) (old new : Ends) (ended : Status) (number : ℕ) → shown ≡ given
     → number ≡ exit_number ended → TopCall shown old new ended → ProgramRan given old new number
 program_ran shown given old new ended number same told call = record {
@@ -42,7 +42,7 @@ retold (Some held) now still is = still ∙ is
 module _ (left remaining written contents written_new contents_new : Option (List ℕ)) (ended : Status)
     (same_left : left ≡ remaining) (same_held : written ≡ contents)
     (still : IfSome written_new (λ held. contents_new ≡ Some held)) where
-  -- what was asked for, by what a reader and a writer tell
+  -- the task, by the bytes that a reader and a writer tell
   task_over : (asked : Task) → TaskHeadline asked left written written_new ended
       → TaskHeadline asked remaining contents contents_new ended
   task_over (Reads by) told = λ input held left_is written_is few.
@@ -58,7 +58,7 @@ module _ (left remaining written contents written_new contents_new : Option (Lis
   tasks_over (Some asked) told = task_over asked told
 
 module _ (ended : Status) (number : ℕ) (number_is : number ≡ exit_number ended) where
-  -- what a word asks for, where the number tells no fault
+  -- the task of a word, where the number tells no fault
   word_told : (left left_new : Option (List ℕ)) (last : Option ℕ) (written written_new : Option (List ℕ))
       → number ≢ 3 → number ≢ 4 → number ≢ 5 → (o : Option Word)
       → IfSome (option_map task o) (λ asked. TaskOutcome asked left left_new last written written_new ended)

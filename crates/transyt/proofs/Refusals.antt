@@ -18,7 +18,7 @@ use Rattle.transyt_answers.specs.Report.{RunState, InDeck, InSession, run_of, ru
 use Rattle.transyt_answers.specs.Report.{answer_ends, end_refused, deck_answering}
 use Rattle.transyt.specs.Refusals.{IsRefusedOrOpen, IsRefusedByDeck}
 
--- what lines and one more have come to
+-- the state after lines and one more
 one_more : (before : List (List ℕ)) (line : List ℕ) (state : RunState) → run_state before ≡ state
     → run_state (before ++ line ∷ []) ≡ run_after state line
 one_more before line state at =

@@ -99,7 +99,7 @@ count_of false true n counts late c is h = absurd (cc)
 count_of false false n counts late true is h = is
 count_of false false n counts late false is h = absurd (cc)
 
--- what a line says can be added
+-- the card of a line can be added
 abbrev pub CanSaid : Result (Option Card) Code → Type 0
 CanSaid (Ok (Some card)) = CanAdd card
 CanSaid (Ok None) = Unit {0}

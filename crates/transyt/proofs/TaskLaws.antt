@@ -1,4 +1,4 @@
--- What the outcome of a run tells where no count of faults rose.
+-- Where no count of faults rose, a run's status is none of a fault, so its outcome is the whole text.
 use Rattle.std.proofs.Common.{◌≡◌, ◌≢◌, ℕ, ◌++◌, List, Option, Some, IfSome, Result, Ok, Err, true, false, length, ◌≤◌}
 use Rattle.std.proofs.Common.{refl, ap, subst, ◌∙◌, arith}
 use Rattle.std.specs.Option.{option_map}
@@ -19,7 +19,7 @@ use Rattle.transyt.specs.declared.word.Word.TheVariants as w
 use Rattle.transyt.specs.Tasks.{Task, Reads, Writes, task, TaskOutcome, TaskHeadline, TaskComplete}
 use Rattle.transyt.specs.Tasks.{TaskTooLong, IsRun}
 
--- what is reported of an input doesn't change with bytes after those that end the run
+-- the report of an input doesn't change with bytes after those that end the run
 abbrev pub IsSettledTask : Task → Type 0
 IsSettledTask (Reads by) = IsSettled by
 IsSettledTask (Writes text) = Unit {0}
@@ -47,7 +47,7 @@ text_done text out _ row memory no_write = absurd row
 module _ (left left_new : Option (List ℕ)) (last : Option ℕ) (written written_new : Option (List ℕ))
     {status : Status} (memory : status ≢ NoMemory) (no_read : status ≡ ReadFault → ⊥)
     (no_write : status ≡ WriteFault → ⊥) where
-  -- what was asked for was written
+  -- the text that was asked for was written
   pub task_headline : (asked : Task) → IsSettledTask asked
       → TaskOutcome asked left left_new last written written_new status
       → TaskHeadline asked left written written_new status
@@ -69,7 +69,7 @@ module _ (left left_new : Option (List ℕ)) (last : Option ℕ) (written writte
   task_too_long (Reads by) settled outcome = too_long_where settled outcome memory no_read no_write
   task_too_long (Writes text) settled outcome = tt
 
--- what holds of the task of a word holds of the task of the words that ask for it
+-- a fact of a word's task is one of the words that ask for it
 pub of_words : (P : Task → Type 0) {word : Word} {words : Option Word} → Some word ≡ words → P (task word)
     → IfSome (option_map task words) P
 of_words P is told = subst (λ (o : Option Word). IfSome (option_map task o) P) is told
@@ -82,7 +82,7 @@ pub run_headline : (word : Word) {left written written_new : Option (List ℕ)} 
 run_headline (w.Run workers) run told = told
 run_headline _ run told = absurd run
 
--- what takes no step by its cut takes none
+-- a task without steps by its cut takes none
 most_none : (input : List ℕ) (cut : Result Cut CardStop) → most_of_cut (λ net line table. 0) input cut ≡ 0
 most_none input (Ok cut) = refl
 most_none input (Err stop) = refl

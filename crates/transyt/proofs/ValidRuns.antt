@@ -1,4 +1,4 @@
--- What lines have come to is valid, so that each climb of it descends.
+-- The network after lines is valid, so each climb of it descends.
 use Rattle.std.proofs.Common.{◌≡◌, ℕ, Bool, true, false, List, [], ◌∷◌, Option, None, Some, IfSome, Result, Ok}
 use Rattle.std.proofs.Common.{is_some, if◌then◌else◌, refl, subst, sym}
 use Rattle.std.specs.List.{fold}

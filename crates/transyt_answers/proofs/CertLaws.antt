@@ -15,7 +15,7 @@ use Rattle.transyt_text.proofs.PrintLaws.{prints_front}
 use Rattle.transyt_session.specs.Session.{tried_with, try_of}
 use Rattle.transyt_answers.specs.Conditions.{index_found}
 
--- what a try finds is the index with the edit, or none where it is barred
+-- the find of a try is the index with the edit, or none where it is barred
 found_by : (net : Network) (e : Edit) (fault : Option EditFault)
     → index_found (tried_with net e fault) ≡ index_with net e fault
 found_by net e None = refl

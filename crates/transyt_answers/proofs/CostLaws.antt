@@ -24,7 +24,7 @@ use Rattle.transyt_answers.proofs.ClimbLaws.{of_climb}
 use Rattle.transyt_answers.proofs.ShapeLaws.{KeepsShape, keeps_said}
 use Rattle.transyt_answers.proofs.WorkLaws.{line_more}
 
--- what lines have come to with one more
+-- the state after lines and one more
 pub state_on : (before : List (List ℕ)) (line : List ℕ) → run_state (before ++ line ∷ []) ≡ run_after (run_state before) line
 state_on before line = fold-append run_after (InDeck start) before (line ∷ [])
 
@@ -77,7 +77,7 @@ steps_deck : (deck : Deck) → deck_steps deck ≡ steps_in (run_of deck)
 steps_deck (Complete number net) = omega arith
 steps_deck _ = refl
 
--- what is added to the work so far
+-- the work that a line adds
 added : (whole after work work_after : ℕ) → whole ≡ after → work ≤ work_after
     → (whole + work) + (work_after - work) ≡ after + work_after
 added whole after work work_after same more = omega arith

@@ -34,7 +34,7 @@ command_said c.Back s = either_said s (judged c.Back s) (is_some s.before) a.Don
 command_said c.Keep s = either_said s (judged c.Keep s) (is_some s.before) a.Done (a.Refused code.NoTrial) refl refl
 command_said (c.Request asked) s = refl
 
--- what a line says
+-- the text of a line
 said_said : (said : Result (Option Command) Code) (s : SessionValue)
     → answer_text (said_judged said s) (said_answer s said) ≡ answer_text s (said_answer s said)
 said_said (Ok (Some command)) s = command_said command s

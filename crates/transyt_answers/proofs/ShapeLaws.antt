@@ -13,7 +13,7 @@ use Rattle.transyt_commands.specs.declared.command.Command.TheVariants as c
 use Rattle.transyt_syntax.specs.declared.code.Code.{Code}
 use Rattle.transyt_answers.specs.Commands.{judged, said_judged}
 
--- what a session keeps to after a session that kept to it: one shape, and that of the network before an open trial
+-- the shape of a session after a line: that of the session before, and of the network before an open trial
 pub record KeepsShape (old new : SessionValue) : Type 0 where
   pub net : SameShape old.net new.net
   pub before : IfSome new.before (λ n. SameShape new.net n)

@@ -26,7 +26,7 @@ later test n r found (Some q) is h =
     let near = here.1 in
     (ap test (sym next) ∙ here.0, omega (arith, next, near))
 
--- what is found passes, and is below the limit
+-- the place found passes, and is below the limit
 pub least_some : (test : ℕ → Bool) (n r : ℕ) → least test n ≡ Some r → (test r ≡ true) × (r < n)
 least_some test zero r h = absurd (cc)
 least_some test (suc n) r h =
@@ -80,7 +80,7 @@ valid_moved : (net : Network) (place : ℕ) → IsValid net → IsLowering net (
 unfolding moved
 valid_moved net place valid step = valid_edit net (move net place) valid step.allowed
 
--- what leads on from the network with the move made
+-- the steps that lead on from the network with the move made
 from_moved : (net : Network) (place : ℕ) (steps : List Step) (last : Network) → LeadDown (moved net place) steps last
     → LeadDown (with_edit net (move net place)) steps last
 unfolding moved

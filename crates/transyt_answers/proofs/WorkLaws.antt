@@ -19,7 +19,7 @@ judged_work : (command : Command) (s : SessionValue) → s.work ≤ (judged comm
 judged_work c.Trial s = trial_work s (is_some s.before)
 judged_work _ s = omega arith
 
--- what a line says
+-- the text of a line
 said_work : (said : Result (Option Command) Code) (s : SessionValue) → s.work ≤ (said_judged said s).work
 said_work (Ok (Some command)) s = judged_work command s
 said_work _ s = omega arith

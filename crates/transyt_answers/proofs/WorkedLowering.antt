@@ -1,4 +1,4 @@
--- What is said of the worked steps and plans, number by number.
+-- The clauses on the worked steps and plans, number by number.
 use Rattle.std.proofs.Common.{◌≡◌, ℕ, ◌<◌, List, [], ◌∷◌, None, Some, sum, lit<, lit≤, refl, sym, ◌∙◌, ap, subst, arith}
 use Rattle.std.specs.List.{All}
 use Rattle.std.proofs.lemmas.List.Elements.{All-from_recursion, All-head}

@@ -17,7 +17,7 @@ use Rattle.transyt_audit.specs.Given.{agrees}
 use Rattle.transyt_audit.specs.Findings.{finding_of, finding_at, lowers_there}
 use Rattle.transyt_audit.proofs.Onward.{onward, onward_beyond, onward_wrong, onward_right, noted}
 
--- what is left to tell after a line that was found to be this
+-- the verdict left to tell after a line with this finding
 abbrev pub after_line : Network → ℕ → Option ℕ → ℕ → List (List ℕ) → Finding → Verdict
 after_line net place lower number rest Wrong = No number code.OtherLine
 after_line net place lower number rest Right = onward net (place + 1) lower (number + 1) rest
@@ -47,7 +47,7 @@ onward_line net place lower number line rest kept =
       ]
     ]
 
--- what was found first stays
+-- the first finding stays
 pub first_found : (lower : Option ℕ) (number : ℕ) → Some (unwrap_or lower number) ≡ option_or lower (Some number)
 first_found None number = refl
 first_found (Some n) number = refl

@@ -29,7 +29,7 @@ told net given truths ls next lower =
     (no_or (option_or lower (first_lower (index net) given ls)) code.LowerIndex
     (Yes (move_count net) (index net))))
 
--- what is left to tell of lines from a number on, from a place on, where a lower move was found before or not
+-- the verdict left to tell of lines from a number and a place on, where a lower move was found before or not
 unfoldable pub onward : Network → ℕ → Option ℕ → ℕ → List (List ℕ) → Verdict
 onward net place lower number rest =
     told net (given_from number rest) (drop place (cert_texts net)) (drop place (cert_lines net))
@@ -78,7 +78,7 @@ unfolding onward
 onward_wrong net place lower number line rest kept inside differs =
     rw (kept, truth_more net place inside, differs)
 
--- what was found so far, with one line more
+-- the findings so far, with one line more
 abbrev pub noted : Bool → ℕ → Option ℕ → Option ℕ
 noted true number lower = option_or lower (Some number)
 noted false number lower = lower
@@ -99,7 +99,7 @@ found_once : (lower later : Option ℕ) (number : ℕ)
 found_once None later number = refl
 found_once (Some n) later number = refl
 
--- what was found so far and what is found later, with one line more
+-- the findings so far and those to come, with one line more
 lower_more : (net : Network) (place : ℕ) (lower : Option ℕ) (g : Given) (more : List Given) (low : Bool)
     → low ≡ lowers_there net place
     → option_or lower (first_lower (index net) (g ∷ more) (drop place (cert_lines net)))

@@ -106,7 +106,7 @@ impl Truth {
         Ok(finding_of(agrees(line, self.text.bytes()), false))
     }
 
-    /// Judges the given line of a place of the list of moves.
+    /// Judges the given line at a place in the list of moves.
     fn judge_move<L: Ledger>(
         &mut self,
         alloc: Global,

@@ -54,7 +54,7 @@ move_text place edit tried = joined (move_words (new_line place edit tried)) ++ 
 abbrev pub last_text : ℕ → ℕ → List ℕ
 last_text count x = joined (end_words count x) ++ 10 ∷ []
 
--- the text of the line of a place of the list, its line end with it
+-- the line for a place in the list, its line end with it
 abbrev pub place_text : Network → ℕ → List ℕ
 place_text net place = move_text place (move net place) (tried_at net place)
 

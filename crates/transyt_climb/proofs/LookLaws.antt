@@ -9,7 +9,7 @@ use Rattle.transyt_session.specs.Session.{SessionValue, edit_lowers}
 use Rattle.transyt_climb.specs.Turns.{looked_at}
 use Rattle.transyt_climb.proofs.CountLaws.{count_moved}
 
--- what it means that the move at a place lowers the index
+-- the meaning of a move at a place that lowers the index
 pub lowers_is : (net : Network) (place : ℕ)
     → lowers net place ≡ is_below (index net) (index_with net (move net place) (edit_fault net (move net place)))
 unfolding lowers tried_at

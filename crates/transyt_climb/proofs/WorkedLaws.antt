@@ -74,7 +74,7 @@ local (suc (suc (suc (suc zero)))) less = refl
 local (suc (suc (suc (suc (suc zero))))) less = refl
 local (suc (suc (suc (suc (suc (suc k)))))) less = absurd (omega (arith, less))
 
--- the terms of the link of the other network, of these sums
+-- the terms of the other network's link, of these sums
 abbrev its_terms : ℕ → ℕ → ℕ → ℕ → Terms
 its_terms arrivals room queued stopped = record {
   arrivals = arrivals;

@@ -14,7 +14,7 @@ use transyt_net::Net;
 use transyt_session::Session;
 use transyt_steps::Steps;
 
-/// How far a climb has come: five counters of places of the list of moves, whose places count from 0.
+/// How far a climb has come, by five counters. Places in the list of moves count from 0.
 #[derive(Debug, Drop)]
 pub struct Climber {
     place: u32,

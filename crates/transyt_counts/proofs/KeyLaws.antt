@@ -127,7 +127,7 @@ insert_over f g k v (j ∷ js) differ others is =
           (sym (ap (map (λ i. (i, g i))) (cond_front (list_any (same_key k) js) j js k)))
     ]
 
--- what is looked up in such a list
+-- the entry of a key in such a list
 pub lookup_over : (f : Key → Totals) (k : Key) (ks : List Key)
     → lookup (same_key k) (map (λ j. (j, f j)) ks) ≡ (if list_any (same_key k) ks then Some (f k) else None)
 lookup_over f k [] = refl

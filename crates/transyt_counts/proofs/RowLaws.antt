@@ -38,7 +38,7 @@ just_four net row (p ∷ q ∷ r ∷ s ∷ []) a b c d is_a is_b is_c is_d no_mo
     rw (same_Some p a is_a, same_Some q b is_b, same_Some r c is_c, same_Some s d is_d)
 just_four net row fs a b c d is_a is_b is_c is_d no_more = absurd (cc)
 
--- what a row without a code keeps to
+-- the facts of a row without a code
 pub record IsGood (net : Network) (c : Count) : Type 0 where
   pub vehicles : c.vehicles ≤ 999999
   pub minutes : (1 ≤ c.minutes) × (c.minutes ≤ 1440)

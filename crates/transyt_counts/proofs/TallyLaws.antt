@@ -83,7 +83,7 @@ tally_push cs c =
     (totals_new cs c)
     ∙ sym (ap (map (λ k. (k, totals_of (cs ++ c ∷ []) k))) (fold_push (λ keys c. with_key keys c.key) [] cs c))
 
--- what each of the entries has, and the totals written over one of them have, all have
+-- a fact of each entry and of the new totals is one of all entries after the write
 insert_has : (P : Totals → Type 0) (es : List (Key × Totals)) (k : Key) (v : Totals) → All (λ e. P e.1) es → P v
     → All (λ e. P e.1) (insert_entry same_key es k v)
 insert_has P [] k v all here = All-cons (λ (e : Key × Totals). P e.1) (k, v) [] here (All-nil (λ (e : Key × Totals). P e.1))

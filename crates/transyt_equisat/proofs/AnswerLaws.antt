@@ -1,4 +1,4 @@
--- What the stages ask, and the greens of the answer.
+-- The answer is put together from the demands of the stages and its greens.
 use Rattle.std.proofs.Common.{◌≡◌, ℕ, ◌+◌, ◌<◌, ◌≤◌, map, length, sum, ◌∙◌, arith}
 use Rattle.std.proofs.lemmas.List.{length-map, length-set, get_or-map}
 use Rattle.std.proofs.lemmas.List.Elements.{All-from_get_or}
@@ -31,7 +31,7 @@ own_room net n setting =
     ) in
     omega (arith, less, setting.own.fills)
 
--- what the stages of a node of a valid network ask keeps to what is asked of it
+-- the demands of a valid network's node keep to the invariant
 pub asked_holds : (net : Network) (p : ℕ) → IsValid net → p < length net.nodes → IsAsked (asked_of net (node_of net p))
 asked_holds net p valid inside =
     let n : NodeValue = node_of net p in

@@ -1,4 +1,4 @@
--- What holds of the link that asks most of a stage holds of each of its counted links.
+-- A bound on the degree of a stage's greatest demand bounds each of its counted links, since none asks for more.
 use Rattle.std.proofs.Common.{◌≡◌, ℕ, ◌*◌, ◌<◌, ◌≤◌, Bool, true, false, not, ◌&&◌, List, [], ◌∷◌, ◌++◌, ◌+◌, All, arith}
 use Rattle.std.proofs.Common.{sym, ◌∙◌, ap, refl, inl, inr}
 use Rattle.std.specs.List.{list_all, filter, fold}
@@ -22,7 +22,7 @@ pub record IsLower (test : Fraction → Bool) : Type 0 where
   pub lesser : (a b : Fraction) → 0 < a.base → 0 < b.base → is_above a b ≡ false → test b ≡ true → test a ≡ true
   pub none : (steps e : ℕ) → 0 < e → test (degree_of steps no_demand e) ≡ true
 
--- what asks for no more has no greater degree
+-- a demand that is no greater has no greater degree
 pub degree_orders : (steps e : ℕ) (a b : Demand) → a.flow * b.saturation ≤ b.flow * a.saturation
     → is_above (degree_of steps a e) (degree_of steps b e) ≡ false
 degree_orders steps e a b less =

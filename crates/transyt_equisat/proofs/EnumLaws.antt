@@ -18,7 +18,7 @@ all_joined {A} P f (x ∷ xs) h =
     let Q : A → Type 0 = λ x. All P (f x) in
     All-append P (f x) (flat_map f xs) (All-head Q x xs h) (all_joined P f xs (All-tail Q x xs h))
 
--- what stands in one of them stands in the joined lists
+-- an item of one list is an item of the joined lists
 pub joined : {A B : Type 0} (f : A → List B) (xs : List A) (k : ℕ) (d : A) (y : B) → k < length xs → Contains (f (get_or xs k d)) y
     → Contains (flat_map f xs) y
 joined f [] k d y inside h = absurd (omega arith)
@@ -61,7 +61,7 @@ all_fit (s ∷ ss) left =
     )
     )
 
--- what is made of a part of a list
+-- the items that a part of a list gives
 pub Contains_map : {A B : Type 0} (f : A → B) (xs : List A) (x : A) → Contains xs x → Contains (map f xs) (f x)
 Contains_map f xs x (k, inside, same) = (
   k,

@@ -1,4 +1,4 @@
--- Laws of the greatest and of the least of fractions.
+-- The greatest and the least of fractions.
 use Rattle.std.proofs.Common.{◌≡◌, ◌<◌, Bool, true, false, List, [], ◌∷◌, All, arith, length, if◌then◌else◌, inl, inr}
 use Rattle.std.specs.List.{fold}
 use Rattle.std.proofs.lemmas.Bool.{cases_Bool, cond_both}
@@ -34,7 +34,7 @@ below = record {
 abbrev over_of : (Fraction → Fraction → Bool) → Fraction → Fraction → Fraction
 over_of over a d = if over d a then d else a
 
--- what all and the first have, the one over them has
+-- a fact of the first and of each other is one of the greatest
 pub extreme_has : (over : Fraction → Fraction → Bool) (P : Fraction → Type 0) (ds : List Fraction) (a : Fraction) → P a → All P ds
     → P (fold (over_of over) a ds)
 extreme_has over P [] a pa all = pa

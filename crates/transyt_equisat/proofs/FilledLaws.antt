@@ -47,7 +47,7 @@ more_passes test lower steps d es x k live some alive passes =
     (mul-pos {n = get_or (first_more x es) k 0} live (omega (arith, more))) (mul-pos live alive)
     (degree_falls steps d (get_or es k 0) (get_or (first_more x es) k 0) more) passes
 
--- what asks most has a saturation flow
+-- the greatest demand has a saturation flow
 fold_live : (number stage : ℕ) (ls : List LinkValue) (d : Demand) → All (λ l. 0 < l.saturation) ls → 0 < d.saturation
     → 0 < (fold (heavier_of number stage) d ls).saturation
 fold_live number stage [] d live alive = alive
@@ -56,7 +56,7 @@ fold_live number stage (l ∷ ls) d live alive =
     (cond_both (counts_in number stage l && heavier (demand_of l) d) (demand_of l) d (λ f. 0 < f.saturation)
     (λ heavy. All-head (λ l. 0 < l.saturation) l ls live) (λ light. alive))
 
--- what a stage asks has a saturation flow
+-- the demand of a stage has a saturation flow
 pub demand_live : (net : Network) (n : NodeValue) (k : ℕ) → IsSetting net n → k < length n.stages
     → 0 < (get_or (demands_of net n.number (length n.stages)) k no_demand).saturation
 demand_live net n k setting inside =

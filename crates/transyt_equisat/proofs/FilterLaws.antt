@@ -5,7 +5,7 @@ use Rattle.std.proofs.lemmas.Bool.{cases_Bool}
 use Rattle.std.proofs.lemmas.List.{get_or-map, length-map}
 use Rattle.std.proofs.lemmas.List.Elements.{All-head, All-tail, All-nil, All-cons, All-filter, All-map, filter_passes}
 
--- what holds of all that are picked: it holds of each that is picked
+-- a test that all picked items pass, item by item
 pub picked_each : {A : Type 0} (P : A → Type 0) (pick : A → Bool) (xs : List A) → All P (filter pick xs)
     → All (λ x. pick x ≡ true → P x) xs
 picked_each P pick [] h = All-nil (λ x. pick x ≡ true → P x)
@@ -24,7 +24,7 @@ pub each_picked : {A : Type 0} (P : A → Type 0) (pick : A → Bool) (xs : List
 each_picked P pick xs h = λ i d below.
     All-filter pick (λ x. pick x ≡ true → P x) xs h i d below (filter_passes pick xs i d below)
 
--- what holds of f of all that are picked
+-- the same of a function of the picked items
 pub all_mapped : {A B : Type 0} (P : B → Type 0) (f : A → B) (pick : A → Bool) (xs : List A)
     → All (λ x. pick x ≡ true → P (f x)) xs → All P (map f (filter pick xs))
 all_mapped P f pick xs h = All-map P f (filter pick xs) (each_picked (λ x. P (f x)) pick xs h)

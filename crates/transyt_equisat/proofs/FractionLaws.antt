@@ -5,7 +5,7 @@ use Rattle.std.proofs.lemmas.Bool.{ltb-true, ltb-false, le-ltb}
 use Rattle.transyt_equisat.specs.declared.fraction.Fraction.{Fraction}
 use Rattle.transyt_equisat.specs.Fractions.{is_above, AtMost}
 
--- what isn't above is at most
+-- a fraction that isn't above another is at most the other
 pub at_most : (a b : Fraction) → is_above a b ≡ false → AtMost a b
 at_most a b h = ltb-false (b.top * a.base) (a.top * b.base) h
 
@@ -24,6 +24,6 @@ at_most-trans a b c pos ab bc =
 pub not_above-trans : (a b c : Fraction) → 0 < b.base → is_above a b ≡ false → is_above b c ≡ false → is_above a c ≡ false
 not_above-trans a b c pos ab bc = not_above a c (at_most-trans a b c pos (at_most a b ab) (at_most b c bc))
 
--- what is above isn't at most
+-- a fraction that is above another isn't at most the other
 pub above_not : (a b : Fraction) → is_above a b ≡ true → is_above b a ≡ false
 above_not a b above = not_above b a (let more = ltb-true (b.top * a.base) (a.top * b.base) above in omega arith)

@@ -18,7 +18,7 @@ use Rattle.transyt_equisat.proofs.ExtremeLaws.{least_under, least_of_some}
 use Rattle.transyt_equisat.proofs.PeakLaws.{peak_base, under_peak, peak_under}
 use Rattle.transyt_equisat.proofs.EnumLaws.{all_fit, fits_listed, Contains_map}
 
--- what all peaks of fitting greens have
+-- a fact of the peaks of all greens that fit
 all_peaks : (net : Network) (n : NodeValue) (P : Fraction → Type 0)
     → ((es : List ℕ) → Fits net.frame.step_count n.stages es → P (peak net n.number es))
     → All P (map (peak net n.number) (all_greens n.stages net.frame.step_count))

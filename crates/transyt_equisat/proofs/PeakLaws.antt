@@ -22,7 +22,7 @@ use Rattle.transyt_equisat.proofs.DemandLaws.{IsLower, stage_tested, not_above_l
 use Rattle.transyt_equisat.proofs.ExtremeLaws.{extreme_has, all_under}
 use Rattle.transyt_equisat.proofs.FilterLaws.{picked_each, each_picked, all_mapped, mapped_all}
 
--- what the stage at a place asks
+-- the demand of the stage at a place
 pub demand_there : (net : Network) (number count k : ℕ) → k < count
     → get_or (demands_of net number count) k no_demand ≡ demand_in net number (k + 1)
 demand_there net number count k inside =

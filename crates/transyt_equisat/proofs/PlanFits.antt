@@ -14,7 +14,7 @@ use Rattle.transyt_parts.specs.Plan.{stage_of, no_stage, length_at, stage_length
 use Rattle.transyt_net.proofs.WriteLaws.{no_fault}
 use Rattle.transyt_equisat.specs.Peaks.{Fits, lost, green_at, greens_of, IsPlanOf}
 
--- what no fault of a plan says
+-- a plan without a fault, by its parts
 pub plan_parts : (steps : ℕ) (plan : List Stage) → plan_fault steps plan ≡ None
     → (2 ≤ length plan) × (sum (stage_lengths steps plan) ≡ steps) × (have_greens steps plan ≡ true)
 plan_parts steps plan none =

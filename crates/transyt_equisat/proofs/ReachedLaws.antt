@@ -33,7 +33,7 @@ find_cases test (x ∷ xs) =
       ]
     ]
 
--- what is neither equal to v nor above it is below it
+-- a fraction neither equal to v nor above it is below it
 below_by : (d v : Fraction) → is_same d v ≡ false → is_above d v ≡ false → is_above v d ≡ true
 below_by d v other under = grind (arith, nat_tests, other, under)
 

@@ -11,7 +11,7 @@ both_ways true false ab ba = ba refl
 both_ways false true ab ba = sym (ab refl)
 both_ways false false ab ba = refl
 
--- what is above one of two equal fractions is above the other
+-- a fraction above one of two equal ones is above the other
 pub same_above : (v w d : Fraction) → IsSame v w → 0 < v.base → 0 < w.base → is_above d v ≡ is_above d w
 same_above v w d same v_base w_base =
     both_ways (is_above d v) (is_above d w)

@@ -1,4 +1,4 @@
--- What the balance of a node stands on holds in a valid network.
+-- A valid network meets the conditions of a node's balance.
 use Rattle.std.proofs.Common.{◌≡◌, ℕ, zero, suc, ◌<◌, ◌≤◌, All, true, false, not, nat_eq, List, [], ◌∷◌, length, get_or}
 use Rattle.std.proofs.Common.{◌∙◌, ap, refl, arith, Some, None}
 use Rattle.std.specs.List.{list_any}

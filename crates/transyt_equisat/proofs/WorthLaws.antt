@@ -1,4 +1,4 @@
--- What the balance of a node is worth, and the answer for any least peak.
+-- No allowed plan has a lower peak than the balance of a node, and any least peak gives the same answer.
 use Rattle.std.proofs.Common.{◌≡◌, ℕ, ◌*◌, ◌<◌, List, map, length, sum}
 use Rattle.std.proofs.Common.{sym, ◌∙◌, ap, refl, subst, arith, get_or, inl, inr}
 use Rattle.std.specs.List.{range_with_len}

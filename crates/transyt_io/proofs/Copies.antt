@@ -3,7 +3,7 @@ use Rattle.std.proofs.Common.{◌≡◌, ℕ, ◌+◌, ◌-◌, ◌≤◌, List,
 use Rattle.std.proofs.lemmas.List.{take_at, drop-drop, take-append-drop, length-take-le}
 use Rattle.std.specs.List.{between}
 
--- what was left is what was copied, and then what is left now
+-- the bytes left before are those copied, and then those left now
 pub left_after_copy : (bytes copy rest : List ℕ) (i n : ℕ) → copy ≡ between i (i + n) bytes → i + n ≤ length bytes
     → drop i bytes ≡ take n (copy ++ rest) ++ drop (i + n) bytes
 left_after_copy bytes copy rest i n is fits =

@@ -8,7 +8,7 @@ use Rattle.std.proofs.lemmas.Bool.{cases_lt, or_parts, or_from, false_from_ne_tr
 use Rattle.std.specs.Str.Lines.{strip_carriage_return}
 use Rattle.transyt_io.specs.Lines.{onto_first, cut, after_first_line, line_of, lines_by, whole, has_end}
 
--- what is kept of more is kept of what was kept
+-- the kept bytes of more are those kept of the kept ones
 pub kept_more : {X : Type 0} → (n : ℕ) (xs ys : List X) → take n (take n xs ++ ys) ≡ take n (xs ++ ys)
 kept_more zero xs ys = refl
 kept_more (suc n) [] ys = refl
@@ -163,7 +163,7 @@ ends_in_piece keep raw front back piece rest after line ys same is told =
     ∙ ap (λ (xs : List ℕ). (raw ++ front) ++ xs) (sym same)) ∙ told
     ∙ ap (λ (xs : List ℕ). line ∷ lines_by keep (xs ++ ys)) (sym is)
 
--- what fits in the room that is left
+-- the bytes that fit in the room that is left
 pub take_onto : {X : Type 0} → (n : ℕ) (xs ys : List X) → length xs ≤ n
     → take n (xs ++ ys) ≡ xs ++ take (min (length ys) (n - length xs)) ys
 take_onto n xs ys h =
@@ -171,7 +171,7 @@ take_onto n xs ys h =
     ap (λ (k : ℕ). take k (xs ++ ys)) all ∙ take-append-add xs ys (n - length xs)
     ∙ ap (λ rest. xs ++ rest) (sym (take_min_length (n - length xs) ys))
 
--- what comes after some bytes leaves their whole lines as they are
+-- bytes after some others leave their whole lines as they are
 onto_more : (keep : Bool) (b : ℕ) (parts more all : List (List ℕ)) → all ≡ parts ++ more
     → (more : List (List ℕ)) × (onto_first keep b all ≡ onto_first false b parts ++ more)
 onto_more keep b [] more all h = (onto_first keep b all, refl)

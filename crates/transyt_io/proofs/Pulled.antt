@@ -1,4 +1,4 @@
--- What a call of `next` found, from what it held and from what it read on.
+-- The find of a call of `next`, from the bytes that it held and those that it read on.
 use Rattle.std.proofs.Common.{◌≡◌, ◌≢◌, ◌<◌, ◌≤◌, ◌⊎◌, inl, inr, ℕ, suc, ◌+◌, ◌-◌, ◌++◌, Bool, true, false, List, []}
 use Rattle.std.proofs.Common.{◌∷◌, Option, None, Some, Result, Ok, Err, nat_lt, length, take, drop, refl, sym, ◌∙◌, ap}
 use Rattle.std.proofs.Common.{subst, arith}
@@ -26,7 +26,7 @@ abbrev pub read_as : ℕ → ℕ → ℕ → List ℕ → Bool → Bool → Opti
 read_as taken at upto block ended live told =
     record { taken = taken; held = between at upto block; ended = ended; live = live; line = told }
 
--- what is held belongs to the line that was begun, and no line ended in it
+-- the bytes held belong to the line that was begun, and no line ended in them
 pub record Begun (old : Reading) (line : List ℕ) (taken : ℕ) : Type 0 where
   pub going : old.ended ≡ false
   pub first : Gathers line old.held

@@ -1,4 +1,4 @@
--- What std tells of a reader or writer, told on.
+-- An end of std tells the bytes that its reader or writer tells.
 use Rattle.std.proofs.Common.{◌≡◌, ℕ, List, refl}
 use Rattle.std.specs.Prelude.{Option, None, Some, IfSome}
 use Rattle.transyt_io.specs.StdEnds.{told_since, StillTells}

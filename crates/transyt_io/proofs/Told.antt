@@ -1,4 +1,4 @@
--- What sources and sinks tell, call after call.
+-- The bytes that sources and sinks tell, call after call.
 use Rattle.std.proofs.Common.{◌≡◌, ℕ, List, [], ◌++◌, Option, None, Some, Result, Ok, Err, OnErr, refl, sym, ◌∙◌, ap}
 use Rattle.std.proofs.Common.{append_assoc, option_map}
 use Rattle.std.proofs.lemmas.List.{append-nil}
@@ -9,7 +9,7 @@ pub takes_nothing : (told : Option (List ℕ)) → Takes told told []
 takes_nothing None = refl
 takes_nothing (Some bytes) = refl
 
--- what two reads took, one after the other
+-- the bytes that two reads took, one after the other
 pub takes_both : (a b c : Option (List ℕ)) (xs ys : List ℕ) → Takes a b xs → Takes b c ys → Takes a c (xs ++ ys)
 takes_both a b None xs ys h k = h ∙ ap (option_map (λ rest. xs ++ rest)) k
 takes_both a b (Some rest) xs ys h k =
@@ -20,13 +20,13 @@ pub adds_nothing : (told : Option (List ℕ)) → Adds told told []
 adds_nothing None = refl
 adds_nothing (Some bytes) = ap Some (sym (append-nil bytes))
 
--- what two writes added, one after the other
+-- the bytes that two writes added, one after the other
 pub adds_both : (a b c : Option (List ℕ)) (xs ys : List ℕ) → Adds a b xs → Adds b c ys → Adds a c (xs ++ ys)
 adds_both None b c xs ys h k = k ∙ ap (option_map (λ before. before ++ ys)) h
 adds_both (Some front) b c xs ys h k =
     k ∙ ap (option_map (λ before. before ++ ys)) h ∙ ap Some (append_assoc front xs ys)
 
--- what was added is a front of all that it begins
+-- the bytes added are a front of all that they begin
 pub adds_so_far : (a b : Option (List ℕ)) (out rest all : List ℕ) → Adds a b out → out ++ rest ≡ all → AddsFront a b all
 adds_so_far a b out rest all h is = record { front = out; back = rest; whole = is; adds = h }
 

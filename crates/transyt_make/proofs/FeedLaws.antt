@@ -25,7 +25,7 @@ feed_free net link f fs at fresh here there range few =
     let both : are_links net link f.feeder ≡ true = and_from _ _ here there in
     rw (at, fresh, both, range, room)
 
--- what a number names after a write to it
+-- the part that a number names after a write to it
 named_after : {A : Type 0} (key : A → ℕ) (g : A → A) (same : (x : A) → key (g x) ≡ key x) (xs : List A) (k : ℕ)
     → numbered key (on_numbered key g xs k) k ≡ option_map g (numbered key xs k)
 named_after key g same [] k = refl

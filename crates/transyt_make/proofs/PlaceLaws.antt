@@ -45,7 +45,7 @@ among key f (suc n) i k inside is =
       | inr apart ↦ or_left _ _ (among key f n i k (omega (arith, inside, apart)) is)
     ])
 
--- what a number names is named in a longer list too
+-- a part that a number names is named in a longer list too
 numbered_more : {A : Type 0} (key : A → ℕ) (xs ys : List A) (k : ℕ) (x : A) → numbered key xs k ≡ Some x
     → numbered key (xs ++ ys) k ≡ Some x
 numbered_more key [] ys k x h = absurd (cc)
@@ -63,7 +63,7 @@ numbered_last key (y ∷ xs) ys x h =
     let parts = or_parts (nat_eq (key x) (key y)) (is_among (map key xs) (key x)) h in
     rw parts.0 (numbered_last key xs ys x parts.1)
 
--- what stands at a place is what its number names, where numbers rise
+-- the part at a place is the one that its number names, where numbers rise
 pub numbered_at : {A : Type 0} (key : A → ℕ) (f : ℕ → A) (n i : ℕ)
     → ((a b : ℕ) → a < b → nat_eq (key (f b)) (key (f a)) ≡ false) → i < n
     → numbered key (map f (range_with_len 0 n)) (key (f i)) ≡ Some (f i)

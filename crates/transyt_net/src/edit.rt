@@ -9,7 +9,7 @@ ghost use Rattle.transyt_net.specs.There.{NodeTakes, LinkTakes};
 
 use transyt_parts::{Feed, Link, Node, Weights};
 
-/// An edit of one number, or of the two weights of a link. This project's own.
+/// An edit: it sets one number, or the two weights of a link. This project's own.
 ///
 /// All names in it are card numbers, stages are numbered from 1, flows are in vehicles per hour,
 /// offsets and changes in steps.

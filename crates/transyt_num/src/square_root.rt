@@ -42,8 +42,8 @@ fn is_root(v: u128, r: u64) -> bool
     square <= v && v - square <= 2 * root
 }
 
-/// The root of `v` or the number before it. Nothing rests on that, since `root_near` tests it, so the arithmetic of
-/// what follows wraps where it would overflow.
+/// The root of `v` or the number before it. Nothing rests on that, since `root_near` tests it, so the arithmetic wraps
+/// where it would overflow.
 fn guess(v: u128) -> u64 {
     let high = (v >> 64) as u64;
     if high > 0 {
@@ -55,7 +55,7 @@ fn guess(v: u128) -> u64 {
 }
 
 /// The same of a `v` that has `2 * half` bits more than 64: the root of its first 64 bits, and after it one division of
-/// what the square of that leaves.
+/// the rest that its square leaves.
 fn long_guess(v: u128, half: u32) -> u64
     requires { half ≤ 32 }
 {

@@ -10,7 +10,7 @@ use Rattle.transyt_outcome.specs.declared.status.Status.TheVariants.{NoMemory, B
 use Rattle.transyt_outcome.specs.Outcome.{Reporting, IsSettled, status_by, EndsRun, Finished, Row, Outcome}
 use Rattle.transyt_outcome.specs.Outcome.{Headline, Complete, TooLongWhere}
 
--- what was taken of a told input
+-- the bytes taken of a told input
 took_of : (input taken : List ℕ) (left : Option (List ℕ)) → Takes (Some input) left taken
     → (rest : List ℕ) × ((left ≡ Some rest) × (input ≡ taken ++ rest))
 took_of input taken None h = cc

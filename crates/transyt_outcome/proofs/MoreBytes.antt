@@ -1,4 +1,4 @@
--- What bytes after others leave as it is: their whole lines, and all of the report where one of these ends the run.
+-- Bytes after others leave their whole lines as they are, and all of the report where one of these ends the run.
 use Rattle.std.proofs.Common.{◌≡◌, ℕ, ◌++◌, ◌==◌, Bool, true, false, if◌then◌else◌, List, [], ◌∷◌, map, Option, None}
 use Rattle.std.proofs.Common.{Some, refl, sym, ◌∙◌, ap}
 use Rattle.std.proofs.lemmas.List.{append-nil, map-append}
@@ -25,7 +25,7 @@ cut_more keep (b ∷ bs) ys =
       | false ↦ onto_more keep b some rest.0 all rest.1
     ]
 
--- what comes after some bytes leaves their whole lines as they are
+-- bytes after some others leave their whole lines as they are
 pub whole_then : (keep : Bool) (xs ys : List ℕ)
     → (behind : List (List ℕ)) × (lines_by keep (xs ++ ys) ≡ whole xs ++ behind)
 whole_then keep xs ys =

@@ -127,7 +127,7 @@ written_on by last taken out more h =
 
 module _ {by : Answering} {before : List (List ℕ)} {out : List ℕ} {steps steps_new : ℕ}
     (so : AnsweredSoFar by before out steps steps_new) where
-  -- what was taken before the last read of a call of `next` is answered before the call
+  -- the bytes taken before the last read of a call of `next` are answered before the call
   pub written_next : {old new : Reading} {left left_new : Option (List ℕ)} {last last_new : Option ℕ}
       {result : Result Line ReadStop} {taken : List ℕ} (p : ReadsLine old new left left_new last last_new result)
       → HasRead old left taken before → IsWritten (of_lines by) last taken out

@@ -1,4 +1,4 @@
--- What of a platoon has arrived within two turns round the cycle, while its second turn goes by.
+-- The arrivals of a platoon within two turns round the cycle, while its second turn goes by.
 use Rattle.std.proofs.Common.{◌≡◌, ℕ, suc, ◌+◌, ◌-◌, ◌%◌, ◌<◌, ◌≤◌, List, [], ◌∷◌, length, get_or, sum_by}
 use Rattle.std.proofs.Common.{refl, ap, sym, ◌∙◌, arith, All}
 use Rattle.std.proofs.lemmas.List.Sums.{sum_by-cons}

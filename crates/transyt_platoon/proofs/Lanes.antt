@@ -1,4 +1,4 @@
--- What holds of some platoons one after the other, each with its going and in its lane.
+-- Facts of some platoons one after the other, each with its going and in its lane.
 use Rattle.std.proofs.Common.{ℕ, ◌+◌, ◌<◌, ◌≤◌, List, length, get_or, set, sym, subst, arith, below_more}
 use Rattle.std.proofs.lemmas.List.{get_or_default, get_or-set_other, get_or-set_same}
 use Rattle.transyt_platoon.specs.declared.going.Going.{Going}

@@ -7,7 +7,7 @@ use Rattle.transyt_platoon.specs.Platoon.{mixed}
 use Rattle.transyt_platoon.specs.Travels.{IsTravel}
 use Rattle.transyt_platoon.specs.declared.travel.Travel.{Travel}
 
--- what is divided times what divides is below a power where numbers below `most` are mixed
+-- the sum that is divided is below a power of 2 where numbers below `most` are mixed
 parts_fit : (w x z most p : ℕ) → most * (100 + w) * (100 + w) ≤ p → x < most → z < most
     → (100 * x + w * z) * (100 + w) < p
 parts_fit w x z most p room x_fits z_fits =

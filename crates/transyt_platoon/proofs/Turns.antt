@@ -25,7 +25,7 @@ pub second_gone : (p : Platoon) (i : ℕ) → i < steps_of p
 second_gone p i below =
     rw (← length-sent p, p.is_travel.weight) (sym (second_next (sent p) _ i (omega (arith, below, length-sent p))))
 
--- what went by after as many steps
+-- the value that went by after as many steps
 pub passed_at : (p : Platoon) (i j : ℕ) (g : Going) → i ≡ j → HasPassed p i g → HasPassed p j g
 passed_at p i j g same passed = subst (λ (k : ℕ). HasPassed p k g) same passed
 

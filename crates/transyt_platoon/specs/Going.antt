@@ -35,7 +35,7 @@ HavePassed ps j gs =
 abbrev pub arrived_by : (ℕ → ℕ) → ℕ → ℕ → ℕ → ℕ
 arrived_by g first i j = if ltb j first then 0 else (if ltb j (first + i) then g (j - first) else 0)
 
--- what of a platoon has arrived at place j of two turns after i steps of its second turn
+-- the arrivals of a platoon at place j of two turns after i steps of its second turn
 abbrev pub arrived : ℕ → ℕ → Platoon → ℕ
 arrived i j p = arrived_by (λ m. gone_by p (steps_of p + 1 + m)) (p.travel.now.time % steps_of p) i j
 

@@ -7,13 +7,13 @@ ghost use Rattle.transyt_platoon.specs.Platoon.{mixed};
 
 use crate::platoon::Platoon;
 
-/// What went by of a platoon last, with what each step takes of its travel: both are at hand here, while what a platoon
-/// borrows would be read again at each step.
+/// The value of a platoon that went by last, with the numbers of its travel: they are at hand here, while those that a
+/// platoon borrows would be read again at each step.
 #[derive(Clone, Copy)]
 pub(crate) struct Going {
-    /// What went by last.
+    /// The value that went by last.
     pub(crate) value: u64,
-    /// The factor of what went by a step before.
+    /// The factor of the value a step before.
     pub(crate) factor: u64,
     /// The step that the first step leads to.
     pub(crate) place: usize,
@@ -34,7 +34,7 @@ impl Going {
         }
     }
 
-    /// What goes by at a step; `product` is ready for what sets out at it.
+    /// The value that goes by at a step; `product` is ready for the value that sets out at it.
     fn mix(&self, platoon: &Platoon<'_>, step: usize, product: u64) -> u64
         requires step { step < steps_of platoon.now }
         requires product { product ≡ product_at platoon.now step }

@@ -1,4 +1,4 @@
--- What is made ready in a lane, one step more, and what all of it comes to.
+-- The values that are ready in a lane, one step more, and all of them together.
 use Rattle.std.proofs.Common.{◌≡◌, ℕ, ◌+◌, ◌*◌, ◌^◌, ◌<◌, ◌≤◌, List, length, get_or, set, sum, sum_by, take}
 use Rattle.std.proofs.Common.{All, ap, max, sym, ◌∙◌, arith, get_or-set_same, below_more}
 use Rattle.std.specs.List.{Any}
@@ -35,7 +35,7 @@ pub others_more : (old lanes : List ℕ) (lane n r : ℕ) → lane < 4 → Other
     → OthersStay old (set lanes (4 * n + lane) r) lane
 others_more old lanes lane n r own before k m small other = grind (arith, common_steps, before k m small other)
 
--- what holds of each share holds of each value of the part that goes on
+-- a fact of each share is one of each value of the onward part
 pub all_shared : (part whole b : ℕ) (xs : List ℕ) → ((k : ℕ) → k < length xs → share_at part whole xs k < b)
     → All (λ v. v < b) (shared part whole xs)
 all_shared part whole b xs each =

@@ -7,7 +7,7 @@ ghost use Rattle.transyt_profile.specs.Profile.{share_of, shared};
 
 use crate::sharing::{Part, product, share_step};
 
-/// What each share is multiplied by, and the limit below which all shares have to be.
+/// The factor of each share, and the limit below which all shares have to be.
 #[derive(Clone, Copy, Debug, PartialEq, Eq)]
 pub struct Scale {
     /// The factor of each share.

@@ -97,7 +97,7 @@ fn sink_of(alloc: Global, trial: &Trial<'_>) -> Result<Hearing<MemorySink>, Allo
     Ok(Hearing { sink, heard })
 }
 
-/// What came of a trial over a source and a sink in memory that ended with this status.
+/// The result of a trial over a source and a sink in memory that ended with this status.
 fn came_of(
     alloc: Global,
     row: &Row,

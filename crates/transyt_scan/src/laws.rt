@@ -8,7 +8,8 @@ ghost use Rattle.transyt_scan.specs.Best.{IsLeast, best};
 ghost use Rattle.transyt_scan.specs.WorkedScan.{from_44, idle_with, in_range, junction_at_61, out_of_range, stayed};
 ghost use Rattle.transyt_scan.specs.WorkedScan.{climbed_at, three_rows};
 
-/// What may be asked for (each number at its limits, and one past them), and rows where no move lowers the index.
+/// The questions that may be asked (each number at its limits, and one past them), and rows where no move lowers the
+/// index.
 pub fn worked_scan()
     ensures within { map (λ a. scan_of a.workers a.times.low a.times.high a.times.by) in_range ≡ map Some in_range }
     ensures beyond { map (λ a. scan_of a.workers a.times.low a.times.high a.times.by) out_of_range

@@ -15,12 +15,12 @@ pub trial : edited (Offset 21 9) (trial_of begun) ≡ in_trial
 unfolding sum_back greatest smoothed seen out_of differs due_in due_through due
 trial = refl
 
--- what is answered to each edit
+-- the answer to each edit
 pub replies : map (λ row. reply_to junctions row.0) worked_replies ≡ map (λ row. row.1) worked_replies
 unfolding sum_back greatest smoothed seen out_of differs due_in due_through due
 replies = refl
 
--- what a try finds
+-- the find of a try
 pub tried : try_of junctions (Offset 21 9) ≡ Index (index shifted) 6
 unfolding sum_back greatest smoothed seen out_of differs due_in due_through due
 tried = ap (Index (index shifted)) work

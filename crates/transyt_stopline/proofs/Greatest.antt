@@ -23,7 +23,7 @@ le_greatest f m (suc n) positive most =
     let last : n < m → f m ≡ f (suc n) = λ above. ap f (omega (arith, above)) in
     grind (arith, last, le_greatest f m n positive)
 
--- what no value is above, the greatest isn't
+-- a number that no value is above is at least the greatest
 pub greatest-le : (f : ℕ → ℕ) (limit n : ℕ) → ((m : ℕ) → m ≤ n → f m ≤ limit) → greatest f n ≤ limit
 unfolding greatest
 greatest-le f limit zero within = omega arith

@@ -10,7 +10,7 @@ use Rattle.transyt_sweep.specs.Climb.{Climb, after_search, stepped, ended, moved
 fewer : (r left : ℕ) → nat_lt r left ≡ true → left - (r + 1) < left
 fewer r left h = grind (arith, nat_tests)
 
--- what follows a search goes on with fewer looks
+-- the climb after a search has fewer looks left
 after_same : (f g : Network → ℕ → ℕ → Climb) (net : Network) (k n left : ℕ) (found : Option ℕ)
     → ((to : Network) (place less : ℕ) → less < left → f to place less ≡ g to place less)
     → after_search f net k n left found ≡ after_search g net k n left found

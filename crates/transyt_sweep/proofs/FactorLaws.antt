@@ -1,4 +1,4 @@
--- What is worked out of a feed's numbers once.
+-- The factors of a feed are worked out once, and are right for its numbers.
 use Rattle.std.proofs.Common.{◌≡◌, ℕ, List, All, ◌∙◌, ap, sym, subst}
 use Rattle.transyt_platoon.specs.Platoon.{travel_steps}
 use Rattle.transyt_parts.specs.declared.frame.Frame.{Frame}

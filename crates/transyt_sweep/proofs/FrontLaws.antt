@@ -13,7 +13,7 @@ use Rattle.transyt_sweep.specs.Front.{AreMixed, is_before}
 use Rattle.transyt_sweep.proofs.PairLaws.{out_here, out_elsewhere}
 use Rattle.transyt_sweep.proofs.ReadLaws.{worked_same}
 
--- what is read stands before the link, at its sweep or the one before
+-- each row that is read stands before the link, at its sweep or the one before
 read_within : (s l j sweeps : ℕ) → s ≤ sweeps → read_at s l j ≤ sweeps
 read_within s l j sweeps swept = grind (arith, nat_tests)
 
@@ -93,7 +93,7 @@ mixed_turn net f g s links rows all mixed = record {
       ∙ ap (λ b. cond b (f t k) (g t k)) (before_turn t k s links (omega (arith, there, all)));
 }
 
--- what a link reads of these rows is what it reads
+-- the departures that a link reads in these rows are those of the definition
 pub cell_is : (net : Network) (g : ℕ → ℕ → List ℕ) (s l : ℕ) (rows : RowsValue) → AreMixed net (out_of net) g s l rows
     → 1 ≤ s → s ≤ net.frame.sweeps → l < length net.links → worked net (read_in rows s l) l ≡ worked_at net s l
 cell_is net g s l rows mixed first swept inside =

@@ -1,4 +1,4 @@
--- What is seen in room for one link's work.
+-- The view of a scratch: its rows have a value for each step, and its figures are those of its rows.
 use Rattle.std.proofs.Common.{◌≡◌, ◌*◌, ◌^◌, ◌<◌, ◌≤◌, ℕ, List, length, sum, All, replicate, ap, sym, subst, ◌∙◌, arith}
 use Rattle.std.proofs.lemmas.Bool.Decides.{nat_tests}
 use Rattle.std.proofs.lemmas.List.{length-replicate}

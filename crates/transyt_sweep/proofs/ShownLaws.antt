@@ -19,7 +19,7 @@ abbrev pub put_shown : RowsValue → ℕ → CellValue → RowsValue
 put_shown rows l c = with_rest (with_out rows rows.sweeps l c.out) l c
 
 module _ (rows : RowsValue) (kept : AreRows rows) (l : ℕ) (c : CellValue) (inside : l < length rows.figures) where
-  -- what was put is what is shown
+  -- the cell that was written is the one that is shown
   pub shown_here : shown_at (put_shown rows l c) l ≡ c
   shown_here =
       let come = get_or-set_same rows.arrivals l c.arrivals [] (omega (arith, kept.arrivals.many)) in

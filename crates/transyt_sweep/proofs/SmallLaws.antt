@@ -1,4 +1,4 @@
--- What leaves a link of a valid network is below 2^30 in each step.
+-- Departures of a valid network are below 2^30 in each step, since the green lets no more pass.
 use Rattle.std.proofs.Common.{◌≡◌, ℕ, zero, suc, ◌+◌, ◌*◌, ◌^◌, ◌<◌, ◌≤◌, Bool, true, false, nat_lt, refl}
 use Rattle.std.proofs.Common.{List, length, get_or, map, sum, All, Option, Some, None, subst, sym, ◌∙◌, arith}
 use Rattle.std.proofs.Common.{if◌then◌else◌}
@@ -50,7 +50,7 @@ made_small f limit n each k d inside =
     let same : 0 + k ≡ k = omega arith in
     subst (λ v. v < limit) (sym (get_or-map-range_with_len f 0 n k k d below same)) (each k)
 
--- what the green lets pass
+-- the number that the green lets pass
 signal_small : (net : Network) (l : ℕ) → perstep net.frame (link_of net l).saturation < 2 ^ 30
     → All (λ v. v < 2 ^ 30) (signal net l)
 signal_small net l small = made_small _ (2 ^ 30) net.frame.step_count (λ i.
@@ -60,11 +60,11 @@ signal_small net l small = made_small _ (2 ^ 30) net.frame.step_count (λ i.
     passes true = small
     passes false = omega arith
 
--- what is left of a small value where a link gives way
+-- the part of a small value that is left where a link gives way
 yielded_small : (percent other room : ℕ) → room < 2 ^ 30 → yielded percent other room < 2 ^ 30
 yielded_small percent other room small = grind (arith, nat_tests)
 
--- what is left of the green by a rule
+-- the part of the green that a rule leaves
 rule_small : (net : Network) (read : ℕ → List ℕ) (rule : Option GiveWay) (green : List ℕ)
     → All (λ v. v < 2 ^ 30) green → All (λ v. v < 2 ^ 30) (under_rule net read rule green)
 rule_small net read None green small k d inside = small k d inside
@@ -88,7 +88,7 @@ module _ (net : Network) (valid : IsValid net) (l : ℕ) (inside : l < length ne
   limits : IsLink net.frame.step_count net.nodes (link_numbers net.links) (link_of net l)
   limits = valid.sound.links l no_link inside
 
-  -- what can go
+  -- GO
   go_small : (read : ℕ → List ℕ) → All (λ v. v < 2 ^ 30) (go net read l)
   go_small read =
       let few : (link_of net l).saturation ≤ 100000 = omega (arith, limits.saturation.1) in

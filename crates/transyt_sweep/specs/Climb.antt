@@ -82,7 +82,7 @@ stepped net k looks place rest = record {
   net = rest.net;
 }
 
--- what follows a search of n places from place k with some looks left, where `rest` is the climb after a step
+-- the climb after a search of n places from place k with some looks left, where `rest` is the climb after a step
 abbrev pub after_search : (Network → ℕ → ℕ → Climb) → Network → ℕ → ℕ → ℕ → Option ℕ → Climb
 after_search rest net k n left None = if nat_le n left then ended true net k n else ended false net k left
 after_search rest net k n left (Some r) =

@@ -96,7 +96,7 @@ impl Rows {
         self.out(read_at(sweep, link, other), other)
     }
 
-    /// Which of the rows of departures is that of a link at a sweep.
+    /// The place of the departures of a link at a sweep among all rows of departures.
     pub fn pair_place(&self, sweep: u32, link: usize) -> usize
         requires sweep { sweep ≤ self.now.sweeps }
         requires link { link < length self.now.figures }

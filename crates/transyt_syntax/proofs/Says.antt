@@ -1,10 +1,10 @@
--- What a line says that isn't skipped.
+-- The reading of a line that isn't skipped: its first word is its keyword, and the others are its numbers.
 use Rattle.std.proofs.Common.{◌≡◌, ◌∙◌, ℕ, List, false, cond, Option, Some, None, Result, Ok, Err, refl, sym, ap, IfErr, IfOk, IsSome, subst}
 use Rattle.transyt_io.specs.Lines.{is_skipped, words}
 use Rattle.transyt_syntax.specs.declared.code.Code.{Code}
 use Rattle.transyt_syntax.specs.Syntax.{Entry, counts_of, entry_of, first_word, named, said, says_of, syntax_code, unless, with_numbers}
 
--- what is found for a line's first word is what its entry says
+-- the entry of a line's first word is that of the table
 pub found_of : {A : Type 0} (table : List (Entry A)) (line word ns : List ℕ) (found : Option ((ℕ × ℕ) × A))
     → found ≡ with_numbers ns (named table word) → word ≡ first_word (words line)
     → found ≡ with_numbers ns (entry_of table line)

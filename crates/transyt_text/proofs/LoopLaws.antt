@@ -31,7 +31,7 @@ text_from F xs i d x inside is =
     ∙ sym (flat_map-append F (take (i + 1) xs) (drop (i + 1) xs))
     ∙ ap (flat_map F) (take-append-drop (i + 1) xs)
 
--- what was written, as a call that went well
+-- the bytes written, as a call that went well
 whole : {T E : Type 0} (v : T) {a b : Option (List ℕ)} {f g : ℕ} (text : List ℕ) → Printed a b f g text
     → Prints {T = T} {E = E} a b f g (Ok v) text
 whole v text so_far = record {

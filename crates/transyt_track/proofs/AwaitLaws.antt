@@ -1,4 +1,4 @@
--- What is known at the front of the turns to come.
+-- The flags at the front tell which links await a turn: each turn sets its own, and those of its readers.
 use Rattle.std.proofs.Common.{◌≡◌, ◌≢◌, ℕ, ◌+◌, ◌<◌, ◌≤◌, Bool, true, false, not, ◌||◌, ◌&&◌, List, [], ◌∷◌, All}
 use Rattle.std.proofs.Common.{Option, Some, None, IfSome, refl, ap, sym, ◌∙◌, arith, nat_eq, nat_lt, ◌⊎◌, inl, inr}
 use Rattle.std.specs.List.{list_any}
@@ -58,7 +58,7 @@ pub one_each : (f g : ℕ → Bool) → ((m : ℕ) → f m ≡ g m) → (o : Opt
 one_each f g same None = refl
 one_each f g same (Some j) = same j
 
--- what holds of none
+-- a test that no item passes
 pub any_none : (js : List ℕ) → list_any (λ j. false) js ≡ false
 any_none [] = refl
 any_none (j ∷ js) = any_none js
@@ -236,7 +236,7 @@ module _ (a b : Network) where
 
   module _ (r links : ℕ) (feeders : All (λ j. j < links) (places_at a r).feeders)
       (rule : IfSome (places_at a r).rule (λ j. j < links)) where
-    -- what tells which links moved tells which await their turn
+    -- the flags of moved links are those of the links that await their turn
     pub awaits_by : (s l : ℕ) (f : ℕ → Bool) → ((m : ℕ) → m < links → f m ≡ has_moved a b s l r m)
         → (own_differs a b r || list_any f (places_at a r).feeders || is_some_and f (places_at a r).rule)
         ≡ awaits a b s l r

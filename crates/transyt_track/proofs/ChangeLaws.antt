@@ -19,7 +19,7 @@ use Rattle.transyt_track.specs.Front.{flag, total_differs, own_differs}
 use Rattle.transyt_track.proofs.DueLaws.{not_false}
 use Rattle.transyt_track.proofs.RuleLaws.{own_test, same_number}
 
--- what fails where its opposite holds
+-- a test fails where its opposite holds
 not_told : (x : Bool) → not x ≡ true → x ≡ false
 not_told true e = absurd (cc)
 not_told false e = refl
@@ -139,7 +139,7 @@ module _ (a b : Network) where
               ap not (ap (λ x. x || any) (down.1 both.0) ∙ is ∙ both.1),
         ))
 
--- what tells that the times of nodes are equal tells so of equal nodes
+-- equal nodes have equal times
 pub times_told : (told : Bool) (x y p q : NodeValue) → x ≡ p → y ≡ q → (IsTrue told ↔ SameTimes x y)
     → (IsTrue told ↔ SameTimes p q)
 times_told told x y p q old new is = (

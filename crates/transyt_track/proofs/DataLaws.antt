@@ -19,7 +19,7 @@ use Rattle.transyt_stage.specs.GiveWay.{yielding}
 use Rattle.transyt_net.specs.Valid.{found_or_first, link_place}
 use Rattle.transyt_sweep.specs.Cell.{brought, inflow, under_rule, go}
 
--- what a link's work is made of, departures and weights apart, is the same on both
+-- the data of a link's work, departures and weights apart, are the same on both
 pub record SameData (a b : Network) (l : ℕ) : Type 0 where
   pub frame : a.frame ≡ b.frame
   pub numbers : link_numbers a.links ≡ link_numbers b.links
@@ -103,7 +103,7 @@ module _ (a b : Network) (l : ℕ) (x y : ℕ → List ℕ) (data_same : SameDat
       f fs wholes)
       (All-tail (λ g. x (link_place a g.feeder) ≡ y (link_place a g.feeder)) f fs equal)
 
-  -- what comes is the same
+  -- the arrivals are the same
   pub inflow_same : inflow a x l ≡ inflow b y l
   inflow_same =
       gathered_kept (link_of a l).feeds (uniform a.frame.step_count (perstep a.frame (link_of a l).entry))
@@ -122,7 +122,7 @@ module _ (a b : Network) (l : ℕ) (x y : ℕ → List ℕ) (data_same : SameDat
   under_rule_same (Some r) green equal =
       ap (λ o. yielding r.percent o green) (equal ∙ ap y (place_same r.other))
 
-  -- what can go is the same
+  -- GO is the same
   pub go_same : go a x l ≡ go b y l
   go_same =
       under_rule_same (link_of a l).gives_way (signal a l) reads.rule

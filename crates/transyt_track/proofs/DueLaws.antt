@@ -19,7 +19,7 @@ use Rattle.transyt_track.specs.Own.{rule_place, places_at}
 use Rattle.transyt_track.specs.Due.{differs, read_differs, is_due, is_some_and, due_in, due_at, due_through, due}
 use Rattle.transyt_track.proofs.DataLaws.{SameReads}
 
--- what is not false holds
+-- a test that is not false holds
 pub not_false : (x : Bool) → not x ≡ false → x ≡ true
 not_false true e = refl
 not_false false e = absurd (cc)
@@ -64,7 +64,7 @@ module _ (a b : Network) where
   unfolding due
   due_is = refl
 
-  -- what doesn't differ is equal
+  -- rows that don't differ are equal
   pub same_out : (s j : ℕ) → differs a b s j ≡ false → out_of a s j ≡ out_of b s j
   unfolding differs
   same_out s j e = same_text (out_of a s j) (out_of b s j) (sym (not_false (bytes_eq (out_of a s j) (out_of b s j)) e))

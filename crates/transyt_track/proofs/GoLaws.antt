@@ -1,4 +1,4 @@
--- What can go of a link at the last sweep stays where its own data do and it gives way to no other link.
+-- GO of a link at the last sweep stays where its own data stay and it gives way to no other link.
 use Rattle.std.proofs.Common.{◌≡◌, ℕ, ◌<◌, Bool, false, List, length, Option, Some, None, refl, ap}
 use Rattle.std.proofs.Common.{◌∙◌, arith}
 use Rattle.std.specs.Option.{is_some}

@@ -1,4 +1,4 @@
--- What of a link's work equal own data settle between networks of one shape.
+-- Equal own data give a link equal lags, flows and green on networks of one shape.
 use Rattle.std.proofs.Common.{◌≡◌, ℕ, ◌<◌, true, false, cond, List, [], ◌∷◌, All, Some, length, map, nat_eq, get_or}
 use Rattle.std.proofs.Common.{refl, ap, sym, ◌∙◌, arith}
 use Rattle.std.proofs.lemmas.List.{get_or-map}

@@ -88,7 +88,7 @@ all_inside net some (f ∷ fs) =
     (link_place-lt net f.feeder some)
     (all_inside net some fs)
 
--- what a link reads is a link
+-- each feeder of a link, and the link of its rule, is a link
 pub feeders_inside : (net : Network) (l count : ℕ) (places : PlacesValue) → 0 < length net.links
     → length net.links ≡ count → places ≡ places_at net l → All (λ j. j < count) places.feeders
 feeders_inside net l count places some same is =
@@ -109,7 +109,7 @@ rule_inside net l count places some same is =
     (subst (λ (p : PlacesValue). IfSome p.rule (λ j. j < length net.links)) (sym is)
     (rule_there net some (link_of net l).gives_way))
 
--- what was read of the table at a place is the place's
+-- the entry read from the table is that of the place
 pub place_read : (net : Network) (table : List PlacesValue) (l : ℕ) (p : PlacesValue) → ArePlaces net table
     → l < length net.links → p ≡ get_or table l p → p ≡ places_at net l
 place_read net table l p all inside at =

@@ -16,7 +16,7 @@ use Rattle.transyt_track.proofs.AwaitLaws.{or_false, or_true}
 same_number_eq : (x y : ℕ) → x ≡ y → nat_eq x y ≡ true
 same_number_eq x y same = grind (arith, nat_tests)
 
--- what holds of each number that is among these holds of all of them
+-- a fact of each number that is among these is one of the whole list
 all_among : (fact : ℕ → Type 0) (xs : List ℕ) → ((x : ℕ) → list_any (nat_eq x) xs ≡ true → fact x) → All fact xs
 all_among fact [] each = All-nil fact
 all_among fact (x ∷ xs) each =
@@ -54,7 +54,7 @@ or_none true e = refl
 or_none false true = refl
 or_none false false = refl
 
--- what holds where it went well does so of what follows
+-- a fact of a result without an error, after one call more
 pub on_ok : {A : Type 0} {E : Type 0} (r : Result A E) (P Q : Type 0) → (P → Q) → OnOk r P → OnOk r Q
 on_ok (Ok x) P Q f p = f p
 on_ok (Err e) P Q f p = tt

@@ -40,7 +40,7 @@ own_self x =
 pub own_decides : (x y : Own) → IsTrue (same_own x y) ↔ x ≡ y
 own_decides x y = (λ told. own_told x y told, λ same. subst (λ z. same_own x z ≡ true) same (own_self x))
 
--- what tells that own data are equal is the test
+-- the comparison of own data is the test of the definition
 pub own_test : (told : Bool) (x y : Own) → (IsTrue told ↔ x ≡ y) → told ≡ same_own x y
 own_test true x y told = sym ((own_decides x y).1 (told.0 refl))
 own_test false x y told = by (same_own x y) refl

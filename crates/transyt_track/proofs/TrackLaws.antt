@@ -1,4 +1,4 @@
--- What a tracker keeps to stays.
+-- The invariant of a tracker stays, since each call follows a network of the same shape.
 use Rattle.std.proofs.Common.{◌≡◌, ℕ, Bool, List, length, Option, Some, None, IsSome, refl, ap, sym, subst, ◌∙◌}
 use Rattle.transyt_parts.specs.declared.frame.Frame.{Frame}
 use Rattle.transyt_net.specs.Parts.{Network}

@@ -30,7 +30,7 @@ pub loop_work : due (loop_of_three 360) (loop_of_three 3420) ≡ 7
 unfolding sum_back greatest smoothed seen out_of differs due_in due_through due
 loop_work = refl
 
--- what leaves the second link differs, and the first is as it was
+-- departures of the second link differ, and the first is as it was
 pub due_by_one : map (λ row. is_due (fed_by_two 1800) (fed_by_two 300) 1 row.0) due_of_three
     ≡ map (λ row. row.1) due_of_three
 unfolding sum_back greatest smoothed seen out_of differs

@@ -33,7 +33,7 @@ map_places h f xs d e each =
     ∙ sym (get_or-map h xs k d e inside)
     )
 
--- what holds at each place holds of all
+-- a fact at each place is one of the whole list
 pub all_places : {A : Type 0} (P : A → Type 0) (f : ℕ → A) (n : ℕ) → ((k : ℕ) → k < n → P (f k))
     → (k : ℕ) (d : A) → k < length (map f (range_with_len 0 n)) → P (get_or (map f (range_with_len 0 n)) k d)
 all_places P f n each k d below =

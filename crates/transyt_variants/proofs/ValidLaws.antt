@@ -16,7 +16,7 @@ pub record HasShortLags (steps : ℕ) (l : LinkValue) : Type 0 where
   pub start_lag : l.start_lag < steps
   pub end_lag : l.end_lag < steps
 
--- what new nodes and a new frame keep to, for the network to stay valid
+-- the conditions on new nodes and a new frame, for the network to stay valid
 pub record AreSignals (net : Network) (frame : Frame) (nodes : List NodeValue) : Type 0 where
   pub framed : IsFrame frame
   pub same : map bare_node nodes ≡ map bare_node net.nodes

@@ -69,7 +69,7 @@ rows_untold = (
   (λ h. short h.0, (λ h. let refused = h.1 in grind arith, (other, (λ h. grind arith, (λ h. h, tt))))),
 )
 
--- what was written before stays in front
+-- the bytes written before stay in front
 pub told : Told (done two_lines) (Some (codes "x")) (Some (codes "x" ++ both_texts)) Done
 told = record { out = both_texts; adds = refl; row = (sym both_are, refl) }
 

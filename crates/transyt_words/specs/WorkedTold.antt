@@ -21,7 +21,7 @@ both_texts = codes "ENTRY 21 640" ++ 10 ∷ codes "* COUNTS 12 3" ++ 10 ∷ []
 abbrev pub WorkedRow : Type 0
 WorkedRow = AnswerValue × List ℕ × Status
 
--- what a status may say
+-- rows that a status may mean
 abbrev pub told_rows : List WorkedRow
 told_rows =
     (done two_lines, both_texts, Done)
@@ -30,7 +30,7 @@ told_rows =
     ∷ (refusal two_lines, [], NoMemory)
     ∷ []
 
--- what it may not
+-- rows that it may not
 abbrev pub untold_rows : List WorkedRow
 untold_rows =
     -- the input is refused, or a line is missing

@@ -74,7 +74,7 @@ pub fn worked_answers()
     ensures no_steps { most_of_cut steps_of_rest (2 ∷ 3 ∷ 5 ∷ 7 ∷ 11 ∷ []) refused_at_seven ≡ 0 }
 {}
 
-/// What `starts` may be asked for, each number at its limits, and one past them.
+/// The questions that `starts` may be asked, each number at its limits, and one past them.
 pub fn worked_asked()
     ensures within { map (λ a. starts_of a.0 a.1 a.2) starts_in_range
         ≡ map (λ a. Some (record { workers = a.0; seed = a.1; count = a.2 })) starts_in_range }

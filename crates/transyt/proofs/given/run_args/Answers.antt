@@ -1,4 +1,4 @@
--- What the program did, with the words that std answered.
+-- The run of the program with the words that std answered, by its two cases.
 use Rattle.std.proofs.Common.{List, String, Global, map, string_bytes}
 use Rattle.std.specs.Vec.Iter.{into_iter_items}
 use Rattle.transyt.specs.Program.{after_name}

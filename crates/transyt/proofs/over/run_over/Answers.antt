@@ -1,4 +1,4 @@
--- What the program did, by what the ends of std tell.
+-- The run of the program, by the bytes that the ends of std tell.
 use Rattle.std.proofs.Common.{ap}
 use Rattle.transyt_io.specs.StdEnds.{StdEnd}
 use Rattle.transyt.proofs.ProgramLaws.{given_ran, given_headline}

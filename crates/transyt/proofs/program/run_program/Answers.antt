@@ -1,4 +1,4 @@
--- What the program did, from what the top call's status says.
+-- The run of the program, from the meaning of the top call's status.
 use Rattle.std.proofs.Common.{List, String, Global, map, string_bytes, ap}
 use Rattle.transyt.specs.Program.{after_name}
 use Rattle.transyt.proofs.ProgramLaws.{program_ran, program_headline}

@@ -1,7 +1,7 @@
--- What the top call ensures, bundled.
+-- The clauses of the top call as one record.
 use Rattle.transyt.proofs.program.run_words.Goals as goal
 
--- what its status says
+-- the meaning of its status
 pub returns : goal.returns
 returns g c =
     let all = c.transyt.ensures in

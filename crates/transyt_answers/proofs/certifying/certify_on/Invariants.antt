@@ -7,7 +7,7 @@ use Rattle.transyt_cert.specs.Certificate.{place_text}
 use Rattle.transyt_text.specs.Prints.{Printed}
 use Rattle.transyt_answers.proofs.certifying.certify_on.Given as goal
 
--- what is written, and the session: as it was but for the work
+-- the bytes written, and the session: as it was but for the work
 abbrev pub invariant-loop-place : goal.invariant-loop-place
 invariant-loop-place g l = record {
   printed : Printed (g.K.Sink.written l.fn.sink) (g.K.Sink.written l.sink) (g.K.Sink.faults l.fn.sink)

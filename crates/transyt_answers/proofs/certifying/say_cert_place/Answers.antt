@@ -1,4 +1,4 @@
--- What a try found is the index with the move.
+-- The find of a try is the index with the move.
 use Rattle.std.proofs.Common.{◌≡◌, ◌∙◌, ap}
 use Rattle.transyt_net.specs.Parts.{Network}
 use Rattle.transyt_moves.specs.Moves.{move}

@@ -6,7 +6,7 @@ use Rattle.transyt_syntax.proofs.Says.{error_is, found_of, kept_says, not_nothin
 use Rattle.transyt_commands.specs.Commands.{commands}
 use Rattle.transyt_commands.proofs.reading.read_command.Goals as goal
 
--- what is found is what the table says
+-- the entry that is found is the table's
 pub returns-clause-command : goal.returns-clause-command
 returns-clause-command c =
     let line = c.args.line.now in

@@ -5,7 +5,7 @@ use Rattle.transyt_syntax.proofs.Says.{found_of, kept_says}
 use Rattle.transyt_deck.specs.Table.{cards}
 use Rattle.transyt_deck.proofs.card.read_card.Goals as goal
 
--- what is found is what the table says
+-- the entry that is found is the table's
 pub returns-clause-card : goal.returns-clause-card
 returns-clause-card c =
     let line = c.args.line.now in

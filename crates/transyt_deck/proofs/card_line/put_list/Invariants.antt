@@ -1,4 +1,4 @@
--- What the line holds, with the text of the numbers still to come, is the whole text.
+-- The line so far, with the text of the numbers still to come, is the whole text.
 use Rattle.std.proofs.Common.{◌≡◌, ◌+◌, ◌*◌, ◌≤◌, ◌++◌, length, drop}
 use Rattle.transyt_text.specs.Forms.{values_text}
 use Rattle.transyt_deck.proofs.card_line.put_list.Given as goal

@@ -1,4 +1,4 @@
--- What is left to search from here is what was to search from the start.
+-- A search from here finds what one from the start finds, since no number before this one passes.
 use Rattle.std.proofs.Common.{◌≡◌, ◌-◌, not}
 use Rattle.transyt_equisat.specs.Fractions.{is_above}
 use Rattle.transyt_equisat.specs.Demands.{degree_of}

@@ -1,4 +1,4 @@
--- What fits of the piece is added, and the first 4,098 bytes of both are the first 4,098 of what was kept and the
+-- The part of the piece that fits is added, and the first 4,098 bytes of both are the first 4,098 of those kept and the
 -- piece.
 use Rattle.std.proofs.Common.{◌≡◌, ◌∙◌, ◌++◌, ◌-◌, ◌≤◌, sym, arith, rules, ap, ℕ, true, length, take, min, vec_len}
 use Rattle.std.proofs.Common.{refl, is_ok}

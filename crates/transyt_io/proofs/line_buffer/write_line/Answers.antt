@@ -19,7 +19,7 @@ returns-in_err-at-clause-err g c =
     let all : take i bytes ++ drop i bytes ≡ c.args.line.now = take-append-drop i bytes ∙ c.bytes-bytes.ensures.bytes in
     on_err _ (adds_so_far _ _ (take i bytes) (drop i bytes) c.args.line.now told all)
 
--- what the call took is what comes after `at`
+-- the bytes that the call took are those after `at`
 pub loop-at-preserved : goal.loop-at-preserved
 loop-at-preserved g c =
     let written = g.K.Sink.written in

@@ -4,7 +4,7 @@ use Rattle.transyt_io.specs.Streams.{Takes}
 use Rattle.transyt_io.specs.Gather.{Gathers}
 use Rattle.transyt_io.proofs.reader.read_on.Given as goal
 
--- what was taken so far belongs to the line, which has not ended
+-- the bytes taken so far belong to the line, which has not ended
 abbrev pub invariant-loop-n : goal.invariant-loop-n
 invariant-loop-n g l =
     let left = g.S.Source.left in

@@ -52,7 +52,7 @@ written c =
     (put_digit c.args.v at.rest at.start _ [] at.digits (decimal_digit at.rest (omega arith)) at.invariant.text
     at.invariant.room (omega arith)).1
 
--- what is copied to the front is the text
+-- the bytes copied to the front are the text
 pub returns-clause-text : goal.returns-clause-text
 returns-clause-text c =
     let n : length c.copy_from_slice.new.self ≡ 39 - (c.loop-rest.start - 1) = grind (arith, common_steps) in

@@ -12,6 +12,6 @@ invariant-loop-rest l = record {
   len : length l.digits ≡ 39;
 }
 
--- what is left falls
+-- the digits left are fewer
 abbrev pub decreases-loop-rest : goal.decreases-loop-rest
 decreases-loop-rest l = l.rest

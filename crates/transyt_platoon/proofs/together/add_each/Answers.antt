@@ -49,7 +49,7 @@ second-preserved g c = record {
   );
 }
 
--- what was added at both places of a step is what arrives at it
+-- the values added at both places of a step are its arrivals
 pub returns-clause-value : goal.returns-clause-value
 returns-clause-value g c =
     let n : ℕ = c.args.abreast.now.step_count in

@@ -2,7 +2,7 @@
 use Rattle.transyt_profile.proofs.SharesFit.{share_by}
 use Rattle.transyt_profile.proofs.sharing.product.Goals as goal
 
--- what the shift leaves
+-- the quotient that the shift leaves
 pub returns-clause-value : goal.returns-clause-value
 returns-clause-value c =
     let q = c.requires.quick in

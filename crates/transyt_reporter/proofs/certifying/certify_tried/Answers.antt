@@ -19,7 +19,7 @@ loop-number-init g c = record {
   certified = certified_none (tt {0}) c.args.session.now c.args.from;
 }
 
--- what was found at the place
+-- the find at the place
 pub say_cert_place-requires-clause-tried : goal.say_cert_place-requires-clause-tried
 say_cert_place-requires-clause-tried g c =
     let k = c.loop-number.number in

@@ -24,7 +24,7 @@ returns-in_default-clause-steps g c = λ all. record {
   row = inl (omega arith);
 }
 
--- what was taken and what was written
+-- the bytes taken and those written
 pub returns-clause-outcome : goal.returns-clause-outcome
 returns-clause-outcome g c =
     let W : Option (List ℕ) → Type 0 =

@@ -4,7 +4,7 @@ use Rattle.transyt_moves.specs.Moves.{move, move_count}
 use Rattle.transyt_sweep.specs.Climb.{tried_at, lowers, moved, climb}
 use Rattle.transyt_sweep.proofs.laws.worked_climbs.Goals as goal
 
--- what each try finds
+-- the find of each try
 pub returns-clause-tried : goal.returns-clause-tried
 unfolding move tried_at
 returns-clause-tried c = refl

@@ -5,22 +5,22 @@ use Rattle.transyt_stopline.specs.LastSteps.{sum_back, greatest}
 use Rattle.transyt_sweep.specs.Sweeps.{seen, out_of, evaluated}
 use Rattle.transyt_sweep.proofs.laws.worked_links.Goals as goal
 
--- what comes
+-- arrivals
 pub returns-clause-arrivals : goal.returns-clause-arrivals
 unfolding sum_back greatest smoothed seen out_of evaluated
 returns-clause-arrivals c = refl
 
--- what can go
+-- GO
 pub returns-clause-go : goal.returns-clause-go
 unfolding sum_back greatest smoothed seen out_of evaluated
 returns-clause-go c = refl
 
--- what stands
+-- the queue
 pub returns-clause-queue : goal.returns-clause-queue
 unfolding sum_back greatest smoothed seen out_of evaluated
 returns-clause-queue c = refl
 
--- what leaves
+-- departures
 pub returns-clause-out : goal.returns-clause-out
 unfolding sum_back greatest smoothed seen out_of evaluated
 returns-clause-out c = refl

@@ -1,4 +1,4 @@
--- What is worked out is what the definition says, and it is kept in its place.
+-- The cell that is worked out is that of the definition, and is kept in its place.
 use Rattle.std.proofs.Common.{◌≡◌, ◌+◌, length, sym, subst, ap, ◌∙◌}
 use Rattle.transyt_sweep.specs.Cell.{CellValue}
 use Rattle.transyt_sweep.specs.Sweeps.{worked_at}

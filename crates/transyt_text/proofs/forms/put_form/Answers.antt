@@ -4,7 +4,7 @@ use Rattle.std.proofs.Common.{drop, arith}
 use Rattle.transyt_text.proofs.FormLaws.{form_more, form_end}
 use Rattle.transyt_text.proofs.forms.put_form.Goals as goal
 
--- what stands for one byte more is put
+-- the bytes for one byte more are put
 pub loop-byte-preserved : goal.loop-byte-preserved
 loop-byte-preserved c =
     let numbers = c.args.numbers.now in

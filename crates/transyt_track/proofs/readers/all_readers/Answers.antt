@@ -1,4 +1,4 @@
--- What a link reads is a link.
+-- Each feeder of a link, and the link of its rule, is a link.
 use Rattle.std.proofs.Common.{◌<◌, length, ap, sym, arith}
 use Rattle.transyt_track.proofs.PlaceLaws.{place_read, feeders_inside, rule_inside}
 use Rattle.transyt_track.proofs.readers.all_readers.Goals as goal

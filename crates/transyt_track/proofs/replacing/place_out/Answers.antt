@@ -1,4 +1,4 @@
--- What doesn't differ is written already.
+-- Departures that don't differ are written already.
 use Rattle.std.proofs.Common.{[], ap, sym, ◌∙◌}
 use Rattle.std.proofs.lemmas.List.{set-get_or}
 use Rattle.transyt_sweep.specs.Rows.{RowsValue, pair_place, with_out}

@@ -1,4 +1,4 @@
--- What a cycle time comes to, by cases.
+-- The network of a cycle time, or none, by cases.
 use Rattle.std.proofs.Common.{◌≡◌, ◌∙◌, true, None, Some, ap, sym}
 use Rattle.transyt_net.specs.Parts.{Network}
 use Rattle.transyt_variants.specs.declared.cycles.AtCycle.TheVariants.{Plan}

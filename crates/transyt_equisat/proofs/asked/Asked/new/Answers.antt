@@ -1,4 +1,4 @@
--- What the stages of a node of a valid network ask keeps to it all.
+-- The demands of a valid network's node keep to the invariant: its greens are short, and its saturation flows above 0.
 use Rattle.std.proofs.Common.{◌≡◌, ◌∙◌, ap}
 use Rattle.std.proofs.lemmas.List.{get_or_read}
 use Rattle.transyt_parts.specs.Parts.{NodeValue}

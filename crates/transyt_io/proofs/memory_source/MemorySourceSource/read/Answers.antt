@@ -6,7 +6,7 @@ use Rattle.transyt_io.specs.Memory.{Supply}
 use Rattle.transyt_io.proofs.Copies.{left_after_copy}
 use Rattle.transyt_io.proofs.memory_source.MemorySourceSource.read.Goals as goal
 
--- what was copied is what was taken; nothing comes only where nothing is left
+-- the bytes copied are those taken; none come only where none are left
 pub returns-clause-bytes : goal.returns-clause-bytes
 returns-clause-bytes c =
     let inside = c.self.inside in

@@ -7,7 +7,7 @@ use Rattle.transyt_platoon.proofs.Arrived.{arrived_more}
 use Rattle.transyt_platoon.proofs.Turns.{second_gone}
 use Rattle.transyt_platoon.proofs.going.Going.arrive.Goals as goal
 
--- what goes by is the smoothed profile's next value
+-- the value that goes by is the smoothed profile's next
 pub returns-clause-passed : goal.returns-clause-passed
 returns-clause-passed c =
     let p = c.args.platoon.now in

@@ -5,7 +5,7 @@ use Rattle.transyt_platoon.proofs.Mixing.{mixed_below}
 use Rattle.transyt_platoon.proofs.Turns.{sent_fits, step_fits}
 use Rattle.transyt_platoon.proofs.going.Going.mix.Goals as goal
 
--- what is divided by 2^40 fits
+-- the quotient by 2^40 fits
 pub overflow_mul-result : goal.overflow_mul-result
 overflow_mul-result c =
     let r = c.requires in

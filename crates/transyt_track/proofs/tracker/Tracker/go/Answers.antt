@@ -1,4 +1,4 @@
--- What is shown is the evaluation.
+-- The shown rows are the evaluation.
 use Rattle.std.proofs.Common.{◌≡◌, ◌<◌, length, ap, ◌∙◌, arith}
 use Rattle.transyt_net.specs.Parts.{Network}
 use Rattle.transyt_sweep.specs.Cell.{CellValue}
