@@ -7,15 +7,15 @@
 #![tactic(auto)]
 
 mod answer;
+mod answering;
 mod certifying;
-mod judging;
 mod laws;
-mod saying;
+mod writing;
 
 pub use answer::Answer;
+pub use answering::judge;
 pub use certifying::{certify_on, say_cert_end, say_cert_place};
-pub use judging::judge;
 pub use laws::{
     steps_are_work, steps_lower, worked_commands, worked_lowering, worked_reports, worked_trial,
 };
-pub use saying::{print_accepted, print_card_refused, say_text};
+pub use writing::{print_accepted, print_card_refused, say_text};

@@ -11,7 +11,7 @@ use Rattle.transyt_cycle.specs.Cycle.{minus_mod}
 use Rattle.transyt_cycle.proofs.CycleLaws.{minus_mod-above, minus_mod-under}
 use Rattle.transyt_platoon.specs.Platoon.{dispersed_at}
 use Rattle.transyt_platoon.specs.Arriving.{arriving, sent}
-use Rattle.transyt_platoon.specs.Going.{arrived, arrived_by, gone_by, steps_of}
+use Rattle.transyt_platoon.specs.Passing.{arrived, arrived_by, gone_by, steps_of}
 use Rattle.transyt_platoon.proofs.Turns.{length-sent}
 use Rattle.transyt_platoon.specs.declared.platoon.Platoon.{Platoon}
 

@@ -3,9 +3,9 @@ use Rattle.std.proofs.Common.{◌≡◌, ℕ, ◌+◌, ◌*◌, ◌^◌, ◌<◌
 use Rattle.std.proofs.lemmas.List.{length-map}
 use Rattle.transyt_profile.specs.Profile.{share_of}
 use Rattle.transyt_platoon.specs.Arriving.{sent}
-use Rattle.transyt_platoon.specs.Going.{Fits, gone_by, HasPassed, product_at, steps_of}
+use Rattle.transyt_platoon.specs.Passing.{Fits, gone_by, HasPassed, product_at, steps_of}
 use Rattle.transyt_platoon.specs.Platoon.{mixed}
-use Rattle.transyt_platoon.specs.declared.going.Going.{Going}
+use Rattle.transyt_platoon.specs.declared.passing.Passing.{Passing}
 use Rattle.transyt_platoon.specs.declared.platoon.Platoon.{Platoon}
 use Rattle.transyt_platoon.proofs.Mixing.{first_next, second_next}
 use Rattle.transyt_platoon.proofs.Parts.{travel_sum}
@@ -26,7 +26,7 @@ second_gone p i below =
     rw (← length-sent p, p.is_travel.weight) (sym (second_next (sent p) _ i (omega (arith, below, length-sent p))))
 
 -- the value that went by after as many steps
-pub passed_at : (p : Platoon) (i j : ℕ) (g : Going) → i ≡ j → HasPassed p i g → HasPassed p j g
+pub passed_at : (p : Platoon) (i j : ℕ) (g : Passing) → i ≡ j → HasPassed p i g → HasPassed p j g
 passed_at p i j g same passed = subst (λ (k : ℕ). HasPassed p k g) same passed
 
 -- each step that sets out is below the limit of its travel

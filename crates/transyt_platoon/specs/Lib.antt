@@ -2,5 +2,5 @@ pub mod Platoon
 pub mod Turns
 pub mod Travels
 pub mod Arriving
-pub mod Going
+pub mod Passing
 pub mod WorkedPlatoons

@@ -2,9 +2,9 @@
 
 ghost use Rattle.std.specs.Prelude.{◌≡◌, ℕ, ◌+◌, ◌*◌, ◌^◌, ◌<◌, ◌≤◌, length, slice_index, sum_by, All, Any, IsTrue};
 ghost use Rattle.transyt_platoon.specs.Arriving.{sent};
-ghost use Rattle.transyt_platoon.specs.Going.{AreReady, AreTotals, HavePassed, arrived, steps_of};
+ghost use Rattle.transyt_platoon.specs.Passing.{AreReady, AreTotals, HavePassed, arrived, steps_of};
 
-use crate::going::Going;
+use crate::passing::Passing;
 use crate::platoon::Platoon;
 use transyt_profile::{Scale, share_ready};
 
@@ -58,26 +58,30 @@ pub(crate) fn fill_lanes(
 }
 
 /// Each platoon before its first step; `totals` are their sums.
-pub(crate) fn begin_each<const N: usize>(abreast: &Abreast<'_>, totals: &[u64]) -> [Going; N]
+pub(crate) fn begin_each<const N: usize>(abreast: &Abreast<'_>, totals: &[u64]) -> [Passing; N]
     requires count { length abreast.now.platoons.now ≡ N }
     requires totals_len { length totals.now ≡ N }
     requires totals { AreTotals totals.now abreast.now.platoons.now }
     ensures { HavePassed abreast.now.platoons.now 0 result }
 {
-    let none = Going {
+    let none = Passing {
         value: 0,
         factor: 0,
         place: 0,
     };
     let mut goings = [none; N];
     for lane in 0..N {
-        goings[lane] = Going::begin(&abreast.platoons[lane], totals[lane]);
+        goings[lane] = Passing::begin(&abreast.platoons[lane], totals[lane]);
     }
     goings
 }
 
 /// A step of the first turn of each platoon goes by.
-pub(crate) fn pass_each<const N: usize>(abreast: &Abreast<'_>, step: usize, goings: &mut [Going; N])
+pub(crate) fn pass_each<const N: usize>(
+    abreast: &Abreast<'_>,
+    step: usize,
+    goings: &mut [Passing; N],
+)
     requires count { length abreast.now.platoons.now ≡ N }
     requires step { step < abreast.now.step_count }
     requires passed { HavePassed abreast.now.platoons.now step goings.old }
@@ -93,7 +97,7 @@ pub(crate) fn pass_each<const N: usize>(abreast: &Abreast<'_>, step: usize, goin
 pub(crate) fn arrive_each<const N: usize>(
     abreast: &Abreast<'_>,
     step: usize,
-    goings: &mut [Going; N],
+    goings: &mut [Passing; N],
     turns: &mut [u64],
 )
     requires count { length abreast.now.platoons.now ≡ N }

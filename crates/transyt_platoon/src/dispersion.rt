@@ -4,7 +4,7 @@ ghost use Rattle.std.specs.Prelude.{◌≡◌, ℕ, ◌+◌, ◌-◌, ◌*◌, �
 ghost use Rattle.transyt_platoon.specs.Platoon.{mixed, smoothed, dispersed};
 ghost use Rattle.transyt_platoon.specs.Turns.{Placed};
 
-use crate::quick::{most_of, travel_by};
+use crate::mixer::{most_of, travel_by};
 use transyt_profile::total;
 
 /// Writes the profile of a platoon at the end of its travel, in millionths of a vehicle per step.

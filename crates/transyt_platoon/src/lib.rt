@@ -9,10 +9,10 @@
 
 mod abreast;
 mod dispersion;
-mod going;
 mod laws;
+mod mixer;
+mod passing;
 mod platoon;
-mod quick;
 mod together;
 mod travel;
 

@@ -2,11 +2,11 @@
 
 ghost use Rattle.std.specs.Prelude.{◌≡◌, ℕ, ◌+◌, ◌*◌, ◌^◌, ◌<◌, ◌≤◌, length, All, Any, IsTrue};
 ghost use Rattle.transyt_platoon.specs.Arriving.{sent, with_arriving};
-ghost use Rattle.transyt_platoon.specs.Going.{AreTotals};
+ghost use Rattle.transyt_platoon.specs.Passing.{AreTotals};
 ghost use Rattle.transyt_profile.specs.Profile.{folded};
 
 use crate::abreast::{Abreast, arrive_each, begin_each, fill_lanes, pass_each};
-use crate::going::Going;
+use crate::passing::Passing;
 use crate::platoon::Platoon;
 
 /// Disperses up to four platoons, each with its own travel as `disperse` does, adds them to two turns round a cycle of
@@ -87,7 +87,7 @@ fn add_each<const N: usize>(abreast: &Abreast<'_>, totals: &[u64], turns: &mut [
     ensures grows { (limit : ℕ) → All (λ v. v < limit) (folded abreast.now.step_count turns.old)
         → All (λ v. v < limit + length abreast.now.platoons.now * 2 ^ 22) (folded abreast.now.step_count turns.new) }
 {
-    let mut goings: [Going; N] = begin_each(abreast, totals);
+    let mut goings: [Passing; N] = begin_each(abreast, totals);
     'first: for step in 0..abreast.step_count {
         pass_each(abreast, step, &mut goings);
     }

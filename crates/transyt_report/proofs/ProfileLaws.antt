@@ -3,14 +3,14 @@ use Rattle.std.proofs.Common.{◌≡◌, ℕ, ◌≤◌, length, sym, ap, subst,
 use Rattle.transyt_net.specs.Parts.{Network}
 use Rattle.transyt_sweep.specs.Cell.{CellValue, HasSteps}
 use Rattle.transyt_sweep.specs.Sweeps.{out_of, read_of, evaluated}
-use Rattle.transyt_sweep.proofs.StepLaws.{worked_steps}
+use Rattle.transyt_sweep.proofs.StepLaws.{cell_steps}
 use Rattle.transyt_sweep.proofs.SweepLaws.{evaluated_is, out_of_pair}
 
 -- each has a value for each step of the cycle
 evaluated_steps : (net : Network) (l : ℕ) → HasSteps net.frame.step_count (evaluated net l)
 evaluated_steps net l =
     subst (HasSteps net.frame.step_count) (sym (evaluated_is net l))
-    (worked_steps net (read_of net net.frame.sweeps l) l)
+    (cell_steps net (read_of net net.frame.sweeps l) l)
 
 pub arrivals_steps : (net : Network) (l : ℕ) → length (evaluated net l).arrivals ≡ net.frame.step_count
 arrivals_steps net l = (evaluated_steps net l).arrivals

@@ -12,8 +12,8 @@ mod opening;
 mod remarks;
 mod reporter;
 mod running;
-mod saying;
 mod workers;
+mod writing;
 
 pub use brief::write_brief;
 pub use laws::worked_brief;

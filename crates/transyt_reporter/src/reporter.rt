@@ -13,8 +13,8 @@ ghost use Rattle.transyt_reporter.specs.Reporter.{HasAnswered, state_of, AreKept
 
 use crate::opening::desks_of;
 use crate::remarks::{InputLine, remark_card, remark_command};
-use crate::saying::say;
 use crate::workers::{Clerk, Workers};
+use crate::writing::say;
 use std::alloc::{AllocError, Global};
 use std::marker::Model;
 use std::mem;

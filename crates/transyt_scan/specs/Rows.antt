@@ -12,7 +12,7 @@ use Rattle.transyt_climbs.specs.Times.{AreTimes, cycle_at, cycle_count, times_of
 use Rattle.transyt_climbs.specs.Climbs.{climbed_row}
 use Rattle.transyt_climbs.specs.Plans.{PlanList}
 use Rattle.transyt_scan.specs.declared.row.ScanRow.{ScanRow}
-use Rattle.transyt_scan.specs.declared.asked.ScanWord.{ScanWord}
+use Rattle.transyt_scan.specs.declared.word.ScanWord.{ScanWord}
 
 -- a question that may be asked: one to eight workers, and cycle times that may be
 pub record IsScan (asked : ScanWord) : Type 0 where

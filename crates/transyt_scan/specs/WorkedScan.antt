@@ -6,7 +6,7 @@ use Rattle.transyt_climb.specs.WorkedTurns.{idle}
 use Rattle.transyt_climbs.specs.declared.times.CycleTimes.{CycleTimes}
 use Rattle.transyt_climbs.specs.Times.{times_of}
 use Rattle.transyt_climbs.specs.WorkedClimbs.{junction}
-use Rattle.transyt_scan.specs.declared.asked.ScanWord.{ScanWord}
+use Rattle.transyt_scan.specs.declared.word.ScanWord.{ScanWord}
 use Rattle.transyt_scan.specs.declared.row.ScanRow.{ScanRow}
 use Rattle.transyt_scan.specs.Rows.{asking}
 

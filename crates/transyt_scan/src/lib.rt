@@ -8,18 +8,18 @@
 //! That two climbs are under way at once is no clause's matter: a test shows it.
 #![tactic(auto)]
 
-mod asked;
 mod best;
 mod laws;
 mod row;
 mod scanning;
+mod word;
 
-pub use asked::ScanWord;
 pub use best::least;
 pub use laws::{worked_best, worked_row, worked_scan};
 pub use row::ScanRow;
 pub use scanning::scan;
 pub use transyt_climbs::{Bench, CycleTimes, IdleBench};
+pub use word::ScanWord;
 
 #[cfg(test)]
 mod tests;

@@ -4,8 +4,8 @@ ghost use Rattle.std.specs.Prelude.{◌≡◌, ◌<◌, map, IfOk, vec_len};
 ghost use Rattle.transyt_climbs.specs.Times.{times_of};
 ghost use Rattle.transyt_scan.specs.Rows.{IsScan, asking, scan_row, scan_row_of, table};
 
-use crate::asked::ScanWord;
 use crate::row::ScanRow;
+use crate::word::ScanWord;
 use std::alloc::{AllocError, Global};
 use std::thread::Threads;
 use transyt_climbs::{Bench, Climbed, CycleTimes, PlanRow, climb_plans};

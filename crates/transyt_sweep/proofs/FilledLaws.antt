@@ -6,7 +6,7 @@ use Rattle.std.proofs.lemmas.List.{length-replicate, get_or-replicate}
 use Rattle.transyt_profile.specs.Profile.{uniform}
 use Rattle.transyt_net.specs.Parts.{Network}
 use Rattle.transyt_sweep.specs.Cell.{CellValue}
-use Rattle.transyt_sweep.specs.Sweeps.{out_of, start, worked_at}
+use Rattle.transyt_sweep.specs.Sweeps.{out_of, start, cell_at}
 use Rattle.transyt_sweep.specs.Rows.{RowsValue, row, with_out, with_rest, placed, no_figures}
 use Rattle.transyt_sweep.specs.Front.{empty_out, empty_rows}
 use Rattle.transyt_sweep.specs.Rows.{AreRows}
@@ -20,7 +20,7 @@ use Rattle.transyt_sweep.proofs.ShownLaws.{shown_put}
 module _ (net : Network) (s l : ℕ) (rows : RowsValue) (filled : AreFilled net s l rows) where
   -- one link more
   pub filled_put : AreRows rows → (c : CellValue) → 1 ≤ s → s ≤ net.frame.sweeps → l < length net.links
-      → c ≡ worked_at net s l → AreFilled net s (l + 1) (placed rows s l c)
+      → c ≡ cell_at net s l → AreFilled net s (l + 1) (placed rows s l c)
   filled_put kept c first swept inside made = record {
     outs = outs (s == rows.sweeps);
     shown = shown_put net s l rows c filled.outs.fits kept filled.shown swept inside made;

@@ -5,13 +5,13 @@ use Rattle.std.proofs.lemmas.Bool.{cases_eq}
 use Rattle.std.proofs.lemmas.Bool.Decides.{nat_tests}
 use Rattle.std.proofs.lemmas.List.{length-set}
 use Rattle.transyt_net.specs.Parts.{Network}
-use Rattle.transyt_sweep.specs.Cell.{CellValue, worked}
-use Rattle.transyt_sweep.specs.Sweeps.{read_at, out_of, read_of, worked_at}
+use Rattle.transyt_sweep.specs.Cell.{CellValue, cell_by}
+use Rattle.transyt_sweep.specs.Sweeps.{read_at, out_of, read_of, cell_at}
 use Rattle.transyt_sweep.specs.Rows.{RowsValue, row, out_at, read_in, with_out, with_rest}
 use Rattle.transyt_sweep.specs.Rows.{AreRows}
 use Rattle.transyt_sweep.specs.Front.{AreMixed, is_before}
 use Rattle.transyt_sweep.proofs.PairLaws.{out_here, out_elsewhere}
-use Rattle.transyt_sweep.proofs.ReadLaws.{worked_same}
+use Rattle.transyt_sweep.proofs.ReadLaws.{cell_same}
 
 -- each row that is read stands before the link, at its sweep or the one before
 read_within : (s l j sweeps : ℕ) → s ≤ sweeps → read_at s l j ≤ sweeps
@@ -95,9 +95,9 @@ mixed_turn net f g s links rows all mixed = record {
 
 -- the departures that a link reads in these rows are those of the definition
 pub cell_is : (net : Network) (g : ℕ → ℕ → List ℕ) (s l : ℕ) (rows : RowsValue) → AreMixed net (out_of net) g s l rows
-    → 1 ≤ s → s ≤ net.frame.sweeps → l < length net.links → worked net (read_in rows s l) l ≡ worked_at net s l
+    → 1 ≤ s → s ≤ net.frame.sweeps → l < length net.links → cell_by net (read_in rows s l) l ≡ cell_at net s l
 cell_is net g s l rows mixed first swept inside =
-    worked_same net (read_in rows s l) (read_of net s l) (omega arith)
+    cell_same net (read_in rows s l) (read_of net s l) (omega arith)
     (λ j there. mixed.outs (read_at s l j) j (read_within s l j net.frame.sweeps swept) there
     ∙ ap (λ b. cond b (read_of net s l j) (g (read_at s l j) j)) (read_before s l j first))
     l

@@ -12,7 +12,7 @@ use Rattle.transyt_stage.specs.Green.{signal}
 use Rattle.transyt_stage.specs.GiveWay.{yielding}
 use Rattle.transyt_net.specs.Flow.{perstep}
 use Rattle.std.specs.Prelude.{fold}
-use Rattle.transyt_sweep.specs.Cell.{brought, inflow, under_rule, go, cell_of, worked}
+use Rattle.transyt_sweep.specs.Cell.{brought, inflow, under_rule, go, cell_of, cell_by}
 
 module _ (net : Network) (x y : ℕ → List ℕ) (some : 0 < length net.links)
     (same : (j : ℕ) → j < length net.links → x j ≡ y j) where
@@ -35,8 +35,8 @@ module _ (net : Network) (x y : ℕ → List ℕ) (some : 0 < length net.links)
       ap (λ o. yielding rule.percent o green) (same (link_place net rule.other) (link_place-lt net rule.other some))
 
   -- equal departures of all links give equal work
-  pub worked_same : (l : ℕ) → worked net x l ≡ worked net y l
-  worked_same l =
+  pub cell_same : (l : ℕ) → cell_by net x l ≡ cell_by net y l
+  cell_same l =
       ap (λ c. cell_of net l c (go net x l))
       (gathered_same (link_of net l).feeds (uniform net.frame.step_count (perstep net.frame (link_of net l).entry)))
       ∙ ap (cell_of net l (inflow net y l)) (under_rule_same (link_of net l).gives_way (signal net l))

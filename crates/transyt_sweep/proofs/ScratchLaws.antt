@@ -10,9 +10,9 @@ use Rattle.transyt_stopline.specs.Stops.{stopped_of}
 use Rattle.transyt_delay.specs.Figures.{figures}
 use Rattle.transyt_net.specs.Parts.{Network, link_of}
 use Rattle.transyt_delay.specs.declared.figures.Figures.{Figures}
-use Rattle.transyt_sweep.specs.declared.asked.Asked.{Asked}
-use Rattle.transyt_sweep.specs.declared.asked.Asked.TheVariants.{Known}
-use Rattle.transyt_sweep.specs.declared.asked.Weights.{Weights}
+use Rattle.transyt_sweep.specs.declared.figures.LazyFigures.{LazyFigures}
+use Rattle.transyt_sweep.specs.declared.figures.LazyFigures.TheVariants.{Known}
+use Rattle.transyt_sweep.specs.declared.figures.Weights.{Weights}
 use Rattle.transyt_sweep.specs.declared.factors.Factors.{Factors}
 use Rattle.transyt_sweep.specs.Factors.{AreFactors}
 use Rattle.transyt_sweep.specs.Rows.{AreSmall}
@@ -36,7 +36,7 @@ sum_small limit xs within few small =
     omega (arith, sum_by-le (λ v. v) (2 ^ 48) xs each)
 
 -- rows of the same length, and figures that are known, are kept in room for one link's work
-pub known_scratch : (arrivals go queue out : List ℕ) (asked : Asked) (room reaching : List ℕ) (factors : List Factors)
+pub known_scratch : (arrivals go queue out : List ℕ) (asked : LazyFigures) (room reaching : List ℕ) (factors : List Factors)
     → IsScratch arrivals go queue out asked room reaching factors → (come green standing : List ℕ) (f : Figures)
     → length come ≡ length arrivals → length green ≡ length arrivals → length standing ≡ length arrivals → AreSmall f
     → IsScratch come green standing out (Known f) room reaching factors

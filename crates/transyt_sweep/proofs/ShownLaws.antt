@@ -6,7 +6,7 @@ use Rattle.std.proofs.lemmas.Bool.Decides.{nat_tests}
 use Rattle.std.proofs.lemmas.List.{get_or-set_same, get_or-set_other}
 use Rattle.transyt_net.specs.Parts.{Network}
 use Rattle.transyt_sweep.specs.Cell.{CellValue}
-use Rattle.transyt_sweep.specs.Sweeps.{worked_at, evaluated}
+use Rattle.transyt_sweep.specs.Sweeps.{cell_at, evaluated}
 use Rattle.transyt_sweep.specs.Rows.{RowsValue, with_out, with_rest, placed, shown_at, no_figures}
 use Rattle.transyt_sweep.specs.Rows.{Fits, AreRows}
 use Rattle.transyt_sweep.specs.Front.{AreShown, is_before}
@@ -44,7 +44,7 @@ module _ (rows : RowsValue) (kept : AreRows rows) (l : ℕ) (c : CellValue) (ins
 
 -- one link more
 pub shown_put : (net : Network) (s l : ℕ) (rows : RowsValue) (c : CellValue) → Fits net rows → AreRows rows
-    → AreShown net s l rows → s ≤ net.frame.sweeps → l < length net.links → c ≡ worked_at net s l
+    → AreShown net s l rows → s ≤ net.frame.sweeps → l < length net.links → c ≡ cell_at net s l
     → AreShown net s (l + 1) (placed rows s l c)
 shown_put net s l rows c fits kept shown swept inside made k there before =
     by (cases_eq s rows.sweeps) (cases_eq k l)
@@ -65,7 +65,7 @@ shown_put net s l rows c fits kept shown swept inside made k there before =
             ap (shown_at (put_shown rows l c)) same
             ∙ shown_here rows kept l c inside_in
             ∙ made
-            ∙ ap (λ u. worked_at net u l) (last ∙ fits.sweeps)
+            ∙ ap (λ u. cell_at net u l) (last ∙ fits.sweeps)
             ∙ sym (evaluated_is net l)
             ∙ ap (evaluated net) (sym same)
         at (inr other) =

@@ -23,7 +23,7 @@ use Rattle.transyt_stopline.specs.Cut.{arrivals_of, scaled}
 use Rattle.transyt_stopline.specs.Queue.{out_at}
 use Rattle.transyt_stopline.proofs.CutLaws.{scaled_total}
 use Rattle.transyt_stopline.proofs.QueueLaws.{out-le-go}
-use Rattle.transyt_sweep.specs.Cell.{under_rule, inflow, go, worked}
+use Rattle.transyt_sweep.specs.Cell.{under_rule, inflow, go, cell_by}
 use Rattle.transyt_sweep.specs.Sweeps.{read_of, out_of}
 use Rattle.transyt_sweep.proofs.SweepLaws.{out_of_start, out_of_pair}
 use Rattle.transyt_sweep.proofs.StepLaws.{length-inflow, length-go, length-cut}
@@ -96,8 +96,8 @@ module _ (net : Network) (valid : IsValid net) (l : ℕ) (inside : l < length ne
       (signal_small net l (perstep_small net.frame valid.sound.frame (link_of net l).saturation few))
 
   -- no more leaves than can go
-  worked_small : (read : ℕ → List ℕ) → All (λ v. v < 2 ^ 30) (worked net read l).out
-  worked_small read k d there =
+  cell_small : (read : ℕ → List ℕ) → All (λ v. v < 2 ^ 30) (cell_by net read l).out
+  cell_small read k d there =
       let same : 0 + k ≡ k = omega arith in
       let reaching : List ℕ = arrivals_of (inflow net read l) (go net read l) in
       let long : length reaching ≡ net.frame.step_count =
@@ -122,4 +122,4 @@ module _ (net : Network) (valid : IsValid net) (l : ℕ) (inside : l < length ne
       (total_small net.frame.step_count net (link_of net l) limits)))
   out_small (suc s) =
       subst (λ (xs : List ℕ). All (λ v. v < 2 ^ 30) xs) (sym (out_of_pair net (suc s) l (omega arith)))
-      (worked_small (read_of net (suc s) l))
+      (cell_small (read_of net (suc s) l))

@@ -12,7 +12,7 @@ use Rattle.transyt_net.specs.Flow.{perstep}
 use Rattle.transyt_stage.specs.Green.{signal, shown_link, passed_at}
 use Rattle.transyt_stopline.specs.Cut.{arrivals_of, scaled}
 use Rattle.transyt_stopline.specs.Queue.{queue_at, out_at}
-use Rattle.transyt_sweep.specs.Cell.{HasSteps, brought, inflow, go, under_rule, worked}
+use Rattle.transyt_sweep.specs.Cell.{HasSteps, brought, inflow, go, under_rule, cell_by}
 
 length-gathered : (net : Network) (read : ℕ → List ℕ) (feeds : List Feed) (come : List ℕ)
     → length (fold (λ c f. added c (brought net read f)) come feeds) ≡ length come
@@ -49,8 +49,8 @@ length-cut f come true = length-map come f
 length-cut f come false = refl
 
 -- a value of each profile for each step
-pub worked_steps : (net : Network) (read : ℕ → List ℕ) (l : ℕ) → HasSteps net.frame.step_count (worked net read l)
-worked_steps net read l =
+pub cell_steps : (net : Network) (read : ℕ → List ℕ) (l : ℕ) → HasSteps net.frame.step_count (cell_by net read l)
+cell_steps net read l =
     let come : List ℕ = inflow net read l in
     let room : List ℕ = go net read l in
     let cut : length (arrivals_of come room) ≡ net.frame.step_count =

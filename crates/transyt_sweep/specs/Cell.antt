@@ -86,8 +86,8 @@ cell_of net l come room = record {
 }
 
 -- the link at a place, worked out of the departures that it reads
-abbrev pub worked : Network → (ℕ → List ℕ) → ℕ → CellValue
-worked net read l = cell_of net l (inflow net read l) (go net read l)
+abbrev pub cell_by : Network → (ℕ → List ℕ) → ℕ → CellValue
+cell_by net read l = cell_of net l (inflow net read l) (go net read l)
 
 -- each profile has a value for each of n steps
 pub record HasSteps (n : ℕ) (c : CellValue) : Type 0 where

@@ -8,9 +8,9 @@ use Rattle.transyt_delay.specs.declared.terms.Terms.{Terms}
 use Rattle.transyt_delay.specs.declared.figures.Figures.{Figures}
 use Rattle.transyt_delay.specs.Figures.{figures}
 use Rattle.transyt_sweep.specs.declared.factors.Factors.{Factors}
-use Rattle.transyt_sweep.specs.declared.asked.Weights.{Weights}
-use Rattle.transyt_sweep.specs.declared.asked.Asked.{Asked}
-use Rattle.transyt_sweep.specs.declared.asked.Asked.TheVariants.{Known, Open}
+use Rattle.transyt_sweep.specs.declared.figures.Weights.{Weights}
+use Rattle.transyt_sweep.specs.declared.figures.LazyFigures.{LazyFigures}
+use Rattle.transyt_sweep.specs.declared.figures.LazyFigures.TheVariants.{Known, Open}
 use Rattle.transyt_sweep.specs.Factors.{AreFactors}
 use Rattle.transyt_sweep.specs.Rows.{AreSmall}
 
@@ -32,7 +32,7 @@ terms_in come room queue weights =
     terms_with (record { come = sum come; served = sum room }) (arrivals_of come room) queue weights
 
 -- the figures: those that are known, else what the rows give
-abbrev pub figures_in : List ℕ → List ℕ → List ℕ → Asked → Figures
+abbrev pub figures_in : List ℕ → List ℕ → List ℕ → LazyFigures → Figures
 figures_in come room queue (Known f) = f
 figures_in come room queue (Open weights totals) = figures (terms_in come room queue weights)
 
@@ -58,12 +58,12 @@ pub record CanTell (come room queue reaching : List ℕ) (weights : Weights) (to
   pub limits : AreWeights weights
 
 -- figures that are known are small, and others can be worked out
-abbrev pub AreTold : List ℕ → List ℕ → List ℕ → List ℕ → Asked → Type 0
+abbrev pub AreTold : List ℕ → List ℕ → List ℕ → List ℕ → LazyFigures → Type 0
 AreTold come room queue reaching (Known f) = AreSmall f
 AreTold come room queue reaching (Open weights totals) = CanTell come room queue reaching weights totals
 
 -- all of it has a value for each step, departures are small, figures can be told, and factors are right
-pub record IsScratch (arrivals go queue out : List ℕ) (asked : Asked) (room reaching : List ℕ)
+pub record IsScratch (arrivals go queue out : List ℕ) (asked : LazyFigures) (room reaching : List ℕ)
     (factors : List Factors) : Type 0 where
   pub go_len : length go ≡ length arrivals
   pub queue_len : length queue ≡ length arrivals

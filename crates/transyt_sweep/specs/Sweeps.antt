@@ -5,7 +5,7 @@ use Rattle.transyt_profile.specs.Profile.{uniform}
 use Rattle.transyt_parts.specs.Flow.{total_flow}
 use Rattle.transyt_net.specs.Parts.{Network, link_of}
 use Rattle.transyt_net.specs.Flow.{perstep}
-use Rattle.transyt_sweep.specs.Cell.{CellValue, worked}
+use Rattle.transyt_sweep.specs.Cell.{CellValue, cell_by}
 
 -- the sweep at which link l, at sweep s, reads link j: one that stands before it was worked out in this sweep
 abbrev pub read_at : ℕ → ℕ → ℕ → ℕ
@@ -18,24 +18,24 @@ start net l = uniform net.frame.step_count (perstep net.frame (total_flow (link_
 -- the departures of link j when the links before l have been worked out in a sweep; `before` are those of the one before
 unfoldable pub seen : Network → (ℕ → List ℕ) → ℕ → ℕ → List ℕ
 seen net before zero j = before j
-seen net before (suc l) j = if j == l then (worked net (seen net before l) l).out else seen net before l j
+seen net before (suc l) j = if j == l then (cell_by net (seen net before l) l).out else seen net before l j
 
 -- the departures of link l at sweep s
 unfoldable pub out_of : Network → ℕ → ℕ → List ℕ
 out_of net zero l = start net l
-out_of net (suc s) l = (worked net (seen net (out_of net s) l) l).out
+out_of net (suc s) l = (cell_by net (seen net (out_of net s) l) l).out
 
 -- the departures that link l, at sweep s, reads of link j
 abbrev pub read_of : Network → ℕ → ℕ → ℕ → List ℕ
 read_of net s l j = out_of net (read_at s l j) j
 
 -- link l worked out at sweep s
-abbrev pub worked_at : Network → ℕ → ℕ → CellValue
-worked_at net s l = worked net (read_of net s l) l
+abbrev pub cell_at : Network → ℕ → ℕ → CellValue
+cell_at net s l = cell_by net (read_of net s l) l
 
 -- the evaluation of link l: the link worked out at the last sweep
 unfoldable pub evaluated : Network → ℕ → CellValue
-evaluated net l = worked_at net net.frame.sweeps l
+evaluated net l = cell_at net net.frame.sweeps l
 
 -- the index of link l
 abbrev pub index_at : Network → ℕ → ℕ

@@ -7,7 +7,7 @@ ghost use Rattle.transyt_net.specs.Parts.{Network};
 ghost use Rattle.transyt_net.specs.Valid.{IsValid};
 ghost use Rattle.transyt_moves.specs.Moves.{move_count};
 ghost use Rattle.transyt_stage.specs.ThreeJunctions.{three_junctions};
-ghost use Rattle.transyt_sweep.specs.Sweeps.{out_of, start, worked_at, evaluated, index};
+ghost use Rattle.transyt_sweep.specs.Sweeps.{out_of, start, cell_at, evaluated, index};
 ghost use Rattle.transyt_sweep.specs.Rows.{pair_in, read_in, placed, with_rest, with_arrivals, with_go};
 ghost use Rattle.transyt_sweep.specs.Rows.{with_weights, index_in};
 ghost use Rattle.transyt_sweep.specs.Climb.{tried_at, is_below, lowers, least, first, ended, after_search, climb};
@@ -24,13 +24,13 @@ ghost use Rattle.transyt_sweep.specs.WorkedClimbs.{idle, planless, tried_in_idle
 #[tactic(auto, using(crate::proofs::SweepLaws::out_of_start, crate::proofs::SweepLaws::out_of_pair))]
 pub fn rule_of_sweeps()
     ensures first { (net : Network) (l : ℕ) → out_of net 0 l ≡ start net l }
-    ensures pair { (net : Network) (s l : ℕ) → 1 ≤ s → out_of net s l ≡ (worked_at net s l).out }
+    ensures pair { (net : Network) (s l : ℕ) → 1 ≤ s → out_of net s l ≡ (cell_at net s l).out }
 {}
 
 /// The evaluation of a link is the link worked out at the last sweep.
 #[tactic(auto, using(crate::proofs::SweepLaws::evaluated_is))]
 pub fn rule_of_evaluation()
-    ensures { (net : Network) (l : ℕ) → evaluated net l ≡ worked_at net net.frame.sweeps l }
+    ensures { (net : Network) (l : ℕ) → evaluated net l ≡ cell_at net net.frame.sweeps l }
 {}
 
 /// In a valid network the departures of a link are below 2^30 in each step, at each sweep.
@@ -65,7 +65,7 @@ pub fn worked_figures()
 /// So do a ring, sweep by sweep, a link that feeds itself, a link that gives way to a later one, and no link at all.
 pub fn worked_sweeps()
     ensures ring { map (λ s. map (out_of ring s) (range_with_len 0 3)) (range_with_len 0 4) ≡ outs_of_ring }
-    ensures itself { map (λ s. (worked_at fed_by_itself s 0).arrivals) (range_with_len 1 2) ≡ arrivals_of_itself }
+    ensures itself { map (λ s. (cell_at fed_by_itself s 0).arrivals) (range_with_len 1 2) ≡ arrivals_of_itself }
     ensures later { (evaluated gives_way_to_later 0).go ≡ replicate 10 2400000 }
     ensures none { index no_links ≡ 0 }
 {}

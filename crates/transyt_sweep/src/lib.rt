@@ -12,8 +12,8 @@
 //! are this project's own.
 #![tactic(auto)]
 
-mod asked;
 mod factors;
+mod figures;
 mod flat;
 mod inflow;
 mod inputs;

@@ -9,7 +9,7 @@ ghost use Rattle.transyt_sweep.specs.Rows.{Fits, SameSize, AreRows, AreSmall};
 ghost use Rattle.transyt_sweep.specs.Front.{AreOpened, empty_rows};
 ghost use Rattle.transyt_sweep.specs.Sweeps.{read_at, start};
 
-use crate::asked::Asked;
+use crate::figures::LazyFigures;
 use crate::flat::FlatTable;
 use crate::scratch::Scratch;
 use crate::table::Table;
@@ -243,7 +243,7 @@ impl Rows {
         ensures kept { AreRows self.old }
     {
         let figures = scratch.figures();
-        scratch.asked = Asked::Known(self.figures(link));
+        scratch.asked = LazyFigures::Known(self.figures(link));
         self.arrivals.exchange(link, &mut scratch.arrivals);
         self.queue.exchange(link, &mut scratch.queue);
         self.put_figures(link, figures);
@@ -258,7 +258,7 @@ impl Rows {
         ensures left_steps { length scratch.new.arrivals ≡ self.old.step_count }
         ensures kept { AreRows self.old }
     {
-        scratch.asked = Asked::Known(scratch.figures());
+        scratch.asked = LazyFigures::Known(scratch.figures());
         self.go.exchange(link, &mut scratch.go);
     }
 

@@ -4,7 +4,7 @@ ghost use Rattle.std.specs.Prelude.{◌≡◌, ◌<◌, length, slice_index_or, 
 ghost use Rattle.transyt_sweep.specs.Rows.{row, no_figures, with_arrivals, with_go};
 ghost use Rattle.transyt_sweep.specs.Rows.{Fits, SameSize, AreRows};
 
-use crate::asked::Asked;
+use crate::figures::LazyFigures;
 use crate::narrow::NarrowTable;
 use crate::rows::Rows;
 use crate::scratch::Scratch;
@@ -128,7 +128,7 @@ impl SavedRows {
         ensures kept { AreRows self.old }
     {
         let figures = scratch.figures();
-        scratch.asked = Asked::Known(self.figures[link]);
+        scratch.asked = LazyFigures::Known(self.figures[link]);
         self.arrivals.exchange(link, &mut scratch.arrivals);
         self.queue.exchange(link, &mut scratch.queue);
         self.figures[link] = figures;
@@ -143,7 +143,7 @@ impl SavedRows {
         ensures left_steps { length scratch.new.arrivals ≡ self.old.step_count }
         ensures kept { AreRows self.old }
     {
-        scratch.asked = Asked::Known(scratch.figures());
+        scratch.asked = LazyFigures::Known(scratch.figures());
         self.go.exchange(link, &mut scratch.go);
     }
 

@@ -5,8 +5,8 @@ ghost use Rattle.transyt_delay.specs.Figures.{figures};
 ghost use Rattle.transyt_sweep.specs.Rows.{AreSmall};
 ghost use Rattle.transyt_sweep.specs.Scratch.{AreWeights, terms_with};
 
-use crate::asked::{Asked, Weights};
 use crate::factors::{Factors, factors_of};
+use crate::figures::{LazyFigures, Weights};
 use std::alloc::{AllocError, Global};
 use std::marker::Model;
 use std::mem::size_of;
@@ -28,7 +28,7 @@ pub struct Scratch {
     pub(crate) queue: Vec<u64>,
     pub(crate) out: Vec<u64>,
     // the figures, or what they take beside the rows
-    pub(crate) asked: Asked,
+    pub(crate) asked: LazyFigures,
     // the work on feeds: two turns of arrivals, four lanes of products, the part of one feed before its travel and after;
     // and the arrivals after the cut
     pub(crate) room: Vec<u64>,
@@ -72,7 +72,7 @@ impl Scratch {
             go: vec![in alloc; 0; step_count]?,
             queue: vec![in alloc; 0; step_count]?,
             out: vec![in alloc; 0; step_count]?,
-            asked: Asked::Known(Figures {
+            asked: LazyFigures::Known(Figures {
                 uniform: 0,
                 random: 0,
                 stops: 0,
@@ -119,8 +119,8 @@ impl Scratch {
         ensures small { AreSmall result }
     {
         match self.asked {
-            Asked::Known(figures) => figures,
-            Asked::Open(weights, totals) => {
+            LazyFigures::Known(figures) => figures,
+            LazyFigures::Open(weights, totals) => {
                 let reaching = if totals.more_comes() {
                     &self.reaching
                 } else {

@@ -3,11 +3,11 @@
 ghost use Rattle.std.specs.Prelude.{◌≡◌, ◌+◌, ◌-◌, ◌*◌, ◌^◌, ◌<◌, ◌≤◌, ℕ, length, sum, All};
 ghost use Rattle.transyt_stopline.specs.Cut.{arrivals_of};
 ghost use Rattle.transyt_stopline.specs.Queue.{queues, outs};
-ghost use Rattle.transyt_sweep.specs.Cell.{go, worked};
+ghost use Rattle.transyt_sweep.specs.Cell.{go, cell_by};
 ghost use Rattle.transyt_sweep.specs.Inflow.{read_by};
 ghost use Rattle.transyt_sweep.specs.Rows.{Fits, read_in};
 
-use crate::asked::{Asked, weights_of};
+use crate::figures::{LazyFigures, weights_of};
 use crate::inflow::fill_inflow;
 use crate::inputs::Inputs;
 use crate::rows::Rows;
@@ -37,7 +37,7 @@ pub fn cell<L: Ledger>(
     requires last { sweep ≤ net.now.frame.sweeps }
     requires fits { Fits net.now rows.now }
     requires step_count { length scratch.old.arrivals ≡ net.now.frame.step_count }
-    ensures value { scratch.new ≡ worked net.now (read_in rows.now sweep link) link }
+    ensures value { scratch.new ≡ cell_by net.now (read_in rows.now sweep link) link }
     ensures steps { steps.new ≡ steps.old + 1 }
 {
     let inputs = Inputs {
@@ -61,7 +61,7 @@ pub fn cell<L: Ledger>(
         &mut scratch.queue,
         &mut scratch.out,
     );
-    scratch.asked = Asked::Open(weights_of(net, link), totals);
+    scratch.asked = LazyFigures::Open(weights_of(net, link), totals);
     steps.tick();
 }
 

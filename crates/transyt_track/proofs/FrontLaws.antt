@@ -14,7 +14,7 @@ use Rattle.transyt_net.specs.Parts.{Network}
 use Rattle.transyt_net.specs.Shape.{SameShape}
 use Rattle.transyt_parts.specs.declared.frame.Frame.{Frame}
 use Rattle.transyt_sweep.specs.Cell.{CellValue}
-use Rattle.transyt_sweep.specs.Sweeps.{out_of, worked_at, evaluated}
+use Rattle.transyt_sweep.specs.Sweeps.{out_of, cell_at, evaluated}
 use Rattle.transyt_sweep.specs.Rows.{RowsValue, out_at, shown_at, with_weights, reweighed, placed}
 use Rattle.transyt_sweep.specs.Rows.{AreRows}
 use Rattle.transyt_sweep.specs.Front.{AreMixed, AreEvaluation}
@@ -124,7 +124,7 @@ module _ (a b : Network) (s l : ℕ) (rows : RowsValue) (awaited : List Bool) (a
     row_before = mixed_here b (out_of b) (out_of a) s l rows at.outs swept inside
 
     -- a link that is due is worked out
-    pub turned_worked : AreRows rows → (c : CellValue) → c ≡ worked_at b s l → (passed : List Bool)
+    pub turned_worked : AreRows rows → (c : CellValue) → c ≡ cell_at b s l → (passed : List Bool)
         → AreFlags (awaits a b s (l + 1)) (length b.links) passed
         → AreAt a b s (l + 1) (placed rows s l c) passed
     turned_worked kept c made passed flags =
@@ -132,12 +132,12 @@ module _ (a b : Network) (s l : ℕ) (rows : RowsValue) (awaited : List Bool) (a
         record {
           outs = mixed_placed b (out_of b) (out_of a) s l rows at.outs kept c swept inside out;
           shown = shown_placed b (evaluated b) (evaluated a) s l rows at.shown at.outs.fits kept c swept inside
-              (λ last. made ∙ ap (λ t. worked_at b t l) (sym last) ∙ sym (evaluated_is b l));
+              (λ last. made ∙ ap (λ t. cell_at b t l) (sym last) ∙ sym (evaluated_is b l));
           flags = flags;
         }
 
     -- whether what leaves it differs is told by its rows
-    pub differs_told : (c : CellValue) → c ≡ worked_at b s l → (d : Bool) → d ≡ not (bytes_eq (out_at rows s l) c.out)
+    pub differs_told : (c : CellValue) → c ≡ cell_at b s l → (d : Bool) → d ≡ not (bytes_eq (out_at rows s l) c.out)
         → d ≡ differs a b s l
     differs_told c made d told =
         let out : c.out ≡ out_of b s l = ap (λ (v : CellValue). v.out) made ∙ sym (out_of_pair b s l first) in
@@ -171,9 +171,9 @@ module _ (a b : Network) (s l : ℕ) (rows : RowsValue) (awaited : List Bool) (a
           let last_before : a.frame.sweeps ≡ s = ap (λ (f : Frame). f.sweeps) (shape_frame a b same) ∙ last in
           figures_here rows l (reweighed b l (shown_at rows l).figures) (omega (arith, at.outs.fits.link_count))
           ∙ ap (λ (v : CellValue). record v { figures = reweighed b l v.figures })
-          (now ∙ evaluated_is a l ∙ ap (λ t. worked_at a t l) last_before)
+          (now ∙ evaluated_is a l ∙ ap (λ t. cell_at a t l) last_before)
           ∙ left_worked a b s l same inside_before none
-          ∙ ap (λ t. worked_at b t l) (sym last)
+          ∙ ap (λ t. cell_at b t l) (sym last)
           ∙ sym (evaluated_is b l)
 
       -- a link that isn't due is left

@@ -6,7 +6,7 @@ use Rattle.transyt_parts.specs.declared.link.GiveWay.{GiveWay}
 use Rattle.transyt_net.specs.Parts.{Network, link_of}
 use Rattle.transyt_net.specs.Shape.{SameShape}
 use Rattle.transyt_sweep.specs.Cell.{CellValue}
-use Rattle.transyt_sweep.specs.Sweeps.{read_of, worked_at, evaluated}
+use Rattle.transyt_sweep.specs.Sweeps.{read_of, cell_at, evaluated}
 use Rattle.transyt_sweep.specs.Rows.{RowsValue, shown_at}
 use Rattle.transyt_sweep.proofs.SweepLaws.{evaluated_is}
 use Rattle.transyt_track.specs.Own.{own, same_own}
@@ -24,7 +24,7 @@ no_rule (Some rule) none = absurd (cc)
 -- the row that is shown is what is worked out anew
 pub go_stays : (a b : Network) (s l : ℕ) (rows : RowsValue) (awaited : List Bool) → AreAt a b s l rows awaited
     → SameShape a b → l < length b.links → b.frame.sweeps ≡ s → own_differs a b l ≡ false
-    → is_some (link_of b l).gives_way ≡ false → (shown_at rows l).go ≡ (worked_at b s l).go
+    → is_some (link_of b l).gives_way ≡ false → (shown_at rows l).go ≡ (cell_at b s l).go
 go_stays a b s l rows awaited at same inside last none no_other =
     let inside_a : l < length a.links = omega (arith, inside, shape_count a b same) in
     let sames = same_data a b l same inside_a (own_told (own a l) (own b l) (not_false (same_own (own a l) (own b l)) none))

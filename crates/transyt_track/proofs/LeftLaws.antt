@@ -13,7 +13,7 @@ use Rattle.transyt_parts.specs.declared.link.Weights.{Weights}
 use Rattle.transyt_net.specs.Parts.{Network, link_of}
 use Rattle.transyt_net.specs.Shape.{SameShape}
 use Rattle.transyt_sweep.specs.Cell.{CellValue, inflow, go, terms_frame, terms_of, cell_of}
-use Rattle.transyt_sweep.specs.Sweeps.{out_of, read_of, worked_at, evaluated}
+use Rattle.transyt_sweep.specs.Sweeps.{out_of, read_of, cell_at, evaluated}
 use Rattle.transyt_sweep.specs.Rows.{RowsValue, reweighed, shown_at, with_weights, with_figures, no_figures}
 use Rattle.transyt_sweep.proofs.SweepLaws.{out_of_pair, evaluated_is}
 use Rattle.transyt_track.specs.Own.{HaveWeights}
@@ -76,7 +76,7 @@ module _ (a b : Network) (s l : ℕ) (same : SameShape a b) (inside : l < length
   room_same = go_same a b l (read_of a s l) (read_of b s l) data_same (reads_equal a b s l none)
 
   -- its work is the same, but for its weights
-  pub left_worked : record (worked_at a s l) { figures = reweighed b l (worked_at a s l).figures } ≡ worked_at b s l
+  pub left_worked : record (cell_at a s l) { figures = reweighed b l (cell_at a s l).figures } ≡ cell_at b s l
   left_worked =
       let come : List ℕ = inflow a (read_of a s l) l in
       let room : List ℕ = go a (read_of a s l) l in

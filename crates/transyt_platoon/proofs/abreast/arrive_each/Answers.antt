@@ -2,7 +2,7 @@
 use Rattle.std.proofs.Common.{ℕ, ◌+◌, ◌*◌, ◌^◌, ◌<◌, List, length, sum_by, ap, sym, ◌∙◌, arith}
 use Rattle.std.proofs.lemmas.List.{length-set, take_all}
 use Rattle.std.proofs.lemmas.List.Sums.{sum_by_more}
-use Rattle.transyt_platoon.specs.Going.{HasPassed, arrived}
+use Rattle.transyt_platoon.specs.Passing.{HasPassed, arrived}
 use Rattle.transyt_platoon.specs.declared.platoon.Platoon.{Platoon}
 use Rattle.transyt_platoon.proofs.Lanes.{go_less, go_more}
 use Rattle.transyt_platoon.proofs.Turns.{passed_at}

@@ -1,6 +1,6 @@
 -- Of the platoons so far the step has gone by and arrived, of the others not yet.
 use Rattle.std.proofs.Common.{◌≡◌, ℕ, ◌+◌, ◌*◌, ◌^◌, ◌<◌, length, get_or, sum_by, take, All}
-use Rattle.transyt_platoon.specs.Going.{HasPassed, arrived}
+use Rattle.transyt_platoon.specs.Passing.{HasPassed, arrived}
 use Rattle.transyt_platoon.proofs.Lanes.{GoFirst, GoLast}
 use Rattle.transyt_platoon.proofs.abreast.arrive_each.Given as goal
 

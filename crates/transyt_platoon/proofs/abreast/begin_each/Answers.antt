@@ -1,7 +1,7 @@
 -- One platoon more stands before its first step.
 use Rattle.std.proofs.Common.{◌∙◌, arith}
 use Rattle.std.proofs.lemmas.List.{length-set}
-use Rattle.transyt_platoon.specs.Going.{HasPassed}
+use Rattle.transyt_platoon.specs.Passing.{HasPassed}
 use Rattle.transyt_platoon.proofs.Lanes.{go_more}
 use Rattle.transyt_platoon.proofs.abreast.begin_each.Goals as goal
 

@@ -1,6 +1,6 @@
 -- The platoons so far stand before their first step.
 use Rattle.std.proofs.Common.{◌≡◌, length}
-use Rattle.transyt_platoon.specs.Going.{HasPassed}
+use Rattle.transyt_platoon.specs.Passing.{HasPassed}
 use Rattle.transyt_platoon.proofs.Lanes.{GoFirst}
 use Rattle.transyt_platoon.proofs.abreast.begin_each.Given as goal
 

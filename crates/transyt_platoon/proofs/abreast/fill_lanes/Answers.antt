@@ -2,7 +2,7 @@
 use Rattle.std.proofs.Common.{◌≡◌, ℕ, List, get_or, set, sum, ap, subst, sym, ◌∙◌, arith, get_or-set_same, get_or-set_other, ◌*◌}
 use Rattle.std.proofs.lemmas.List.{get_or-map}
 use Rattle.transyt_platoon.specs.Arriving.{sent}
-use Rattle.transyt_platoon.specs.Going.{Fits, InLane, steps_of}
+use Rattle.transyt_platoon.specs.Passing.{Fits, InLane, steps_of}
 use Rattle.transyt_platoon.specs.declared.platoon.Platoon.{Platoon}
 use Rattle.transyt_platoon.proofs.Lanes.{first_more}
 use Rattle.transyt_platoon.proofs.abreast.fill_lanes.Goals as goal

@@ -1,7 +1,7 @@
 -- The platoons so far fit, and their lanes and sums are ready.
 use Rattle.std.proofs.Common.{◌≡◌, get_or, sum}
 use Rattle.transyt_platoon.specs.Arriving.{sent}
-use Rattle.transyt_platoon.specs.Going.{Fits, InLane}
+use Rattle.transyt_platoon.specs.Passing.{Fits, InLane}
 use Rattle.transyt_platoon.proofs.Lanes.{AreFirst}
 use Rattle.transyt_platoon.proofs.abreast.fill_lanes.Given as goal
 

@@ -1,7 +1,7 @@
 -- One platoon more goes by.
 use Rattle.std.proofs.Common.{◌+◌, ◌∙◌, arith}
 use Rattle.std.proofs.lemmas.List.{length-set}
-use Rattle.transyt_platoon.specs.Going.{HasPassed}
+use Rattle.transyt_platoon.specs.Passing.{HasPassed}
 use Rattle.transyt_platoon.proofs.Lanes.{go_less, go_more}
 use Rattle.transyt_platoon.proofs.abreast.pass_each.Goals as goal
 

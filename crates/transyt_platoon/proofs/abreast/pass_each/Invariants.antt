@@ -1,6 +1,6 @@
 -- Of the platoons so far the step has gone by, of the others not yet.
 use Rattle.std.proofs.Common.{◌≡◌, ◌+◌, length}
-use Rattle.transyt_platoon.specs.Going.{HasPassed}
+use Rattle.transyt_platoon.specs.Passing.{HasPassed}
 use Rattle.transyt_platoon.proofs.Lanes.{GoFirst, GoLast}
 use Rattle.transyt_platoon.proofs.abreast.pass_each.Given as goal
 

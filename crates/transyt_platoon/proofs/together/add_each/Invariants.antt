@@ -1,6 +1,6 @@
 -- The platoons go by twice, step by step.
 use Rattle.std.proofs.Common.{◌≡◌, ℕ, ◌+◌, ◌*◌, ◌^◌, ◌<◌, length, get_or, sum_by, All}
-use Rattle.transyt_platoon.specs.Going.{HavePassed, arrived}
+use Rattle.transyt_platoon.specs.Passing.{HavePassed, arrived}
 use Rattle.transyt_platoon.proofs.together.add_each.Given as goal
 
 -- the first turn

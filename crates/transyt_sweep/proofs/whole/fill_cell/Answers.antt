@@ -1,7 +1,7 @@
 -- The cell that is worked out is that of the definition, and is kept in its place.
 use Rattle.std.proofs.Common.{◌≡◌, ◌+◌, length, sym, subst, ap, ◌∙◌}
 use Rattle.transyt_sweep.specs.Cell.{CellValue}
-use Rattle.transyt_sweep.specs.Sweeps.{worked_at}
+use Rattle.transyt_sweep.specs.Sweeps.{cell_at}
 use Rattle.transyt_sweep.specs.Rows.{read_in}
 use Rattle.transyt_sweep.specs.Front.{AreFilled, empty_out}
 use Rattle.transyt_sweep.proofs.StepLaws.{length-inflow}
@@ -25,7 +25,7 @@ place-requires-clause-steps g c =
 -- one link more
 pub returns-clause-filled : goal.returns-clause-filled
 returns-clause-filled g c =
-    let made : c.cell.new.scratch ≡ worked_at c.args.net.now c.args.sweep c.args.link =
+    let made : c.cell.new.scratch ≡ cell_at c.args.net.now c.args.sweep c.args.link =
     c.cell.ensures.value
     ∙ cell_is c.args.net.now (empty_out c.args.net.now) c.args.sweep c.args.link c.args.rows.now c.requires.filled.outs
     c.requires.first c.requires.last c.requires.link in

@@ -7,10 +7,10 @@ use Rattle.std.specs.Cmp.Lexicographic.{same_text}
 use Rattle.std.proofs.lemmas.Bool.{or_parts}
 use Rattle.std.proofs.lemmas.List.{get_or_default}
 use Rattle.transyt_net.specs.Parts.{link_of}
-use Rattle.transyt_sweep.specs.Cell.{CellValue, HasSteps, worked}
-use Rattle.transyt_sweep.specs.Sweeps.{out_of, worked_at}
+use Rattle.transyt_sweep.specs.Cell.{CellValue, HasSteps, cell_by}
+use Rattle.transyt_sweep.specs.Sweeps.{out_of, cell_at}
 use Rattle.transyt_sweep.specs.Rows.{RowsValue, read_in, out_at}
-use Rattle.transyt_sweep.proofs.StepLaws.{worked_steps}
+use Rattle.transyt_sweep.proofs.StepLaws.{cell_steps}
 use Rattle.transyt_sweep.proofs.FrontLaws.{cell_is}
 use Rattle.transyt_track.specs.Due.{differs}
 use Rattle.transyt_track.specs.Front.{AreFlags, flag, own_differs}
@@ -27,7 +27,7 @@ differ-differs-requires g c =
     let read = read_in c.rows-rows.result.now c.args.sweep c.args.link in
     let long : HasSteps c.args.change.now.after.now.frame.step_count c.cell.new.scratch =
     subst (HasSteps c.args.change.now.after.now.frame.step_count) (sym c.cell.ensures.value)
-    (worked_steps c.args.change.now.after.now read c.args.link) in
+    (cell_steps c.args.change.now.after.now read c.args.link) in
     as_long c.out.result.now c.out-2.result.now c.rows-rows.result.now.step_count c.out.ensures.steps
     c.cell.new.scratch.out c.out-2.ensures
     (long.out ∙ sym c.requires.front.at.outs.fits.step_count ∙ sym (ap (λ (r : RowsValue). r.step_count) c.rows-rows.ensures))
@@ -70,7 +70,7 @@ place-requires-clause-steps g c =
     let read = read_in c.rows-rows.result.now c.args.sweep c.args.link in
     subst (λ n. HasSteps n c.cell.new.scratch) (sym c.requires.front.at.outs.fits.step_count)
     (subst (HasSteps c.args.change.now.after.now.frame.step_count) (sym c.cell.ensures.value)
-    (worked_steps c.args.change.now.after.now read c.args.link))
+    (cell_steps c.args.change.now.after.now read c.args.link))
 
 pub place-requires-clause-out_same : goal.place-requires-clause-out_same
 place-requires-clause-out_same g c = λ same.
@@ -97,8 +97,8 @@ place-requires-clause-go_same g c = λ last same.
     (ap (λ (up : List Bool). flag up l || is_some (link_of b l).gives_way) (sym c.deref-2.ensures.value)
     ∙ sym c.go_may_differ-go_differs.ensures
     ∙ same) in
-    let made : c.cell.new.scratch ≡ worked_at b s l =
-    c.cell.ensures.value ∙ ap (λ (r : RowsValue). worked b (read_in r s l) l) c.rows-rows.ensures ∙ cell_is b (out_of a) s l rows r.front.at.outs r.first r.last r.link in
+    let made : c.cell.new.scratch ≡ cell_at b s l =
+    c.cell.ensures.value ∙ ap (λ (r : RowsValue). cell_by b (read_in r s l) l) c.rows-rows.ensures ∙ cell_is b (out_of a) s l rows r.front.at.outs r.first r.last r.link in
     go_stays a b s l rows c.args.front.now.awaited.items r.front.at r.change.shape r.link (sym last)
     (sym (r.front.own.flagged l r.link) ∙ parts.0) parts.1
     ∙ sym (ap (λ (v : CellValue). v.go) made)
@@ -115,8 +115,8 @@ returns-clause-front g c =
     let readers = c.args.change.now.readers.now in
     let rs = c.index-readers-link.result in
     let links = shape_count a b r.change.shape in
-    let made : c.cell.new.scratch ≡ worked_at b s l =
-    c.cell.ensures.value ∙ ap (λ (r : RowsValue). worked b (read_in r s l) l) c.rows-rows.ensures ∙ cell_is b (out_of a) s l rows r.front.at.outs r.first r.last r.link in
+    let made : c.cell.new.scratch ≡ cell_at b s l =
+    c.cell.ensures.value ∙ ap (λ (r : RowsValue). cell_by b (read_in r s l) l) c.rows-rows.ensures ∙ cell_is b (out_of a) s l rows r.front.at.outs r.first r.last r.link in
     let told : c.differ-differs.result ≡ not (bytes_eq (out_at rows s l) c.cell.new.scratch.out) =
     c.differ-differs.ensures
     ∙ ap (λ x. not (bytes_eq x c.out-2.result.now)) c.out.ensures.value

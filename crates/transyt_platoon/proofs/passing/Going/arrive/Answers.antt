@@ -1,11 +1,11 @@
 -- One step more of the second turn, where it arrives.
 use Rattle.std.proofs.Common.{◌≡◌, ℕ, ◌+◌, ◌%◌, ◌<◌, length, get_or, get_or-set_same, get_or-set_other, ap, ◌∙◌, arith}
 use Rattle.std.proofs.Math.Nat.{mod-lt}
-use Rattle.transyt_platoon.specs.Going.{gone_by, steps_of}
+use Rattle.transyt_platoon.specs.Passing.{gone_by, steps_of}
 use Rattle.transyt_platoon.specs.Platoon.{mixed}
 use Rattle.transyt_platoon.proofs.Arrived.{arrived_more}
 use Rattle.transyt_platoon.proofs.Turns.{second_gone}
-use Rattle.transyt_platoon.proofs.going.Going.arrive.Goals as goal
+use Rattle.transyt_platoon.proofs.passing.Passing.arrive.Goals as goal
 
 -- the value that goes by is the smoothed profile's next
 pub returns-clause-passed : goal.returns-clause-passed

@@ -3,7 +3,7 @@ use Rattle.std.proofs.Common.{arith}
 use Rattle.transyt_platoon.proofs.Parts.{mixed_by}
 use Rattle.transyt_platoon.proofs.Mixing.{mixed_below}
 use Rattle.transyt_platoon.proofs.Turns.{sent_fits, step_fits}
-use Rattle.transyt_platoon.proofs.going.Going.mix.Goals as goal
+use Rattle.transyt_platoon.proofs.passing.Passing.mix.Goals as goal
 
 -- the quotient by 2^40 fits
 pub overflow_mul-result : goal.overflow_mul-result

@@ -4,7 +4,7 @@ use Rattle.transyt_session.specs.Session.{SessionValue}
 use Rattle.transyt_text.proofs.PrintLaws.{prints_same}
 use Rattle.transyt_answers.specs.Commands.{answer_text}
 use Rattle.transyt_reporter.proofs.LeavesLaws.{told_by, told_leaves}
-use Rattle.transyt_reporter.proofs.saying.say.Goals as goal
+use Rattle.transyt_reporter.proofs.writing.say.Goals as goal
 
 -- the desks and the steps of a certificate
 pub returns-in-Cert-clause-leaves : goal.returns-in-Cert-clause-leaves

@@ -20,7 +20,7 @@ pub(crate) struct Weights {
 
 /// The figures of a link, known or still open.
 #[derive(Clone, Copy)]
-pub(crate) enum Asked {
+pub(crate) enum LazyFigures {
     /// These.
     Known(Figures),
     /// Those that the rows give with these weights; the sums of arrivals and of GO over a cycle are known already.

@@ -2,7 +2,7 @@
 
 ghost use Rattle.std.specs.Prelude.{◌≡◌, ℕ, ◌+◌, ◌*◌, ◌^◌, ◌<◌, length, slice_index, sum, All};
 ghost use Rattle.transyt_platoon.specs.Arriving.{sent};
-ghost use Rattle.transyt_platoon.specs.Going.{Fits, HasPassed, arrived, product_at, steps_of};
+ghost use Rattle.transyt_platoon.specs.Passing.{Fits, HasPassed, arrived, product_at, steps_of};
 ghost use Rattle.transyt_platoon.specs.Platoon.{mixed};
 
 use crate::platoon::Platoon;
@@ -10,7 +10,7 @@ use crate::platoon::Platoon;
 /// The value of a platoon that went by last, with the numbers of its travel: they are at hand here, while those that a
 /// platoon borrows would be read again at each step.
 #[derive(Clone, Copy)]
-pub(crate) struct Going {
+pub(crate) struct Passing {
     /// The value that went by last.
     pub(crate) value: u64,
     /// The factor of the value a step before.
@@ -19,15 +19,15 @@ pub(crate) struct Going {
     pub(crate) place: usize,
 }
 
-impl Going {
+impl Passing {
     /// Before the first step, as if the mean had gone by; `total` is the sum of what sets out.
-    pub(crate) fn begin(platoon: &Platoon<'_>, total: u64) -> Going
+    pub(crate) fn begin(platoon: &Platoon<'_>, total: u64) -> Passing
         requires some { 0 < steps_of platoon.now }
         requires fits { Fits platoon.now }
         requires total { total ≡ sum (sent platoon.now) }
         ensures { HasPassed platoon.now 0 result }
     {
-        Going {
+        Passing {
             value: total / platoon.leaving.len() as u64,
             factor: platoon.travel.before_factor,
             place: platoon.travel.place,

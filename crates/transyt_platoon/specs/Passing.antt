@@ -4,7 +4,7 @@ use Rattle.std.specs.Prelude.{if◌then◌else◌, ltb}
 use Rattle.transyt_platoon.specs.Platoon.{smoothed}
 use Rattle.transyt_platoon.specs.Arriving.{sent}
 use Rattle.transyt_platoon.specs.declared.platoon.Platoon.{Platoon}
-use Rattle.transyt_platoon.specs.declared.going.Going.{Going}
+use Rattle.transyt_platoon.specs.declared.passing.Passing.{Passing}
 
 -- the steps of a platoon
 abbrev pub steps_of : Platoon → ℕ
@@ -19,7 +19,7 @@ abbrev pub gone_by : Platoon → ℕ → ℕ
 gone_by p j = smoothed (sent p) (p.travel.now.percent * p.travel.now.time) j
 
 -- After j steps of both turns of a platoon: what went by last, and what each step takes of the travel.
-pub record HasPassed (p : Platoon) (j : ℕ) (g : Going) : Type 0 where
+pub record HasPassed (p : Platoon) (j : ℕ) (g : Passing) : Type 0 where
   pub value : g.value ≡ gone_by p j
   pub small : g.value < p.travel.now.limit
   pub factor : g.factor ≡ p.travel.now.before_factor
@@ -27,9 +27,9 @@ pub record HasPassed (p : Platoon) (j : ℕ) (g : Going) : Type 0 where
   pub fits : Fits p
 
 -- the same of each of some platoons
-abbrev pub HavePassed : List Platoon → ℕ → List Going → Type 0
+abbrev pub HavePassed : List Platoon → ℕ → List Passing → Type 0
 HavePassed ps j gs =
-    (i : ℕ) → (d : Platoon) → (e : Going) → i < length ps → HasPassed (slice_index_or ps i d) j (slice_index_or gs i e)
+    (i : ℕ) → (d : Platoon) → (e : Passing) → i < length ps → HasPassed (slice_index_or ps i d) j (slice_index_or gs i e)
 
 -- at place j of two turns, after i steps of which the first arrives at `first`, where step m brings g m
 abbrev pub arrived_by : (ℕ → ℕ) → ℕ → ℕ → ℕ → ℕ

@@ -2,7 +2,7 @@
 use Rattle.std.proofs.Common.{◌^◌}
 use Rattle.transyt_platoon.proofs.Parts.{mixed_by}
 use Rattle.transyt_platoon.proofs.Mixing.{mixed_below}
-use Rattle.transyt_platoon.proofs.quick.Mixer.mix.Goals as goal
+use Rattle.transyt_platoon.proofs.mixer.Mixer.mix.Goals as goal
 
 -- by the law of the reciprocal
 pub returns-clause-value : goal.returns-clause-value

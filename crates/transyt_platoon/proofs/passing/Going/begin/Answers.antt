@@ -1,10 +1,10 @@
 -- The mean goes before the first step, and is within the bound of what it is made of.
 use Rattle.std.proofs.Common.{◌≡◌, ◌*◌, ◌/◌, length, sum, ap, sym, ◌∙◌, arith}
 use Rattle.transyt_platoon.specs.Arriving.{sent}
-use Rattle.transyt_platoon.specs.Going.{steps_of}
+use Rattle.transyt_platoon.specs.Passing.{steps_of}
 use Rattle.transyt_platoon.proofs.Mixing.{mean_below, smoothed_none}
 use Rattle.transyt_platoon.proofs.Turns.{length-sent}
-use Rattle.transyt_platoon.proofs.going.Going.begin.Goals as goal
+use Rattle.transyt_platoon.proofs.passing.Passing.begin.Goals as goal
 
 pub returns : goal.returns
 returns c =

@@ -1,7 +1,7 @@
 -- The two turns write the dispersed profile.
 use Rattle.std.proofs.Common.{arith}
 use Rattle.transyt_platoon.proofs.Mixing.{step_placed}
-use Rattle.transyt_platoon.proofs.quick.travel_by.Goals as goal
+use Rattle.transyt_platoon.proofs.mixer.travel_by.Goals as goal
 
 -- one step of the second turn, written in its place
 pub second-preserved : goal.second-preserved

@@ -2,7 +2,7 @@
 use Rattle.std.proofs.Common.{◌≡◌, ◌+◌, ◌*◌, ◌%◌, ◌<◌, length}
 use Rattle.transyt_platoon.specs.Platoon.{smoothed}
 use Rattle.transyt_platoon.specs.Turns.{Placed}
-use Rattle.transyt_platoon.proofs.quick.travel_by.Given as goal
+use Rattle.transyt_platoon.proofs.mixer.travel_by.Given as goal
 
 -- the value after i steps of the first turn
 abbrev pub invariant-first : goal.invariant-first

@@ -3,7 +3,7 @@ use Rattle.std.proofs.Common.{sym, ◌∙◌, ap}
 use Rattle.transyt_deck.specs.Cards.{deck_text}
 use Rattle.transyt_text.proofs.PrintLaws.{prints_same}
 use Rattle.transyt_answers.specs.Commands.{answer_text}
-use Rattle.transyt_answers.proofs.saying.say_text.Goals as goal
+use Rattle.transyt_answers.proofs.writing.say_text.Goals as goal
 
 -- a plot
 pub returns-in-Plot : goal.returns-in-Plot
