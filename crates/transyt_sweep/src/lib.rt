@@ -3,7 +3,7 @@
 //! `Rows` are seen as the record `RowsValue` of `specs/Rows`, whose lists are lists of rows, and `Scratch` as the
 //! `CellValue` of `specs/Cell`: all of one link at one sweep. Profiles are in millionths of a vehicle per step.
 //! Cite first: `out_of` of `specs/Sweeps` for the departures of a link at a sweep, `evaluated` and `index` there for the
-//! evaluation, `worked` of `specs/Cell` for one link's work from the departures that it reads, `out_at` of `specs/Rows`
+//! evaluation, `cell_by` of `specs/Cell` for one link's work from the departures that it reads, `out_at` of `specs/Rows`
 //! for a row, and `AreEvaluation` of `specs/Front`. `SavedRows`, rows that were written over, are seen as `Rows` are.
 //! `climb` of `specs/Climb` is what a climb over the moves of `transyt_moves` comes to, and `tried_at` what a try of one
 //! move finds; no code of them stands here.
