@@ -1,16 +1,14 @@
 -- Rows with a mark: its rows stay where rows are written or given back, and right after it was set they are those now.
-use Rattle.std.proofs.Common.{◌≡◌, ◌≢◌, ℕ, ◌+◌, ◌*◌, ◌<◌, ◌≤◌, ◌==◌, Bool, true, false, List, [], length, set, get_or}
+use Rattle.std.proofs.Common.{◌≡◌, ◌≢◌, ℕ, ◌+◌, ◌*◌, ◌<◌, ◌≤◌, ◌==◌, Bool, true, false, List, [], length, set, get_or, replicate}
 use Rattle.std.proofs.Common.{Some, IsSome, refl, rules, ap, sym, subst, ◌∙◌, arith, ◌⊎◌, inl, inr, if◌then◌else◌}
 use Rattle.std.proofs.lemmas.Bool.{cases_lt, cases_eq}
 use Rattle.std.proofs.lemmas.List.{length-set, get_or-replicate, get_or_past, length-replicate, set-get_or}
 use Rattle.std.proofs.lemmas.List.{get_or-set_other}
 use Rattle.std.proofs.lemmas.Grind.{get_or-set_at}
 use Rattle.transyt_delay.specs.declared.figures.Figures.{Figures}
-use Rattle.transyt_sweep.specs.Cell.{CellValue}
-use Rattle.transyt_net.specs.Parts.{Network}
-use Rattle.transyt_sweep.specs.Rows.{RowsValue, row, shown_at, with_out, with_arrivals, with_go, with_rest, placed}
-use Rattle.transyt_sweep.specs.Rows.{reweighed, with_figures, with_weights}
-use Rattle.transyt_sweep.specs.Rows.{no_figures, AreRows, Fits, SameSize}
+use Rattle.transyt_kept.specs.Cell.{CellValue, no_figures}
+use Rattle.transyt_kept.specs.Rows.{RowsValue, row, shown_at, with_out, with_arrivals, with_go, with_rest, placed}
+use Rattle.transyt_kept.specs.Rows.{empty_rows, empty_table, with_figures, AreRows, SameSize}
 use Rattle.transyt_kept.specs.Saved.{SavedValue, FitsRows, GivesBack, old_rows, old_of, marked_by, kept_of, is_up}
 use Rattle.transyt_kept.specs.Saved.{out_kept, arrivals_kept, go_kept, begun, all_down, AreDownTo}
 use Rattle.transyt_kept.proofs.OldLaws.{old_put, old_give, old_none, length-old_of, places_put}
@@ -36,12 +34,17 @@ module _ (rows : RowsValue) (saved : SavedValue) (fits : FitsRows rows saved) wh
       let outs = old_put saved.out_flags saved.rows.outs rows.outs fits.outs saved.live live p x [] in
       (λ j. record (old_rows saved rows) { outs = outs j }))
 
+  -- the saved rows with the arrivals, queue and figures that a link has
+  abbrev saved_arrivals : ℕ → SavedValue
+  saved_arrivals l =
+      arrivals_kept saved l (row rows.arrivals l) (row rows.queue l) (get_or rows.figures l no_figures)
+
   -- and so are arrivals, queue and figures
   pub marked_arrivals : (l : ℕ) (a q : List ℕ) (f : Figures)
-      → kept_of (with_arrivals rows l a q f) (arrivals_kept saved l (shown_at rows l))
+      → kept_of (with_arrivals rows l a q f) (saved_arrivals l)
       ≡ record (kept_of rows saved) { now = with_arrivals rows l a q f }
   marked_arrivals l a q f =
-      kept_same rows (with_arrivals rows l a q f) saved (arrivals_kept saved l (shown_at rows l)) refl (λ live.
+      kept_same rows (with_arrivals rows l a q f) saved (saved_arrivals l) refl (λ live.
       let flags : List Bool = saved.arrivals_flags in
       let arrivals = old_put flags saved.rows.arrivals rows.arrivals fits.arrivals saved.live live l a [] in
       let queue = old_put flags saved.rows.queue rows.queue fits.queue saved.live live l q [] in
@@ -64,11 +67,10 @@ module _ (rows : RowsValue) (saved : SavedValue) (fits : FitsRows rows saved) wh
       let queue = set-get_or rows.queue l [] in
       (λ j. record (with_figures rows l f) { arrivals = arrivals j; queue = queue j })
 
-  pub marked_weighed : (net : Network) (l : ℕ) → kept_of (with_weights rows net l) (arrivals_kept saved l (shown_at rows l))
-      ≡ record (kept_of rows saved) { now = with_weights rows net l }
-  marked_weighed net l =
-      let f : Figures = reweighed net l (shown_at rows l).figures in
-      subst (λ new. kept_of new (arrivals_kept saved l (shown_at rows l)) ≡ record (kept_of rows saved) { now = new })
+  pub marked_figures : (l : ℕ) (f : Figures) → kept_of (with_figures rows l f) (saved_arrivals l)
+      ≡ record (kept_of rows saved) { now = with_figures rows l f }
+  marked_figures l f =
+      subst (λ new. kept_of new (saved_arrivals l) ≡ record (kept_of rows saved) { now = new })
       (written l f) (marked_arrivals l (row rows.arrivals l) (row rows.queue l) f)
 
   -- saved departures are given back, and aren't saved then
@@ -161,16 +163,41 @@ down_more flags end inside down p before = by (cases_eq p end)
         get_or-set_other flags end p false false other ∙ down p (omega (arith, before, other))
 
 -- new saved rows have a place for each row
-pub opened_fits : (net : Network) (rows : RowsValue) (saved : SavedValue) → AreRows rows → AreRows saved.rows
-    → Fits net rows → Fits net saved.rows
-    → length saved.out_flags ≡ (net.frame.sweeps + 1) * length net.links
-    → length saved.arrivals_flags ≡ length net.links → length saved.go_flags ≡ length net.links → FitsRows rows saved
-opened_fits net rows saved kept saved_kept fits saved_fits out arrivals go =
-    let outs : (r : RowsValue) → AreRows r → Fits net r → length r.outs ≡ (net.frame.sweeps + 1) * length net.links =
-    λ r k f. k.outs.many ∙ (λ j. (f.sweeps j + 1) * f.link_count j) in
-    let now = outs rows kept fits in
-    let was = outs saved.rows saved_kept saved_fits in
-    grind (arith, kept.arrivals.many, saved_kept.arrivals.many, kept.go.many, saved_kept.go.many, kept.queue.many, saved_kept.queue.many)
+pub opened_fits : (n sweeps links : ℕ) (rows : RowsValue) (saved : SavedValue) → AreRows rows
+    → n ≡ rows.step_count → sweeps ≡ rows.sweeps → links ≡ length rows.figures
+    → saved.rows ≡ empty_rows n sweeps links → length saved.out_flags ≡ (sweeps + 1) * links
+    → length saved.arrivals_flags ≡ links → length saved.go_flags ≡ links → FitsRows rows saved
+opened_fits n sweeps links rows saved kept steps swept many is out arrivals go =
+    let pairs : (sweeps + 1) * links ≡ length rows.outs =
+    (λ j. (swept j + 1) * many j) ∙ sym kept.outs.many in
+    let zeros : List ℕ = replicate n 0 in
+    let long : (xs : List (List ℕ)) → xs ≡ empty_table links n → length xs ≡ length rows.figures =
+    λ xs e. ap length e ∙ length-replicate links zeros ∙ many in
+    record {
+      step_count = ap (λ (v : RowsValue). v.step_count) is ∙ steps;
+      sweeps = ap (λ (v : RowsValue). v.sweeps) is ∙ swept;
+      outs = record {
+        many = out ∙ pairs;
+        room = ap (λ (v : RowsValue). length v.outs) is ∙ length-replicate ((sweeps + 1) * links) zeros ∙ pairs;
+      };
+      arrivals = record {
+        many = arrivals ∙ many ∙ sym kept.arrivals.many;
+        room = long saved.rows.arrivals (ap (λ (v : RowsValue). v.arrivals) is) ∙ sym kept.arrivals.many;
+      };
+      go = record {
+        many = go ∙ many ∙ sym kept.go.many;
+        room = long saved.rows.go (ap (λ (v : RowsValue). v.go) is) ∙ sym kept.go.many;
+      };
+      queue = record {
+        many = arrivals ∙ many ∙ sym kept.queue.many;
+        room = long saved.rows.queue (ap (λ (v : RowsValue). v.queue) is) ∙ sym kept.queue.many;
+      };
+      figures = record {
+        many = arrivals ∙ many;
+        room = ap (λ (v : RowsValue). length v.figures) is ∙ length-replicate links no_figures ∙ many;
+      };
+      links = go ∙ sym arrivals;
+    }
 
 -- so have rows of which a pair is written
 pub fits_placed : (rows : RowsValue) (saved : SavedValue) → FitsRows rows saved → (s l : ℕ) (c : CellValue)

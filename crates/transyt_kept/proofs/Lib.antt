@@ -1,2 +1,9 @@
+pub mod RowLaws
+pub mod PairLaws
+pub mod ShownLaws
+pub mod TableLaws
+pub mod FlatLaws
+pub mod IndexLaws
+pub mod WrittenLaws
 pub mod OldLaws
 pub mod KeptLaws

@@ -1,8 +1,8 @@
 -- The rows that are saved while a mark is open.
 use Rattle.std.specs.Prelude.{◌≡◌, ℕ, ◌<◌, Bool, true, false, not, ◌&&◌, List, [], ◌∷◌, length}
 use Rattle.std.specs.Prelude.{if◌then◌else◌, slice_index_or, slice_set, replicate, Option, Some, None}
-use Rattle.transyt_sweep.specs.Cell.{CellValue}
-use Rattle.transyt_sweep.specs.Rows.{RowsValue, row}
+use Rattle.transyt_delay.specs.declared.figures.Figures.{Figures}
+use Rattle.transyt_kept.specs.Rows.{RowsValue, row}
 
 -- Saved rows: whether a mark is open, the rows, and flags, up where a row is saved: departures for each sweep and link,
 -- arrivals with queue and figures for each link, and GO for each link.
@@ -80,16 +80,16 @@ out_kept saved rows place =
       rows = record saved.rows { outs = put_if first saved.rows.outs place (row rows.outs place) };
     }
 
--- the saved rows with a link's arrivals, queue and figures by this, if a mark is open and none are saved
-abbrev pub arrivals_kept : SavedValue → ℕ → CellValue → SavedValue
-arrivals_kept saved link cell =
+-- the saved rows with these arrivals, this queue and these figures of a link, if a mark is open and none are saved
+abbrev pub arrivals_kept : SavedValue → ℕ → List ℕ → List ℕ → Figures → SavedValue
+arrivals_kept saved link arrivals queue figures =
     let first = saved.live && not (is_up saved.arrivals_flags link) in
     record saved {
       arrivals_flags = put_if first saved.arrivals_flags link true;
       rows = record saved.rows {
-        arrivals = put_if first saved.rows.arrivals link cell.arrivals;
-        queue = put_if first saved.rows.queue link cell.queue;
-        figures = put_if first saved.rows.figures link cell.figures;
+        arrivals = put_if first saved.rows.arrivals link arrivals;
+        queue = put_if first saved.rows.queue link queue;
+        figures = put_if first saved.rows.figures link figures;
       };
     }
 

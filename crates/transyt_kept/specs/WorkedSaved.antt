@@ -1,8 +1,8 @@
 -- Worked saved rows: two links at two sweeps in a cycle of two steps, of which some rows are saved; and the rows of the
 -- mark, with such as are wrong.
 use Rattle.std.specs.Prelude.{[], ◌∷◌, true, false}
-use Rattle.transyt_sweep.specs.Rows.{RowsValue, rows_of}
-use Rattle.transyt_sweep.specs.WorkedLinks.{new_figures}
+use Rattle.transyt_kept.specs.Cell.{new_figures}
+use Rattle.transyt_kept.specs.Rows.{RowsValue, rows_of}
 use Rattle.transyt_kept.specs.Saved.{SavedValue}
 
 -- rows now

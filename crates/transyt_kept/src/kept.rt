@@ -1,18 +1,18 @@
 //! Rows with a mark and their calls.
 
-ghost use Rattle.std.specs.Prelude.{◌≡◌, ◌<◌, ◌≤◌, length, IfOk, IsSome, Some, None};
+ghost use Rattle.std.specs.Prelude.{◌≡◌, ◌^◌, ◌<◌, ◌≤◌, length, All, IfOk, IsSome, Some, None};
 ghost use Rattle.std.specs.Option.{is_some};
-ghost use Rattle.transyt_sweep.specs.Cell.{HasSteps};
-ghost use Rattle.transyt_sweep.specs.Rows.{Fits, SameSize, AreRows, pair_in, placed};
-ghost use Rattle.transyt_sweep.specs.Rows.{with_out, with_arrivals, with_go, with_weights};
-ghost use Rattle.transyt_sweep.specs.Sweeps.{start};
-ghost use Rattle.transyt_kept.specs.Saved.{KeptValue, unmarked};
+ghost use Rattle.transyt_profile.specs.Profile.{uniform};
+ghost use Rattle.transyt_kept.specs.Cell.{AreSmall};
+ghost use Rattle.transyt_kept.specs.Rows.{SameSize, AreRows, pair_in, placed};
+ghost use Rattle.transyt_kept.specs.Rows.{with_out, with_figures, with_arrivals, with_go};
+ghost use Rattle.transyt_kept.specs.Saved.{unmarked};
 
+use crate::rows::Rows;
 use crate::saved::Saved;
 use std::alloc::{AllocError, Global};
 use std::marker::Model;
-use transyt_net::Net;
-use transyt_sweep::{Rows, Scratch};
+use transyt_delay::Figures;
 
 /// Rows with a mark: the rows now, and while a mark is open those that were there when it was set.
 ///
@@ -35,13 +35,12 @@ impl Model for KeptRows {
 }
 
 impl KeptRows {
-    /// Rows of a network with no mark, and room for those of a mark. On an error nothing is left of it.
-    pub fn open(alloc: Global, net: &Net, rows: Rows) -> Result<KeptRows, AllocError>
-        requires { Fits net.now rows }
+    /// Rows with no mark, and room for those of a mark. On an error nothing is left of it.
+    pub fn open(alloc: Global, rows: Rows) -> Result<KeptRows, AllocError>
         ensures { IfOk result (λ kept. kept ≡ unmarked rows) }
     {
         rows.index();
-        let Ok(saved) = Saved::open(alloc, net) else {
+        let Ok(saved) = Saved::open(alloc, rows.size()) else {
             drop(rows);
             return Err(AllocError);
         };
@@ -87,65 +86,77 @@ impl KeptRows {
         self.saved.settle();
     }
 
-    /// Writes a link's departures at a sweep from a scratch.
-    pub fn take_out(&mut self, sweep: u32, link: usize, scratch: &Scratch)
+    /// The departures of a link at a sweep become these.
+    pub fn put_out(&mut self, sweep: u32, link: usize, values: &[u64])
         requires sweep { sweep ≤ self.old.now.sweeps }
         requires link { link < length self.old.now.figures }
-        requires steps { HasSteps self.old.now.step_count scratch.now }
-        ensures { self.new ≡ record self.old { now = with_out self.old.now sweep link scratch.now.out } }
+        requires steps { length values.now ≡ self.old.now.step_count }
+        requires small { All (λ v. v < 2 ^ 30) values.now }
+        ensures { self.new ≡ record self.old { now = with_out self.old.now sweep link values.now } }
     {
         let place = self.rows.pair_place(sweep, link);
         self.saved.save_out(place, &self.rows);
-        self.rows.take_out(sweep, link, scratch);
+        self.rows.put_out(sweep, link, values);
     }
 
-    /// Writes a link's arrivals at the last sweep, its queue and its figures from a scratch, which is left with other
-    /// rows. Nothing is copied.
-    pub fn take_arrivals(&mut self, link: usize, scratch: &mut Scratch)
+    /// The departures of a link at a sweep become this value at each step.
+    pub fn fill_out(&mut self, sweep: u32, link: usize, value: u64)
+        requires sweep { sweep ≤ self.old.now.sweeps }
         requires link { link < length self.old.now.figures }
-        requires steps { HasSteps self.old.now.step_count scratch.old }
+        requires small { value < 2 ^ 30 }
         ensures value { self.new ≡ record self.old {
-          now = with_arrivals self.old.now link scratch.old.arrivals scratch.old.queue scratch.old.figures;
+          now = with_out self.old.now sweep link (uniform self.old.now.step_count value);
         } }
-        ensures go { scratch.new.go ≡ scratch.old.go }
-        ensures steps { length scratch.new.arrivals ≡ self.old.now.step_count }
-    {
-        self.rows.exchange_arrivals(link, scratch);
-        self.saved.keep_arrivals(link, scratch);
-    }
-
-    /// Writes a link's GO at the last sweep from a scratch, which is left with another row. Nothing is copied.
-    pub fn take_go(&mut self, link: usize, scratch: &mut Scratch)
-        requires link { link < length self.old.now.figures }
-        requires steps { length scratch.old.arrivals ≡ self.old.now.step_count }
-        requires go_steps { length scratch.old.go ≡ self.old.now.step_count }
-        ensures value { self.new ≡ record self.old { now = with_go self.old.now link scratch.old.go } }
-        ensures steps { length scratch.new.arrivals ≡ self.old.now.step_count }
-    {
-        self.rows.exchange_go(link, scratch);
-        self.saved.keep_go(link, scratch);
-    }
-
-    /// Writes a link's departures before the first sweep by its total flow.
-    pub fn start(&mut self, net: &Net, link: usize)
-        requires fits { Fits net.now self.old.now }
-        requires link { link < length net.now.links }
-        ensures value { self.new ≡ record self.old { now = with_out self.old.now 0 link (start net.now link) } }
         ensures rows { AreRows self.old.now }
     {
-        let place = self.rows.pair_place(0, link);
+        let place = self.rows.pair_place(sweep, link);
         self.saved.save_out(place, &self.rows);
-        self.rows.start(net, link);
+        self.rows.fill_out(sweep, link, value);
     }
 
-    /// Weighs a link anew by the network's weights. It is no step.
-    pub fn reweigh(&mut self, net: &Net, link: usize)
-        requires fits { Fits net.now self.old.now }
-        requires link { link < length net.now.links }
-        ensures { self.new ≡ record self.old { now = with_weights self.old.now net.now link } }
+    /// The figures of a link become these.
+    pub fn put_figures(&mut self, link: usize, figures: Figures)
+        requires link { link < length self.old.now.figures }
+        requires figures { AreSmall figures }
+        ensures { self.new ≡ record self.old { now = with_figures self.old.now link figures } }
     {
         self.saved.save_arrivals(link, &self.rows);
-        self.rows.reweigh(net, link);
+        self.rows.put_figures(link, figures);
+    }
+
+    /// The arrivals of a link at the last sweep, its queue and its figures become these, and other rows are left in their
+    /// place. Nothing is copied.
+    pub fn exchange_arrivals(
+        &mut self,
+        link: usize,
+        arrivals: &mut Vec<u64>,
+        queue: &mut Vec<u64>,
+        figures: &mut Figures,
+    )
+        requires link { link < length self.old.now.figures }
+        requires arrivals { length arrivals.old.items ≡ self.old.now.step_count }
+        requires queue { length queue.old.items ≡ self.old.now.step_count }
+        requires figures { AreSmall figures.old }
+        ensures value { self.new ≡ record self.old {
+          now = with_arrivals self.old.now link arrivals.old.items queue.old.items figures.old;
+        } }
+        ensures arrivals { length arrivals.new.items ≡ self.old.now.step_count }
+        ensures queue { length queue.new.items ≡ self.old.now.step_count }
+        ensures figures { AreSmall figures.new }
+    {
+        self.rows.exchange_arrivals(link, arrivals, queue, figures);
+        self.saved.keep_arrivals(link, arrivals, queue, figures);
+    }
+
+    /// The GO of a link at the last sweep becomes this, and another row is left in its place. Nothing is copied.
+    pub fn exchange_go(&mut self, link: usize, go: &mut Vec<u64>)
+        requires link { link < length self.old.now.figures }
+        requires steps { length go.old.items ≡ self.old.now.step_count }
+        ensures value { self.new ≡ record self.old { now = with_go self.old.now link go.old.items } }
+        ensures steps { length go.new.items ≡ self.old.now.step_count }
+    {
+        self.rows.exchange_go(link, go);
+        self.saved.keep_go(link, go);
     }
 
     /// With no mark open, a link at a sweep becomes that of other rows, at the last sweep all of it.

@@ -1,15 +1,18 @@
 //! Saved rows: flags, and the rows that were there before they were written over.
 
-ghost use Rattle.std.specs.Prelude.{◌≡◌, ◌+◌, ◌*◌, ◌<◌, false, length, slice_set, IfOk};
-ghost use Rattle.transyt_sweep.specs.Rows.{Fits, AreRows, shown_at};
+ghost use Rattle.std.specs.Prelude.{◌≡◌, ◌+◌, ◌*◌, ◌<◌, false, length, slice_index_or, slice_set, IfOk};
+ghost use Rattle.transyt_kept.specs.Cell.{no_figures, AreSmall};
+ghost use Rattle.transyt_kept.specs.Rows.{row, empty_rows};
 ghost use Rattle.transyt_kept.specs.Saved.{out_kept, arrivals_kept, go_kept, old_rows};
 ghost use Rattle.transyt_kept.specs.Saved.{begun, FitsRows, GivesBack, AreDownTo};
 
 use crate::flags::{clear, no_flags};
+use crate::rows::Rows;
+use crate::saved_rows::SavedRows;
+use crate::size::Size;
 use std::alloc::{AllocError, Global};
 use std::marker::Model;
-use transyt_net::Net;
-use transyt_sweep::{Rows, SavedRows, Scratch};
+use transyt_delay::Figures;
 
 /// The rows that were there when a mark was set, as far as they were written over since.
 #[derive(Drop)]
@@ -39,22 +42,20 @@ impl Model for Saved {
 }
 
 impl Saved {
-    /// Room to save the rows of a network. No mark is open. On an error nothing is left of it.
-    pub(crate) fn open(alloc: Global, net: &Net) -> Result<Saved, AllocError>
+    /// Room to save rows of a size. No mark is open. On an error nothing is left of it.
+    pub(crate) fn open(alloc: Global, size: Size) -> Result<Saved, AllocError>
         ensures live { IfOk result (λ saved. saved.live ≡ false) }
-        ensures fits { IfOk result (λ saved. Fits net.now saved.rows) }
-        ensures rows { IfOk result (λ saved. AreRows saved.rows) }
+        ensures rows { IfOk result (λ saved.
+            saved.rows ≡ empty_rows size.step_count size.sweeps size.link_count) }
         ensures outs { IfOk result (λ saved.
-            length saved.out_flags ≡ (net.now.frame.sweeps + 1) * length net.now.links) }
-        ensures arrivals { IfOk result (λ saved. length saved.arrivals_flags ≡ length net.now.links) }
-        ensures go { IfOk result (λ saved. length saved.go_flags ≡ length net.now.links) }
+            length saved.out_flags ≡ (size.sweeps + 1) * size.link_count) }
+        ensures arrivals { IfOk result (λ saved. length saved.arrivals_flags ≡ size.link_count) }
+        ensures go { IfOk result (λ saved. length saved.go_flags ≡ size.link_count) }
     {
-        let link_count = net.links().len();
-        let pairs = (net.frame().sweeps as usize + 1) * link_count;
-        let out_flags = no_flags(alloc, pairs)?;
-        let arrivals_flags = no_flags(alloc, link_count)?;
-        let go_flags = no_flags(alloc, link_count)?;
-        let rows = SavedRows::open(alloc, net)?;
+        let out_flags = no_flags(alloc, (size.sweeps as usize + 1) * size.link_count)?;
+        let arrivals_flags = no_flags(alloc, size.link_count)?;
+        let go_flags = no_flags(alloc, size.link_count)?;
+        let rows = SavedRows::open(alloc, size)?;
         Ok(Saved {
             live: false,
             out_flags,
@@ -106,7 +107,8 @@ impl Saved {
     pub(crate) fn save_arrivals(&mut self, link: usize, rows: &Rows)
         requires fits { FitsRows rows.now self.old }
         requires link { link < length rows.now.figures }
-        ensures { self.new ≡ arrivals_kept self.old link (shown_at rows.now link) }
+        ensures { self.new ≡ arrivals_kept self.old link (row rows.now.arrivals link) (row rows.now.queue link)
+            (slice_index_or rows.now.figures link no_figures) }
     {
         if self.live && !self.arrivals_flags[link] {
             self.arrivals_flags[link] = true;
@@ -114,33 +116,43 @@ impl Saved {
         }
     }
 
-    /// Saves the arrivals, queue and figures of a scratch as the link's, if a mark is open and none are saved. The scratch
-    /// is left with other rows.
-    pub(crate) fn keep_arrivals(&mut self, link: usize, scratch: &mut Scratch)
+    /// Saves these arrivals, this queue and these figures as the link's, if a mark is open and none are saved. Other rows
+    /// are left in their place.
+    pub(crate) fn keep_arrivals(
+        &mut self,
+        link: usize,
+        arrivals: &mut Vec<u64>,
+        queue: &mut Vec<u64>,
+        figures: &mut Figures,
+    )
         requires flag { link < length self.old.arrivals_flags }
         requires link { link < length self.old.rows.figures }
-        requires steps { length scratch.old.arrivals ≡ self.old.rows.step_count }
-        ensures value { self.new ≡ arrivals_kept self.old link scratch.old }
-        ensures go { scratch.new.go ≡ scratch.old.go }
-        ensures steps { length scratch.new.arrivals ≡ self.old.rows.step_count }
+        requires arrivals { length arrivals.old.items ≡ self.old.rows.step_count }
+        requires queue { length queue.old.items ≡ self.old.rows.step_count }
+        requires figures { AreSmall figures.old }
+        ensures value { self.new
+            ≡ arrivals_kept self.old link arrivals.old.items queue.old.items figures.old }
+        ensures arrivals { length arrivals.new.items ≡ self.old.rows.step_count }
+        ensures queue { length queue.new.items ≡ self.old.rows.step_count }
+        ensures figures { AreSmall figures.new }
     {
         if self.live && !self.arrivals_flags[link] {
             self.arrivals_flags[link] = true;
-            self.rows.exchange_arrivals(link, scratch);
+            self.rows.exchange_arrivals(link, arrivals, queue, figures);
         }
     }
 
-    /// Saves the GO of a scratch as the link's, if a mark is open and none is saved. The scratch is left with another row.
-    pub(crate) fn keep_go(&mut self, link: usize, scratch: &mut Scratch)
+    /// Saves this GO as the link's, if a mark is open and none is saved. Another row is left in its place.
+    pub(crate) fn keep_go(&mut self, link: usize, go: &mut Vec<u64>)
         requires flag { link < length self.old.go_flags }
         requires link { link < length self.old.rows.figures }
-        requires steps { length scratch.old.arrivals ≡ self.old.rows.step_count }
-        ensures value { self.new ≡ go_kept self.old link scratch.old.go }
-        ensures steps { length scratch.new.arrivals ≡ self.old.rows.step_count }
+        requires steps { length go.old.items ≡ self.old.rows.step_count }
+        ensures value { self.new ≡ go_kept self.old link go.old.items }
+        ensures steps { length go.new.items ≡ self.old.rows.step_count }
     {
         if self.live && !self.go_flags[link] {
             self.go_flags[link] = true;
-            self.rows.exchange_go(link, scratch);
+            self.rows.exchange_go(link, go);
         }
     }
 

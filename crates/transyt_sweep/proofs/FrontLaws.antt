@@ -7,10 +7,10 @@ use Rattle.std.proofs.lemmas.List.{length-set}
 use Rattle.transyt_net.specs.Parts.{Network}
 use Rattle.transyt_sweep.specs.Cell.{CellValue, cell_by}
 use Rattle.transyt_sweep.specs.Sweeps.{read_at, out_of, read_of, cell_at}
-use Rattle.transyt_sweep.specs.Rows.{RowsValue, row, out_at, read_in, with_out, with_rest}
-use Rattle.transyt_sweep.specs.Rows.{AreRows}
+use Rattle.transyt_kept.specs.Rows.{RowsValue, out_at, with_out, with_rest, AreRows}
+use Rattle.transyt_sweep.specs.Reading.{read_in}
 use Rattle.transyt_sweep.specs.Front.{AreMixed, is_before}
-use Rattle.transyt_sweep.proofs.PairLaws.{out_here, out_elsewhere}
+use Rattle.transyt_kept.proofs.PairLaws.{out_here, out_elsewhere, out_shown}
 use Rattle.transyt_sweep.proofs.ReadLaws.{cell_same}
 
 -- each row that is read stands before the link, at its sweep or the one before
@@ -31,10 +31,6 @@ before_turn t k s links inside = grind (arith, nat_tests)
 
 pub before_end : (t k sweeps : ℕ) → t ≤ sweeps → is_before t k (sweeps + 1) 0 ≡ true
 before_end t k sweeps swept = grind (arith, nat_tests)
-
--- the rest of the last sweep doesn't move what leaves
-pub out_shown : (rows : RowsValue) (l : ℕ) (c : CellValue) (t k : ℕ) → out_at (with_rest rows l c) t k ≡ out_at rows t k
-out_shown rows l c t k = ap (λ n. row rows.outs (t * n + k)) (length-set rows.figures l c.figures)
 
 module _ (net : Network) (f g : ℕ → ℕ → List ℕ) (s l : ℕ) (rows : RowsValue) (mixed : AreMixed net f g s l rows) where
   -- one link more

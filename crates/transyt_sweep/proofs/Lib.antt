@@ -1,15 +1,10 @@
 pub mod SweepLaws
-pub mod RowLaws
-pub mod PairLaws
-pub mod TableLaws
-pub mod FlatLaws
 pub mod FactorLaws
 pub mod FeederLaws
 pub mod InflowLaws
 pub mod SendingLaws
 pub mod SlotLaws
 pub mod IndexLaws
-pub mod KeptLaws
 pub mod ReadLaws
 pub mod FrontLaws
 pub mod StepLaws

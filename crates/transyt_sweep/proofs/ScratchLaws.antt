@@ -15,7 +15,7 @@ use Rattle.transyt_sweep.specs.declared.figures.LazyFigures.TheVariants.{Known}
 use Rattle.transyt_sweep.specs.declared.figures.Weights.{Weights}
 use Rattle.transyt_sweep.specs.declared.factors.Factors.{Factors}
 use Rattle.transyt_sweep.specs.Factors.{AreFactors}
-use Rattle.transyt_sweep.specs.Rows.{AreSmall}
+use Rattle.transyt_kept.specs.Cell.{AreSmall}
 use Rattle.transyt_sweep.specs.Cell.{CellValue, cell_of, terms_frame}
 use Rattle.transyt_sweep.specs.Scratch.{IsScratch, terms_in}
 

@@ -1,5 +1,5 @@
 -- One link worked out from the departures that it reads: arrivals, GO, queue, departures and figures.
-use Rattle.std.specs.Prelude.{◌≡◌, ℕ, List, Option, Some, None, fold, sum, length}
+use Rattle.std.specs.Prelude.{ℕ, List, Option, Some, None, fold, sum}
 use Rattle.transyt_profile.specs.Profile.{uniform, added, shared}
 use Rattle.transyt_platoon.specs.Platoon.{travel_steps, dispersed}
 use Rattle.transyt_stopline.specs.Cut.{arrivals_of}
@@ -7,7 +7,6 @@ use Rattle.transyt_stopline.specs.Queue.{queues, outs}
 use Rattle.transyt_stopline.specs.Stops.{stopped_of}
 use Rattle.transyt_delay.specs.declared.terms.Terms.{Terms}
 use Rattle.transyt_delay.specs.declared.terms.TermsFrame.{TermsFrame}
-use Rattle.transyt_delay.specs.declared.figures.Figures.{Figures}
 use Rattle.transyt_delay.specs.Figures.{figures}
 use Rattle.transyt_parts.specs.declared.frame.Frame.{Frame}
 use Rattle.transyt_parts.specs.declared.link.Feed.{Feed}
@@ -18,6 +17,7 @@ use Rattle.transyt_net.specs.Valid.{link_place}
 use Rattle.transyt_net.specs.Flow.{perstep}
 use Rattle.transyt_stage.specs.Green.{signal}
 use Rattle.transyt_stage.specs.GiveWay.{yielding}
+pub use Rattle.transyt_kept.specs.Cell.{CellValue, HasSteps}
 
 -- the part of its feeder's departures that goes on with a feed; `read` gives the departures that are read of each link
 abbrev pub taken : Network → (ℕ → List ℕ) → Feed → List ℕ
@@ -67,14 +67,6 @@ terms_of net l come room = record {
   weights = (link_of net l).weights;
 }
 
--- one link worked out: arrivals before any cut, GO, the queue, departures and the figures
-pub record CellValue : Type 0 where
-  pub arrivals : List ℕ
-  pub go : List ℕ
-  pub queue : List ℕ
-  pub out : List ℕ
-  pub figures : Figures
-
 -- the link at a place, worked out of arrivals and GO
 abbrev pub cell_of : Network → ℕ → List ℕ → List ℕ → CellValue
 cell_of net l come room = record {
@@ -88,10 +80,3 @@ cell_of net l come room = record {
 -- the link at a place, worked out of the departures that it reads
 abbrev pub cell_by : Network → (ℕ → List ℕ) → ℕ → CellValue
 cell_by net read l = cell_of net l (inflow net read l) (go net read l)
-
--- each profile has a value for each of n steps
-pub record HasSteps (n : ℕ) (c : CellValue) : Type 0 where
-  pub arrivals : length c.arrivals ≡ n
-  pub go : length c.go ≡ n
-  pub queue : length c.queue ≡ n
-  pub out : length c.out ≡ n

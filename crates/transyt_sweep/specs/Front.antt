@@ -1,10 +1,11 @@
 -- The rows while the links are worked out one after another, and the rows of an evaluation.
-use Rattle.std.specs.Prelude.{◌≡◌, ℕ, ◌+◌, ◌*◌, ◌<◌, ◌≤◌, ◌==◌, Bool, true, ◌&&◌, ◌||◌, nat_lt, List, length, replicate}
+use Rattle.std.specs.Prelude.{◌≡◌, ℕ, ◌<◌, ◌≤◌, ◌==◌, Bool, true, ◌&&◌, ◌||◌, nat_lt, List, length}
 use Rattle.std.specs.Prelude.{if◌then◌else◌}
 use Rattle.transyt_profile.specs.Profile.{uniform}
 use Rattle.transyt_net.specs.Parts.{Network}
 use Rattle.transyt_sweep.specs.Sweeps.{out_of, evaluated}
-use Rattle.transyt_sweep.specs.Rows.{RowsValue, rows_of, empty_table, out_at, shown_at, no_figures, Fits}
+use Rattle.transyt_kept.specs.Rows.{RowsValue, out_at, shown_at}
+use Rattle.transyt_sweep.specs.Reading.{Fits}
 
 -- whether link k at sweep t is worked out before link l at sweep s
 abbrev pub is_before : ℕ → ℕ → ℕ → ℕ → Bool
@@ -30,26 +31,6 @@ pub record AreEvaluation (net : Network) (rows : RowsValue) : Type 0 where
 -- nothing leaves
 abbrev pub empty_out : Network → ℕ → ℕ → List ℕ
 empty_out net s l = uniform net.frame.step_count 0
-
--- rows in which all is 0
-abbrev pub empty_rows : Network → RowsValue
-empty_rows net =
-    rows_of net.frame.step_count net.frame.sweeps
-    (empty_table ((net.frame.sweeps + 1) * length net.links) net.frame.step_count)
-    (empty_table (length net.links) net.frame.step_count) (empty_table (length net.links) net.frame.step_count)
-    (empty_table (length net.links) net.frame.step_count) (replicate (length net.links) no_figures)
-
--- before link l at sweep s the rows have their departures, and all else is 0
-pub record AreStarted (net : Network) (s l : ℕ) (rows : RowsValue) : Type 0 where
-  pub outs : AreMixed net (out_of net) (empty_out net) s l rows
-  pub arrivals : rows.arrivals ≡ empty_table (length net.links) net.frame.step_count
-  pub go : rows.go ≡ empty_table (length net.links) net.frame.step_count
-  pub queue : rows.queue ≡ empty_table (length net.links) net.frame.step_count
-  pub figures : rows.figures ≡ replicate (length net.links) no_figures
-
--- new rows: before the first sweep the total flow of each link leaves, and all else is 0
-abbrev pub AreOpened : Network → RowsValue → Type 0
-AreOpened net rows = AreStarted net 1 0 rows
 
 -- the rows are the evaluation as far as link l at sweep s
 pub record AreFilled (net : Network) (s l : ℕ) (rows : RowsValue) : Type 0 where

@@ -8,7 +8,7 @@ use Rattle.transyt_sweep.specs.Cell.{brought}
 use Rattle.transyt_sweep.specs.Factors.{AreFactors, ServeIn, taken_by}
 use Rattle.transyt_sweep.specs.declared.factors.Factors.{Factors}
 use Rattle.transyt_sweep.specs.declared.inputs.Inputs.{Inputs}
-use Rattle.transyt_sweep.specs.Rows.{read_in}
+use Rattle.transyt_sweep.specs.Reading.{read_in}
 
 -- a feed's numbers are within their limits
 pub record IsSmall (f : Feed) : Type 0 where

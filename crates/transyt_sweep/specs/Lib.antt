@@ -1,7 +1,6 @@
 pub mod Cell
 pub mod Sweeps
-pub mod Rows
-pub mod Table
+pub mod Reading
 pub mod Front
 pub mod Factors
 pub mod Inflow
@@ -9,5 +8,5 @@ pub mod Scratch
 pub mod Climb
 pub mod WorkedLinks
 pub mod WorkedSweeps
-pub mod WorkedRows
+pub mod WorkedReading
 pub mod WorkedClimbs

@@ -12,7 +12,7 @@ use Rattle.transyt_sweep.specs.declared.figures.Weights.{Weights}
 use Rattle.transyt_sweep.specs.declared.figures.LazyFigures.{LazyFigures}
 use Rattle.transyt_sweep.specs.declared.figures.LazyFigures.TheVariants.{Known, Open}
 use Rattle.transyt_sweep.specs.Factors.{AreFactors}
-use Rattle.transyt_sweep.specs.Rows.{AreSmall}
+use Rattle.transyt_kept.specs.Cell.{AreSmall}
 
 -- the terms of the figures: the sums of arrivals and of GO over a cycle, the vehicles that stop of the arrivals after the
 -- cut, and the weights

@@ -1,6 +1,7 @@
 -- Worked links: the three junctions at the last sweep, link by link, in millionths of a vehicle.
 use Rattle.std.specs.Prelude.{ℕ, List, [], ◌∷◌, ◌++◌, replicate}
 use Rattle.transyt_delay.specs.declared.figures.Figures.{Figures}
+pub use Rattle.transyt_kept.specs.Cell.{new_figures}
 
 -- the arrivals of each link in each step, before any cut
 abbrev pub arrivals_of_three : List (List ℕ)
@@ -67,11 +68,6 @@ outs_of_three =
     ∷ (241259 ∷ 234309 ∷ 230423 ∷ 227645 ∷ 225386 ∷ 223454 ∷ 221773 ∷ 220301 ∷ 1 ∷ 1 ∷ 1 ∷ 1 ∷ 1 ∷ 1 ∷ 1259722
     ∷ 1259722 ∷ 1259722 ∷ 648595 ∷ [])
     ∷ []
-
--- figures of these numbers
-abbrev pub new_figures : ℕ → ℕ → ℕ → ℕ → Figures
-new_figures uniform random stops index =
-    record { uniform = uniform; random = random; stops = stops; index = index }
 
 -- the figures of each: uniform delay, random delay, stops and index
 abbrev pub figures_of_three : List Figures

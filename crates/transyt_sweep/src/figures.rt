@@ -3,9 +3,11 @@
 ghost use Rattle.std.specs.Prelude.{◌≡◌, ◌<◌, length};
 ghost use Rattle.transyt_net.specs.Parts.{link_of};
 ghost use Rattle.transyt_sweep.specs.Cell.{terms_frame};
+ghost use Rattle.transyt_kept.specs.Cell.{AreSmall};
+ghost use Rattle.transyt_sweep.specs.Reading.{reweighed};
 ghost use Rattle.transyt_sweep.specs.Scratch.{AreWeights};
 
-use transyt_delay::{Figures, TermsFrame};
+use transyt_delay::{Figures, TermsFrame, weigh};
 use transyt_net::Net;
 use transyt_stopline::Totals;
 
@@ -45,4 +47,22 @@ pub(crate) fn weights_of(net: &Net, link: usize) -> Weights
         },
         link: at.weights,
     }
+}
+
+/// The figures of a link with the index that the network's stop penalty and the link's weights give. It is no step.
+pub fn reweigh(net: &Net, link: usize, figures: Figures) -> Figures
+    requires link { link < length net.now.links }
+    requires small { AreSmall figures }
+    ensures value { result ≡ reweighed net.now link figures }
+    ensures small { AreSmall result }
+{
+    let at = net.link(link);
+    let index = weigh(
+        figures.uniform,
+        figures.random,
+        figures.stops,
+        net.frame().stop_penalty,
+        at.weights,
+    );
+    Figures { index, ..figures }
 }

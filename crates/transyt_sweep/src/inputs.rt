@@ -1,8 +1,10 @@
 //! The inputs of a cell.
 
-ghost use Rattle.std.specs.Prelude.{◌≡◌, ◌<◌, ◌≤◌, length};
+ghost use Rattle.std.specs.Prelude.{◌≡◌, ◌^◌, ◌<◌, ◌≤◌, length, All};
+ghost use Rattle.transyt_sweep.specs.Reading.{read_in};
+ghost use Rattle.transyt_sweep.specs.Sweeps.{read_at};
 
-use crate::rows::Rows;
+use transyt_kept::Rows;
 use transyt_net::Net;
 
 /// The inputs of one cell: a link at a sweep of a network, and the rows whose departures it reads.
@@ -28,4 +30,30 @@ pub(crate) struct Inputs<'a> {
     ghost rows_steps: { rows.now.step_count ≡ step_count },
     ghost rows_sweeps: { rows.now.sweeps ≡ net.now.frame.sweeps },
     ghost rows_links: { length rows.now.figures ≡ length net.now.links },
+}
+
+/// The sweep at which a link, at a sweep, reads another.
+fn read_at(sweep: u32, link: usize, other: usize) -> u32
+    ensures value { result ≡ read_at sweep link other }
+    ensures within { result ≤ sweep }
+{
+    if other < link {
+        sweep
+    } else {
+        sweep.saturating_sub(1)
+    }
+}
+
+impl<'a> Inputs<'a> {
+    /// The departures that the link reads of another: those of this sweep where that stands earlier, else those of the one
+    /// before.
+    pub(crate) fn read(&self, other: usize) -> &'a [u64]
+        requires { other < length self.now.rows.now.figures }
+        ensures value { result.now ≡ read_in self.now.rows.now self.now.sweep self.now.link other }
+        ensures steps { length result.now ≡ self.now.step_count }
+        ensures small { All (λ v. v < 2 ^ 30) result.now }
+    {
+        let rows = self.rows;
+        rows.out(read_at(self.sweep, self.link, other), other)
+    }
 }

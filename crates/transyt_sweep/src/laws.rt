@@ -7,16 +7,15 @@ ghost use Rattle.transyt_net.specs.Parts.{Network};
 ghost use Rattle.transyt_net.specs.Valid.{IsValid};
 ghost use Rattle.transyt_moves.specs.Moves.{move_count};
 ghost use Rattle.transyt_stage.specs.ThreeJunctions.{three_junctions};
+ghost use Rattle.transyt_kept.specs.WorkedRows.{rows};
 ghost use Rattle.transyt_sweep.specs.Sweeps.{out_of, start, cell_at, evaluated, index};
-ghost use Rattle.transyt_sweep.specs.Rows.{pair_in, read_in, placed, with_rest, with_arrivals, with_go};
-ghost use Rattle.transyt_sweep.specs.Rows.{with_weights, index_in};
+ghost use Rattle.transyt_sweep.specs.Reading.{read_in, with_weights};
 ghost use Rattle.transyt_sweep.specs.Climb.{tried_at, is_below, lowers, least, first, ended, after_search, climb};
 ghost use Rattle.transyt_sweep.specs.WorkedLinks.{arrivals_of_three, gos_of_three, queues_of_three, outs_of_three};
 ghost use Rattle.transyt_sweep.specs.WorkedLinks.{figures_of_three};
 ghost use Rattle.transyt_sweep.specs.WorkedSweeps.{ring, outs_of_ring, fed_by_itself, arrivals_of_itself};
 ghost use Rattle.transyt_sweep.specs.WorkedSweeps.{gives_way_to_later, no_links};
-ghost use Rattle.transyt_sweep.specs.WorkedRows.{rows, second_link, another, placed_before, placed_last, weighed};
-ghost use Rattle.transyt_sweep.specs.WorkedRows.{with_another, arrivals_of_another, go_of_another};
+ghost use Rattle.transyt_sweep.specs.WorkedReading.{weighed};
 ghost use Rattle.transyt_sweep.specs.WorkedClimbs.{idle, planless, tried_in_idle, limits, leasts, stayed, stepped_back};
 
 /// The rule of the sweeps: before the first each link lets its total flow go, and at each sweep a link is worked out
@@ -70,18 +69,11 @@ pub fn worked_sweeps()
     ensures none { index no_links ≡ 0 }
 {}
 
-/// So do what is read of rows and written in them.
-pub fn worked_rows()
-    ensures read { pair_in rows 1 1 ≡ second_link }
+/// So do what a link reads of rows, and a link weighed anew.
+pub fn worked_reading()
     ensures sweeps { map (read_in rows 1 1) (range_with_len 0 2)
         ≡ (11 ∷ 12 ∷ 13 ∷ []) ∷ (4 ∷ 5 ∷ 6 ∷ []) ∷ [] }
-    ensures before { placed rows 0 1 another ≡ placed_before }
-    ensures last { placed rows 1 0 another ≡ placed_last }
-    ensures rest { with_rest rows 0 another ≡ with_another }
-    ensures arrivals { with_arrivals rows 1 another.arrivals another.queue another.figures ≡ arrivals_of_another }
-    ensures go { with_go rows 1 another.go ≡ go_of_another }
     ensures weights { with_weights rows three_junctions 1 ≡ record rows { figures = weighed } }
-    ensures index { index_in rows ≡ 138 }
 {}
 
 /// So do tries of moves, searches and climbs. The first move on the three junctions lowers their index.

@@ -61,7 +61,7 @@ pub(crate) fn share_feed(inputs: &Inputs<'_>, feed: Feed, shared: &mut [u64])
     ensures small { All (λ v. v < 2 ^ 44) shared.new }
 {
     let feeder = link_place(inputs.net, feed.feeder);
-    let departures = inputs.rows.read(inputs.sweep, inputs.link, feeder);
+    let departures = inputs.read(feeder);
     let total = inputs.net.total_flow(feeder);
     share_into(departures, feed.flow, total, shared);
 }
@@ -84,9 +84,8 @@ pub(crate) fn platoon<'a>(inputs: &Inputs<'a>, factors: &'a Factors) -> Platoon<
     ensures steps { length result.leaving.now ≡ inputs.now.step_count }
     ensures brings { arriving result ≡ carried (read_by inputs.now) factors.now }
 {
-    let rows = inputs.rows;
     Platoon {
-        leaving: rows.read(inputs.sweep, inputs.link, factors.feeder),
+        leaving: inputs.read(factors.feeder),
         part: &factors.part,
         travel: &factors.travel,
     }

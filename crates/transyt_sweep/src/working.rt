@@ -5,15 +5,15 @@ ghost use Rattle.transyt_stopline.specs.Cut.{arrivals_of};
 ghost use Rattle.transyt_stopline.specs.Queue.{queues, outs};
 ghost use Rattle.transyt_sweep.specs.Cell.{go, cell_by};
 ghost use Rattle.transyt_sweep.specs.Inflow.{read_by};
-ghost use Rattle.transyt_sweep.specs.Rows.{Fits, read_in};
+ghost use Rattle.transyt_sweep.specs.Reading.{Fits, read_in};
 
 use crate::figures::{LazyFigures, weights_of};
 use crate::inflow::fill_inflow;
 use crate::inputs::Inputs;
-use crate::rows::Rows;
 use crate::scratch::Scratch;
 use crate::sending::link_place;
 use std::sync::ledger::Ledger;
+use transyt_kept::Rows;
 use transyt_net::Net;
 use transyt_stage::{fill_go, give_way};
 use transyt_steps::Steps;
@@ -111,7 +111,7 @@ fn fill_go_under_rule(inputs: &Inputs<'_>, out: &mut [u64])
     let at = net.link(inputs.link);
     if let Some(rule) = at.gives_way {
         let other = link_place(net, rule.other);
-        let departures = inputs.rows.read(inputs.sweep, inputs.link, other);
+        let departures = inputs.read(other);
         give_way(departures, rule.percent, out);
     }
 }

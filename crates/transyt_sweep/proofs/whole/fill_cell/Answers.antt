@@ -2,7 +2,7 @@
 use Rattle.std.proofs.Common.{◌≡◌, ◌+◌, length, sym, subst, ap, ◌∙◌}
 use Rattle.transyt_sweep.specs.Cell.{CellValue}
 use Rattle.transyt_sweep.specs.Sweeps.{cell_at}
-use Rattle.transyt_sweep.specs.Rows.{read_in}
+use Rattle.transyt_sweep.specs.Reading.{read_in}
 use Rattle.transyt_sweep.specs.Front.{AreFilled, empty_out}
 use Rattle.transyt_sweep.proofs.StepLaws.{length-inflow}
 use Rattle.transyt_sweep.proofs.FrontLaws.{cell_is}

@@ -3,9 +3,9 @@ use Rattle.std.proofs.Common.{◌≡◌, ◌<◌, ◌^◌, ℕ, List, length, su
 use Rattle.transyt_stopline.specs.Cut.{arrivals_of}
 use Rattle.transyt_stopline.specs.Queue.{queues, outs}
 use Rattle.transyt_sweep.specs.Cell.{CellValue, go, inflow}
-use Rattle.transyt_sweep.specs.Rows.{read_in}
+use Rattle.transyt_sweep.specs.Reading.{read_in}
 use Rattle.transyt_sweep.proofs.FactorLaws.{are_in}
-use Rattle.transyt_sweep.proofs.RowLaws.{written_back}
+use Rattle.transyt_kept.proofs.RowLaws.{written_back}
 use Rattle.transyt_sweep.proofs.ScratchLaws.{seen_is}
 use Rattle.transyt_sweep.proofs.working.cell.Goals as goal
 

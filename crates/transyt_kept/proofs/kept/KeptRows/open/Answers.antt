@@ -5,5 +5,7 @@ use Rattle.transyt_kept.proofs.kept.KeptRows.open.Goals as goal
 pub invariant_of-result : goal.invariant_of-result
 invariant_of-result c =
     let say = c.in-Ok.ensures in
-    opened_fits c.args.net.now c.args.rows c.in-Ok.saved c.index.ensures.kept say.rows c.requires say.fits say.outs
-    say.arrivals say.go
+    let size = c.size.result in
+    let are = c.size.ensures in
+    opened_fits size.step_count size.sweeps size.link_count c.args.rows c.in-Ok.saved c.index.ensures.kept
+    are.step_count are.sweeps are.link_count say.rows say.outs say.arrivals say.go

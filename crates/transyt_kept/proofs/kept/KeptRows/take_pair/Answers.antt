@@ -1,5 +1,5 @@
 -- There is still a place to save each row.
-use Rattle.transyt_sweep.specs.Rows.{pair_in}
+use Rattle.transyt_kept.specs.Rows.{pair_in}
 use Rattle.transyt_kept.proofs.KeptLaws.{fits_placed}
 use Rattle.transyt_kept.proofs.kept.KeptRows.take_pair.Goals as goal
 

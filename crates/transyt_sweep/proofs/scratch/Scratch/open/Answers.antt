@@ -2,7 +2,7 @@
 use Rattle.std.proofs.Common.{◌*◌, length, ap, subst, sym, rules, arith}
 use Rattle.transyt_parts.specs.declared.frame.Frame.{Frame}
 use Rattle.transyt_sweep.specs.Factors.{AreFactors}
-use Rattle.transyt_sweep.specs.Rows.{no_figures}
+use Rattle.transyt_kept.specs.Cell.{no_figures}
 use Rattle.transyt_sweep.proofs.ScratchLaws.{empty_scratch}
 use Rattle.transyt_sweep.proofs.scratch.Scratch.open.Goals as goal
 

@@ -1,0 +1,30 @@
+-- Rows of n values each, and one of them written; and what a write to a slice leaves in its vector.
+use Rattle.std.proofs.Common.{◌≡◌, ℕ, ◌<◌, List, [], length, take, drop, ◌++◌, set, replicate, ◌∙◌, arith}
+use Rattle.std.proofs.lemmas.List.{take_at, length-set, length-replicate}
+use Rattle.std.proofs.lemmas.List.Elements.{All-set, All-replicate}
+use Rattle.transyt_kept.specs.Rows.{row, empty_table, AreSized}
+
+-- a row has n values
+pub row_steps : {count n : ℕ} {rows : List (List ℕ)} → AreSized count n rows → (p : ℕ) → p < count
+    → length (row rows p) ≡ n
+row_steps sized p inside = sized.steps p [] (omega (arith, sized.many, inside))
+
+-- with a row of n values written each has n
+pub sized_set : {count n : ℕ} {rows : List (List ℕ)} → AreSized count n rows → (p : ℕ) (x : List ℕ) → length x ≡ n
+    → AreSized count n (set rows p x)
+sized_set {count} {n} {rows} sized p x long = record {
+  many = length-set rows p x ∙ sized.many;
+  steps = All-set (λ y. length y ≡ n) rows p x long sized.steps;
+}
+
+-- and so has each row of 0
+pub sized_empty : (count n : ℕ) → AreSized count n (empty_table count n)
+sized_empty count n = record {
+  many = length-replicate count (replicate n 0);
+  steps = All-replicate (λ y. length y ≡ n) count (replicate n 0) (length-replicate {A = ℕ} n 0);
+}
+
+-- a vector whose slice was written has what the slice has
+pub written_back : {A : Type 0} (items new : List A) (len : ℕ) → length new ≡ len
+    → take len (new ++ drop (length new) items) ≡ new
+written_back items new len same = take_at new (drop (length new) items) len (omega arith)
