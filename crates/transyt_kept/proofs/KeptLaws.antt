@@ -208,14 +208,6 @@ fits_placed rows saved fits s l c = by (s == rows.sweeps)
     by true = search (rules, places_put)
     by false = search (rules, places_put)
 
--- rows and saved rows have one size
-pub same_size : (rows : RowsValue) (saved : SavedValue) → FitsRows rows saved → SameSize saved.rows rows
-same_size rows saved fits = record {
-  step_count = fits.step_count;
-  sweeps = fits.sweeps;
-  link_count = fits.figures.room;
-}
-
 -- rows of the mark are as many as the rows now
 pub old_size : (rows : RowsValue) (saved : SavedValue) → SameSize (old_rows saved rows) rows
 old_size rows saved = record {

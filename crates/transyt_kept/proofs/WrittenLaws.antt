@@ -6,19 +6,10 @@ use Rattle.std.proofs.lemmas.List.Elements.{All-set, All-replicate}
 use Rattle.std.proofs.lemmas.List.Folds.{sum_by-replicate}
 use Rattle.transyt_delay.specs.declared.figures.Figures.{Figures}
 use Rattle.transyt_kept.specs.Cell.{no_figures, AreSmall}
-use Rattle.transyt_kept.specs.Rows.{RowsValue, empty_rows, with_go, with_figures, AreRows, SameSize}
+use Rattle.transyt_kept.specs.Rows.{RowsValue, empty_rows, with_go, with_figures, AreRows}
 use Rattle.transyt_kept.specs.Table.{AreKept}
 use Rattle.transyt_kept.proofs.IndexLaws.{weighed_sum}
 use Rattle.transyt_kept.proofs.RowLaws.{sized_set, sized_empty}
-
--- values below 2^30 are below 2^32
-pub narrow_enough : (xs : List ℕ) → All (λ v. v < 2 ^ 30) xs → All (λ v. v < 2 ^ 32) xs
-narrow_enough xs small = λ k d h. let one = small k d h in omega (arith, one)
-
--- rows of one size have as many departures
-pub outs_alike : {a b : RowsValue} → AreRows a → AreRows b → SameSize a b → length a.outs ≡ length b.outs
-outs_alike a_kept b_kept size =
-    a_kept.outs.many ∙ (λ j. (size.sweeps j + 1) * size.link_count j) ∙ sym b_kept.outs.many
 
 module _ {rows : RowsValue} (kept : AreRows rows) where
   -- departures are written

@@ -18,7 +18,6 @@ mod laws;
 mod narrow;
 mod rows;
 mod saved;
-mod saved_rows;
 mod size;
 mod table;
 

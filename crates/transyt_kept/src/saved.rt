@@ -7,14 +7,17 @@ ghost use Rattle.transyt_kept.specs.Saved.{out_kept, arrivals_kept, go_kept, old
 ghost use Rattle.transyt_kept.specs.Saved.{begun, FitsRows, GivesBack, AreDownTo};
 
 use crate::flags::{clear, no_flags};
+use crate::narrow::NarrowTable;
 use crate::rows::Rows;
-use crate::saved_rows::SavedRows;
 use crate::size::Size;
+use crate::table::Table;
 use std::alloc::{AllocError, Global};
 use std::marker::Model;
 use transyt_delay::Figures;
 
 /// The rows that were there when a mark was set, as far as they were written over since.
+///
+/// They are as those of `Rows`, but departures are kept in half the memory, since each value is below 2^30.
 #[derive(Drop)]
 pub(crate) struct Saved {
     live: bool,
@@ -24,10 +27,18 @@ pub(crate) struct Saved {
     arrivals_flags: Vec<bool>,
     // and: its GO is saved
     go_flags: Vec<bool>,
-    rows: SavedRows,
+    // the rows, each as it was where its flag is up
+    step_count: usize,
+    sweeps: u32,
+    outs: NarrowTable,
+    arrivals: Table,
+    go: Table,
+    queue: Table,
+    figures: Vec<Figures>,
 }
 
 impl Model for Saved {
+    ghost use Rattle.transyt_kept.specs.Rows.{rows_of, AreRows};
     ghost use Rattle.transyt_kept.specs.Saved.{SavedValue};
 
     ghost Value = { SavedValue };
@@ -37,8 +48,11 @@ impl Model for Saved {
       out_flags = s.out_flags.items;
       arrivals_flags = s.arrivals_flags.items;
       go_flags = s.go_flags.items;
-      rows = s.rows;
+      rows = rows_of s.step_count s.sweeps s.outs s.arrivals s.go s.queue s.figures.items;
     } };
+
+    ghost invariant = { λ s. AreRows
+        (rows_of s.step_count s.sweeps s.outs s.arrivals s.go s.queue s.figures.items) };
 }
 
 impl Saved {
@@ -52,16 +66,27 @@ impl Saved {
         ensures arrivals { IfOk result (λ saved. length saved.arrivals_flags ≡ size.link_count) }
         ensures go { IfOk result (λ saved. length saved.go_flags ≡ size.link_count) }
     {
-        let out_flags = no_flags(alloc, (size.sweeps as usize + 1) * size.link_count)?;
-        let arrivals_flags = no_flags(alloc, size.link_count)?;
-        let go_flags = no_flags(alloc, size.link_count)?;
-        let rows = SavedRows::open(alloc, size)?;
+        let pair_count = (size.sweeps as usize + 1) * size.link_count;
+        let step_count = size.step_count;
+        let link_count = size.link_count;
+        let none = Figures {
+            uniform: 0,
+            random: 0,
+            stops: 0,
+            index: 0,
+        };
         Ok(Saved {
             live: false,
-            out_flags,
-            arrivals_flags,
-            go_flags,
-            rows,
+            out_flags: no_flags(alloc, pair_count)?,
+            arrivals_flags: no_flags(alloc, link_count)?,
+            go_flags: no_flags(alloc, link_count)?,
+            step_count,
+            sweeps: size.sweeps,
+            outs: NarrowTable::empty(alloc, pair_count, step_count)?,
+            arrivals: Table::empty(alloc, link_count, step_count)?,
+            go: Table::empty(alloc, link_count, step_count)?,
+            queue: Table::empty(alloc, link_count, step_count)?,
+            figures: vec![in alloc; none; link_count]?,
         })
     }
 
@@ -90,7 +115,6 @@ impl Saved {
     }
 
     /// Saves the departures at a place, if a mark is open and none are saved.
-    #[tactic(auto, using(crate::proofs::KeptLaws::same_size))]
     pub(crate) fn save_out(&mut self, place: usize, rows: &Rows)
         requires fits { FitsRows rows.now self.old }
         requires place { place < length rows.now.outs }
@@ -98,12 +122,11 @@ impl Saved {
     {
         if self.live && !self.out_flags[place] {
             self.out_flags[place] = true;
-            self.rows.save_out(place, rows);
+            self.outs.put(place, rows.outs.row(place));
         }
     }
 
     /// Saves a link's arrivals at the last sweep, its queue and its figures, if a mark is open and none are saved.
-    #[tactic(auto, using(crate::proofs::KeptLaws::same_size))]
     pub(crate) fn save_arrivals(&mut self, link: usize, rows: &Rows)
         requires fits { FitsRows rows.now self.old }
         requires link { link < length rows.now.figures }
@@ -112,7 +135,9 @@ impl Saved {
     {
         if self.live && !self.arrivals_flags[link] {
             self.arrivals_flags[link] = true;
-            self.rows.save_arrivals(link, rows);
+            self.arrivals.put(link, rows.arrivals(link));
+            self.queue.put(link, rows.queue(link));
+            self.figures[link] = rows.figures(link);
         }
     }
 
@@ -138,7 +163,11 @@ impl Saved {
     {
         if self.live && !self.arrivals_flags[link] {
             self.arrivals_flags[link] = true;
-            self.rows.exchange_arrivals(link, arrivals, queue, figures);
+            let before = self.figures[link];
+            self.arrivals.exchange(link, arrivals);
+            self.queue.exchange(link, queue);
+            self.figures[link] = *figures;
+            *figures = before;
         }
     }
 
@@ -152,7 +181,7 @@ impl Saved {
     {
         if self.live && !self.go_flags[link] {
             self.go_flags[link] = true;
-            self.rows.exchange_go(link, go);
+            self.go.exchange(link, go);
         }
     }
 
@@ -178,7 +207,6 @@ impl Saved {
     }
 
     /// The departures at a place are given back, if they are saved.
-    #[tactic(auto, using(crate::proofs::KeptLaws::same_size))]
     fn give_out(&mut self, place: usize, rows: &mut Rows)
         requires fits { FitsRows rows.old self.old }
         requires place { place < length self.old.out_flags }
@@ -186,7 +214,7 @@ impl Saved {
         ensures flags { self.new.out_flags ≡ slice_set self.old.out_flags place false }
     {
         if self.out_flags[place] {
-            self.rows.give_out(place, rows);
+            rows.outs.take_narrow(place, &self.outs);
             self.out_flags[place] = false;
         }
     }
@@ -207,7 +235,6 @@ impl Saved {
 
     /// A link's arrivals at the last sweep, its queue and its figures are given back, if they are saved; the two change
     /// places.
-    #[tactic(auto, using(crate::proofs::KeptLaws::same_size))]
     fn give_arrivals(&mut self, link: usize, rows: &mut Rows)
         requires fits { FitsRows rows.old self.old }
         requires link { link < length self.old.arrivals_flags }
@@ -216,13 +243,16 @@ impl Saved {
         ensures rest { self.new ≡ record self.old { arrivals_flags = self.new.arrivals_flags; rows = self.new.rows } }
     {
         if self.arrivals_flags[link] {
-            self.rows.give_arrivals(link, rows);
+            let figures = rows.figures(link);
+            rows.arrivals.exchange_with(link, &mut self.arrivals);
+            rows.queue.exchange_with(link, &mut self.queue);
+            rows.put_figures(link, self.figures[link]);
+            self.figures[link] = figures;
             self.arrivals_flags[link] = false;
         }
     }
 
     /// A link's GO is given back, if it is saved; the two rows change places.
-    #[tactic(auto, using(crate::proofs::KeptLaws::same_size))]
     fn give_go(&mut self, link: usize, rows: &mut Rows)
         requires fits { FitsRows rows.old self.old }
         requires link { link < length self.old.arrivals_flags }
@@ -231,7 +261,7 @@ impl Saved {
         ensures rest { self.new ≡ record self.old { go_flags = self.new.go_flags; rows = self.new.rows } }
     {
         if self.go_flags[link] {
-            self.rows.give_go(link, rows);
+            rows.go.exchange_with(link, &mut self.go);
             self.go_flags[link] = false;
         }
     }

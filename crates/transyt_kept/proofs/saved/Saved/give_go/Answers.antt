@@ -1,6 +1,7 @@
 -- The saved row changes places with that now, and isn't saved then.
 use Rattle.std.proofs.Common.{◌≡◌, ◌<◌, true, false, length, ap, sym, subst, ◌∙◌, arith}
 use Rattle.std.proofs.lemmas.List.{get_or_read}
+use Rattle.transyt_kept.specs.Rows.{RowsValue}
 use Rattle.transyt_kept.specs.Saved.{SavedValue, FitsRows, is_up}
 use Rattle.transyt_kept.proofs.KeptLaws.{given_go}
 use Rattle.transyt_kept.proofs.saved.Saved.give_go.Goals as goal
@@ -8,9 +9,11 @@ use Rattle.transyt_kept.proofs.saved.Saved.give_go.Goals as goal
 pub returns-then-index-clause-back : goal.returns-then-index-clause-back
 returns-then-index-clause-back c =
     let flags = c.self.inside.go_flags.items in
+    let fits = subst (FitsRows _) (sym c.self.view_is)
+    (subst (λ (r : RowsValue). FitsRows r c.args.self.now) (sym c.rows.view_is) c.requires.fits) in
     let inside : c.args.link < length flags =
     omega (arith, c.requires.link, c.requires.fits.links, ap (λ (s : SavedValue). length s.go_flags) c.self.view_is) in
     let up : is_up flags c.args.link ≡ true =
     sym (get_or_read flags c.args.link c.index.result.now inside c.index.ensures false) ∙ c.if-index.true in
-    rw (← c.self.view_is, c.give_go.ensures.here, c.give_go.ensures.there)
-    (given_go c.args.rows.now _ (subst (FitsRows c.args.rows.now) (sym c.self.view_is) c.requires.fits) c.args.link up)
+    rw (c.exchange_with.ensures.here, c.exchange_with.ensures.there, ← c.rows.view_is, ← c.self.view_is)
+    (given_go _ _ fits c.args.link up)

@@ -2,7 +2,7 @@
 use Rattle.std.proofs.Common.{◌≡◌, replicate, rules}
 use Rattle.transyt_kept.specs.Cell.{no_figures}
 use Rattle.transyt_kept.proofs.WrittenLaws.{empty_are}
-use Rattle.transyt_kept.proofs.saved_rows.SavedRows.open.Goals as goal
+use Rattle.transyt_kept.proofs.saved.Saved.open.Goals as goal
 
 pub invariant_of-result : goal.invariant_of-result
 invariant_of-result c =
