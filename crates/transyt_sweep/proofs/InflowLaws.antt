@@ -2,8 +2,8 @@
 use Rattle.std.proofs.Common.{◌≡◌, ℕ, ◌+◌, ◌-◌, ◌*◌, ◌^◌, ◌<◌, ◌≤◌, List, All, length, take, drop, get_or, ap, sym, subst, ◌∙◌, arith}
 use Rattle.std.proofs.lemmas.List.Sums.{fold_more, fold-append}
 use Rattle.std.proofs.Math.Seq.{take-add, take-length}
-use Rattle.std.proofs.lemmas.List.{length-drop, take-append-drop}
-use Rattle.std.proofs.lemmas.List.Elements.{All-replicate}
+use Rattle.std.proofs.lemmas.List.{length-drop, length-take, take-append-drop}
+use Rattle.std.proofs.lemmas.List.Elements.{All-replicate, All-take, All-drop}
 use Rattle.transyt_profile.specs.Profile.{added, folded, uniform}
 use Rattle.transyt_platoon.specs.Platoon.{travel_steps, dispersed}
 use Rattle.transyt_parts.specs.declared.link.Feed.{Feed}
@@ -63,6 +63,18 @@ room_after n all done next turns left few len small = record {
   small = λ j d h. omega (arith, left, few, small j d h);
 }
 
+-- so have they for so many of those that are left from a place on
+pub room_next : (n p m : ℕ) (feeds : List Feed) (turns : List ℕ) → p + m ≤ length feeds → length feeds ≤ 8
+    → length turns ≡ 2 * n → All (λ v. v < (16 - length feeds) * 2 ^ 44 + p * 2 ^ 44) (folded n turns)
+    → HaveRoom n (length (take m (drop p feeds))) turns
+room_next n p m feeds turns within few len small =
+    room_after n (length feeds) p (take m (drop p feeds)) turns
+    (omega (arith, length-take m (drop p feeds), within)) few len small
+
+-- and these are small
+pub small_next : (p m : ℕ) (feeds : List Feed) → All IsSmall feeds → All IsSmall (take m (drop p feeds))
+small_next p m feeds small = All-take IsSmall m (drop p feeds) (All-drop IsSmall p feeds small)
+
 -- two turns that begin with an entry flow have room for eight feeds
 pub started_small : (n value : ℕ) (turns : List ℕ) → value < 2 ^ 30 → folded n turns ≡ uniform n value
     → All (λ v. v < 2 ^ 30) (folded n turns)
@@ -75,6 +87,11 @@ started_room n value count turns few len small started = record {
   len = len;
   small = λ j d h. omega (arith, few, started_small n value turns small started j d h);
 }
+
+-- small values to which the arrivals of eight feeds were added are small enough
+pub grown_small : (count : ℕ) (xs : List ℕ) → count ≤ 8 → All (λ v. v < 2 ^ 30 + count * 2 ^ 44) xs
+    → All (λ v. v < 2 ^ 48) xs
+grown_small count xs few grown j d h = omega (arith, few, grown j d h)
 
 -- the feeds of a link are within their limits, each
 pub feeds_small : (numbers : List ℕ) (feeds : List Feed) → All (IsFeed numbers) feeds → All IsSmall feeds

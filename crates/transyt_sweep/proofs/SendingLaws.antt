@@ -36,8 +36,8 @@ with_served net read come (f ∷ fs) [] served = absurd (omega (arith, served.sa
 with_served net read come (f ∷ fs) (s ∷ ss) served =
     let rest : AreServed net fs ss = record {
       same = omega (arith, served.same);
-      each = λ i below. served.each (suc i) (omega (arith, below));
+      each = λ i d below. served.each (suc i) d (omega (arith, below));
     } in
-    let first : Served net f s = served.each 0 (omega arith) in
+    let first : Served net f s = served.each 0 s (omega arith) in
     ap (λ x. with_carried read (added come x) ss) (carried_served net read f s first.serve)
     ∙ with_served net read (added come (brought net read f)) fs ss rest

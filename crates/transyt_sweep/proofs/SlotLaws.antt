@@ -1,7 +1,7 @@
 -- The slots of a group's factors.
 use Rattle.std.proofs.Common.{ℕ, ◌+◌, ◌<◌, List, ◌++◌, length, set, take, drop, get_or, sym, subst, arith}
 use Rattle.std.specs.List.{All}
-use Rattle.std.proofs.lemmas.List.Elements.{All-append, All-take, All-drop, All-from_get_or}
+use Rattle.std.proofs.lemmas.List.Elements.{All-append, All-take, All-drop}
 use Rattle.std.proofs.lemmas.List.{get_or-set_same, get_or-set_other}
 use borrow.Author.Count.{below_more}
 use borrow.Rule.Slice.PartMut.{put_mid}
@@ -9,7 +9,7 @@ use Rattle.transyt_net.specs.Parts.{Network}
 use Rattle.transyt_parts.specs.declared.link.Feed.{Feed}
 use Rattle.transyt_sweep.specs.declared.factors.Factors.{Factors}
 use Rattle.transyt_sweep.specs.Factors.{AreFactors}
-use Rattle.transyt_sweep.specs.Inflow.{no_factors, no_feed, AreServed, AreSendable, Served}
+use Rattle.transyt_sweep.specs.Inflow.{no_feed, AreServed, AreSendable, Served}
 use Rattle.transyt_sweep.specs.declared.inputs.Inputs.{Inputs}
 
 -- slots that are right again leave all right
@@ -24,20 +24,19 @@ are_put n place count kept slots are right =
 -- factors that serve can be sent
 pub sendable : (inputs : Inputs) (feeds : List Feed) (slots : List Factors) → AreServed inputs.net.now feeds slots
     → All (AreSendable inputs) slots
-sendable inputs feeds slots served =
-    All-from_get_or (AreSendable inputs) slots no_factors
-    (λ i below. let one = served.each i (omega (arith, below, served.same)) in record {
-      are = subst (λ k. AreFactors k (get_or slots i no_factors)) (sym inputs.steps) one.are;
+sendable inputs feeds slots served i d below =
+    let one = served.each i d (omega (arith, below, served.same)) in record {
+      are = subst (λ k. AreFactors k (get_or slots i d)) (sym inputs.steps) one.are;
       feeder = omega (arith, one.below, inputs.rows_links);
-    })
+    }
 
 -- one slot more serves its feed
-pub served_more : (net : Network) (feeds : List Feed) (slots : List Factors) (i : ℕ) (x : Factors) → i < length slots
+pub served_more : (net : Network) (feeds : List Feed) (slots : List Factors) (i : ℕ) (x d : Factors) → i < length slots
     → Served net (get_or feeds i no_feed) x
-    → ((k : ℕ) → k < i → Served net (get_or feeds k no_feed) (get_or slots k no_factors))
-    → (k : ℕ) → k < i + 1 → Served net (get_or feeds k no_feed) (get_or (set slots i x) k no_factors)
-served_more net feeds slots i x inside serves so_far =
-    below_more (λ k. Served net (get_or feeds k no_feed) (get_or (set slots i x) k no_factors)) i
+    → ((k : ℕ) → k < i → Served net (get_or feeds k no_feed) (get_or slots k d))
+    → (k : ℕ) → k < i + 1 → Served net (get_or feeds k no_feed) (get_or (set slots i x) k d)
+served_more net feeds slots i x d inside serves so_far =
+    below_more (λ k. Served net (get_or feeds k no_feed) (get_or (set slots i x) k d)) i
     (λ k below. subst (Served net (get_or feeds k no_feed))
-    (sym (get_or-set_other slots i k x no_factors (λ same. omega (arith, same, below)))) (so_far k below))
-    (subst (Served net (get_or feeds i no_feed)) (sym (get_or-set_same slots i x no_factors inside)) serves)
+    (sym (get_or-set_other slots i k x d (λ same. omega (arith, same, below)))) (so_far k below))
+    (subst (Served net (get_or feeds i no_feed)) (sym (get_or-set_same slots i x d inside)) serves)

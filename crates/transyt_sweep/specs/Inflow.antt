@@ -1,5 +1,5 @@
 -- A link's feeds, worked out side by side. No public clause cites it.
-use Rattle.std.specs.Prelude.{◌≡◌, ℕ, ◌-◌, ◌*◌, ◌^◌, ◌<◌, ◌≤◌, List, All, fold, length, slice_index_or, false}
+use Rattle.std.specs.Prelude.{◌≡◌, ℕ, ◌-◌, ◌*◌, ◌^◌, ◌<◌, ◌≤◌, List, All, fold, length, slice_index_or}
 use Rattle.transyt_profile.specs.Profile.{added, folded}
 use Rattle.transyt_platoon.specs.Platoon.{dispersed}
 use Rattle.transyt_parts.specs.declared.link.Feed.{Feed}
@@ -32,25 +32,6 @@ with_feeds net read come feeds = fold (λ come f. added come (brought net read f
 abbrev pub no_feed : Feed
 no_feed = record { feeder = 0; flow = 0; cruise = 0 }
 
--- the factors that stand for none
-abbrev pub no_factors : Factors
-no_factors = record {
-  feeder = 0;
-  cruise = 0;
-  cycle = 0;
-  part = record { part = 0; whole = 0; reciprocal = 0; factor = 0; quick = false };
-  travel = record {
-    time = 0;
-    percent = 0;
-    weight = 0;
-    limit = 0;
-    reciprocal = 0;
-    starting_factor = 0;
-    before_factor = 0;
-    place = 0;
-  };
-}
-
 -- the factors are right, a feed's, and name a link's place
 pub record Served (net : Network) (feed : Feed) (f : Factors) : Type 0 where
   pub are : AreFactors net.frame.step_count f
@@ -60,7 +41,8 @@ pub record Served (net : Network) (feed : Feed) (f : Factors) : Type 0 where
 -- each slot has the factors of the feed at its place
 pub record AreServed (net : Network) (feeds : List Feed) (slots : List Factors) : Type 0 where
   pub same : length slots ≡ length feeds
-  pub each : (i : ℕ) → i < length feeds → Served net (slice_index_or feeds i no_feed) (slice_index_or slots i no_factors)
+  pub each : (i : ℕ) (none : Factors) → i < length feeds
+      → Served net (slice_index_or feeds i no_feed) (slice_index_or slots i none)
 
 -- the factors are right for the cell's steps, and name a link of its rows
 pub record AreSendable (inputs : Inputs) (f : Factors) : Type 0 where

@@ -2,6 +2,7 @@
 
 ghost use Rattle.std.specs.Prelude.{◌≡◌, ◌+◌, ◌-◌, ◌*◌, ◌^◌, ◌<◌, ◌≤◌, ℕ, length, All, IsTrue};
 ghost use Rattle.transyt_parts.specs.declared.link.Feed.{Feed};
+ghost use Rattle.transyt_net.specs.Parts.{link_of};
 ghost use Rattle.transyt_profile.specs.Profile.{added, folded};
 ghost use Rattle.transyt_sweep.specs.Cell.{brought, inflow};
 ghost use Rattle.transyt_sweep.specs.Factors.{AreFactors};
@@ -186,6 +187,17 @@ fn own_place(inputs: &Inputs<'_>, places: usize) -> usize
     places.min(8 * inputs.link)
 }
 
+/// The feeds of a link.
+fn feeds_of(net: &Net, link: usize) -> &[Feed]
+    requires { link < length net.now.links }
+    ensures value { result.now ≡ (link_of net.now link).feeds }
+    ensures small { All IsSmall result.now }
+    ensures few { length result.now ≤ 8 }
+{
+    let at = net.link(link);
+    at.feeds.as_slice()
+}
+
 /// Fills `arrivals` with the arrivals of a link before any cut, in millionths of a vehicle per step. `room` is room for
 /// the work on four feeds. The factors of the feeds that are worked out side by side are kept in `kept`, eight places a
 /// link; where it has too few places for the link's, the others are worked out by themselves.
@@ -202,9 +214,9 @@ pub(crate) fn fill_inflow(
     ensures small { All (λ v. v < 2 ^ 48) arrivals.new }
     ensures kept { All (AreFactors inputs.now.net.now.frame.step_count) kept.new }
 {
-    let at = inputs.net.link(inputs.link);
-    let feeds = at.feeds.as_slice();
+    let feeds = feeds_of(inputs.net, inputs.link);
     let (turns, rest) = room.split_at_mut(2 * inputs.step_count);
+    let at = inputs.net.link(inputs.link);
     let entry = inputs.net.per_step(at.entry);
     start_turns(inputs.step_count, entry, turns);
     let own = own_place(inputs, kept.len());

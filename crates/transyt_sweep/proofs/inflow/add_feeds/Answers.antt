@@ -1,37 +1,25 @@
 -- A group of feeds more, and those that are left.
 use Rattle.std.proofs.Common.{◌≡◌, ℕ, ◌+◌, ◌-◌, ◌*◌, ◌^◌, ◌≤◌, List, length, take, drop, arith, rules, ap}
 use Rattle.std.proofs.lemmas.List.{length-take}
-use Rattle.std.proofs.lemmas.List.Elements.{All-take, All-drop}
 use Rattle.transyt_profile.specs.Profile.{folded}
 use Rattle.transyt_parts.specs.declared.link.Feed.{Feed}
-use Rattle.transyt_sweep.specs.Inflow.{IsSmall, read_by}
-use Rattle.transyt_sweep.proofs.InflowLaws.{all_left, feeds_next, feeds_rest, room_after}
+use Rattle.transyt_sweep.specs.Inflow.{read_by}
+use Rattle.transyt_sweep.proofs.InflowLaws.{all_left, feeds_next, feeds_rest, room_next, small_next}
 use Rattle.transyt_sweep.proofs.SlotLaws.{are_put}
 use Rattle.transyt_sweep.proofs.inflow.add_feeds.Goals as goal
 
 -- a group of small feeds
 pub add_together-requires-clause-feeds : goal.add_together-requires-clause-feeds
 add_together-requires-clause-feeds c =
-    let p : ℕ = c.groups.done in
-    All-take IsSmall (p + c.group-count.result - p) (drop p c.args.feeds.now)
-    (All-drop IsSmall p c.args.feeds.now c.requires.feeds)
+    small_next c.groups.done (c.groups.done + c.group-count.result - c.groups.done) c.args.feeds.now c.requires.feeds
 
 -- a group has room
 pub add_together-requires-clause-turns : goal.add_together-requires-clause-turns
 add_together-requires-clause-turns c =
-    let n : ℕ = c.args.inputs.now.step_count in
-    let all : ℕ = length c.args.feeds.now in
     let p : ℕ = c.groups.done in
-    let k : ℕ = c.group-count.result in
-    let next : List Feed = take (p + k - p) (drop p c.args.feeds.now) in
-    room_after n all p next c.groups.turns
-    (omega (
-      arith,
-      length-take (p + k - p) (drop p c.args.feeds.now),
-      c.group-count.ensures.within,
-      c.groups.invariant.within,
-    ))
-    c.requires.few c.groups.invariant.turns (c.groups.invariant.grows ((16 - all) * 2 ^ 44) c.requires.turns.small)
+    room_next c.args.inputs.now.step_count p (p + c.group-count.result - p) c.args.feeds.now c.groups.turns
+    (omega (arith, c.group-count.ensures.within, c.groups.invariant.within)) c.requires.few c.groups.invariant.turns
+    (c.groups.invariant.grows ((16 - length c.args.feeds.now) * 2 ^ 44) c.requires.turns.small)
 
 -- a group more
 pub groups-preserved : goal.groups-preserved
@@ -62,19 +50,14 @@ groups-preserved c =
 -- those that are left are small, few, and have room
 pub add_each-requires-clause-feeds : goal.add_each-requires-clause-feeds
 add_each-requires-clause-feeds c =
-    let p : ℕ = c.groups.done in
-    All-take IsSmall (length c.args.feeds.now - p) (drop p c.args.feeds.now)
-    (All-drop IsSmall p c.args.feeds.now c.requires.feeds)
+    small_next c.groups.done (length c.args.feeds.now - c.groups.done) c.args.feeds.now c.requires.feeds
 
 pub add_each-requires-clause-turns : goal.add_each-requires-clause-turns
 add_each-requires-clause-turns c =
-    let n : ℕ = c.args.inputs.now.step_count in
-    let all : ℕ = length c.args.feeds.now in
     let p : ℕ = c.groups.done in
-    let rest : List Feed = take (all - p) (drop p c.args.feeds.now) in
-    room_after n all p rest c.groups.turns
-    (omega (arith, length-take (all - p) (drop p c.args.feeds.now), c.groups.invariant.within))
-    c.requires.few c.groups.invariant.turns (c.groups.invariant.grows ((16 - all) * 2 ^ 44) c.requires.turns.small)
+    room_next c.args.inputs.now.step_count p (length c.args.feeds.now - p) c.args.feeds.now c.groups.turns
+    (omega (arith, c.groups.invariant.within)) c.requires.few c.groups.invariant.turns
+    (c.groups.invariant.grows ((16 - length c.args.feeds.now) * 2 ^ 44) c.requires.turns.small)
 
 -- the arrivals of all
 pub returns-clause-value : goal.returns-clause-value

@@ -1,34 +1,17 @@
 -- The entry flow, the arrivals of the feeds, and both turns folded to one.
-use Rattle.std.proofs.Common.{◌≡◌, ℕ, ◌-◌, ◌^◌, ◌<◌, ◌≤◌, List, All, length, drop, arith, ap, sym, subst, ◌∙◌}
+use Rattle.std.proofs.Common.{◌≡◌, ℕ, ◌-◌, ◌^◌, ◌<◌, List, All, length, drop, arith, ap, sym, subst, ◌∙◌}
 use Rattle.std.proofs.lemmas.List.Elements.{All-take, All-drop}
 use Rattle.transyt_profile.specs.Profile.{folded, uniform}
 use Rattle.transyt_parts.specs.Parts.{LinkValue}
 use Rattle.transyt_net.specs.Parts.{Network, link_of}
 use Rattle.transyt_net.specs.Flow.{perstep}
-use Rattle.transyt_net.specs.Valid.{IsFeed, link_numbers}
 use Rattle.transyt_sweep.specs.Factors.{AreFactors}
 use Rattle.transyt_sweep.specs.Inflow.{read_by, with_feeds}
-use Rattle.transyt_sweep.proofs.InflowLaws.{feeds_small, started_room, started_small}
+use Rattle.transyt_sweep.proofs.InflowLaws.{grown_small, started_room, started_small}
 use Rattle.transyt_sweep.proofs.SlotLaws.{are_put}
 use Rattle.transyt_sweep.proofs.inflow.fill_inflow.Goals as goal
 
--- a link's feeds are small, at most eight, and have room
-pub add_feeds-requires-clause-feeds : goal.add_feeds-requires-clause-feeds
-add_feeds-requires-clause-feeds c =
-    let numbers : List ℕ = link_numbers c.args.inputs.now.net.now.links in
-    feeds_small numbers c.as_slice-feeds.result.now
-    (subst (All (IsFeed numbers)) (sym (c.as_slice-feeds.ensures.value ∙ ap (λ (l : LinkValue). l.feeds) c.at.view_is))
-    c.link-at.ensures.kept.feeds)
-
-pub add_feeds-requires-clause-few : goal.add_feeds-requires-clause-few
-add_feeds-requires-clause-few c =
-    omega (
-      arith,
-      c.link-at.ensures.kept.feed_count,
-      ap length c.as_slice-feeds.ensures.value,
-      ap (λ (l : LinkValue). length l.feeds) c.at.view_is,
-    )
-
+-- the feeds have slots, and room
 pub add_feeds-requires-clause-slots : goal.add_feeds-requires-clause-slots
 add_feeds-requires-clause-slots c =
     let n : ℕ = c.args.inputs.now.net.now.frame.step_count in
@@ -38,54 +21,30 @@ add_feeds-requires-clause-slots c =
 
 pub add_feeds-requires-clause-turns : goal.add_feeds-requires-clause-turns
 add_feeds-requires-clause-turns c =
-    started_room c.args.inputs.now.step_count c.per_step-entry.result (length c.as_slice-feeds.result.now)
-    c.start_turns.new.turns
-    (omega (
-      arith,
-      c.link-at.ensures.kept.feed_count,
-      ap length c.as_slice-feeds.ensures.value,
-      ap (λ (l : LinkValue). length l.feeds) c.at.view_is,
-    ))
-    (omega arith) c.per_step-entry.ensures.small c.start_turns.ensures
+    started_room c.args.inputs.now.step_count c.per_step-entry.result (length c.feeds_of-feeds.result.now)
+    c.start_turns.new.turns c.feeds_of-feeds.ensures.few (omega arith) c.per_step-entry.ensures.small
+    c.start_turns.ensures
 
 -- all values of the two turns, folded, are small
 pub fold_into-requires-clause-fit : goal.fold_into-requires-clause-fit
 fold_into-requires-clause-fit c =
     let n : ℕ = c.args.inputs.now.step_count in
-    let few : length c.as_slice-feeds.result.now ≤ 8 = omega (
-      arith,
-      c.link-at.ensures.kept.feed_count,
-      ap length c.as_slice-feeds.ensures.value,
-      ap (λ (l : LinkValue). length l.feeds) c.at.view_is,
-    ) in
-    subst (λ m. All (λ v. v < 2 ^ 48) (folded m c.add_feeds.new.turns)) (sym c.requires.arrivals_len)
-    (λ j d h. omega (
-      arith,
-      few,
-      c.add_feeds.ensures.grows (2 ^ 30)
-          (started_small n c.per_step-entry.result c.start_turns.new.turns c.per_step-entry.ensures.small
-          c.start_turns.ensures)
-          j d h,
-    ))
+    let turns : List ℕ = c.add_feeds.new.turns in
+    let started = started_small n c.per_step-entry.result c.start_turns.new.turns c.per_step-entry.ensures.small
+    c.start_turns.ensures in
+    subst (λ m. All (λ v. v < 2 ^ 48) (folded m turns)) (sym c.requires.arrivals_len)
+    (grown_small (length c.feeds_of-feeds.result.now) (folded n turns) c.feeds_of-feeds.ensures.few
+    (c.add_feeds.ensures.grows (2 ^ 30) started))
 
 pub returns-clause-small : goal.returns-clause-small
 returns-clause-small c =
     let n : ℕ = c.args.inputs.now.step_count in
-    let few : length c.as_slice-feeds.result.now ≤ 8 = omega (
-      arith,
-      c.link-at.ensures.kept.feed_count,
-      ap length c.as_slice-feeds.ensures.value,
-      ap (λ (l : LinkValue). length l.feeds) c.at.view_is,
-    ) in
-    subst (All (λ v. v < 2 ^ 48)) (sym (c.fold_into.ensures ∙ ap (λ m. folded m c.add_feeds.new.turns) c.requires.arrivals_len))
-    (λ j d h. omega (
-      arith,
-      few,
-      c.add_feeds.ensures.grows (2 ^ 30)
-          (started_small n c.per_step-entry.result c.start_turns.new.turns c.per_step-entry.ensures.small
-          c.start_turns.ensures)
-          j d h,
-    ))
+    let turns : List ℕ = c.add_feeds.new.turns in
+    let started = started_small n c.per_step-entry.result c.start_turns.new.turns c.per_step-entry.ensures.small
+    c.start_turns.ensures in
+    subst (All (λ v. v < 2 ^ 48)) (sym (c.fold_into.ensures ∙ ap (λ m. folded m turns) c.requires.arrivals_len))
+    (grown_small (length c.feeds_of-feeds.result.now) (folded n turns) c.feeds_of-feeds.ensures.few
+    (c.add_feeds.ensures.grows (2 ^ 30) started))
 
 pub returns-clause-kept : goal.returns-clause-kept
 returns-clause-kept c =
@@ -98,17 +57,13 @@ pub returns-clause-value : goal.returns-clause-value
 returns-clause-value c =
     let n : ℕ = c.args.inputs.now.step_count in
     let net : Network = c.args.inputs.now.net.now in
-    let read : ℕ → List ℕ = read_by c.args.inputs.now in
     let link : LinkValue = link_of net c.args.inputs.now.link in
-    let is = c.at.view_is ∙ c.link-at.ensures.value in
-    let feeds : c.as_slice-feeds.result.now ≡ link.feeds =
-    c.as_slice-feeds.ensures.value ∙ ap (λ (l : LinkValue). l.feeds) is in
+    let entry = ap (λ (l : LinkValue). perstep net.frame l.entry) (c.at.view_is ∙ c.link-at.ensures.value) in
     let start : folded n c.start_turns.new.turns ≡ uniform net.frame.step_count (perstep net.frame link.entry) =
     c.start_turns.ensures
-    ∙ ap (uniform n) (c.per_step-entry.ensures.value ∙ ap (λ (l : LinkValue). perstep net.frame l.entry) is)
+    ∙ ap (uniform n) (c.per_step-entry.ensures.value ∙ entry)
     ∙ ap (λ k. uniform k (perstep net.frame link.entry)) c.args.inputs.now.steps in
     c.fold_into.ensures
     ∙ ap (λ m. folded m c.add_feeds.new.turns) c.requires.arrivals_len
     ∙ c.add_feeds.ensures.value
-    ∙ ap (λ t. with_feeds net read t c.as_slice-feeds.result.now) start
-    ∙ ap (with_feeds net read (uniform net.frame.step_count (perstep net.frame link.entry))) feeds
+    ∙ (λ j. with_feeds net (read_by c.args.inputs.now) (start j) (c.feeds_of-feeds.ensures.value j))

@@ -11,6 +11,7 @@ slots-preserved c =
     record {
       are = All-set (AreFactors c.args.net.now.frame.step_count) c.slots.slots c.slots.i c.renew_feed.new.slot served.are
           c.slots.invariant.are;
-      each = served_more c.args.net.now c.args.feeds.now c.slots.slots c.slots.i c.renew_feed.new.slot
-          (omega (arith, c.slots-test.true, c.slots.auto.slots, c.requires.len)) served c.slots.invariant.each;
+      each = λ k d. served_more c.args.net.now c.args.feeds.now c.slots.slots c.slots.i c.renew_feed.new.slot d
+          (omega (arith, c.slots-test.true, c.slots.auto.slots, c.requires.len)) served
+          (λ m. c.slots.invariant.each m d) k;
     }

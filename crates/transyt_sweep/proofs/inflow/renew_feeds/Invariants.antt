@@ -1,11 +1,12 @@
 -- The slots so far have the factors of their feeds, and all are right.
 use Rattle.std.proofs.Common.{ℕ, ◌<◌, get_or, All}
+use Rattle.transyt_sweep.specs.declared.factors.Factors.{Factors}
 use Rattle.transyt_sweep.specs.Factors.{AreFactors}
-use Rattle.transyt_sweep.specs.Inflow.{Served, no_factors, no_feed}
+use Rattle.transyt_sweep.specs.Inflow.{Served, no_feed}
 use Rattle.transyt_sweep.proofs.inflow.renew_feeds.Given as goal
 
 abbrev pub invariant-slots : goal.invariant-slots
 invariant-slots l = record {
   are : All (AreFactors l.net.frame.step_count) l.slots;
-  each : (k : ℕ) → k < l.i → Served l.net (get_or l.feeds k no_feed) (get_or l.slots k no_factors);
+  each : (k : ℕ) (d : Factors) → k < l.i → Served l.net (get_or l.feeds k no_feed) (get_or l.slots k d);
 }
