@@ -1,5 +1,5 @@
 -- A link's feeds are small, and at most eight.
-use Rattle.std.proofs.Common.{◌≤◌, ℕ, List, All, length, arith, ap, sym, subst, ◌∙◌}
+use Rattle.std.proofs.Common.{ℕ, List, All, length, arith, ap, sym, subst, ◌∙◌}
 use Rattle.transyt_parts.specs.Parts.{LinkValue}
 use Rattle.transyt_net.specs.Valid.{IsFeed, link_numbers}
 use Rattle.transyt_sweep.proofs.InflowLaws.{feeds_small}
