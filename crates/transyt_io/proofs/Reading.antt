@@ -1,7 +1,7 @@
 -- The calls of `next`, by what was gathered.
 use Rattle.std.proofs.Common.{◌≡◌, ◌≢◌, ◌<◌, ◌≤◌, ℕ, ◌+◌, ◌++◌, Bool, true, false, List, [], ◌∷◌}
 use Rattle.std.proofs.Common.{map, MatchResult, Option, Result, Some, Ok, Err, length, take, refl, sym, ◌∙◌, ap, subst}
-use Rattle.std.proofs.Common.{arith, append_assoc, length-append}
+use Rattle.std.proofs.Common.{arith, append_assoc, length-append, ◌⊎◌, IfSome}
 use Rattle.std.proofs.lemmas.List.{append-nil, take_at}
 use Rattle.transyt_io.specs.declared.reader.Line.{Line}
 use Rattle.transyt_io.specs.declared.reader.Line.TheVariants.{Text, End}
@@ -9,7 +9,7 @@ use Rattle.transyt_io.specs.declared.reader.ReadStop.{ReadStop}
 use Rattle.transyt_io.specs.declared.reader.ReadStop.TheVariants.{Fault, TooLong}
 use Rattle.transyt_io.specs.Lines.{line_of, lines_by, lines, whole, has_end}
 use Rattle.transyt_io.specs.Model.{Reading}
-use Rattle.transyt_io.specs.Reading.{AnswerSays, HasRead, StopSays, TellsReads, ReadsLine, new_reading}
+use Rattle.transyt_io.specs.Reading.{AnswerSays, HasRead, StopSays, ReadsLine, new_reading}
 use Rattle.transyt_io.specs.Streams.{Takes, IsAtEnd}
 use Rattle.transyt_io.proofs.Lines.{no_whole, open_line}
 
@@ -107,7 +107,8 @@ hand_last old new left left_new got taken given going ended empty count at_end n
 -- a call that took these bytes, of which the last read gave those of `back`
 module _ (old new : Reading) (left left_new : Option (List ℕ)) (last last_new : Option ℕ) (front back : List ℕ)
     (going : old.ended ≡ false) (takes : Takes left left_new (front ++ back))
-    (reads : TellsReads old left last last_new front back) where
+    (reads : ((front ≡ []) × (back ≡ []) × (last_new ≡ last)) ⊎ (IfSome last_new (λ n. n ≡ length back)
+    × ((taken : List ℕ) (given : List (List ℕ)) → HasRead old left taken given → given ≡ whole (taken ++ front)))) where
   -- the call by its meaning for each reader before it
   told : (result : Result Line ReadStop) → ((taken : List ℕ) (given : List (List ℕ)) → HasRead old left taken given
       → MatchResult result (AnswerSays new left_new (taken ++ (front ++ back)) given)
