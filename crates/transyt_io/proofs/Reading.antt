@@ -123,23 +123,22 @@ module _ (old new : Reading) (left left_new : Option (List ℕ)) (last last_new 
       → ((keep : Bool) (ys : List ℕ)
       → lines_by keep ((old.held ++ (front ++ back)) ++ ys) ≡ line ∷ lines_by keep (new.held ++ ys))
       → ReadsLine old new left left_new last last_new (Ok Text)
-  reads_line line goes now count fewer ends = told (Ok Text) (λ taken given has_read. record {
-    line = line;
-    now = now;
-    has_read = hand_on old new left left_new (front ++ back) line taken given going goes count fewer ends has_read;
-  })
+  reads_line line goes now count fewer ends = told (Ok Text) (λ taken given has_read. (
+    line,
+    now,
+    hand_on old new left left_new (front ++ back) line taken given going goes count fewer ends has_read,
+  ))
 
   -- the source ended after a last line
   pub reads_last : new.ended ≡ true → new.held ≡ [] → new.line ≡ Some (line_of (old.held ++ (front ++ back)))
       → new.taken ≡ old.taken + length (front ++ back)
       → IsAtEnd left_new → has_end (old.held ++ (front ++ back)) ≡ false → old.held ++ (front ++ back) ≢ []
       → ReadsLine old new left left_new last last_new (Ok Text)
-  reads_last ended empty now count at_end none some = told (Ok Text) (λ taken given has_read. record {
-    line = line_of (old.held ++ (front ++ back));
-    now = now;
-    has_read = hand_last old new left left_new (front ++ back) taken given
-        going ended empty count at_end none some has_read;
-  })
+  reads_last ended empty now count at_end none some = told (Ok Text) (λ taken given has_read. (
+    line_of (old.held ++ (front ++ back)),
+    now,
+    hand_last old new left left_new (front ++ back) taken given going ended empty count at_end none some has_read,
+  ))
 
   -- the source ended and no line is left
   pub reads_end : IsAtEnd left_new → old.held ++ (front ++ back) ≡ [] → old.taken + length (front ++ back) ≤ 4194304

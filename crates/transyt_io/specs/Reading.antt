@@ -18,16 +18,11 @@ pub record HasRead (reading : Reading) (left : Option (List ℕ)) (taken : List 
   pub at_end : reading.ended ≡ true → IsAtEnd left
   pub few : length given + length reading.held ≤ length taken
 
--- a line was handed out
-pub record HandedOut (reading : Reading) (left : Option (List ℕ)) (taken : List ℕ)
-    (given : List (List ℕ)) : Type 0 where
-  pub line : List ℕ
-  pub now : reading.line ≡ Some line
-  pub has_read : HasRead reading left taken (given ++ line ∷ [])
-
--- the meaning of an answer for all bytes taken and the lines handed out before this call
+-- the meaning of an answer for all bytes taken and the lines handed out before this call: one more was handed out, or
+-- these are all
 abbrev pub AnswerSays : Reading → Option (List ℕ) → List ℕ → List (List ℕ) → Line → Type 0
-AnswerSays reading left taken given Text = HandedOut reading left taken given
+AnswerSays reading left taken given Text =
+    (line : List ℕ) × (reading.line ≡ Some line) × HasRead reading left taken (given ++ line ∷ [])
 AnswerSays reading left taken given End = (given ≡ lines taken) × IsAtEnd left × (length taken ≤ 4194304)
 
 -- the meaning of a stop for them: all whole lines were handed out, at TooLong those of the first 4,194,304 bytes
