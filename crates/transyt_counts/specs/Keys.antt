@@ -5,7 +5,7 @@ use Rattle.transyt_net.specs.declared.edit.Edit.{Edit}
 use Rattle.transyt_net.specs.declared.edit.Edit.TheVariants.{Entry, Part}
 use Rattle.transyt_counts.specs.declared.key.Key.{Key}
 
--- the edit that sets the flow of a key: of what a link takes from a feeder, or of its entry flow where there is none
+-- the edit that sets a key's flow: what a link takes from a feeder, or its entry flow where there is none
 abbrev pub edit_of : Key → ℕ → Edit
 edit_of k flow = option_map_or (λ feeder. Part k.link feeder flow) k.feeder (Entry k.link flow)
 
