@@ -1,6 +1,7 @@
 -- The code of a key hangs on nothing that an edit sets, and a key without one can be set.
 use Rattle.std.proofs.Common.{◌≡◌, ℕ, ◌≤◌, true, not, ◌&&◌, ◌||◌, nat_eq, nat_le, List, [], ◌∷◌, map, Option, Some, None}
 use Rattle.std.proofs.Common.{refl, sym, ◌∙◌, ap, arith, inl, inr}
+use Rattle.std.specs.Option.{option_map_or}
 use Rattle.std.proofs.lemmas.Bool.{cases_Bool, and_parts, not-false}
 use Rattle.std.proofs.lemmas.Bool.Decides.{nat_tests}
 use Rattle.transyt_syntax.specs.declared.code.Code.TheVariants as code
@@ -16,7 +17,7 @@ use Rattle.transyt_net.proofs.ShapeLaws.{same_link_numbers}
 use Rattle.transyt_net.proofs.WriteLaws.{no_fault}
 use Rattle.transyt_counts.specs.declared.key.Key.{Key}
 use Rattle.transyt_counts.specs.Keys.{edit_of}
-use Rattle.transyt_counts.specs.Rows.{key_code, is_known, is_fed_by}
+use Rattle.transyt_counts.specs.Rows.{key_code}
 
 -- a key's code hangs on nothing that an edit sets
 fed_bare : (fs : List Feed) (feeder : ℕ) → is_fed (map bare_feed fs) feeder ≡ is_fed fs feeder
@@ -38,11 +39,13 @@ fed_shape a b link feeder same =
 link_shape : (a b : Network) (link : ℕ) → shape a ≡ shape b → is_link a link ≡ is_link b link
 link_shape a b link same = ap (λ ns. is_among ns link) (same_link_numbers a b same)
 
-known_shape : (a b : Network) (o : Option ℕ) → shape a ≡ shape b → is_known a o ≡ is_known b o
+known_shape : (a b : Network) (o : Option ℕ) → shape a ≡ shape b
+    → option_map_or (is_link a) o true ≡ option_map_or (is_link b) o true
 known_shape a b None same = refl
 known_shape a b (Some f) same = link_shape a b f same
 
-fed_by_shape : (a b : Network) (link : ℕ) (o : Option ℕ) → shape a ≡ shape b → is_fed_by a link o ≡ is_fed_by b link o
+fed_by_shape : (a b : Network) (link : ℕ) (o : Option ℕ) → shape a ≡ shape b
+    → option_map_or (is_fed (feeds_at a.links link)) o true ≡ option_map_or (is_fed (feeds_at b.links link)) o true
 fed_by_shape a b link None same = refl
 fed_by_shape a b link (Some f) same = fed_shape a b link f same
 

@@ -1,8 +1,20 @@
 -- Entries passed one by one.
-use Rattle.std.proofs.Common.{◌≡◌, ℕ, ◌+◌, Bool, true, false, List, [], ◌∷◌, ◌++◌, map, take, drop, Some, slice_get}
+use Rattle.std.proofs.Common.{◌≡◌, ℕ, ◌+◌, Bool, true, false, List, [], ◌∷◌, ◌++◌, map, take, drop, Some, slice_get, nat_lt}
 use Rattle.std.specs.List.{find}
 use Rattle.std.proofs.lemmas.List.{drop_more, map_more}
 use Rattle.std.proofs.lemmas.Option.{slice_get_within, get_or_from_slice_get}
+use Rattle.transyt_net.specs.declared.edit.Edit.{Edit}
+use Rattle.transyt_counts.specs.declared.key.Key.{Key}
+use Rattle.transyt_counts.specs.declared.tally.Totals.{Totals}
+use Rattle.transyt_counts.specs.Keys.{edit_of}
+use Rattle.transyt_counts.specs.Tally.{flow_by}
+
+-- whether the flow of a key's totals is too great, and the edit of them
+abbrev pub is_too_great : Key × Totals → Bool
+is_too_great e = nat_lt 9999 (flow_by e.1)
+
+abbrev pub edit_by : Key × Totals → Edit
+edit_by e = edit_of e.0 (flow_by e.1)
 
 module _ {A : Type 0} (xs : List A) (p : ℕ) (x : A) (at : slice_get xs p ≡ Some x) where
   -- the search goes on behind what fails

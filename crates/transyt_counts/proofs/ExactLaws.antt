@@ -16,10 +16,11 @@ use Rattle.transyt_counts.specs.declared.tally.Totals.{Totals}
 use Rattle.transyt_counts.specs.Keys.{same_key, edit_of}
 use Rattle.transyt_counts.specs.Rows.{key_code}
 use Rattle.transyt_counts.specs.Tally.{keys_of, with_key, totals_of, tally_of, flow_of}
-use Rattle.transyt_counts.specs.Counts.{is_too_great, edit_by, answer_for, answer_of, read_rows, counts_of}
+use Rattle.transyt_counts.specs.Counts.{answer_for, answer_of, read_rows, counts_of}
 use Rattle.transyt_counts.specs.Answer.{CountsValue}
 use Rattle.transyt_counts.specs.Records.{records_of}
 use Rattle.transyt_counts.specs.Exact.{sets, AreExact}
+use Rattle.transyt_counts.proofs.EntryLaws.{is_too_great, edit_by}
 use Rattle.transyt_counts.proofs.RowLaws.{IsGood}
 use Rattle.transyt_counts.proofs.KeyLaws.{keys_differ, key_same, differ_parts, keys_of_differ, any_itself}
 use Rattle.transyt_counts.proofs.TallyLaws.{keys_stay}

@@ -1,7 +1,8 @@
 -- The edits of keys, one after another, set just their flows.
 use Rattle.std.proofs.Common.{◌≡◌, ℕ, ◌≤◌, true, false, nat_eq, List, [], ◌∷◌, map, All, Option, Some, None}
 use Rattle.std.proofs.Common.{refl, sym, ◌∙◌, ap, arith, get_or}
-use Rattle.std.specs.List.{list_any}
+use Rattle.std.specs.List.{list_any, fold}
+use Rattle.std.specs.Option.{option_eq}
 use Rattle.std.proofs.lemmas.Bool.{and_from, and_left, and_right, cond_both}
 use Rattle.std.proofs.lemmas.Bool.Decides.{nat_tests}
 use Rattle.std.proofs.lemmas.List.Elements.{All-head, All-tail, All-weaker}
@@ -17,9 +18,9 @@ use Rattle.transyt_net.proofs.ApplyLaws.{valid_edit}
 use Rattle.transyt_net.proofs.KeptLaws.{shape_kept}
 use Rattle.transyt_net.proofs.PlaceLaws.{eq_swapped}
 use Rattle.transyt_counts.specs.declared.key.Key.{Key}
-use Rattle.transyt_counts.specs.Keys.{same_key, same_feeder, edit_of}
+use Rattle.transyt_counts.specs.Keys.{same_key, edit_of}
 use Rattle.transyt_counts.specs.Rows.{key_code}
-use Rattle.transyt_counts.specs.Exact.{entry_key, part_key, AreAllowed, with_edits, set_flow, set_feed, set_link, set_flows}
+use Rattle.transyt_counts.specs.Exact.{entry_key, part_key, AreAllowed, set_flow, set_feed, set_link, set_flows}
 use Rattle.transyt_counts.proofs.KeyLaws.{key_same}
 use Rattle.transyt_counts.proofs.CodeLaws.{code_shape, edit_allowed}
 use Rattle.transyt_counts.proofs.WrittenLaws.{written_all}
@@ -52,7 +53,7 @@ link_other : (k : Key) (ks : List Key) (flow : Key → ℕ) (l : LinkValue) → 
     → set_link ks flow l ≡ set_link (k ∷ ks) flow l
 link_other k ks flow l other =
     let apart : (o : Option ℕ) → same_key (record { link = l.number; feeder = o }) k ≡ false =
-    λ o. and_left (nat_eq l.number k.link) (same_feeder o k.feeder) (eq_swapped k.link l.number other) in
+    λ o. and_left (nat_eq l.number k.link) (option_eq nat_eq o k.feeder) (eq_swapped k.link l.number other) in
     rw (
       flow_other k ks flow (entry_key l.number) l.entry (apart None),
       feeds_other k ks flow l.number l.feeds (λ f. apart (Some f.feeder)),
@@ -120,7 +121,7 @@ links_none flow (l ∷ ls) = rw (feeds_none flow l.number l.feeds, links_none fl
 pub edits_set : (ks : List Key) (flow : Key → ℕ) (net : Network) → IsValid net
     → All (λ k. (key_code net k ≡ None) × (flow k ≤ 9999)) ks
     → AreAllowed net (map (λ k. edit_of k (flow k)) ks)
-    × (with_edits net (map (λ k. edit_of k (flow k)) ks) ≡ set_flows ks flow net)
+    × (fold with_edit net (map (λ k. edit_of k (flow k)) ks) ≡ set_flows ks flow net)
 edits_set [] flow net valid good = (tt, sym (ap (λ ls. record net { links = ls }) (links_none flow net.links)))
 edits_set (k ∷ ks) flow net valid good =
     let Good : Key → Type 0 = λ j. (key_code net j ≡ None) × (flow j ≤ 9999) in

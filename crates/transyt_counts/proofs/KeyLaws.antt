@@ -3,6 +3,7 @@ use Rattle.std.proofs.Common.{◌≡◌, ℕ, Bool, true, false, cond, not, ◌&
 use Rattle.std.proofs.Common.{inl, inr, if◌then◌else◌}
 use Rattle.std.specs.List.{list_any, fold}
 use Rattle.std.specs.Map.{lookup}
+use Rattle.std.specs.Option.{option_eq}
 use Rattle.std.proofs.lemmas.Bool.{cases_Bool, not-true, and_parts, and_from, or_parts, or_from, or_left, or_right, cond_both, false_from_ne_true, eqb-true}
 use Rattle.std.proofs.lemmas.Bool.Decides.{nat_tests}
 use Rattle.std.proofs.lemmas.List.Folds.{list_any-append}
@@ -10,30 +11,30 @@ use Rattle.indexmap.specs.IndexMap.{insert_entry}
 use Rattle.transyt_counts.specs.declared.key.Key.{Key}
 use Rattle.transyt_counts.specs.declared.row.Count.{Count}
 use Rattle.transyt_counts.specs.declared.tally.Totals.{Totals}
-use Rattle.transyt_counts.specs.Keys.{same_key, same_feeder}
+use Rattle.transyt_counts.specs.Keys.{same_key}
 use Rattle.transyt_counts.specs.Tally.{with_key, keys_of}
 
 -- the same feeder, or none
-feeder_same : (a b : Option ℕ) → same_feeder a b ≡ true → a ≡ b
+feeder_same : (a b : Option ℕ) → option_eq nat_eq a b ≡ true → a ≡ b
 feeder_same None None h = refl
 feeder_same (Some f) (Some g) h = ap (λ n. Some n) (grind (arith, nat_tests, h))
 feeder_same a b h = absurd (cc)
 
-feeder_self : (a : Option ℕ) → same_feeder a a ≡ true
+feeder_self : (a : Option ℕ) → option_eq nat_eq a a ≡ true
 feeder_self None = refl
 feeder_self (Some f) = grind (arith, nat_tests)
 
 -- keys that pass the test are equal
 pub key_same : (a b : Key) → same_key a b ≡ true → a ≡ b
 key_same a b h =
-    let both = and_parts (nat_eq a.link b.link) (same_feeder a.feeder b.feeder) h in
+    let both = and_parts (nat_eq a.link b.link) (option_eq nat_eq a.feeder b.feeder) h in
     let links : a.link ≡ b.link = eqb-true _ _ both.0 in
     let made : ℕ → Option ℕ → Key = λ (l : ℕ) (f : Option ℕ). record { link = l; feeder = f } in
     ap (λ l. made l a.feeder) links ∙ ap (made b.link) (feeder_same a.feeder b.feeder both.1)
 
 -- a key passes its own test
 pub key_self : (a : Key) → same_key a a ≡ true
-key_self a = and_from (nat_eq a.link a.link) (same_feeder a.feeder a.feeder) (grind (arith, nat_tests)) (feeder_self a.feeder)
+key_self a = and_from (nat_eq a.link a.link) (option_eq nat_eq a.feeder a.feeder) (grind (arith, nat_tests)) (feeder_self a.feeder)
 
 -- the test goes both ways
 pub key_swapped : (a b : Key) → same_key a b ≡ false → same_key b a ≡ false

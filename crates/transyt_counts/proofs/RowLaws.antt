@@ -10,7 +10,8 @@ use Rattle.transyt_parts.specs.Valid.{within}
 use Rattle.transyt_net.specs.Parts.{Network}
 use Rattle.transyt_net.proofs.WriteLaws.{no_fault, in_range}
 use Rattle.transyt_counts.specs.declared.row.Count.{Count}
-use Rattle.transyt_counts.specs.Rows.{count_of, count_code, key_code, unless, judged, read_row}
+use Rattle.transyt_syntax.specs.Syntax.{unless}
+use Rattle.transyt_counts.specs.Rows.{count_of, count_code, key_code, judged, read_row}
 
 -- where one of the first four fields is wanting a row hasn't four
 pub no_field : (net : Network) (row k : ℕ) (fs : List (List ℕ)) → k < 4 → field_at fs k ≡ None → read_row net row fs ≡ Err code.WrongCount

@@ -12,18 +12,22 @@ use Rattle.transyt_counts.specs.declared.key.Key.{Key}
 use Rattle.transyt_counts.specs.declared.row.Count.{Count}
 use Rattle.transyt_counts.specs.declared.tally.Totals.{Totals}
 use Rattle.transyt_counts.specs.Keys.{same_key}
-use Rattle.transyt_counts.specs.Tally.{is_of, rows_of, keys_of, with_key, more_totals, totals_in, totals_of, tally_of}
+use Rattle.transyt_counts.specs.Tally.{keys_of, with_key, more_totals, totals_in, totals_of, tally_of}
 use Rattle.transyt_net.specs.Parts.{Network}
 use Rattle.transyt_counts.proofs.RowLaws.{IsGood}
 use Rattle.transyt_counts.proofs.KeyLaws.{key_same, key_self, key_swapped, keys_of_differ, insert_over, lookup_over, any_with, any_itself}
 
--- the rows of a key, with one of that key more
+-- the rows of a key
+abbrev rows_of : List Count → Key → List Count
+rows_of counts k = filter (λ c. same_key k c.key) counts
+
+-- and with one of that key more
 rows_more : (cs : List Count) (c : Count) (k : Key) → same_key k c.key ≡ true → rows_of (cs ++ c ∷ []) k ≡ rows_of cs k ++ c ∷ []
-rows_more cs c k same = rw (filter-append (is_of k) cs (c ∷ []), same)
+rows_more cs c k same = rw (filter-append (λ c. same_key k c.key) cs (c ∷ []), same)
 
 -- and with one of another
 rows_other : (cs : List Count) (c : Count) (k : Key) → same_key k c.key ≡ false → rows_of (cs ++ c ∷ []) k ≡ rows_of cs k
-rows_other cs c k other = rw (filter-append (is_of k) cs (c ∷ []), other, append-nil (rows_of cs k))
+rows_other cs c k other = rw (filter-append (λ c. same_key k c.key) cs (c ∷ []), other, append-nil (rows_of cs k))
 
 -- the totals of a row more
 totals_push : (rows : List Count) (c : Count) → totals_in (rows ++ c ∷ []) ≡ more_totals c (Some (totals_in rows))
@@ -41,7 +45,7 @@ keys_stay [] ks k there = there
 keys_stay (c ∷ cs) ks k there = keys_stay cs (with_key ks c.key) k (any_with ks c.key k there)
 
 none_there : (cs : List Count) (ks : List Key) (k : Key)
-    → list_any (same_key k) (fold (λ keys c. with_key keys c.key) ks cs) ≡ false → filter (is_of k) cs ≡ []
+    → list_any (same_key k) (fold (λ keys c. with_key keys c.key) ks cs) ≡ false → filter (λ c. same_key k c.key) cs ≡ []
 none_there [] ks k none = refl
 none_there (c ∷ cs) ks k none =
     elim (cases_Bool (same_key k c.key)) [

@@ -1,10 +1,9 @@
 -- The answer to a table of counts on a network.
-use Rattle.std.specs.Prelude.{ℕ, ◌+◌, ◌≡◌, Bool, nat_lt, List, [], ◌∷◌, map, length, Option, Some, None, Result, Ok, Err}
+use Rattle.std.specs.Prelude.{ℕ, ◌+◌, ◌≡◌, nat_lt, List, [], ◌∷◌, map, length, Option, Some, None, Result, Ok, Err}
 use Rattle.std.specs.List.{find}
 use Rattle.transyt_syntax.specs.declared.code.Code.{Code}
 use Rattle.transyt_syntax.specs.declared.code.Code.TheVariants as code
 use Rattle.transyt_net.specs.Parts.{Network}
-use Rattle.transyt_net.specs.declared.edit.Edit.{Edit}
 use Rattle.transyt_counts.specs.declared.key.Key.{Key}
 use Rattle.transyt_counts.specs.declared.row.Count.{Count}
 use Rattle.transyt_counts.specs.declared.tally.Totals.{Totals}
@@ -27,22 +26,14 @@ abbrev pub read_rows : Network → ℕ → List (List (List ℕ)) → Result (Li
 read_rows net row [] = Ok []
 read_rows net row (r ∷ rs) = with_row row (read_row net row r) (read_rows net (row + 1) rs)
 
--- whether the flow of a key's totals is too great
-abbrev pub is_too_great : (Key × Totals) → Bool
-is_too_great e = nat_lt 9999 (flow_by e.1)
-
--- the edit of a key's totals
-abbrev pub edit_by : (Key × Totals) → Edit
-edit_by e = edit_of e.0 (flow_by e.1)
-
--- the answer for so many rows and these totals, of which this is the first key whose flow is too great
+-- the answer for so many rows and these totals, of which this is the first key whose flow is above 9,999
 abbrev pub answer_for : ℕ → List (Key × Totals) → Option (Key × Totals) → Result CountsValue CountStop
 answer_for rows tally (Some e) = Err (stop.Refused e.1.last code.CountedFlow)
-answer_for rows tally None = Ok (record { rows = rows; edits = map edit_by tally })
+answer_for rows tally None = Ok (record { rows = rows; edits = map (λ e. edit_of e.0 (flow_by e.1)) tally })
 
 -- the answer for so many rows and these totals
 abbrev pub tally_answer : ℕ → List (Key × Totals) → Result CountsValue CountStop
-tally_answer rows tally = answer_for rows tally (find is_too_great tally)
+tally_answer rows tally = answer_for rows tally (find (λ e. nat_lt 9999 (flow_by e.1)) tally)
 
 -- the answer for rows that were read
 abbrev pub answer_of : Result (List Count) CountStop → Result CountsValue CountStop

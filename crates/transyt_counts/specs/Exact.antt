@@ -1,6 +1,6 @@
 -- The network after the edits of a table: each row counts in one edit, each edit is allowed after those before
 -- it, and after them all each key's flow is its counted one and all else is as before.
-use Rattle.std.specs.Prelude.{ℕ, ◌≡◌, Bool, false, List, [], ◌∷◌, map, All, count_by, Some, None, if◌then◌else◌}
+use Rattle.std.specs.Prelude.{ℕ, ◌≡◌, Bool, false, List, [], ◌∷◌, map, fold, All, count_by, Some, None, if◌then◌else◌}
 use Rattle.std.specs.List.{list_any}
 use Rattle.transyt_parts.specs.declared.link.Feed.{Feed}
 use Rattle.transyt_parts.specs.Parts.{LinkValue}
@@ -32,11 +32,6 @@ abbrev pub AreAllowed : Network → List Edit → Type 0
 AreAllowed net [] = Unit {0}
 AreAllowed net (e ∷ es) = (edit_fault net e ≡ None) × AreAllowed (with_edit net e) es
 
--- the network after these edits, one after another
-abbrev pub with_edits : Network → List Edit → Network
-with_edits net [] = net
-with_edits net (e ∷ es) = with_edits (with_edit net e) es
-
 -- a flow where it is that of one of these keys, else as it was
 abbrev pub set_flow : List Key → (Key → ℕ) → Key → ℕ → ℕ
 set_flow keys flow k before = if list_any (same_key k) keys then flow k else before
@@ -60,4 +55,4 @@ set_flows keys flow net = record net { links = map (set_link keys flow) net.link
 pub record AreExact (net : Network) (counts : List Count) (edits : List Edit) : Type 0 where
   pub once : All (λ c. count_by (sets c.key) edits ≡ 1) counts
   pub allowed : AreAllowed net edits
-  pub after : with_edits net edits ≡ set_flows (keys_of counts) (flow_of counts) net
+  pub after : fold with_edit net edits ≡ set_flows (keys_of counts) (flow_of counts) net

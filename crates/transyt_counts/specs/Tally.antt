@@ -1,18 +1,10 @@
 -- The sums of the rows, key by key.
-use Rattle.std.specs.Prelude.{ℕ, ◌+◌, ◌*◌, ◌/◌, ◌<◌, ◌^◌, Bool, List, [], ◌∷◌, ◌++◌, map, sum_by, Option, Some, None, if◌then◌else◌}
-use Rattle.std.specs.List.{filter, fold, list_any}
+use Rattle.std.specs.Prelude.{ℕ, ◌+◌, ◌*◌, ◌/◌, ◌<◌, ◌^◌, List, [], ◌∷◌, ◌++◌, map, Option, Some, None, if◌then◌else◌}
+use Rattle.std.specs.List.{filter, fold, list_any, sum_by}
 use Rattle.transyt_counts.specs.declared.key.Key.{Key}
 use Rattle.transyt_counts.specs.declared.row.Count.{Count}
 use Rattle.transyt_counts.specs.declared.tally.Totals.{Totals}
 use Rattle.transyt_counts.specs.Keys.{same_key}
-
--- whether a row is of a key
-abbrev pub is_of : Key → Count → Bool
-is_of k c = same_key k c.key
-
--- the rows of a key
-abbrev pub rows_of : List Count → Key → List Count
-rows_of counts k = filter (is_of k) counts
 
 -- the vehicles of rows, the minutes in which they were counted, and the number of the last of them
 abbrev pub totals_in : List Count → Totals
@@ -22,9 +14,9 @@ totals_in rows = record {
   last = fold (λ last c. c.row) 0 rows;
 }
 
--- the totals of a key
+-- the totals of a key: those of its rows
 abbrev pub totals_of : List Count → Key → Totals
-totals_of counts k = totals_in (rows_of counts k)
+totals_of counts k = totals_in (filter (λ c. same_key k c.key) counts)
 
 -- the flow of totals in vehicles per hour, rounded down
 abbrev pub flow_by : Totals → ℕ

@@ -5,7 +5,7 @@ use Rattle.transyt_parts.specs.Parts.{NodeValue}
 use Rattle.transyt_net.specs.Parts.{Network}
 use Rattle.transyt_equisat.specs.declared.fraction.Fraction.{Fraction}
 use Rattle.transyt_equisat.specs.Fractions.{is_above, nothing, IsSame}
-use Rattle.transyt_equisat.specs.Balance.{is_same, balance_at, greens_at, least_greens, least_green, share_at, need_at, first_green, reaches}
+use Rattle.transyt_equisat.specs.Balance.{is_same, balance_at, greens_at, least_greens, share_at, need_at, first_green, reaches}
 use Rattle.transyt_equisat.proofs.SameLaws.{same_above, same_below}
 
 -- whether numbers are equal, by whether one is above the other
@@ -26,4 +26,4 @@ one_answer net n v w same v_base w_base =
     let equal : (top base : ℕ) → nat_eq (top * v.base) (v.top * base) ≡ nat_eq (top * w.base) (w.top * base) =
     λ top base. equal_by (top * v.base) (v.top * base) ∙ (simp (above, below)) ∙ sym (equal_by (top * w.base) (w.top * base)) in
     let none : nat_eq v.top 0 ≡ nat_eq w.top 0 = zero_by v ∙ ap not (same_below v w nothing same v_base w_base) ∙ sym (zero_by w) in
-    simp (greens_at, least_greens, least_green, share_at, need_at, first_green, reaches, is_same, is_above, above, below, equal, none)
+    simp (greens_at, least_greens, share_at, need_at, first_green, reaches, is_same, is_above, above, below, equal, none)

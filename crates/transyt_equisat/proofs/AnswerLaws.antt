@@ -1,5 +1,5 @@
 -- The answer is put together from the demands of the stages and its greens.
-use Rattle.std.proofs.Common.{◌≡◌, ℕ, ◌+◌, ◌<◌, ◌≤◌, map, length, sum, ◌∙◌, arith}
+use Rattle.std.proofs.Common.{◌≡◌, ℕ, ◌+◌, ◌<◌, ◌≤◌, not, map, length, sum, ◌∙◌, arith}
 use Rattle.std.proofs.lemmas.List.{length-map, length-set, get_or-map}
 use Rattle.std.proofs.lemmas.List.Elements.{All-from_get_or}
 use Rattle.std.proofs.lemmas.List.FromFn.{length-map-range_with_len}
@@ -9,9 +9,10 @@ use Rattle.transyt_parts.specs.Plan.{no_stage}
 use Rattle.transyt_net.specs.Parts.{Network, node_of, no_node}
 use Rattle.transyt_net.specs.Valid.{IsValid}
 use Rattle.transyt_equisat.specs.declared.fraction.Fraction.{Fraction}
+use Rattle.transyt_equisat.specs.Fractions.{is_above}
 use Rattle.transyt_equisat.specs.Demands.{no_demand}
 use Rattle.transyt_equisat.specs.Peaks.{greens_of, lost}
-use Rattle.transyt_equisat.specs.Balance.{least_green, least_greens, greens_at}
+use Rattle.transyt_equisat.specs.Balance.{first_green, least_greens, greens_at}
 use Rattle.transyt_equisat.specs.Asked.{asked_of, IsAsked}
 use Rattle.transyt_equisat.proofs.SettingLaws.{IsSetting, setting_of}
 use Rattle.transyt_equisat.proofs.PeakLaws.{demand_count}
@@ -51,4 +52,4 @@ asked_holds net p valid inside =
 pub greens_count : (net : Network) (n : NodeValue) (v : Fraction) → length (greens_at net n v) ≡ length n.stages
 greens_count net n v =
     length-set (least_greens net n v) 0 _
-    ∙ length-map-range_with_len (least_green net n v) 0 (length n.stages)
+    ∙ length-map-range_with_len (first_green net n (λ d. not (is_above d v))) 0 (length n.stages)

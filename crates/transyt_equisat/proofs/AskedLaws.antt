@@ -13,9 +13,9 @@ use Rattle.transyt_equisat.specs.declared.demand.Demand.{Demand}
 use Rattle.transyt_equisat.specs.Fractions.{is_above}
 use Rattle.transyt_equisat.specs.Degrees.{counts_in, degree}
 use Rattle.transyt_equisat.specs.Demands.{degree_of, no_demand}
-use Rattle.transyt_equisat.specs.Balance.{first_from, first_green, least_green, least_greens, need_at, share_at, no_share}
+use Rattle.transyt_equisat.specs.Balance.{first_from, first_green, least_greens, need_at, share_at, no_share}
 use Rattle.transyt_equisat.specs.Asked.{asked_of}
-use Rattle.transyt_equisat.specs.Sharing.{need_there, green_there, share_there}
+use Rattle.transyt_equisat.specs.Sharing.{need_by, green_there, share_there}
 use Rattle.transyt_equisat.proofs.SettingLaws.{IsSetting}
 use Rattle.transyt_equisat.proofs.DemandLaws.{IsLower, stage_tested, not_above_lower, below_lower}
 use Rattle.transyt_equisat.proofs.SearchLaws.{first_same, first_least}
@@ -56,12 +56,13 @@ module _ (net : Network) (n : NodeValue) (setting : IsSetting net n) (test : Fra
 
 -- the least green of a stage is that of what it asks
 pub green_asked : (net : Network) (n : NodeValue) (v : Fraction) (k : ℕ) → IsSetting net n → k < length n.stages
-    → least_green net n v k ≡ green_there (asked_of net n) v k
+    → first_green net n (λ d. not (is_above d v)) k ≡ green_there (asked_of net n) v k
 green_asked net n v k setting inside = first_asked net n setting (λ d. not (is_above d v)) (not_above_lower v) k inside
 
 -- and so is its need
 need_asked : (net : Network) (n : NodeValue) (v : Fraction) (k : ℕ) → IsSetting net n → k < length n.stages
-    → need_at net n v k ≡ need_there (asked_of net n) v k
+    → need_at net n v k
+    ≡ need_by net.frame.step_count v (stage_of n.stages k).least (get_or (asked_of net n).demands k no_demand)
 need_asked net n v k setting inside =
     elim (cases_Bool (nat_eq v.top 0)) [
       | inl none ↦ rw none
@@ -74,7 +75,7 @@ pub greens_asked : (net : Network) (n : NodeValue) (v : Fraction) → IsSetting 
     → map (green_there (asked_of net n) v) (range_with_len 0 (length n.stages))
     ≡ least_greens net n v
 greens_asked net n v setting =
-    range_same 0 (green_there (asked_of net n) v) (least_green net n v)
+    range_same 0 (green_there (asked_of net n) v) (first_green net n (λ d. not (is_above d v)))
     (length n.stages) (λ k below. sym (green_asked net n v k setting below))
 
 -- and so are their shares

@@ -9,7 +9,7 @@ use Rattle.transyt_net.specs.Parts.{Network}
 use Rattle.transyt_equisat.specs.declared.fraction.Fraction.{Fraction}
 use Rattle.transyt_equisat.specs.Fractions.{is_above, IsSame}
 use Rattle.transyt_equisat.specs.Peaks.{Fits, peak, lost}
-use Rattle.transyt_equisat.specs.Balance.{least_green, least_greens, greens_at}
+use Rattle.transyt_equisat.specs.Balance.{first_green, least_greens, greens_at}
 use Rattle.transyt_equisat.specs.Asked.{asked_of}
 use Rattle.transyt_equisat.specs.Sharing.{degree_at, IsUnder, IsLeastPeak}
 use Rattle.transyt_equisat.proofs.SettingLaws.{IsSetting}
@@ -33,15 +33,15 @@ module _ (net : Network) (n : NodeValue) (v : Fraction) (setting : IsSetting net
       × (not (is_above (degree_at (asked_of net n) (least_greens net n v) k) v) ≡ true)
   least_parts es k fits under inside =
       let steps = net.frame.step_count in
-      let at : get_or (least_greens net n v) k 0 ≡ least_green net n v k =
-      get_or-map-range_with_len (least_green net n v) 0 (length n.stages) k k 0 inside (omega arith) in
+      let at : get_or (least_greens net n v) k 0 ≡ first_green net n (λ d. not (is_above d v)) k =
+      get_or-map-range_with_len (first_green net n (λ d. not (is_above d v))) 0 (length n.stages) k k 0 inside (omega arith) in
       let short = one_shorter steps n.stages es k fits setting.stages.0 setting.least inside in
       rw at (first_parts net n setting (λ d. not (is_above d v)) (not_above_lower v) k (get_or es k 0) inside
       (fits.least k inside) (omega arith) (ap not (under k inside)))
 
   -- a least green for each stage
   least_count : length (least_greens net n v) ≡ length n.stages
-  least_count = length-map-range_with_len (least_green net n v) 0 (length n.stages)
+  least_count = length-map-range_with_len (first_green net n (λ d. not (is_above d v))) 0 (length n.stages)
 
   -- the least greens leave room in the cycle
   pub least_room : sum (least_greens net n v) + lost n.stages ≤ net.frame.step_count

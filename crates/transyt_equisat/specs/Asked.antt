@@ -17,11 +17,8 @@ pub record AskedValue : Type 0 where
 
 -- the demands of a node's stages
 abbrev pub asked_of : Network → NodeValue → AskedValue
-asked_of net n = record {
-  steps = net.frame.step_count;
-  stages = n.stages;
-  demands = demands_of net n.number (length n.stages);
-}
+asked_of net n =
+    record { steps = net.frame.step_count; stages = n.stages; demands = demands_of net n.number (length n.stages) }
 
 -- its invariant: a demand for each stage, and least greens that fit into the cycle
 pub record IsAsked (a : AskedValue) : Type 0 where

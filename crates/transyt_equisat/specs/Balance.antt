@@ -1,6 +1,6 @@
 -- The balance of a node: the plan whose greatest degree of saturation is least. Times are in steps.
-use Rattle.std.specs.Prelude.{ℕ, zero, suc, ◌+◌, ◌-◌, ◌*◌, ◌%◌, Bool, not, ◌&&◌, nat_eq, List, [], ◌∷◌, map, sum, length}
-use Rattle.std.specs.Prelude.{◌≡◌, ◌<◌, slice_index, slice_index_or, slice_set, Option, Some, None, if◌then◌else◌}
+use Rattle.std.specs.Prelude.{ℕ, zero, suc, ◌+◌, ◌-◌, ◌*◌, ◌%◌, Bool, not, ◌&&◌, nat_eq, List, [], ◌∷◌, map, sum}
+use Rattle.std.specs.Prelude.{◌≡◌, ◌<◌, length, slice_index, slice_index_or, slice_set, Option, Some, None, if◌then◌else◌}
 use Rattle.std.specs.List.{list_all, filter, range_with_len, find, fold, flat_map}
 use Rattle.transyt_parts.specs.declared.node.Stage.{Stage}
 use Rattle.transyt_parts.specs.Parts.{NodeValue, LinkValue}
@@ -19,8 +19,7 @@ use Rattle.transyt_equisat.specs.Answer.{GreensValue}
 abbrev pub all_greens : List Stage → ℕ → List (List ℕ)
 all_greens [] zero = [] ∷ []
 all_greens [] (suc left) = []
-all_greens (s ∷ ss) left =
-    flat_map (λ e. map (λ es. e ∷ es) (all_greens ss (left - (e + s.intergreen))))
+all_greens (s ∷ ss) left = flat_map (λ e. map (λ es. e ∷ es) (all_greens ss (left - (e + s.intergreen))))
     (range_with_len s.least (left + 1 - (s.least + s.intergreen)))
 
 -- the least of these, the first where some are equal
@@ -40,20 +39,17 @@ first_from test e (suc n) = if test e then e else first_from test (e + 1) n
 -- the first green of the stage at a place, from its least on, at which the degree of each of its counted links passes
 abbrev pub first_green : Network → NodeValue → (Fraction → Bool) → ℕ → ℕ
 first_green net n test k =
-    first_from (λ e. list_all (λ l. test (degree net.frame.step_count l e)) (filter (counts_in n.number (k + 1)) net.links))
+    first_from
+    (λ e. list_all (λ l. test (degree net.frame.step_count l e)) (filter (counts_in n.number (k + 1)) net.links))
     (stage_of n.stages k).least (net.frame.step_count - (stage_of n.stages k).least)
-
--- the least green of the stage at a place at which none of its counted links is above v
-abbrev pub least_green : Network → NodeValue → Fraction → ℕ → ℕ
-least_green net n v k = first_green net n (λ d. not (is_above d v)) k
 
 -- these greens, with so many steps more for the first
 abbrev pub first_more : ℕ → List ℕ → List ℕ
 first_more left greens = slice_set greens 0 (slice_index greens 0 + left)
 
--- the least greens of the stages
+-- the least greens of the stages at which no counted link is above v
 abbrev pub least_greens : Network → NodeValue → Fraction → List ℕ
-least_greens net n v = map (least_green net n v) (range_with_len 0 (length n.stages))
+least_greens net n v = map (first_green net n (λ d. not (is_above d v))) (range_with_len 0 (length n.stages))
 
 -- the greens of the stages: the least, and what is left of the cycle for the first
 abbrev pub greens_at : Network → NodeValue → Fraction → List ℕ
@@ -121,7 +117,8 @@ no_share = record { change = 0; green = 0; need = 0 }
 -- the stages at the changes of these shares
 abbrev pub timed : List Stage → List Share → List Stage
 timed stages shares =
-    map (λ k. record (stage_of stages k) { change = (slice_index_or shares k no_share).change }) (range_with_len 0 (length stages))
+    map (λ k. record (stage_of stages k) { change = (slice_index_or shares k no_share).change })
+    (range_with_len 0 (length stages))
 
 -- the peak that an answer tells
 abbrev pub peak_told : GreensValue → Fraction

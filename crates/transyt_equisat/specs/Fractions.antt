@@ -1,6 +1,5 @@
 -- Fractions of whole numbers, compared by cross-multiplication. Each has a positive base.
-use Rattle.std.specs.Prelude.{◌*◌, ◌≡◌, ◌≤◌, Bool, nat_lt, List, if◌then◌else◌}
-use Rattle.std.specs.List.{fold}
+use Rattle.std.specs.Prelude.{◌*◌, ◌≡◌, ◌≤◌, Bool, nat_lt, List, if◌then◌else◌, fold}
 use Rattle.transyt_equisat.specs.declared.fraction.Fraction.{Fraction}
 
 -- the fraction 0

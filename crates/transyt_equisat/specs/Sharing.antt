@@ -23,8 +23,7 @@ IsUnder a greens v = (k : ℕ) → k < length a.stages → is_above (degree_at a
 
 -- no greens that fill the cycle do better: they have no fewer steps anywhere, or no lower degrees
 abbrev pub IsBest : AskedValue → List ℕ → Type 0
-IsBest a greens =
-    (w : Fraction) (es : List ℕ) → 0 < w.base → Fits a.steps a.stages es → IsUnder a es w
+IsBest a greens = (w : Fraction) (es : List ℕ) → 0 < w.base → Fits a.steps a.stages es → IsUnder a es w
     → ((k : ℕ) → k < length a.stages → slice_index greens k ≤ slice_index es k) ⊎ IsUnder a greens w
 
 -- the least peak of all greens that fill the cycle
@@ -47,13 +46,10 @@ need_by steps v least d =
 abbrev pub green_there : AskedValue → Fraction → ℕ → ℕ
 green_there a v k = green_by a.steps v (stage_of a.stages k).least (slice_index_or a.demands k no_demand)
 
--- its need
-abbrev pub need_there : AskedValue → Fraction → ℕ → ℕ
-need_there a v k = need_by a.steps v (stage_of a.stages k).least (slice_index_or a.demands k no_demand)
-
 -- its share
 abbrev pub share_there : AskedValue → Fraction → List ℕ → ℕ → Share
-share_there a v greens k = share_of a.steps a.stages greens (need_there a v) k
+share_there a v greens k = share_of a.steps a.stages greens
+    (λ k. need_by a.steps v (stage_of a.stages k).least (slice_index_or a.demands k no_demand)) k
 
 -- the counted links run in one of so many stages
 abbrev pub AreWithin : ℕ → ℕ → List LinkValue → Type 0

@@ -4,7 +4,7 @@ ghost use Rattle.transyt_parts.specs.Made.{new_stage};
 ghost use Rattle.transyt_net.specs.Parts.{node_of};
 ghost use Rattle.transyt_equisat.specs.Fractions.{is_above, AtMost, IsSame};
 ghost use Rattle.transyt_equisat.specs.Peaks.{IsPlanOf, greens_of};
-ghost use Rattle.transyt_equisat.specs.Balance.{all_greens, balance, least_green, need_at, timed, IsBalanced};
+ghost use Rattle.transyt_equisat.specs.Balance.{all_greens, balance, least_greens, need_at, timed, IsBalanced};
 ghost use Rattle.transyt_equisat.specs.WorkedBalances.{balance_of_21, balance_of_7, balance_without_traffic};
 ghost use Rattle.transyt_equisat.specs.WorkedBalances.{empty_town, quiet_town, greens_in_ten, share, two_stages, worked_town};
 ghost use Rattle.transyt_equisat.specs.WorkedBalances.{equal_town, four_at_peak, nine_at_peak, balance_by_four, balance_by_nine};
@@ -36,8 +36,7 @@ pub fn worked_peaks()
     ensures planned { IsPlanOf 18 (stages_of_21 2 8 15) (stages_of_21 2 10 16) }
     ensures unplanned { All (λ plan. IsPlanOf 18 (stages_of_21 2 8 15) plan → ⊥) unplanned }
     ensures greens { greens_of 18 (stages_of_7 5 16) ≡ 8 ∷ 6 ∷ [] }
-    ensures least { map (least_green worked_town (node_of worked_town 0) (fraction 1 999)) (0 ∷ 1 ∷ 2 ∷ [])
-        ≡ 18 ∷ 4 ∷ 18 ∷ [] }
+    ensures least { least_greens worked_town (node_of worked_town 0) (fraction 1 999) ≡ 18 ∷ 4 ∷ 18 ∷ [] }
     ensures need { map (need_at worked_town (node_of worked_town 0) (fraction 1 999)) (0 ∷ 1 ∷ 2 ∷ [])
         ≡ 18 ∷ 4 ∷ 18 ∷ [] }
     ensures timed { timed two_stages (share 7 6 9 ∷ []) ≡ new_stage 7 1 2 ∷ new_stage 0 1 2 ∷ [] }

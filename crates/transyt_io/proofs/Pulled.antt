@@ -1,7 +1,7 @@
 -- The find of a call of `next`, from the bytes that it held and those that it read on.
 use Rattle.std.proofs.Common.{◌≡◌, ◌≢◌, ◌<◌, ◌≤◌, ◌⊎◌, inl, inr, ℕ, suc, ◌+◌, ◌-◌, ◌++◌, Bool, true, false, List, []}
 use Rattle.std.proofs.Common.{◌∷◌, Option, None, Some, Result, Ok, Err, nat_lt, length, take, drop, refl, sym, ◌∙◌, ap}
-use Rattle.std.proofs.Common.{subst, arith}
+use Rattle.std.proofs.Common.{subst, arith, IfSome}
 use Rattle.std.proofs.lemmas.List.{append-nil, drop-drop, length-append}
 use Rattle.std.proofs.lemmas.List.Edits.{between_none, length-between}
 use Rattle.std.proofs.lemmas.Slice.{between_is}
@@ -11,11 +11,11 @@ use Rattle.transyt_io.specs.declared.reader.Line.TheVariants.{Text, End}
 use Rattle.transyt_io.specs.declared.reader.ReadStop.TheVariants.{Fault, TooLong}
 use Rattle.transyt_io.specs.declared.reader.Pull.{Pull}
 use Rattle.transyt_io.specs.declared.reader.ReadStop.{ReadStop}
-use Rattle.transyt_io.specs.Lines.{line_of, lines_by, lines, has_end}
+use Rattle.transyt_io.specs.Lines.{line_of, lines_by, lines, whole, has_end}
 use Rattle.transyt_io.specs.Gather.{Gathers, Gathered}
 use Rattle.transyt_io.specs.Model.{Reading}
 use Rattle.transyt_io.specs.Pull.{Pulled, PulledAll, PulledLine}
-use Rattle.transyt_io.specs.Reading.{ReadsLine, TellsReads, most_lines_left}
+use Rattle.transyt_io.specs.Reading.{HasRead, ReadsLine, most_lines_left}
 use Rattle.transyt_io.proofs.Told.{takes_nothing}
 use Rattle.transyt_io.proofs.Lines.{line_of_kept}
 use Rattle.transyt_io.proofs.Reading.{all_given, not_both, some_length, reads_line, reads_last, reads_end, reads_fault}
@@ -139,7 +139,8 @@ module _ (old new : Reading) (line line_new block : List ℕ) (taken taken_new :
     (last last_new : Option ℕ) (b : Begun old line taken) where
   pulled_reads : (result : Result (Option Pull) ReadStop)
       → (p : Pulled line line_new block taken taken_new left left_new last_new result)
-      → TellsReads old left last last_new p.front p.back
+      → ((p.front ≡ []) × (p.back ≡ []) × (last_new ≡ last)) ⊎ (IfSome last_new (λ n. n ≡ length p.back)
+      × ((taken : List ℕ) (given : List (List ℕ)) → HasRead old left taken given → given ≡ whole (taken ++ p.front)))
   pulled_reads result p =
       let none = p.no_end old.held b.first in
       inr (p.last_read, λ taken given has_read. all_given old left p.front taken given b.going none has_read)

@@ -1,7 +1,7 @@
 -- The calls of `next`, by what was gathered.
 use Rattle.std.proofs.Common.{◌≡◌, ◌≢◌, ◌<◌, ◌≤◌, ℕ, ◌+◌, ◌++◌, Bool, true, false, List, [], ◌∷◌}
 use Rattle.std.proofs.Common.{map, MatchResult, Option, Result, Some, Ok, Err, length, take, refl, sym, ◌∙◌, ap, subst}
-use Rattle.std.proofs.Common.{arith, append_assoc, length-append}
+use Rattle.std.proofs.Common.{arith, append_assoc, length-append, ◌⊎◌, IfSome}
 use Rattle.std.proofs.lemmas.List.{append-nil, take_at}
 use Rattle.transyt_io.specs.declared.reader.Line.{Line}
 use Rattle.transyt_io.specs.declared.reader.Line.TheVariants.{Text, End}
@@ -9,7 +9,7 @@ use Rattle.transyt_io.specs.declared.reader.ReadStop.{ReadStop}
 use Rattle.transyt_io.specs.declared.reader.ReadStop.TheVariants.{Fault, TooLong}
 use Rattle.transyt_io.specs.Lines.{line_of, lines_by, lines, whole, has_end}
 use Rattle.transyt_io.specs.Model.{Reading}
-use Rattle.transyt_io.specs.Reading.{AnswerSays, HasRead, StopSays, TellsReads, ReadsLine, new_reading}
+use Rattle.transyt_io.specs.Reading.{AnswerSays, HasRead, StopSays, ReadsLine, new_reading}
 use Rattle.transyt_io.specs.Streams.{Takes, IsAtEnd}
 use Rattle.transyt_io.proofs.Lines.{no_whole, open_line}
 
@@ -107,7 +107,8 @@ hand_last old new left left_new got taken given going ended empty count at_end n
 -- a call that took these bytes, of which the last read gave those of `back`
 module _ (old new : Reading) (left left_new : Option (List ℕ)) (last last_new : Option ℕ) (front back : List ℕ)
     (going : old.ended ≡ false) (takes : Takes left left_new (front ++ back))
-    (reads : TellsReads old left last last_new front back) where
+    (reads : ((front ≡ []) × (back ≡ []) × (last_new ≡ last)) ⊎ (IfSome last_new (λ n. n ≡ length back)
+    × ((taken : List ℕ) (given : List (List ℕ)) → HasRead old left taken given → given ≡ whole (taken ++ front)))) where
   -- the call by its meaning for each reader before it
   told : (result : Result Line ReadStop) → ((taken : List ℕ) (given : List (List ℕ)) → HasRead old left taken given
       → MatchResult result (AnswerSays new left_new (taken ++ (front ++ back)) given)
@@ -122,23 +123,22 @@ module _ (old new : Reading) (left left_new : Option (List ℕ)) (last last_new 
       → ((keep : Bool) (ys : List ℕ)
       → lines_by keep ((old.held ++ (front ++ back)) ++ ys) ≡ line ∷ lines_by keep (new.held ++ ys))
       → ReadsLine old new left left_new last last_new (Ok Text)
-  reads_line line goes now count fewer ends = told (Ok Text) (λ taken given has_read. record {
-    line = line;
-    now = now;
-    has_read = hand_on old new left left_new (front ++ back) line taken given going goes count fewer ends has_read;
-  })
+  reads_line line goes now count fewer ends = told (Ok Text) (λ taken given has_read. (
+    line,
+    now,
+    hand_on old new left left_new (front ++ back) line taken given going goes count fewer ends has_read,
+  ))
 
   -- the source ended after a last line
   pub reads_last : new.ended ≡ true → new.held ≡ [] → new.line ≡ Some (line_of (old.held ++ (front ++ back)))
       → new.taken ≡ old.taken + length (front ++ back)
       → IsAtEnd left_new → has_end (old.held ++ (front ++ back)) ≡ false → old.held ++ (front ++ back) ≢ []
       → ReadsLine old new left left_new last last_new (Ok Text)
-  reads_last ended empty now count at_end none some = told (Ok Text) (λ taken given has_read. record {
-    line = line_of (old.held ++ (front ++ back));
-    now = now;
-    has_read = hand_last old new left left_new (front ++ back) taken given
-        going ended empty count at_end none some has_read;
-  })
+  reads_last ended empty now count at_end none some = told (Ok Text) (λ taken given has_read. (
+    line_of (old.held ++ (front ++ back)),
+    now,
+    hand_last old new left left_new (front ++ back) taken given going ended empty count at_end none some has_read,
+  ))
 
   -- the source ended and no line is left
   pub reads_end : IsAtEnd left_new → old.held ++ (front ++ back) ≡ [] → old.taken + length (front ++ back) ≤ 4194304

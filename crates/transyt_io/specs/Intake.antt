@@ -13,6 +13,4 @@ StopTakes taken TooLong = length taken ≡ 4194305
 pub record TakesAll (bytes : List ℕ) (left left_new : Option (List ℕ)) (result : Result Unit ReadStop) : Type 0 where
   pub taken : List ℕ
   pub takes : Takes left left_new taken
-  pub says : MatchResult result
-      (λ _. (bytes ≡ taken) × IsAtEnd left_new × (length taken ≤ 4194304))
-      (StopTakes taken)
+  pub says : MatchResult result (λ _. (bytes ≡ taken) × IsAtEnd left_new × (length taken ≤ 4194304)) (StopTakes taken)

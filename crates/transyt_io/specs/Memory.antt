@@ -31,8 +31,7 @@ given_count supply room = min (min supply.piece room) (length supply.left)
 
 -- the source after a call that gave n bytes
 abbrev pub supply_after : Supply → ℕ → Supply
-supply_after supply n =
-    record supply { left = drop n supply.left; calls = next_count supply.calls; last = n }
+supply_after supply n = record supply { left = drop n supply.left; calls = next_count supply.calls; last = n }
 
 -- the source after a call that failed
 abbrev pub supply_after_fault : Supply → Supply
@@ -72,11 +71,8 @@ taken_count store size = min (min store.piece size) store.room
 
 -- the sink after a call that took these bytes
 abbrev pub store_after : Store → List ℕ → Store
-store_after store bytes = record store {
-  written = store.written ++ bytes;
-  room = store.room - length bytes;
-  calls = next_count store.calls;
-}
+store_after store bytes =
+    record store { written = store.written ++ bytes; room = store.room - length bytes; calls = next_count store.calls }
 
 -- the sink after a call that failed
 abbrev pub store_after_fault : Store → Store

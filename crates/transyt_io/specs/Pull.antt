@@ -41,8 +41,7 @@ pub record Pulled (line line_new block : List ℕ) (taken taken_new : ℕ) (left
   pub takes : Takes left left_new (front ++ back)
   pub last_read : IfSome last (λ n. n ≡ length back)
   pub no_end : (raw : List ℕ) → Gathers line raw → has_end (raw ++ front) ≡ false
-  pub answer : MatchResult result
-      (λ found. MatchOption found
+  pub answer : MatchResult result (λ found. MatchOption found
       (PulledAll line line_new taken taken_new left_new front back)
       (PulledLine line line_new block taken taken_new front back))
       (PullStops taken front back)

@@ -18,16 +18,11 @@ pub record HasRead (reading : Reading) (left : Option (List ℕ)) (taken : List 
   pub at_end : reading.ended ≡ true → IsAtEnd left
   pub few : length given + length reading.held ≤ length taken
 
--- a line was handed out
-pub record HandedOut (reading : Reading) (left : Option (List ℕ)) (taken : List ℕ)
-    (given : List (List ℕ)) : Type 0 where
-  pub line : List ℕ
-  pub now : reading.line ≡ Some line
-  pub has_read : HasRead reading left taken (given ++ line ∷ [])
-
--- the meaning of an answer for all bytes taken and the lines handed out before this call
+-- the meaning of an answer for all bytes taken and the lines handed out before this call: one more was handed out, or
+-- these are all
 abbrev pub AnswerSays : Reading → Option (List ℕ) → List ℕ → List (List ℕ) → Line → Type 0
-AnswerSays reading left taken given Text = HandedOut reading left taken given
+AnswerSays reading left taken given Text =
+    (line : List ℕ) × (reading.line ≡ Some line) × HasRead reading left taken (given ++ line ∷ [])
 AnswerSays reading left taken given End = (given ≡ lines taken) × IsAtEnd left × (length taken ≤ 4194304)
 
 -- the meaning of a stop for them: all whole lines were handed out, at TooLong those of the first 4,194,304 bytes
@@ -35,24 +30,17 @@ abbrev pub StopSays : List ℕ → List (List ℕ) → ReadStop → Type 0
 StopSays taken given Fault = (given ≡ whole taken) × (length taken ≤ 4194304)
 StopSays taken given TooLong = (length taken ≡ 4194305) × (given ≡ whole (take 4194304 taken))
 
--- no read, and nothing taken; or some, and back came by the last, before which all whole lines were handed out
-abbrev pub TellsReads : Reading → Option (List ℕ) → Option ℕ → Option ℕ → List ℕ → List ℕ → Type 0
-TellsReads old left last last_new front back =
-    ((front ≡ []) × (back ≡ []) × (last_new ≡ last))
-    ⊎ (IfSome last_new (λ n. n ≡ length back) × ((taken : List ℕ) (given : List (List ℕ))
-    → HasRead old left taken given → given ≡ whole (taken ++ front)))
-
--- front was taken, and then back by the last read
+-- The bytes `front` were taken, and then `back` by the last read. With no read nothing was taken; else all whole lines
+-- were handed out before the last one.
 pub record ReadsLine (old new : Reading) (left left_new : Option (List ℕ)) (last last_new : Option ℕ)
     (result : Result Line ReadStop) : Type 0 where
   pub front : List ℕ
   pub back : List ℕ
   pub takes : Takes left left_new (front ++ back)
-  pub reads : TellsReads old left last last_new front back
-  pub says : (taken : List ℕ) (given : List (List ℕ)) → HasRead old left taken given
-      → MatchResult result
-      (AnswerSays new left_new (taken ++ (front ++ back)) given)
-      (StopSays (taken ++ (front ++ back)) given)
+  pub reads : ((front ≡ []) × (back ≡ []) × (last_new ≡ last)) ⊎ (IfSome last_new (λ n. n ≡ length back)
+      × ((taken : List ℕ) (given : List (List ℕ)) → HasRead old left taken given → given ≡ whole (taken ++ front)))
+  pub says : (taken : List ℕ) (given : List (List ℕ)) → HasRead old left taken given → MatchResult result
+      (AnswerSays new left_new (taken ++ (front ++ back)) given) (StopSays (taken ++ (front ++ back)) given)
 
 -- the most lines that may still be handed out: two for each byte that may come, and one for each that is held
 abbrev pub most_lines_left : Reading → ℕ

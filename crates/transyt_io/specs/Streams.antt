@@ -23,8 +23,7 @@ pub record AddsFront (old new : Option (List ℕ)) (bytes : List ℕ) : Type 0 w
 
 -- a read gave the first n bytes of the buffer, none of them only at the end; one that failed took nothing
 abbrev pub Reads : {E : Type 0} → Option (List ℕ) → Option (List ℕ) → Result ℕ E → List ℕ → Type 0
-Reads old new result buf =
-    MatchResult result (λ n. Takes old new (take n buf) × (n ≡ 0 → IsAtEnd new)) (λ _. new ≡ old)
+Reads old new result buf = MatchResult result (λ n. Takes old new (take n buf) × (n ≡ 0 → IsAtEnd new)) (λ _. new ≡ old)
 
 -- the size of the last piece is that of this read, and 0 where it failed
 abbrev pub TellsLast : {E : Type 0} → Option ℕ → Result ℕ E → Type 0

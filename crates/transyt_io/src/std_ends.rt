@@ -20,12 +20,13 @@ pub struct StdSource<R: Read> {
 }
 
 impl<R: Read> Model for StdSource<R> {
-    ghost use Rattle.transyt_io.specs.StdEnds.{StdEnd, told_since, StillTells};
+    ghost use Rattle.std.specs.Option.{option_and};
+    ghost use Rattle.transyt_io.specs.StdEnds.{StdEnd, StillTells};
 
     ghost Value = { StdEnd };
 
     ghost view = { λ s. record {
-      told = told_since (R.remaining s.first.value) (R.remaining s.inner);
+      told = option_and (R.remaining s.first.value) (R.remaining s.inner);
       faults = s.faults;
     } };
 
@@ -95,12 +96,13 @@ pub struct StdSink<W: Write> {
 }
 
 impl<W: Write> Model for StdSink<W> {
-    ghost use Rattle.transyt_io.specs.StdEnds.{StdEnd, told_since, StillTells};
+    ghost use Rattle.std.specs.Option.{option_and};
+    ghost use Rattle.transyt_io.specs.StdEnds.{StdEnd, StillTells};
 
     ghost Value = { StdEnd };
 
     ghost view = { λ s. record {
-      told = told_since (W.contents s.first.value) (W.contents s.inner);
+      told = option_and (W.contents s.first.value) (W.contents s.inner);
       faults = s.faults;
     } };
 

@@ -11,8 +11,8 @@ use Rattle.transyt_parts.specs.Valid.{link_number}
 use Rattle.transyt_net.specs.Parts.{Network}
 use Rattle.transyt_net.specs.Valid.{is_among, link_numbers, feeds_at}
 use Rattle.transyt_net.specs.Faults.{with_feed}
-use Rattle.transyt_make.specs.Made.{number_at, side_at, turning, neighbour, bare_link, made_link, bare_from, with_links}
-use Rattle.transyt_make.specs.Made.{with_feeds, with_three, all_names, fed_before, feeds_from}
+use Rattle.transyt_make.specs.Made.{number_at, side_at, turning, neighbour, bare_link, made_link, with_links}
+use Rattle.transyt_make.specs.Made.{with_feeds, all_names, fed_before, feeds_from}
 use Rattle.transyt_make.proofs.PlaceLaws.{among, not_among, numbered_last}
 use Rattle.transyt_make.proofs.LinkLaws.{numbers_apart}
 use Rattle.transyt_make.proofs.FeedLaws.{three_middle, numbers_after}
@@ -34,6 +34,10 @@ pub link_there : (seed n j side k : ℕ) → 1 ≤ j → j ≤ n → 1 ≤ side 
     → is_among (all_names seed n) k ≡ true
 link_there seed n j side k some most first last is =
     among link_number (bare_link seed n) (4 * n) (4 * (j - 1) + (side - 1)) k (omega arith) (grind (arith, is))
+
+-- the links from a place on, without their feeds
+abbrev bare_from : ℕ → ℕ → ℕ → List LinkValue
+bare_from seed n k = map (bare_link seed n) (range_with_len k (4 * n - k))
 
 -- the link whose feeds come next stands after those that have theirs
 pub links_at : (seed n k : ℕ) → k < 4 * n
@@ -68,7 +72,7 @@ unfed_at seed n k inside =
 -- the network with the feeds of one link more
 pub fed_draft : (seed n k from taken number : ℕ) (d e : Network) (f s t : Feed) → k < 4 * n → d ≡ with_feeds seed n k
     → number ≡ number_at k → neighbour n k ≡ Some from → taken ≡ 6 * n + 4 * fed_before n k
-    → feeds_from seed taken (side_at k) from ≡ f ∷ s ∷ t ∷ [] → e ≡ with_three d number f s t
+    → feeds_from seed taken (side_at k) from ≡ f ∷ s ∷ t ∷ [] → e ≡ with_feed (with_feed (with_feed d number f) number s) number t
     → e ≡ with_feeds seed n (k + 1)
 fed_draft seed n k from taken number d e f s t inside before named beside drawn value more =
     let us = map (made_link seed n) (range_with_len 0 k) in
@@ -91,7 +95,7 @@ unfed_draft seed n k inside alone =
 
 -- three feeds keep the numbers
 pub three_names : (net : Network) (link : ℕ) (a b c : Feed)
-    → link_numbers (with_three net link a b c).links ≡ link_numbers net.links
+    → link_numbers (with_feed (with_feed (with_feed net link a) link b) link c).links ≡ link_numbers net.links
 three_names net link a b c =
     numbers_after (with_feed (with_feed net link a) link b) link c ∙ numbers_after (with_feed net link a) link b
     ∙ numbers_after net link a

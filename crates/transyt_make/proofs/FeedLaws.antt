@@ -12,7 +12,6 @@ use Rattle.transyt_net.specs.Parts.{Network}
 use Rattle.transyt_net.specs.Valid.{is_among, link_numbers, numbered, on_numbered, feeds_at, feeds_in}
 use Rattle.transyt_net.specs.Faults.{feed_fault, with_feed, are_links}
 use Rattle.transyt_net.proofs.PlaceLaws.{keys_kept}
-use Rattle.transyt_make.specs.Made.{with_three}
 use Rattle.transyt_make.proofs.PlaceLaws.{is_itself}
 
 -- a new feed has no fault
@@ -96,7 +95,8 @@ on_middle key g (y ∷ xs) ys x h =
 -- three feeds of a link in the middle
 pub three_middle : (net : Network) (us vs : List LinkValue) (l : LinkValue) (a b c : Feed)
     → is_among (link_numbers us) l.number ≡ false → net.links ≡ us ++ l ∷ vs
-    → with_three net l.number a b c ≡ record net { links = us ++ add_feed c (add_feed b (add_feed a l)) ∷ vs }
+    → with_feed (with_feed (with_feed net l.number a) l.number b) l.number c
+    ≡ record net { links = us ++ add_feed c (add_feed b (add_feed a l)) ∷ vs }
 three_middle net us vs l a b c fresh is =
     rw (
       is,

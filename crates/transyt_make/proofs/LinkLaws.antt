@@ -11,7 +11,7 @@ use Rattle.transyt_net.specs.Valid.{is_among, node_numbers, stages_at, stage_tot
 use Rattle.transyt_net.specs.Faults.{with_link}
 use Rattle.transyt_make.specs.Draws.{DrawsValue}
 use Rattle.transyt_make.specs.Made.{made_node, node_at, number_at, stage_at, bare_link, neighbour, entry_from}
-use Rattle.transyt_make.specs.Made.{made_entry, with_links}
+use Rattle.transyt_make.specs.Made.{with_links}
 use Rattle.transyt_make.proofs.PlaceLaws.{among, numbered_at}
 use Rattle.transyt_make.proofs.NodeLaws.{apart}
 
@@ -31,7 +31,8 @@ two_stages seed n place inside =
     ap stage_total (numbered_at node_number (made_node seed) n (place / 4) apart (omega arith))
 
 -- the network with the next link
-pub one_link : (seed n place entry : ℕ) (d e : Network) → entry ≡ made_entry seed n place → d ≡ with_links seed n place
+pub one_link : (seed n place entry : ℕ) (d e : Network)
+    → entry ≡ entry_from seed (2 * n + place) (is_some (neighbour n place)) → d ≡ with_links seed n place
     → e ≡ with_link d (new_link (number_at place) (node_at place) entry 1800 1 1 0 0 (stage_at place ∷ []))
     → e ≡ with_links seed n (place + 1)
 one_link seed n place entry d e drawn before more =
@@ -40,6 +41,6 @@ one_link seed n place entry d e drawn before more =
 -- the entry flow that was drawn
 pub entry_at : (d : DrawsValue) (seed n place v : ℕ) (fed : Bool) (o : Option ℕ) → d.seed ≡ seed
     → d.taken ≡ 2 * n + place → o ≡ neighbour n place → fed ≡ is_some o → v ≡ entry_from d.seed d.taken fed
-    → v ≡ made_entry seed n place
+    → v ≡ entry_from seed (2 * n + place) (is_some (neighbour n place))
 entry_at d seed n place v fed o same taken from some is =
     rw (is, same, taken, some, from)

@@ -12,7 +12,7 @@ use Rattle.transyt_net.specs.Parts.{Network}
 use Rattle.transyt_net.specs.Valid.{is_among, node_numbers, on_place}
 use Rattle.transyt_net.specs.Faults.{node_fault, with_node, stage_fault, with_stage, last_place}
 use Rattle.transyt_make.specs.Draws.{DrawsValue, draw, further}
-use Rattle.transyt_make.specs.Made.{node_with, plus_node, made_node, with_nodes}
+use Rattle.transyt_make.specs.Made.{node_with, made_node, unplanned}
 
 -- a new node has no fault
 pub node_free : (net : Network) (place offset : ℕ) → net.frame.step_count ≡ 50
@@ -56,6 +56,10 @@ pub stage_added : (net : Network) (done : List NodeValue) (n : NodeValue) (s : S
 stage_added net done n s last =
     rw (last, last_is done n, on_last (add_stage s) done n)
 
+-- the network with one node more
+abbrev plus_node : Network → NodeValue → Network
+plus_node net n = record net { nodes = net.nodes ++ n ∷ [] }
+
 -- a new node and its first stage
 pub first_stage : (d0 d1 d2 : Network) (place offset : ℕ) → d1 ≡ with_node d0 (place + 1) offset
     → d2 ≡ with_stage d1 (new_stage 0 3 4)
@@ -79,8 +83,8 @@ apart i place before = grind (arith, nat_tests)
 
 -- the network with the next node of a seed
 pub one_node : (seed place : ℕ) (d e : Network) (o c : ℕ) → o ≡ draw seed (2 * place) 50
-    → c ≡ draw seed (2 * place + 1) 21 → d ≡ with_nodes seed place → e ≡ plus_node d (node_with place o (15 + c))
-    → e ≡ with_nodes seed (place + 1)
+    → c ≡ draw seed (2 * place + 1) 21 → d ≡ unplanned seed place [] → e ≡ plus_node d (node_with place o (15 + c))
+    → e ≡ unplanned seed (place + 1) []
 one_node seed place d e o c first second before more =
     rw (more, before, first, second, map-range_with_len_more (made_node seed) 0 place place (omega arith))
 

@@ -1,5 +1,5 @@
 -- The plans of the nodes have no fault.
-use Rattle.std.proofs.Common.{◌≡◌, ℕ, suc, zero, ◌+◌, ◌-◌, ◌*◌, ◌<◌, ◌≤◌, ◌==◌, true, [], ◌∷◌}
+use Rattle.std.proofs.Common.{◌≡◌, ℕ, suc, zero, ◌+◌, ◌-◌, ◌*◌, ◌/◌, ◌%◌, ◌<◌, ◌≤◌, ◌==◌, true, [], ◌∷◌}
 use Rattle.std.proofs.Common.{map, refl}
 use Rattle.std.proofs.Common.{arith, nat_le, sum, None}
 use Rattle.std.proofs.lemmas.List.{append-nil}
@@ -10,7 +10,7 @@ use Rattle.transyt_parts.specs.Plan.{plan_fault, first_fault}
 use Rattle.transyt_parts.specs.Made.{new_stage}
 use Rattle.transyt_net.specs.Parts.{Network}
 use Rattle.transyt_net.specs.Faults.{with_plan}
-use Rattle.transyt_make.specs.Draws.{draw, drawn, after_draws}
+use Rattle.transyt_make.specs.Draws.{draw, after_draws}
 use Rattle.transyt_make.specs.Made.{made_node, made_link, made_plan, with_feeds, made}
 
 -- the first stage is as long as the second one's change says, and the second takes the rest
@@ -31,7 +31,7 @@ plan_free c low high =
     rw (one, two, whole, first, second)
 
 -- the second stage of a node begins at a step of 15 to 35
-drawn_low : (x : ℕ) → drawn x 21 ≤ 20
+drawn_low : (x : ℕ) → x / 65536 % 21 ≤ 20
 drawn_low x = grind arith
 
 -- no node has a fault in its plan

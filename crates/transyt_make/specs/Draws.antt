@@ -1,22 +1,14 @@
 -- The draws from a seed.
 use Rattle.std.specs.Prelude.{ℕ, zero, suc, ◌+◌, ◌*◌, ◌/◌, ◌%◌}
 
--- the number after a number
-abbrev pub next : ℕ → ℕ
-next x = (1103515245 * x + 12345) % 2147483648
-
 -- the number after so many draws
 unfoldable pub after_draws : ℕ → ℕ → ℕ
 after_draws seed zero = seed
-after_draws seed (suc k) = next (after_draws seed k)
-
--- the draw below a that a number gives
-abbrev pub drawn : ℕ → ℕ → ℕ
-drawn x a = x / 65536 % a
+after_draws seed (suc k) = (1103515245 * after_draws seed k + 12345) % 2147483648
 
 -- draw number k, from 0, below a
 abbrev pub draw : ℕ → ℕ → ℕ → ℕ
-draw seed k a = drawn (after_draws seed (k + 1)) a
+draw seed k a = after_draws seed (k + 1) / 65536 % a
 
 -- a seed, and how many draws were taken
 pub record DrawsValue : Type 0 where

@@ -2,12 +2,12 @@
 use Rattle.std.specs.Prelude.{ℕ, zero, suc, ◌+◌, ◌-◌, ◌*◌, ◌/◌, ◌%◌, ◌==◌, Bool, ◌&&◌, nat_le, nat_lt, List, []}
 use Rattle.std.specs.Prelude.{◌∷◌, ◌++◌, map, Option, Some, None, is_some, if◌then◌else◌}
 use Rattle.std.specs.List.{range_with_len}
+use Rattle.std.specs.Option.{option_map_or}
 use Rattle.transyt_parts.specs.declared.frame.Frame.{Frame}
 use Rattle.transyt_parts.specs.declared.link.Feed.{Feed}
 use Rattle.transyt_parts.specs.Parts.{NodeValue, LinkValue, PlanValue}
 use Rattle.transyt_parts.specs.Made.{new_stage, new_feed, new_link, new_plan}
 use Rattle.transyt_net.specs.Parts.{Network}
-use Rattle.transyt_net.specs.Faults.{with_feed}
 use Rattle.transyt_net.specs.Valid.{link_numbers}
 use Rattle.transyt_make.specs.Draws.{draw, DrawsValue}
 
@@ -40,15 +40,13 @@ number_at place = 10 * node_at place + side_at place
 abbrev pub stage_at : ℕ → ℕ
 stage_at place = if nat_le (side_at place) 2 then 1 else 2
 
--- the neighbour of node i on a side, among n nodes in rows of eight: the one before, the one after, the one above and
--- the one below
+-- the neighbour of node i among n nodes in rows of eight: on side 1 the one before, 2 after, 3 above, 4 below
 abbrev pub beside : ℕ → ℕ → ℕ → Option ℕ
 beside n i side =
     if side == 1 then (if nat_lt 0 ((i - 1) % 8) then Some (i - 1) else None)
     else if side == 2 then (if nat_lt ((i - 1) % 8) 7 && nat_le (i + 1) n then Some (i + 1) else None)
     else if side == 3 then (if nat_lt 8 i then Some (i - 8) else None)
-    else if nat_le (i + 8) n then Some (i + 8)
-    else None
+    else if nat_le (i + 8) n then Some (i + 8) else None
 
 -- the neighbour from which a link comes, if there is one
 abbrev pub neighbour : ℕ → ℕ → Option ℕ
@@ -58,14 +56,11 @@ neighbour n place = beside n (node_at place) (side_at place)
 abbrev pub entry_from : ℕ → ℕ → Bool → ℕ
 entry_from seed k fed = if fed then draw seed k 41 else 300 + draw seed k 201
 
--- the entry flow of the link at a place: one draw each, after those of the nodes
-abbrev pub made_entry : ℕ → ℕ → ℕ → ℕ
-made_entry seed n place = entry_from seed (2 * n + place) (is_some (neighbour n place))
-
--- a link without its feeds
+-- a link without its feeds: its entry flow takes one draw, after those of the nodes
 abbrev pub bare_link : ℕ → ℕ → ℕ → LinkValue
 bare_link seed n place =
-    new_link (number_at place) (node_at place) (made_entry seed n place) 1800 1 1 0 0 (stage_at place ∷ [])
+    new_link (number_at place) (node_at place) (entry_from seed (2 * n + place) (is_some (neighbour n place)))
+    1800 1 1 0 0 (stage_at place ∷ [])
 
 -- how many links before a place have a neighbour
 abbrev pub fed_before : ℕ → ℕ → ℕ
@@ -83,62 +78,37 @@ feeds_from seed k side j =
     ∷ new_feed (10 * j + turning side) (60 + draw seed (k + 2) 41) (15 + draw seed k 16)
     ∷ new_feed (10 * j + turning side + 1) (60 + draw seed (k + 3) 41) (15 + draw seed k 16) ∷ []
 
--- those of a link that has a neighbour, and none else
-abbrev pub feeds_of : ℕ → ℕ → ℕ → Option ℕ → List Feed
-feeds_of seed k side None = []
-feeds_of seed k side (Some j) = feeds_from seed k side j
-
 -- the link at a place among n nodes: the draws of feeds come after those of the entry flows, four for each neighbour
 abbrev pub made_link : ℕ → ℕ → ℕ → LinkValue
 made_link seed n place = record (bare_link seed n place) {
-  feeds = feeds_of seed (6 * n + 4 * fed_before n place) (side_at place) (neighbour n place);
+  feeds = option_map_or (feeds_from seed (6 * n + 4 * fed_before n place) (side_at place)) (neighbour n place) [];
 }
 
 -- the climb plan
 abbrev pub made_plan : PlanValue
 made_plan = new_plan 2000 (1 ∷ 8 ∷ 20 ∷ [])
 
--- the network of n nodes
-unfoldable pub made : ℕ → ℕ → Network
-made seed n = record {
-  frame = made_frame;
-  nodes = map (made_node seed) (range_with_len 0 n);
-  links = map (made_link seed n) (range_with_len 0 (4 * n));
-  plan = Some made_plan;
-}
-
--- the network with one node more
-abbrev pub plus_node : Network → NodeValue → Network
-plus_node net n = record net { nodes = net.nodes ++ n ∷ [] }
-
--- the network while it is made: so many nodes, and these links
-abbrev pub so_far : ℕ → ℕ → List LinkValue → Network
-so_far seed n links =
+-- n nodes and these links, with no climb plan yet
+abbrev pub unplanned : ℕ → ℕ → List LinkValue → Network
+unplanned seed n links =
     record { frame = made_frame; nodes = map (made_node seed) (range_with_len 0 n); links = links; plan = None }
 
--- so many nodes, and no link yet
-abbrev pub with_nodes : ℕ → ℕ → Network
-with_nodes seed k = so_far seed k []
+-- the network of n nodes
+unfoldable pub made : ℕ → ℕ → Network
+made seed n = record (unplanned seed n (map (made_link seed n) (range_with_len 0 (4 * n)))) { plan = Some made_plan }
 
 -- all nodes, and so many links without their feeds
 abbrev pub with_links : ℕ → ℕ → ℕ → Network
-with_links seed n k = so_far seed n (map (bare_link seed n) (range_with_len 0 k))
+with_links seed n k = unplanned seed n (map (bare_link seed n) (range_with_len 0 k))
 
--- the links from a place on, without their feeds
-abbrev pub bare_from : ℕ → ℕ → ℕ → List LinkValue
-bare_from seed n k = map (bare_link seed n) (range_with_len k (4 * n - k))
-
--- the feeds of so many links too
+-- all links, and the feeds of the first k
 abbrev pub with_feeds : ℕ → ℕ → ℕ → Network
-with_feeds seed n k = so_far seed n (map (made_link seed n) (range_with_len 0 k) ++ bare_from seed n k)
+with_feeds seed n k =
+    unplanned seed n (map (made_link seed n) (range_with_len 0 k) ++ map (bare_link seed n) (range_with_len k (4 * n - k)))
 
 -- a seed and the draws that are taken when the feeds of so many links are made
 abbrev pub draws_by : ℕ → ℕ → ℕ → DrawsValue
 draws_by seed n k = record { seed = seed; taken = 6 * n + 4 * fed_before n k }
-
--- the network with three feeds more of a link
-abbrev pub with_three : Network → ℕ → Feed → Feed → Feed → Network
-with_three net link a b c = with_feed (with_feed (with_feed net link a) link b) link c
 
 -- the numbers of all links
 abbrev pub all_names : ℕ → ℕ → List ℕ

@@ -6,7 +6,7 @@ ghost use Rattle.transyt_net.specs.Valid.{is_among, link_numbers, feeds_at};
 ghost use Rattle.transyt_net.specs.Faults.{with_feed};
 ghost use Rattle.transyt_make.specs.Draws.{further, draw};
 ghost use Rattle.transyt_make.specs.Made.{neighbour, side_at, number_at, turning, feeds_from, with_links};
-ghost use Rattle.transyt_make.specs.Made.{with_feeds, draws_by, fed_before, with_three, all_names};
+ghost use Rattle.transyt_make.specs.Made.{with_feeds, draws_by, fed_before, all_names};
 
 use crate::draws::Draws;
 use crate::granted::grant_feed;
@@ -87,7 +87,8 @@ fn put_three(
     requires third_range { feed_in_range third ≡ true }
     requires apart { (nat_eq second.feeder first.feeder ≡ false) × (nat_eq third.feeder first.feeder ≡ false)
         × (nat_eq third.feeder second.feeder ≡ false) }
-    ensures { OnOk result (draft.new ≡ with_three draft.old link first second third) }
+    ensures { OnOk result (draft.new
+        ≡ with_feed (with_feed (with_feed draft.old link first) link second) link third) }
 {
     grant_feed(draft, link, first.feeder, first.flow, first.cruise)?;
     grant_feed(draft, link, second.feeder, second.flow, second.cruise)?;

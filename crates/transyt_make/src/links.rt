@@ -6,7 +6,7 @@ ghost use Rattle.transyt_net.specs.Valid.{is_among, node_numbers, link_numbers, 
 ghost use Rattle.transyt_net.specs.Faults.{with_link};
 ghost use Rattle.transyt_make.specs.Draws.{further, draw};
 ghost use Rattle.transyt_make.specs.Made.{beside, neighbour, node_at, side_at, number_at, stage_at, entry_from};
-ghost use Rattle.transyt_make.specs.Made.{bare_link, with_nodes, with_links};
+ghost use Rattle.transyt_make.specs.Made.{bare_link, unplanned, with_links};
 
 use crate::draws::Draws;
 use crate::granted::grant_link;
@@ -101,7 +101,7 @@ fn put_link(draft: &mut Draft, place: u32, entry: u32) -> Result<(), AllocError>
 pub(crate) fn put_links(nodes: u32, draws: &mut Draws, draft: &mut Draft) -> Result<(), AllocError>
     requires most { nodes ≤ 200 }
     requires draws { draws.old.taken ≡ 2 * nodes }
-    requires draft { draft.old ≡ with_nodes draws.old.seed nodes }
+    requires draft { draft.old ≡ unplanned draws.old.seed nodes [] }
     ensures draft { OnOk result (draft.new ≡ with_links draws.old.seed nodes (4 * nodes)) }
     ensures draws { OnOk result (draws.new ≡ further draws.old (4 * nodes)) }
 {

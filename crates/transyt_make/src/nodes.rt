@@ -1,9 +1,9 @@
 //! The nodes.
-ghost use Rattle.std.specs.Prelude.{◌≡◌, ◌<◌, ◌≤◌, ◌+◌, ◌*◌, length, false, OnOk};
+ghost use Rattle.std.specs.Prelude.{◌≡◌, ◌<◌, ◌≤◌, ◌+◌, ◌*◌, ◌++◌, ◌∷◌, [], length, false, OnOk};
 ghost use Rattle.transyt_net.specs.Valid.{is_among, node_numbers};
 ghost use Rattle.transyt_net.specs.Faults.{empty};
 ghost use Rattle.transyt_make.specs.Draws.{further};
-ghost use Rattle.transyt_make.specs.Made.{made_frame, node_with, plus_node, with_nodes};
+ghost use Rattle.transyt_make.specs.Made.{made_frame, node_with, unplanned};
 
 use crate::draws::Draws;
 use crate::granted::{grant_node, grant_stage};
@@ -18,7 +18,8 @@ fn put_node(draft: &mut Draft, place: u32, offset: u32, change: u32) -> Result<(
     requires place { place < 200 }
     requires offset { offset < 50 }
     requires change { change < 50 }
-    ensures { OnOk result (draft.new ≡ plus_node draft.old (node_with place offset change)) }
+    ensures { OnOk result (draft.new
+        ≡ record draft.old { nodes = draft.old.nodes ++ node_with place offset change ∷ [] }) }
 {
     grant_node(draft, place + 1, offset)?;
     grant_stage(draft, 0, 3, 4)?;
@@ -30,7 +31,7 @@ pub(crate) fn put_nodes(nodes: u32, draws: &mut Draws, draft: &mut Draft) -> Res
     requires most { nodes ≤ 200 }
     requires draws { draws.old.taken ≡ 0 }
     requires draft { draft.old ≡ empty made_frame }
-    ensures draft { OnOk result (draft.new ≡ with_nodes draws.old.seed nodes) }
+    ensures draft { OnOk result (draft.new ≡ unplanned draws.old.seed nodes []) }
     ensures draws { OnOk result (draws.new ≡ further draws.old (2 * nodes)) }
 {
     for place in 0..nodes {

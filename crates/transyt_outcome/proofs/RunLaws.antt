@@ -10,7 +10,7 @@ use Rattle.transyt_io.specs.declared.reader.ReadStop.{ReadStop}
 use Rattle.transyt_io.specs.declared.reader.ReadStop.TheVariants.{Fault, TooLong as Long}
 use Rattle.transyt_io.specs.Lines.{whole}
 use Rattle.transyt_io.specs.Model.{Reading}
-use Rattle.transyt_io.specs.Reading.{HasRead, ReadsLine, HandedOut, AnswerSays, StopSays, new_reading}
+use Rattle.transyt_io.specs.Reading.{HasRead, ReadsLine, AnswerSays, StopSays, new_reading}
 use Rattle.transyt_io.specs.Streams.{Takes, Adds, AddsFront}
 use Rattle.transyt_io.proofs.Told.{takes_nothing, takes_both, adds_nothing, adds_both}
 use Rattle.transyt_io.proofs.Reading.{new_has_read}
@@ -74,10 +74,11 @@ module _ {by : Answering} {answered : List (List ℕ) → Type 0} {count : ℕ} 
   stands_with : (p : ReadsLine old new left_old left_new last_old last_new (Ok Text)) {line : List ℕ}
       → new.line ≡ Some line → HasRead new left_new (taken_by p) (way.before ++ line ∷ [])
   stands_with p {line} now =
-      let h : HandedOut new left_new (taken_by p) way.before = p.says way.taken way.before way.has_read in
-      let same : h.line ≡ line = let told : Some h.line ≡ Some line = sym h.now ∙ now in cc in
+      let says : AnswerSays new left_new (taken_by p) way.before Text = p.says way.taken way.before way.has_read in
+      let (told, is, has) = says in
+      let same : told ≡ line = let both : Some told ≡ Some line = sym is ∙ now in cc in
       let P : List ℕ → Type 0 = λ l. HasRead new left_new (taken_by p) (way.before ++ l ∷ []) in
-      subst P same h.has_read
+      subst P same has
 
   few_taken : (p : ReadsLine old new left_old left_new last_old last_new (Ok Text)) {line : List ℕ}
       → new.line ≡ Some line → new.taken ≤ 4194304 → length (taken_by p) ≤ 4194304

@@ -29,7 +29,7 @@ pub record HasPassed (p : Platoon) (j : ℕ) (g : Passing) : Type 0 where
 -- the same of each of some platoons
 abbrev pub HavePassed : List Platoon → ℕ → List Passing → Type 0
 HavePassed ps j gs =
-    (i : ℕ) → (d : Platoon) → (e : Passing) → i < length ps → HasPassed (slice_index_or ps i d) j (slice_index_or gs i e)
+    (i : ℕ) (d : Platoon) (e : Passing) → i < length ps → HasPassed (slice_index_or ps i d) j (slice_index_or gs i e)
 
 -- at place j of two turns, after i steps of which the first arrives at `first`, where step m brings g m
 abbrev pub arrived_by : (ℕ → ℕ) → ℕ → ℕ → ℕ → ℕ
@@ -51,8 +51,8 @@ InLane lane lanes p = (k : ℕ) → k < steps_of p → slice_index lanes (4 * k 
 pub record AreReady (steps : ℕ) (lanes : List ℕ) (ps : List Platoon) : Type 0 where
   pub same : All (λ p. steps_of p ≡ steps) ps
   pub fit : All Fits ps
-  pub ready : (i : ℕ) → (d : Platoon) → i < length ps → InLane i lanes (slice_index_or ps i d)
+  pub ready : (i : ℕ) (d : Platoon) → i < length ps → InLane i lanes (slice_index_or ps i d)
 
 -- these are the sums of the platoons
 abbrev pub AreTotals : List ℕ → List Platoon → Type 0
-AreTotals totals ps = (i : ℕ) → (d : Platoon) → i < length ps → slice_index totals i ≡ sum (sent (slice_index_or ps i d))
+AreTotals totals ps = (i : ℕ) (d : Platoon) → i < length ps → slice_index totals i ≡ sum (sent (slice_index_or ps i d))

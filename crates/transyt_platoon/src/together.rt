@@ -61,7 +61,8 @@ fn add_all(abreast: &Abreast<'_>, totals: &[u64], turns: &mut [u64])
     ensures value { folded abreast.now.step_count turns.new
         ≡ with_arriving (folded abreast.now.step_count turns.old) abreast.now.platoons.now }
     ensures grows { (limit : ℕ) → All (λ v. v < limit) (folded abreast.now.step_count turns.old)
-        → All (λ v. v < limit + length abreast.now.platoons.now * 2 ^ 22) (folded abreast.now.step_count turns.new) }
+        → All (λ v. v < limit + length abreast.now.platoons.now * 2 ^ 22)
+        (folded abreast.now.step_count turns.new) }
 {
     let count = abreast.platoons.len();
     if count == 4 {
@@ -85,7 +86,8 @@ fn add_each<const N: usize>(abreast: &Abreast<'_>, totals: &[u64], turns: &mut [
     ensures value { folded abreast.now.step_count turns.new
         ≡ with_arriving (folded abreast.now.step_count turns.old) abreast.now.platoons.now }
     ensures grows { (limit : ℕ) → All (λ v. v < limit) (folded abreast.now.step_count turns.old)
-        → All (λ v. v < limit + length abreast.now.platoons.now * 2 ^ 22) (folded abreast.now.step_count turns.new) }
+        → All (λ v. v < limit + length abreast.now.platoons.now * 2 ^ 22)
+        (folded abreast.now.step_count turns.new) }
 {
     let mut goings: [Passing; N] = begin_each(abreast, totals);
     'first: for step in 0..abreast.step_count {

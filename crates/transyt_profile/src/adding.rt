@@ -13,7 +13,8 @@ pub fn add_into(x: &[u64], out: &mut [u64])
     requires out_fit { All (λ v. v < 2 ^ 48 - 2 ^ 44) out.old }
     ensures value { out.new ≡ added out.old x.now }
     ensures small { All (λ v. v < 2 ^ 48) out.new }
-    ensures grows { (limit : ℕ) → All (λ v. v < limit) out.old → All (λ v. v < limit + 2 ^ 44) out.new }
+    ensures grows { (limit : ℕ) → All (λ v. v < limit) out.old
+        → All (λ v. v < limit + 2 ^ 44) out.new }
 {
     for i in 0..out.len() {
         out[i] += x[i];

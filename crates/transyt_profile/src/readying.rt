@@ -36,8 +36,10 @@ pub fn share_ready(
     requires lanes_len { length lanes.old ≡ 4 * length x.now }
     requires fit { All (λ v. v < 2 ^ 30) x.now }
     requires is { IsPart part.now }
-    ensures below { IfSome result (λ _. All (λ v. v < scale.limit) (shared part.now.part part.now.whole x.now)) }
-    ensures ready { IfSome result (λ _. (k : ℕ) → k < length x.now → slice_index lanes.new (4 * k + lane)
+    ensures below { IfSome result (λ _.
+        All (λ v. v < scale.limit) (shared part.now.part part.now.whole x.now)) }
+    ensures ready { IfSome result (λ _. (k : ℕ) → k < length x.now
+        → slice_index lanes.new (4 * k + lane)
         ≡ share_of part.now.part part.now.whole (slice_index x.now k) * scale.factor) }
     ensures total { IfSome result (λ total. total ≡ sum (shared part.now.part part.now.whole x.now)) }
     ensures none { IfNone result (0 < length x.now
@@ -63,8 +65,10 @@ fn share_below(x: &[u64], part: &Part, scale: Scale, lane: usize, lanes: &mut [u
     requires lanes_len { length lanes.old ≡ 4 * length x.now }
     requires fit { All (λ v. v < 2 ^ 30) x.now }
     requires quick { IsQuick part.now }
-    ensures below { IfSome result (λ _. All (λ v. v < scale.limit) (shared part.now.part part.now.whole x.now)) }
-    ensures ready { IfSome result (λ _. (k : ℕ) → k < length x.now → slice_index lanes.new (4 * k + lane)
+    ensures below { IfSome result (λ _.
+        All (λ v. v < scale.limit) (shared part.now.part part.now.whole x.now)) }
+    ensures ready { IfSome result (λ _. (k : ℕ) → k < length x.now
+        → slice_index lanes.new (4 * k + lane)
         ≡ share_of part.now.part part.now.whole (slice_index x.now k) * scale.factor) }
     ensures total { IfSome result (λ total. total ≡ sum (shared part.now.part part.now.whole x.now)) }
     ensures none { IfNone result
@@ -95,8 +99,10 @@ fn share_any(x: &[u64], part: &Part, scale: Scale, lane: usize, lanes: &mut [u64
     requires lanes_len { length lanes.old ≡ 4 * length x.now }
     requires fit { All (λ v. v < 2 ^ 30) x.now }
     requires is { IsPart part.now }
-    ensures below { IfSome result (λ _. All (λ v. v < scale.limit) (shared part.now.part part.now.whole x.now)) }
-    ensures ready { IfSome result (λ _. (k : ℕ) → k < length x.now → slice_index lanes.new (4 * k + lane)
+    ensures below { IfSome result (λ _.
+        All (λ v. v < scale.limit) (shared part.now.part part.now.whole x.now)) }
+    ensures ready { IfSome result (λ _. (k : ℕ) → k < length x.now
+        → slice_index lanes.new (4 * k + lane)
         ≡ share_of part.now.part part.now.whole (slice_index x.now k) * scale.factor) }
     ensures total { IfSome result (λ total. total ≡ sum (shared part.now.part part.now.whole x.now)) }
     ensures none { IfNone result (0 < length x.now

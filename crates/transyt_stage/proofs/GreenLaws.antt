@@ -13,7 +13,7 @@ use Rattle.transyt_parts.specs.Parts.{NodeValue}
 use Rattle.transyt_parts.specs.Plan.{stage_of, length_at}
 use Rattle.transyt_net.specs.Parts.{Network, link_of}
 use Rattle.transyt_net.specs.Edits.{the_node}
-use Rattle.transyt_stage.specs.Green.{since_change, runs_in, shows, is_shown, shown_link, shown_back, opens}
+use Rattle.transyt_stage.specs.Green.{since_change, runs_in, shows, is_shown, shown_link, opens}
 use Rattle.transyt_stage.specs.Green.{is_green, Shows, IsShown, Opens, IsGreen}
 use Rattle.transyt_parts.proofs.BelowLaws.{some_below, found_below}
 
@@ -83,7 +83,8 @@ module _ (net : Network) (l : ℕ) where
   pub Decides-is_green : (i : ℕ) → i < net.frame.step_count → Decides (is_green net l i) (IsGreen net l i)
   Decides-is_green i below =
       let some : 0 < net.frame.step_count = omega arith in
-      let held = Decides-any (shown_back (shown_link net l) i) (λ n. IsShown net l (minus_mod net.frame.step_count i n))
+      let held = Decides-any (λ n. get_or (shown_link net l) (minus_mod (length (shown_link net l)) i n) false)
+      (λ n. IsShown net l (minus_mod net.frame.step_count i n))
       (λ n. Decides-at _ _ (ap (λ m. get_or (shown_link net l) (minus_mod m i n) false) long)
       (Decides-shown (minus_mod net.frame.step_count i n) (minus_mod-lt net.frame.step_count i n some)))
       ((link_of net l).end_lag + 1) in

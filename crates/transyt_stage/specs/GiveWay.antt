@@ -1,6 +1,5 @@
 -- GO of a link that gives way to another.
-use Rattle.std.specs.Prelude.{ℕ, ◌-◌, ◌*◌, ◌/◌, ◌==◌, List, length, map, max, slice_index}
-use Rattle.std.specs.Prelude.{if◌then◌else◌}
+use Rattle.std.specs.Prelude.{ℕ, ◌-◌, ◌*◌, ◌/◌, ◌==◌, List, length, map, max, slice_index, if◌then◌else◌}
 use Rattle.std.specs.List.{range_with_len}
 
 -- GO of one step, where `other` leaves the other link in it: a part of `other` less, rounded down, but a unit

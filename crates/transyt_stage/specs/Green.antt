@@ -33,22 +33,18 @@ is_shown steps node stages i = list_any (shows steps node stages i) (range_with_
 abbrev pub shown_of : ℕ → NodeValue → List ℕ → List Bool
 shown_of steps node stages = map (is_shown steps node stages) (range_with_len 0 steps)
 
--- whether it is shown n steps before step i, round the cycle
-abbrev pub shown_back : List Bool → ℕ → ℕ → Bool
-shown_back shown i n = slice_index_or shown (minus_mod (length shown) i n) false
-
 -- whether step i opens the link: it is shown at it, and not at the step before
 abbrev pub opens : List Bool → ℕ → Bool
 opens shown i = slice_index_or shown i false && not (slice_index_or shown (step_before (length shown) i) false)
 
 -- whether it is shown at step i or at one of the steps of the end lag before it
 abbrev pub is_held : List Bool → ℕ → ℕ → Bool
-is_held shown end_lag i = list_any (shown_back shown i) (range_with_len 0 (end_lag + 1))
+is_held shown end_lag i =
+    list_any (λ n. slice_index_or shown (minus_mod (length shown) i n) false) (range_with_len 0 (end_lag + 1))
 
 -- whether one of the steps of the start lag, up to step i, opens it
 abbrev pub is_starting : List Bool → ℕ → ℕ → Bool
-is_starting shown start_lag i =
-    list_any (λ n. opens shown (minus_mod (length shown) i n)) (range_with_len 0 start_lag)
+is_starting shown start_lag i = list_any (λ n. opens shown (minus_mod (length shown) i n)) (range_with_len 0 start_lag)
 
 -- whether it is green at step i
 abbrev pub green_at : List Bool → ℕ → ℕ → ℕ → Bool
@@ -70,8 +66,7 @@ passed_at shown start_lag end_lag room i = if green_at shown start_lag end_lag i
 abbrev pub signal : Network → ℕ → List ℕ
 signal net l =
     map (passed_at (shown_link net l) (link_of net l).start_lag (link_of net l).end_lag
-    (perstep net.frame (link_of net l).saturation))
-    (range_with_len 0 net.frame.step_count)
+    (perstep net.frame (link_of net l).saturation)) (range_with_len 0 net.frame.step_count)
 
 -- the stage at place k shows the link that runs in these stages at step i, as a fact
 pub record Shows (steps : ℕ) (node : NodeValue) (stages : List ℕ) (i k : ℕ) : Type 0 where
@@ -83,8 +78,7 @@ pub record Shows (steps : ℕ) (node : NodeValue) (stages : List ℕ) (i k : ℕ
 
 -- the link at a place is shown at step i
 abbrev pub IsShown : Network → ℕ → ℕ → Type 0
-IsShown net l i =
-    (k : ℕ) × Shows net.frame.step_count (the_node net (link_of net l).node) (link_of net l).stages i k
+IsShown net l i = (k : ℕ) × Shows net.frame.step_count (the_node net (link_of net l).node) (link_of net l).stages i k
 
 -- step i opens it
 abbrev pub Opens : Network → ℕ → ℕ → Type 0

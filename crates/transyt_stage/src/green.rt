@@ -92,7 +92,8 @@ fn fill_passed(shown: &[bool], start_lag: u32, end_lag: u32, room: u64, out: &mu
     requires most { length shown.now ≤ 120 }
     requires end_lag { end_lag < length shown.now }
     requires room { room < 2 ^ 30 }
-    ensures value { out.new ≡ map (passed_at shown.now start_lag end_lag room) (range_with_len 0 (length out.old)) }
+    ensures value { out.new
+        ≡ map (passed_at shown.now start_lag end_lag room) (range_with_len 0 (length out.old)) }
     ensures small { All (λ v. v < 2 ^ 30) out.new }
 {
     for i in 0..out.len() {

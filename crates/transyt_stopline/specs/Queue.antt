@@ -26,8 +26,7 @@ outs arrivals go = map (out_at arrivals go) (range_with_len 0 (length arrivals))
 -- The queue by two facts, without a difference: with what passed it covers the arrivals of each n last steps, and it
 -- is 0 or just covers those of some.
 pub record IsQueue (arrivals go : List ℕ) (i queue : ℕ) : Type 0 where
-  pub covers : (n : ℕ) → 0 < n → n ≤ length arrivals
-      → sum_at_places arrivals i n ≤ queue + sum_at_places go i n
+  pub covers : (n : ℕ) → 0 < n → n ≤ length arrivals → sum_at_places arrivals i n ≤ queue + sum_at_places go i n
   pub least : (queue ≡ 0) ⊎ ((n : ℕ) × (0 < n) × (n ≤ length arrivals)
       × (queue + sum_at_places go i n ≡ sum_at_places arrivals i n))
 

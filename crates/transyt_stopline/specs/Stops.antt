@@ -2,10 +2,8 @@
 use Rattle.std.specs.Prelude.{ℕ, List, length, map, sum, slice_index, nat_lt, if◌then◌else◌}
 use Rattle.std.specs.List.{range_with_len}
 
--- the stopped arrivals of step i: all of them where the step ends with a queue
-abbrev pub stopped_at : List ℕ → List ℕ → ℕ → ℕ
-stopped_at arrivals queue i = (if nat_lt 0 (slice_index queue i) then slice_index arrivals i else 0)
-
--- the stopped arrivals of a cycle
+-- the stopped arrivals of a cycle: all of each step that ends with a queue
 abbrev pub stopped_of : List ℕ → List ℕ → ℕ
-stopped_of arrivals queue = sum (map (stopped_at arrivals queue) (range_with_len 0 (length arrivals)))
+stopped_of arrivals queue =
+    sum (map (λ i. if nat_lt 0 (slice_index queue i) then slice_index arrivals i else 0)
+    (range_with_len 0 (length arrivals)))

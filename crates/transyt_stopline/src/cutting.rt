@@ -62,7 +62,8 @@ fn scale(x: &[u64], served: u64, come: u64, out: &mut [u64])
     requires lengths { length out.old ≡ length x.now }
     requires whole { come ≡ sum x.now }
     requires part { served < come }
-    ensures { (k : ℕ) → k < length x.now → slice_index out.new k ≡ scaled come served (slice_index x.now k) }
+    ensures { (k : ℕ) → k < length x.now
+        → slice_index out.new k ≡ scaled come served (slice_index x.now k) }
 {
     if come < 1 << 32 {
         scale_near(x, served, come, out);
@@ -78,7 +79,8 @@ fn scale_near(x: &[u64], served: u64, come: u64, out: &mut [u64])
     requires whole { come ≡ sum x.now }
     requires part { served < come }
     requires fits { come < 2 ^ 32 }
-    ensures { (k : ℕ) → k < length x.now → slice_index out.new k ≡ scaled come served (slice_index x.now k) }
+    ensures { (k : ℕ) → k < length x.now
+        → slice_index out.new k ≡ scaled come served (slice_index x.now k) }
 {
     let near = u64::MAX / come;
     for step in 0..x.len() {
@@ -104,7 +106,8 @@ fn scale_each(x: &[u64], served: u64, come: u64, out: &mut [u64])
     requires lengths { length out.old ≡ length x.now }
     requires whole { come ≡ sum x.now }
     requires part { served < come }
-    ensures { (k : ℕ) → k < length x.now → slice_index out.new k ≡ scaled come served (slice_index x.now k) }
+    ensures { (k : ℕ) → k < length x.now
+        → slice_index out.new k ≡ scaled come served (slice_index x.now k) }
 {
     for i in 0..x.len() {
         out[i] = scale_one(x[i], served, come);

@@ -1,9 +1,8 @@
 -- A line as a keyword and its numbers.
-use Rattle.std.specs.Prelude.{ℕ, Bool, ◌&&◌, ◌||◌, not, nat_le, nat_lt, if◌then◌else◌, List, [], ◌∷◌, length, get_or, drop}
-use Rattle.std.specs.Prelude.{Option, Some, None, is_some, unwrap_or, option_and_then, Result, Ok, Err}
-use Rattle.std.specs.Option.{option_map}
+use Rattle.std.specs.Prelude.{ℕ, Bool, ◌&&◌, ◌||◌, not, nat_le, nat_lt, if◌then◌else◌, List, [], ◌∷◌, length, get_or}
+use Rattle.std.specs.Prelude.{drop, Option, Some, None, is_some, unwrap_or, option_and_then, Result, Ok, Err}
+use Rattle.std.specs.Prelude.{option_map, bytes_eq}
 use Rattle.std.specs.List.{list_all}
-use Rattle.std.specs.Str.{bytes_eq}
 use Rattle.transyt_num.specs.Number.{number_of}
 use Rattle.transyt_io.specs.Lines.{words, is_blank, is_skipped}
 use Rattle.transyt_syntax.specs.Findings.{when, first_found}
@@ -49,8 +48,7 @@ further_words words = drop 1 words
 -- the values of words, where all are numbers
 abbrev pub all_numbers : List (List ℕ) → Option (List ℕ)
 all_numbers [] = Some []
-all_numbers (word ∷ more) =
-    option_and_then (λ n. option_map (λ ns. n ∷ ns) (all_numbers more)) (number_of word)
+all_numbers (word ∷ more) = option_and_then (λ n. option_map (λ ns. n ∷ ns) (all_numbers more)) (number_of word)
 
 -- the numbers after a line's keyword, where all words there are numbers
 abbrev pub numbers_of : List ℕ → Option (List ℕ)
@@ -71,8 +69,7 @@ syntax_code counts line = first_found (
     when (nat_lt 4096 (length line)) code.LongLine
     ∷ when (not (list_all is_plain line && is_some counts)) code.OddByte
     ∷ when (not (is_count (unwrap_or counts (0, 0)) (length (further_words (words line))))) code.WrongCount
-    ∷ when (not (is_some (numbers_of line))) code.NoNumber
-    ∷ [])
+    ∷ when (not (is_some (numbers_of line))) code.NoNumber ∷ [])
 
 -- the entry of a line's keyword
 abbrev pub entry_of : {A : Type 0} → List (Entry A) → List ℕ → Option (Entry A)
@@ -84,20 +81,17 @@ counts_of table line = option_map (λ found. found.counts) (entry_of table line)
 
 -- the entry of a line's keyword, with its numbers
 abbrev pub says_of : {A : Type 0} → List (Entry A) → List ℕ → Option A
-says_of table line =
-    option_and_then (λ found. option_map found.says (numbers_of line)) (entry_of table line)
+says_of table line = option_and_then (λ found. option_map found.says (numbers_of line)) (entry_of table line)
 
 -- a code as a refusal, or with no code what is said
 abbrev pub unless : {A : Type 0} → Option Code → A → Result A Code
 unless (Some code) said = Err code
 unless None said = Ok said
 
--- the meaning of a line by a table of keywords: none where it is skipped; else the first of the codes 11, 10, 12 and 13
--- that holds of it, or what its keyword says with its numbers
+-- the meaning of a line by a table of keywords: none where it is skipped; else its code, or what its keyword says
 abbrev pub said : {A : Type 0} → List (Entry A) → List ℕ → Result (Option A) Code
 said table line =
-    if is_skipped line then Ok None
-    else unless (syntax_code (counts_of table line) line) (says_of table line)
+    if is_skipped line then Ok None else unless (syntax_code (counts_of table line) line) (says_of table line)
 
 -- number i after a keyword, from 0, and 0 past the last
 abbrev pub at : List ℕ → ℕ → ℕ

@@ -12,8 +12,7 @@ pub record Prints {T E : Type 0} (old new : Option (List ℕ)) (quiet loud : ℕ
 
 -- The same of a sink before and after the call, by what it tells and its count of faults.
 abbrev pub PrintsOn : {S T E : Type 0} → (S → Option (List ℕ)) → (S → ℕ) → S → S → Result T E → List ℕ → Type 0
-PrintsOn written faults old new result text =
-    Prints (written old) (written new) (faults old) (faults new) result text
+PrintsOn written faults old new result text = Prints (written old) (written new) (faults old) (faults new) result text
 
 -- A text was written whole, with no call that failed; invariants of loops cite it.
 pub record Printed (old new : Option (List ℕ)) (quiet loud : ℕ) (text : List ℕ) : Type 0 where

@@ -3,8 +3,8 @@ use Rattle.std.proofs.Common.{◌≡◌, ◌∙◌, ℕ, true, false, Some, sym,
 use Rattle.std.specs.Result.{is_ok}
 use Rattle.transyt_counts.specs.declared.key.Key.{Key}
 use Rattle.transyt_counts.specs.declared.tally.Totals.{Totals}
-use Rattle.transyt_counts.specs.Counts.{is_too_great, edit_by, answer_for}
-use Rattle.transyt_counts.proofs.EntryLaws.{find_skip, find_hit, map_take}
+use Rattle.transyt_counts.specs.Counts.{answer_for}
+use Rattle.transyt_counts.proofs.EntryLaws.{is_too_great, edit_by, find_skip, find_hit, map_take}
 use Rattle.transyt_counts.proofs.counting.edits_by.Goals as goal
 
 pub returns-then-flow-gt9999-clause-refused : goal.returns-then-flow-gt9999-clause-refused

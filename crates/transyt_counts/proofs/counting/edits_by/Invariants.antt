@@ -1,7 +1,7 @@
 -- The edits of the entries passed, none of which has too great a flow.
 use Rattle.std.proofs.Common.{◌≡◌, map, take, drop}
 use Rattle.std.specs.List.{find}
-use Rattle.transyt_counts.specs.Counts.{edit_by, is_too_great}
+use Rattle.transyt_counts.proofs.EntryLaws.{edit_by, is_too_great}
 use Rattle.transyt_counts.proofs.counting.edits_by.Given as goal
 
 abbrev pub invariant-loop-place : goal.invariant-loop-place

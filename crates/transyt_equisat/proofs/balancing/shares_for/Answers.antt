@@ -1,8 +1,10 @@
 -- One share more.
-use Rattle.std.proofs.Common.{◌≡◌, ℕ, suc, ◌+◌, sym, arith}
+use Rattle.std.proofs.Common.{◌≡◌, ℕ, suc, ◌+◌, sym, arith, get_or}
 use Rattle.std.proofs.lemmas.Grind.{common_steps}
 use Rattle.std.proofs.lemmas.List.FromFn.{map-range_with_len_more}
-use Rattle.transyt_equisat.specs.Sharing.{share_there, need_there}
+use Rattle.transyt_parts.specs.Plan.{stage_of}
+use Rattle.transyt_equisat.specs.Demands.{no_demand}
+use Rattle.transyt_equisat.specs.Sharing.{share_there, need_by}
 use Rattle.transyt_equisat.specs.Asked.{AskedValue}
 use Rattle.transyt_equisat.proofs.balancing.shares_for.Goals as goal
 
@@ -11,7 +13,8 @@ loop-place-preserved c =
     let p : ℕ = c.loop-place.place in
     let a : AskedValue = c.args.asked.now in
     let so_far = c.loop-place.invariant in
-    let need : c.need_by-need.result ≡ need_there a c.args.peak p = grind (arith, common_steps) in
+    let need : c.need_by-need.result ≡ need_by a.steps c.args.peak (stage_of a.stages p).least (get_or a.demands p no_demand)
+    = grind (arith, common_steps) in
     let next : p + 1 ≡ suc p = omega arith in
     record {
       so_far = rw (c.in_ok-push.ensures.items, so_far.so_far, so_far.change, need)
