@@ -28,8 +28,8 @@ feeds_bare : (ls : List LinkValue) (link feeder : ℕ) → is_fed (feeds_at (map
 feeds_bare [] link feeder = refl
 feeds_bare (l ∷ ls) link feeder =
     elim (cases_Bool (nat_eq link l.number)) [
-      | inl here ↦ rw here (fed_bare l.feeds feeder)
-      | inr other ↦ rw other (feeds_bare ls link feeder)
+      | inl here ↦ rw (here, feeds_at) (fed_bare l.feeds feeder)
+      | inr other ↦ rw (other, feeds_at) (feeds_bare ls link feeder)
     ]
 
 fed_shape : (a b : Network) (link feeder : ℕ) → shape a ≡ shape b → is_fed (feeds_at a.links link) feeder ≡ is_fed (feeds_at b.links link) feeder

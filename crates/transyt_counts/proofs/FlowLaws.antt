@@ -12,7 +12,7 @@ use Rattle.transyt_parts.specs.Valid.{all_differ, link_number, feeders}
 use Rattle.transyt_net.specs.Parts.{Network}
 use Rattle.transyt_net.specs.Valid.{IsValid, IsLink, link_numbers}
 use Rattle.transyt_net.specs.declared.edit.Edit.{Edit}
-use Rattle.transyt_net.specs.Edits.{with_edit, set_entry, set_part, flow_to, feeder_of}
+use Rattle.transyt_net.specs.Edits.{with_edit, set_entry, set_part, feeder_of}
 use Rattle.transyt_net.specs.EditFaults.{edit_fault}
 use Rattle.transyt_net.proofs.ApplyLaws.{valid_edit}
 use Rattle.transyt_net.proofs.KeptLaws.{shape_kept}
@@ -78,7 +78,7 @@ link_part link feeder ks flow l same differ =
     let number : nat_eq l.number link ≡ true = grind (arith, nat_tests, same) in
     rw (
       flow_other k ks flow (entry_key l.number) l.entry (and_right (nat_eq l.number link) false refl),
-      written_all feeder_of (flow_to (flow k)) (set_feed ks flow l.number) (set_feed (k ∷ ks) flow l.number) l.feeds feeder differ
+      written_all feeder_of (λ f. record f { flow = flow k }) (set_feed ks flow l.number) (set_feed (k ∷ ks) flow l.number) l.feeds feeder differ
           (λ i d below. λ is. let f : Feed = get_or l.feeds i d in
           ap (λ x. record f { flow = x }) (flow_here k ks flow (part_key l.number f.feeder) f.flow
           (and_from (nat_eq l.number link) (nat_eq f.feeder feeder) number (grind (arith, nat_tests, is)))))

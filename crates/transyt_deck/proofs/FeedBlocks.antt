@@ -11,9 +11,9 @@ use Rattle.transyt_parts.specs.Parts.{LinkValue}
 use Rattle.transyt_parts.specs.Valid.{all_differ, feeders, is_fed, link_number, feed_in_range}
 use Rattle.transyt_parts.specs.Made.{add_feed}
 use Rattle.transyt_net.specs.declared.draft.DraftFault.TheVariants.{Range, TooMany, Twice, Unknown}
-use Rattle.transyt_net.specs.Parts.{Network}
+use Rattle.transyt_net.specs.Parts.{Network, link_in}
 use Rattle.transyt_net.proofs.FoundLaws.{fed_is}
-use Rattle.transyt_net.specs.Valid.{IsFeed, feeds_at, feeds_in, is_among, link_numbers}
+use Rattle.transyt_net.specs.Valid.{IsFeed, feeds_at, is_among, link_numbers}
 use Rattle.transyt_deck.specs.declared.card.Card.TheVariants as c
 use Rattle.transyt_deck.specs.declared.state.Part.TheVariants as p
 use Rattle.transyt_deck.specs.Cards.{feed_cards}
@@ -42,7 +42,7 @@ feed_read : (net : Network) (part : Upto p.Feeds) (us vs : List LinkValue) (l : 
 feed_read net part us vs l fs g of_link first low is =
     let links = us ++ with_feeds l fs ∷ vs in
     let names = map-append link_number us (with_feeds l fs ∷ vs) ∙ of_link.names in
-    let found : feeds_at links l.number ≡ fs = ap feeds_in (numbered_one us vs (with_feeds l fs) of_link.apart) in
+    let found : feeds_at links l.number ≡ fs = ap (λ o. (link_in o).feeds) (numbered_one us vs (with_feeds l fs) of_link.apart) in
     let new : is_fed (feeds_at links l.number) g.feeder ≡ false =
     ap (λ k. is_fed k g.feeder) found ∙ fed_is fs g.feeder ∙ first in
     let known : (is_among (link_numbers links) l.number && is_among (link_numbers links) g.feeder) ≡ true =

@@ -9,8 +9,8 @@ use Rattle.transyt_parts.specs.Parts.{LinkValue}
 use Rattle.transyt_parts.specs.Valid.{all_differ, link_number}
 use Rattle.transyt_parts.specs.Made.{set_rule}
 use Rattle.transyt_net.specs.declared.draft.DraftFault.TheVariants.{Range, Twice, Unknown}
-use Rattle.transyt_net.specs.Parts.{Network}
-use Rattle.transyt_net.specs.Valid.{rule_in, IsRule, is_among, link_numbers, rule_at}
+use Rattle.transyt_net.specs.Parts.{Network, link_in}
+use Rattle.transyt_net.specs.Valid.{IsRule, is_among, link_numbers, rule_at}
 use Rattle.transyt_deck.specs.declared.card.Card.TheVariants as c
 use Rattle.transyt_deck.specs.declared.state.Part.TheVariants as p
 use Rattle.transyt_deck.specs.Cards.{rule_cards}
@@ -33,7 +33,7 @@ rule_one net part us vs l None valid small apart names there fine = (part, reads
 rule_one net part us vs l (Some g) valid small apart names there fine =
     let links = us ++ fed l ∷ vs in
     let named = map-append link_number us (fed l ∷ vs) ∙ names in
-    let new : is_some (rule_at links l.number) ≡ false = ap (λ o. is_some (rule_in o)) (numbered_one us vs (fed l) apart) in
+    let new : is_some (rule_at links l.number) ≡ false = ap (λ o. is_some (link_in o).gives_way) (numbered_one us vs (fed l) apart) in
     let known : (is_among (link_numbers links) l.number && is_among (link_numbers links) g.other) ≡ true =
     λ j. (ap (λ ks. is_among ks l.number) named ∙ there) j && (ap (λ ks. is_among ks g.other) named ∙ fine.other) j in
     let range = le-leb g.percent 400 fine.percent in

@@ -5,15 +5,12 @@ use Rattle.transyt_syntax.specs.declared.code.Code.{Code}
 use Rattle.transyt_net.specs.declared.draft.DraftFault.{DraftFault}
 use Rattle.transyt_net.specs.Parts.{Network}
 use Rattle.transyt_parts.specs.Plan.{first_fault}
-use Rattle.transyt_deck.specs.declared.card.Card.{Card}
 use Rattle.transyt_deck.specs.declared.card.Card.TheVariants as c
-use Rattle.transyt_deck.specs.declared.state.Part.{Part}
 use Rattle.transyt_deck.specs.declared.state.Part.TheVariants as p
-use Rattle.transyt_deck.specs.declared.state.State.{State}
 use Rattle.transyt_deck.specs.declared.state.State.TheVariants as s
 use Rattle.transyt_deck.specs.declared.state.Stop.{Stop}
 use Rattle.transyt_deck.specs.declared.state.Stop.TheVariants as stop
-use Rattle.transyt_deck.specs.State.{fault_code}
+use Rattle.transyt_deck.specs.State.{Card, Part, State, fault_code}
 
 -- an outcome with its fault as a stop: its code; a fault that has none is out of memory
 abbrev pub stopped : {T : Type 0} → Result T DraftFault → Result T Stop

@@ -2,11 +2,10 @@
 use Rattle.std.specs.Prelude.{ℕ, ◌≡◌, zero, suc, ◌-◌, List, length, Result, Err}
 use Rattle.std.specs.Result.{result_map_both}
 use Rattle.transyt_io.specs.Lines.{lines, after_first_line}
-use Rattle.transyt_deck.specs.declared.reader.CardStop.{CardStop}
 use Rattle.transyt_deck.specs.declared.reader.CardStop.TheVariants as stop
 use Rattle.transyt_deck.specs.declared.cut.Cut.{Cut}
 use Rattle.transyt_deck.specs.Deck.{Deck, deck, line_count}
-use Rattle.transyt_deck.specs.Reader.{finished}
+use Rattle.transyt_deck.specs.Reader.{CardStop, finished}
 
 -- the bytes after so many lines
 abbrev pub after_lines : ℕ → List ℕ → List ℕ

@@ -1,12 +1,10 @@
 -- The deck that lines make: refused, complete with its network, or open.
-use Rattle.std.specs.Prelude.{ℕ, ◌+◌, Bool, true, false, List, Option, Some, None, Result, Ok, Err}
-use Rattle.std.specs.List.{fold}
+use Rattle.std.specs.Prelude.{ℕ, ◌+◌, Bool, true, false, List, fold, Option, Some, None, Result, Ok, Err}
 use Rattle.transyt_syntax.specs.declared.code.Code.{Code}
 use Rattle.transyt_net.specs.Parts.{Network}
 use Rattle.transyt_deck.specs.declared.state.Part.TheVariants as p
-use Rattle.transyt_deck.specs.declared.state.State.{State}
 use Rattle.transyt_deck.specs.declared.state.State.TheVariants as s
-use Rattle.transyt_deck.specs.State.{state_after}
+use Rattle.transyt_deck.specs.State.{State, state_after}
 
 -- refused at the line with this number, from 1, with its first code; complete at END's line, with the network; or open
 -- after so many lines, where neither holds

@@ -2,7 +2,7 @@
 use Rattle.std.specs.Prelude.{◌≡◌, ◌+◌, ◌||◌, Bool, true, false, not, is_some, IsTrue, Result, Ok, Err}
 use Rattle.transyt_syntax.specs.declared.code.Code.TheVariants as code
 use Rattle.transyt_net.specs.Parts.{Network}
-use Rattle.transyt_deck.specs.declared.reader.CardStop.{CardStop}
+pub use Rattle.transyt_deck.specs.declared.reader.CardStop.{CardStop}
 use Rattle.transyt_deck.specs.declared.reader.CardStop.TheVariants as stop
 use Rattle.transyt_deck.specs.declared.reader.Progress.{Progress}
 use Rattle.transyt_deck.specs.declared.reader.Progress.TheVariants as progress

@@ -8,7 +8,7 @@ use Rattle.std.specs.List.{range_with_len}
 use Rattle.transyt_parts.specs.declared.link.Feed.{Feed}
 use Rattle.transyt_parts.specs.Parts.{LinkValue}
 use Rattle.transyt_parts.specs.Valid.{link_number}
-use Rattle.transyt_net.specs.Parts.{Network}
+use Rattle.transyt_net.specs.Parts.{Network, link_in}
 use Rattle.transyt_net.specs.Valid.{is_among, link_numbers, feeds_at}
 use Rattle.transyt_net.specs.Faults.{with_feed}
 use Rattle.transyt_make.specs.Made.{number_at, side_at, turning, neighbour, bare_link, made_link, with_links}
@@ -63,11 +63,9 @@ fresh seed n k = not_among link_number (made_link seed n) k (number_at k) (λ i 
 -- it has no feed yet
 pub unfed_at : (seed n k : ℕ) → k < 4 * n → feeds_at (with_feeds seed n k).links (number_at k) ≡ []
 unfed_at seed n k inside =
-    rw (
-      links_at seed n k inside,
-      numbered_last link_number (map (made_link seed n) (range_with_len 0 k)) (bare_from seed n (k + 1)) (bare_link seed n k)
-          (fresh seed n k),
-    )
+    ap (λ ls. feeds_at ls (number_at k)) (links_at seed n k inside)
+    ∙ ap (λ o. (link_in o).feeds) (numbered_last link_number (map (made_link seed n) (range_with_len 0 k))
+    (bare_from seed n (k + 1)) (bare_link seed n k) (fresh seed n k))
 
 -- the network with the feeds of one link more
 pub fed_draft : (seed n k from taken number : ℕ) (d e : Network) (f s t : Feed) → k < 4 * n → d ≡ with_feeds seed n k

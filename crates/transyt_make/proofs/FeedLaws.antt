@@ -8,8 +8,8 @@ use Rattle.transyt_parts.specs.declared.link.Feed.{Feed}
 use Rattle.transyt_parts.specs.Parts.{LinkValue}
 use Rattle.transyt_parts.specs.Valid.{link_number, is_fed, feed_in_range}
 use Rattle.transyt_parts.specs.Made.{add_feed}
-use Rattle.transyt_net.specs.Parts.{Network}
-use Rattle.transyt_net.specs.Valid.{is_among, link_numbers, numbered, on_numbered, feeds_at, feeds_in}
+use Rattle.transyt_net.specs.Parts.{Network, link_in}
+use Rattle.transyt_net.specs.Valid.{is_among, link_numbers, numbered, on_numbered, feeds_at}
 use Rattle.transyt_net.specs.Faults.{feed_fault, with_feed, are_links}
 use Rattle.transyt_net.proofs.PlaceLaws.{keys_kept}
 use Rattle.transyt_make.proofs.PlaceLaws.{is_itself}
@@ -44,7 +44,8 @@ named_some key (x ∷ xs) k =
     ]
 
 -- the feeds of a link that is there, with one more
-feeds_more : (o : Option LinkValue) (f : Feed) → is_some o ≡ true → feeds_in (option_map (add_feed f) o) ≡ feeds_in o ++ f ∷ []
+feeds_more : (o : Option LinkValue) (f : Feed) → is_some o ≡ true
+    → (link_in (option_map (add_feed f) o)).feeds ≡ (link_in o).feeds ++ f ∷ []
 feeds_more None f there = absurd (cc)
 feeds_more (Some l) f there = refl
 
@@ -52,7 +53,7 @@ feeds_more (Some l) f there = refl
 fed_once : (net : Network) (link : ℕ) (f : Feed) → is_among (link_numbers net.links) link ≡ true
     → feeds_at (with_feed net link f).links link ≡ feeds_at net.links link ++ f ∷ []
 fed_once net link f there =
-    ap feeds_in (named_after link_number (add_feed f) (λ _. refl) net.links link)
+    ap (λ o. (link_in o).feeds) (named_after link_number (add_feed f) (λ _. refl) net.links link)
     ∙ feeds_more (numbered link_number net.links link) f (named_some link_number net.links link ∙ there)
 
 -- a new feed keeps the numbers

@@ -5,7 +5,7 @@ use Rattle.std.proofs.lemmas.Bool.Decides.{nat_tests}
 use Rattle.transyt_parts.specs.declared.link.Feed.{Feed}
 use Rattle.transyt_net.specs.Edits.{Edit, Offset, Change, Entry, Part, Cruise, Saturation, Weight, with_edit}
 use Rattle.transyt_net.specs.Edits.{set_offset, set_change, change_to, set_entry, set_saturation, set_weights}
-use Rattle.transyt_net.specs.Edits.{feeder_of, flow_to, cruise_to, node_in, link_in, the_link}
+use Rattle.transyt_net.specs.Edits.{feeder_of, node_in, link_in, the_link}
 use Rattle.transyt_net.specs.Parts.{Network, NodeValue, LinkValue}
 use Rattle.transyt_parts.specs.Valid.{is_fed, node_number, link_number, IsNode}
 use Rattle.transyt_net.specs.Valid.{on_numbered, link_numbers, IsLink, IsFeed, IsValid}
@@ -89,10 +89,10 @@ allowed net (Change node stage change) there valid =
 allowed net (Entry link flow) there valid =
     let good = (link_good net link (set_entry flow) (λ l. refl) there.0 valid).1 in grind (arith, nat_tests)
 allowed net (Part link feeder flow) there valid =
-    let is = feed_good net link feeder (flow_to flow) (λ f. refl) there.0 there.1 valid in
+    let is = feed_good net link feeder (λ f. record f { flow = flow }) (λ f. refl) there.0 there.1 valid in
     grind (arith, nat_tests, is.1, is.2)
 allowed net (Cruise link feeder seconds) there valid =
-    let is = feed_good net link feeder (cruise_to seconds) (λ f. refl) there.0 there.1 valid in
+    let is = feed_good net link feeder (λ f. record f { cruise = seconds }) (λ f. refl) there.0 there.1 valid in
     grind (arith, nat_tests, is.1, is.2)
 allowed net (Saturation link flow) there valid =
     let good = (link_good net link (set_saturation flow) (λ l. refl) there.0 valid).1 in grind (arith, nat_tests)

@@ -5,7 +5,7 @@ use Rattle.std.proofs.lemmas.Bool.Decides.{nat_tests}
 use Rattle.transyt_parts.specs.declared.link.Feed.{Feed}
 use Rattle.transyt_net.specs.Edits.{Edit, Offset, Change, Entry, Part, Cruise, Saturation, Weight, with_edit}
 use Rattle.transyt_net.specs.Edits.{set_offset, set_change, change_to, set_entry, set_saturation, set_weights, set_part}
-use Rattle.transyt_net.specs.Edits.{set_cruise, feeder_of, flow_to, cruise_to, node_in}
+use Rattle.transyt_net.specs.Edits.{set_cruise, feeder_of, node_in}
 use Rattle.transyt_net.specs.Parts.{Network, NodeValue, LinkValue}
 use Rattle.transyt_net.specs.Valid.{on_numbered, link_numbers, IsLink, IsFeed, IsValid, node_number, link_number}
 use Rattle.transyt_net.specs.Valid.{all_differ, IsStage}
@@ -67,11 +67,11 @@ valid_edit net (Entry link flow) h none =
     link_valid net (set_entry flow) (λ l. refl) link h (λ l at old. grind (arith, nat_tests))
 valid_edit net (Part link feeder flow) h none =
     link_valid net (set_part feeder flow) (λ l. refl) link h (λ l at old.
-    feeds_written (link_numbers net.links) (flow_to flow) (λ f. refl) net.frame.step_count net.nodes feeder l old
+    feeds_written (link_numbers net.links) (λ f. record f { flow = flow }) (λ f. refl) net.frame.step_count net.nodes feeder l old
     (λ x is. grind (arith, nat_tests)))
 valid_edit net (Cruise link feeder seconds) h none =
     link_valid net (set_cruise feeder seconds) (λ l. refl) link h (λ l at old.
-    feeds_written (link_numbers net.links) (cruise_to seconds) (λ f. refl) net.frame.step_count net.nodes feeder l old
+    feeds_written (link_numbers net.links) (λ f. record f { cruise = seconds }) (λ f. refl) net.frame.step_count net.nodes feeder l old
     (λ x is. grind (arith, nat_tests)))
 valid_edit net (Saturation link flow) h none =
     link_valid net (set_saturation flow) (λ l. refl) link h (λ l at old. grind (arith, nat_tests))

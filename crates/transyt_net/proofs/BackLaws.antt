@@ -3,7 +3,7 @@ use Rattle.std.proofs.Common.{◌≡◌, ℕ, ◌-◌, length, None, refl, sym, 
 use Rattle.transyt_parts.specs.declared.link.Feed.{Feed}
 use Rattle.transyt_net.specs.Edits.{Edit, Offset, Change, Entry, Part, Cruise, Saturation, Weight, with_edit, inverse}
 use Rattle.transyt_net.specs.Edits.{set_offset, set_change, change_to, set_entry, set_saturation, set_weights}
-use Rattle.transyt_net.specs.Edits.{feeder_of, flow_to, cruise_to, node_in, link_in, NamesLink}
+use Rattle.transyt_net.specs.Edits.{feeder_of, node_in, link_in, NamesLink}
 use Rattle.transyt_net.specs.Parts.{Network, LinkValue}
 use Rattle.transyt_net.specs.Valid.{is_among, on_numbered, IsValid, node_number, link_number, is_fed}
 use Rattle.transyt_net.specs.EditFaults.{edit_fault}
@@ -43,8 +43,8 @@ there_after net (Change node stage change) h =
     ∙ ap (λ o. length (node_in o).stages) (sym at.1) in
     (still node_number (set_change stage change) (λ n. refl) net.nodes node node h.0, (h.1.0, omega (arith, h.1.1, same)))
 there_after net (Entry link flow) h = (still link_number (set_entry flow) (λ l. refl) net.links link link h.0, tt)
-there_after net (Part link feeder flow) h = fed_still net link feeder flow (flow_to flow) (λ f. refl) h
-there_after net (Cruise link feeder seconds) h = fed_still net link feeder seconds (cruise_to seconds) (λ f. refl) h
+there_after net (Part link feeder flow) h = fed_still net link feeder flow (λ f. record f { flow = flow }) (λ f. refl) h
+there_after net (Cruise link feeder seconds) h = fed_still net link feeder seconds (λ f. record f { cruise = seconds }) (λ f. refl) h
 there_after net (Saturation link flow) h = (still link_number (set_saturation flow) (λ l. refl) net.links link link h.0, tt)
 there_after net (Weight link weights) h = (still link_number (set_weights weights) (λ l. refl) net.links link link h.0, tt)
 

@@ -1,6 +1,6 @@
 -- The one element that an edit changes.
 use Rattle.std.proofs.Common.{◌≡◌, ℕ, ◌<◌, ◌≤◌, List, [], ◌∷◌, ◌++◌, length, take}
-use Rattle.std.proofs.Common.{get_or, set, Some, refl, sym, ap, ◌∙◌, arith, All}
+use Rattle.std.proofs.Common.{get_or, set, Some, unwrap_or, refl, sym, ap, ◌∙◌, arith, All}
 use Rattle.std.proofs.Math.Seq.{take-length}
 use Rattle.std.proofs.lemmas.List.{set-append_left, take-append-le, length-set, get_or_append_left}
 use Rattle.std.proofs.lemmas.List.Elements.{All-head, All-tail}
@@ -10,7 +10,7 @@ use Rattle.transyt_net.specs.Named.{IsPlace}
 use Rattle.transyt_parts.specs.declared.node.Stage.{Stage}
 use Rattle.transyt_parts.specs.declared.link.Feed.{Feed}
 use Rattle.transyt_parts.specs.Parts.{LinkValue}
-use Rattle.transyt_net.specs.Edits.{change_to, feeder_of, feed_in, the_feed}
+use Rattle.transyt_net.specs.Edits.{change_to, feeder_of, no_feed, the_feed}
 use Rattle.transyt_net.proofs.PlaceLaws.{found_here, on_place_here, written_here}
 
 -- a fact of each element holds for the element of a number
@@ -32,7 +32,7 @@ feed_written {l} f feeder p old same place read =
 pub feed_found : {l was : LinkValue} (feeder p : ℕ) (old : Feed) → l ≡ was → IsPlace feeder_of l.feeds feeder p
     → old ≡ get_or l.feeds p old → old ≡ the_feed was feeder
 feed_found {l} feeder p old same place read =
-    ap feed_in (sym (found_here feeder_of l.feeds feeder p old place read))
+    ap (λ o. unwrap_or o no_feed) (sym (found_here feeder_of l.feeds feeder p old place read))
     ∙ ap (λ (m : LinkValue). the_feed m feeder) same
 
 -- the front of a longer list, with a change set in it

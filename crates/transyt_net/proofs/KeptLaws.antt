@@ -2,7 +2,7 @@
 use Rattle.std.proofs.Common.{◌≡◌, ℕ, map, refl, ap}
 use Rattle.transyt_net.specs.Edits.{Edit, Offset, Change, Entry, Part, Cruise, Saturation, Weight, with_edit}
 use Rattle.transyt_net.specs.Edits.{set_offset, set_change, set_entry, set_saturation, set_weights, set_part}
-use Rattle.transyt_net.specs.Edits.{set_cruise, feeder_of, flow_to, cruise_to}
+use Rattle.transyt_net.specs.Edits.{set_cruise, feeder_of}
 use Rattle.transyt_net.specs.Parts.{Network, NodeValue, LinkValue}
 use Rattle.transyt_net.specs.Valid.{on_numbered, node_number, link_number}
 use Rattle.transyt_parts.specs.Shape.{bare_node, bare_feed, bare_link}
@@ -33,12 +33,12 @@ shape_kept net (Entry link flow) = link_shape net (set_entry flow) (λ l. refl) 
 shape_kept net (Part link feeder flow) =
     let same : (l : LinkValue) → bare_link (set_part feeder flow l) ≡ bare_link l =
     λ l. ap (λ fs. record (bare_link l) { feeds = fs })
-    (map_kept feeder_of (flow_to flow) bare_feed (λ f. refl) l.feeds feeder) in
+    (map_kept feeder_of (λ f. record f { flow = flow }) bare_feed (λ f. refl) l.feeds feeder) in
     link_shape net (set_part feeder flow) same link
 shape_kept net (Cruise link feeder seconds) =
     let same : (l : LinkValue) → bare_link (set_cruise feeder seconds l) ≡ bare_link l =
     λ l. ap (λ fs. record (bare_link l) { feeds = fs })
-    (map_kept feeder_of (cruise_to seconds) bare_feed (λ f. refl) l.feeds feeder) in
+    (map_kept feeder_of (λ f. record f { cruise = seconds }) bare_feed (λ f. refl) l.feeds feeder) in
     link_shape net (set_cruise feeder seconds) same link
 shape_kept net (Saturation link flow) = link_shape net (set_saturation flow) (λ l. refl) link
 shape_kept net (Weight link weights) = link_shape net (set_weights weights) (λ l. refl) link

@@ -1,11 +1,11 @@
 -- The inverse takes an edit back.
 use Rattle.std.proofs.Common.{◌≡◌, ℕ, suc, zero, ◌-◌, List, [], ◌∷◌, Option, Some, refl, ap, ◌∙◌}
-use Rattle.std.proofs.Common.{arith}
+use Rattle.std.proofs.Common.{arith, unwrap_or}
 use Rattle.std.proofs.lemmas.Bool.Decides.{nat_tests}
 use Rattle.transyt_parts.specs.declared.node.Stage.{Stage}
 use Rattle.transyt_net.specs.Edits.{Edit, Offset, Change, Entry, Part, Cruise, Saturation, Weight, with_edit, inverse}
 use Rattle.transyt_net.specs.Edits.{set_offset, set_change, change_to, set_entry, set_saturation, set_weights, set_part}
-use Rattle.transyt_net.specs.Edits.{set_cruise, feeder_of, flow_to, cruise_to, node_in, link_in, feed_in, the_feed}
+use Rattle.transyt_net.specs.Edits.{set_cruise, feeder_of, node_in, link_in, no_feed, the_feed}
 use Rattle.transyt_net.specs.Parts.{Network, NodeValue, LinkValue}
 use Rattle.transyt_net.specs.Valid.{numbered, on_numbered, on_place, node_number, link_number}
 use Rattle.transyt_parts.specs.Plan.{stage_of}
@@ -51,14 +51,16 @@ undone net (Part link feeder flow) =
     ap (λ ls. record net { links = ls })
     (back_is link_number link_in (λ l. refl) (set_part feeder flow) put (λ l. refl) net.links link
     (λ l. ap (λ fs. record l { feeds = fs })
-    (back_is feeder_of feed_in (λ f. refl) (flow_to flow) (λ old. flow_to old.flow) (λ f. refl) l.feeds feeder
+    (back_is feeder_of (λ o. unwrap_or o no_feed) (λ f. refl) (λ f. record f { flow = flow })
+    (λ old f. record f { flow = old.flow }) (λ f. refl) l.feeds feeder
     (λ f. refl))))
 undone net (Cruise link feeder seconds) =
     let put : LinkValue → LinkValue → LinkValue = λ old. set_cruise feeder (the_feed old feeder).cruise in
     ap (λ ls. record net { links = ls })
     (back_is link_number link_in (λ l. refl) (set_cruise feeder seconds) put (λ l. refl) net.links link
     (λ l. ap (λ fs. record l { feeds = fs })
-    (back_is feeder_of feed_in (λ f. refl) (cruise_to seconds) (λ old. cruise_to old.cruise) (λ f. refl) l.feeds feeder
+    (back_is feeder_of (λ o. unwrap_or o no_feed) (λ f. refl) (λ f. record f { cruise = seconds })
+    (λ old f. record f { cruise = old.cruise }) (λ f. refl) l.feeds feeder
     (λ f. refl))))
 undone net (Saturation link flow) =
     ap (λ ls. record net { links = ls })

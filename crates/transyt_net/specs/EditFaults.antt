@@ -1,10 +1,9 @@
 -- The first fault of an edit.
 use Rattle.std.specs.Prelude.{ℕ, Bool, ◌&&◌, not, nat_le, nat_lt, List, Option, Some, None, if◌then◌else◌}
-use Rattle.transyt_parts.specs.declared.node.Stage.{Stage}
 use Rattle.transyt_net.specs.Edits.{Edit, Offset, Change, Entry, Part, Cruise, Saturation, Weight, set_change, the_node}
 use Rattle.transyt_net.specs.declared.edit.EditFault.{EditFault}
 use Rattle.transyt_net.specs.declared.edit.EditFault.TheVariants.{Unknown, NoFeeder, Range, StageOrder, LeastGreen}
-use Rattle.transyt_net.specs.Parts.{Network}
+use Rattle.transyt_net.specs.Parts.{Network, Stage}
 use Rattle.transyt_parts.specs.Valid.{within, is_fed, weights_in_range}
 use Rattle.transyt_parts.specs.Ranges.{is_in, most_flow, cruise_range, saturation_range}
 use Rattle.transyt_net.specs.Valid.{is_among, node_numbers, link_numbers, stages_at, feeds_at}

@@ -1,14 +1,11 @@
 -- Edits: what each does, and the edit that takes it back.
 use Rattle.std.specs.Prelude.{ℕ, ◌-◌}
-use Rattle.transyt_parts.specs.declared.node.Stage.{Stage}
-use Rattle.transyt_parts.specs.declared.link.Feed.{Feed}
-use Rattle.transyt_parts.specs.declared.link.Weights.{Weights}
 pub use Rattle.transyt_net.specs.declared.edit.Edit.{Edit}
 pub use Rattle.transyt_net.specs.declared.edit.Edit.TheVariants.{Offset, Change, Entry, Part, Cruise, Saturation, Weight}
-use Rattle.transyt_net.specs.Parts.{Network, NodeValue, LinkValue}
+use Rattle.transyt_net.specs.Parts.{Network, NodeValue, LinkValue, Stage, Weights}
 use Rattle.transyt_net.specs.Valid.{on_numbered, on_place, node_number, link_number}
 use Rattle.transyt_parts.specs.Plan.{stage_of}
-pub use Rattle.transyt_net.specs.Found.{feeder_of, node_in, link_in, no_feed, feed_in, the_node, the_link, the_feed}
+pub use Rattle.transyt_net.specs.Found.{feeder_of, node_in, link_in, no_feed, the_node, the_link, the_feed}
 
 -- the node with this offset
 abbrev pub set_offset : ℕ → NodeValue → NodeValue
@@ -34,21 +31,14 @@ set_saturation flow l = record l { saturation = flow }
 abbrev pub set_weights : Weights → LinkValue → LinkValue
 set_weights weights l = record l { weights = weights }
 
--- the feed with this flow
-abbrev pub flow_to : ℕ → Feed → Feed
-flow_to flow f = record f { flow = flow }
-
--- the feed with this cruise time
-abbrev pub cruise_to : ℕ → Feed → Feed
-cruise_to seconds f = record f { cruise = seconds }
-
 -- the link with this flow from a feeder
 abbrev pub set_part : ℕ → ℕ → LinkValue → LinkValue
-set_part feeder flow l = record l { feeds = on_numbered feeder_of (flow_to flow) l.feeds feeder }
+set_part feeder flow l = record l { feeds = on_numbered feeder_of (λ f. record f { flow = flow }) l.feeds feeder }
 
 -- the link with this cruise time from a feeder
 abbrev pub set_cruise : ℕ → ℕ → LinkValue → LinkValue
-set_cruise feeder seconds l = record l { feeds = on_numbered feeder_of (cruise_to seconds) l.feeds feeder }
+set_cruise feeder seconds l =
+    record l { feeds = on_numbered feeder_of (λ f. record f { cruise = seconds }) l.feeds feeder }
 
 -- the part that an edit names: a node or a link, by its card number
 pub data Named : Type 0 where

@@ -2,13 +2,9 @@
 use Rattle.std.specs.Prelude.{ℕ, Bool, ◌&&◌, ◌||◌, not, nat_le, List, [], ◌∷◌, ◌++◌, length, Option, Some, None}
 use Rattle.std.specs.Prelude.{if◌then◌else◌, slice_get, is_some, ◌-◌}
 use Rattle.std.specs.List.{list_all}
-use Rattle.transyt_parts.specs.declared.frame.Frame.{Frame}
 use Rattle.transyt_net.specs.declared.draft.DraftFault.{DraftFault}
 use Rattle.transyt_net.specs.declared.draft.DraftFault.TheVariants.{Twice, Unknown, Range, TooMany}
-use Rattle.transyt_net.specs.Parts.{Network, NodeValue, LinkValue, PlanValue}
-use Rattle.transyt_parts.specs.declared.node.Stage.{Stage}
-use Rattle.transyt_parts.specs.declared.link.Feed.{Feed}
-use Rattle.transyt_parts.specs.declared.link.GiveWay.{GiveWay}
+use Rattle.transyt_net.specs.Parts.{Network, NodeValue, LinkValue, PlanValue, Frame, Stage, Feed, GiveWay}
 use Rattle.transyt_net.specs.Valid.{is_among, node_numbers, link_numbers, on_numbered, on_place, stages_at, feeds_at}
 use Rattle.transyt_net.specs.Valid.{rule_at, stage_total, within, all_differ, is_fed, link_number, node_in_range}
 use Rattle.transyt_net.specs.Valid.{stage_in_range, link_in_range, feed_in_range}
@@ -92,8 +88,7 @@ with_rule net link rule = record net { links = on_numbered link_number (set_rule
 -- the first fault of a climb plan
 abbrev pub climb_fault : Network → PlanValue → Option DraftFault
 climb_fault net plan =
-    if not (is_in budget_range plan.budget
-    && list_all (within 1 (net.frame.step_count - 1)) plan.sizes) then Some Range
+    if not (is_in budget_range plan.budget && list_all (within 1 (net.frame.step_count - 1)) plan.sizes) then Some Range
     else None
 
 -- the network with a climb plan

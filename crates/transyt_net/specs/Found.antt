@@ -1,7 +1,6 @@
 -- The node, the link and the feed that a card number names.
-use Rattle.std.specs.Prelude.{ℕ, Option, Some, None}
-use Rattle.transyt_parts.specs.declared.link.Feed.{Feed}
-use Rattle.transyt_net.specs.Parts.{Network, NodeValue, LinkValue}
+use Rattle.std.specs.Prelude.{ℕ, unwrap_or}
+use Rattle.transyt_net.specs.Parts.{Network, NodeValue, LinkValue, Feed}
 use Rattle.transyt_net.specs.Valid.{numbered, node_number, link_number}
 pub use Rattle.transyt_net.specs.Parts.{node_in, link_in}
 
@@ -13,11 +12,6 @@ feeder_of f = f.feeder
 abbrev pub no_feed : Feed
 no_feed = record { feeder = 0; flow = 0; cruise = 0 }
 
--- the feed that was found, or none
-abbrev pub feed_in : Option Feed → Feed
-feed_in None = no_feed
-feed_in (Some f) = f
-
 -- the node of a number
 abbrev pub the_node : Network → ℕ → NodeValue
 the_node net node = node_in (numbered node_number net.nodes node)
@@ -28,4 +22,4 @@ the_link net link = link_in (numbered link_number net.links link)
 
 -- the feed of a link with this feeder
 abbrev pub the_feed : LinkValue → ℕ → Feed
-the_feed l feeder = feed_in (numbered feeder_of l.feeds feeder)
+the_feed l feeder = unwrap_or (numbered feeder_of l.feeds feeder) no_feed

@@ -1,7 +1,11 @@
 -- A network of its parts, as contracts see it.
-use Rattle.std.specs.Prelude.{ℕ, List, [], Option, Some, None, slice_index_or}
-use Rattle.transyt_parts.specs.declared.frame.Frame.{Frame}
-pub use Rattle.transyt_parts.specs.Parts.{LinkValue, NodeValue, PlanValue}
+use Rattle.std.specs.Prelude.{ℕ, List, [], Option, unwrap_or, slice_index_or}
+pub use Rattle.transyt_parts.specs.declared.frame.Frame.{Frame}
+pub use Rattle.transyt_parts.specs.declared.node.Stage.{Stage}
+pub use Rattle.transyt_parts.specs.declared.link.Feed.{Feed}
+pub use Rattle.transyt_parts.specs.declared.link.GiveWay.{GiveWay}
+pub use Rattle.transyt_parts.specs.declared.link.Weights.{Weights}
+pub use Rattle.transyt_parts.specs.Parts.{NodeValue, LinkValue, PlanValue}
 use Rattle.transyt_parts.specs.Made.{new_node, new_link}
 
 -- a network: its nodes and links in card order, and its climb plan if there is one
@@ -33,13 +37,11 @@ no_link = new_link 0 0 0 0 0 0 0 0 []
 
 -- the node that was found, or none
 abbrev pub node_in : Option NodeValue → NodeValue
-node_in None = no_node
-node_in (Some n) = n
+node_in found = unwrap_or found no_node
 
 -- the link that was found, or none
 abbrev pub link_in : Option LinkValue → LinkValue
-link_in None = no_link
-link_in (Some l) = l
+link_in found = unwrap_or found no_link
 
 -- the node at a place
 abbrev pub node_of : Network → ℕ → NodeValue

@@ -2,9 +2,7 @@
 use Rattle.std.specs.Prelude.{suc, zero, ◌≡◌, ℕ, ◌<◌, ◌≤◌, Bool, nat_eq, List, [], ◌∷◌, length, map}
 use Rattle.std.specs.Prelude.{Option, Some, None, IfSome, All, position, IsTrue, if◌then◌else◌}
 use Rattle.std.specs.List.{list_any}
-use Rattle.transyt_parts.specs.declared.link.Feed.{Feed}
-use Rattle.transyt_parts.specs.declared.link.GiveWay.{GiveWay}
-use Rattle.transyt_net.specs.Parts.{Network, node_in, link_in, NodeValue, LinkValue}
+use Rattle.transyt_net.specs.Parts.{Network, node_in, link_in, NodeValue, LinkValue, Feed, GiveWay}
 use Rattle.transyt_parts.specs.Plan.{plan_fault}
 use Rattle.transyt_parts.specs.Ranges.{IsIn, IsWithin, number_range, most_flow, saturation_range}
 use Rattle.transyt_parts.specs.Ranges.{cruise_range, most_percent, most_stages}
@@ -57,21 +55,13 @@ stage_total o = length (node_in o).stages
 abbrev pub stages_at : List NodeValue → ℕ → ℕ
 stages_at nodes number = stage_total (numbered node_number nodes number)
 
--- the feeds of a link; none where there is no link
-abbrev pub feeds_in : Option LinkValue → List Feed
-feeds_in o = (link_in o).feeds
-
 -- the feeds of the link of this number; none where there is no such link
 abbrev pub feeds_at : List LinkValue → ℕ → List Feed
-feeds_at links number = feeds_in (numbered link_number links number)
+feeds_at links number = (link_in (numbered link_number links number)).feeds
 
--- the give-way rule of a link; none where there is no link
-abbrev pub rule_in : Option LinkValue → Option GiveWay
-rule_in o = (link_in o).gives_way
-
--- the rule of the link of this number
+-- the give-way rule of the link of this number; none where there is no such link
 abbrev pub rule_at : List LinkValue → ℕ → Option GiveWay
-rule_at links number = rule_in (numbered link_number links number)
+rule_at links number = (link_in (numbered link_number links number)).gives_way
 
 -- whether a number is among these
 abbrev pub is_among : List ℕ → ℕ → Bool

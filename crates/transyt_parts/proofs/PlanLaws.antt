@@ -1,11 +1,12 @@
 -- The first fault of the nodes' plans.
 use Rattle.std.proofs.Common.{◌≡◌, ℕ, List, [], ◌∷◌, All, Option, None, Some, refl, ap, ◌∙◌}
 use Rattle.std.proofs.lemmas.List.Elements.{All-nil, All-cons, All-head, All-tail}
+use Rattle.std.specs.Option.{option_or}
 use Rattle.transyt_parts.specs.declared.stage_plan.PlanFault.{PlanFault}
 use Rattle.transyt_parts.specs.Parts.{NodeValue}
-use Rattle.transyt_parts.specs.Plan.{plan_fault, first_fault, first_of}
+use Rattle.transyt_parts.specs.Plan.{plan_fault, first_fault}
 
-no_first : (a b : Option PlanFault) → first_of a b ≡ None → (a ≡ None) × (b ≡ None)
+no_first : (a b : Option PlanFault) → option_or a b ≡ None → (a ≡ None) × (b ≡ None)
 no_first None b h = (refl, h)
 no_first (Some fault) b h = absurd (cc)
 
@@ -22,5 +23,5 @@ pub none_first : (steps : ℕ) (nodes : List NodeValue) → All (λ n. plan_faul
     → first_fault steps nodes ≡ None
 none_first steps [] all = refl
 none_first steps (n ∷ ns) all =
-    ap (λ o. first_of o (first_fault steps ns)) (All-head (λ x. plan_fault steps x.stages ≡ None) n ns all)
+    ap (λ o. option_or o (first_fault steps ns)) (All-head (λ x. plan_fault steps x.stages ≡ None) n ns all)
     ∙ none_first steps ns (All-tail (λ x. plan_fault steps x.stages ≡ None) n ns all)

@@ -1,11 +1,7 @@
 -- Parts of given numbers, and parts with one thing more.
 use Rattle.std.specs.Prelude.{ℕ, List, [], ◌∷◌, ◌++◌, Some, None}
-use Rattle.transyt_parts.specs.Parts.{NodeValue, LinkValue, PlanValue}
-use Rattle.transyt_parts.specs.declared.node.Stage.{Stage}
-use Rattle.transyt_parts.specs.declared.link.Feed.{Feed}
-use Rattle.transyt_parts.specs.declared.link.GiveWay.{GiveWay}
+use Rattle.transyt_parts.specs.Parts.{NodeValue, LinkValue, PlanValue, Stage, Feed, GiveWay, Weights}
 use Rattle.transyt_parts.specs.declared.link.NewLink.{NewLink}
-use Rattle.transyt_parts.specs.declared.link.Weights.{Weights}
 
 -- a node with no stage yet
 abbrev pub new_node : ℕ → ℕ → NodeValue

@@ -1,9 +1,9 @@
 -- The parts of a network as contracts see them: a list in place of each vector.
 use Rattle.std.specs.Prelude.{ℕ, List, Option}
-use Rattle.transyt_parts.specs.declared.node.Stage.{Stage}
-use Rattle.transyt_parts.specs.declared.link.Feed.{Feed}
-use Rattle.transyt_parts.specs.declared.link.GiveWay.{GiveWay}
-use Rattle.transyt_parts.specs.declared.link.Weights.{Weights}
+pub use Rattle.transyt_parts.specs.declared.node.Stage.{Stage}
+pub use Rattle.transyt_parts.specs.declared.link.Feed.{Feed}
+pub use Rattle.transyt_parts.specs.declared.link.GiveWay.{GiveWay}
+pub use Rattle.transyt_parts.specs.declared.link.Weights.{Weights}
 
 -- a node, with a list in place of its vector
 pub record NodeValue : Type 0 where

@@ -2,11 +2,11 @@
 use Rattle.std.specs.Prelude.{◌≡◌, ◌<◌, ◌≤◌, ℕ, ◌+◌, ◌==◌, Bool, not, nat_le, List, [], ◌∷◌, length, map, sum}
 use Rattle.std.specs.Prelude.{slice_index_or, Option, Some, None, if◌then◌else◌}
 use Rattle.std.specs.List.{list_all, range_with_len}
+use Rattle.std.specs.Option.{option_or}
 use Rattle.transyt_cycle.specs.Cycle.{minus_mod}
-use Rattle.transyt_parts.specs.declared.node.Stage.{Stage}
 use Rattle.transyt_parts.specs.declared.stage_plan.PlanFault.{PlanFault}
 use Rattle.transyt_parts.specs.declared.stage_plan.PlanFault.TheVariants.{FewStages, StageOrder, LeastGreen}
-use Rattle.transyt_parts.specs.Parts.{NodeValue}
+use Rattle.transyt_parts.specs.Parts.{NodeValue, Stage}
 
 -- the stage at a place that has none
 abbrev pub no_stage : Stage
@@ -64,12 +64,7 @@ plan_fault steps stages =
     else if not (have_greens steps stages) then Some LeastGreen
     else None
 
--- the first that is there
-abbrev pub first_of : Option PlanFault → Option PlanFault → Option PlanFault
-first_of None later = later
-first_of (Some fault) later = Some fault
-
 -- the first fault of the nodes in order
 abbrev pub first_fault : ℕ → List NodeValue → Option PlanFault
 first_fault steps [] = None
-first_fault steps (n ∷ ns) = first_of (plan_fault steps n.stages) (first_fault steps ns)
+first_fault steps (n ∷ ns) = option_or (plan_fault steps n.stages) (first_fault steps ns)

@@ -1,8 +1,6 @@
 -- The shape of the parts of a network: all but the numbers that an edit sets.
 use Rattle.std.specs.Prelude.{map}
-use Rattle.transyt_parts.specs.declared.node.Stage.{Stage}
-use Rattle.transyt_parts.specs.declared.link.Feed.{Feed}
-use Rattle.transyt_parts.specs.Parts.{NodeValue, LinkValue}
+use Rattle.transyt_parts.specs.Parts.{NodeValue, LinkValue, Stage, Feed}
 use Rattle.transyt_parts.specs.Made.{new_weights}
 
 -- a stage with its change put to 0
@@ -19,5 +17,4 @@ bare_feed f = record f { flow = 0; cruise = 0 }
 
 -- a link with each number that an edit sets put to 0
 abbrev pub bare_link : LinkValue → LinkValue
-bare_link l =
-    record l { entry = 0; saturation = 0; weights = new_weights 0 0; feeds = map bare_feed l.feeds }
+bare_link l = record l { entry = 0; saturation = 0; weights = new_weights 0 0; feeds = map bare_feed l.feeds }

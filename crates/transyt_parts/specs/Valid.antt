@@ -3,10 +3,7 @@ use Rattle.std.specs.Prelude.{ℕ, ◌<◌, ◌≤◌, Bool, true, ◌&&◌, not
 use Rattle.std.specs.Prelude.{nat_lt}
 use Rattle.std.specs.List.{list_any}
 use Rattle.transyt_parts.specs.declared.frame.Frame.{Frame}
-use Rattle.transyt_parts.specs.declared.node.Stage.{Stage}
-use Rattle.transyt_parts.specs.declared.link.Feed.{Feed}
-use Rattle.transyt_parts.specs.declared.link.Weights.{Weights}
-use Rattle.transyt_parts.specs.Parts.{NodeValue, LinkValue, PlanValue}
+use Rattle.transyt_parts.specs.Parts.{NodeValue, LinkValue, PlanValue, Stage, Feed, Weights}
 use Rattle.transyt_parts.specs.Ranges.{is_in, IsIn, IsWithin, cycle_range, step_count_range, sweeps_range, period_range}
 use Rattle.transyt_parts.specs.Ranges.{most_penalty, most_dispersion, number_range, most_flow, saturation_range}
 use Rattle.transyt_parts.specs.Ranges.{most_weight, cruise_range, budget_range, most_stages, most_sizes}

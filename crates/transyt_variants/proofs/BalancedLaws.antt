@@ -15,7 +15,7 @@ use Rattle.transyt_equisat.specs.Peaks.{IsPlanOf}
 use Rattle.transyt_equisat.specs.Balance.{balance, no_share, greens_at, least_peak, share_at}
 use Rattle.transyt_equisat.proofs.PlanFits.{plan_parts}
 use Rattle.transyt_equisat.proofs.WorthLaws.{balanced as is_balanced}
-use Rattle.transyt_variants.specs.Cycles.{steps_of, bare_net, balanced_node, balanced_nodes, balanced}
+use Rattle.transyt_variants.specs.Cycles.{steps_of, bare_net, balanced_node, balanced}
 use Rattle.transyt_variants.specs.Needs.{CanHave}
 use Rattle.transyt_variants.specs.Kept.{KeepsSeconds}
 use Rattle.transyt_variants.proofs.BareLaws.{change_small, plans_same, bare_valid}
@@ -56,20 +56,20 @@ balanced_plan : (net : Network) (p : ℕ) → IsValid net → p < length net.nod
 balanced_plan net p valid inside = (is_balanced net p valid inside).allowed
 
 -- the balanced nodes differ in their changes alone
-balanced_same : (net : Network) → IsValid net → map bare_node (balanced_nodes net) ≡ map bare_node net.nodes
+balanced_same : (net : Network) → IsValid net → map bare_node (balanced net).nodes ≡ map bare_node net.nodes
 balanced_same net valid =
     map_places bare_node (balanced_node net) net.nodes no_node (bare_node no_node) (λ k inside.
     ap (λ (ss : List Stage). record (node_of net k) { offset = 0; stages = ss }) (balanced_plan net k valid inside).same)
 
 -- and have their numbers
-pub balanced_numbers : (net : Network) → IsValid net → node_numbers (balanced_nodes net) ≡ node_numbers net.nodes
-balanced_numbers net valid = same_numbers (balanced_nodes net) net.nodes (balanced_same net valid)
+pub balanced_numbers : (net : Network) → IsValid net → node_numbers (balanced net).nodes ≡ node_numbers net.nodes
+balanced_numbers net valid = same_numbers (balanced net).nodes net.nodes (balanced_same net valid)
 
 -- the balanced network is valid
-pub balanced_valid : (net : Network) → IsValid net → IsValid (with_signals net net.frame (balanced_nodes net))
+pub balanced_valid : (net : Network) → IsValid net → IsValid (with_signals net net.frame (balanced net).nodes)
 balanced_valid net valid =
     let steps = net.frame.step_count in
-    valid_nodes net (balanced_nodes net) valid (balanced_same net valid)
+    valid_nodes net (balanced net).nodes valid (balanced_same net valid)
     (all_places (IsNode steps) (balanced_node net) (length net.nodes) (λ k inside. balanced_is net k valid inside))
     (all_places (λ (n : NodeValue). plan_fault steps n.stages ≡ None) (balanced_node net) (length net.nodes)
     (λ k inside. (balanced_plan net k valid inside).allowed))

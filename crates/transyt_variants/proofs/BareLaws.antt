@@ -25,7 +25,7 @@ use Rattle.transyt_equisat.proofs.FilledLaws.{filled}
 use Rattle.transyt_equisat.proofs.PlanFits.{plan_parts}
 use Rattle.transyt_equisat.proofs.TimedPlans.{AreTimed, timed_allowed}
 use Rattle.transyt_variants.specs.Cycles.{steps_of, has_short_lags, has_short_sizes, may_have, least_length, first_barred}
-use Rattle.transyt_variants.specs.Cycles.{scaled, scaled_stage, scaled_stages, filled_greens, laid_stage, laid, bare_stages, bare_plan, frame_at, bare_net}
+use Rattle.transyt_variants.specs.Cycles.{scaled, scaled_stage, filled_greens, laid, bare_stages, bare_plan, bare_net}
 use Rattle.transyt_variants.specs.Needs.{HasBarePlan, CanHave}
 use Rattle.transyt_variants.proofs.ValidLaws.{valid_signals}
 use Rattle.transyt_variants.proofs.StartLaws.{map_places, all_places}
@@ -36,6 +36,10 @@ scaled_below before after step inside some =
     let more = mul-lt-mul_of_pos_right inside some in
     (div-lt_iff_lt-mul (omega arith)).1 (omega (arith, more))
 
+-- the stage at a place, with its change as many steps after the first as the stages before it take
+abbrev pub laid_stage : ℕ → List Stage → List ℕ → ℕ → Stage
+laid_stage steps ss gs k = record (stage_of ss k) { change = change_at steps ss gs k }
+
 -- stages one after another differ in their changes alone
 laid_same : (steps : ℕ) (ss : List Stage) (gs : List ℕ) → map bare_stage (laid steps ss gs) ≡ map bare_stage ss
 laid_same steps ss gs = map_places bare_stage (laid_stage steps ss gs) ss no_stage no_stage (λ k inside. refl)
@@ -43,7 +47,7 @@ laid_same steps ss gs = map_places bare_stage (laid_stage steps ss gs) ss no_sta
 -- so do those of the bare plan
 bare_same : (before after : ℕ) (ss : List Stage) → map bare_stage (bare_stages before after ss) ≡ map bare_stage ss
 bare_same before after ss =
-    laid_same after (scaled_stages before after ss) (filled_greens after ss) ∙ map-map bare_stage (scaled_stage before after) ss
+    laid_same after (map (scaled_stage before after) ss) (filled_greens after ss) ∙ map-map bare_stage (scaled_stage before after) ss
 
 -- nodes with their bare plans differ in their offsets and changes alone
 pub plans_same : (before after : ℕ) (ns : List NodeValue)
@@ -74,16 +78,17 @@ change_small steps ss gs zero some first = first
 change_small steps ss gs (suc k) some first =
     mod-lt (change_at steps ss gs k + get_or gs k 0 + (stage_of ss k).intergreen) some
 
+-- the scaled stages have the scaled stage at each place
 scaled_at : (before after : ℕ) (ss : List Stage) (k : ℕ) → k < length ss
-    → stage_of (scaled_stages before after ss) k ≡ scaled_stage before after (stage_of ss k)
+    → stage_of (map (scaled_stage before after) ss) k ≡ scaled_stage before after (stage_of ss k)
 scaled_at before after ss k inside =
     get_or-map (scaled_stage before after) ss k no_stage no_stage inside
 
 -- the greens of the bare plan fill the cycle
 bare_fits : (before after : ℕ) (ss : List Stage) → 0 < length ss → least_length ss ≤ after
-    → Fits after (scaled_stages before after ss) (filled_greens after ss)
+    → Fits after (map (scaled_stage before after) ss) (filled_greens after ss)
 bare_fits before after ss some room =
-    let scaled_ss = scaled_stages before after ss in
+    let scaled_ss : List Stage = map (scaled_stage before after) ss in
     let gs : List ℕ = map (λ (s : Stage). s.least) ss in
     let count = length-map ss (scaled_stage before after) in
     let gaps : lost scaled_ss ≡ lost ss =
@@ -104,7 +109,7 @@ bare_fits before after ss some room =
 
 -- the first stage keeps its change within the cycle
 pub scaled_first : (before after : ℕ) (ss : List Stage) → 0 < length ss → All (IsStage before) ss → 0 < after
-    → (stage_of (scaled_stages before after ss) 0).change < after
+    → (stage_of (map (scaled_stage before after) ss) 0).change < after
 scaled_first before after ss inside each some =
     subst (λ (s : Stage). s.change < after) (sym (scaled_at before after ss 0 inside))
     (scaled_below before after (stage_of ss 0).change (each 0 no_stage inside).change some)
@@ -114,7 +119,7 @@ bare_is : (before after : ℕ) (n : NodeValue) → HasBarePlan before after n �
     → IsNode after (bare_plan before after n) × (plan_fault after (bare_stages before after n.stages) ≡ None)
 bare_is before after n has some =
     let ss : List Stage = n.stages in
-    let scaled_ss = scaled_stages before after ss in
+    let scaled_ss : List Stage = map (scaled_stage before after) ss in
     let gs : List ℕ = filled_greens after ss in
     let count = length-map ss (scaled_stage before after) in
     let zero_in : 0 < length ss = omega (arith, has.two) in
@@ -159,6 +164,7 @@ room_of steps [] none = All-nil (λ (n : NodeValue). least_length n.stages ≤ s
 room_of steps (n ∷ ns) none =
     grind (arith, nat_tests, All-cons (λ (n : NodeValue). least_length n.stages ≤ steps) n ns, room_of steps ns)
 
+-- a climb plan of short sizes is valid in the other cycle
 plan_again : (before after : ℕ) (o : Option PlanValue) → IfSome o (IsPlan before) → has_short_sizes after o ≡ true → IfSome o (IsPlan after)
 plan_again before after None is short = tt
 plan_again before after (Some p) is short =
@@ -169,6 +175,7 @@ plan_again before after (Some p) is short =
       sizes = λ i d below. ((is.sizes i d below).0, grind (arith, nat_tests, each i d below));
     }
 
+-- the parts of the test
 may_facts : (net : Network) (steps : ℕ) → may_have steps net ≡ true → (10 ≤ steps) × (steps ≤ 120)
     × (list_all (has_short_lags steps) net.links ≡ true) × (has_short_sizes steps net.plan ≡ true)
 may_facts net steps may = grind (arith, nat_tests)
@@ -194,7 +201,7 @@ bare_valid net cycle valid can =
     let lags = AllPass-from_list_all (has_short_lags after) net.links may.2 in
     let frame = valid.sound.frame in
     let all = have_plans net cycle valid can in
-    valid_signals net (frame_at net cycle) (map (bare_plan before after) net.nodes) valid (record {
+    valid_signals net (record net.frame { cycle = cycle; step_count = after }) (map (bare_plan before after) net.nodes) valid (record {
       framed = record {
         cycle = (can.low, can.high);
         step_count = (may.0, may.1);
@@ -221,7 +228,7 @@ least_small ss each =
 
 -- no intergreen is above 120
 pub scaled_gaps : (before after : ℕ) (ss : List Stage) → before ≤ 120 → All (IsStage before) ss
-    → All (λ s. s.intergreen ≤ 120) (scaled_stages before after ss)
+    → All (λ s. s.intergreen ≤ 120) (map (scaled_stage before after) ss)
 scaled_gaps before after ss few each =
     All-map (λ s. s.intergreen ≤ 120) (scaled_stage before after) ss
     (All-weaker (IsStage before) (λ s. s.intergreen ≤ 120) (λ s is. omega (arith, is.intergreen)) ss each)

@@ -1,27 +1,32 @@
 -- The network of a cycle time, by cases.
 use Rattle.std.proofs.Common.{◌≡◌, ℕ, ◌≤◌, Bool, true, false, not, ◌||◌, Option, Some, None, Result, Ok, Err, IfOk, refl, ◌∙◌, ap, subst, sym, if◌then◌else◌}
+use Rattle.std.specs.Option.{option_map_or}
 use Rattle.transyt_net.specs.Parts.{Network}
 use Rattle.transyt_net.specs.Valid.{IsValid}
 use Rattle.transyt_variants.specs.declared.cycles.AtCycle.{AtCycle}
-use Rattle.transyt_variants.specs.declared.cycles.AtCycle.TheVariants.{NoPlan}
-use Rattle.transyt_variants.specs.Cycles.{is_whole, may_have, steps_of, first_barred, plan_by, at_cycle}
+use Rattle.transyt_variants.specs.declared.cycles.AtCycle.TheVariants.{NoPlan, Barred, Plan}
+use Rattle.transyt_variants.specs.Cycles.{is_whole, may_have, steps_of, first_barred, balanced, bare_net, at_cycle}
 use Rattle.transyt_variants.specs.Kept.{KeepsSecondsAt}
 use Rattle.transyt_variants.proofs.BalancedLaws.{plan_kept}
+
+-- the plan by the first node that bars it
+abbrev planned : Network → ℕ → Option ℕ → AtCycle
+planned net cycle barred = option_map_or Barred barred (Plan (balanced (bare_net net cycle)))
 
 -- no whole number of steps, or not one that there may be
 pub not_had : (net : Network) (cycle : ℕ) → (not (is_whole net cycle) || not (may_have (steps_of net cycle) net)) ≡ true
     → NoPlan ≡ at_cycle net cycle
 unfolding at_cycle
 not_had net cycle bad =
-    sym (ap (λ (b : Bool). if b then NoPlan else plan_by net cycle (first_barred (steps_of net cycle) net.nodes)) bad)
+    sym (ap (λ (b : Bool). if b then NoPlan else planned net cycle (first_barred (steps_of net cycle) net.nodes)) bad)
 
 -- else it goes by the first node that bars it
 pub had : (net : Network) (cycle : ℕ) (o : Option ℕ) → is_whole net cycle ≡ true → may_have (steps_of net cycle) net ≡ true
-    → first_barred (steps_of net cycle) net.nodes ≡ o → plan_by net cycle o ≡ at_cycle net cycle
+    → first_barred (steps_of net cycle) net.nodes ≡ o → planned net cycle o ≡ at_cycle net cycle
 unfolding at_cycle
 had net cycle o whole may first =
-    sym ((λ j. if not (whole j) || not (may j) then NoPlan else plan_by net cycle (first_barred (steps_of net cycle) net.nodes))
-    ∙ ap (plan_by net cycle) first)
+    sym ((λ j. if not (whole j) || not (may j) then NoPlan else planned net cycle (first_barred (steps_of net cycle) net.nodes))
+    ∙ ap (planned net cycle) first)
 
 -- where there is one, it keeps the seconds
 pub cycle_kept : (net : Network) (cycle : ℕ) → IsValid net → 30 ≤ cycle → cycle ≤ 240 → KeepsSecondsAt net (at_cycle net cycle)

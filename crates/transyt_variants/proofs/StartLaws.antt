@@ -12,10 +12,14 @@ use Rattle.transyt_net.specs.Parts.{Network, with_signals, node_of, no_node}
 use Rattle.transyt_net.specs.Edits.{set_offset}
 use Rattle.transyt_net.specs.Valid.{IsValid, node_numbers}
 use Rattle.transyt_make.specs.Draws.{draw, after_draws}
-use Rattle.transyt_variants.specs.Starts.{drawn_node, drawn_nodes, start_at}
+use Rattle.transyt_variants.specs.Starts.{drawn_nodes, start_at}
 use Rattle.transyt_variants.specs.Kept.{KeepsAllButOffsets}
 use Rattle.transyt_net.proofs.ShapeLaws.{same_numbers}
 use Rattle.transyt_variants.proofs.ValidLaws.{valid_nodes}
+
+-- the node at a place, with a draw as its offset
+abbrev pub drawn_node : Network → ℕ → ℕ → ℕ → NodeValue
+drawn_node net seed first p = set_offset (draw seed (first + p) net.frame.step_count) (node_of net p)
 
 -- a list made anew place by place, seen by what stays
 pub map_places : {A B : Type 0} (h : A → B) (f : ℕ → A) (xs : List A) (d : A) (e : B)

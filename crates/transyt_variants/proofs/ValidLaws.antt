@@ -25,6 +25,7 @@ pub record AreSignals (net : Network) (frame : Frame) (nodes : List NodeValue) :
   pub lags : All (HasShortLags frame.step_count) net.links
   pub plan : IfSome net.plan (IsPlan frame.step_count)
 
+-- a link with short lags is valid among the new nodes
 link_again : (net : Network) (frame : Frame) (nodes : List NodeValue) (l : LinkValue)
     → map bare_node nodes ≡ map bare_node net.nodes → HasShortLags frame.step_count l
     → IsLink net.frame.step_count net.nodes (link_numbers net.links) l

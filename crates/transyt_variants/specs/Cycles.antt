@@ -1,15 +1,13 @@
 -- Other cycle times of a network, whose steps keep their length in seconds. Cycle times are in seconds, all else in
 -- steps.
 use Rattle.std.specs.Prelude.{ℕ, ◌+◌, ◌-◌, ◌*◌, ◌/◌, ◌%◌, ◌==◌, Bool, true, ◌&&◌, ◌||◌, not, nat_lt, List, map, length, sum_by}
-use Rattle.std.specs.Prelude.{Option, Some, None, if◌then◌else◌}
-use Rattle.std.specs.List.{list_all, find, range_with_len}
-use Rattle.std.specs.Option.{option_map}
-use Rattle.transyt_parts.specs.declared.frame.Frame.{Frame}
-use Rattle.transyt_parts.specs.declared.node.Stage.{Stage}
-use Rattle.transyt_parts.specs.Parts.{NodeValue, LinkValue, PlanValue}
+use Rattle.std.specs.Prelude.{Option, Some, None, option_map, find, if◌then◌else◌}
+use Rattle.std.specs.List.{list_all, range_with_len}
+use Rattle.std.specs.Option.{option_map_or}
 use Rattle.transyt_parts.specs.Plan.{stage_of}
 use Rattle.transyt_parts.specs.Ranges.{is_in, step_count_range}
-use Rattle.transyt_net.specs.Parts.{Network, node_of}
+use Rattle.transyt_parts.specs.declared.node.Stage.{Stage}
+use Rattle.transyt_net.specs.Parts.{Network, NodeValue, LinkValue, PlanValue, node_of}
 use Rattle.transyt_equisat.specs.Peaks.{lost}
 use Rattle.transyt_equisat.specs.Balance.{balance, change_at, first_more, timed}
 use Rattle.transyt_variants.specs.declared.cycles.AtCycle.{AtCycle}
@@ -53,41 +51,29 @@ scaled before after step = step * after / before
 abbrev pub scaled_stage : ℕ → ℕ → Stage → Stage
 scaled_stage before after s = record s { change = scaled before after s.change }
 
--- stages with such changes
-abbrev pub scaled_stages : ℕ → ℕ → List Stage → List Stage
-scaled_stages before after stages = map (scaled_stage before after) stages
-
 -- the least greens of stages, with what is left of the cycle added to the first
 abbrev pub filled_greens : ℕ → List Stage → List ℕ
 filled_greens steps stages = first_more (steps - least_length stages) (map (λ s. s.least) stages)
 
--- the stage at a place, with its change as many steps after the first as the stages before it take
-abbrev pub laid_stage : ℕ → List Stage → List ℕ → ℕ → Stage
-laid_stage steps stages greens k = record (stage_of stages k) { change = change_at steps stages greens k }
-
 -- stages one after another from the change of the first on, each as long as its intergreen and this green
 abbrev pub laid : ℕ → List Stage → List ℕ → List Stage
 laid steps stages greens =
-    map (laid_stage steps stages greens) (range_with_len 0 (length stages))
+    map (λ k. record (stage_of stages k) { change = change_at steps stages greens k }) (range_with_len 0 (length stages))
 
 -- the stages of the bare plan: as long as their intergreens and least greens, what is left of the cycle to the first
 abbrev pub bare_stages : ℕ → ℕ → List Stage → List Stage
-bare_stages before after stages = laid after (scaled_stages before after stages) (filled_greens after stages)
+bare_stages before after stages = laid after (map (scaled_stage before after) stages) (filled_greens after stages)
 
 -- a node with its bare plan
 abbrev pub bare_plan : ℕ → ℕ → NodeValue → NodeValue
 bare_plan before after n =
     record n { offset = scaled before after n.offset; stages = bare_stages before after n.stages }
 
--- the frame with this cycle
-abbrev pub frame_at : Network → ℕ → Frame
-frame_at net cycle = record net.frame { cycle = cycle; step_count = steps_of net cycle }
-
--- the bare network of a cycle time
+-- the bare network of a cycle time: its frame has this cycle, and each node its bare plan
 abbrev pub bare_net : Network → ℕ → Network
 bare_net net cycle =
     record net {
-      frame = frame_at net cycle;
+      frame = record net.frame { cycle = cycle; step_count = steps_of net cycle };
       nodes = map (bare_plan net.frame.step_count (steps_of net cycle)) net.nodes;
     }
 
@@ -95,22 +81,13 @@ bare_net net cycle =
 abbrev pub balanced_node : Network → ℕ → NodeValue
 balanced_node net p = record (node_of net p) { stages = timed (node_of net p).stages (balance net p).stages }
 
--- the nodes with the changes of their balances
-abbrev pub balanced_nodes : Network → List NodeValue
-balanced_nodes net = map (balanced_node net) (range_with_len 0 (length net.nodes))
-
 -- the network with the changes of the balance of each node
 abbrev pub balanced : Network → Network
-balanced net = record net { nodes = balanced_nodes net }
-
--- the plan of a cycle time with so many steps, or the number of the first node that bars it
-abbrev pub plan_by : Network → ℕ → Option ℕ → AtCycle
-plan_by net cycle (Some node) = Barred node
-plan_by net cycle None = Plan (balanced (bare_net net cycle))
+balanced net = record net { nodes = map (balanced_node net) (range_with_len 0 (length net.nodes)) }
 
 -- the plan of a cycle time: none where it isn't a whole number of steps, or may not have them; barred by the first
 -- node whose stages take more; else the bare network, balanced
 unfoldable pub at_cycle : Network → ℕ → AtCycle
 at_cycle net cycle =
     if not (is_whole net cycle) || not (may_have (steps_of net cycle) net) then NoPlan
-    else plan_by net cycle (first_barred (steps_of net cycle) net.nodes)
+    else option_map_or Barred (first_barred (steps_of net cycle) net.nodes) (Plan (balanced (bare_net net cycle)))

@@ -5,7 +5,7 @@ use Rattle.transyt_net.specs.Parts.{Network}
 use Rattle.transyt_net.specs.Edits.{set_offset}
 use Rattle.transyt_net.specs.Valid.{IsValid}
 use Rattle.transyt_variants.specs.declared.cycles.AtCycle.{AtCycle}
-use Rattle.transyt_variants.specs.declared.cycles.AtCycle.TheVariants.{NoPlan, Barred, Plan}
+use Rattle.transyt_variants.specs.declared.cycles.AtCycle.TheVariants.{Plan}
 
 -- a valid network that differs at most in its offsets
 pub record KeepsAllButOffsets (net made : Network) : Type 0 where
@@ -27,6 +27,5 @@ pub record KeepsSeconds (net made : Network) : Type 0 where
 
 -- the same of a cycle time that has a plan
 abbrev pub KeepsSecondsAt : Network → AtCycle → Type 0
-KeepsSecondsAt net NoPlan = ⊤
-KeepsSecondsAt net (Barred node) = ⊤
 KeepsSecondsAt net (Plan made) = KeepsSeconds net made
+KeepsSecondsAt net _ = ⊤

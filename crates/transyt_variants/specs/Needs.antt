@@ -1,8 +1,7 @@
 -- The conditions of the calls that make a bare plan. No public clause cites these.
 use Rattle.std.specs.Prelude.{ℕ, ◌≡◌, ◌≤◌, true, length, None}
-use Rattle.transyt_parts.specs.Parts.{NodeValue}
 use Rattle.transyt_parts.specs.Valid.{IsNode}
-use Rattle.transyt_net.specs.Parts.{Network}
+use Rattle.transyt_net.specs.Parts.{Network, NodeValue}
 use Rattle.transyt_variants.specs.Cycles.{is_whole, may_have, steps_of, first_barred, least_length}
 
 -- a node of a cycle of so many steps that has a bare plan in one of others

@@ -1,18 +1,14 @@
 -- Other starts of a network: offsets that are drawn from a seed. Places of nodes count from 0, in card order.
 use Rattle.std.specs.Prelude.{ℕ, zero, suc, ◌+◌, ◌*◌, List, map, length}
 use Rattle.std.specs.List.{range_with_len}
-use Rattle.transyt_parts.specs.Parts.{NodeValue}
-use Rattle.transyt_net.specs.Parts.{Network, node_of}
+use Rattle.transyt_net.specs.Parts.{Network, NodeValue, node_of}
 use Rattle.transyt_net.specs.Edits.{set_offset}
 use Rattle.transyt_make.specs.Draws.{draw}
 
--- the node at a place, with a draw as its offset: the first node has the draw of this number, and each its own
-abbrev pub drawn_node : Network → ℕ → ℕ → ℕ → NodeValue
-drawn_node net seed first p = set_offset (draw seed (first + p) net.frame.step_count) (node_of net p)
-
--- the nodes with draws as their offsets, from the draw of this number on
+-- the nodes with draws as their offsets: the first node has the draw of this number, and each its own
 abbrev pub drawn_nodes : Network → ℕ → ℕ → List NodeValue
-drawn_nodes net seed first = map (drawn_node net seed first) (range_with_len 0 (length net.nodes))
+drawn_nodes net seed first =
+    map (λ p. set_offset (draw seed (first + p) net.frame.step_count) (node_of net p)) (range_with_len 0 (length net.nodes))
 
 -- the start of a number: number 0 is the network itself; the draws go on from start to start
 unfoldable pub start_at : Network → ℕ → ℕ → Network

@@ -7,8 +7,8 @@ ghost use Rattle.transyt_parts.specs.Valid.{IsNode, IsStage};
 ghost use Rattle.transyt_net.specs.Valid.{IsValid};
 ghost use Rattle.transyt_equisat.specs.Balance.{timed, balance, first_more};
 ghost use Rattle.transyt_variants.specs.Cycles.{is_whole, steps_of, has_short_lags, has_short_sizes, may_have};
-ghost use Rattle.transyt_variants.specs.Cycles.{least_length, first_barred, scaled, scaled_stages, filled_greens, laid};
-ghost use Rattle.transyt_variants.specs.Cycles.{bare_stages, bare_plan, bare_net, balanced_node, balanced_nodes, balanced};
+ghost use Rattle.transyt_variants.specs.Cycles.{least_length, first_barred, scaled, scaled_stage, filled_greens, laid};
+ghost use Rattle.transyt_variants.specs.Cycles.{bare_stages, bare_plan, bare_net, balanced_node, balanced};
 ghost use Rattle.transyt_variants.specs.Cycles.{at_cycle};
 ghost use Rattle.transyt_variants.specs.Kept.{KeepsSecondsAt};
 ghost use Rattle.transyt_variants.specs.Needs.{HasBarePlan, CanHave};
@@ -122,7 +122,7 @@ fn scaled_stages(
     requires some { 0 < after }
     requires after { after ≤ 120 }
     requires stages { All (IsStage before) stages.now }
-    ensures { IfOk result (λ made. made.items ≡ scaled_stages before after stages.now) }
+    ensures { IfOk result (λ made. made.items ≡ map (scaled_stage before after) stages.now) }
 {
     let mut made = Vec::with_capacity(alloc, stages.len())?;
     for stage in stages {
@@ -332,7 +332,7 @@ fn balanced_node(alloc: Global, net: &Net, place: usize) -> Result<Node, AllocEr
 /// Adds the nodes with the changes of their balances.
 fn add_balanced(alloc: Global, net: &Net, nodes: &mut Vec<Node>) -> Result<(), AllocError>
     requires { nodes.old.items ≡ [] }
-    ensures { OnOk result (nodes.new.items ≡ balanced_nodes net.now) }
+    ensures { OnOk result (nodes.new.items ≡ (balanced net.now).nodes) }
 {
     for place in 0..net.nodes().len() {
         nodes.push(balanced_node(alloc, net, place)?)?;

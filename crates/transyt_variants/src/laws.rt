@@ -12,7 +12,8 @@ ghost use Rattle.transyt_variants.specs.WorkedVariants.{worked_starts, bare_at_1
 /// time, where there is one, is a valid network whose steps are as many seconds long.
 #[tactic(auto, using(crate::proofs::StartLaws::start_kept, crate::proofs::CycleLaws::cycle_kept))]
 pub fn variants_keep()
-    ensures starts { (net : Network) (seed place : ℕ) → IsValid net → KeepsAllButOffsets net (start_at net seed place) }
+    ensures starts { (net : Network) (seed place : ℕ) → IsValid net
+        → KeepsAllButOffsets net (start_at net seed place) }
     ensures cycles { (net : Network) (cycle : ℕ) → IsValid net → 30 ≤ cycle → cycle ≤ 240
         → KeepsSecondsAt net (at_cycle net cycle) }
 {}
@@ -30,5 +31,6 @@ pub fn worked_cycles()
     ensures bare { (bare_net worked_town 135).nodes ≡ bare_at_135 }
     ensures plan { at_cycle worked_town 135 ≡ town_at_135 }
     ensures full { at_cycle worked_town 55 ≡ town_at_55 }
-    ensures unplanned { map (λ c. at_cycle c.net c.cycle) unplanned ≡ map (λ c. c.comes_to) unplanned }
+    ensures unplanned { map (λ c. at_cycle c.net c.cycle) unplanned
+        ≡ map (λ c. c.comes_to) unplanned }
 {}

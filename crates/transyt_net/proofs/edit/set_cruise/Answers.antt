@@ -1,10 +1,9 @@
 -- The feed at the place of its feeder is the one that is written.
 use Rattle.std.proofs.Common.{rules}
-use Rattle.transyt_net.specs.Edits.{cruise_to}
 use Rattle.transyt_net.proofs.EditLaws.{feed_written}
 use Rattle.transyt_net.proofs.edit.set_cruise.Goals as goal
 
 pub returns-clause-value : goal.returns-clause-value
 returns-clause-value c =
-    feed_written (cruise_to c.args.seconds) c.args.feeder c.feed_place-place.result _ c.link.view_is (search rules)
+    feed_written (λ f. record f { cruise = c.args.seconds }) c.args.feeder c.feed_place-place.result _ c.link.view_is (search rules)
     c.index_mut.ensures.value

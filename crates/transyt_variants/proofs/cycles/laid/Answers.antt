@@ -6,7 +6,7 @@ use Rattle.std.proofs.lemmas.List.FromFn.{map-range_with_len_more}
 use Rattle.transyt_parts.specs.declared.node.Stage.{Stage}
 use Rattle.transyt_parts.specs.Plan.{stage_of}
 use Rattle.transyt_equisat.specs.Balance.{change_at}
-use Rattle.transyt_variants.specs.Cycles.{laid_stage}
+use Rattle.transyt_variants.proofs.BareLaws.{laid_stage}
 use Rattle.transyt_variants.proofs.cycles.laid.Goals as goal
 
 pub loop-place-preserved : goal.loop-place-preserved

@@ -2,7 +2,7 @@
 use Rattle.std.proofs.Common.{◌≡◌, ◌≤◌, length, map}
 use Rattle.std.specs.List.{range_with_len}
 use Rattle.transyt_make.specs.Draws.{further}
-use Rattle.transyt_variants.specs.Starts.{drawn_node}
+use Rattle.transyt_variants.proofs.StartLaws.{drawn_node}
 use Rattle.transyt_variants.proofs.starts.add_nodes.Given as goal
 
 abbrev pub invariant-loop-place : goal.invariant-loop-place
