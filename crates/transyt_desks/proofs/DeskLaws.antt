@@ -1,6 +1,6 @@
 -- Desks as a list: each session is that of its desk, so facts of all desks are facts of their sessions.
 use Rattle.std.proofs.Common.{◌≡◌, ℕ, zero, suc, ◌+◌, ◌-◌, ◌<◌, ◌≤◌, List, [], ◌∷◌, ◌++◌, length, take, drop}
-use Rattle.std.proofs.Common.{slice_index_or, slice_set, replicate, refl, ap, sym, ◌∙◌, arith, None}
+use Rattle.std.proofs.Common.{slice_index_or, slice_set, replicate, refl, ap, sym, ◌∙◌, arith, None, Bool, true, false}
 use Rattle.std.proofs.Math.ListN.{get_or-map}
 use Rattle.std.proofs.lemmas.List.{length-map, map-append, same_lists, get_or_default, get_or-set_other}
 use Rattle.std.proofs.lemmas.List.{length-replicate, get_or-replicate, replicate-append-replicate}
@@ -34,8 +34,9 @@ pub others_kept : (sessions : List SessionValue) (s : SessionValue) (k : ℕ) �
 others_kept sessions s k other = get_or-set_other sessions 0 k s no_session (λ same. absurd (omega (arith, same)))
 
 -- and what desks keep to
-pub desks_lent : (sessions : List SessionValue) (s : SessionValue) → AreDesks sessions → AreDesks (slice_set sessions 0 s)
-desks_lent sessions s are =
+pub desks_lent : (sessions : List SessionValue) (following : Bool) (s : SessionValue) → AreDesks sessions following
+    → AreDesks (slice_set sessions 0 s) false
+desks_lent sessions following s are =
     let count : length (slice_set sessions 0 s) ≡ length sessions = length-set sessions 0 s in
     record {
       some = omega (arith, are.some, count);
@@ -44,9 +45,16 @@ desks_lent sessions s are =
         closed = λ k other less. ap (λ (x : SessionValue). x.before) (others_kept sessions s k other)
             ∙ are.others.closed k other (omega (arith, count));
       };
+      aligned = λ yes. absurd (cc);
     }
 
--- is at desk 0
+-- and where all stand for one network they may be known to
+pub desks_known : (sessions : List SessionValue) (following : Bool) → AreDesks sessions following → AreAligned sessions
+    → AreDesks sessions true
+desks_known sessions following are aligned =
+    record { some = are.some; few = are.few; others = are.others; aligned = λ yes. aligned }
+
+-- a new session is at desk 0
 pub zero_set : (sessions : List SessionValue) (s : SessionValue) → 0 < length sessions → desk_zero (slice_set sessions 0 s) ≡ s
 zero_set [] s some = absurd (omega arith)
 zero_set (x ∷ xs) s some = refl
@@ -66,6 +74,19 @@ alike_lent sessions s some alike same = record { shape = shape }
         ap (λ (x : SessionValue). shape_word x.net) (others_kept sessions s (suc k) (omega arith))
         ∙ alike.shape (suc k) (omega (arith, length-set sessions 0 s)) ∙ sym same
         ∙ sym (ap (λ (x : SessionValue). shape_word x.net) zero_is)
+
+-- desks stand for one network with another session of it at desk 0
+pub aligned_lent : (sessions : List SessionValue) (s : SessionValue) → 0 < length sessions → AreAligned sessions
+    → s.net ≡ (desk_zero sessions).net → AreAligned (slice_set sessions 0 s)
+aligned_lent sessions s some aligned is = record { same = same }
+  where
+    same : (k : ℕ) → k < length (slice_set sessions 0 s)
+        → (session_at (slice_set sessions 0 s) k).net ≡ (desk_zero (slice_set sessions 0 s)).net
+    same zero less = refl
+    same (suc k) less =
+        ap (λ (x : SessionValue). x.net) (others_kept sessions s (suc k) (omega arith))
+        ∙ aligned.same (suc k) (omega (arith, length-set sessions 0 s)) ∙ sym is
+        ∙ sym (ap (λ (x : SessionValue). x.net) (zero_set sessions s some))
 
 -- desks that stand for one network are alike
 pub aligned_alike : (sessions : List SessionValue) → AreAligned sessions → AreAlike sessions
@@ -100,7 +121,7 @@ opened_at s n zero some less = absurd (omega arith)
 opened_at s n (suc k) some less = get_or-replicate (n - 1) k (opened s.net) no_session (omega arith)
 
 -- desks that were opened keep to what desks keep to
-pub opened_are : (s : SessionValue) (n : ℕ) → 0 < n → n ≤ 8 → AreDesks (opened_desks s n)
+pub opened_are : (s : SessionValue) (n : ℕ) → 0 < n → n ≤ 8 → AreDesks (opened_desks s n) false
 opened_are s n some few =
     let count : length (opened_desks s n) ≡ n = omega (arith, length-replicate (n - 1) (opened s.net)) in
     record {
@@ -109,6 +130,7 @@ opened_are s n some few =
       others = record {
         closed = λ k other less. ap (λ (x : SessionValue). x.before) (opened_at s n k other (omega (arith, count)));
       };
+      aligned = λ yes. absurd (cc);
     }
 
 -- the first desk alone

@@ -1,5 +1,5 @@
 -- Desks: sessions that try candidates for one climb, desk 0 first.
-use Rattle.std.specs.Prelude.{◌≡◌, ℕ, ◌-◌, ◌<◌, ◌≤◌, List, [], ◌∷◌, map, length, None, replicate}
+use Rattle.std.specs.Prelude.{◌≡◌, ℕ, ◌-◌, ◌<◌, ◌≤◌, List, [], ◌∷◌, map, length, None, replicate, Bool, true}
 use Rattle.std.specs.Prelude.{slice_index_or, slice_set}
 use Rattle.transyt_parts.specs.declared.frame.Frame.{Frame}
 use Rattle.transyt_net.specs.Parts.{network_of}
@@ -8,13 +8,11 @@ use Rattle.transyt_session.specs.declared.answers.Tried.TheVariants.{Barred}
 use Rattle.transyt_session.specs.Session.{SessionValue, opened}
 use Rattle.transyt_desks.specs.declared.desk.Desk.{Desk}
 
--- the frame where there is none
-abbrev pub no_frame : Frame
-no_frame = record { cycle = 0; step_count = 0; sweeps = 0; period = 0; stop_penalty = 0; dispersion = 0 }
-
 -- the session at a place that has none
 abbrev pub no_session : SessionValue
-no_session = opened (network_of no_frame [] [] None)
+no_session =
+    let frame : Frame = record { cycle = 0; step_count = 0; sweeps = 0; period = 0; stop_penalty = 0; dispersion = 0 } in
+    opened (network_of frame [] [] None)
 
 -- the session of the desk at a place
 abbrev pub session_at : List SessionValue → ℕ → SessionValue
@@ -44,11 +42,13 @@ pub record AreAlike (sessions : List SessionValue) : Type 0 where
 pub record OthersClosed (sessions : List SessionValue) : Type 0 where
   pub closed : (k : ℕ) → 0 < k → k < length sessions → (session_at sessions k).before ≡ None
 
--- the invariant of desks: one to eight of them, and no trial at any but desk 0. No public clause cites it.
-pub record AreDesks (sessions : List SessionValue) : Type 0 where
+-- the invariant of desks: one to eight of them, no trial at any but desk 0, and one network where the others are known to
+-- follow. No public clause cites it.
+pub record AreDesks (sessions : List SessionValue) (following : Bool) : Type 0 where
   pub some : 0 < length sessions
   pub few : length sessions ≤ 8
   pub others : OthersClosed sessions
+  pub aligned : following ≡ true → AreAligned sessions
 
 -- the sessions of desks
 abbrev pub sessions_of : List Desk → List SessionValue

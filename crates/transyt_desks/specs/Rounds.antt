@@ -10,8 +10,6 @@ use Rattle.transyt_climb.specs.Turns.{Counters, Machine, machine, answer_of, tur
 use Rattle.transyt_climb.specs.Way.{IsRound}
 use Rattle.transyt_desks.specs.declared.policy.TheConstants.{PLACES_ALONE, PLACES_FOR_ONE, MOST_PLACES}
 use Rattle.transyt_desks.specs.declared.turns.Round.{Round}
-use Rattle.transyt_desks.specs.declared.stretch.Reach.{Reach}
-use Rattle.transyt_desks.specs.Stretches.{IsReach}
 use Rattle.transyt_desks.specs.Desks.{desk_zero, with_zero}
 
 -- whether a turn takes a step
@@ -79,11 +77,3 @@ pub record RoundsDesks (places : ℕ) (before : Counters) (olds : List SessionVa
     (result : Round) : Type 0 where
   pub made : MakesRound places (machine before (desk_zero olds)) (machine after (desk_zero news)) result
   pub others : news ≡ with_zero olds (desk_zero news)
-
--- the next moves of a climber's list, for so many desks
-pub record IsReachOf (c : Counters) (places count : ℕ) (reach : Reach) : Type 0 where
-  pub place : reach.place ≡ c.place
-  pub list : reach.count ≡ c.count
-  pub room : reach.room ≡ room_of places c
-  pub desks : reach.desks ≡ count
-  pub is : IsReach reach

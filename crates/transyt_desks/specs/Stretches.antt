@@ -20,10 +20,6 @@ pub record IsReach (reach : Reach) : Type 0 where
   pub many : reach.desks ≤ 8
   pub room : reach.room ≤ 64 * reach.desks
 
--- no move was tried
-abbrev pub untried : Stretch
-untried = record { passed = 0; work = 0; lowers = false }
-
 -- one move more with this work doesn't lower the index
 abbrev pub passing : Stretch → ℕ → Stretch
 passing s work = record { passed = s.passed + 1; work = s.work + work; lowers = false }

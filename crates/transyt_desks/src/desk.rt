@@ -21,24 +21,12 @@ pub(crate) fn all_same(desks: &[Desk]) -> bool
     ensures { IsTrue result ↔ AreAligned (sessions_of desks.now) }
 {
     let zero = desks[0].session.net();
-    for i in 0..desks.len() {
+    for i in 1..desks.len() {
         if !same_net(zero, desks[i].session.net()) {
             return false;
         }
     }
     true
-}
-
-/// Lets a desk stand for the network of a session, if it doesn't yet.
-fn follow(desk: &mut Desk, zero: &Session)
-    requires shape { SameShape desk.old.session.net zero.now.net }
-    requires closed { desk.old.session.before ≡ None }
-    ensures net { desk.new.session.net ≡ zero.now.net }
-    ensures closed { desk.new.session.before ≡ None }
-{
-    if !same_net(desk.session.net(), zero.net()) {
-        desk.session.take_over(zero);
-    }
 }
 
 /// Lets every desk stand for the network of a session, all at once.
@@ -55,7 +43,7 @@ fn stand_all<R: Threads + Sync>(rt: &R, desks: &mut [Desk], zero: &Session)
         8,
         &|_i: usize, desk: &mut Desk|
             requires { SameShape desk.old.session.net zero.now.net × (desk.old.session.before ≡ None) }
-        { follow(desk, zero) },
+        { desk.session.take_over(zero) },
     );
 }
 

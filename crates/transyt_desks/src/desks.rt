@@ -13,7 +13,7 @@ ghost use Rattle.transyt_desks.specs.Stretches.{IsReach, IsStretch};
 
 use crate::crew::Crew;
 use crate::desk::{Desk, all_same, follow_zero};
-use crate::finding::{find_moves, try_reach};
+use crate::finding::{find_reach, first_lower, hand_on};
 use crate::gate::Gate;
 use crate::policy::{each, goes_alone};
 use crate::rounds::{alone, together};
@@ -24,6 +24,7 @@ use std::marker::Model;
 use std::sync::ledger::Ledger;
 use std::thread::Threads;
 use transyt_climb::Climber;
+use transyt_moves::move_count;
 use transyt_session::{Session, Tried};
 use transyt_steps::Steps;
 
@@ -31,6 +32,8 @@ use transyt_steps::Steps;
 #[derive(Drop)]
 pub struct Desks {
     desks: Vec<Desk>,
+    /// Whether the others are known to stand for the network of desk 0.
+    following: bool,
 }
 
 impl Model for Desks {
@@ -42,7 +45,7 @@ impl Model for Desks {
 
     ghost view = { λ d. sessions_of d.desks.items };
 
-    ghost invariant = { λ d. AreDesks (sessions_of d.desks.items) };
+    ghost invariant = { λ d. AreDesks (sessions_of d.desks.items) d.following };
 }
 
 impl Desks {
@@ -60,7 +63,10 @@ impl Desks {
             let twin = desks[0].session.twin(alloc)?;
             add_desk(&mut desks, twin)?;
         }
-        Ok(Desks { desks })
+        Ok(Desks {
+            desks,
+            following: false,
+        })
     }
 
     /// The session of desk 0.
@@ -75,6 +81,7 @@ impl Desks {
         ensures* writes_back { sem 𝓛 (LendsZero self.entry result) }
         ensures value { result.now ≡ desk_zero self.old }
     {
+        self.following = false;
         let desk = &mut self.desks[0];
         &mut desk.session
     }
@@ -88,14 +95,27 @@ impl Desks {
         self.desks.len()
     }
 
-    /// Lets every other desk stand for the network of desk 0.
+    /// Notes that every desk stands for the network of desk 0.
+    #[tactic(auto, using(crate::proofs::DeskLaws::desks_known))]
+    pub(crate) fn note_aligned(&mut self)
+        requires aligned { AreAligned self.old }
+        ensures { self.new ≡ self.old }
+    {
+        self.following = true;
+    }
+
+    /// Lets every other desk stand for the network of desk 0. Networks are compared only after desk 0 was lent.
     fn follow<R: Threads + Sync>(&mut self, rt: &R)
         requires shape { AreAlike self.old }
         ensures aligned { AreAligned self.new }
         ensures zero { desk_zero self.new ≡ desk_zero self.old }
         ensures workers { length self.new ≡ length self.old }
     {
+        if self.following {
+            return;
+        }
         follow_zero(rt, self.desks.as_mut_slice());
+        self.following = true;
     }
 
     /// Lets every other desk stand for the network of desk 0. It takes no memory, and does nothing with one desk.
@@ -140,10 +160,21 @@ impl Desks {
         ensures workers { length self.new ≡ length self.old }
     {
         self.follow(rt);
-        find_moves(&Crew { rt, gate }, self.desks.as_mut_slice(), from, tries);
+        if tries.is_empty() {
+            return;
+        }
+        let reach = Reach {
+            place: from,
+            count: move_count(self.session().net()),
+            room: tries.len() as u32,
+            desks: self.desks.len() as u32,
+        };
+        find_reach(&Crew { rt, gate }, self.desks.as_mut_slice(), reach);
+        hand_on(&self.desks, reach, tries);
     }
 
-    /// Tries the moves of a reach at desks that stand for one network, all at once, and gives them as a stretch.
+    /// Tries the moves of a reach at desks that stand for one network, all at once, and gives them as a stretch, up to
+    /// the first that lowers the index.
     pub(crate) fn try_reach<R: Threads + Sync, G: Gate>(
         &mut self,
         crew: &Crew<'_, R, G>,
@@ -157,7 +188,9 @@ impl Desks {
         ensures same { self.new ≡ self.old }
         ensures tried { IsStretch (desk_zero self.old).net reach.place reach.count reach.room result }
     {
-        try_reach(crew, self.desks.as_mut_slice(), reach)
+        find_reach(crew, self.desks.as_mut_slice(), reach);
+        let limit = self.desks[0].session.index();
+        first_lower(&self.desks, reach, limit)
     }
 
     /// A round: the next moves of the list are tried at once, one at each desk, and the first of them that lowers the

@@ -14,9 +14,8 @@ ghost use Rattle.transyt_desks.specs.declared.desk.Desk.{Desk};
 use crate::crew::Crew;
 use crate::desk::Desk;
 use crate::gate::Gate;
-use crate::stretch::{Reach, Stretch, after_find, place_of, try_at, untried};
+use crate::stretch::{Reach, Stretch, after_find, place_of, try_at};
 use std::thread::{self, Threads};
-use transyt_moves::move_count;
 use transyt_session::{Session, Tried};
 
 /// Tries the moves of a reach that come to a desk in turn.
@@ -131,7 +130,11 @@ fn find_all<R: Threads + Sync, G: Gate>(crew: &Crew<'_, R, G>, desks: &mut [Desk
 }
 
 /// Tries the moves of a reach at desks that stand for one network, all at once.
-fn find_reach<R: Threads + Sync, G: Gate>(crew: &Crew<'_, R, G>, desks: &mut [Desk], reach: Reach)
+pub(crate) fn find_reach<R: Threads + Sync, G: Gate>(
+    crew: &Crew<'_, R, G>,
+    desks: &mut [Desk],
+    reach: Reach,
+)
     requires few { length desks.old ≤ 8 }
     requires reach { IsReach reach }
     requires desks { reach.desks ≡ length desks.old }
@@ -163,13 +166,17 @@ fn find_at(desks: &[Desk], reach: Reach, number: u32) -> Tried
 
 /// The moves of a reach as a stretch, up to the first in the list's order that lowers the index; `limit` is the index of
 /// the network.
-fn first_lower(desks: &[Desk], reach: Reach, limit: u128) -> Stretch
+pub(crate) fn first_lower(desks: &[Desk], reach: Reach, limit: u128) -> Stretch
     requires reach { IsReach reach }
     requires limit { limit ≡ index (desk_zero (sessions_of desks.now)).net }
     requires found { AreFound reach desks.now }
     ensures { IsStretch (desk_zero (sessions_of desks.now)).net reach.place reach.count reach.room result }
 {
-    let mut stretch = untried();
+    let mut stretch = Stretch {
+        passed: 0,
+        work: 0,
+        lowers: false,
+    };
     for number in 0..reach.room {
         let found = find_at(desks, reach, number);
         stretch = after_find(stretch, found, limit);
@@ -180,32 +187,8 @@ fn first_lower(desks: &[Desk], reach: Reach, limit: u128) -> Stretch
     stretch
 }
 
-/// Tries the moves of a reach at desks that stand for one network, all at once, and gives them as a stretch, up to the
-/// first that lowers the index.
-pub(crate) fn try_reach<R: Threads + Sync, G: Gate>(
-    crew: &Crew<'_, R, G>,
-    desks: &mut [Desk],
-    reach: Reach,
-) -> Stretch
-    requires some { 0 < length desks.old }
-    requires few { length desks.old ≤ 8 }
-    requires reach { IsReach reach }
-    requires desks { reach.desks ≡ length desks.old }
-    requires aligned { AreAligned (sessions_of desks.old) }
-    requires others { OthersClosed (sessions_of desks.old) }
-    requires moves { reach.count ≡ move_count (desk_zero (sessions_of desks.old)).net }
-    requires closed { (desk_zero (sessions_of desks.old)).before ≡ None }
-    ensures len { length desks.new ≡ length desks.old }
-    ensures sessions { sessions_of desks.new ≡ sessions_of desks.old }
-    ensures tried { IsStretch (desk_zero (sessions_of desks.old)).net reach.place reach.count reach.room result }
-{
-    find_reach(crew, desks, reach);
-    let limit = desks[0].session.index();
-    first_lower(desks, reach, limit)
-}
-
 /// Hands on the finds in the list's order.
-fn hand_on(desks: &[Desk], reach: Reach, tries: &mut [Tried])
+pub(crate) fn hand_on(desks: &[Desk], reach: Reach, tries: &mut [Tried])
     requires reach { IsReach reach }
     requires inside { reach.place + reach.room ≤ reach.count }
     requires room { reach.room ≡ length tries.old }
@@ -216,36 +199,4 @@ fn hand_on(desks: &[Desk], reach: Reach, tries: &mut [Tried])
     for number in 0..tries.len() {
         tries[number] = find_at(desks, reach, number as u32);
     }
-}
-
-/// Tries consecutive moves from a place on at desks that stand for one network, all at once.
-pub(crate) fn find_moves<R: Threads + Sync, G: Gate>(
-    crew: &Crew<'_, R, G>,
-    desks: &mut [Desk],
-    from: u32,
-    tries: &mut [Tried],
-)
-    requires some { 0 < length desks.old }
-    requires few { length desks.old ≤ 8 }
-    requires aligned { AreAligned (sessions_of desks.old) }
-    requires others { OthersClosed (sessions_of desks.old) }
-    requires closed { (desk_zero (sessions_of desks.old)).before ≡ None }
-    requires places { from + length tries.old ≤ move_count (desk_zero (sessions_of desks.old)).net }
-    requires room { length tries.old ≤ 32 * length desks.old }
-    ensures len { length desks.new ≡ length desks.old }
-    ensures sessions { sessions_of desks.new ≡ sessions_of desks.old }
-    ensures count { length tries.new ≡ length tries.old }
-    ensures tries { AreTriesOf (desk_zero (sessions_of desks.old)).net from (length tries.old) tries.new }
-{
-    if tries.is_empty() {
-        return;
-    }
-    let reach = Reach {
-        place: from,
-        count: move_count(desks[0].session.net()),
-        room: tries.len() as u32,
-        desks: desks.len() as u32,
-    };
-    find_reach(crew, desks, reach);
-    hand_on(desks, reach, tries);
 }

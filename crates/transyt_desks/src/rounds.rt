@@ -4,7 +4,8 @@ ghost use Rattle.std.specs.Prelude.{◌≡◌, ℕ, ◌+◌, ◌*◌, ◌<◌, �
 ghost use Rattle.transyt_climb.specs.Turns.{machine};
 ghost use Rattle.transyt_session.specs.Session.{SessionValue};
 ghost use Rattle.transyt_desks.specs.Desks.{desk_zero, AreAligned};
-ghost use Rattle.transyt_desks.specs.Rounds.{turns_of, CanRound, IsReachOf, RoundsDesks};
+ghost use Rattle.transyt_desks.specs.Rounds.{room_of, turns_of, CanRound, RoundsDesks};
+ghost use Rattle.transyt_desks.specs.Stretches.{IsReach};
 
 use crate::crew::Crew;
 use crate::desks::Desks;
@@ -68,7 +69,11 @@ fn reach_of(climber: &Climber, places: u32, desks: usize) -> Reach
     requires some { 0 < desks }
     requires many { desks ≤ 8 }
     requires few { places ≤ 64 * desks }
-    ensures { IsReachOf climber.now places desks result }
+    ensures is { IsReach result }
+    ensures place { result.place ≡ climber.now.place }
+    ensures list { result.count ≡ climber.now.count }
+    ensures room { result.room ≡ room_of places climber.now }
+    ensures desks { result.desks ≡ desks }
 {
     let looks = climber.budget() - climber.looked();
     let left = climber.count() - climber.since();
@@ -81,6 +86,7 @@ fn reach_of(climber: &Climber, places: u32, desks: usize) -> Reach
 }
 
 /// A round in which every desk tries so many moves, or the end of the climb.
+#[tactic(auto, using(crate::proofs::DeskLaws::aligned_lent))]
 pub(crate) fn together<R: Threads + Sync, G: Gate, L: Ledger>(
     crew: &Crew<'_, R, G>,
     desks: &mut Desks,
@@ -101,5 +107,10 @@ pub(crate) fn together<R: Threads + Sync, G: Gate, L: Ledger>(
     }
     let reach = reach_of(climber, places, count);
     let tried = desks.try_reach(crew, reach);
-    make_turns(climber, desks.session_mut(), tried, places, steps)
+    let round = make_turns(climber, desks.session_mut(), tried, places, steps);
+    if tried.lowers {
+        return round;
+    }
+    desks.note_aligned();
+    round
 }

@@ -4,7 +4,7 @@ ghost use Rattle.std.specs.Prelude.{◌≡◌, ℕ, ◌+◌, ◌^◌, ◌<◌, �
 ghost use Rattle.transyt_moves.specs.Moves.{move, move_count};
 ghost use Rattle.transyt_track.specs.Work.{edit_work};
 ghost use Rattle.transyt_session.specs.Session.{try_of};
-ghost use Rattle.transyt_desks.specs.Stretches.{IsReach, after_found, passing, place_at, untried, work_found};
+ghost use Rattle.transyt_desks.specs.Stretches.{IsReach, after_found, passing, place_at, work_found};
 
 use std::marker::Brand;
 use std::sync::ledger::{Blank, Ledger};
@@ -35,17 +35,6 @@ pub(crate) struct Stretch {
     pub(crate) work: u64,
     /// Whether the next one was tried and lowers it.
     pub(crate) lowers: bool,
-}
-
-/// No move was tried.
-pub(crate) fn untried() -> Stretch
-    ensures { result ≡ untried }
-{
-    Stretch {
-        passed: 0,
-        work: 0,
-        lowers: false,
-    }
 }
 
 /// One move more with this work doesn't lower the index.

@@ -1,6 +1,6 @@
 //! The turns of a round at desk 0, some of whose moves the desks have tried before.
 
-ghost use Rattle.std.specs.Prelude.{◌≡◌, ℕ, ◌+◌, ◌*◌, ◌<◌, ◌≤◌};
+ghost use Rattle.std.specs.Prelude.{◌≡◌, ℕ, ◌+◌, ◌*◌, ◌<◌, ◌≤◌, false};
 ghost use Rattle.transyt_climb.specs.Turns.{machine};
 ghost use Rattle.transyt_desks.specs.Rounds.{CanRound, MakesRound, passed_by, room_of, turns_of};
 ghost use Rattle.transyt_desks.specs.Stretches.{IsStretch};
@@ -45,7 +45,8 @@ pub(crate) fn make_turns<L: Ledger>(
     requires since { climber.old.since < climber.old.count }
     requires looked { climber.old.looked < climber.old.budget }
     requires tried { IsStretch session.old.net climber.old.place climber.old.count (room_of places climber.old) tried }
-    ensures { MakesRound places (machine climber.old session.old) (machine climber.new session.new) result }
+    ensures made { MakesRound places (machine climber.old session.old) (machine climber.new session.new) result }
+    ensures net { tried.lowers ≡ false → session.new.net ≡ session.old.net }
 {
     note_passed(climber, tried.passed);
     session.credit(tried.work);
