@@ -11,8 +11,7 @@ use Rattle.transyt_track.specs.Work.{edit_work}
 use Rattle.transyt_climb.specs.declared.turn.Turn.{Turn}
 use Rattle.transyt_climb.specs.declared.turn.Turn.TheVariants.{Took, Passed, Local, Budget}
 
--- how far a climber has come: the place to look at next, the places looked at since the last step and in all, how many
--- it may look at, and how many there are
+-- a climber: its next place, the places looked at since its last step and in all, those it may look at, and all places
 pub record Counters : Type 0 where
   pub place : ℕ
   pub since : ℕ
