@@ -59,8 +59,7 @@ pub record ProgramRan (words : List (List ℕ)) (old new : Ends) (number : ℕ) 
   pub number_is : number ≡ exit_number ended
   pub call : TopCall words old new ended
 
--- with `run`, with no fault and no want of memory, the program writes the report of the input, and its number is that
--- of the input's status
+-- with `run`, no fault and no want of memory the report of the input is written, and the number is that of its status
 abbrev pub ProgramHeadline : List (List ℕ) → Ends → Ends → ℕ → Type 0
 ProgramHeadline words old new number =
     IsRun (word_of words) → number ≢ 5 → NoFault old new
@@ -77,8 +76,7 @@ pub record OverRan (words : List (List ℕ)) (remaining contents contents_new : 
   pub told : number ≢ 3 → number ≢ 4 → number ≢ 5 → IfSome (task_of words) (λ asked.
       TaskHeadline asked remaining contents contents_new ended)
 
--- the program ran so with the words that std answered; or there was no memory for the list of them: then the number is 5,
--- and the writer holds what it held
+-- the program ran so with std's words; or without memory for them the number is 5, and the writer holds what it held
 abbrev pub ArgsRan : List (List ℕ) → Option (List ℕ) → Option (List ℕ) → Option (List ℕ) → ℕ → Type 0
 ArgsRan words remaining contents contents_new number =
     OverRan words remaining contents contents_new number

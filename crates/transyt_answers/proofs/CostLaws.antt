@@ -13,12 +13,12 @@ use Rattle.transyt_sweep.specs.Climb.{climb}
 use Rattle.transyt_session.specs.Session.{SessionValue}
 use Rattle.transyt_climb.proofs.CountLaws.{shape_moved}
 use Rattle.transyt_outcome.specs.declared.ending.Ending.{Ending}
-use Rattle.transyt_outcome.specs.Turns.{ending_after, costs_after, first_of, unless_over}
+use Rattle.transyt_outcome.specs.Turns.{ending_after, costs_after, first_of, unless_ended}
 use Rattle.transyt_outcome.specs.Runs.{costs_by, ending_by}
 use Rattle.transyt_answers.specs.declared.answer.Answer.{Answer}
 use Rattle.transyt_answers.specs.declared.answer.Answer.TheVariants as a
 use Rattle.transyt_answers.specs.Commands.{after_answer, budget_of, line_answer, line_judged, session_after}
-use Rattle.transyt_answers.specs.Report.{RunState, InDeck, InSession, run_of, run_after, run_state, ends, cost, line_steps}
+use Rattle.transyt_answers.specs.Report.{RunState, InDeck, InSession, run_of, run_after, run_state, line_steps}
 use Rattle.transyt_answers.specs.Report.{deck_steps, deck_answering, steps_in}
 use Rattle.transyt_answers.proofs.ClimbLaws.{of_climb}
 use Rattle.transyt_answers.proofs.ShapeLaws.{KeepsShape, keeps_said}
@@ -95,25 +95,25 @@ join : (a c r u b now d all : ℕ) → a + c ≡ b → now ≡ b → now + r ≡
 join a c r u b now d all one two three four five = omega arith
 
 -- the steps with those of the lines to come
-steps_to : (before more : List (List ℕ)) → IsKept (run_state before) → ending_after ends before more ≡ None
-    → steps_in (run_state before) + costs_after cost ends before more ≡ steps_in (run_state (before ++ more))
+steps_to : (before more : List (List ℕ)) → IsKept (run_state before) → ending_after deck_answering.ends before more ≡ None
+    → steps_in (run_state before) + costs_after deck_answering.cost deck_answering.ends before more ≡ steps_in (run_state (before ++ more))
 steps_to before [] h none =
     let same = ap (λ (ls : List (List ℕ)). steps_in (run_state ls)) (append-nil before) in omega (arith, same)
 steps_to before (line ∷ more) h none =
     let on = state_on before line in
-    let later = costs_after cost ends (before ++ line ∷ []) more in
-    let cases : (e : Option Ending) → ends before line ≡ e
-    → first_of e (ending_after ends (before ++ line ∷ []) more) ≡ None
-    → steps_in (run_state before) + (cost before line + unless_over e later) ≡ steps_in (run_state (before ++ line ∷ more)) =
+    let later = costs_after deck_answering.cost deck_answering.ends (before ++ line ∷ []) more in
+    let cases : (e : Option Ending) → deck_answering.ends before line ≡ e
+    → first_of e (ending_after deck_answering.ends (before ++ line ∷ []) more) ≡ None
+    → steps_in (run_state before) + (deck_answering.cost before line + unless_ended e 0 later) ≡ steps_in (run_state (before ++ line ∷ more)) =
     elim [
       | None ↦ λ is goes.
-          join (steps_in (run_state before)) (cost before line) later later _ _ _ _
+          join (steps_in (run_state before)) (deck_answering.cost before line) later later _ _ _ _
           (steps_on (run_state before) line h) (ap steps_in on)
           (steps_to (before ++ line ∷ []) more (subst IsKept (sym on) (kept_on (run_state before) line h)) goes)
           (ap (λ (ls : List (List ℕ)). steps_in (run_state ls)) (append_assoc before (line ∷ []) more)) refl
       | Some ending ↦ λ is goes. absurd (cc)
     ] in
-    cases (ends before line) refl none
+    cases (deck_answering.ends before line) refl none
 
 -- the steps of lines that don't end the run
 pub steps_are : (ls : List (List ℕ)) → ending_by deck_answering ls ≡ None

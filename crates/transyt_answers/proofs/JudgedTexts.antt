@@ -1,5 +1,6 @@
 -- The text of what was judged is over the session before.
 use Rattle.std.proofs.Common.{◌≡◌, ℕ, List, Option, None, Some, Result, Ok, is_some, if◌then◌else◌, Bool, true, false, refl}
+use Rattle.std.specs.Option.{option_map_or}
 use Rattle.transyt_syntax.specs.declared.code.Code.{Code}
 use Rattle.transyt_syntax.specs.declared.code.Code.TheVariants as code
 use Rattle.transyt_net.specs.declared.edit.EditFault.{EditFault}
@@ -10,12 +11,13 @@ use Rattle.transyt_commands.specs.Commands.{command_in}
 use Rattle.transyt_session.specs.Session.{SessionValue}
 use Rattle.transyt_answers.specs.declared.answer.Answer.{Answer}
 use Rattle.transyt_answers.specs.declared.answer.Answer.TheVariants as a
-use Rattle.transyt_answers.specs.Commands.{edit_answer, answer_text, answer_to, judged, said_answer, said_judged, line_answer}
+use Rattle.transyt_answers.specs.Commands.{edit_code, answer_text, answer_to, judged, said_answer, said_judged, line_answer}
 use Rattle.transyt_answers.specs.Commands.{line_judged}
 
 module _ (s t : SessionValue) where
   -- an edit's answer has no figure
-  edit_said : (fault : Option EditFault) → answer_text t (edit_answer fault) ≡ answer_text s (edit_answer fault)
+  edit_said : (fault : Option EditFault) → let x = option_map_or (λ f. a.Refused (edit_code f)) fault a.Done in
+      answer_text t x ≡ answer_text s x
   edit_said None = refl
   edit_said (Some f) = refl
 

@@ -1,5 +1,5 @@
 -- The answer to a command over a session, its text, and the session after it.
-use Rattle.std.specs.Prelude.{ℕ, ◌-◌, ◌++◌, List, [], ◌∷◌, Option, Some, None, Result, Ok, Err, is_some, codes}
+use Rattle.std.specs.Prelude.{ℕ, ◌++◌, List, [], ◌∷◌, Option, Some, None, Result, Ok, Err, is_some, codes}
 use Rattle.std.specs.Prelude.{flat_map, length, if◌then◌else◌}
 use Rattle.std.specs.Option.{option_map_or}
 use Rattle.transyt_syntax.specs.declared.code.Code.{Code}
@@ -40,10 +40,6 @@ edit_code fault.Range = code.Range
 edit_code fault.StageOrder = code.StageOrder
 edit_code fault.LeastGreen = code.LeastGreen
 
--- the answer to an edit, by its fault
-abbrev pub edit_answer : Option EditFault → Answer
-edit_answer fault = option_map_or (λ f. a.Refused (edit_code f)) fault a.Done
-
 -- the answer about the link of this number, or that there is none
 abbrev pub about_link : Network → ℕ → (ℕ → Answer) → Answer
 about_link net number answer = option_map_or answer (place_of (link_numbers net.links) number) (a.Refused code.Unknown)
@@ -73,7 +69,7 @@ requested s r.Stop = a.Stop
 
 -- the answer to a command
 abbrev pub answer_to : SessionValue → Command → Answer
-answer_to s (c.Edit e) = edit_answer (edit_fault s.net e)
+answer_to s (c.Edit e) = option_map_or (λ fault. a.Refused (edit_code fault)) (edit_fault s.net e) a.Done
 answer_to s c.Trial = if is_some s.before then a.Refused code.OpenTrial else a.Done
 answer_to s c.Back = if is_some s.before then a.Done else a.Refused code.NoTrial
 answer_to s c.Keep = if is_some s.before then a.Done else a.Refused code.NoTrial
@@ -89,15 +85,13 @@ judged (c.Request asked) s = s
 
 -- how many places the climb plan lets a climb look at; none without a plan
 abbrev pub budget_of : Option PlanValue → ℕ
-budget_of None = 0
-budget_of (Some plan) = plan.budget
+budget_of plan = option_map_or (λ (p : PlanValue). p.budget) plan 0
 
 -- the climb of a network by its plan
 abbrev pub climb_of : Network → Climb
 climb_of net = climb net 0 (budget_of net.plan)
 
--- the session after an answer was carried out: a climb leaves the network at its end, and a climb and a certificate add
--- their work
+-- the session after an answer: a climb leaves the network at its end, and a climb and a certificate add their work
 abbrev pub after_answer : Answer → SessionValue → SessionValue
 after_answer a.Climb s = climbed (budget_of s.net.plan) s
 after_answer a.Cert s = credited (cert_work s.net (move_count s.net)) s
@@ -119,10 +113,8 @@ done_text = form_line (codes "DONE") []
 unfoldable pub refused_text : Code → List ℕ
 refused_text code = form_line (codes "REFUSED #") (number code ∷ [])
 
--- the text of an answer
+-- the text of an answer; STOP and a line without a command have none
 abbrev pub answer_text : SessionValue → Answer → List ℕ
-answer_text s a.Nothing = []
-answer_text s a.Stop = []
 answer_text s a.Done = done_text
 answer_text s (a.Refused code) = refused_text code
 answer_text s (a.Show what) = report_text s.net s.work what
@@ -130,6 +122,7 @@ answer_text s (a.Plot place) = plot_text s.net place
 answer_text s a.Deck = deck_text s.net
 answer_text s a.Climb = climb_text (climb_of s.net)
 answer_text s a.Cert = cert_text s.net
+answer_text s _ = []
 
 -- the answer to a line, by its meaning
 abbrev pub said_answer : SessionValue → Result (Option Command) Code → Answer
@@ -143,9 +136,8 @@ line_answer s line = said_answer s (command_in line)
 
 -- the session when what a line says was judged
 abbrev pub said_judged : Result (Option Command) Code → SessionValue → SessionValue
-said_judged (Err code) s = s
-said_judged (Ok None) s = s
 said_judged (Ok (Some command)) s = judged command s
+said_judged _ s = s
 
 -- the session when a line was judged
 abbrev pub line_judged : SessionValue → List ℕ → SessionValue
@@ -154,7 +146,3 @@ line_judged s line = said_judged (command_in line) s
 -- the session after a line
 abbrev pub session_after : SessionValue → List ℕ → SessionValue
 session_after s line = after_answer (line_answer s line) (line_judged s line)
-
--- the work of a line: what it adds
-abbrev pub line_work : SessionValue → List ℕ → ℕ
-line_work s line = (session_after s line).work - s.work

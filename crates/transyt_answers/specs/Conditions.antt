@@ -1,6 +1,5 @@
 -- The link or plan that an answer speaks of, and the index that a try found. No clause of the top call cites it.
-use Rattle.std.specs.Prelude.{ℕ, ◌≡◌, ◌<◌, true, length, Option, None, Some, IsSome}
-use Rattle.std.specs.Prelude.{Bool, false}
+use Rattle.std.specs.Prelude.{ℕ, ◌≡◌, ◌<◌, true, length, Option, None, Some, IsSome, Bool, false}
 use Rattle.transyt_session.specs.Session.{SessionValue}
 use Rattle.transyt_session.specs.declared.answers.Tried.{Tried}
 use Rattle.transyt_session.specs.declared.answers.Tried.TheVariants.{Barred, Index}

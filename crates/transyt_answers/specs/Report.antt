@@ -1,5 +1,5 @@
 -- The report of an input: a deck, and then the commands over its network.
-use Rattle.std.specs.Prelude.{ℕ, ◌+◌, ◌*◌, Bool, true, false, List, [], ◌∷◌, length, codes, Option, Some, None}
+use Rattle.std.specs.Prelude.{ℕ, ◌+◌, ◌-◌, ◌*◌, Bool, true, false, List, [], ◌∷◌, length, codes, Option, Some, None}
 use Rattle.std.specs.List.{fold}
 use Rattle.transyt_syntax.specs.declared.code.Code.{Code}
 use Rattle.transyt_syntax.specs.declared.code.Code.TheVariants as code
@@ -10,12 +10,12 @@ use Rattle.transyt_session.specs.Session.{SessionValue, opened}
 use Rattle.transyt_text.specs.Forms.{form_line}
 use Rattle.transyt_outcome.specs.declared.ending.Ending.{Ending}
 use Rattle.transyt_outcome.specs.declared.ending.Ending.TheVariants as ending
-use Rattle.transyt_outcome.specs.Runs.{Answering, of_lines, report_by}
+use Rattle.transyt_outcome.specs.Runs.{Answering, of_lines}
 use Rattle.transyt_outcome.specs.Outcome.{Reporting, status_by}
 use Rattle.transyt_outcome.specs.declared.status.Status.{Status}
 use Rattle.transyt_answers.specs.declared.answer.Answer.{Answer}
 use Rattle.transyt_answers.specs.declared.answer.Answer.TheVariants as a
-use Rattle.transyt_answers.specs.Commands.{line_answer, answer_text, session_after, line_work}
+use Rattle.transyt_answers.specs.Commands.{line_answer, answer_text, session_after}
 
 -- the state after the lines of an input: the deck so far, or after END the session
 pub data RunState : Type 0 where
@@ -35,11 +35,6 @@ abbrev pub deck_said : Deck → List ℕ
 deck_said (Open count state) = []
 deck_said (Complete number net) = accepted net
 deck_said (Refused number code) = card_refused number code
-
--- the text of the end of an input whose deck is this: it is refused where END didn't come
-abbrev pub deck_closing : Deck → List ℕ
-deck_closing (Open count state) = card_refused (count + 1) code.NoEnd
-deck_closing _ = []
 
 -- a refused card ends the run, as a refusal
 abbrev pub deck_ends : Deck → Option Ending
@@ -83,46 +78,36 @@ line_ends (InSession s) line = answer_ends (line_answer s line)
 -- the steps of the line: its work, and at END those of the whole evaluation
 abbrev pub line_steps : RunState → List ℕ → ℕ
 line_steps (InDeck deck) line = deck_steps (next deck line)
-line_steps (InSession s) line = line_work s line
+line_steps (InSession s) line = (session_after s line).work - s.work
 
 -- the steps of lines by what they have come to: S times the links at END, and the work since
 abbrev pub steps_in : RunState → ℕ
 steps_in (InDeck deck) = 0
 steps_in (InSession s) = s.net.frame.sweeps * length s.net.links + s.work
 
--- the text at the end of the input
+-- the text at the end of the input: a deck whose END didn't come is refused
 abbrev pub text_at_end : RunState → List ℕ
-text_at_end (InDeck deck) = deck_closing deck
-text_at_end (InSession s) = []
+text_at_end (InDeck (Open count state)) = card_refused (count + 1) code.NoEnd
+text_at_end _ = []
 
 -- whether the end of the input is a refusal: no END was accepted
 abbrev pub end_refused : RunState → Bool
 end_refused (InDeck deck) = true
 end_refused (InSession s) = false
 
--- the text of a line after the lines before it
-abbrev pub text : List (List ℕ) → List ℕ → List ℕ
-text before line = line_text (run_state before) line
-
 -- how a line ends the run, if it does
 abbrev pub ends : List (List ℕ) → List ℕ → Option Ending
 ends before line = line_ends (run_state before) line
 
--- the text at the end of lines
-abbrev pub closing : List (List ℕ) → List ℕ
-closing before = text_at_end (run_state before)
-
--- whether the end of lines is a refusal
-abbrev pub refused_at_end : List (List ℕ) → Bool
-refused_at_end before = end_refused (run_state before)
-
--- the steps of a line
-abbrev pub cost : List (List ℕ) → List ℕ → ℕ
-cost before line = line_steps (run_state before) line
-
--- how the lines of a deck and of its commands are answered
+-- how the lines of a deck and of its commands are answered, each by the state after the lines before it
 abbrev pub deck_answering : Answering
-deck_answering = record { text = text; ends = ends; closing = closing; refused = refused_at_end; cost = cost }
+deck_answering = record {
+  text = λ before line. line_text (run_state before) line;
+  ends = ends;
+  closing = λ before. text_at_end (run_state before);
+  refused = λ before. end_refused (run_state before);
+  cost = λ before line. line_steps (run_state before) line;
+}
 
 -- the report of an input: the answers to its lines and, where it ends before END, the refusal of its deck
 abbrev pub reporting_run : Reporting
@@ -130,7 +115,7 @@ reporting_run = of_lines deck_answering
 
 -- the report of an input
 abbrev pub report : List ℕ → List ℕ
-report input = report_by deck_answering input
+report input = reporting_run.report input
 
 -- the status of the run of an input
 abbrev pub status : List ℕ → Status

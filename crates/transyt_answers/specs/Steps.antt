@@ -14,8 +14,7 @@ use Rattle.transyt_sweep.specs.Climb.{Step}
 abbrev pub ArePlanned : Network → Type 0
 ArePlanned net = All (λ (n : NodeValue). plan_fault net.frame.step_count n.stages ≡ None) net.nodes
 
--- a step on a network: a listed move that is allowed, with which the index is strictly below the one before and every
--- node's plan is allowed
+-- a step on a network: a listed move that is allowed, strictly lowers the index, and leaves every node's plan allowed
 pub record IsLowering (net : Network) (step : Step) : Type 0 where
   pub listed : step.place < move_count net
   pub edit_is : step.edit ≡ move net step.place

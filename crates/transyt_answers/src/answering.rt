@@ -1,9 +1,8 @@
 //! A line after END is judged into an answer; edits and the commands of a trial are carried out.
 ghost use Rattle.std.specs.Prelude.{◌≡◌, ◌+◌, ◌^◌, ◌≤◌, ◌<◌, None, IsSome, IfSome, length};
-ghost use Rattle.transyt_net.specs.EditFaults.{edit_fault};
 ghost use Rattle.transyt_net.specs.Valid.{place_of, link_numbers};
 ghost use Rattle.transyt_session.specs.Session.{edited, trial_of, back_of, keep_of};
-ghost use Rattle.transyt_answers.specs.Commands.{edit_code, edit_answer, about_link, planned, requested, answer_to, judged};
+ghost use Rattle.transyt_answers.specs.Commands.{edit_code, about_link, planned, requested, answer_to, judged};
 ghost use Rattle.transyt_answers.specs.Commands.{line_answer, line_judged};
 ghost use Rattle.transyt_answers.specs.Conditions.{IsOf};
 
@@ -32,7 +31,7 @@ fn edit_code(fault: EditFault) -> Code
 /// Makes an edit, or refuses it.
 fn judge_edit<L: Ledger>(session: &mut Session, edit: Edit, steps: &mut Steps<L>) -> Answer
     requires room { session.old.work ≤ 2 ^ 62 }
-    ensures answer { result ≡ edit_answer (edit_fault session.old.net edit) }
+    ensures answer { result ≡ answer_to session.old (Command.Edit edit) }
     ensures ready { IsOf session.new result }
     ensures state { session.new ≡ edited edit session.old }
     ensures few { session.new.work ≤ session.old.work + 8000 }

@@ -1,6 +1,6 @@
 -- A climber at its turns, over a session.
 use Rattle.std.specs.Prelude.{ℕ, zero, suc, ◌+◌, ◌%◌, ◌<◌, ◌≤◌, Bool, true, false, List, [], ◌∷◌}
-use Rattle.std.specs.Prelude.{Option, Some, None, if◌then◌else◌, ◌==◌}
+use Rattle.std.specs.Prelude.{Option, option_map, Some, None, if◌then◌else◌, ◌==◌}
 use Rattle.transyt_parts.specs.Parts.{PlanValue}
 use Rattle.transyt_net.specs.Parts.{Network}
 use Rattle.transyt_moves.specs.Moves.{move, move_count}
@@ -11,8 +11,7 @@ use Rattle.transyt_track.specs.Work.{edit_work}
 use Rattle.transyt_climb.specs.declared.turn.Turn.{Turn}
 use Rattle.transyt_climb.specs.declared.turn.Turn.TheVariants.{Took, Passed, Local, Budget}
 
--- how far a climber has come: the place to look at next, the places looked at since the last step and in all, how many
--- it may look at, and how many there are
+-- a climber: its next place, the places looked at since its last step and in all, those it may look at, and all places
 pub record Counters : Type 0 where
   pub place : ℕ
   pub since : ℕ
@@ -41,8 +40,7 @@ start_at budget count = record { place = 0; since = 0; looked = 0; budget = budg
 
 -- counters at the start of a climb of a network, where it has a climb plan
 abbrev pub start_of : Network → Option PlanValue → Option Counters
-start_of net None = None
-start_of net (Some plan) = Some (start_at plan.budget (move_count net))
+start_of net plan = option_map (λ (p : PlanValue). start_at p.budget (move_count net)) plan
 
 -- a climber at its start, on a session
 abbrev pub started : ℕ → SessionValue → Machine
@@ -50,12 +48,10 @@ started budget s = machine (start_at budget (move_count s.net)) s
 
 -- the counters after one look: after a step the same place is next, else the next one round the list
 abbrev pub noted : Bool → Counters → Counters
-noted took c = record {
+noted took c = record c {
   place = if took then c.place else (c.place + 1) % c.count;
   since = if took then 0 else c.since + 1;
   looked = c.looked + 1;
-  budget = c.budget;
-  count = c.count;
 }
 
 -- the session after a look at a place: after a look at the move there
@@ -85,8 +81,7 @@ after_look took m = machine (noted took m.counters) (looked_at m.counters.place 
 abbrev pub after_answer : Turn → Machine → Machine
 after_answer (Took place edit index) m = after_look true m
 after_answer Passed m = after_look false m
-after_answer Local m = m
-after_answer Budget m = m
+after_answer _ m = m
 
 -- the state after a turn
 abbrev pub turned : Machine → Machine
@@ -105,9 +100,7 @@ answers (suc n) m = answer_of m ∷ answers n (turned m)
 -- the step of an answer before others
 abbrev pub step_then : Turn → List Step → List Step
 step_then (Took place edit index) steps = record { place = place; edit = edit; index = index } ∷ steps
-step_then Passed steps = steps
-step_then Local steps = steps
-step_then Budget steps = steps
+step_then _ steps = steps
 
 -- the steps among answers, in order
 abbrev pub steps_in : List Turn → List Step
@@ -116,17 +109,14 @@ steps_in (a ∷ rest) = step_then a (steps_in rest)
 
 -- whether an answer ends the climb
 abbrev pub is_end : Turn → Bool
-is_end (Took place edit index) = false
-is_end Passed = false
 is_end Local = true
 is_end Budget = true
+is_end _ = false
 
 -- whether an answer is that no move lowers
 abbrev pub is_local : Turn → Bool
-is_local (Took place edit index) = false
-is_local Passed = false
 is_local Local = true
-is_local Budget = false
+is_local _ = false
 
 -- the session after a place is certified: the work of an allowed move is added, and nothing else changes
 abbrev pub certified : ℕ → SessionValue → SessionValue

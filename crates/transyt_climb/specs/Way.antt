@@ -64,13 +64,10 @@ pub record AreClimb (c : Climb) (n : ℕ) (m : Machine) : Type 0 where
   pub looked : m.counters.looked + length c.looks ≡ (turns n m).counters.looked
   pub work : m.session.work + work_of c.looks ≡ (turns n m).session.work
 
--- a session after a climb
-abbrev pub after_climb : Climb → SessionValue → SessionValue
-after_climb c s = record { net = c.net; before = None; work = s.work + work_of c.looks }
-
 -- a session after a whole climb with this budget
 abbrev pub climbed : ℕ → SessionValue → SessionValue
-climbed budget s = after_climb (climb s.net 0 budget) s
+climbed budget s =
+    let c = climb s.net 0 budget in record { net = c.net; before = None; work = s.work + work_of c.looks }
 
 -- no listed move is accepted and lowers the index
 abbrev pub IsLocal : Network → Type 0

@@ -9,7 +9,7 @@ use Rattle.transyt_io.specs.Streams.{IsAtEnd}
 use Rattle.transyt_outcome.specs.declared.ending.Ending.{Ending}
 use Rattle.transyt_outcome.specs.Turns.{answers_after, costs_after, is_refusal, unless_ended, or_else}
 use Rattle.transyt_outcome.specs.Outcome.{IsFront, EndsRun, Finished, CutOff, IsPart}
-use Rattle.transyt_outcome.specs.Runs.{Answering, of_lines, answers_by, ending_by, costs_by, StepsAll, StepsMost}
+use Rattle.transyt_outcome.specs.Runs.{Answering, of_lines, answers_by, ending_by, costs_by, StepsMost}
 use Rattle.transyt_outcome.specs.RunSoFar.{AnsweredSoFar}
 use Rattle.transyt_outcome.proofs.SoFar.{all_texts, all_endings, line_texts, line_endings, line_costs, lines_given, whole_given}
 use Rattle.transyt_outcome.proofs.SoFar.{front_longer}
@@ -30,7 +30,7 @@ module _ {by : Answering} {before : List (List ℕ)} {out : List ℕ} {steps ste
       ap (ending_by by) all.1 ∙ line_endings so line is all.0 in
       record {
         out_is =
-            sym ((λ i. answered i ++ unless_ended (ended i) (by.closing (lines taken))) ∙ append-nil (out ++ text));
+            sym ((λ i. answered i ++ unless_ended (ended i) [] (by.closing (lines taken))) ∙ append-nil (out ++ text));
         status = ap (λ (e : Option Ending). or_else e (by.refused (lines taken))) ended;
         ended = elim (whole_given stands) [
           | inl at_end ↦ inl at_end
@@ -44,7 +44,7 @@ module _ {by : Answering} {before : List (List ℕ)} {out : List ℕ} {steps ste
 
   -- its steps are the last
   pub steps_line : {ending : Ending} {steps_new : ℕ} → by.ends before line ≡ Some ending
-      → steps_new ≡ steps_old + by.cost before line → StepsAll by taken steps steps_new
+      → steps_new ≡ steps_old + by.cost before line → steps_new ≡ steps + costs_by by (lines taken)
   steps_line {ending} {steps_new} is cost =
       let all = lines_given stands in
       let e : steps + costs_by by (lines taken) ≡ steps_old + (by.cost before line + 0) =
@@ -55,7 +55,7 @@ module _ {by : Answering} {before : List (List ℕ)} {out : List ℕ} {steps ste
   pub part_of_line : (front back : List ℕ) → front ++ back ≡ by.text before line → IsPart (of_lines by) left taken (out ++ front)
   part_of_line front back parts =
       let rest : List (List ℕ) → List ℕ = λ more.
-      unless_ended (by.ends before line) (answers_after by.text by.ends (before ++ line ∷ []) more) in
+      unless_ended (by.ends before line) [] (answers_after by.text by.ends (before ++ line ∷ []) more) in
       let part : (all behind : List (List ℕ)) → all ≡ (before ++ line ∷ []) ++ behind
       → IsFront (out ++ front) (answers_by by all) = λ all behind is. record {
         back = back ++ rest behind;
@@ -93,7 +93,7 @@ module _ {by : Answering} {before : List (List ℕ)} {out : List ℕ} {steps ste
       let answered : answers_by by (lines taken) ≡ out = ap (answers_by by) (sym all) ∙ all_texts so in
       let ended : ending_by by (lines taken) ≡ None = ap (ending_by by) (sym all) ∙ all_endings so in
       record {
-        out_is = sym (λ i. answered i ++ unless_ended (ended i) (by.closing (sym all i)));
+        out_is = sym (λ i. answered i ++ unless_ended (ended i) [] (by.closing (sym all i)));
         status = λ i. or_else (ended i) (by.refused (sym all i));
         ended = inl at_end;
         few = few;

@@ -6,7 +6,7 @@ use Rattle.transyt_io.specs.Lines.{cut, onto_first, line_of, lines, whole, lines
 use Rattle.transyt_outcome.specs.declared.ending.Ending.{Ending}
 use Rattle.transyt_outcome.specs.Turns.{answers_after, ending_after, unless_ended, first_of, or_else}
 use Rattle.transyt_outcome.specs.Outcome.{EndsRun, IsSettled}
-use Rattle.transyt_outcome.specs.Runs.{Answering, of_lines, answers_by, ending_by, report_by, is_refused_by}
+use Rattle.transyt_outcome.specs.Runs.{Answering, of_lines, answers_by, ending_by, is_refused_by}
 
 onto_more : (keep : Bool) (b : ℕ) (parts more all : List (List ℕ)) → all ≡ parts ++ more
     → (behind : List (List ℕ)) × (onto_first keep b all ≡ onto_first false b parts ++ behind)
@@ -33,7 +33,7 @@ whole_then keep xs ys =
     (map line_of parts.0, ap (map line_of) parts.1 ∙ map-append line_of (cut false xs) parts.0)
 
 unless_more : (turn later : Option Ending) (xs ys : List ℕ) → (EndsRun later → xs ≡ ys)
-    → EndsRun (first_of turn later) → unless_ended turn xs ≡ unless_ended turn ys
+    → EndsRun (first_of turn later) → unless_ended turn [] xs ≡ unless_ended turn [] ys
 unless_more None later xs ys f h = f h
 unless_more (Some ending) later xs ys f h = refl
 
@@ -63,7 +63,7 @@ ending_more ends before (line ∷ ls) more h =
     let with = before ++ line ∷ [] in
     first_more (ends before line) (ending_after ends with ls) _ (ending_more ends with ls more) h
 
-open_first : (turn : Option Ending) (x : List ℕ) → EndsRun turn → unless_ended turn x ≡ []
+open_first : (turn : Option Ending) (x : List ℕ) → EndsRun turn → unless_ended turn [] x ≡ []
 open_first None x h = absurd h
 open_first (Some ending) x h = refl
 
@@ -82,10 +82,10 @@ module _ (by : Answering) (taken : List ℕ) (ended : EndsRun (ending_by by (who
       let parts = whole_then true taken rest in
       ap (ending_by by) parts.1 ∙ ending_more by.ends [] (whole taken) parts.0 ended
 
-  report_whole : (rest : List ℕ) → report_by by (taken ++ rest) ≡ answers_by by (whole taken)
+  report_whole : (rest : List ℕ) → (of_lines by).report (taken ++ rest) ≡ answers_by by (whole taken)
   report_whole rest =
       let closing = by.closing (lines (taken ++ rest)) in
-      (λ i. lines_more rest i ++ unless_ended (end_more rest i) closing)
+      (λ i. lines_more rest i ++ unless_ended (end_more rest i) [] closing)
       ∙ ap (λ (xs : List ℕ). answers_by by (whole taken) ++ xs) (open_first (ending_by by (whole taken)) closing ended)
       ∙ append-nil _
 
@@ -95,8 +95,8 @@ module _ (by : Answering) (taken : List ℕ) (ended : EndsRun (ending_by by (who
       ∙ or_ended (ending_by by (whole taken)) _ false ended
 
   -- the report of more bytes, where a whole line ended the run
-  pub report_more : (rest : List ℕ) → report_by by (taken ++ rest) ≡ report_by by taken
-  report_more rest = report_whole rest ∙ sym (report_whole []) ∙ ap (report_by by) (append-nil taken)
+  pub report_more : (rest : List ℕ) → (of_lines by).report (taken ++ rest) ≡ (of_lines by).report taken
+  report_more rest = report_whole rest ∙ sym (report_whole []) ∙ ap (of_lines by).report (append-nil taken)
 
   -- whether they are refused
   pub refused_more : (rest : List ℕ) → is_refused_by by (taken ++ rest) ≡ is_refused_by by taken

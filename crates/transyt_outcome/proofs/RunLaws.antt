@@ -8,7 +8,7 @@ use Rattle.transyt_io.specs.declared.reader.Line.{Line}
 use Rattle.transyt_io.specs.declared.reader.Line.TheVariants.{Text, End}
 use Rattle.transyt_io.specs.declared.reader.ReadStop.{ReadStop}
 use Rattle.transyt_io.specs.declared.reader.ReadStop.TheVariants.{Fault, TooLong as Long}
-use Rattle.transyt_io.specs.Lines.{whole}
+use Rattle.transyt_io.specs.Lines.{lines, whole}
 use Rattle.transyt_io.specs.Model.{Reading}
 use Rattle.transyt_io.specs.Reading.{HasRead, ReadsLine, AnswerSays, StopSays, new_reading}
 use Rattle.transyt_io.specs.Streams.{Takes, Adds, AddsFront}
@@ -22,7 +22,7 @@ use Rattle.transyt_outcome.specs.declared.status.Status.TheVariants.{Done, DeckR
 use Rattle.transyt_outcome.specs.declared.status.Status.TheVariants.{NoMemory}
 use Rattle.transyt_outcome.specs.Turns.{AnsweredWhole, ClosedWhole, is_refusal}
 use Rattle.transyt_outcome.specs.Outcome.{Finished, IsWritten, Row}
-use Rattle.transyt_outcome.specs.Runs.{Answering, of_lines, answers_by, costs_by, StepsAll, StepsRow, Ran}
+use Rattle.transyt_outcome.specs.Runs.{Answering, of_lines, answers_by, costs_by, StepsRow, Ran}
 use Rattle.transyt_outcome.specs.RunSoFar.{RunSoFar}
 use Rattle.transyt_outcome.proofs.SoFar.{so_far_none, so_far_on, all_texts, all_costs, written_none, written_on, written_next}
 use Rattle.transyt_outcome.proofs.LastLine.{finished_line, steps_line, part_of_line, steps_of_line, finished_end, part_of_end}
@@ -102,7 +102,7 @@ module _ {by : Answering} {answered : List (List ℕ) → Type 0} {count : ℕ} 
       (out : List ℕ) {written_new : Option (List ℕ)} {steps_new : ℕ} (refused : Bool) {status : Status}
       → status ≡ (if refused then DeckRefused else Done) → Adds written written_new out
       → Finished (of_lines by) left_new (taken_by p) out refused
-      → (counted ≡ true → StepsAll by (taken_by p) steps steps_new)
+      → (counted ≡ true → steps_new ≡ steps + costs_by by (lines (taken_by p)))
       → Ran by counted left left_new last_new written written_new steps steps_new status
   ran_finished p out true is adds done sum = ran p out DeckRefused is adds done sum
   ran_finished p out false is adds done sum = ran p out Done is adds done sum

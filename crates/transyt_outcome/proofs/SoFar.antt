@@ -11,7 +11,7 @@ use Rattle.transyt_io.specs.Model.{Reading}
 use Rattle.transyt_io.specs.Reading.{HasRead, ReadsLine}
 use Rattle.transyt_io.specs.Streams.{IsAtEnd}
 use Rattle.transyt_outcome.specs.declared.ending.Ending.{Ending}
-use Rattle.transyt_outcome.specs.Turns.{answers_after, ending_after, costs_after, unless_ended, first_of, unless_over}
+use Rattle.transyt_outcome.specs.Turns.{answers_after, ending_after, costs_after, unless_ended, first_of}
 use Rattle.transyt_outcome.specs.Outcome.{IsFront, IsWritten}
 use Rattle.transyt_outcome.specs.Runs.{Answering, of_lines, answers_by, ending_by, costs_by}
 use Rattle.transyt_outcome.specs.RunSoFar.{AnsweredSoFar}
@@ -40,11 +40,11 @@ module _ {by : Answering} {before : List (List ℕ)} {out : List ℕ} {steps ste
   module _ (line : List ℕ) {turn : Option Ending} (is : by.ends before line ≡ turn) (more : List (List ℕ)) where
     -- the text of the lines, of one more and of what comes after it
     pub line_texts : answers_by by ((before ++ line ∷ []) ++ more)
-        ≡ out ++ (by.text before line ++ unless_ended turn (answers_after by.text by.ends (before ++ line ∷ []) more))
+        ≡ out ++ (by.text before line ++ unless_ended turn [] (answers_after by.text by.ends (before ++ line ∷ []) more))
     line_texts =
         let rest = answers_after by.text by.ends (before ++ line ∷ []) more in
         ap (answers_by by) (append_assoc before (line ∷ []) more) ∙ so.texts (line ∷ more)
-        ∙ ap (λ (e : Option Ending). out ++ (by.text before line ++ unless_ended e rest)) is
+        ∙ ap (λ (e : Option Ending). out ++ (by.text before line ++ unless_ended e [] rest)) is
 
     -- whether they end the run
     pub line_endings : ending_by by ((before ++ line ∷ []) ++ more)
@@ -57,12 +57,12 @@ module _ {by : Answering} {before : List (List ℕ)} {out : List ℕ} {steps ste
     -- their steps
     pub line_costs : steps + costs_by by ((before ++ line ∷ []) ++ more)
         ≡ steps_new
-        + (by.cost before line + unless_over turn (costs_after by.cost by.ends (before ++ line ∷ []) more))
+        + (by.cost before line + unless_ended turn 0 (costs_after by.cost by.ends (before ++ line ∷ []) more))
     line_costs =
         let rest = costs_after by.cost by.ends (before ++ line ∷ []) more in
         ap (λ (ls : List (List ℕ)). steps + costs_by by ls) (append_assoc before (line ∷ []) more)
         ∙ so.costs (line ∷ more)
-        ∙ ap (λ (e : Option Ending). steps_new + (by.cost before line + unless_over e rest)) is
+        ∙ ap (λ (e : Option Ending). steps_new + (by.cost before line + unless_ended e 0 rest)) is
 
   -- a line that doesn't end the run
   pub so_far_on : (line : List ℕ) {steps_after : ℕ} → by.ends before line ≡ None

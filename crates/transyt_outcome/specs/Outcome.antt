@@ -4,8 +4,7 @@ use Rattle.std.specs.Prelude.{IfSome, length, take, if◌then◌else◌}
 use Rattle.transyt_io.specs.Streams.{Takes, Adds, IsAtEnd}
 use Rattle.transyt_outcome.specs.declared.ending.Ending.{Ending}
 use Rattle.transyt_outcome.specs.declared.status.Status.{Status}
-use Rattle.transyt_outcome.specs.declared.status.Status.TheVariants.{Done, DeckRefused, ReadFault, TooLong, WriteFault}
-use Rattle.transyt_outcome.specs.declared.status.Status.TheVariants.{NoMemory, BadWords}
+use Rattle.transyt_outcome.specs.declared.status.Status.TheVariants as s
 
 -- The report of bytes: the text of them while more may come, and how they end the run before the input ends,
 -- if they do; and, where they are the whole input, the report of it and whether it is refused.
@@ -17,7 +16,7 @@ pub record Reporting : Type 0 where
 
 -- the status of the run of an input
 abbrev pub status_by : Reporting → List ℕ → Status
-status_by by input = if by.refused input then DeckRefused else Done
+status_by by input = if by.refused input then s.DeckRefused else s.Done
 
 -- these are some first bytes of all
 pub record IsFront (front all : List ℕ) : Type 0 where
@@ -46,8 +45,7 @@ pub record TooMany (by : Reporting) (taken out : List ℕ) : Type 0 where
   pub many : length taken ≡ 4194305
   pub cut_off : CutOff by (take 4194304 taken) out
 
--- some first bytes were written of what is written while more may come or, where the source was read to its end, of
--- the report
+-- a front was written of the text while more may come or, where the source was read to its end, of the report
 abbrev pub IsPart : Reporting → Option (List ℕ) → List ℕ → List ℕ → Type 0
 IsPart by left taken out =
     IsFront out (by.so_far taken) ⊎ (IsAtEnd left × IsFront out (by.report taken))
@@ -60,13 +58,13 @@ IsWritten by last taken out =
 -- the meaning of a status: the bytes taken and those written; `left` and `last` are what the source tells afterwards:
 -- the bytes that it has left, and how many the last read gave
 abbrev pub Row : Reporting → Option (List ℕ) → Option ℕ → List ℕ → List ℕ → Status → Type 0
-Row by left last taken out Done = Finished by left taken out false
-Row by left last taken out DeckRefused = Finished by left taken out true
-Row by left last taken out ReadFault = CutOff by taken out
-Row by left last taken out TooLong = TooMany by taken out
-Row by left last taken out WriteFault = IsPart by left taken out × IsWritten by last taken out
-Row by left last taken out NoMemory = out ≡ []
-Row by left last taken out BadWords = ⊥
+Row by left last taken out s.Done = Finished by left taken out false
+Row by left last taken out s.DeckRefused = Finished by left taken out true
+Row by left last taken out s.ReadFault = CutOff by taken out
+Row by left last taken out s.TooLong = TooMany by taken out
+Row by left last taken out s.WriteFault = IsPart by left taken out × IsWritten by last taken out
+Row by left last taken out s.NoMemory = out ≡ []
+Row by left last taken out s.BadWords = ⊥
 
 -- the outcome of a run: the bytes that it took, those that it wrote, and what its status says of both
 pub record Outcome (by : Reporting) (left left_new : Option (List ℕ)) (last_new : Option ℕ)
@@ -79,10 +77,10 @@ pub record Outcome (by : Reporting) (left left_new : Option (List ℕ)) (last_ne
 
 -- the meaning of a status for the bytes written of a text, and for whether the text is a refusal
 abbrev pub TextRow : List ℕ → Bool → List ℕ → Status → Type 0
-TextRow text refused out Done = (out ≡ text) × (refused ≡ false)
-TextRow text refused out DeckRefused = (out ≡ text) × (refused ≡ true)
-TextRow text refused out WriteFault = IsFront out text
-TextRow text refused out NoMemory = out ≡ []
+TextRow text refused out s.Done = (out ≡ text) × (refused ≡ false)
+TextRow text refused out s.DeckRefused = (out ≡ text) × (refused ≡ true)
+TextRow text refused out s.WriteFault = IsFront out text
+TextRow text refused out s.NoMemory = out ≡ []
 TextRow text refused out _ = ⊥
 
 -- the outcome of writing a text: the bytes written, and what the status says of them
@@ -113,4 +111,4 @@ Complete by left status =
 abbrev pub TooLongWhere : Reporting → Option (List ℕ) → Status → Type 0
 TooLongWhere by left status =
     (input : List ℕ) → left ≡ Some input → 4194304 < length input → by.ends (take 4194304 input) ≡ None
-    → status ≡ TooLong
+    → status ≡ s.TooLong

@@ -15,9 +15,8 @@ pub record AnsweredSoFar (by : Answering) (before : List (List ℕ)) (out : List
   pub costs : (more : List (List ℕ))
       → steps + costs_by by (before ++ more) ≡ steps_new + costs_after by.cost by.ends before more
 
--- A run that goes on: what it took, answered and wrote. `has_answered` tells which lines the answerer has answered, `count`
--- how many it has counted, and `counted` whether all steps are counted; source, sink and steps come with what they told
--- at the start of the run, and tell now.
+-- A run that goes on. `has_answered` tells which lines were answered, `count` how many were counted, and `counted` whether
+-- all steps are counted; source, sink and steps come with what they told at the start of the run and tell now.
 pub record RunSoFar (by : Answering) (has_answered : List (List ℕ) → Type 0) (count : ℕ) (counted : Bool)
     (reading : Reading) (left left_new : Option (List ℕ)) (last : Option ℕ) (written written_new : Option (List ℕ))
     (steps steps_new : ℕ) : Type 0 where

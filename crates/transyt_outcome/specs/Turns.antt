@@ -18,10 +18,10 @@ pub record ClosedWhole (closing : List (List ℕ) → List ℕ) (refused : List 
   pub adds : Adds old new (closing before)
   pub result_is : result ≡ refused before
 
--- the rest, which comes to nothing behind a line that ends the run
-abbrev pub unless_ended : Option Ending → List ℕ → List ℕ
-unless_ended None rest = rest
-unless_ended (Some ending) rest = []
+-- the rest, or nothing behind a line that ends the run
+abbrev pub unless_ended : {X : Type 0} → Option Ending → X → X → X
+unless_ended None nothing rest = rest
+unless_ended (Some ending) nothing rest = nothing
 
 -- the first end of two
 abbrev pub first_of : Option Ending → Option Ending → Option Ending
@@ -43,7 +43,7 @@ abbrev pub answers_after : (List (List ℕ) → List ℕ → List ℕ) → (List
     → List (List ℕ) → List (List ℕ) → List ℕ
 answers_after text ends before [] = []
 answers_after text ends before (line ∷ more) =
-    text before line ++ unless_ended (ends before line) (answers_after text ends (before ++ line ∷ []) more)
+    text before line ++ unless_ended (ends before line) [] (answers_after text ends (before ++ line ∷ []) more)
 
 -- how a line behind these ends the run, if one does
 abbrev pub ending_after : (List (List ℕ) → List ℕ → Option Ending) → List (List ℕ) → List (List ℕ) → Option Ending
@@ -51,14 +51,9 @@ ending_after ends before [] = None
 ending_after ends before (line ∷ more) =
     first_of (ends before line) (ending_after ends (before ++ line ∷ []) more)
 
--- the steps to come, none behind a line that ends the run
-abbrev pub unless_over : Option Ending → ℕ → ℕ
-unless_over None rest = rest
-unless_over (Some ending) rest = 0
-
 -- the steps of the lines that come behind these, up to the one that ends the run
 abbrev pub costs_after : (List (List ℕ) → List ℕ → ℕ) → (List (List ℕ) → List ℕ → Option Ending)
     → List (List ℕ) → List (List ℕ) → ℕ
 costs_after cost ends before [] = 0
 costs_after cost ends before (line ∷ more) =
-    cost before line + unless_over (ends before line) (costs_after cost ends (before ++ line ∷ []) more)
+    cost before line + unless_ended (ends before line) 0 (costs_after cost ends (before ++ line ∷ []) more)

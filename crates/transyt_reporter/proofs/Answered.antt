@@ -7,12 +7,12 @@ use Rattle.transyt_deck.specs.Deck.{Deck, Open, Complete, Refused, next, is_open
 use Rattle.transyt_session.specs.Session.{SessionValue}
 use Rattle.transyt_desks.specs.Desks.{desk_zero}
 use Rattle.transyt_outcome.specs.declared.ending.Ending.{Ending}
+use Rattle.transyt_outcome.specs.Runs.{answers_by}
 use Rattle.transyt_outcome.specs.Turns.{answers_after, unless_ended, AnsweredWhole}
 use Rattle.transyt_outcome.specs.declared.ending.Stop.{Stop}
 use Rattle.transyt_answers.specs.Commands.{session_after}
 use Rattle.transyt_answers.specs.Report.{RunState, InDeck, InSession, run_of, run_after, run_state, line_text, line_ends}
-use Rattle.transyt_answers.specs.Report.{line_steps, deck_said, deck_ends, text, ends}
-use Rattle.transyt_answers.specs.Report.{cost}
+use Rattle.transyt_answers.specs.Report.{line_steps, deck_answering, deck_said, deck_ends}
 use Rattle.transyt_reporter.specs.Reporter.{ReporterValue, new_reporter, state_of, HasAnswered}
 use Rattle.transyt_answers.proofs.CostLaws.{state_on}
 use Rattle.transyt_answers.proofs.WorkLaws.{line_more}
@@ -20,20 +20,20 @@ use Rattle.transyt_answers.proofs.WorkLaws.{line_more}
 -- these lines write nothing
 abbrev AreQuiet : List (List ℕ) → Type 0
 AreQuiet before = (more : List (List ℕ))
-    → answers_after text ends [] (before ++ more) ≡ answers_after text ends before more
+    → answers_by deck_answering (before ++ more) ≡ answers_after deck_answering.text deck_answering.ends before more
 
 -- no line came
 pub answered_none : (workers : ℕ) → HasAnswered (new_reporter workers) []
 answered_none workers = record { is = refl; awaited = refl; live = refl; quiet = λ more. refl }
 
 -- after a line that writes nothing and doesn't end the run the lines still write nothing
-quiet_on : (before : List (List ℕ)) (line : List ℕ) → AreQuiet before → text before line ≡ [] → ends before line ≡ None
-    → AreQuiet (before ++ line ∷ [])
+quiet_on : (before : List (List ℕ)) (line : List ℕ) → AreQuiet before → deck_answering.text before line ≡ []
+    → deck_answering.ends before line ≡ None → AreQuiet (before ++ line ∷ [])
 quiet_on before line quiet nothing goes more =
-    let rest = answers_after text ends (before ++ line ∷ []) more in
-    ap (answers_after text ends []) (append_assoc before (line ∷ []) more) ∙ quiet (line ∷ more)
-    ∙ ap (λ (xs : List ℕ). xs ++ unless_ended (ends before line) rest) nothing
-    ∙ ap (λ (e : Option Ending). unless_ended e rest) goes
+    let rest = answers_after deck_answering.text deck_answering.ends (before ++ line ∷ []) more in
+    ap (answers_by deck_answering) (append_assoc before (line ∷ []) more) ∙ quiet (line ∷ more)
+    ∙ ap (λ (xs : List ℕ). xs ++ unless_ended (deck_answering.ends before line) [] rest) nothing
+    ∙ ap (λ (e : Option Ending). unless_ended e [] rest) goes
 
 -- an open deck, of which nothing was said
 record IsStill (deck : Deck) : Type 0 where
@@ -64,8 +64,8 @@ module _ (r : ReporterValue) (before : List (List ℕ)) (h : HasAnswered r befor
   quiet_is none = let P : Option (List SessionValue) → Type 0 = λ o. IfNone o (AreQuiet before) in subst P none h.quiet
 
   -- until END nothing was written
-  pub answered_nothing : r.desks ≡ None → answers_after text ends [] before ≡ []
-  answered_nothing none = ap (answers_after text ends []) (sym (append-nil before)) ∙ quiet_is none []
+  pub answered_nothing : r.desks ≡ None → answers_by deck_answering before ≡ []
+  answered_nothing none = ap (answers_by deck_answering) (sym (append-nil before)) ∙ quiet_is none []
 
   -- a command
   pub answered_command : (after : ReporterValue) (desks desks_after : List SessionValue) (line : List ℕ)
@@ -89,9 +89,9 @@ module _ (r : ReporterValue) (before : List (List ℕ)) (h : HasAnswered r befor
   answered_card after line none state goes live =
       let at : run_after (InDeck r.cards.deck) line ≡ run_state (before ++ line ∷ []) =
       ap (λ (s : RunState). run_after s line) (deck_is none) ∙ sym (state_on before line) in
-      let said : deck_said (next r.cards.deck line) ≡ text before line =
+      let said : deck_said (next r.cards.deck line) ≡ deck_answering.text before line =
       ap (λ (s : RunState). line_text s line) (deck_is none) in
-      let ends_is : deck_ends (next r.cards.deck line) ≡ ends before line =
+      let ends_is : deck_ends (next r.cards.deck line) ≡ deck_answering.ends before line =
       ap (λ (s : RunState). line_ends s line) (deck_is none) in
       let cases : (desks : Option (List SessionValue)) → after.desks ≡ desks
       → IfNone desks (is_open after.cards.deck ≡ true) × IfNone desks (AreQuiet (before ++ line ∷ [])) = elim [
@@ -110,9 +110,9 @@ module _ (r : ReporterValue) (before : List (List ℕ)) (h : HasAnswered r befor
 -- the text and the end of a line are its answer
 pub told_whole : (result : Result (Option Ending) Stop) (said : List ℕ) (end : Option Ending)
     (has_answered : List (List ℕ) → Type 0) (before : List (List ℕ)) (line : List ℕ) (old new : Option (List ℕ))
-    → said ≡ text before line → end ≡ ends before line → OnOk result (Adds old new said)
+    → said ≡ deck_answering.text before line → end ≡ deck_answering.ends before line → OnOk result (Adds old new said)
     → IfOk result (λ (e : Option Ending). e ≡ end) → (result ≡ Ok None → has_answered (before ++ line ∷ []))
-    → IfOk result (AnsweredWhole text ends has_answered old new before line)
+    → IfOk result (AnsweredWhole deck_answering.text deck_answering.ends has_answered old new before line)
 told_whole (Ok e) said end has_answered before line old new said_is end_is adds is goes_on = record {
   adds = let P : List ℕ → Type 0 = λ xs. Adds old new xs in subst P said_is adds;
   turn_is = is ∙ end_is;
@@ -123,7 +123,7 @@ told_whole (Err stop) said end has_answered before line old new said_is end_is a
 -- the steps of a command
 pub command_cost : (result : Result (Option Ending) Stop) (s after : SessionValue) (before : List (List ℕ)) (line : List ℕ)
     (steps steps_new : ℕ) → InSession s ≡ run_state before → OnOk result (after ≡ session_after s line)
-    → steps_new + s.work ≡ steps + after.work → OnOk result (steps_new ≡ steps + cost before line)
+    → steps_new + s.work ≡ steps + after.work → OnOk result (steps_new ≡ steps + deck_answering.cost before line)
 command_cost (Ok e) s after before line steps steps_new is state spent =
     let P : RunState → Type 0 = λ r. steps_new ≡ steps + line_steps r line in
     let work : after.work ≡ (session_after s line).work = ap (λ (t : SessionValue). t.work) state in

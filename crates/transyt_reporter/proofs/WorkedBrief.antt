@@ -16,8 +16,8 @@ use Rattle.transyt_answers.proofs.WorkedCommands.{index_after}
 use Rattle.transyt_answers.specs.WorkedCommands.{some_climb}
 use Rattle.transyt_reporter.specs.Brief.{brief_form, brief_steps, brief_text, climbed_line}
 use Rattle.transyt_reporter.specs.WorkedBrief.{climb_line}
-use Rattle.transyt_answers.specs.Commands.{climb_of, line_work}
-use Rattle.transyt_answers.specs.Report.{deck_steps}
+use Rattle.transyt_answers.specs.Commands.{climb_of}
+use Rattle.transyt_answers.specs.Report.{InSession, deck_steps, line_steps}
 
 -- a network without links: no move lowers an index of 0
 pub brief_is : brief_text idle ≡ codes "BRIEF 1 0 FROM 0 TOOK 0 LOCAL 6 TO 0" ++ 10 ∷ []
@@ -31,7 +31,7 @@ from_none all work = omega arith
 -- the steps of END and of CLIMB
 pub steps_of_brief : (net : Network) (plan : PlanValue) (number : ℕ) → brief_steps (record net { plan = Some plan })
     ≡ deck_steps (Complete number (record net { plan = Some plan }))
-    + line_work (opened (record net { plan = Some plan })) (codes "CLIMB")
+    + line_steps (InSession (opened (record net { plan = Some plan }))) (codes "CLIMB")
 steps_of_brief net plan number =
     from_none (net.frame.sweeps * length net.links) (work_of (climb_of (record net { plan = Some plan })).looks)
 

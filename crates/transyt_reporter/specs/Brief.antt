@@ -12,8 +12,7 @@ abbrev pub brief_form : Bool → List ℕ
 brief_form local =
     if local then codes "BRIEF # # FROM # TOOK # LOCAL # TO #" else codes "BRIEF # # FROM # TOOK # BUDGET # TO #"
 
--- the line of a climb on a network: the numbers of nodes and links, the index before it, the steps taken, how it ended
--- after how many looks, and the index at its end
+-- the line of a climb: how many nodes and links, the index before, the steps, its end and its looks, the index after
 abbrev pub climbed_line : Network → Climb → List ℕ
 climbed_line net c =
     form_line (brief_form c.local)

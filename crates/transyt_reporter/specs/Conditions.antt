@@ -10,7 +10,7 @@ use Rattle.transyt_answers.specs.Report.{deck_said, deck_ends, deck_steps}
 use Rattle.transyt_net.specs.Shape.{SameShape}
 use Rattle.transyt_session.specs.Session.{SessionValue}
 use Rattle.transyt_climb.specs.declared.turn.Turn.{Turn}
-use Rattle.transyt_climb.specs.declared.turn.Turn.TheVariants.{Took, Passed, Local, Budget}
+use Rattle.transyt_climb.specs.declared.turn.Turn.TheVariants.{Took}
 use Rattle.transyt_desks.specs.Desks.{desk_zero, AreAlike}
 use Rattle.transyt_report.specs.MoveTexts.{is_move}
 
@@ -23,9 +23,7 @@ pub record AreReady (desks : List SessionValue) : Type 0 where
 -- the edit of a step is one of an offset or a change
 abbrev pub IsStep : Turn → Type 0
 IsStep (Took place edit index) = is_move edit ≡ true
-IsStep Passed = Unit {0}
-IsStep Local = Unit {0}
-IsStep Budget = Unit {0}
+IsStep _ = Unit {0}
 
 -- desks and steps after an answer, also one whose text broke off: the desks are ready, the work rose by no more than a
 -- limit and not past that of the whole answer, and with one worker the steps rose as it did

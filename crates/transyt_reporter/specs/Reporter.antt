@@ -1,11 +1,12 @@
 -- The view of a reporter, and its invariant.
-use Rattle.std.specs.Prelude.{ℕ, ◌≡◌, ◌*◌, ◌≤◌, ◌++◌, true, List, [], length, Option, None, Some, IfSome, IfNone}
+use Rattle.std.specs.Prelude.{ℕ, ◌≡◌, ◌*◌, ◌≤◌, ◌++◌, true, List, length, Option, None, Some, IfSome, IfNone}
 use Rattle.transyt_deck.specs.Deck.{start, line_count, is_open}
 use Rattle.transyt_deck.specs.Reader.{ReaderValue}
 use Rattle.transyt_session.specs.Session.{SessionValue}
 use Rattle.transyt_desks.specs.Desks.{desk_zero}
+use Rattle.transyt_outcome.specs.Runs.{answers_by}
 use Rattle.transyt_outcome.specs.Turns.{answers_after}
-use Rattle.transyt_answers.specs.Report.{RunState, InDeck, InSession, text, ends, run_state}
+use Rattle.transyt_answers.specs.Report.{RunState, InDeck, InSession, deck_answering, run_state}
 use Rattle.transyt_reporter.specs.Conditions.{AreReady}
 
 -- a reporter: how many workers, how many lines it has counted, its reader of cards, and from END on its desks
@@ -47,4 +48,5 @@ pub record HasAnswered (r : ReporterValue) (before : List (List ℕ)) : Type 0 w
   pub awaited : IfNone r.desks (is_open r.cards.deck ≡ true)
   pub live : IfNone r.desks (r.cards.live ≡ true)
   pub quiet : IfNone r.desks ((more : List (List ℕ))
-      → answers_after text ends [] (before ++ more) ≡ answers_after text ends before more)
+      → answers_by deck_answering (before ++ more)
+      ≡ answers_after deck_answering.text deck_answering.ends before more)

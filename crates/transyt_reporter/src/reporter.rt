@@ -1,13 +1,14 @@
 //! The reporter: it answers the lines of a deck and of its commands.
 ghost use Rattle.std.specs.Prelude.{◌≡◌, ◌≤◌, ◌<◌, ◌+◌, ◌^◌, true, None, Some, Ok, IfOk, IfNone, OnOk, OnErr, IsErrOf, IsTrue, length, ℕ, List, []};
-ghost use Rattle.transyt_outcome.specs.Turns.{AnsweredWhole, ClosedWhole, answers_after};
+ghost use Rattle.transyt_outcome.specs.Runs.{answers_by};
+ghost use Rattle.transyt_outcome.specs.Turns.{AnsweredWhole, ClosedWhole};
 ghost use Rattle.transyt_io.specs.Streams.{Adds, AddsFront, Rose};
 ghost use Rattle.transyt_text.specs.Prints.{PrintsOn};
 ghost use Rattle.transyt_deck.specs.Deck.{next, is_complete, line_count};
 ghost use Rattle.transyt_desks.specs.Desks.{desk_zero};
 ghost use Rattle.transyt_answers.specs.Commands.{line_answer, answer_text, session_after};
 ghost use Rattle.transyt_reporter.specs.Conditions.{AnswersDeck, AreReady, Leaves};
-ghost use Rattle.transyt_answers.specs.Report.{InSession, text, ends, closing, refused_at_end, cost, answer_ends, deck_said};
+ghost use Rattle.transyt_answers.specs.Report.{InSession, answer_ends, deck_answering, deck_said};
 ghost use Rattle.transyt_answers.specs.Report.{deck_ends, deck_steps, run_of};
 ghost use Rattle.transyt_reporter.specs.Reporter.{HasAnswered, state_of, AreKept, new_reporter};
 
@@ -201,18 +202,19 @@ pub(crate) fn answer_line<R: Threads + Sync, G: Gate, K: Sink, L: Ledger>(
 ) -> Result<Option<Ending>, Stop>
     requires { reporter.old.lines < 4194305 }
     ensures whole { (before : List (List ℕ)) → HasAnswered reporter.old before
-        → IfOk result (AnsweredWhole text ends (HasAnswered reporter.new)
+        → IfOk result (AnsweredWhole deck_answering.text deck_answering.ends (HasAnswered reporter.new)
         (K.written sink.old) (K.written sink.new) before line.now) }
     ensures part { (before : List (List ℕ)) → HasAnswered reporter.old before
-        → OnErr result (AddsFront (K.written sink.old) (K.written sink.new) (text before line.now)) }
+        → OnErr result (AddsFront (K.written sink.old) (K.written sink.new)
+        (deck_answering.text before line.now)) }
     ensures steps { (before : List (List ℕ)) → HasAnswered reporter.old before → reporter.old.workers ≡ 1
-        → OnOk result (steps.new ≡ steps.old + cost before line.now) }
+        → OnOk result (steps.new ≡ steps.old + deck_answering.cost before line.now) }
     ensures some_steps { (before : List (List ℕ)) → HasAnswered reporter.old before → reporter.old.workers ≡ 1
-        → OnErr result (steps.new ≤ steps.old + cost before line.now) }
+        → OnErr result (steps.new ≤ steps.old + deck_answering.cost before line.now) }
     ensures workers { reporter.new.workers ≡ reporter.old.workers }
     // out of memory only where nothing was written yet
     ensures silent { (before : List (List ℕ)) → HasAnswered reporter.old before → IsErrOf result Stop.Memory
-        → (answers_after text ends [] before ≡ []) × (sink.new ≡ sink.old) }
+        → (answers_by deck_answering before ≡ []) × (sink.new ≡ sink.old) }
     ensures count { reporter.new.lines ≤ reporter.old.lines + 1 }
     ensures later { K.faults sink.old ≤ K.faults sink.new }
     ensures fault { IsErrOf result Stop.Write → Rose (K.faults sink.old) (K.faults sink.new) }
@@ -238,9 +240,11 @@ impl<'a, R, G> Reporter<'a, R, G> {
     pub(crate) fn finish<K: Sink>(&mut self, sink: &mut K) -> Result<bool, Stop>
         requires { self.old.lines ≤ 4194305 }
         ensures whole { (before : List (List ℕ)) → HasAnswered self.old before
-            → IfOk result (ClosedWhole closing refused_at_end (K.written sink.old) (K.written sink.new) before) }
+            → IfOk result (ClosedWhole deck_answering.closing deck_answering.refused
+            (K.written sink.old) (K.written sink.new) before) }
         ensures part { (before : List (List ℕ)) → HasAnswered self.old before
-            → OnErr result (AddsFront (K.written sink.old) (K.written sink.new) (closing before)) }
+            → OnErr result (AddsFront (K.written sink.old) (K.written sink.new)
+            (deck_answering.closing before)) }
         ensures takes_none { IsErrOf result Stop.Memory → ⊥ }
         ensures later { K.faults sink.old ≤ K.faults sink.new }
         ensures fault { IsErrOf result Stop.Write → Rose (K.faults sink.old) (K.faults sink.new) }

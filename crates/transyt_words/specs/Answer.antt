@@ -5,8 +5,7 @@ use Rattle.transyt_deck.specs.Cards.{deck_text}
 use Rattle.transyt_outcome.specs.Outcome.{Reporting}
 use Rattle.transyt_words.specs.Lines.{LineValue, lines_text}
 
--- the lines that are written, the network whose deck text is written after them, if there is one, and whether the input
--- is refused
+-- the lines that are written, the network whose deck text follows them, if any, and whether the input is refused
 pub record AnswerValue : Type 0 where
   pub lines : List LineValue
   pub deck : Option Network
@@ -33,8 +32,7 @@ deck_after (Some net) = deck_text net
 abbrev pub answer_text : AnswerValue → List ℕ
 answer_text answer = lines_text answer.lines ++ deck_after answer.deck
 
--- the report of an input that is taken whole: nothing is written of it, and nothing ends the run, before it was
--- read to its end
+-- the report of an input that is taken whole: before its end nothing is written and nothing ends the run
 abbrev pub of_whole : (List ℕ → AnswerValue) → Reporting
 of_whole answer = record {
   so_far = λ bytes. [];

@@ -8,8 +8,7 @@ use Rattle.transyt_scan.specs.Best.{best}
 use Rattle.transyt_words.specs.Answer.{AnswerValue, done}
 use Rattle.transyt_words.specs.Lines.{LineValue, line_of}
 
--- the line of a row: its cycle time, the index before the climb, the steps taken, the places looked at, and the index
--- after it
+-- the line of a row: its cycle time, the index before the climb, the steps, the places looked at, the index after it
 abbrev pub row_line : ScanRow → LineValue
 row_line row =
     line_of

@@ -32,14 +32,11 @@ loop-from-preserved g c =
     let from = c.loop-from.from in
     let count = c.min-count.result in
     let told = c.in_ok-certify_batch.ensures in
-    let first = desk_zero c.args.desks.now in
-    let now = desk_zero c.loop-from.desks in
-    let after = desk_zero c.certify_batch.new.desks in
     record {
       printed = batch_printed net from count (from + count) _ _ _ refl so.printed
           (prints_same _ _ _ _ _ told.prints (ap (λ (n : Network). places_text n from count) so.certified.net));
-      certified = certified_any (Ok (tt {0})) first after 0 (from + count) (from + count) refl
-          (certified_both _ first now after 0 from count (from + count) from (omega arith) refl so.certified told.certified);
+      certified = certified_any (Ok (tt {0})) _ _ 0 (from + count) (from + count) refl
+          (certified_both _ _ _ _ 0 from count (from + count) from (omega arith) refl so.certified told.certified);
       inside = omega arith;
       alike = told.alike;
       len = told.len ∙ so.len;
@@ -60,31 +57,24 @@ returns-in_err-certify_batch-clause-prints g c =
 -- and the work of its places is added in part
 pub returns-in_err-certify_batch-clause-certified : goal.returns-in_err-certify_batch-clause-certified
 returns-in_err-certify_batch-clause-certified g c =
-    let so = c.loop-from.invariant in
-    let first = desk_zero c.args.desks.now in
-    let now = desk_zero c.loop-from.desks in
-    let after = desk_zero c.certify_batch.new.desks in
     let from = c.loop-from.from in
     let count = c.min-count.result in
     let all = c.move_count-places.ensures.count ∙ ap move_count (c.net.ensures ∙ ap (λ (s : SessionValue). s.net) c.session.ensures) in
-    certified_front _ first after 0 (from + count) (move_count first.net) c.from_residual.ensures.0 (omega (arith, all))
-    (certified_both _ first now after 0 from count (from + count) from (omega arith) refl so.certified
+    certified_front _ _ _ 0 (from + count) _ c.from_residual.ensures.0 (omega (arith, all))
+    (certified_both _ _ _ _ 0 from count (from + count) from (omega arith) refl c.loop-from.invariant.certified
     c.in_err-certify_batch.ensures.certified)
 
 -- all lines are written, and then the last, or it broke off
 pub returns-clause-prints : goal.returns-clause-prints
 returns-clause-prints g c =
     let so = c.loop-from.invariant in
-    let net = (desk_zero c.args.desks.now).net in
     let count = c.move_count-places.ensures.count ∙ ap move_count (c.net.ensures ∙ ap (λ (s : SessionValue). s.net) c.session.ensures) in
     let now = ap (λ (s : SessionValue). s.net) c.session-2.ensures ∙ so.certified.net in
-    lines_ended c.say_cert_end.result (tt {0}) net c.loop-from.from _ _ _ (omega arith) so.printed
+    lines_ended c.say_cert_end.result (tt {0}) (desk_zero c.args.desks.now).net c.loop-from.from _ _ _ (omega arith) so.printed
     (prints_same _ _ c.say_cert_end.result _ _ c.say_cert_end.ensures (λ i. last_text (count i) (index (now i))))
 
 -- and all work is added
 pub returns-clause-certified : goal.returns-clause-certified
 returns-clause-certified g c =
-    let first = desk_zero c.args.desks.now in
     let all = c.move_count-places.ensures.count ∙ ap move_count (c.net.ensures ∙ ap (λ (s : SessionValue). s.net) c.session.ensures) in
-    certified_any c.say_cert_end.result first (desk_zero c.loop-from.desks) 0 c.loop-from.from (move_count first.net)
-    (omega (arith, all)) c.loop-from.invariant.certified
+    certified_any c.say_cert_end.result _ _ 0 c.loop-from.from _ (omega (arith, all)) c.loop-from.invariant.certified

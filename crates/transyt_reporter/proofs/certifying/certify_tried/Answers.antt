@@ -23,8 +23,7 @@ loop-number-init g c = record {
 pub say_cert_place-requires-clause-tried : goal.say_cert_place-requires-clause-tried
 say_cert_place-requires-clause-tried g c =
     let k = c.loop-number.number in
-    let inside : k < length c.args.tries.now = omega arith in
-    c.requires.tried.each k _ inside
+    c.requires.tried.each k _ (omega arith)
     ∙ ap (λ (n : Network). try_of n (move n (c.args.from + k))) (sym c.loop-number.invariant.certified.net)
 
 -- the line of a place is written
@@ -55,10 +54,9 @@ returns-in_err-say_cert_place-clause-prints g c =
     let k = c.loop-number.number in
     let from = c.args.from in
     let count = length c.args.tries.now in
-    let inside : k < count = omega arith in
     item_broken _ (tt {0}) (place_text c.args.session.now.net) (range_with_len from count) k 0 (from + k) _ _ _
-    c.from_residual.ensures.0 (omega (arith, length-range_with_len from count)) (sym (get_or-range_with_len from count k 0 inside))
-    so.printed
+    c.from_residual.ensures.0 (omega (arith, length-range_with_len from count))
+    (sym (get_or-range_with_len from count k 0 (omega arith))) so.printed
     (prints_same _ _ _ _ _ c.in_err-say_cert_place.ensures (ap (λ (n : Network). place_text n (from + k)) so.certified.net))
 
 -- the work of the places before is added

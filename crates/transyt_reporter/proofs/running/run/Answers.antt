@@ -1,5 +1,5 @@
 -- Each turn goes on, or ends the run, by what its call of `next` reads and by what was answered.
-use Rattle.std.proofs.Common.{◌≡◌, ℕ, nat_eq, true, [], Err, ap, ◌∙◌, sym, subst, refl, rules}
+use Rattle.std.proofs.Common.{[], Err, ap, ◌∙◌, sym, subst, refl, rules}
 use Rattle.std.proofs.lemmas.Bool.{eqb-true}
 use Rattle.transyt_answers.specs.Report.{deck_answering}
 use Rattle.transyt_reporter.specs.Reporter.{HasAnswered, ReporterValue}
@@ -7,10 +7,6 @@ use Rattle.transyt_reporter.proofs.Answered.{answered_none}
 use Rattle.transyt_outcome.proofs.RunLaws.{run_new, goes_on, line_ends, line_stops, end_closes, end_stops}
 use Rattle.transyt_outcome.proofs.RunLaws.{read_stops}
 use Rattle.transyt_reporter.proofs.running.run.Goals as goal
-
--- one worker, as the test tells
-one_is : {n : ℕ} → nat_eq n 1 ≡ true → n ≡ 1
-one_is {n} h = eqb-true n 1 h
 
 -- nothing is taken yet
 pub loop-found-init : goal.loop-found-init
@@ -55,7 +51,7 @@ loop-found-preserved g c =
     record {
       way = goes_on way found.reads c.line.ensures found.live c.next.ensures.most
           (told.whole way.before way.answered)
-          (λ all. told.steps way.before way.answered (c.loop-found.invariant.workers ∙ one_is all)) c.answer_line.ensures.count;
+          (λ all. told.steps way.before way.answered (c.loop-found.invariant.workers ∙ eqb-true _ 1 all)) c.answer_line.ensures.count;
       workers = c.answer_line.ensures.workers ∙ c.loop-found.invariant.workers;
       source_later = search rules;
       sink_later = search rules;
@@ -69,7 +65,7 @@ returns-in-Ok-Some-clause-ran g c =
     let told = rw c.in-Ok-Some.field-0-is at c.in-Ok-Some.ensures in
     line_ends way found.reads c.line.ensures c.next.ensures.most
     (told.whole way.before way.answered)
-    (λ all. told.steps way.before way.answered (c.loop-found.invariant.workers ∙ one_is all)) c.status.ensures
+    (λ all. told.steps way.before way.answered (c.loop-found.invariant.workers ∙ eqb-true _ 1 all)) c.status.ensures
 
 -- the answer to a line stopped
 pub returns-in-Err-answer_line-clause-ran : goal.returns-in-Err-answer_line-clause-ran
@@ -79,6 +75,6 @@ returns-in-Err-answer_line-clause-ran g c =
     let told = c.in-Err-answer_line.ensures in
     let stopped = c.stopped-in-Err-answer_line.ensures in
     line_stops way c.in-Err-answer_line.stop found.reads c.line.ensures (told.part way.before way.answered)
-    (λ all. told.some_steps way.before way.answered (c.loop-found.invariant.workers ∙ one_is all))
+    (λ all. told.some_steps way.before way.answered (c.loop-found.invariant.workers ∙ eqb-true _ 1 all))
     (λ e. let silent = told.silent way.before way.answered (ap Err e) in (silent.0, ap g.K.Sink.written silent.1))
     stopped.write stopped.memory
