@@ -1,5 +1,5 @@
 -- The greens of an allowed plan fill the cycle.
-use Rattle.std.proofs.Common.{◌≡◌, ◌≢◌, ℕ, zero, suc, ◌+◌, ◌<◌, ◌≤◌, Bool, true, not, List, [], ◌∷◌, map, length, sum, get_or}
+use Rattle.std.proofs.Common.{◌≡◌, ◌≢◌, ℕ, zero, suc, ◌+◌, ◌-◌, ◌<◌, ◌≤◌, Bool, true, not, List, [], ◌∷◌, map, length, sum, get_or}
 use Rattle.std.proofs.Common.{sym, ◌∙◌, ap, refl, arith, inl, inr, take, set, None, nat_le, ◌==◌}
 use Rattle.std.specs.List.{list_all, range_with_len}
 use Rattle.std.proofs.Math.Nat.{eq-zero-or-pos}
@@ -12,7 +12,11 @@ use Rattle.transyt_parts.specs.declared.node.Stage.{Stage}
 use Rattle.transyt_parts.specs.Shape.{bare_stage}
 use Rattle.transyt_parts.specs.Plan.{stage_of, no_stage, length_at, stage_lengths, in_order, has_green, have_greens, plan_fault}
 use Rattle.transyt_net.proofs.WriteLaws.{no_fault}
-use Rattle.transyt_equisat.specs.Peaks.{Fits, lost, green_at, greens_of, IsPlanOf}
+use Rattle.transyt_equisat.specs.Peaks.{Fits, lost, greens_of, IsPlanOf}
+
+-- the green of the stage at a place
+abbrev pub green_at : ℕ → List Stage → ℕ → ℕ
+green_at steps stages k = length_at steps stages k - (stage_of stages k).intergreen
 
 -- a plan without a fault, by its parts
 pub plan_parts : (steps : ℕ) (plan : List Stage) → plan_fault steps plan ≡ None

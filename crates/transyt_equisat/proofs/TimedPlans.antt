@@ -11,9 +11,9 @@ use Rattle.transyt_cycle.proofs.CycleLaws.{minus_mod-of_add}
 use Rattle.transyt_parts.specs.declared.node.Stage.{Stage}
 use Rattle.transyt_parts.specs.Shape.{bare_stage}
 use Rattle.transyt_parts.specs.Plan.{stage_of, no_stage, length_at, stage_lengths, in_order, has_green, have_greens, place_after}
-use Rattle.transyt_equisat.specs.Peaks.{Fits, lost, green_at, greens_of, IsPlanOf}
+use Rattle.transyt_equisat.specs.Peaks.{Fits, lost, greens_of, IsPlanOf}
 use Rattle.transyt_equisat.specs.Balance.{change_at}
-use Rattle.transyt_equisat.proofs.PlanFits.{lengths_sum, lost_bare, all_places, one_shorter}
+use Rattle.transyt_equisat.proofs.PlanFits.{green_at, lengths_sum, lost_bare, all_places, one_shorter}
 
 -- the change of the stage at a place: as many steps behind the first as the stages before it take
 pub change_sum : (steps : ℕ) (stages : List Stage) (gs : List ℕ) (k : ℕ) → length gs ≡ length stages

@@ -29,13 +29,10 @@ abbrev pub peak : Network → ℕ → List ℕ → Fraction
 peak net number greens =
     greatest (map (λ l. degree net.frame.step_count l (green_of greens l)) (filter (is_counted number) net.links))
 
--- the green of the stage at a place: its length less its intergreen
-abbrev pub green_at : ℕ → List Stage → ℕ → ℕ
-green_at steps stages k = length_at steps stages k - (stage_of stages k).intergreen
-
--- the greens of stages in order
+-- the greens of stages in order: each is the stage's length less its intergreen
 abbrev pub greens_of : ℕ → List Stage → List ℕ
-greens_of steps stages = map (green_at steps stages) (range_with_len 0 (length stages))
+greens_of steps stages =
+    map (λ k. length_at steps stages k - (stage_of stages k).intergreen) (range_with_len 0 (length stages))
 
 -- an allowed plan with the intergreens and least greens of these stages, whatever its changes
 pub record IsPlanOf (steps : ℕ) (stages plan : List Stage) : Type 0 where

@@ -1,8 +1,7 @@
 -- An end of std tells the bytes that its reader or writer tells.
 use Rattle.std.proofs.Common.{◌≡◌, ℕ, List, refl}
-use Rattle.std.specs.Prelude.{Option, None, Some, IfSome}
+use Rattle.std.specs.Prelude.{◌||◌, Option, None, Some, IfSome, IsTrue, is_none, is_some}
 use Rattle.std.specs.Option.{option_and}
-use Rattle.transyt_io.specs.StdEnds.{StillTells}
 
 -- at first, what is told is told
 pub told_first : (t : Option (List ℕ)) → option_and t t ≡ t
@@ -10,7 +9,7 @@ told_first None = refl
 told_first (Some bytes) = refl
 
 -- and so it is still told
-pub still_first : (t : Option (List ℕ)) → StillTells t t
+pub still_first : (t : Option (List ℕ)) → IsTrue (is_none t || is_some t)
 still_first None = refl
 still_first (Some bytes) = refl
 

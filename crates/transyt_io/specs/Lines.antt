@@ -1,7 +1,7 @@
 -- The lines of a list of bytes, those that are skipped, and the words of the others.
 use Rattle.std.specs.Prelude.{ℕ, List, [], ◌∷◌, ◌==◌, ◌||◌, ◌&&◌, nat_le, Bool, true, false, if◌then◌else◌, map, take}
 use Rattle.std.specs.Prelude.{filter, length}
-use Rattle.std.specs.List.{list_all, slice_split}
+use Rattle.std.specs.List.{list_all, list_any, slice_split}
 use Rattle.std.specs.Str.Lines.{strip_carriage_return}
 
 -- b before the first of these parts; with none, b is a part where bytes with no line end are kept
@@ -37,8 +37,7 @@ whole bytes = lines_by false bytes
 
 -- some byte is a line end
 abbrev pub has_end : List ℕ → Bool
-has_end [] = false
-has_end (b ∷ bs) = b == 10 || has_end bs
+has_end bytes = list_any (λ b. b == 10) bytes
 
 -- a blank or a tab
 abbrev pub is_blank : ℕ → Bool

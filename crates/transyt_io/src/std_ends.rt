@@ -20,8 +20,9 @@ pub struct StdSource<R: Read> {
 }
 
 impl<R: Read> Model for StdSource<R> {
+    ghost use Rattle.std.specs.Prelude.{◌||◌, IsTrue, is_none, is_some};
     ghost use Rattle.std.specs.Option.{option_and};
-    ghost use Rattle.transyt_io.specs.StdEnds.{StdEnd, StillTells};
+    ghost use Rattle.transyt_io.specs.StdEnds.{StdEnd};
 
     ghost Value = { StdEnd };
 
@@ -30,7 +31,8 @@ impl<R: Read> Model for StdSource<R> {
       faults = s.faults;
     } };
 
-    ghost invariant = { λ s. StillTells (R.remaining s.first.value) (R.remaining s.inner) };
+    // where something was told at first, something is told now
+    ghost invariant = { λ s. IsTrue (is_none (R.remaining s.first.value) || is_some (R.remaining s.inner)) };
 }
 
 impl<R: Read> StdSource<R> {
@@ -96,8 +98,9 @@ pub struct StdSink<W: Write> {
 }
 
 impl<W: Write> Model for StdSink<W> {
+    ghost use Rattle.std.specs.Prelude.{◌||◌, IsTrue, is_none, is_some};
     ghost use Rattle.std.specs.Option.{option_and};
-    ghost use Rattle.transyt_io.specs.StdEnds.{StdEnd, StillTells};
+    ghost use Rattle.transyt_io.specs.StdEnds.{StdEnd};
 
     ghost Value = { StdEnd };
 
@@ -106,7 +109,8 @@ impl<W: Write> Model for StdSink<W> {
       faults = s.faults;
     } };
 
-    ghost invariant = { λ s. StillTells (W.contents s.first.value) (W.contents s.inner) };
+    // where something was told at first, something is told now
+    ghost invariant = { λ s. IsTrue (is_none (W.contents s.first.value) || is_some (W.contents s.inner)) };
 }
 
 impl<W: Write> StdSink<W> {
