@@ -14,8 +14,8 @@ use Rattle.transyt_audit.specs.declared.verdict.Verdict.TheVariants.{No}
 use Rattle.transyt_audit.specs.declared.truth.Finding.{Finding}
 use Rattle.transyt_audit.specs.declared.truth.Finding.TheVariants.{Wrong, Right, Lower}
 use Rattle.transyt_audit.specs.Given.{agrees}
-use Rattle.transyt_audit.specs.Findings.{finding_of, finding_at, lowers_there}
-use Rattle.transyt_audit.proofs.Onward.{onward, onward_beyond, onward_wrong, onward_right, noted}
+use Rattle.transyt_audit.specs.Findings.{finding_of, finding_at}
+use Rattle.transyt_audit.proofs.Onward.{lowers_there, onward, onward_beyond, onward_wrong, onward_right, noted}
 
 -- the verdict left to tell after a line with this finding
 abbrev pub after_line : Network → ℕ → Option ℕ → ℕ → List (List ℕ) → Finding → Verdict

@@ -1,5 +1,5 @@
 -- The verdict, as far as it is left to be told, while the lines are judged one after another.
-use Rattle.std.proofs.Common.{◌≡◌, ℕ, ◌+◌, ◌<◌, ◌≤◌, Bool, true, false, nat_le, nat_lt}
+use Rattle.std.proofs.Common.{◌≡◌, ℕ, ◌+◌, ◌<◌, ◌≤◌, Bool, true, false, ◌&&◌, nat_le, nat_lt}
 use Rattle.std.proofs.Common.{List, [], ◌∷◌, length, drop, get_or}
 use Rattle.std.proofs.Common.{Option, Some, None, refl, sym, ap, ◌∙◌, arith, if◌then◌else◌, inl, inr}
 use Rattle.std.proofs.lemmas.List.{drop_more, drop_all, length-drop}
@@ -11,7 +11,7 @@ use Rattle.transyt_syntax.specs.declared.code.Code.TheVariants as code
 use Rattle.transyt_net.specs.Parts.{Network}
 use Rattle.transyt_moves.specs.Moves.{move_count}
 use Rattle.transyt_sweep.specs.Sweeps.{index}
-use Rattle.transyt_sweep.specs.Climb.{is_below, tried_at}
+use Rattle.transyt_sweep.specs.Climb.{is_below, lowers, tried_at}
 use Rattle.transyt_cert.specs.Certificate.{CertLine, cert_line, cert_lines, cert_texts}
 use Rattle.transyt_cert.proofs.CertificateLaws.{lines_certificate}
 use Rattle.transyt_audit.proofs.TrueLines.{length-cert_texts, length-cert_lines, line_at, lowers_is}
@@ -19,7 +19,11 @@ use Rattle.transyt_audit.specs.declared.verdict.Verdict.{Verdict}
 use Rattle.transyt_audit.specs.declared.verdict.Verdict.TheVariants.{Yes, No}
 use Rattle.transyt_audit.specs.Given.{Given, given_from, agrees, first_wrong, first_missing, first_lower}
 use Rattle.transyt_audit.specs.Verdict.{no_or, judged}
-use Rattle.transyt_audit.specs.Findings.{lowers_there, concluded}
+use Rattle.transyt_audit.specs.Findings.{concluded}
+
+-- whether a move stands at a place that lowers the index
+abbrev pub lowers_there : Network → ℕ → Bool
+lowers_there net place = nat_lt place (move_count net) && lowers net place
 
 -- the tests after that of the plan, over given lines, what they are compared with, and what was found before
 abbrev pub told : Network → List Given → List (List ℕ) → List CertLine → ℕ → Option ℕ → Verdict

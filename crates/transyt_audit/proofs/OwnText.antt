@@ -15,8 +15,7 @@ use Rattle.transyt_cert.proofs.CertificateLaws.{move_are, end_are, lines_certifi
 use Rattle.transyt_audit.specs.declared.verdict.Verdict.TheVariants.{Yes}
 use Rattle.transyt_audit.specs.Given.{Given, given_from}
 use Rattle.transyt_audit.specs.Verdict.{verdict}
-use Rattle.transyt_audit.specs.Certified.{IsShort}
-use Rattle.transyt_audit.proofs.YesLaws.{yes_certifies, certified_yes}
+use Rattle.transyt_audit.proofs.YesLaws.{IsShort, yes_certifies, certified_yes}
 
 -- a text that is given as it is: it is not skipped, and at most 4,096 bytes long
 record IsGiven (text : List ℕ) : Type 0 where

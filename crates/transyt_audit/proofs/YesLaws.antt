@@ -23,8 +23,12 @@ use Rattle.transyt_audit.specs.declared.verdict.Verdict.TheVariants.{Yes, No}
 use Rattle.transyt_audit.specs.Given.{Given, given_from, same_words, agrees, first_wrong, first_missing}
 use Rattle.transyt_audit.specs.Given.{first_lower}
 use Rattle.transyt_audit.specs.Verdict.{no_or, judged, verdict}
-use Rattle.transyt_audit.specs.Certified.{IsShort, IsCertified}
+use Rattle.transyt_audit.specs.Certified.{IsCertified}
 use Rattle.transyt_audit.proofs.TrueLines.{length-cert_lines, length-cert_texts, line_at, lowers_is}
+
+-- a line of at most 4,096 bytes
+abbrev pub IsShort : Given → Type 0
+IsShort g = length g.line ≤ 4096
 
 -- Yes comes where nothing was found
 none_found : (o : Option ℕ) (why : Code) (later : Verdict) (places x : ℕ) → no_or o why later ≡ Yes places x

@@ -9,10 +9,8 @@ use Rattle.transyt_sweep.specs.Climb.{lowers}
 use Rattle.transyt_cert.specs.Certificate.{cert_texts}
 use Rattle.transyt_audit.specs.declared.truth.Finding.{Finding}
 use Rattle.transyt_audit.specs.declared.truth.Finding.TheVariants.{Wrong, Right, Lower}
-use Rattle.transyt_audit.specs.declared.verdict.Verdict.{Verdict}
-use Rattle.transyt_audit.specs.declared.verdict.Verdict.TheVariants.{Yes}
 use Rattle.transyt_audit.specs.Given.{agrees}
-use Rattle.transyt_audit.specs.Verdict.{no_or}
+use Rattle.transyt_audit.specs.Verdict.{Verdict, Yes, no_or}
 
 -- the finding on a line that agrees with the true one or not, where a move stands that lowers the index or not
 abbrev pub finding_of : Bool → Bool → Finding
@@ -20,15 +18,12 @@ finding_of false lower = Wrong
 finding_of true false = Right
 finding_of true true = Lower
 
--- whether a move stands at a place that lowers the index
-abbrev pub lowers_there : Network → ℕ → Bool
-lowers_there net place = nat_lt place (move_count net) && lowers net place
-
 -- the finding on a line at a place; the last true line stands at the place after the list of moves, and none after it
 abbrev pub finding_at : Network → ℕ → List ℕ → Finding
 finding_at net place line =
     if nat_lt (move_count net) place then Wrong
-    else finding_of (agrees line (slice_index_or (cert_texts net) place [])) (lowers_there net place)
+    else finding_of (agrees line (slice_index_or (cert_texts net) place []))
+    (nat_lt place (move_count net) && lowers net place)
 
 -- the find of so many lines of which none was wrong, `next` being the number of the line after the table's last
 abbrev pub concluded : Network → ℕ → ℕ → Option ℕ → Verdict

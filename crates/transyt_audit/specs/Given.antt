@@ -1,7 +1,6 @@
 -- The lines that are given to an audit, and what they are compared with.
 use Rattle.std.specs.Prelude.{ℕ, ◌+◌, Bool, true, false, ◌&&◌, nat_le, nat_lt, List, [], ◌∷◌, length, Option}
-use Rattle.std.specs.Prelude.{Some, None, if◌then◌else◌}
-use Rattle.std.specs.Str.{bytes_eq}
+use Rattle.std.specs.Prelude.{Some, None, if◌then◌else◌, bytes_eq}
 use Rattle.transyt_io.specs.Lines.{is_skipped, words}
 use Rattle.transyt_sweep.specs.Climb.{is_below}
 use Rattle.transyt_cert.specs.Certificate.{CertLine}

@@ -7,8 +7,8 @@ use Rattle.transyt_net.specs.Parts.{Network}
 use Rattle.transyt_moves.specs.Moves.{move_count}
 use Rattle.transyt_sweep.specs.Sweeps.{index}
 use Rattle.transyt_cert.specs.Certificate.{cert_lines, cert_text}
-use Rattle.transyt_audit.specs.declared.verdict.Verdict.{Verdict}
-use Rattle.transyt_audit.specs.declared.verdict.Verdict.TheVariants.{Yes, No}
+pub use Rattle.transyt_audit.specs.declared.verdict.Verdict.{Verdict}
+pub use Rattle.transyt_audit.specs.declared.verdict.Verdict.TheVariants.{Yes, No}
 use Rattle.transyt_audit.specs.Given.{Given, given_from, first_wrong, first_missing, first_lower}
 
 -- No at the line that was found, with this code; what comes later where none was

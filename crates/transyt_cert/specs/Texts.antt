@@ -1,6 +1,5 @@
 -- Words on a line, and lines one after another.
-use Rattle.std.specs.Prelude.{ℕ, List, [], ◌∷◌, ◌++◌}
-use Rattle.std.specs.List.{flat_map}
+use Rattle.std.specs.Prelude.{ℕ, List, [], ◌∷◌, ◌++◌, flat_map}
 
 -- the words, a blank before each
 abbrev pub spaced : List (List ℕ) → List ℕ
