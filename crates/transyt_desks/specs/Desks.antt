@@ -11,8 +11,8 @@ use Rattle.transyt_desks.specs.declared.desk.Desk.{Desk}
 -- the session at a place that has none
 abbrev pub no_session : SessionValue
 no_session =
-    let frame : Frame = record { cycle = 0; step_count = 0; sweeps = 0; period = 0; stop_penalty = 0; dispersion = 0 } in
-    opened (network_of frame [] [] None)
+    let none : Frame = record { cycle = 0; step_count = 0; sweeps = 0; period = 0; stop_penalty = 0; dispersion = 0 } in
+    opened (network_of none [] [] None)
 
 -- the session of the desk at a place
 abbrev pub session_at : List SessionValue → ℕ → SessionValue
