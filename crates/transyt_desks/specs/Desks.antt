@@ -42,8 +42,8 @@ pub record AreAlike (sessions : List SessionValue) : Type 0 where
 pub record OthersClosed (sessions : List SessionValue) : Type 0 where
   pub closed : (k : ℕ) → 0 < k → k < length sessions → (session_at sessions k).before ≡ None
 
--- the invariant of desks: one to eight of them, no trial at any but desk 0, and one network where the others are known to
--- follow. No public clause cites it.
+-- the invariant of desks: one to eight of them, no trial at any but desk 0, and one network for all where the others are
+-- known to follow. No public clause cites it.
 pub record AreDesks (sessions : List SessionValue) (following : Bool) : Type 0 where
   pub some : 0 < length sessions
   pub few : length sessions ≤ 8

@@ -136,12 +136,12 @@ impl Desks {
         all_same(&self.desks)
     }
 
-    /// Tries consecutive moves of the list from a place on, all desks at once, and writes what each comes to: at most 32
+    /// Tries consecutive moves of the list from a place on, all desks at once, and writes the find of each: at most 32
     /// moves for each desk.
     ///
-    /// No session changes, but that the other desks stand for the network of desk 0 afterwards. No work is added: whoever
-    /// wants it counted credits it. The moves come to the desks in turn. A desk tries its own between entering and leaving
-    /// the gate. It takes no memory.
+    /// No session changes, but that the other desks stand for the network of desk 0 afterwards. No work is added: credit
+    /// it where it counts. The moves come to the desks in turn. A desk tries its own between entering and leaving the
+    /// gate. It takes no memory.
     pub fn try_moves<R: Threads + Sync, G: Gate>(
         &mut self,
         rt: &R,
