@@ -11,8 +11,8 @@ use Rattle.transyt_desks.specs.declared.desk.Desk.{Desk}
 -- the session at a place that has none
 abbrev pub no_session : SessionValue
 no_session =
-    let frame : Frame = record { cycle = 0; step_count = 0; sweeps = 0; period = 0; stop_penalty = 0; dispersion = 0 } in
-    opened (network_of frame [] [] None)
+    let none : Frame = record { cycle = 0; step_count = 0; sweeps = 0; period = 0; stop_penalty = 0; dispersion = 0 } in
+    opened (network_of none [] [] None)
 
 -- the session of the desk at a place
 abbrev pub session_at : List SessionValue → ℕ → SessionValue
@@ -42,8 +42,8 @@ pub record AreAlike (sessions : List SessionValue) : Type 0 where
 pub record OthersClosed (sessions : List SessionValue) : Type 0 where
   pub closed : (k : ℕ) → 0 < k → k < length sessions → (session_at sessions k).before ≡ None
 
--- the invariant of desks: one to eight of them, no trial at any but desk 0, and one network where the others are known to
--- follow. No public clause cites it.
+-- the invariant of desks: one to eight of them, no trial at any but desk 0, and one network for all where the others are
+-- known to follow. No public clause cites it.
 pub record AreDesks (sessions : List SessionValue) (following : Bool) : Type 0 where
   pub some : 0 < length sessions
   pub few : length sessions ≤ 8

@@ -22,14 +22,17 @@ pub fn climb_by_rounds<R: Threads + Sync, G: Gate, L: Ledger>(
     gate: &G,
     steps: &mut Steps<L>,
 ) -> Ended
-    requires start { climber.old ≡ start_at climber.old.budget (move_count (desk_zero desks.old).net) }
+    requires start { climber.old
+        ≡ start_at climber.old.budget (move_count (desk_zero desks.old).net) }
     requires alike { AreAlike desks.old }
     requires closed { (desk_zero desks.old).before ≡ None }
     requires room { (desk_zero desks.old).work ≤ 2 ^ 60 }
-    ensures took { result.took ≡ length (climb (desk_zero desks.old).net 0 climber.old.budget).steps }
+    ensures took { result.took
+        ≡ length (climb (desk_zero desks.old).net 0 climber.old.budget).steps }
     ensures local { result.local ≡ (climb (desk_zero desks.old).net 0 climber.old.budget).local }
     ensures state { desk_zero desks.new ≡ climbed climber.old.budget (desk_zero desks.old) }
-    ensures looks { climber.new.looked ≡ length (climb (desk_zero desks.old).net 0 climber.old.budget).looks }
+    ensures looks { climber.new.looked
+        ≡ length (climb (desk_zero desks.old).net 0 climber.old.budget).looks }
     ensures alike { AreAlike desks.new }
     ensures workers { length desks.new ≡ length desks.old }
     ensures steps { length desks.old ≡ 1

@@ -42,7 +42,8 @@ fn stand_all<R: Threads + Sync>(rt: &R, desks: &mut [Desk], zero: &Session)
         desks,
         8,
         &|_i: usize, desk: &mut Desk|
-            requires { SameShape desk.old.session.net zero.now.net × (desk.old.session.before ≡ None) }
+            requires { SameShape desk.old.session.net zero.now.net
+                × (desk.old.session.before ≡ None) }
         { desk.session.take_over(zero) },
     );
 }

@@ -136,12 +136,12 @@ impl Desks {
         all_same(&self.desks)
     }
 
-    /// Tries consecutive moves of the list from a place on, all desks at once, and writes what each comes to: at most 32
+    /// Tries consecutive moves of the list from a place on, all desks at once, and writes the find of each: at most 32
     /// moves for each desk.
     ///
-    /// No session changes, but that the other desks stand for the network of desk 0 afterwards. No work is added: whoever
-    /// wants it counted credits it. The moves come to the desks in turn. A desk tries its own between entering and leaving
-    /// the gate. It takes no memory.
+    /// No session changes, but that the other desks stand for the network of desk 0 afterwards. No work is added: credit
+    /// it where it counts. The moves come to the desks in turn. A desk tries its own between entering and leaving the
+    /// gate. It takes no memory.
     pub fn try_moves<R: Threads + Sync, G: Gate>(
         &mut self,
         rt: &R,
@@ -186,7 +186,8 @@ impl Desks {
         requires moves { reach.count ≡ move_count (desk_zero self.old).net }
         requires closed { (desk_zero self.old).before ≡ None }
         ensures same { self.new ≡ self.old }
-        ensures tried { IsStretch (desk_zero self.old).net reach.place reach.count reach.room result }
+        ensures tried { IsStretch (desk_zero self.old).net
+            reach.place reach.count reach.room result }
     {
         find_reach(crew, self.desks.as_mut_slice(), reach);
         let limit = self.desks[0].session.index();
@@ -239,8 +240,8 @@ impl Desks {
     ) -> Round
         requires alike { AreAlike self.old }
         requires ready { CanRound climber.old (desk_zero self.old) }
-        ensures made { MakesRound (places_of (length self.old) climber.old) (machine climber.old (desk_zero self.old))
-            (machine climber.new (desk_zero self.new)) result }
+        ensures made { MakesRound (places_of (length self.old) climber.old)
+            (machine climber.old (desk_zero self.old)) (machine climber.new (desk_zero self.new)) result }
         ensures alike { AreAlike self.new }
         ensures workers { length self.new ≡ length self.old }
         ensures steps { length self.old ≡ 1

@@ -93,12 +93,15 @@ fn find_apart<R: Threads + Sync, G: Gate>(
 {
     let mut there = ||
         requires { IsSync R.row × IsSync G.row × (length others.now < 8) × IsReach reach
-            × All (λ d. move_count d.session.net ≡ reach.count) others.now × All (λ d. d.session.before ≡ None) others.now }
-        ensures { (length others.exit.now ≡ length others.entry.now) × ((k : ℕ) (d : Desk) → k < length others.entry.now
-            → HasFound reach (k + 1) (slice_index_or others.entry.now k d) (slice_index_or others.exit.now k d)) }
+            × All (λ d. move_count d.session.net ≡ reach.count) others.now
+            × All (λ d. d.session.before ≡ None) others.now }
+        ensures { (length others.exit.now ≡ length others.entry.now)
+            × ((k : ℕ) (d : Desk) → k < length others.entry.now → HasFound reach (k + 1)
+            (slice_index_or others.entry.now k d) (slice_index_or others.exit.now k d)) }
     { find_others(crew, others, reach) };
     let mut here = ||
-        requires { IsReach reach × (move_count zero.now.session.net ≡ reach.count) × (zero.now.session.before ≡ None) }
+        requires { IsReach reach × (move_count zero.now.session.net ≡ reach.count)
+            × (zero.now.session.before ≡ None) }
         ensures { HasFound reach 0 zero.entry.now zero.exit.now }
     { find_at_gate(crew.gate, zero, 0, reach) };
     thread::join_mut(crew.rt, &mut there, &mut here);
@@ -170,7 +173,8 @@ pub(crate) fn first_lower(desks: &[Desk], reach: Reach, limit: u128) -> Stretch
     requires reach { IsReach reach }
     requires limit { limit ≡ index (desk_zero (sessions_of desks.now)).net }
     requires found { AreFound reach desks.now }
-    ensures { IsStretch (desk_zero (sessions_of desks.now)).net reach.place reach.count reach.room result }
+    ensures { IsStretch (desk_zero (sessions_of desks.now)).net
+        reach.place reach.count reach.room result }
 {
     let mut stretch = Stretch {
         passed: 0,
@@ -194,7 +198,8 @@ pub(crate) fn hand_on(desks: &[Desk], reach: Reach, tries: &mut [Tried])
     requires room { reach.room ≡ length tries.old }
     requires found { AreFound reach desks.now }
     ensures len { length tries.new ≡ length tries.old }
-    ensures tries { AreTriesOf (desk_zero (sessions_of desks.now)).net reach.place (length tries.old) tries.new }
+    ensures tries { AreTriesOf (desk_zero (sessions_of desks.now)).net
+        reach.place (length tries.old) tries.new }
 {
     for number in 0..tries.len() {
         tries[number] = find_at(desks, reach, number as u32);

@@ -19,7 +19,8 @@ use transyt_steps::Steps;
 
 /// Whether a climber's next turn ends its climb, so that a round is this turn alone.
 fn is_over(climber: &Climber) -> bool
-    ensures over { (places : ℕ) (s : SessionValue) → result ≡ true → turns_of places (machine climber.now s) ≡ 1 }
+    ensures over { (places : ℕ) (s : SessionValue) → result ≡ true
+        → turns_of places (machine climber.now s) ≡ 1 }
     ensures since { result ≡ false → climber.now.since < climber.now.count }
     ensures looked { result ≡ false → climber.now.looked < climber.now.budget }
 {
@@ -37,7 +38,8 @@ fn turn_zero<L: Ledger>(
     requires ready { CanRound climber.old (desk_zero desks.old) }
     requires one { turns_of places (machine climber.old (desk_zero desks.old)) ≡ 1 }
     ensures made { RoundsDesks places climber.old desks.old climber.new desks.new result }
-    ensures steps { steps.new + (desk_zero desks.old).work ≡ steps.old + (desk_zero desks.new).work }
+    ensures steps { steps.new + (desk_zero desks.old).work
+        ≡ steps.old + (desk_zero desks.new).work }
 {
     make_turn(climber, desks.session_mut(), places, steps)
 }
@@ -52,7 +54,8 @@ pub(crate) fn alone<G: Gate, L: Ledger>(
     requires some { 0 < length desks.old }
     requires ready { CanRound climber.old (desk_zero desks.old) }
     ensures made { RoundsDesks 1 climber.old desks.old climber.new desks.new result }
-    ensures steps { steps.new + (desk_zero desks.old).work ≡ steps.old + (desk_zero desks.new).work }
+    ensures steps { steps.new + (desk_zero desks.old).work
+        ≡ steps.old + (desk_zero desks.new).work }
 {
     if is_over(climber) {
         return turn_zero(desks, climber, 1, steps);
@@ -98,7 +101,8 @@ pub(crate) fn together<R: Threads + Sync, G: Gate, L: Ledger>(
     requires ready { CanRound climber.old (desk_zero desks.old) }
     requires some { 0 < each }
     requires few { each ≤ 64 }
-    ensures { RoundsDesks (length desks.old * each) climber.old desks.old climber.new desks.new result }
+    ensures { RoundsDesks (length desks.old * each) climber.old desks.old
+        climber.new desks.new result }
 {
     let count = desks.count();
     let places = count as u32 * each;

@@ -44,8 +44,10 @@ pub(crate) fn make_turns<L: Ledger>(
     requires place { climber.old.place < climber.old.count }
     requires since { climber.old.since < climber.old.count }
     requires looked { climber.old.looked < climber.old.budget }
-    requires tried { IsStretch session.old.net climber.old.place climber.old.count (room_of places climber.old) tried }
-    ensures made { MakesRound places (machine climber.old session.old) (machine climber.new session.new) result }
+    requires tried { IsStretch session.old.net climber.old.place climber.old.count
+        (room_of places climber.old) tried }
+    ensures made { MakesRound places (machine climber.old session.old)
+        (machine climber.new session.new) result }
     ensures net { tried.lowers ≡ false → session.new.net ≡ session.old.net }
 {
     note_passed(climber, tried.passed);
@@ -72,7 +74,8 @@ pub(crate) fn make_turn<L: Ledger>(
 ) -> Round
     requires ready { CanRound climber.old session.old }
     requires one { turns_of places (machine climber.old session.old) ≡ 1 }
-    ensures made { MakesRound places (machine climber.old session.old) (machine climber.new session.new) result }
+    ensures made { MakesRound places (machine climber.old session.old)
+        (machine climber.new session.new) result }
     ensures steps { steps.new + session.old.work ≡ steps.old + session.new.work }
 {
     let last = climber.turn(session, steps);
