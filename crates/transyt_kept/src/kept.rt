@@ -124,8 +124,8 @@ impl KeptRows {
         self.rows.put_figures(link, figures);
     }
 
-    /// The arrivals of a link at the last sweep, its queue and its figures become these, and other rows are left in their
-    /// place. Nothing is copied.
+    /// The arrivals of a link at the last sweep, its queue and its figures become these, and other rows are left in
+    /// their place. Nothing is copied.
     pub fn exchange_arrivals(
         &mut self,
         link: usize,

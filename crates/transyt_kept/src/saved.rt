@@ -141,8 +141,8 @@ impl Saved {
         }
     }
 
-    /// Saves these arrivals, this queue and these figures as the link's, if a mark is open and none are saved. Other rows
-    /// are left in their place.
+    /// Saves these arrivals, this queue and these figures as the link's, if a mark is open and none are saved. Other
+    /// rows are left in their place.
     pub(crate) fn keep_arrivals(
         &mut self,
         link: usize,

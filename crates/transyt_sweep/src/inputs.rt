@@ -45,8 +45,8 @@ fn read_at(sweep: u32, link: usize, other: usize) -> u32
 }
 
 impl<'a> Inputs<'a> {
-    /// The departures that the link reads of another: those of this sweep where that stands earlier, else those of the one
-    /// before.
+    /// The departures that the link reads of another: those of this sweep where that stands earlier, else those of
+    /// the one before.
     pub(crate) fn read(&self, other: usize) -> &'a [u64]
         requires { other < length self.now.rows.now.figures }
         ensures value { result.now ≡ read_in self.now.rows.now self.now.sweep self.now.link other }

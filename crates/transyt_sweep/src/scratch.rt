@@ -31,8 +31,8 @@ pub struct Scratch {
     pub(crate) out: Vec<u64>,
     // the figures, or what they take beside the rows
     pub(crate) asked: LazyFigures,
-    // the work on feeds: two turns of arrivals, four lanes of products, the part of one feed before its travel and after;
-    // and the arrivals after the cut
+    // the work on feeds: two turns of arrivals, four lanes of products, the part of one feed before its travel and
+    // after; and the arrivals after the cut
     pub(crate) room: Vec<u64>,
     pub(crate) reaching: Vec<u64>,
     // the factors that were worked out last of each feed, eight places a link
@@ -137,8 +137,8 @@ impl Scratch {
         }
     }
 
-    /// Writes the arrivals, the queue and the figures as a link's at the last sweep. The scratch is left with other rows:
-    /// nothing is copied.
+    /// Writes the arrivals, the queue and the figures as a link's at the last sweep. The scratch is left with other
+    /// rows: nothing is copied.
     pub fn exchange_arrivals(&mut self, link: usize, kept: &mut KeptRows)
         requires link { link < length kept.old.now.figures }
         requires steps { length self.old.arrivals ≡ kept.old.now.step_count }

@@ -65,8 +65,8 @@ pub fn cell<L: Ledger>(
     steps.tick();
 }
 
-/// Works out the queue and the departures from arrivals before any cut and GO. Returns the sums of both over a cycle: where
-/// more arrives than GO lets pass, `cut_arrivals` are the arrivals after the cut.
+/// Works out the queue and the departures from arrivals before any cut and GO. Returns the sums of both over a cycle:
+/// where more arrives than GO lets pass, `cut_arrivals` are the arrivals after the cut.
 fn stand(
     arrivals: &[u64],
     go_profile: &[u64],
