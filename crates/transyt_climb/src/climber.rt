@@ -30,9 +30,21 @@ impl Model for Climber {
 
     ghost Value = { Counters };
 
-    ghost view = { λ c. record { place = c.place; since = c.since; looked = c.looked; budget = c.budget; count = c.count } };
+    ghost view = { λ c. record {
+      place = c.place;
+      since = c.since;
+      looked = c.looked;
+      budget = c.budget;
+      count = c.count;
+    } };
 
-    ghost invariant = { λ c. AreCounters (record { place = c.place; since = c.since; looked = c.looked; budget = c.budget; count = c.count }) };
+    ghost invariant = { λ c. AreCounters (record {
+      place = c.place;
+      since = c.since;
+      looked = c.looked;
+      budget = c.budget;
+      count = c.count;
+    }) };
 }
 
 impl Climber {

@@ -15,13 +15,15 @@ ghost use Rattle.transyt_climb.specs.WorkedTurns.{three_session, before_step, by
 
 /// The turns of a climber, from its start to the first that answers Local or Budget, are the climb of the network.
 pub fn rule_of_turns()
-    ensures { (budget : ℕ) (s : SessionValue) (n : ℕ) → is_end (answer_of (turns n (started budget s))) ≡ true
+    ensures { (budget : ℕ) (s : SessionValue) (n : ℕ)
+        → is_end (answer_of (turns n (started budget s))) ≡ true
         → AreClimb (climb s.net 0 budget) n (started budget s) }
 {}
 
 /// A climb that ends as Local ends at a network of which no listed move is allowed and lowers the index.
 pub fn rule_of_local()
-    ensures { (net : Network) (place left : ℕ) → (climb net place left).local ≡ true → IsLocal (climb net place left).net }
+    ensures { (net : Network) (place left : ℕ) → (climb net place left).local ≡ true
+        → IsLocal (climb net place left).net }
 {}
 
 /// A climb goes its way by rounds of any number of turns: it is under way at the start, a round takes its last answer's
@@ -29,10 +31,12 @@ pub fn rule_of_local()
 pub fn rule_of_way()
     ensures starts { (budget : ℕ) (s : SessionValue) → s.before ≡ None
         → IsUnderWay (climb s.net 0 budget) s.work [] (started budget s) }
-    ensures goes_on { (whole : Climb) (work : ℕ) (done : List Step) (m after : Machine) (count : ℕ) (last : Turn)
+    ensures goes_on { (whole : Climb) (work : ℕ) (done : List Step)
+        (m after : Machine) (count : ℕ) (last : Turn)
         → IsUnderWay whole work done m → IsRound m after count last
         → IsUnderWay whole work (done ++ step_then last []) after }
-    ensures ends { (whole : Climb) (work : ℕ) (done : List Step) (m after : Machine) (count : ℕ) (last : Turn)
+    ensures ends { (whole : Climb) (work : ℕ) (done : List Step)
+        (m after : Machine) (count : ℕ) (last : Turn)
         → IsUnderWay whole work done m → IsRound m after count last → is_end last ≡ true
         → IsOver whole work done (is_local last) after }
 {}
