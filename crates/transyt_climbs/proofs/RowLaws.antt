@@ -1,12 +1,17 @@
 -- The row of a network from what its climb came to.
 use Rattle.std.proofs.Common.{◌≡◌, ℕ, Bool, true, length, Option, Some, None, sym, ◌∙◌, ap, refl}
+use Rattle.std.specs.Option.{option_map_or}
 use Rattle.transyt_parts.specs.Parts.{PlanValue}
 use Rattle.transyt_net.specs.Parts.{Network}
 use Rattle.transyt_moves.specs.Moves.{move_count}
 use Rattle.transyt_sweep.specs.Sweeps.{index}
 use Rattle.transyt_sweep.specs.Climb.{Climb, climb, ended}
 use Rattle.transyt_climb.specs.Turns.{Counters, start_at, start_of}
-use Rattle.transyt_climbs.specs.Climbs.{climb_by, row_by, own_climb, climbed_row}
+use Rattle.transyt_climbs.specs.Climbs.{row_by, own_climb, climbed_row}
+
+-- the climb of a network by a climb plan
+abbrev climb_by : Network → Option PlanValue → Climb
+climb_by net plan = option_map_or (λ plan. climb net 0 plan.budget) plan (ended true net 0 0)
 
 -- a row of these numbers is the network's, by its climb
 pub row_is : (net : Network) (c : Climb) {number from took looked to : ℕ} {local : Bool} → own_climb net ≡ c

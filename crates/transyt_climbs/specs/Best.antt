@@ -12,10 +12,8 @@ first_lower (Some best) later = if nat_le best.to later.to then best else later
 
 -- the best so far, with the row at a place
 abbrev pub better : Option BestRow → ℕ → PlanRow → Option BestRow
-better best place (row.Climbed c) =
-    Some (first_lower best (record { place = place; number = c.number; to = c.to }))
-better best place (row.Barred number node) = best
-better best place (row.NoPlan number) = best
+better best place (row.Climbed c) = Some (first_lower best (record { place = place; number = c.number; to = c.to }))
+better best place _ = best
 
 -- the best so far, with the rows from a place on
 abbrev pub best_from : Option BestRow → ℕ → List PlanRow → Option BestRow
@@ -29,8 +27,7 @@ best rows = best_from None 0 rows
 -- the index at the end of a row, where it is climbed
 abbrev pub end_index : PlanRow → Option ℕ
 end_index (row.Climbed c) = Some c.to
-end_index (row.Barred number node) = None
-end_index (row.NoPlan number) = None
+end_index _ = None
 
 -- the index at the end of the row at a place, where it is climbed
 abbrev pub end_at : List PlanRow → ℕ → Option ℕ

@@ -32,5 +32,4 @@ table asked net = map (row_at asked net) (range_with_len 0 asked.count)
 -- the network at the end of the climb, where there is a network to climb on
 abbrev pub end_of : Planned → Option Network
 end_of (plan.Plan net) = Some (own_climb net).net
-end_of (plan.Barred node) = None
-end_of plan.NoPlan = None
+end_of _ = None

@@ -1,6 +1,6 @@
 -- The best row: the one with the least index at its end, and the first among equals.
-use Rattle.std.specs.Prelude.{ℕ, ◌<◌, ◌≤◌, nat_lt, true, List, [], ◌∷◌, length, slice_index_or, if◌then◌else◌}
-use Rattle.transyt_scan.specs.declared.row.ScanRow.{ScanRow}
+use Rattle.std.specs.Prelude.{ℕ, ◌<◌, ◌≤◌, nat_lt, true, List, [], ◌∷◌, length, fold, slice_index_or, if◌then◌else◌}
+pub use Rattle.transyt_scan.specs.declared.row.ScanRow.{ScanRow}
 
 -- the row at a place that has none
 abbrev pub no_row : ScanRow
@@ -20,12 +20,7 @@ pub record IsLeast (rows : List ScanRow) (place : ℕ) : Type 0 where
 abbrev pub better : ScanRow → ScanRow → ScanRow
 better row later = if nat_lt later.to row.to then later else row
 
--- the best of a row and those after it
-abbrev pub best_from : ScanRow → List ScanRow → ScanRow
-best_from row [] = row
-best_from row (later ∷ rows) = best_from (better row later) rows
-
 -- the best row
 abbrev pub best : List ScanRow → ScanRow
 best [] = no_row
-best (row ∷ rows) = best_from row rows
+best (row ∷ rows) = fold better row rows

@@ -1,7 +1,6 @@
 -- Climbs over cycle times: the cycle times, and the row of each.
-use Rattle.std.specs.Prelude.{ℕ, ◌≤◌, true, nat_le, ◌&&◌, if◌then◌else◌, List, map, Option, None}
+use Rattle.std.specs.Prelude.{ℕ, ◌≤◌, nat_le, ◌&&◌, if◌then◌else◌, List, map, Option, None, option_map}
 use Rattle.std.specs.List.{range_with_len}
-use Rattle.std.specs.Option.{option_map}
 use Rattle.transyt_net.specs.Parts.{Network, with_cycle}
 use Rattle.transyt_climbs.specs.declared.times.CycleTimes.{CycleTimes}
 use Rattle.transyt_climbs.specs.declared.plans.Planned.TheVariants as plan
@@ -11,7 +10,7 @@ use Rattle.transyt_climbs.specs.declared.row.PlanRow.TheVariants as row
 use Rattle.transyt_climbs.specs.Times.{AreTimes, cycle_at, cycle_count, times_of, times_within}
 use Rattle.transyt_climbs.specs.Climbs.{climbed_row}
 use Rattle.transyt_climbs.specs.Plans.{PlanList}
-use Rattle.transyt_scan.specs.declared.row.ScanRow.{ScanRow}
+use Rattle.transyt_scan.specs.Best.{ScanRow, no_row}
 use Rattle.transyt_scan.specs.declared.word.ScanWord.{ScanWord}
 
 -- a question that may be asked: one to eight workers, and cycle times that may be
@@ -43,33 +42,18 @@ listed times = record {
 
 -- a climb as a row
 abbrev pub scan_row : Climbed → ScanRow
-scan_row c = record {
-  cycle = c.number;
-  from = c.from;
-  took = c.took;
-  local = c.local;
-  looked = c.looked;
-  to = c.to;
-}
+scan_row c = record { cycle = c.number; from = c.from; took = c.took; local = c.local; looked = c.looked; to = c.to }
 
--- a row that isn't climbed, of which there are none
-abbrev pub not_climbed : ℕ → ScanRow
-not_climbed cycle = record { cycle = cycle; from = 0; took = 0; local = true; looked = 0; to = 0 }
-
--- the row of a cycle time, by that of its network
+-- the row of a cycle time, by that of its network, each of which is climbed
 abbrev pub scan_row_of : PlanRow → ScanRow
 scan_row_of (row.Climbed c) = scan_row c
-scan_row_of (row.Barred number node) = not_climbed number
-scan_row_of (row.NoPlan number) = not_climbed number
+scan_row_of (row.Barred number node) = record no_row { cycle = number }
+scan_row_of (row.NoPlan number) = record no_row { cycle = number }
 
 -- the row of a cycle time: that of the climb of the network with this cycle and all else as it is
 abbrev pub row_at : Network → ℕ → ScanRow
 row_at net cycle = scan_row (climbed_row cycle (with_cycle net cycle))
 
--- the cycle times: the lowest, one step more, and so on up to the highest
-abbrev pub cycles : CycleTimes → List ℕ
-cycles times = map (cycle_at times) (range_with_len 0 (cycle_count times))
-
--- the table: a row for each cycle time
+-- the table: a row for each cycle time, from the lowest on
 abbrev pub table : Network → CycleTimes → List ScanRow
-table net times = map (row_at net) (cycles times)
+table net times = map (λ place. row_at net (cycle_at times place)) (range_with_len 0 (cycle_count times))
