@@ -1,14 +1,15 @@
 -- GO of a link at the last sweep stays where its own data stay and it gives way to no other link.
-use Rattle.std.proofs.Common.{◌≡◌, ℕ, ◌<◌, Bool, false, List, length, Option, Some, None, refl, ap}
+use Rattle.std.proofs.Common.{◌≡◌, ℕ, ◌<◌, Bool, false, List, length, Option, Some, None, refl, ap, sym, subst}
 use Rattle.std.proofs.Common.{◌∙◌, arith}
 use Rattle.std.specs.Option.{is_some}
 use Rattle.transyt_parts.specs.declared.link.GiveWay.{GiveWay}
 use Rattle.transyt_net.specs.Parts.{Network, link_of}
 use Rattle.transyt_net.specs.Shape.{SameShape}
-use Rattle.transyt_sweep.specs.Cell.{CellValue}
+use Rattle.transyt_sweep.specs.Cell.{CellValue, HasSteps, cell_by}
 use Rattle.transyt_sweep.specs.Sweeps.{read_of, cell_at, evaluated}
 use Rattle.transyt_sweep.specs.Rows.{RowsValue, shown_at}
 use Rattle.transyt_sweep.proofs.SweepLaws.{evaluated_is}
+use Rattle.transyt_sweep.proofs.StepLaws.{cell_steps}
 use Rattle.transyt_track.specs.Own.{own, same_own}
 use Rattle.transyt_track.specs.Front.{AreAt, own_differs}
 use Rattle.transyt_track.proofs.DataLaws.{green_same}
@@ -20,6 +21,12 @@ use Rattle.transyt_track.proofs.ShapeLaws.{shape_count}
 no_rule : (rule : Option GiveWay) → is_some rule ≡ false → rule ≡ None
 no_rule None none = refl
 no_rule (Some rule) none = absurd (cc)
+
+-- a link that is worked out has a value for each step
+pub worked_steps : (net : Network) (l : ℕ) (read : ℕ → List ℕ) (n : ℕ) (c : CellValue) → c ≡ cell_by net read l
+    → n ≡ net.frame.step_count → HasSteps n c
+worked_steps net l read n c made steps =
+    subst (HasSteps n) (sym made) (subst (λ m. HasSteps m (cell_by net read l)) (sym steps) (cell_steps net read l))
 
 -- the row that is shown is what is worked out anew
 pub go_stays : (a b : Network) (s l : ℕ) (rows : RowsValue) (awaited : List Bool) → AreAt a b s l rows awaited

@@ -4,7 +4,7 @@ ghost use Rattle.std.specs.Prelude.{◌≡◌, ◌<◌, ◌≤◌, length, IsSom
 ghost use Rattle.transyt_sweep.specs.Rows.{Fits, AreRows, pair_in, placed};
 ghost use Rattle.transyt_sweep.specs.Front.{AreEvaluation};
 ghost use Rattle.transyt_kept.specs.Saved.{unmarked};
-ghost use Rattle.transyt_track.specs.Kept.{AreOfMark};
+ghost use Rattle.transyt_track.specs.Tracker.{AreOfMark};
 
 use transyt_kept::KeptRows;
 use transyt_net::Net;

@@ -2,10 +2,10 @@
 use Rattle.std.proofs.Common.{◌≡◌, ◌≢◌, ◌<◌, ◌||◌, false, length}
 use Rattle.std.proofs.Common.{All, IfSome, ap, sym, subst, ◌∙◌, arith}
 use Rattle.std.specs.List.{list_any}
+use Rattle.std.specs.Option.{option_map_or}
 use Rattle.std.proofs.lemmas.List.{length-set, get_or-set_other}
 use Rattle.transyt_track.specs.Own.{PlacesValue, places_at}
-use Rattle.transyt_track.specs.Due.{is_some_and}
-use Rattle.transyt_track.specs.Front.{flag, flag_from, awaits, own_differs}
+use Rattle.transyt_track.specs.Front.{flag, flag_from, awaits}
 use Rattle.transyt_track.proofs.AwaitLaws.{awaits_by, first_told}
 use Rattle.transyt_track.proofs.FrontLaws.{flag_more}
 use Rattle.transyt_track.proofs.PlaceLaws.{place_read, feeders_inside, rule_inside}
@@ -63,18 +63,21 @@ loop-link-preserved c =
     ∙ ap (λ xs. list_any (flag_from xs l) c.deref-in-loop-link.result.now) c.deref.ensures.value
     ∙ ap (list_any (flag_from flags l))
     (c.deref-in-loop-link.ensures.value ∙ ap (λ (p : PlacesValue). p.feeders) (c.at.view_is ∙ is)) in
-    let barred : c.is_up_from-barred.result ≡ is_some_and (flag_from flags l) at.rule =
+    let barred : c.is_up_from-barred.result ≡ option_map_or (flag_from flags l) at.rule false =
     c.is_up_from-barred.ensures
-    ∙ ap (λ xs. is_some_and (flag_from xs l) c.at.inside.rule) c.deref-in-loop-link-2.ensures.value
-    ∙ ap (is_some_and (flag_from flags l)) (ap (λ (p : PlacesValue). p.rule) (c.at.view_is ∙ is)) in
+    ∙ ap (λ xs. option_map_or (flag_from xs l) c.at.inside.rule false) c.deref-in-loop-link-2.ensures.value
+    ∙ ap (λ (p : PlacesValue). option_map_or (flag_from flags l) p.rule false) (c.at.view_is ∙ is) in
     let told : d ≡ awaits a b 1 0 l =
-    ap (λ t. t || c.any_from-fed.result || c.is_up_from-barred.result) (r.own_changed.flagged l below)
-    ∙ ap (λ t. own_differs a b l || t || c.is_up_from-barred.result) fed
-    ∙ ap (λ t. own_differs a b l || list_any (flag_from flags l) at.feeders || t) barred
-    ∙ awaits_by a b l n (feeders_inside a l n at (omega (arith, inside)) links (λ j. at))
-    (rule_inside a l n at (omega (arith, inside)) links (λ j. at)) 1 0 (flag_from flags l)
-    (λ m there. first_told a b l m (flag flags m)
-    (λ from. c.loop-link.invariant.others m from ∙ r.started.flagged m there)) in
+    grind (
+      arith,
+      r.own_changed.flagged l below,
+      fed,
+      barred,
+      awaits_by a b l n (feeders_inside a l n at (omega (arith, inside)) links (λ j. at))
+          (rule_inside a l n at (omega (arith, inside)) links (λ j. at)) 1 0 (flag_from flags l)
+          (λ m there. first_told a b l m (flag flags m)
+          (λ from. c.loop-link.invariant.others m from ∙ r.started.flagged m there)),
+    ) in
     record {
       count = length-set flags l d ∙ c.loop-link.invariant.count;
       flagged = flag_more flags l d (awaits a b 1 0) here c.loop-link.invariant.flagged told;

@@ -1,12 +1,11 @@
 -- One link more, and at the end all of them.
-use Rattle.std.proofs.Common.{◌≡◌, ◌<◌, not, length, refl, ap, sym, subst, ◌∙◌, arith}
+use Rattle.std.proofs.Common.{◌≡◌, not, length, refl, ap, sym, subst, ◌∙◌, arith}
 use Rattle.std.proofs.lemmas.List.{length-set}
 use Rattle.transyt_sweep.specs.Cell.{CellValue}
 use Rattle.transyt_track.specs.Own.{HaveData}
 use Rattle.transyt_track.specs.Front.{AreStarting}
 use Rattle.transyt_track.proofs.ChangeLaws.{down_more, not_down}
-use Rattle.transyt_track.proofs.PlaceLaws.{place_read}
-use Rattle.transyt_track.proofs.ShapeLaws.{shape_count, shape_places}
+use Rattle.transyt_track.proofs.ShapeLaws.{places_read}
 use Rattle.transyt_track.proofs.StartLaws.{total_start, started_none}
 use Rattle.transyt_track.proofs.starting.start_links.Goals as goal
 
@@ -64,30 +63,17 @@ returns-clause-down c = record {
 
 pub same_data-same-requires-clause-places : goal.same_data-same-requires-clause-places
 same_data-same-requires-clause-places c =
-    let a = c.args.change.now.before.now in
-    let l = c.loop-link.link in
-    let inside : l < length a.links =
-    omega (
-      arith,
-      shape_count a c.args.change.now.after.now c.requires.change.shape,
-      c.loop-link-test.true,
-      ap length c.links-link-end.ensures.value,
-    ) in
-    place_read a c.args.change.now.places.now l c.index-places-link.result c.requires.change.places inside c.index-places-link.is
+    (places_read c.args.change.now.before.now c.args.change.now.after.now c.requires.change.shape
+    c.args.change.now.places.now c.requires.change.places c.loop-link.link
+    (omega (arith, c.loop-link-test.true, ap length c.links-link-end.ensures.value)) c.index-places-link.result
+    c.index-places-link.is).0
 
 pub same_data-same-requires-clause-places_after : goal.same_data-same-requires-clause-places_after
 same_data-same-requires-clause-places_after c =
-    let a = c.args.change.now.before.now in
-    let l = c.loop-link.link in
-    let inside : l < length a.links =
-    omega (
-      arith,
-      shape_count a c.args.change.now.after.now c.requires.change.shape,
-      c.loop-link-test.true,
-      ap length c.links-link-end.ensures.value,
-    ) in
-    place_read a c.args.change.now.places.now l c.index-places-link.result c.requires.change.places inside c.index-places-link.is
-    ∙ shape_places a c.args.change.now.after.now c.requires.change.shape l inside
+    (places_read c.args.change.now.before.now c.args.change.now.after.now c.requires.change.shape
+    c.args.change.now.places.now c.requires.change.places c.loop-link.link
+    (omega (arith, c.loop-link-test.true, ap length c.links-link-end.ensures.value)) c.index-places-link.result
+    c.index-places-link.is).1
 
 pub returns-clause-room : goal.returns-clause-room
 returns-clause-room c = record {
