@@ -2,10 +2,10 @@
 use Rattle.std.proofs.Common.{ℕ, ◌+◌, ◌<◌, ◌≤◌, cond, List, length, ap, sym}
 use Rattle.std.proofs.Common.{◌∙◌, arith}
 use Rattle.transyt_net.specs.Parts.{Network}
-use Rattle.transyt_sweep.specs.Cell.{CellValue}
+use Rattle.transyt_kept.specs.Cell.{CellValue}
 use Rattle.transyt_sweep.specs.Sweeps.{out_of, evaluated}
-use Rattle.transyt_sweep.specs.Rows.{RowsValue, pair_in, placed}
-use Rattle.transyt_sweep.specs.Rows.{AreRows}
+use Rattle.transyt_kept.specs.Rows.{RowsValue, pair_in, placed}
+use Rattle.transyt_kept.specs.Rows.{AreRows}
 use Rattle.transyt_sweep.specs.Front.{AreMixed, AreEvaluation}
 use Rattle.transyt_sweep.proofs.FrontLaws.{before_end}
 use Rattle.transyt_track.specs.Front.{AreShownMixed}

@@ -14,10 +14,12 @@ use Rattle.std.proofs.lemmas.Grind.{get_or-set_at}
 use Rattle.transyt_net.specs.Parts.{Network}
 use Rattle.transyt_net.specs.Shape.{SameShape}
 use Rattle.transyt_parts.specs.declared.frame.Frame.{Frame}
-use Rattle.transyt_sweep.specs.Cell.{CellValue, cell_by}
+use Rattle.transyt_kept.specs.Cell.{CellValue}
+use Rattle.transyt_sweep.specs.Cell.{cell_by}
 use Rattle.transyt_sweep.specs.Sweeps.{out_of, cell_at, evaluated}
-use Rattle.transyt_sweep.specs.Rows.{RowsValue, out_at, shown_at, read_in, with_weights, reweighed, placed}
-use Rattle.transyt_sweep.specs.Rows.{AreRows}
+use Rattle.transyt_kept.specs.Rows.{RowsValue, out_at, shown_at, placed}
+use Rattle.transyt_sweep.specs.Reading.{read_in, with_weights, reweighed}
+use Rattle.transyt_kept.specs.Rows.{AreRows}
 use Rattle.transyt_sweep.specs.Front.{AreMixed, AreEvaluation}
 use Rattle.transyt_sweep.proofs.SweepLaws.{out_of_pair, evaluated_is}
 use Rattle.transyt_sweep.proofs.FrontLaws.{mixed_turn, before_end, cell_is}

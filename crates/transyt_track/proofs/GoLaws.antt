@@ -5,9 +5,10 @@ use Rattle.std.specs.Option.{is_some}
 use Rattle.transyt_parts.specs.declared.link.GiveWay.{GiveWay}
 use Rattle.transyt_net.specs.Parts.{Network, link_of}
 use Rattle.transyt_net.specs.Shape.{SameShape}
-use Rattle.transyt_sweep.specs.Cell.{CellValue, HasSteps, cell_by}
+use Rattle.transyt_kept.specs.Cell.{CellValue}
+use Rattle.transyt_sweep.specs.Cell.{cell_by}
 use Rattle.transyt_sweep.specs.Sweeps.{read_of, cell_at, evaluated}
-use Rattle.transyt_sweep.specs.Rows.{RowsValue, shown_at}
+use Rattle.transyt_kept.specs.Rows.{RowsValue, shown_at}
 use Rattle.transyt_sweep.proofs.SweepLaws.{evaluated_is}
 use Rattle.transyt_sweep.proofs.StepLaws.{cell_steps}
 use Rattle.transyt_track.specs.Own.{own, same_own}
@@ -24,9 +25,9 @@ no_rule (Some rule) none = absurd (cc)
 
 -- a link that is worked out has a value for each step
 pub worked_steps : (net : Network) (l : ℕ) (read : ℕ → List ℕ) (n : ℕ) (c : CellValue) → c ≡ cell_by net read l
-    → n ≡ net.frame.step_count → HasSteps n c
+    → n ≡ net.frame.step_count → length c.arrivals ≡ n
 worked_steps net l read n c made steps =
-    subst (HasSteps n) (sym made) (subst (λ m. HasSteps m (cell_by net read l)) (sym steps) (cell_steps net read l))
+    ap (λ (v : CellValue). length v.arrivals) made ∙ (cell_steps net read l).arrivals ∙ sym steps
 
 -- the row that is shown is what is worked out anew
 pub go_stays : (a b : Network) (s l : ℕ) (rows : RowsValue) (awaited : List Bool) → AreAt a b s l rows awaited

@@ -12,9 +12,12 @@ use Rattle.transyt_parts.specs.declared.frame.Frame.{Frame}
 use Rattle.transyt_parts.specs.declared.link.Weights.{Weights}
 use Rattle.transyt_net.specs.Parts.{Network, link_of}
 use Rattle.transyt_net.specs.Shape.{SameShape}
-use Rattle.transyt_sweep.specs.Cell.{CellValue, inflow, go, terms_frame, terms_of, cell_of}
+use Rattle.transyt_kept.specs.Cell.{CellValue}
+use Rattle.transyt_sweep.specs.Cell.{inflow, go, terms_frame, terms_of, cell_of}
 use Rattle.transyt_sweep.specs.Sweeps.{out_of, read_of, cell_at, evaluated}
-use Rattle.transyt_sweep.specs.Rows.{RowsValue, reweighed, shown_at, with_weights, with_figures, no_figures}
+use Rattle.transyt_kept.specs.Cell.{no_figures}
+use Rattle.transyt_kept.specs.Rows.{RowsValue, shown_at, with_figures}
+use Rattle.transyt_sweep.specs.Reading.{reweighed, with_weights}
 use Rattle.transyt_sweep.proofs.SweepLaws.{out_of_pair, evaluated_is}
 use Rattle.transyt_track.specs.Due.{is_due}
 use Rattle.transyt_track.proofs.DataLaws.{SameData, inflow_same, go_same}

@@ -4,7 +4,8 @@ use Rattle.std.specs.Option.{option_map}
 use Rattle.transyt_parts.specs.declared.frame.Frame.{Frame}
 use Rattle.transyt_net.specs.Parts.{Network}
 use Rattle.transyt_net.specs.Shape.{shape, SameShape}
-use Rattle.transyt_sweep.specs.Rows.{RowsValue, Fits}
+use Rattle.transyt_kept.specs.Rows.{RowsValue}
+use Rattle.transyt_sweep.specs.Reading.{Fits}
 use Rattle.transyt_sweep.specs.Front.{AreEvaluation}
 use Rattle.transyt_kept.specs.Saved.{KeptValue}
 use Rattle.transyt_track.specs.Own.{PlacesValue, ArePlaces, all_places}

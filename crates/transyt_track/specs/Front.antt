@@ -5,9 +5,10 @@ use Rattle.std.specs.List.{list_any}
 use Rattle.std.specs.Option.{option_map_or}
 use Rattle.transyt_parts.specs.Flow.{total_flow}
 use Rattle.transyt_net.specs.Parts.{Network, link_of}
-use Rattle.transyt_sweep.specs.Cell.{CellValue}
+use Rattle.transyt_kept.specs.Cell.{CellValue}
 use Rattle.transyt_sweep.specs.Sweeps.{out_of, evaluated}
-use Rattle.transyt_sweep.specs.Rows.{RowsValue, shown_at, with_weights}
+use Rattle.transyt_kept.specs.Rows.{RowsValue, shown_at}
+use Rattle.transyt_sweep.specs.Reading.{with_weights}
 use Rattle.transyt_sweep.specs.Front.{AreMixed, is_before}
 use Rattle.transyt_track.specs.Own.{own, same_own, places_at}
 use Rattle.transyt_track.specs.Due.{differs, read_differs}

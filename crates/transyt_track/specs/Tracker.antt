@@ -3,7 +3,7 @@ use Rattle.std.specs.Prelude.{ℕ, List, Option, None, IfSome}
 use Rattle.std.specs.Option.{option_map}
 use Rattle.transyt_net.specs.Parts.{Network}
 use Rattle.transyt_net.specs.Shape.{SameShape}
-use Rattle.transyt_sweep.specs.Rows.{RowsValue}
+use Rattle.transyt_kept.specs.Rows.{RowsValue}
 use Rattle.transyt_sweep.specs.Front.{AreEvaluation}
 use Rattle.transyt_track.specs.declared.change.Front.{Front}
 use Rattle.transyt_track.specs.Own.{PlacesValue, ArePlaces}

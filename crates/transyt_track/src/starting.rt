@@ -58,7 +58,8 @@ fn start_link(change: &Change<'_>, link: usize, moves: bool, front: &mut Front)
 {
     front.awaited[link] = moves;
     if moves {
-        front.kept.start(change.after, link);
+        let total = change.after.total_flow(link);
+        front.kept.fill_out(0, link, change.after.per_step(total));
     }
 }
 

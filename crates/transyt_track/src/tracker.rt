@@ -23,10 +23,10 @@ use std::marker::Model;
 use std::mem;
 use std::sync::ledger::Ledger;
 use transyt_delay::Figures;
-use transyt_kept::KeptRows;
+use transyt_kept::{KeptRows, Rows};
 use transyt_net::{Edit, Net};
 use transyt_steps::Steps;
-use transyt_sweep::{Rows, full};
+use transyt_sweep::full;
 
 /// The evaluation of a network, which follows its edits, and can go back to a mark.
 ///
@@ -66,7 +66,7 @@ impl Tracker {
         ensures err { OnErr result (steps.new ≤ steps.old + net.now.frame.sweeps * length net.now.links) }
     {
         let rows = full(alloc, net, steps)?;
-        let kept = KeptRows::open(alloc, net, rows)?;
+        let kept = KeptRows::open(alloc, rows)?;
         Tracker::around(alloc, net, kept)
     }
 
@@ -75,8 +75,8 @@ impl Tracker {
         requires { self.now.mark ≡ None }
         ensures { IfOk result (λ tracker. tracker ≡ self.now) }
     {
-        let rows = Rows::open(alloc, &self.net)?;
-        let mut kept = KeptRows::open(alloc, &self.net, rows)?;
+        let rows = Rows::empty(alloc, self.front.kept.rows().size())?;
+        let mut kept = KeptRows::open(alloc, rows)?;
         copy_rows(&self.net, self.front.kept.rows(), &mut kept);
         Tracker::around(alloc, &self.net, kept)
     }

@@ -6,8 +6,10 @@ use Rattle.std.specs.Cmp.Lexicographic.{same_text}
 use Rattle.std.proofs.lemmas.Bool.{or_parts}
 use Rattle.std.proofs.lemmas.List.{get_or_default}
 use Rattle.transyt_net.specs.Parts.{link_of}
-use Rattle.transyt_sweep.specs.Cell.{CellValue, cell_by}
-use Rattle.transyt_sweep.specs.Rows.{RowsValue, read_in, out_at}
+use Rattle.transyt_kept.specs.Cell.{CellValue}
+use Rattle.transyt_sweep.specs.Cell.{cell_by}
+use Rattle.transyt_kept.specs.Rows.{RowsValue, out_at}
+use Rattle.transyt_sweep.specs.Reading.{read_in}
 use Rattle.transyt_track.specs.Front.{AreFlags, flag, own_differs}
 use Rattle.transyt_track.proofs.DueLaws.{not_false}
 use Rattle.transyt_track.proofs.GoLaws.{go_stays, worked_steps}

@@ -2,7 +2,7 @@
 use Rattle.std.proofs.Common.{◌≡◌, ◌+◌, ◌<◌, ◌≤◌, length, ap, subst, arith}
 use Rattle.transyt_parts.specs.declared.frame.Frame.{Frame}
 use Rattle.transyt_sweep.specs.Sweeps.{out_of, evaluated}
-use Rattle.transyt_sweep.specs.Rows.{out_at, shown_at}
+use Rattle.transyt_kept.specs.Rows.{out_at, shown_at}
 use Rattle.transyt_kept.specs.Saved.{KeptValue}
 use Rattle.transyt_sweep.specs.Front.{AreMixed}
 use Rattle.transyt_sweep.proofs.FrontLaws.{mixed_turn}

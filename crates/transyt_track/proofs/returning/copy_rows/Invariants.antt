@@ -1,7 +1,7 @@
 -- The pairs, one after another.
 use Rattle.std.proofs.Common.{◌≡◌, None}
 use Rattle.transyt_sweep.specs.Sweeps.{out_of, evaluated}
-use Rattle.transyt_sweep.specs.Rows.{out_at, shown_at}
+use Rattle.transyt_kept.specs.Rows.{out_at, shown_at}
 use Rattle.transyt_sweep.specs.Front.{AreMixed}
 use Rattle.transyt_track.specs.Front.{AreShownMixed}
 use Rattle.transyt_track.proofs.returning.copy_rows.Given as goal

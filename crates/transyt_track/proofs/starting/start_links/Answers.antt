@@ -1,7 +1,7 @@
 -- One link more, and at the end all of them.
 use Rattle.std.proofs.Common.{◌≡◌, not, length, refl, ap, sym, subst, ◌∙◌, arith}
 use Rattle.std.proofs.lemmas.List.{length-set}
-use Rattle.transyt_sweep.specs.Cell.{CellValue}
+use Rattle.transyt_kept.specs.Cell.{CellValue}
 use Rattle.transyt_track.specs.Own.{HaveData}
 use Rattle.transyt_track.specs.Front.{AreStarting}
 use Rattle.transyt_track.proofs.ChangeLaws.{down_more, not_down}

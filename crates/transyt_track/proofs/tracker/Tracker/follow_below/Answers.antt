@@ -3,7 +3,7 @@ use Rattle.std.proofs.Common.{◌≡◌, IfSome, IsSome, Some, refl, ap, sym, su
 use Rattle.transyt_net.specs.Shape.{shape, SameShape}
 use Rattle.transyt_net.specs.Edits.{with_edit}
 use Rattle.transyt_track.specs.Own.{ArePlaces, DifferAt}
-use Rattle.transyt_sweep.specs.Rows.{index_in}
+use Rattle.transyt_kept.specs.Rows.{index_in}
 use Rattle.transyt_sweep.specs.Sweeps.{index}
 use Rattle.transyt_sweep.proofs.IndexLaws.{index_is}
 use Rattle.transyt_kept.specs.Saved.{KeptValue}
