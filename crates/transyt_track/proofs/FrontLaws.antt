@@ -9,20 +9,19 @@ use Rattle.std.specs.Option.{option_map_or}
 use Rattle.std.proofs.lemmas.Bool.{cases_eq}
 use Rattle.std.proofs.lemmas.Bool.Decides.{nat_tests}
 use Rattle.std.proofs.lemmas.Slice.Eq.{bytes_eq-Decides}
-use Rattle.std.proofs.lemmas.List.{get_or-set_other, get_or_default}
+use Rattle.std.proofs.lemmas.List.{get_or-set_other}
 use Rattle.std.proofs.lemmas.Grind.{get_or-set_at}
 use Rattle.transyt_net.specs.Parts.{Network}
 use Rattle.transyt_net.specs.Shape.{SameShape}
 use Rattle.transyt_parts.specs.declared.frame.Frame.{Frame}
 use Rattle.transyt_kept.specs.Cell.{CellValue}
-use Rattle.transyt_sweep.specs.Cell.{cell_by}
 use Rattle.transyt_sweep.specs.Sweeps.{out_of, cell_at, evaluated}
 use Rattle.transyt_kept.specs.Rows.{RowsValue, out_at, shown_at, placed}
-use Rattle.transyt_sweep.specs.Reading.{read_in, with_weights, reweighed}
+use Rattle.transyt_sweep.specs.Reading.{with_weights, reweighed}
 use Rattle.transyt_kept.specs.Rows.{AreRows}
 use Rattle.transyt_sweep.specs.Front.{AreMixed, AreEvaluation}
 use Rattle.transyt_sweep.proofs.SweepLaws.{out_of_pair, evaluated_is}
-use Rattle.transyt_sweep.proofs.FrontLaws.{mixed_turn, before_end, cell_is}
+use Rattle.transyt_sweep.proofs.FrontLaws.{mixed_turn, before_end}
 use Rattle.transyt_track.specs.Own.{places_at}
 use Rattle.transyt_track.specs.Due.{differs, read_differs, is_due}
 use Rattle.transyt_track.specs.Readers.{AreReaders, reads}
@@ -146,26 +145,6 @@ module _ (a b : Network) (s l : ℕ) (rows : RowsValue) (awaited : List Bool) (a
         let out : c.out ≡ out_of b s l = ap (λ (v : CellValue). v.out) made ∙ sym (out_of_pair b s l first) in
         told ∙ ap (λ x. not (bytes_eq x c.out)) row_before ∙ ap (λ x. not (bytes_eq (out_of a s l) x)) out
         ∙ sym (differs_is a b s l)
-
-    -- a link that was worked out from the rows is that of the network after
-    pub worked_is : (c : CellValue) → c ≡ cell_by b (read_in rows s l) l → c ≡ cell_at b s l
-    worked_is c made = made ∙ cell_is b (out_of a) s l rows at.outs first swept inside
-
-    -- it is written, and the flags are passed on
-    pub worked_turn : (c : CellValue) → c ≡ cell_by b (read_in rows s l) l → AreRows rows → (d : Bool)
-        → d ≡ not (bytes_eq (out_at rows s l) c.out) → (own_changed : List Bool)
-        → AreFlags (own_differs a b) (length b.links) own_changed → (readers : List (List ℕ)) → AreReaders a readers
-        → (rs : List ℕ) → rs ≡ slice_index_or readers l rs → (passed : List Bool) → length passed ≡ length awaited
-        → ((m : ℕ) → flag passed m
-        ≡ ((if nat_eq m l then flag own_changed l else flag awaited m) || (d && list_any (nat_eq m) rs)))
-        → AreAt a b s (l + 1) (placed rows s l c) passed
-    worked_turn c made kept d told own_changed owned readers all rs at_place passed count flags =
-        let is = worked_is c made in
-        let links = shape_count a b same in
-        let are : rs ≡ slice_index_or readers l [] =
-        at_place ∙ get_or_default readers l rs [] (omega (arith, all.count, links, inside)) in
-        turned_worked kept c is passed
-        (flags_passed links inside own_changed owned readers all d (differs_told c is d told) rs are passed count flags)
 
     module _ (none : is_due a b s l ≡ false) where
       inside_before : l < length a.links

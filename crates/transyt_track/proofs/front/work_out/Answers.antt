@@ -12,8 +12,7 @@ use Rattle.transyt_kept.specs.Rows.{RowsValue, out_at}
 use Rattle.transyt_sweep.specs.Reading.{read_in}
 use Rattle.transyt_track.specs.Front.{AreFlags, flag, own_differs}
 use Rattle.transyt_track.proofs.DueLaws.{not_false}
-use Rattle.transyt_track.proofs.GoLaws.{go_stays, worked_steps}
-use Rattle.transyt_track.proofs.FrontLaws.{worked_is, worked_turn}
+use Rattle.transyt_track.proofs.TurnLaws.{worked_steps, worked_is, worked_turn, go_stays}
 use Rattle.transyt_track.proofs.ReaderLaws.{readers_inside}
 use Rattle.transyt_track.proofs.ShapeLaws.{shape_count}
 use Rattle.transyt_track.proofs.front.work_out.Goals as goal
