@@ -13,8 +13,8 @@ use Rattle.transyt_parts.specs.Parts.{NodeValue, LinkValue}
 use Rattle.transyt_parts.specs.Flow.{total_flow}
 use Rattle.transyt_net.specs.Parts.{Network, link_of}
 use Rattle.transyt_net.specs.Edits.{the_node}
-use Rattle.transyt_track.specs.Own.{Part, Own, PlacesValue, SameTimes, SameNumbers, HaveData, flow_of, cruise_of}
-use Rattle.transyt_track.specs.Own.{part_of, own, feeder_place, places_at}
+use Rattle.transyt_track.specs.Own.{Own, PlacesValue, SameTimes, SameNumbers, HaveData, flow_of, own}
+use Rattle.transyt_track.specs.Own.{feeder_place, feeder_total, places_at}
 use Rattle.transyt_track.specs.Front.{flag, total_differs, own_differs}
 use Rattle.transyt_track.proofs.DueLaws.{not_false}
 use Rattle.transyt_track.proofs.RuleLaws.{own_test, same_number}
@@ -23,15 +23,6 @@ use Rattle.transyt_track.proofs.RuleLaws.{own_test, same_number}
 not_told : (x : Bool) → not x ≡ true → x ≡ false
 not_told true e = absurd (cc)
 not_told false e = refl
-
-flows_of_parts : (net : Network) (fs : List Feed) → map (λ (p : Part). p.flow) (map (part_of net) fs) ≡ map flow_of fs
-flows_of_parts net [] = refl
-flows_of_parts net (f ∷ fs) = ap (λ xs. f.flow ∷ xs) (flows_of_parts net fs)
-
-cruises_of_parts : (net : Network) (fs : List Feed)
-    → map (λ (p : Part). p.cruise) (map (part_of net) fs) ≡ map cruise_of fs
-cruises_of_parts net [] = refl
-cruises_of_parts net (f ∷ fs) = ap (λ xs. f.cruise ∷ xs) (cruises_of_parts net fs)
 
 module _ (a b : Network) where
   total_told : (p : ℕ) → total_differs a b p ≡ false → total_flow (link_of a p) ≡ total_flow (link_of b p)
@@ -43,42 +34,35 @@ module _ (a b : Network) where
   total_same p same =
       ap (λ n. not (nat_eq n (total_flow (link_of b p)))) same ∙ ap not (same_number (total_flow (link_of b p)))
 
-  parts_joined : (fs gs : List Feed) → map flow_of fs ≡ map flow_of gs → map cruise_of fs ≡ map cruise_of gs
-      → map (feeder_place a) fs ≡ map (feeder_place b) gs
+  totals_joined : (fs gs : List Feed) → map (feeder_place a) fs ≡ map (feeder_place b) gs
       → list_any (total_differs a b) (map (feeder_place a) fs) ≡ false
-      → map (part_of a) fs ≡ map (part_of b) gs
-  parts_joined [] [] flows cruises places none = refl
-  parts_joined [] (g ∷ gs) flows cruises places none = absurd (cc)
-  parts_joined (f ∷ fs) [] flows cruises places none = absurd (cc)
-  parts_joined (f ∷ fs) (g ∷ gs) flows cruises places none =
-      let flow : f.flow ≡ g.flow = cc in
-      let cruise : f.cruise ≡ g.cruise = cc in
+      → map (feeder_total a) fs ≡ map (feeder_total b) gs
+  totals_joined [] [] places none = refl
+  totals_joined [] (g ∷ gs) places none = absurd (cc)
+  totals_joined (f ∷ fs) [] places none = absurd (cc)
+  totals_joined (f ∷ fs) (g ∷ gs) places none =
       let place : feeder_place a f ≡ feeder_place b g = cc in
-      let more_flows : map flow_of fs ≡ map flow_of gs = cc in
-      let more_cruises : map cruise_of fs ≡ map cruise_of gs = cc in
-      let more_places : map (feeder_place a) fs ≡ map (feeder_place b) gs = cc in
+      let more : map (feeder_place a) fs ≡ map (feeder_place b) gs = cc in
       let both = or_parts (total_differs a b (feeder_place a f))
       (list_any (total_differs a b) (map (feeder_place a) fs)) none in
-      let whole : total_flow (link_of a (feeder_place a f)) ≡ total_flow (link_of b (feeder_place b g)) =
+      let total : feeder_total a f ≡ feeder_total b g =
       total_told (feeder_place a f) both.0 ∙ ap (λ p. total_flow (link_of b p)) place in
-      (λ j. record { flow = flow j; cruise = cruise j; whole = whole j }
-      ∷ parts_joined fs gs more_flows more_cruises more_places both.1 j)
+      (λ j. total j ∷ totals_joined fs gs more both.1 j)
 
-  parts_totals : (fs gs : List Feed) → map (part_of a) fs ≡ map (part_of b) gs
+  totals_split : (fs gs : List Feed) → map (feeder_total a) fs ≡ map (feeder_total b) gs
       → map (feeder_place a) fs ≡ map (feeder_place b) gs
       → list_any (total_differs a b) (map (feeder_place a) fs) ≡ false
-  parts_totals [] gs parts places = refl
-  parts_totals (f ∷ fs) [] parts places = absurd (cc)
-  parts_totals (f ∷ fs) (g ∷ gs) parts places =
-      let part : part_of a f ≡ part_of b g = cc in
-      let more_parts : map (part_of a) fs ≡ map (part_of b) gs = cc in
+  totals_split [] gs totals places = refl
+  totals_split (f ∷ fs) [] totals places = absurd (cc)
+  totals_split (f ∷ fs) (g ∷ gs) totals places =
+      let total : feeder_total a f ≡ feeder_total b g = cc in
+      let more_totals : map (feeder_total a) fs ≡ map (feeder_total b) gs = cc in
       let place : feeder_place a f ≡ feeder_place b g = cc in
       let more_places : map (feeder_place a) fs ≡ map (feeder_place b) gs = cc in
       let first : total_differs a b (feeder_place a f) ≡ false =
-      total_same (feeder_place a f)
-      (ap (λ (p : Part). p.whole) part ∙ sym (ap (λ p. total_flow (link_of b p)) place)) in
+      total_same (feeder_place a f) (total ∙ sym (ap (λ p. total_flow (link_of b p)) place)) in
       ap (λ x. x || list_any (total_differs a b) (map (feeder_place a) fs)) first
-      ∙ parts_totals fs gs more_parts more_places
+      ∙ totals_split fs gs more_totals more_places
 
   -- a link of equal data has an equal total flow
   pub data_total : (l : ℕ) → HaveData a b l → total_differs a b l ≡ false
@@ -95,37 +79,31 @@ module _ (a b : Network) where
 
     own_joined : HaveData a b l → list_any (total_differs a b) (places_at a l).feeders ≡ false → own a l ≡ own b l
     own_joined have none =
-        let parts = parts_joined (link_of a l).feeds (link_of b l).feeds have.numbers.flows have.numbers.cruises feeders
-        none in
+        let totals = totals_joined (link_of a l).feeds (link_of b l).feeds feeders none in
         (λ j. record {
           entry = have.numbers.entry j;
           saturation = have.numbers.saturation j;
           offset = have.times.offset j;
           changes = have.times.changes j;
-          parts = parts j;
+          flows = have.numbers.flows j;
+          cruises = have.numbers.cruises j;
+          totals = totals j;
         })
 
     own_split : own a l ≡ own b l
         → HaveData a b l × (list_any (total_differs a b) (places_at a l).feeders ≡ false)
-    own_split same =
-        let parts : map (part_of a) (link_of a l).feeds ≡ map (part_of b) (link_of b l).feeds =
-        ap (λ (o : Own). o.parts) same in (
-          record {
-            numbers = record {
-              entry = ap (λ (o : Own). o.entry) same;
-              saturation = ap (λ (o : Own). o.saturation) same;
-              flows = sym (flows_of_parts a (link_of a l).feeds) ∙ ap (map (λ (p : Part). p.flow)) parts
-                  ∙ flows_of_parts b (link_of b l).feeds;
-              cruises = sym (cruises_of_parts a (link_of a l).feeds) ∙ ap (map (λ (p : Part). p.cruise)) parts
-                  ∙ cruises_of_parts b (link_of b l).feeds;
-            };
-            times = record {
-              offset = ap (λ (o : Own). o.offset) same;
-              changes = ap (λ (o : Own). o.changes) same;
-            };
-          },
-          parts_totals (link_of a l).feeds (link_of b l).feeds parts feeders,
-        )
+    own_split same = (
+      record {
+        numbers = record {
+          entry = ap (λ (o : Own). o.entry) same;
+          saturation = ap (λ (o : Own). o.saturation) same;
+          flows = ap (λ (o : Own). o.flows) same;
+          cruises = ap (λ (o : Own). o.cruises) same;
+        };
+        times = record { offset = ap (λ (o : Own). o.offset) same; changes = ap (λ (o : Own). o.changes) same };
+      },
+      totals_split (link_of a l).feeds (link_of b l).feeds (ap (λ (o : Own). o.totals) same) feeders,
+    )
 
     -- so a flag of the data and the flags of the feeders' totals tell whether own data differ
     pub own_flag : (up any : Bool) → (up ≡ false ↔ HaveData a b l)

@@ -57,11 +57,6 @@ steps_more xs ys i d here there before =
     ∙ sym (steps_suc xs ys i here there)
     ∙ ap (λ n. bytes_eq (take n xs) (take n ys)) (sym on)
 
--- rows of as many steps are as long
-pub as_long : (xs ys : List ℕ) (n : ℕ) → length xs ≡ n → (zs : List ℕ) → ys ≡ zs → length zs ≡ n
-    → length xs ≡ length ys
-as_long xs ys n one zs same other = one ∙ sym (ap length same ∙ other)
-
 none_up : (flags : List Bool) → list_any (λ f. f) flags ≡ false → (p : ℕ) → flag flags p ≡ false
 none_up [] none p = refl
 none_up (f ∷ fs) none zero = (or_parts f (list_any (λ g. g) fs) none).0

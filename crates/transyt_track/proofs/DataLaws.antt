@@ -18,6 +18,7 @@ use Rattle.transyt_stage.specs.Green.{signal, shown_of, passed_at}
 use Rattle.transyt_stage.specs.GiveWay.{yielding}
 use Rattle.transyt_net.specs.Valid.{found_or_first, link_place}
 use Rattle.transyt_sweep.specs.Cell.{brought, inflow, under_rule, go}
+use Rattle.transyt_track.specs.Own.{feeder_total}
 
 -- the data of a link's work, departures and weights apart, are the same on both
 pub record SameData (a b : Network) (l : ℕ) : Type 0 where
@@ -31,9 +32,7 @@ pub record SameData (a b : Network) (l : ℕ) : Type 0 where
   pub stages : (link_of a l).stages ≡ (link_of b l).stages
   pub feeds : (link_of a l).feeds ≡ (link_of b l).feeds
   pub rule : (link_of a l).gives_way ≡ (link_of b l).gives_way
-  pub wholes : All (λ f. total_flow (link_of a (link_place a f.feeder))
-      ≡ total_flow (link_of b (link_place b f.feeder)))
-      (link_of a l).feeds
+  pub totals : All (λ f. feeder_total a f ≡ feeder_total b f) (link_of a l).feeds
 
 -- the departures that the link reads are the same
 pub record SameReads (a : Network) (l : ℕ) (x y : ℕ → List ℕ) : Type 0 where
@@ -72,42 +71,38 @@ module _ (a b : Network) (l : ℕ) (x y : ℕ → List ℕ) (data_same : SameDat
   place_same : (number : ℕ) → link_place a number ≡ link_place b number
   place_same number = ap (λ ns. found_or_first (place_of ns number)) data_same.numbers
 
-  brought_same : (f : Feed)
-      → total_flow (link_of a (link_place a f.feeder)) ≡ total_flow (link_of b (link_place b f.feeder))
-      → x (link_place a f.feeder) ≡ y (link_place a f.feeder)
-      → brought a x f ≡ brought b y f
-  brought_same f whole read =
+  brought_same : (f : Feed) → feeder_total a f ≡ feeder_total b f
+      → x (link_place a f.feeder) ≡ y (link_place a f.feeder) → brought a x f ≡ brought b y f
+  brought_same f total read =
       ap (λ (fr : Frame). dispersed
       (shared f.flow (total_flow (link_of a (link_place a f.feeder))) (x (link_place a f.feeder)))
       (travel_steps f.cruise fr.step_count fr.cycle) fr.dispersion)
       data_same.frame
       ∙ ap (λ q. dispersed (shared f.flow q (x (link_place a f.feeder)))
       (travel_steps f.cruise b.frame.step_count b.frame.cycle) b.frame.dispersion)
-      whole
+      total
       ∙ ap (λ o. dispersed (shared f.flow (total_flow (link_of b (link_place b f.feeder))) o)
       (travel_steps f.cruise b.frame.step_count b.frame.cycle) b.frame.dispersion)
       (read ∙ ap y (place_same f.feeder))
 
   gathered_kept : (feeds : List Feed) (come : List ℕ)
-      → All (λ f. total_flow (link_of a (link_place a f.feeder)) ≡ total_flow (link_of b (link_place b f.feeder))) feeds
+      → All (λ f. feeder_total a f ≡ feeder_total b f) feeds
       → All (λ f. x (link_place a f.feeder) ≡ y (link_place a f.feeder)) feeds
       → fold (λ c f. added c (brought a x f)) come feeds ≡ fold (λ c f. added c (brought b y f)) come feeds
-  gathered_kept [] come wholes equal = refl
-  gathered_kept (f ∷ fs) come wholes equal =
-      let whole = All-head (λ g. total_flow (link_of a (link_place a g.feeder))
-      ≡ total_flow (link_of b (link_place b g.feeder))) f fs wholes in
+  gathered_kept [] come totals equal = refl
+  gathered_kept (f ∷ fs) come totals equal =
+      let total = All-head (λ g. feeder_total a g ≡ feeder_total b g) f fs totals in
       let read = All-head (λ g. x (link_place a g.feeder) ≡ y (link_place a g.feeder)) f fs equal in
-      ap (λ c. fold (λ d g. added d (brought a x g)) c fs) (ap (added come) (brought_same f whole read))
+      ap (λ c. fold (λ d g. added d (brought a x g)) c fs) (ap (added come) (brought_same f total read))
       ∙ gathered_kept fs (added come (brought b y f))
-      (All-tail (λ g. total_flow (link_of a (link_place a g.feeder)) ≡ total_flow (link_of b (link_place b g.feeder)))
-      f fs wholes)
+      (All-tail (λ g. feeder_total a g ≡ feeder_total b g) f fs totals)
       (All-tail (λ g. x (link_place a g.feeder) ≡ y (link_place a g.feeder)) f fs equal)
 
   -- the arrivals are the same
   pub inflow_same : inflow a x l ≡ inflow b y l
   inflow_same =
       gathered_kept (link_of a l).feeds (uniform a.frame.step_count (perstep a.frame (link_of a l).entry))
-      data_same.wholes reads.feeds
+      data_same.totals reads.feeds
       ∙ ap (λ (fr : Frame). fold (λ c f. added c (brought b y f))
       (uniform fr.step_count (perstep fr (link_of a l).entry)) (link_of a l).feeds) data_same.frame
       ∙ ap (λ e. fold (λ c f. added c (brought b y f)) (uniform b.frame.step_count (perstep b.frame e))

@@ -1,10 +1,12 @@
 -- Due: its count, step by step, and what stays where a link isn't due.
-use Rattle.std.proofs.Common.{◌≡◌, ℕ, ◌+◌, ◌-◌, ◌≤◌, Bool, true, false, not, ◌||◌, ◌&&◌, List, [], ◌∷◌, map, All}
-use Rattle.std.proofs.Common.{Option, Some, None, IfSome, refl, ap, sym, ◌∙◌, arith, nat_eq, if◌then◌else◌, sum_by}
+use Rattle.std.proofs.Common.{◌≡◌, ℕ, ◌+◌, ◌-◌, ◌≤◌, Bool, true, false, not, ◌||◌, List, [], ◌∷◌, map, All}
+use Rattle.std.proofs.Common.{Option, Some, None, IfSome, refl, ap, sym, ◌∙◌, arith, if◌then◌else◌, sum_by}
 use Rattle.std.specs.List.{list_any, range_with_len}
+use Rattle.std.specs.Option.{option_map_or}
 use Rattle.std.specs.Str.{bytes_eq}
 use Rattle.std.specs.Cmp.Lexicographic.{same_text}
-use Rattle.std.proofs.lemmas.Bool.{and_parts, or_parts, eqb-true}
+use Rattle.std.proofs.lemmas.Bool.{or_parts}
+use Rattle.std.proofs.lemmas.Bool.Decides.{nat_tests}
 use Rattle.std.proofs.lemmas.List.{map-id}
 use Rattle.std.proofs.lemmas.List.Elements.{All-nil, All-cons}
 use Rattle.std.proofs.lemmas.List.FromFn.{sum_by-map-range_with_len_more, length-range_with_len}
@@ -14,9 +16,9 @@ use Rattle.transyt_parts.specs.declared.link.GiveWay.{GiveWay}
 use Rattle.transyt_net.specs.Parts.{Network, link_of}
 use Rattle.transyt_net.specs.Valid.{link_place}
 use Rattle.transyt_sweep.specs.Sweeps.{out_of, read_at, read_of}
-use Rattle.transyt_track.specs.Own.{Part, Own, own, same_part, same_parts, same_timing, same_own, feeder_place}
+use Rattle.transyt_track.specs.Own.{Own, own, same_own, feeder_place}
 use Rattle.transyt_track.specs.Own.{rule_place, places_at}
-use Rattle.transyt_track.specs.Due.{differs, read_differs, is_due, is_some_and, due_in, due_at, due_through, due}
+use Rattle.transyt_track.specs.Due.{differs, read_differs, is_due, due_in, due_at, due_through, due}
 use Rattle.transyt_track.proofs.DataLaws.{SameReads}
 
 -- a test that is not false holds
@@ -83,52 +85,32 @@ module _ (a b : Network) where
       All-cons (λ g. read_of a s l (link_place a g.feeder) ≡ read_of b s l (link_place a g.feeder)) f fs
       (same_out (read_at s l (feeder_place a f)) (feeder_place a f) parts.0) (feeds_equal s l fs parts.1)
 
-  rule_equal : (s l : ℕ) (rule : Option GiveWay) → is_some_and (read_differs a b s l) (rule_place a rule) ≡ false
+  rule_equal : (s l : ℕ) (rule : Option GiveWay) → option_map_or (read_differs a b s l) (rule_place a rule) false ≡ false
       → IfSome rule (λ r. read_of a s l (link_place a r.other) ≡ read_of b s l (link_place a r.other))
   rule_equal s l None e = tt
   rule_equal s l (Some r) e = same_out (read_at s l (link_place a r.other)) (link_place a r.other) e
 
-part_told : (x y : Part) → same_part x y ≡ true → x ≡ y
-part_told x y e =
-    let both = and_parts (nat_eq x.flow y.flow && nat_eq x.cruise y.cruise) (nat_eq x.whole y.whole) e in
-    let first = and_parts (nat_eq x.flow y.flow) (nat_eq x.cruise y.cruise) both.0 in
-    (λ j. record {
-      flow = eqb-true x.flow y.flow first.0 j;
-      cruise = eqb-true x.cruise y.cruise first.1 j;
-      whole = eqb-true x.whole y.whole both.1 j;
-    })
-
-parts_told : (xs ys : List Part) → same_parts xs ys ≡ true → xs ≡ ys
-parts_told [] [] e = refl
-parts_told [] (y ∷ ys) e = absurd (cc)
-parts_told (x ∷ xs) [] e = absurd (cc)
-parts_told (x ∷ xs) (y ∷ ys) e =
-    let both = and_parts (same_part x y) (same_parts xs ys) e in
-    (λ j. part_told x y both.0 j ∷ parts_told xs ys both.1 j)
+list_told : (xs ys : List ℕ) → bytes_eq xs ys ≡ true → xs ≡ ys
+list_told xs ys e = same_text xs ys (sym e)
 
 -- own data that pass the test are equal
 pub own_told : (x y : Own) → same_own x y ≡ true → x ≡ y
 own_told x y e =
-    let both = and_parts (same_timing x y) (same_parts x.parts y.parts) e in
-    let changes = and_parts (nat_eq x.entry y.entry && nat_eq x.saturation y.saturation && nat_eq x.offset y.offset)
-    (bytes_eq x.changes y.changes) both.0 in
-    let offset = and_parts (nat_eq x.entry y.entry && nat_eq x.saturation y.saturation) (nat_eq x.offset y.offset)
-    changes.0 in
-    let flows = and_parts (nat_eq x.entry y.entry) (nat_eq x.saturation y.saturation) offset.0 in
-    (λ j. record {
-      entry = eqb-true x.entry y.entry flows.0 j;
-      saturation = eqb-true x.saturation y.saturation flows.1 j;
-      offset = eqb-true x.offset y.offset offset.1 j;
-      changes = same_text x.changes y.changes (sym changes.1) j;
-      parts = parts_told x.parts y.parts both.1 j;
-    })
+    grind (
+      arith,
+      nat_tests,
+      list_told x.changes y.changes,
+      list_told x.flows y.flows,
+      list_told x.cruises y.cruises,
+      list_told x.totals y.totals,
+    )
 
 module _ (a b : Network) (s l : ℕ) (none : is_due a b s l ≡ false) where
   no_rule : ((not (same_own (own a l) (own b l)) || list_any (read_differs a b s l) (places_at a l).feeders) ≡ false)
-      × (is_some_and (read_differs a b s l) (places_at a l).rule ≡ false)
+      × (option_map_or (read_differs a b s l) (places_at a l).rule false ≡ false)
   no_rule =
       or_parts (not (same_own (own a l) (own b l)) || list_any (read_differs a b s l) (places_at a l).feeders)
-      (is_some_and (read_differs a b s l) (places_at a l).rule) none
+      (option_map_or (read_differs a b s l) (places_at a l).rule false) none
 
   no_feeders : (not (same_own (own a l) (own b l)) ≡ false) ×
       (list_any (read_differs a b s l) (places_at a l).feeders ≡ false)

@@ -16,8 +16,7 @@ use Rattle.transyt_net.proofs.PlaceLaws.{place_is, on_numbered_here}
 use Rattle.transyt_track.specs.Own.{SameTimes, SameNumbers, HaveNode, HaveData, DifferAt, places_at}
 use Rattle.transyt_track.specs.Own.{change_of}
 use Rattle.transyt_track.specs.Front.{own_differs, total_differs}
-use Rattle.transyt_track.proofs.AwaitLaws.{any_each, any_none, and_false, or_false}
-use Rattle.transyt_track.proofs.DueLaws.{not_false}
+use Rattle.transyt_track.proofs.AwaitLaws.{any_none, or_false}
 use Rattle.transyt_track.proofs.ChangeLaws.{own_flag}
 use Rattle.transyt_track.proofs.PlaceLaws.{times_here}
 use Rattle.transyt_track.proofs.ShapeLaws.{shape_places}
@@ -65,16 +64,6 @@ node_edited net e node (Some p) at (inr is) =
     subst (λ x. DifferAt p net (with_edit net x)) (sym is.2)
     (node_differs net (set_change is.0 is.1) node p (sym at))
 
-eq_self : (x y : ℕ) → x ≡ y → nat_eq x y ≡ true
-eq_self x y same = grind (arith, nat_tests)
-
-eq_other : (x y : ℕ) → x ≢ y → nat_eq x y ≡ false
-eq_other x y apart = grind (arith, nat_tests)
-
-and_true : (x : Bool) → (x && true) ≡ x
-and_true true = refl
-and_true false = refl
-
 -- so the own data of the links of that node alone may differ, and do where its times do
 module _ (a b : Network) (same : SameShape a b) (valid_a : IsValid a) (valid_b : IsValid b) (place : ℕ)
     (differ : DifferAt place a b) (told : Bool) (is : IsTrue told ↔ HaveNode a b place) (l : ℕ)
@@ -93,20 +82,21 @@ module _ (a b : Network) (same : SameShape a b) (valid_a : IsValid a) (valid_b :
     where
       by : (n ≡ place) ⊎ (n ≡ place → ⊥) → ((not told && nat_eq n place) ≡ false ↔ HaveData a b l)
       by (inl here) =
-          let flag : (not told && nat_eq n place) ≡ not told =
-          ap (λ t. not told && t) (eq_self n place here) ∙ and_true (not told) in
           let there : place ≡ (places_at a l).node = sym here ∙ at in (
-            λ down. data_is.0 (subst (HaveNode a b) there (is.0 (not_false told (sym flag ∙ down)))),
-            λ have. flag ∙ ap not (is.1 (subst (HaveNode a b) (sym there) (data_is.1 have))),
+            λ down.
+                let stays : told ≡ true = grind (arith, nat_tests) in
+                data_is.0 (subst (HaveNode a b) there (is.0 stays)),
+            λ have.
+                let stays : told ≡ true = is.1 (subst (HaveNode a b) (sym there) (data_is.1 have)) in
+                grind (arith, nat_tests),
           )
       by (inr other) = (
         λ down. data_is.0 (subst (HaveNode a b) at (differ.nodes n other)),
-        λ have. ap (λ t. not told && t) (eq_other n place other) ∙ and_false (not told),
+        λ have. let apart : n ≢ place = other in grind (arith, nat_tests),
       )
 
   pub node_flag : (n : ℕ) → n ≡ (places_at a l).node → (not told && nat_eq n place) ≡ own_differs a b l
   node_flag n at =
       sym (or_false (not told && nat_eq n place))
       ∙ own_flag a b l (shape_places a b same l inside_a) (not told && nat_eq n place) false (flag_down n at)
-      (sym (any_each (total_differs a b) (λ j. false) (links_totals a b same differ.links) (places_at a l).feeders
-      ∙ any_none (places_at a l).feeders))
+      (sym (any_none (total_differs a b) (links_totals a b same differ.links) (places_at a l).feeders))

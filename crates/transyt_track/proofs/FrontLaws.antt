@@ -5,6 +5,7 @@ use Rattle.std.proofs.Common.{◌==◌, ◌⊎◌, inl, inr, if◌then◌else◌
 use Rattle.std.specs.Prelude.{slice_index_or}
 use Rattle.std.specs.Str.{bytes_eq}
 use Rattle.std.specs.List.{list_any}
+use Rattle.std.specs.Option.{option_map_or}
 use Rattle.std.proofs.lemmas.Bool.{cases_eq}
 use Rattle.std.proofs.lemmas.Bool.Decides.{nat_tests}
 use Rattle.std.proofs.lemmas.Slice.Eq.{bytes_eq-Decides}
@@ -13,15 +14,16 @@ use Rattle.std.proofs.lemmas.Grind.{get_or-set_at}
 use Rattle.transyt_net.specs.Parts.{Network}
 use Rattle.transyt_net.specs.Shape.{SameShape}
 use Rattle.transyt_parts.specs.declared.frame.Frame.{Frame}
-use Rattle.transyt_sweep.specs.Cell.{CellValue}
+use Rattle.transyt_kept.specs.Cell.{CellValue}
 use Rattle.transyt_sweep.specs.Sweeps.{out_of, cell_at, evaluated}
-use Rattle.transyt_sweep.specs.Rows.{RowsValue, out_at, shown_at, with_weights, reweighed, placed}
-use Rattle.transyt_sweep.specs.Rows.{AreRows}
+use Rattle.transyt_kept.specs.Rows.{RowsValue, out_at, shown_at, placed}
+use Rattle.transyt_sweep.specs.Reading.{with_weights, reweighed}
+use Rattle.transyt_kept.specs.Rows.{AreRows}
 use Rattle.transyt_sweep.specs.Front.{AreMixed, AreEvaluation}
 use Rattle.transyt_sweep.proofs.SweepLaws.{out_of_pair, evaluated_is}
 use Rattle.transyt_sweep.proofs.FrontLaws.{mixed_turn, before_end}
 use Rattle.transyt_track.specs.Own.{places_at}
-use Rattle.transyt_track.specs.Due.{differs, read_differs, is_due, is_some_and}
+use Rattle.transyt_track.specs.Due.{differs, read_differs, is_due}
 use Rattle.transyt_track.specs.Readers.{AreReaders, reads}
 use Rattle.transyt_track.specs.Front.{AreShownMixed, AreFlags, flag, AreAt, awaits, left_at, own_differs}
 use Rattle.transyt_track.proofs.AwaitLaws.{awaits_here, awaits_on, awaits_own, awaits_turn, or_false}
@@ -162,7 +164,7 @@ module _ (a b : Network) (s l : ℕ) (rows : RowsValue) (awaited : List Bool) (a
       own_same : own_differs a b l ≡ false
       own_same =
           own_down (own_differs a b l) (list_any (read_differs a b s l) (places_at a l).feeders)
-          (is_some_and (read_differs a b s l) (places_at a l).rule) none
+          (option_map_or (read_differs a b s l) (places_at a l).rule false) none
 
       weighed_here : b.frame.sweeps ≡ s → shown_at (with_weights rows b l) l ≡ evaluated b l
       weighed_here last =

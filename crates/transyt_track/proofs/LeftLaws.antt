@@ -12,11 +12,13 @@ use Rattle.transyt_parts.specs.declared.frame.Frame.{Frame}
 use Rattle.transyt_parts.specs.declared.link.Weights.{Weights}
 use Rattle.transyt_net.specs.Parts.{Network, link_of}
 use Rattle.transyt_net.specs.Shape.{SameShape}
-use Rattle.transyt_sweep.specs.Cell.{CellValue, inflow, go, terms_frame, terms_of, cell_of}
+use Rattle.transyt_kept.specs.Cell.{CellValue}
+use Rattle.transyt_sweep.specs.Cell.{inflow, go, terms_frame, terms_of, cell_of}
 use Rattle.transyt_sweep.specs.Sweeps.{out_of, read_of, cell_at, evaluated}
-use Rattle.transyt_sweep.specs.Rows.{RowsValue, reweighed, shown_at, with_weights, with_figures, no_figures}
+use Rattle.transyt_kept.specs.Cell.{no_figures}
+use Rattle.transyt_kept.specs.Rows.{RowsValue, shown_at, with_figures}
+use Rattle.transyt_sweep.specs.Reading.{reweighed, with_weights}
 use Rattle.transyt_sweep.proofs.SweepLaws.{out_of_pair, evaluated_is}
-use Rattle.transyt_track.specs.Own.{HaveWeights}
 use Rattle.transyt_track.specs.Due.{is_due}
 use Rattle.transyt_track.proofs.DataLaws.{SameData, inflow_same, go_same}
 use Rattle.transyt_track.proofs.OwnLaws.{same_data}
@@ -52,12 +54,12 @@ by_weights stop_penalty weights f = record f { index = index_of f.uniform f.rand
 
 -- so rows stay where the weights are equal
 pub weights_stay : (a b : Network) (l : ℕ) (rows : RowsValue) → SameShape a b
-    → HaveWeights a b l → (shown_at rows l).figures ≡ (evaluated a l).figures → with_weights rows b l ≡ rows
+    → (link_of a l).weights ≡ (link_of b l).weights → (shown_at rows l).figures ≡ (evaluated a l).figures → with_weights rows b l ≡ rows
 weights_stay a b l rows same weights figures_are =
     let f : Figures = slice_index_or rows.figures l no_figures in
     let frame : b.frame ≡ a.frame = sym (shape_frame a b same) in
     let by_before : reweighed b l f ≡ reweighed a l f =
-    (λ j. by_weights (frame j).stop_penalty (sym weights.weights j) f) in
+    (λ j. by_weights (frame j).stop_penalty (sym weights j) f) in
     let stays : reweighed b l f ≡ f =
     by_before ∙ ap (reweighed a l) figures_are ∙ ap (λ (c : CellValue). c.figures) (weighed_self a l)
     ∙ sym figures_are in

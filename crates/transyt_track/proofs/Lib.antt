@@ -11,7 +11,7 @@ pub mod LeftLaws
 pub mod AwaitLaws
 pub mod ReaderLaws
 pub mod FrontLaws
-pub mod GoLaws
+pub mod TurnLaws
 pub mod StartLaws
 pub mod EditedLaws
 pub mod BackLaws

@@ -5,9 +5,10 @@ use Rattle.std.proofs.lemmas.Bool.{cases_eq}
 use Rattle.std.proofs.lemmas.Bool.Decides.{nat_tests}
 use Rattle.transyt_delay.specs.declared.figures.Figures.{Figures}
 use Rattle.transyt_net.specs.Parts.{Network}
-use Rattle.transyt_sweep.specs.Cell.{CellValue}
-use Rattle.transyt_sweep.specs.Rows.{RowsValue, out_at, with_out, with_figures, with_rest, placed, shown_at}
-use Rattle.transyt_sweep.specs.Rows.{Fits, SameSize, AreRows}
+use Rattle.transyt_kept.specs.Cell.{CellValue}
+use Rattle.transyt_kept.specs.Rows.{RowsValue, out_at, with_out, with_figures, with_rest, placed, shown_at}
+use Rattle.transyt_kept.specs.Rows.{SameSize, AreRows}
+use Rattle.transyt_sweep.specs.Reading.{Fits}
 use Rattle.transyt_sweep.specs.Front.{AreMixed, is_before}
 use Rattle.transyt_sweep.proofs.FrontLaws.{before_self, before_other, before_turn, mixed_put, mixed_shown}
 use Rattle.transyt_track.specs.Front.{AreShownMixed}

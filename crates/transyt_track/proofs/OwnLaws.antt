@@ -6,7 +6,6 @@ use Rattle.std.proofs.lemmas.List.Elements.{All-nil, All-cons}
 use Rattle.transyt_parts.specs.declared.node.Stage.{Stage}
 use Rattle.transyt_parts.specs.declared.link.Feed.{Feed}
 use Rattle.transyt_parts.specs.Parts.{NodeValue, LinkValue}
-use Rattle.transyt_parts.specs.Flow.{total_flow}
 use Rattle.transyt_parts.specs.Shape.{bare_stage, bare_node, bare_feed, bare_link}
 use Rattle.transyt_parts.specs.Valid.{node_number, link_number}
 use Rattle.transyt_parts.proofs.CopyLaws.{same_length}
@@ -14,8 +13,7 @@ use Rattle.transyt_net.specs.Parts.{Network, link_of, no_link}
 use Rattle.transyt_net.specs.Edits.{the_node, node_in}
 use Rattle.transyt_net.specs.Valid.{numbered}
 use Rattle.transyt_net.specs.Shape.{SameShape}
-use Rattle.transyt_net.specs.Valid.{link_place}
-use Rattle.transyt_track.specs.Own.{Part, Own, change_of, part_of, own}
+use Rattle.transyt_track.specs.Own.{Own, change_of, flow_of, cruise_of, feeder_total, own}
 use Rattle.transyt_track.proofs.DataLaws.{SameData}
 
 stage_same : (x y : Stage) → bare_stage x ≡ bare_stage y → x.change ≡ y.change → x ≡ y
@@ -71,31 +69,28 @@ numbers_same (x ∷ xs) (y ∷ ys) h =
     let rest : map bare_link xs ≡ map bare_link ys = cc in
     (λ j. ap (λ (l : LinkValue). l.number) bare j ∷ numbers_same xs ys rest j)
 
-feeds_same : (a b : Network) (fs gs : List Feed) → map bare_feed fs ≡ map bare_feed gs
-    → map (part_of a) fs ≡ map (part_of b) gs → fs ≡ gs
-feeds_same a b [] [] h p = refl
-feeds_same a b [] (g ∷ gs) h p = absurd (cc)
-feeds_same a b (f ∷ fs) [] h p = absurd (cc)
-feeds_same a b (f ∷ fs) (g ∷ gs) h p =
+feeds_same : (fs gs : List Feed) → map bare_feed fs ≡ map bare_feed gs → map flow_of fs ≡ map flow_of gs
+    → map cruise_of fs ≡ map cruise_of gs → fs ≡ gs
+feeds_same [] [] h p q = refl
+feeds_same [] (g ∷ gs) h p q = absurd (cc)
+feeds_same (f ∷ fs) [] h p q = absurd (cc)
+feeds_same (f ∷ fs) (g ∷ gs) h p q =
     let bare : bare_feed f ≡ bare_feed g = cc in
     let rest : map bare_feed fs ≡ map bare_feed gs = cc in
-    let part : part_of a f ≡ part_of b g = cc in
-    let parts : map (part_of a) fs ≡ map (part_of b) gs = cc in
-    (λ j. record {
-      feeder = ap (λ (x : Feed). x.feeder) bare j;
-      flow = ap (λ (x : Part). x.flow) part j;
-      cruise = ap (λ (x : Part). x.cruise) part j;
-    } ∷ feeds_same a b fs gs rest parts j)
+    let flow : f.flow ≡ g.flow = cc in
+    let flows : map flow_of fs ≡ map flow_of gs = cc in
+    let cruise : f.cruise ≡ g.cruise = cc in
+    let cruises : map cruise_of fs ≡ map cruise_of gs = cc in
+    (λ j. record { feeder = ap (λ (x : Feed). x.feeder) bare j; flow = flow j; cruise = cruise j }
+    ∷ feeds_same fs gs rest flows cruises j)
 
-wholes_same : (a b : Network) (fs : List Feed) → map (part_of a) fs ≡ map (part_of b) fs
-    → All (λ f. total_flow (link_of a (link_place a f.feeder)) ≡ total_flow (link_of b (link_place b f.feeder))) fs
-wholes_same a b [] p =
-    All-nil (λ f. total_flow (link_of a (link_place a f.feeder)) ≡ total_flow (link_of b (link_place b f.feeder)))
-wholes_same a b (f ∷ fs) p =
-    let part : part_of a f ≡ part_of b f = cc in
-    let parts : map (part_of a) fs ≡ map (part_of b) fs = cc in
-    All-cons (λ g. total_flow (link_of a (link_place a g.feeder)) ≡ total_flow (link_of b (link_place b g.feeder))) f fs
-    (ap (λ (x : Part). x.whole) part) (wholes_same a b fs parts)
+totals_same : (a b : Network) (fs : List Feed) → map (feeder_total a) fs ≡ map (feeder_total b) fs
+    → All (λ f. feeder_total a f ≡ feeder_total b f) fs
+totals_same a b [] p = All-nil (λ f. feeder_total a f ≡ feeder_total b f)
+totals_same a b (f ∷ fs) p =
+    let total : feeder_total a f ≡ feeder_total b f = cc in
+    let totals : map (feeder_total a) fs ≡ map (feeder_total b) fs = cc in
+    All-cons (λ g. feeder_total a g ≡ feeder_total b g) f fs total (totals_same a b fs totals)
 
 -- links at one place have one shape
 pub bare_at : (xs ys : List LinkValue) (l : ℕ) → map bare_link xs ≡ map bare_link ys → l < length xs
@@ -113,8 +108,8 @@ same_data a b l same inside owned =
     bare_at a.links b.links l (ap (λ (n : Network). n.links) same) inside in
     let number : (link_of a l).node ≡ (link_of b l).node = ap (λ (x : LinkValue). x.node) bare in
     let feeds : (link_of a l).feeds ≡ (link_of b l).feeds =
-    feeds_same a b (link_of a l).feeds (link_of b l).feeds (ap (λ (x : LinkValue). x.feeds) bare)
-    (ap (λ (o : Own). o.parts) owned) in
+    feeds_same (link_of a l).feeds (link_of b l).feeds (ap (λ (x : LinkValue). x.feeds) bare)
+    (ap (λ (o : Own). o.flows) owned) (ap (λ (o : Own). o.cruises) owned) in
     record {
       frame = ap (λ (n : Network). n.frame) same;
       numbers = numbers_same a.links b.links (ap (λ (n : Network). n.links) same);
@@ -129,6 +124,6 @@ same_data a b l same inside owned =
       stages = ap (λ (x : LinkValue). x.stages) bare;
       feeds = feeds;
       rule = ap (λ (x : LinkValue). x.gives_way) bare;
-      wholes = wholes_same a b (link_of a l).feeds
-          (ap (λ (o : Own). o.parts) owned ∙ ap (map (part_of b)) (sym feeds));
+      totals = totals_same a b (link_of a l).feeds
+          (ap (λ (o : Own). o.totals) owned ∙ ap (map (feeder_total b)) (sym feeds));
     }

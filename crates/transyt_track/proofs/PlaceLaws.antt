@@ -17,7 +17,7 @@ use Rattle.transyt_net.specs.Edits.{the_node, node_in}
 use Rattle.transyt_net.specs.Valid.{IsValid, place_of, node_numbers, is_among}
 use Rattle.transyt_net.proofs.PlaceLaws.{place_is, numbered_here}
 use Rattle.transyt_net.specs.Valid.{found_or_first}
-use Rattle.transyt_track.specs.Own.{node_place, feeder_place, rule_place, places_at, no_places, PlacesValue}
+use Rattle.transyt_track.specs.Own.{node_place, feeder_place, rule_place, places_at, PlacesValue}
 use Rattle.transyt_track.specs.Own.{all_places, ArePlaces, SameTimes, HaveNode}
 
 -- a number that is among these is found
@@ -77,7 +77,8 @@ times_here a b l places valid_a valid_b inside_a inside_b is_a is_b =
 pub all_places_are : (net : Network) → ArePlaces net (all_places net)
 all_places_are net = record {
   count = length-map-range_with_len (places_at net) 0 (length net.links);
-  at = λ l inside. get_or-map-range_with_len (places_at net) 0 (length net.links) l l no_places inside (omega arith);
+  at = λ l inside.
+      get_or-map-range_with_len (places_at net) 0 (length net.links) l l (places_at net l) inside (omega arith);
 }
 
 all_inside : (net : Network) → 0 < length net.links → (feeds : List Feed)
@@ -113,7 +114,7 @@ rule_inside net l count places some same is =
 pub place_read : (net : Network) (table : List PlacesValue) (l : ℕ) (p : PlacesValue) → ArePlaces net table
     → l < length net.links → p ≡ get_or table l p → p ≡ places_at net l
 place_read net table l p all inside at =
-    at ∙ get_or_default table l p no_places (omega (arith, all.count)) ∙ all.at l inside
+    at ∙ get_or_default table l p (places_at net l) (omega (arith, all.count)) ∙ all.at l inside
 
 -- a list of values of the first elements, with one more
 pub map_more : {A : Type 0} {B : Type 0} (f : A → B) (xs : List A) (i : ℕ) (d : A) (y : B) → i < length xs

@@ -7,11 +7,12 @@ use Rattle.std.proofs.lemmas.List.{length-set, get_or-set_other}
 use Rattle.std.proofs.lemmas.Grind.{get_or-set_at}
 use Rattle.std.proofs.lemmas.Bool.Decides.{nat_tests}
 use Rattle.transyt_delay.specs.declared.figures.Figures.{Figures}
-use Rattle.transyt_sweep.specs.Cell.{CellValue}
-use Rattle.transyt_sweep.specs.Rows.{RowsValue, shown_at, with_out, with_rest, with_figures, placed, row, no_figures}
-use Rattle.transyt_sweep.specs.Rows.{AreRows, SameSize, out_at}
-use Rattle.transyt_sweep.proofs.PairLaws.{out_elsewhere}
-use Rattle.transyt_sweep.proofs.ShownLaws.{put_shown, shown_here, shown_elsewhere}
+use Rattle.transyt_kept.specs.Cell.{CellValue}
+use Rattle.transyt_kept.specs.Cell.{no_figures}
+use Rattle.transyt_kept.specs.Rows.{RowsValue, shown_at, with_out, with_rest, with_figures, placed, row}
+use Rattle.transyt_kept.specs.Rows.{AreRows, SameSize, out_at}
+use Rattle.transyt_kept.proofs.PairLaws.{out_elsewhere}
+use Rattle.transyt_kept.proofs.ShownLaws.{put_shown, shown_here, shown_elsewhere}
 
 abbrev all_of : RowsValue → ℕ → ℕ → CellValue → Bool → RowsValue
 all_of rows s l c b =

@@ -4,17 +4,13 @@ use Rattle.std.proofs.Common.{Some, None, Result, Ok, Err, OnOk, take}
 use Rattle.std.proofs.Common.{refl, ap, sym, subst, ◌∙◌, arith, nat_eq}
 use Rattle.std.specs.Prelude.{slice_index_or}
 use Rattle.std.specs.List.{list_any}
+use Rattle.std.specs.Option.{option_map_or}
 use Rattle.std.proofs.lemmas.Bool.Decides.{nat_tests}
 use Rattle.std.proofs.lemmas.List.Elements.{All-nil, All-cons}
 use Rattle.std.proofs.lemmas.List.{take_all}
 use Rattle.transyt_net.specs.Parts.{Network}
 use Rattle.transyt_track.specs.Own.{PlacesValue}
-use Rattle.transyt_track.specs.Due.{is_some_and}
 use Rattle.transyt_track.specs.Readers.{AreReaders, is_reader, reads}
-use Rattle.transyt_track.proofs.AwaitLaws.{or_false, or_true}
-
-same_number_eq : (x y : ℕ) → x ≡ y → nat_eq x y ≡ true
-same_number_eq x y same = grind (arith, nat_tests)
 
 -- a fact of each number that is among these is one of the whole list
 all_among : (fact : ℕ → Type 0) (xs : List ℕ) → ((x : ℕ) → list_any (nat_eq x) xs ≡ true → fact x) → All fact xs
@@ -23,10 +19,10 @@ all_among fact (x ∷ xs) each =
     All-cons fact x xs (each x (first x refl)) (all_among fact xs (λ y among. each y (later y among)))
   where
     first : (y : ℕ) → y ≡ x → list_any (nat_eq y) (x ∷ xs) ≡ true
-    first y is = ap (λ b. b || list_any (nat_eq y) xs) (same_number_eq y x is)
+    first y is = grind (arith, nat_tests)
 
     later : (y : ℕ) → list_any (nat_eq y) xs ≡ true → list_any (nat_eq y) (x ∷ xs) ≡ true
-    later y among = ap (λ b. nat_eq y x || b) among ∙ or_true (nat_eq y x)
+    later y among = grind arith
 
 -- no list tells of none
 pub none_at_first : (o k : ℕ) → is_reader [] o k ≡ false
@@ -39,20 +35,6 @@ none_more [] none zero k = refl
 none_more [] none (suc o) k = refl
 none_more (x ∷ xs) none zero k = none zero k
 none_more (x ∷ xs) none (suc o) k = none_more xs (λ p. none (suc p)) o k
-
--- one place more that is read
-pub or_added : (f e x y : Bool) → ((f || (e && x)) || (y && e)) ≡ (f || (e && (x || y)))
-or_added true e x y = refl
-or_added false true true y = refl
-or_added false true false true = refl
-or_added false true false false = refl
-or_added false false x true = refl
-or_added false false x false = refl
-
-pub or_none : (f e : Bool) → (f || (e && false)) ≡ f
-or_none true e = refl
-or_none false true = refl
-or_none false false = refl
 
 -- a fact of a result without an error, after one call more
 pub on_ok : {A : Type 0} {E : Type 0} (r : Result A E) (P Q : Type 0) → (P → Q) → OnOk r P → OnOk r Q
@@ -70,17 +52,16 @@ module _ (places : PlacesValue) (items : List ℕ) (are : items ≡ places.feede
 
   pub added_none : places.rule ≡ None → now ≡ (before || (e && reads places o))
   added_none rule =
-      fed
-      ∙ ap (λ t. before || (e && t)) (sym (or_false (list_any (nat_eq o) places.feeders))
-      ∙ ap (λ r. list_any (nat_eq o) places.feeders || is_some_and (nat_eq o) r) (sym rule))
+      let none : option_map_or (nat_eq o) places.rule false ≡ false = ap (λ r. option_map_or (nat_eq o) r false) rule in
+      grind (arith, fed, none)
 
   -- and with it of all
   pub added_rule : (other : ℕ) → places.rule ≡ Some other
       → (now || (nat_eq o other && e)) ≡ (before || (e && reads places o))
   added_rule other rule =
-      ap (λ t. t || (nat_eq o other && e)) fed
-      ∙ or_added before e (list_any (nat_eq o) places.feeders) (nat_eq o other)
-      ∙ ap (λ r. before || (e && (list_any (nat_eq o) places.feeders || is_some_and (nat_eq o) r))) (sym rule)
+      let some : option_map_or (nat_eq o) places.rule false ≡ nat_eq o other =
+      ap (λ r. option_map_or (nat_eq o) r false) rule in
+      grind (arith, fed, some)
 
 -- the readers of a link are links
 pub readers_inside : (net : Network) (readers : List (List ℕ)) (other count : ℕ) → AreReaders net readers

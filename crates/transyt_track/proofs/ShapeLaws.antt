@@ -1,5 +1,5 @@
 -- Networks of one shape have equal counts, numbers, feeders and rules, so places are the same in both.
-use Rattle.std.proofs.Common.{◌≡◌, ℕ, ◌<◌, List, [], ◌∷◌, length, map, Option, Some, None, refl, ap, ◌∙◌, arith}
+use Rattle.std.proofs.Common.{◌≡◌, ℕ, ◌<◌, List, [], ◌∷◌, length, map, Option, Some, None, All, IfSome, refl, ap, subst, get_or, ◌∙◌, arith}
 use Rattle.transyt_parts.specs.declared.link.Feed.{Feed}
 use Rattle.transyt_parts.specs.declared.link.GiveWay.{GiveWay}
 use Rattle.transyt_parts.specs.Parts.{NodeValue, LinkValue}
@@ -13,6 +13,7 @@ use Rattle.transyt_net.specs.Valid.{found_or_first, link_place}
 use Rattle.transyt_track.specs.Own.{feeder_place, rule_place, node_place, places_at, ArePlaces, PlacesValue}
 use Rattle.transyt_track.specs.Readers.{AreReaders, reads}
 use Rattle.transyt_track.proofs.OwnLaws.{numbers_same, bare_at}
+use Rattle.transyt_track.proofs.PlaceLaws.{place_read, feeders_inside, rule_inside}
 
 node_numbers_same : (xs ys : List NodeValue) → map bare_node xs ≡ map bare_node ys
     → map node_number xs ≡ map node_number ys
@@ -75,11 +76,31 @@ module _ (a b : Network) (same : SameShape a b) where
       ∙ ap (λ (x : LinkValue). rule_place b x.gives_way) bare in
       (λ j. record { node = node j; feeders = feeders j; rule = rule j })
 
-  -- so a table of places serves both
+  -- so the places of a link, read from the table, are its places in both
+  pub places_read : (places : List PlacesValue) → ArePlaces a places → (l : ℕ) → l < length b.links → (p : PlacesValue)
+      → p ≡ get_or places l p → (p ≡ places_at a l) × (p ≡ places_at b l)
+  places_read places all l inside p at =
+      let there : l < length a.links = omega (arith, shape_count) in
+      let is = place_read a places l p all there at in
+      (is, is ∙ shape_places l there)
+
+  -- it reads links of both
+  pub reads_inside : (l count : ℕ) → l < length b.links → length b.links ≡ count
+      → All (λ j. j < count) (places_at a l).feeders × IfSome (places_at a l).rule (λ j. j < count)
+  reads_inside l count inside is =
+      let some : 0 < length a.links = omega (arith, shape_count) in
+      let same_count : length a.links ≡ count = shape_count ∙ is in (
+        feeders_inside a l count (places_at a l) some same_count refl,
+        rule_inside a l count (places_at a l) some same_count refl,
+      )
+
+  -- and a table of places serves both
   pub shape_table : (places : List PlacesValue) → ArePlaces a places → ArePlaces b places
   shape_table places all = record {
     count = all.count ∙ shape_count;
-    at = λ l inside. all.at l (omega (arith, shape_count)) ∙ shape_places l (omega (arith, shape_count));
+    at = λ l inside.
+        let there : l < length a.links = omega (arith, shape_count) in
+        subst (λ p. get_or places l p ≡ p) (shape_places l there) (all.at l there);
   }
 
   -- the readers of their links

@@ -18,10 +18,10 @@ use Rattle.transyt_net.specs.Parts.{Network, link_of, no_link}
 use Rattle.transyt_net.specs.Shape.{SameShape}
 use Rattle.transyt_net.specs.Flow.{perstep}
 use Rattle.transyt_sweep.specs.Sweeps.{out_of, start, evaluated}
-use Rattle.transyt_sweep.specs.Rows.{RowsValue, shown_at, with_out, AreRows}
+use Rattle.transyt_kept.specs.Rows.{RowsValue, shown_at, with_out, AreRows}
 use Rattle.transyt_sweep.specs.Front.{AreEvaluation, is_before}
 use Rattle.transyt_sweep.proofs.SweepLaws.{out_of_start}
-use Rattle.transyt_sweep.proofs.PairLaws.{out_elsewhere}
+use Rattle.transyt_kept.proofs.PairLaws.{out_elsewhere}
 use Rattle.transyt_sweep.proofs.FrontLaws.{mixed_put, mixed_turn, not_before_first}
 use Rattle.transyt_track.specs.Due.{differs}
 use Rattle.transyt_track.specs.Front.{flag, own_differs, total_differs, AreAt, AreFlags, AreStarting, awaits}

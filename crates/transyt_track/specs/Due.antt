@@ -1,7 +1,8 @@
 -- The pairs of a link and a sweep that have to be worked out again between two networks of one shape.
-use Rattle.std.specs.Prelude.{ℕ, Bool, false, not, ◌||◌, length, Option, Some, None, sum_by}
+use Rattle.std.specs.Prelude.{ℕ, Bool, false, not, ◌||◌, length, sum_by}
 use Rattle.std.specs.Str.{bytes_eq}
 use Rattle.std.specs.List.{list_any, range_with_len, count_by}
+use Rattle.std.specs.Option.{option_map_or}
 use Rattle.transyt_net.specs.Parts.{Network}
 use Rattle.transyt_sweep.specs.Sweeps.{out_of, read_at}
 use Rattle.transyt_track.specs.Own.{own, same_own, places_at}
@@ -14,18 +15,13 @@ differs before after sweep link = not (bytes_eq (out_of before sweep link) (out_
 abbrev pub read_differs : Network → Network → ℕ → ℕ → ℕ → Bool
 read_differs before after sweep link other = differs before after (read_at sweep link other) other
 
--- whether the test holds of the place, if there is one
-abbrev pub is_some_and : (ℕ → Bool) → Option ℕ → Bool
-is_some_and test None = false
-is_some_and test (Some place) = test place
-
 -- whether a link at a sweep is due: its own data differ, or the departures that it reads of a feeder or of the link to
 -- which it gives way
 abbrev pub is_due : Network → Network → ℕ → ℕ → Bool
 is_due before after sweep link =
     not (same_own (own before link) (own after link))
     || list_any (read_differs before after sweep link) (places_at before link).feeders
-    || is_some_and (read_differs before after sweep link) (places_at before link).rule
+    || option_map_or (read_differs before after sweep link) (places_at before link).rule false
 
 -- how many of the first `count` links are due at a sweep
 unfoldable pub due_in : Network → Network → ℕ → ℕ → ℕ

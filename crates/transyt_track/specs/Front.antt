@@ -1,16 +1,17 @@
 -- The rows while they go over from the evaluation of one network to that of another of its shape.
 use Rattle.std.specs.Prelude.{◌≡◌, ◌↔◌, ℕ, ◌<◌, ◌≤◌, ◌==◌, Bool, false, not, ◌&&◌, ◌||◌, nat_eq, nat_lt, List, length}
-use Rattle.std.specs.Prelude.{slice_index_or}
-use Rattle.std.specs.Prelude.{if◌then◌else◌}
+use Rattle.std.specs.Prelude.{slice_index_or, if◌then◌else◌}
+use Rattle.std.specs.List.{list_any}
+use Rattle.std.specs.Option.{option_map_or}
 use Rattle.transyt_parts.specs.Flow.{total_flow}
 use Rattle.transyt_net.specs.Parts.{Network, link_of}
-use Rattle.transyt_sweep.specs.Cell.{CellValue}
+use Rattle.transyt_kept.specs.Cell.{CellValue}
 use Rattle.transyt_sweep.specs.Sweeps.{out_of, evaluated}
-use Rattle.transyt_sweep.specs.Rows.{RowsValue, shown_at, with_weights}
+use Rattle.transyt_kept.specs.Rows.{RowsValue, shown_at}
+use Rattle.transyt_sweep.specs.Reading.{with_weights}
 use Rattle.transyt_sweep.specs.Front.{AreMixed, is_before}
 use Rattle.transyt_track.specs.Own.{own, same_own, places_at}
-use Rattle.std.specs.List.{list_any}
-use Rattle.transyt_track.specs.Due.{differs, read_differs, is_some_and}
+use Rattle.transyt_track.specs.Due.{differs, read_differs}
 
 -- the last sweep is `early` before a link at a sweep, and `late` from it on
 pub record AreShownMixed (net : Network) (early late : ℕ → CellValue) (sweep link : ℕ) (rows : RowsValue) : Type 0
@@ -45,17 +46,13 @@ total_differs before after link =
 abbrev pub flag_from : List Bool → ℕ → ℕ → Bool
 flag_from flags link place = not (nat_lt place link) && flag flags place
 
--- whether a link had its turn after a reader had its own, or with it, where the next turn is that of the link at the
--- front
-abbrev pub had_turn : ℕ → ℕ → ℕ → Bool
-had_turn front reader other =
-    if nat_lt other front then not (nat_lt reader front && nat_lt other reader)
-    else not (nat_lt reader front) && not (nat_lt other reader)
-
--- whether the departures that a reader reads next of another are worked out, and differ
+-- whether the departures that a reader reads next of another are worked out, and differ: where the next turn is that of
+-- the link at the front, the other had its own after the reader had, or with it
 abbrev pub has_moved : Network → Network → ℕ → ℕ → ℕ → ℕ → Bool
 has_moved before after sweep front reader other =
-    had_turn front reader other && read_differs before after sweep front other
+    (if nat_lt other front then not (nat_lt reader front && nat_lt other reader)
+    else not (nat_lt reader front) && not (nat_lt other reader))
+    && read_differs before after sweep front other
 
 -- whether a link is known at the front to be due at its next turn: its own data differ, or the departures that it reads
 -- next of a feeder or of the link to which it gives way are worked out, and differ
@@ -63,7 +60,7 @@ abbrev pub awaits : Network → Network → ℕ → ℕ → ℕ → Bool
 awaits before after sweep front reader =
     own_differs before after reader
     || list_any (has_moved before after sweep front reader) (places_at before reader).feeders
-    || is_some_and (has_moved before after sweep front reader) (places_at before reader).rule
+    || option_map_or (has_moved before after sweep front reader) (places_at before reader).rule false
 
 -- THE LAW OF THE FRONT: before a link at a sweep the rows are those of the network after, from it on those of the
 -- network before; the flag of each link is up where it is known to be due at its next turn
@@ -82,10 +79,3 @@ pub record AreStarting (before after : Network) (link : ℕ) (rows : RowsValue) 
 -- the rows with a link that isn't due left at a sweep: at the last sweep it is weighed anew
 abbrev pub left_at : Network → ℕ → ℕ → RowsValue → RowsValue
 left_at net sweep link rows = if sweep == net.frame.sweeps then with_weights rows net link else rows
-
--- the rows are `early` before a link at a sweep, and `late` from it on; `early_shown` and `late_shown` are their last
--- sweeps
-pub record AreBetween (net : Network) (early : ℕ → ℕ → List ℕ) (early_shown : ℕ → CellValue)
-    (late : ℕ → ℕ → List ℕ) (late_shown : ℕ → CellValue) (sweep link : ℕ) (rows : RowsValue) : Type 0 where
-  pub outs : AreMixed net early late sweep link rows
-  pub shown : AreShownMixed net early_shown late_shown sweep link rows

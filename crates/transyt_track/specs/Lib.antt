@@ -5,5 +5,4 @@ pub mod Work
 pub mod WorkedWork
 pub mod Front
 pub mod Change
-pub mod Kept
 pub mod Tracker

@@ -1,8 +1,8 @@
 -- The own data of a link: all that edits change of its work, departures and weights apart; and which links it reads.
-use Rattle.std.specs.Prelude.{◌≡◌, ℕ, ◌<◌, Bool, true, false, ◌&&◌, nat_eq, List, [], ◌∷◌, length, map, Option, Some}
-use Rattle.std.specs.Prelude.{None, slice_index_or, IsTrue}
+use Rattle.std.specs.Prelude.{◌≡◌, ℕ, ◌<◌, Bool, ◌&&◌, nat_eq, List, length, map, Option, slice_index_or}
 use Rattle.std.specs.Str.{bytes_eq}
 use Rattle.std.specs.List.{range_with_len}
+use Rattle.std.specs.Option.{option_map}
 use Rattle.transyt_parts.specs.declared.node.Stage.{Stage}
 use Rattle.transyt_parts.specs.declared.link.Feed.{Feed}
 use Rattle.transyt_parts.specs.declared.link.GiveWay.{GiveWay}
@@ -10,22 +10,18 @@ use Rattle.transyt_parts.specs.Flow.{total_flow}
 use Rattle.transyt_parts.specs.Parts.{NodeValue, LinkValue}
 use Rattle.transyt_net.specs.Parts.{Network, node_of, link_of}
 use Rattle.transyt_net.specs.Edits.{the_node}
-use Rattle.transyt_net.specs.Valid.{place_of, node_numbers}
-use Rattle.transyt_net.specs.Valid.{found_or_first, link_place}
+use Rattle.transyt_net.specs.Valid.{place_of, node_numbers, found_or_first, link_place}
 
--- of a feed: its flow, its cruise time and the feeder's total flow
-pub record Part : Type 0 where
-  pub flow : ℕ
-  pub cruise : ℕ
-  pub whole : ℕ
-
--- the own data of a link; the offset and the changes are those of its node, the parts those of its feeds in order
+-- the own data of a link; the offset and the changes are those of its node, the flows and cruise times those of its
+-- feeds in order, and the totals the total flows of its feeders
 pub record Own : Type 0 where
   pub entry : ℕ
   pub saturation : ℕ
   pub offset : ℕ
   pub changes : List ℕ
-  pub parts : List Part
+  pub flows : List ℕ
+  pub cruises : List ℕ
+  pub totals : List ℕ
 
 -- a stage's change
 abbrev pub change_of : Stage → ℕ
@@ -43,13 +39,9 @@ cruise_of feed = feed.cruise
 abbrev pub feeder_place : Network → Feed → ℕ
 feeder_place net feed = link_place net feed.feeder
 
--- the own data of a feed
-abbrev pub part_of : Network → Feed → Part
-part_of net feed = record {
-  flow = feed.flow;
-  cruise = feed.cruise;
-  whole = total_flow (link_of net (feeder_place net feed));
-}
+-- the total flow of the link that a feed comes from
+abbrev pub feeder_total : Network → Feed → ℕ
+feeder_total net feed = total_flow (link_of net (feeder_place net feed))
 
 -- the own data of the link at a place
 abbrev pub own : Network → ℕ → Own
@@ -58,29 +50,17 @@ own net link = record {
   saturation = (link_of net link).saturation;
   offset = (the_node net (link_of net link).node).offset;
   changes = map change_of (the_node net (link_of net link).node).stages;
-  parts = map (part_of net) (link_of net link).feeds;
+  flows = map flow_of (link_of net link).feeds;
+  cruises = map cruise_of (link_of net link).feeds;
+  totals = map (feeder_total net) (link_of net link).feeds;
 }
-
--- two feeds have equal flows, cruise times and total flows of their feeders
-abbrev pub same_part : Part → Part → Bool
-same_part one other = nat_eq one.flow other.flow && nat_eq one.cruise other.cruise && nat_eq one.whole other.whole
-
--- two lists have equal parts, one after another
-abbrev pub same_parts : List Part → List Part → Bool
-same_parts [] [] = true
-same_parts [] (y ∷ ys) = false
-same_parts (x ∷ xs) [] = false
-same_parts (x ∷ xs) (y ∷ ys) = same_part x y && same_parts xs ys
-
--- two links have equal own data, their feeds apart
-abbrev pub same_timing : Own → Own → Bool
-same_timing one other =
-    nat_eq one.entry other.entry && nat_eq one.saturation other.saturation && nat_eq one.offset other.offset
-    && bytes_eq one.changes other.changes
 
 -- two links have equal own data
 abbrev pub same_own : Own → Own → Bool
-same_own one other = same_timing one other && same_parts one.parts other.parts
+same_own one other =
+    nat_eq one.entry other.entry && nat_eq one.saturation other.saturation && nat_eq one.offset other.offset
+    && bytes_eq one.changes other.changes && bytes_eq one.flows other.flows && bytes_eq one.cruises other.cruises
+    && bytes_eq one.totals other.totals
 
 -- two nodes have equal offsets and equal changes
 pub record SameTimes (old new : NodeValue) : Type 0 where
@@ -109,18 +89,9 @@ pub record DifferAt (place : ℕ) (before after : Network) : Type 0 where
   pub links : before.links ≡ after.links
   pub nodes : (other : ℕ) → (other ≡ place → ⊥) → HaveNode before after other
 
--- where it is told that links stay, all links are equal in two networks
-pub record LinksStay (stay : Bool) (before after : Network) : Type 0 where
-  pub links : IsTrue stay → before.links ≡ after.links
-
--- a link has equal weights in two networks
-pub record HaveWeights (before after : Network) (link : ℕ) : Type 0 where
-  pub weights : (link_of before link).weights ≡ (link_of after link).weights
-
 -- the place of the link to which a rule gives way
 abbrev pub rule_place : Network → Option GiveWay → Option ℕ
-rule_place net None = None
-rule_place net (Some rule) = Some (link_place net rule.other)
+rule_place net rule = option_map (λ way. link_place net way.other) rule
 
 -- the place of a node's number
 abbrev pub node_place : Network → ℕ → ℕ
@@ -131,10 +102,6 @@ pub record PlacesValue : Type 0 where
   pub node : ℕ
   pub feeders : List ℕ
   pub rule : Option ℕ
-
--- the places where there is no link
-abbrev pub no_places : PlacesValue
-no_places = record { node = 0; feeders = []; rule = None }
 
 -- the places of the link at a place
 abbrev pub places_at : Network → ℕ → PlacesValue
@@ -151,4 +118,4 @@ all_places net = map (places_at net) (range_with_len 0 (length net.links))
 -- these are the places of the links, one after another
 pub record ArePlaces (net : Network) (places : List PlacesValue) : Type 0 where
   pub count : length places ≡ length net.links
-  pub at : (link : ℕ) → link < length net.links → slice_index_or places link no_places ≡ places_at net link
+  pub at : (link : ℕ) → link < length net.links → slice_index_or places link (places_at net link) ≡ places_at net link

@@ -1,13 +1,13 @@
 -- Which links read a link.
-use Rattle.std.specs.Prelude.{◌≡◌, ℕ, ◌<◌, Bool, true, ◌||◌, nat_eq, List, [], length, slice_index_or}
+use Rattle.std.specs.Prelude.{◌≡◌, ℕ, ◌<◌, Bool, true, false, ◌||◌, nat_eq, List, [], length, slice_index_or}
 use Rattle.std.specs.List.{list_any}
+use Rattle.std.specs.Option.{option_map_or}
 use Rattle.transyt_net.specs.Parts.{Network}
 use Rattle.transyt_track.specs.Own.{PlacesValue, places_at}
-use Rattle.transyt_track.specs.Due.{is_some_and}
 
 -- whether a link that reads these places reads another: as a feeder, or to give way to it
 abbrev pub reads : PlacesValue → ℕ → Bool
-reads places other = list_any (nat_eq other) places.feeders || is_some_and (nat_eq other) places.rule
+reads places other = list_any (nat_eq other) places.feeders || option_map_or (nat_eq other) places.rule false
 
 -- whether a link is among the readers of another
 abbrev pub is_reader : List (List ℕ) → ℕ → ℕ → Bool

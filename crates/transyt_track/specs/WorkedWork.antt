@@ -2,7 +2,7 @@
 use Rattle.std.specs.Prelude.{ℕ, List, [], ◌∷◌, Bool, true, false, Some, None}
 use Rattle.transyt_parts.specs.declared.link.Feed.{Feed}
 use Rattle.transyt_parts.specs.Parts.{LinkValue}
-use Rattle.transyt_parts.specs.Made.{new_stage, new_feed, new_rule, new_weights}
+use Rattle.transyt_parts.specs.Made.{new_stage, new_feed, new_rule, new_weights, new_link}
 use Rattle.transyt_net.specs.declared.edit.Edit.{Edit}
 use Rattle.transyt_net.specs.declared.edit.Edit.TheVariants.{Offset, Change, Entry, Part, Cruise, Saturation, Weight}
 use Rattle.transyt_net.specs.Parts.{Network}
@@ -61,19 +61,25 @@ own_three = record {
   saturation = 1733;
   offset = 4;
   changes = 2 ∷ 7 ∷ [];
-  parts = record { flow = 88; cruise = 9; whole = 408 } ∷ [];
+  flows = 88 ∷ [];
+  cruises = 9 ∷ [];
+  totals = 408 ∷ [];
 } ∷ record {
   entry = 97;
   saturation = 1619;
   offset = 13;
   changes = 5 ∷ 14 ∷ [];
-  parts = record { flow = 311; cruise = 23; whole = 519 } ∷ [];
+  flows = 311 ∷ [];
+  cruises = 23 ∷ [];
+  totals = 519 ∷ [];
 } ∷ record {
   entry = 151;
   saturation = 907;
   offset = 13;
   changes = 5 ∷ 14 ∷ [];
-  parts = record { flow = 77; cruise = 61; whole = 408 } ∷ [];
+  flows = 77 ∷ [];
+  cruises = 61 ∷ [];
+  totals = 408 ∷ [];
 } ∷ []
 
 -- edits of it, each with its work; that of the first cruise time leaves the travel at three steps
@@ -103,18 +109,7 @@ worked_looks =
 
 -- a link that is always green
 abbrev pub green_link : ℕ → ℕ → List Feed → LinkValue
-green_link number entry feeds = record {
-  number = number;
-  node = 1;
-  entry = entry;
-  saturation = 1800;
-  weights = new_weights 1 1;
-  start_lag = 0;
-  end_lag = 0;
-  stages = 1 ∷ 2 ∷ [];
-  feeds = feeds;
-  gives_way = None;
-}
+green_link number entry feeds = record (new_link number 1 entry 1800 1 1 0 0 (1 ∷ 2 ∷ [])) { feeds = feeds }
 
 -- three links in a loop, each fed by the next, with the entry flow of the third
 abbrev pub loop_of_three : ℕ → Network

@@ -5,6 +5,7 @@ ghost use Rattle.std.specs.Str.{bytes_eq};
 ghost use Rattle.std.specs.List.{list_any};
 ghost use Rattle.std.specs.Option.{is_some};
 ghost use Rattle.transyt_net.specs.Parts.{link_of};
+ghost use Rattle.transyt_kept.specs.Rows.{out_at};
 ghost use Rattle.transyt_sweep.specs.Front.{AreEvaluation};
 ghost use Rattle.transyt_track.specs.Due.{is_due, due_at, due};
 ghost use Rattle.transyt_track.specs.Change.{HasRoom, IsChange, IsFront};
@@ -15,9 +16,10 @@ use crate::readers::Readers;
 use crate::replacing::{Differs, leave, place};
 use crate::starting::set_out;
 use std::sync::ledger::Ledger;
+use transyt_kept::Rows;
 use transyt_net::Net;
 use transyt_steps::Steps;
-use transyt_sweep::cell;
+use transyt_sweep::{Scratch, cell};
 
 /// Whether rows of as many steps differ. All steps are read: with no jump out, several are compared at a time.
 fn differ(one: &[u64], other: &[u64]) -> bool
@@ -29,6 +31,16 @@ fn differ(one: &[u64], other: &[u64]) -> bool
         bits |= one[i] ^ other[i];
     }
     bits != 0
+}
+
+/// Whether the departures of a link at a sweep differ from those of a scratch.
+fn row_differs(rows: &Rows, sweep: u32, link: usize, scratch: &Scratch) -> bool
+    requires sweep { sweep ≤ rows.now.sweeps }
+    requires link { link < length rows.now.figures }
+    requires steps { length scratch.now.arrivals ≡ rows.now.step_count }
+    ensures { result ≡ not (bytes_eq (out_at rows.now sweep link) scratch.now.out) }
+{
+    differ(rows.out(sweep, link), scratch.out())
 }
 
 /// A link has had its turn: its flag stays up only for its own data, and where its departures differ the flags of its
@@ -87,7 +99,7 @@ fn work_out<L: Ledger>(
     after.frame();
     let rows = front.kept.rows();
     cell(after, link, sweep, rows, &mut front.scratch, steps);
-    let differs = differ(rows.out(sweep, link), front.scratch.out());
+    let differs = row_differs(rows, sweep, link, &front.scratch);
     let readers = change.readers;
     pass_on(
         link,

@@ -6,7 +6,7 @@ ghost use Rattle.transyt_net.specs.Edits.{with_edit};
 ghost use Rattle.transyt_net.specs.Valid.{IsValid, link_place};
 ghost use Rattle.transyt_track.specs.Own.{change_of, flow_of, cruise_of, feeder_place, rule_place, node_place};
 ghost use Rattle.transyt_track.specs.Own.{all_places, places_at, SameTimes, SameNumbers, HaveNode, HaveData};
-ghost use Rattle.transyt_track.specs.Own.{DifferAt, HaveWeights, LinksStay};
+ghost use Rattle.transyt_track.specs.Own.{DifferAt};
 ghost use Rattle.transyt_track.specs.Front.{AreDownWhere, total_differs};
 
 use std::alloc::{AllocError, Global};
@@ -123,8 +123,8 @@ pub(crate) fn other_total(before: &Net, after: &Net, link: usize, same: bool) ->
 pub(crate) fn same_weights(before: &Net, after: &Net, link: usize, links_stay: bool) -> bool
     requires link { link < length before.now.links }
     requires link_after { link < length after.now.links }
-    requires stay { LinksStay links_stay before.now after.now }
-    ensures { IsTrue result ↔ HaveWeights before.now after.now link }
+    requires stay { IsTrue links_stay → before.now.links ≡ after.now.links }
+    ensures { IsTrue result ↔ (link_of before.now link).weights ≡ (link_of after.now link).weights }
 {
     let old = link_at(before, link);
     let new = link_at(after, link);
@@ -168,7 +168,7 @@ fn rule_place(net: &Net, rule: Option<GiveWay>) -> Option<usize>
 {
     match rule {
         None => None,
-        Some(rule) => Some(link_place(net, rule.other)),
+        Some(way) => Some(link_place(net, way.other)),
     }
 }
 

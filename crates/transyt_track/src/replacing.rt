@@ -1,8 +1,8 @@
 //! The writes of rows. The rows of the mark stay.
 
 ghost use Rattle.std.specs.Prelude.{◌≡◌, ◌<◌, ◌≤◌, false, length};
-ghost use Rattle.transyt_sweep.specs.Cell.{HasSteps};
-ghost use Rattle.transyt_sweep.specs.Rows.{Fits, AreRows, out_at, shown_at, placed, with_out, with_rest};
+ghost use Rattle.transyt_kept.specs.Rows.{AreRows, out_at, shown_at, placed, with_out, with_rest};
+ghost use Rattle.transyt_sweep.specs.Reading.{Fits};
 ghost use Rattle.transyt_sweep.specs.Sweeps.{evaluated};
 ghost use Rattle.transyt_track.specs.Change.{IsChange};
 ghost use Rattle.transyt_track.specs.Front.{left_at};
@@ -11,32 +11,32 @@ use crate::change::{Change, Front};
 use crate::own::same_weights;
 use transyt_kept::KeptRows;
 use transyt_net::Net;
-use transyt_sweep::Scratch;
+use transyt_sweep::{Scratch, reweigh};
 
 /// Writes a link's departures at a sweep from a scratch, where they differ.
 fn place_out(sweep: u32, link: usize, differs: bool, scratch: &Scratch, kept: &mut KeptRows)
     requires sweep { sweep ≤ kept.old.now.sweeps }
     requires link { link < length kept.old.now.figures }
-    requires steps { HasSteps kept.old.now.step_count scratch.now }
+    requires steps { length scratch.now.arrivals ≡ kept.old.now.step_count }
     requires same { differs ≡ false → out_at kept.old.now sweep link ≡ scratch.now.out }
     ensures { kept.new ≡ record kept.old { now = with_out kept.old.now sweep link scratch.now.out } }
 {
     if differs {
-        kept.take_out(sweep, link, scratch);
+        kept.put_out(sweep, link, scratch.out());
     }
 }
 
 /// Writes the rest of a link at the last sweep from a scratch: arrivals, queue and figures, and GO where it may differ.
 fn place_shown(link: usize, may_differ: bool, scratch: &mut Scratch, kept: &mut KeptRows)
     requires link { link < length kept.old.now.figures }
-    requires steps { HasSteps kept.old.now.step_count scratch.old }
+    requires steps { length scratch.old.arrivals ≡ kept.old.now.step_count }
     requires same { may_differ ≡ false → (shown_at kept.old.now link).go ≡ scratch.old.go }
     ensures value { kept.new ≡ record kept.old { now = with_rest kept.old.now link scratch.old } }
     ensures steps { length scratch.new.arrivals ≡ kept.old.now.step_count }
 {
-    kept.take_arrivals(link, scratch);
+    scratch.exchange_arrivals(link, kept);
     if may_differ {
-        kept.take_go(link, scratch);
+        scratch.exchange_go(link, kept);
     }
 }
 
@@ -54,7 +54,7 @@ pub(crate) fn place(net: &Net, sweep: u32, link: usize, differs: Differs, front:
     requires fits { Fits net.now front.old.kept.now }
     requires sweep { sweep ≤ net.now.frame.sweeps }
     requires link { link < length net.now.links }
-    requires steps { HasSteps front.old.kept.now.step_count front.old.scratch }
+    requires steps { length front.old.scratch.arrivals ≡ front.old.kept.now.step_count }
     requires out_same { differs.out ≡ false → out_at front.old.kept.now sweep link ≡ front.old.scratch.out }
     requires go_same { sweep ≡ net.now.frame.sweeps → differs.go ≡ false
         → (shown_at front.old.kept.now link).go ≡ front.old.scratch.go }
@@ -86,6 +86,7 @@ pub(crate) fn leave(change: &Change<'_>, sweep: u32, link: usize, kept: &mut Kep
         return;
     }
     if !same_weights(change.before, after, link, change.node.is_some()) {
-        kept.reweigh(after, link);
+        let figures = kept.rows().figures(link);
+        kept.put_figures(link, reweigh(after, link, figures));
     }
 }

@@ -1,14 +1,14 @@
 //! All rows go back to those of the mark, or become a copy.
 
 ghost use Rattle.std.specs.Prelude.{◌≡◌, ◌<◌, ◌≤◌, length, IsSome, None};
-ghost use Rattle.transyt_sweep.specs.Rows.{Fits, AreRows, pair_in, placed};
+ghost use Rattle.transyt_kept.specs.Rows.{AreRows, pair_in, placed};
+ghost use Rattle.transyt_sweep.specs.Reading.{Fits};
 ghost use Rattle.transyt_sweep.specs.Front.{AreEvaluation};
 ghost use Rattle.transyt_kept.specs.Saved.{unmarked};
-ghost use Rattle.transyt_track.specs.Kept.{AreOfMark};
+ghost use Rattle.transyt_track.specs.Tracker.{AreOfMark};
 
-use transyt_kept::KeptRows;
+use transyt_kept::{KeptRows, Rows};
 use transyt_net::Net;
-use transyt_sweep::Rows;
 
 /// The rows go back to those of the marked network, and the mark is gone.
 pub(crate) fn go_back(marked: &Net, kept: &mut KeptRows)

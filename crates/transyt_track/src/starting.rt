@@ -1,12 +1,13 @@
 //! Before the first sweep: which links' own data differ, which links are started anew, and which are due first.
 
-ghost use Rattle.std.specs.Prelude.{◌≡◌, ◌+◌, ◌<◌, ◌≤◌, length, All, IfSome};
+ghost use Rattle.std.specs.Prelude.{◌≡◌, ◌+◌, ◌<◌, ◌≤◌, false, length, All, IfSome};
 ghost use Rattle.std.specs.List.{list_any};
+ghost use Rattle.std.specs.Option.{option_map_or};
 ghost use Rattle.transyt_net.specs.Shape.{SameShape};
 ghost use Rattle.transyt_sweep.specs.Front.{AreEvaluation};
 ghost use Rattle.transyt_track.specs.Own.{ArePlaces, DifferAt, HaveData, HaveNode};
 ghost use Rattle.transyt_track.specs.Change.{HasRoom, IsChange, IsFront};
-ghost use Rattle.transyt_track.specs.Due.{differs, is_some_and};
+ghost use Rattle.transyt_track.specs.Due.{differs};
 ghost use Rattle.transyt_track.specs.Front.{flag, flag_from, AreFlags, AreDownWhere, own_differs, total_differs};
 ghost use Rattle.transyt_track.specs.Front.{awaits, AreStarting};
 
@@ -57,7 +58,8 @@ fn start_link(change: &Change<'_>, link: usize, moves: bool, front: &mut Front)
 {
     front.awaited[link] = moves;
     if moves {
-        front.kept.start(change.after, link);
+        let total = change.after.total_flow(link);
+        front.kept.fill_out(0, link, change.after.per_step(total));
     }
 }
 
@@ -147,7 +149,7 @@ fn any_from(changed: &[bool], link: usize, places: &[usize]) -> bool
 /// Whether the flag of this one is up, and it doesn't stand before a link.
 fn is_up_from(changed: &[bool], link: usize, place: Option<usize>) -> bool
     requires { IfSome place (λ p. p < length changed.now) }
-    ensures { result ≡ is_some_and (flag_from changed.now link) place }
+    ensures { result ≡ option_map_or (flag_from changed.now link) place false }
 {
     match place {
         None => false,

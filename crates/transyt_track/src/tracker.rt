@@ -9,8 +9,7 @@ ghost use Rattle.transyt_net.specs.Shape.{SameShape};
 ghost use Rattle.transyt_sweep.specs.Front.{AreEvaluation};
 ghost use Rattle.transyt_sweep.specs.Sweeps.{out_of, evaluated, index};
 ghost use Rattle.transyt_track.specs.Due.{due};
-ghost use Rattle.transyt_track.specs.Kept.{AreOfMark};
-ghost use Rattle.transyt_track.specs.Tracker.{tracker_of, unmarked, IsTracking};
+ghost use Rattle.transyt_track.specs.Tracker.{tracker_of, unmarked, AreOfMark, IsTracking};
 
 use crate::change::{Change, Front};
 use crate::found::Found;
@@ -24,10 +23,10 @@ use std::marker::Model;
 use std::mem;
 use std::sync::ledger::Ledger;
 use transyt_delay::Figures;
-use transyt_kept::KeptRows;
+use transyt_kept::{KeptRows, Rows};
 use transyt_net::{Edit, Net};
 use transyt_steps::Steps;
-use transyt_sweep::{Rows, full};
+use transyt_sweep::full;
 
 /// The evaluation of a network, which follows its edits, and can go back to a mark.
 ///
@@ -52,8 +51,7 @@ impl Model for Tracker {
 
     // the rows are the evaluation of the network, and those of the mark that of the marked one
     ghost invariant = { λ t.
-        IsTracking t.net t.marked t.front.kept t.places.items t.readers.items t.front.own_changed.items
-        t.front.awaited.items t.front.scratch };
+        IsTracking t.net t.marked t.front t.places.items t.readers.items };
 }
 
 impl Tracker {
@@ -68,7 +66,7 @@ impl Tracker {
         ensures err { OnErr result (steps.new ≤ steps.old + net.now.frame.sweeps * length net.now.links) }
     {
         let rows = full(alloc, net, steps)?;
-        let kept = KeptRows::open(alloc, net, rows)?;
+        let kept = KeptRows::open(alloc, rows)?;
         Tracker::around(alloc, net, kept)
     }
 
@@ -77,8 +75,8 @@ impl Tracker {
         requires { self.now.mark ≡ None }
         ensures { IfOk result (λ tracker. tracker ≡ self.now) }
     {
-        let rows = Rows::open(alloc, &self.net)?;
-        let mut kept = KeptRows::open(alloc, &self.net, rows)?;
+        let rows = Rows::empty(alloc, self.front.kept.rows().size())?;
+        let mut kept = KeptRows::open(alloc, rows)?;
         copy_rows(&self.net, self.front.kept.rows(), &mut kept);
         Tracker::around(alloc, &self.net, kept)
     }
@@ -98,7 +96,13 @@ impl Tracker {
             drop(room);
             return Err(AllocError);
         };
-        Ok(Tracker::of_parts(nets.0, nets.1, kept, room))
+        let front = Front {
+            kept,
+            own_changed: room.own_changed,
+            awaited: room.awaited,
+            scratch: room.scratch,
+        };
+        Ok(Tracker::of_parts(nets.0, nets.1, front, room.places, room.readers))
     }
 
     /// Two copies of a network.
@@ -112,22 +116,22 @@ impl Tracker {
     }
 
     /// The tracker of these parts.
-    fn of_parts(net: Net, marked: Net, kept: KeptRows, room: Room) -> Tracker
-        requires { IsTracking net marked kept room.places.items room.readers.items room.own_changed.items
-            room.awaited.items room.scratch }
-        ensures { result ≡ tracker_of net kept.marked marked }
+    fn of_parts(
+        net: Net,
+        marked: Net,
+        front: Front,
+        places: Vec<Places>,
+        readers: Vec<Readers>,
+    ) -> Tracker
+        requires { IsTracking net marked front places.items readers.items }
+        ensures { result ≡ tracker_of net front.kept.marked marked }
     {
         Tracker {
             net,
             marked,
-            places: room.places,
-            readers: room.readers,
-            front: Front {
-                kept,
-                own_changed: room.own_changed,
-                awaited: room.awaited,
-                scratch: room.scratch,
-            },
+            places,
+            readers,
+            front,
         }
     }
 

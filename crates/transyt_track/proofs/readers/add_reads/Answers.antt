@@ -1,17 +1,16 @@
 -- One feeder more, and the link of the rule.
-use Rattle.std.proofs.Common.{◌<◌, ◌||◌, ◌&&◌, length, nat_eq, take, get_or, IfSome, refl, ap, sym, subst}
+use Rattle.std.proofs.Common.{◌<◌, length, nat_eq, get_or, IfSome, refl, ap, sym, subst}
 use Rattle.std.proofs.Common.{◌∙◌, arith}
-use Rattle.std.specs.List.{list_any}
 use Rattle.std.proofs.lemmas.List.Folds.{list_any_more}
 use Rattle.transyt_track.specs.Own.{PlacesValue}
 use Rattle.transyt_track.specs.Readers.{is_reader}
-use Rattle.transyt_track.proofs.ReaderLaws.{added_none, added_rule, on_ok, or_added, or_none}
+use Rattle.transyt_track.proofs.ReaderLaws.{added_none, added_rule, on_ok}
 use Rattle.transyt_track.proofs.readers.add_reads.Goals as goal
 
 pub loop-feeder-init : goal.loop-feeder-init
 loop-feeder-init c = record {
   count = refl;
-  added = λ o k. sym (or_none (is_reader c.args.readers.now.items o k) (nat_eq k c.args.link));
+  added = λ o k. grind arith;
 }
 
 pub add_reader-requires : goal.add_reader-requires
@@ -35,14 +34,12 @@ loop-feeder-preserved c =
     record {
       count = c.in_ok-add_reader.ensures.count ∙ c.loop-feeder.invariant.count;
       added = λ o k.
-          let f = is_reader c.args.readers.now.items o k in
-          let e = nat_eq k c.args.link in
-          let x = list_any (nat_eq o) (take i items) in
-          let y = nat_eq o (get_or items i 0) in
-          c.in_ok-add_reader.ensures.added o k
-          ∙ ap (λ t. t || (y && e)) (c.loop-feeder.invariant.added o k)
-          ∙ or_added f e x y
-          ∙ ap (λ t. f || (e && t)) (sym (list_any_more (nat_eq o) items i 0 c.loop-feeder-test.true));
+          grind (
+            arith,
+            c.in_ok-add_reader.ensures.added o k,
+            c.loop-feeder.invariant.added o k,
+            list_any_more (nat_eq o) items i 0 c.loop-feeder-test.true,
+          );
     }
 
 pub add_reader-requires-in-Some : goal.add_reader-requires-in-Some

@@ -1,8 +1,9 @@
 -- With equal weights the index stays.
 use Rattle.std.proofs.Common.{◌≡◌, IsTrue, sym, ap, ◌∙◌, arith, rules, if◌then◌else◌}
 use Rattle.transyt_parts.specs.declared.frame.Frame.{Frame}
-use Rattle.transyt_sweep.specs.Cell.{CellValue}
-use Rattle.transyt_sweep.specs.Rows.{RowsValue, with_weights}
+use Rattle.transyt_kept.specs.Cell.{CellValue}
+use Rattle.transyt_kept.specs.Rows.{RowsValue}
+use Rattle.transyt_sweep.specs.Reading.{with_weights}
 use Rattle.transyt_track.proofs.FrontLaws.{same_test}
 use Rattle.transyt_track.proofs.LeftLaws.{weights_stay}
 use Rattle.transyt_track.proofs.replacing.leave.Goals as goal

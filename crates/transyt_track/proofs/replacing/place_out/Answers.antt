@@ -1,7 +1,7 @@
 -- Departures that don't differ are written already.
 use Rattle.std.proofs.Common.{[], ap, sym, ◌∙◌}
 use Rattle.std.proofs.lemmas.List.{set-get_or}
-use Rattle.transyt_sweep.specs.Rows.{RowsValue, pair_place, with_out}
+use Rattle.transyt_kept.specs.Rows.{RowsValue, pair_place, with_out}
 use Rattle.transyt_track.proofs.replacing.place_out.Goals as goal
 
 pub returns-else-differs : goal.returns-else-differs

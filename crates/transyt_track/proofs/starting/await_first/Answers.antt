@@ -1,45 +1,40 @@
 -- One link more.
-use Rattle.std.proofs.Common.{◌≡◌, ◌≢◌, ◌<◌, ◌||◌, false, length}
-use Rattle.std.proofs.Common.{All, IfSome, ap, sym, subst, ◌∙◌, arith}
+use Rattle.std.proofs.Common.{◌≡◌, ◌≢◌, ◌<◌, ◌||◌, false, length, All, IfSome, refl, ap, sym, subst, ◌∙◌, arith}
 use Rattle.std.specs.List.{list_any}
+use Rattle.std.specs.Option.{option_map_or}
 use Rattle.std.proofs.lemmas.List.{length-set, get_or-set_other}
 use Rattle.transyt_track.specs.Own.{PlacesValue, places_at}
-use Rattle.transyt_track.specs.Due.{is_some_and}
-use Rattle.transyt_track.specs.Front.{flag, flag_from, awaits, own_differs}
+use Rattle.transyt_track.specs.Front.{flag, flag_from, awaits}
 use Rattle.transyt_track.proofs.AwaitLaws.{awaits_by, first_told}
 use Rattle.transyt_track.proofs.FrontLaws.{flag_more}
-use Rattle.transyt_track.proofs.PlaceLaws.{place_read, feeders_inside, rule_inside}
-use Rattle.transyt_track.proofs.ShapeLaws.{shape_count}
+use Rattle.transyt_track.proofs.ShapeLaws.{places_read, reads_inside}
 use Rattle.transyt_track.proofs.starting.await_first.Goals as goal
 
 pub any_from-fed-requires : goal.any_from-fed-requires
 any_from-fed-requires c =
     let a = c.args.before.now in
+    let b = c.args.after.now in
     let l = c.loop-link.link in
-    let links = shape_count a c.args.after.now c.requires.shape in
-    let inside : l < length a.links =
-    omega (arith, links, c.loop-link-test.true, ap length c.links-link-end.ensures.value) in
-    let is : c.index-places-link.result ≡ places_at a l =
-    place_read a c.args.places.now l c.index-places-link.result c.requires.places inside c.index-places-link.is in
+    let below : l < length b.links = omega (arith, c.loop-link-test.true, ap length c.links-link-end.ensures.value) in
+    let is = places_read a b c.requires.shape c.args.places.now c.requires.places l below c.index-places-link.result
+    c.index-places-link.is in
     subst (All (λ j. j < length c.deref.result.now))
-    (sym (c.deref-in-loop-link.ensures.value ∙ ap (λ (p : PlacesValue). p.feeders) (c.at.view_is ∙ is)))
-    (feeders_inside a l (length c.deref.result.now) (places_at a l) (omega arith)
-    (links ∙ omega (arith, c.loop-link.invariant.count, ap length c.deref.ensures.value)) (λ j. places_at a l))
+    (sym (c.deref-in-loop-link.ensures.value ∙ ap (λ (p : PlacesValue). p.feeders) (c.at.view_is ∙ is.0)))
+    (reads_inside a b c.requires.shape l (length c.deref.result.now) below
+    (omega (arith, c.loop-link.invariant.count, ap length c.deref.ensures.value))).0
 
 pub is_up_from-barred-requires : goal.is_up_from-barred-requires
 is_up_from-barred-requires c =
     let a = c.args.before.now in
+    let b = c.args.after.now in
     let l = c.loop-link.link in
-    let links = shape_count a c.args.after.now c.requires.shape in
-    let inside : l < length a.links =
-    omega (arith, links, c.loop-link-test.true, ap length c.links-link-end.ensures.value) in
-    let is : c.index-places-link.result ≡ places_at a l =
-    place_read a c.args.places.now l c.index-places-link.result c.requires.places inside c.index-places-link.is in
+    let below : l < length b.links = omega (arith, c.loop-link-test.true, ap length c.links-link-end.ensures.value) in
+    let is = places_read a b c.requires.shape c.args.places.now c.requires.places l below c.index-places-link.result
+    c.index-places-link.is in
     subst (λ o. IfSome o (λ j. j < length c.deref-in-loop-link-2.result.now))
-    (sym (ap (λ (p : PlacesValue). p.rule) (c.at.view_is ∙ is)))
-    (rule_inside a l (length c.deref-in-loop-link-2.result.now) (places_at a l) (omega arith)
-    (links ∙ omega (arith, c.loop-link.invariant.count, ap length c.deref-in-loop-link-2.ensures.value))
-    (λ j. places_at a l))
+    (sym (ap (λ (p : PlacesValue). p.rule) (c.at.view_is ∙ is.0)))
+    (reads_inside a b c.requires.shape l (length c.deref-in-loop-link-2.result.now) below
+    (omega (arith, c.loop-link.invariant.count, ap length c.deref-in-loop-link-2.ensures.value))).1
 
 pub loop-link-preserved : goal.loop-link-preserved
 loop-link-preserved c =
@@ -51,30 +46,31 @@ loop-link-preserved c =
     let flags = c.loop-link.awaited.items in
     let own = flag c.args.own_changed.now l in
     let d = own || c.any_from-fed.result || c.is_up_from-barred.result in
-    let links = shape_count a b r.shape in
     let below : l < n = omega (arith, c.loop-link-test.true, ap length c.links-link-end.ensures.value) in
-    let inside : l < length a.links = omega (arith, below, links) in
     let here : l < length flags = omega (arith, below, c.loop-link.invariant.count) in
     let at : PlacesValue = places_at a l in
+    let inside = reads_inside a b r.shape l n below refl in
     let is : c.index-places-link.result ≡ at =
-    place_read a c.args.places.now l c.index-places-link.result r.places inside c.index-places-link.is in
+    (places_read a b r.shape c.args.places.now r.places l below c.index-places-link.result c.index-places-link.is).0 in
     let fed : c.any_from-fed.result ≡ list_any (flag_from flags l) at.feeders =
     c.any_from-fed.ensures
     ∙ ap (λ xs. list_any (flag_from xs l) c.deref-in-loop-link.result.now) c.deref.ensures.value
     ∙ ap (list_any (flag_from flags l))
     (c.deref-in-loop-link.ensures.value ∙ ap (λ (p : PlacesValue). p.feeders) (c.at.view_is ∙ is)) in
-    let barred : c.is_up_from-barred.result ≡ is_some_and (flag_from flags l) at.rule =
+    let barred : c.is_up_from-barred.result ≡ option_map_or (flag_from flags l) at.rule false =
     c.is_up_from-barred.ensures
-    ∙ ap (λ xs. is_some_and (flag_from xs l) c.at.inside.rule) c.deref-in-loop-link-2.ensures.value
-    ∙ ap (is_some_and (flag_from flags l)) (ap (λ (p : PlacesValue). p.rule) (c.at.view_is ∙ is)) in
+    ∙ ap (λ xs. option_map_or (flag_from xs l) c.at.inside.rule false) c.deref-in-loop-link-2.ensures.value
+    ∙ ap (λ (p : PlacesValue). option_map_or (flag_from flags l) p.rule false) (c.at.view_is ∙ is) in
     let told : d ≡ awaits a b 1 0 l =
-    ap (λ t. t || c.any_from-fed.result || c.is_up_from-barred.result) (r.own_changed.flagged l below)
-    ∙ ap (λ t. own_differs a b l || t || c.is_up_from-barred.result) fed
-    ∙ ap (λ t. own_differs a b l || list_any (flag_from flags l) at.feeders || t) barred
-    ∙ awaits_by a b l n (feeders_inside a l n at (omega (arith, inside)) links (λ j. at))
-    (rule_inside a l n at (omega (arith, inside)) links (λ j. at)) 1 0 (flag_from flags l)
-    (λ m there. first_told a b l m (flag flags m)
-    (λ from. c.loop-link.invariant.others m from ∙ r.started.flagged m there)) in
+    grind (
+      arith,
+      r.own_changed.flagged l below,
+      fed,
+      barred,
+      awaits_by a b l n inside.0 inside.1 1 0 (flag_from flags l)
+          (λ m there. first_told a b l m (flag flags m)
+          (λ from. c.loop-link.invariant.others m from ∙ r.started.flagged m there)),
+    ) in
     record {
       count = length-set flags l d ∙ c.loop-link.invariant.count;
       flagged = flag_more flags l d (awaits a b 1 0) here c.loop-link.invariant.flagged told;

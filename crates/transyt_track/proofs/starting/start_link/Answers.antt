@@ -1,5 +1,8 @@
 -- A link whose start differs is started anew, any other is left.
-use Rattle.std.proofs.Common.{sym, ◌∙◌}
+use Rattle.std.proofs.Common.{◌≡◌, ap, sym, ◌∙◌}
+use Rattle.transyt_profile.specs.Profile.{uniform}
+use Rattle.transyt_net.specs.Flow.{perstep}
+use Rattle.transyt_sweep.specs.Sweeps.{start}
 use Rattle.transyt_track.proofs.StartLaws.{started_put, started_left}
 use Rattle.transyt_track.proofs.starting.start_link.Goals as goal
 
@@ -9,9 +12,13 @@ returns-then-moves-clause-starting c =
     let a = c.args.change.now.before.now in
     let b = c.args.change.now.after.now in
     let flags = c.args.front.now.awaited.items in
-    let made = started_put a b r.change.shape c.args.link c.args.front.now.kept.now flags r.starting r.link r.some c.start.ensures.rows
+    let rows = c.args.front.now.kept.now in
+    let started : uniform rows.step_count c.per_step.result ≡ start b c.args.link =
+    ap (λ n. uniform n c.per_step.result) r.starting.outs.fits.step_count
+    ∙ ap (uniform b.frame.step_count) (c.per_step.ensures.value ∙ ap (perstep b.frame) c.total_flow-total.ensures.value) in
+    let made = started_put a b r.change.shape c.args.link rows flags r.starting r.link r.some c.fill_out.ensures.rows
     (sym r.moves ∙ c.if-moves.true) in
-    rw (c.start.ensures.value, c.if-moves.true) made
+    rw (c.fill_out.ensures.value, started, c.if-moves.true) made
 
 pub returns-else-moves-clause-starting : goal.returns-else-moves-clause-starting
 returns-else-moves-clause-starting c =

@@ -1,12 +1,11 @@
 -- One link more, and at the end all of them.
-use Rattle.std.proofs.Common.{◌≡◌, ◌<◌, not, length, refl, ap, sym, subst, ◌∙◌, arith}
+use Rattle.std.proofs.Common.{◌≡◌, not, length, refl, ap, sym, subst, ◌∙◌, arith}
 use Rattle.std.proofs.lemmas.List.{length-set}
-use Rattle.transyt_sweep.specs.Cell.{CellValue}
+use Rattle.transyt_kept.specs.Cell.{CellValue}
 use Rattle.transyt_track.specs.Own.{HaveData}
 use Rattle.transyt_track.specs.Front.{AreStarting}
 use Rattle.transyt_track.proofs.ChangeLaws.{down_more, not_down}
-use Rattle.transyt_track.proofs.PlaceLaws.{place_read}
-use Rattle.transyt_track.proofs.ShapeLaws.{shape_count, shape_places}
+use Rattle.transyt_track.proofs.ShapeLaws.{places_read}
 use Rattle.transyt_track.proofs.StartLaws.{total_start, started_none}
 use Rattle.transyt_track.proofs.starting.start_links.Goals as goal
 
@@ -14,9 +13,8 @@ pub loop-link-init : goal.loop-link-init
 loop-link-init c = record {
   starting = started_none c.args.change.now.before.now c.args.change.now.after.now c.requires.change.shape c.args.front.now.kept.now c.args.front.now.awaited.items
       c.requires.rows c.requires.room.count;
-  own_count = c.requires.room.own_count;
+  room = c.requires.room;
   down = λ m none. absurd (omega arith);
-  steps = c.requires.room.steps;
   marked = refl;
 }
 
@@ -28,15 +26,18 @@ start_link-requires-clause-moves c =
 pub loop-link-preserved : goal.loop-link-preserved
 loop-link-preserved c = record {
   starting = c.start_link.ensures.starting;
-  own_count = rw c.start_link.ensures.own_changed (length-set c.loop-link.front.own_changed.items c.loop-link.link (not c.same_data-same.result)
-      ∙ c.loop-link.invariant.own_count);
+  room = record {
+    own_count = rw c.start_link.ensures.own_changed (length-set c.loop-link.front.own_changed.items c.loop-link.link (not c.same_data-same.result)
+        ∙ c.loop-link.invariant.room.own_count);
+    count = c.start_link.ensures.starting.count;
+    steps = ap (λ (s : CellValue). length s.arrivals) c.start_link.ensures.scratch ∙ c.loop-link.invariant.room.steps;
+  };
   down = rw c.start_link.ensures.own_changed (down_more c.loop-link.front.own_changed.items c.loop-link.link (not c.same_data-same.result)
       (HaveData c.args.change.now.before.now c.args.change.now.after.now)
-      (omega (arith, c.loop-link.invariant.own_count, c.loop-link-test.true, ap length c.links-link-end.ensures.value))
+      (omega (arith, c.loop-link.invariant.room.own_count, c.loop-link-test.true, ap length c.links-link-end.ensures.value))
       c.loop-link.invariant.down
       (not_down c.same_data-same.result (HaveData c.args.change.now.before.now c.args.change.now.after.now c.loop-link.link)
       c.same_data-same.ensures));
-  steps = ap (λ (s : CellValue). length s.arrivals) c.start_link.ensures.scratch ∙ c.loop-link.invariant.steps;
   marked = c.start_link.ensures.marked ∙ c.loop-link.invariant.marked;
 }
 
@@ -57,41 +58,21 @@ returns-clause-totals c = record {
 
 pub returns-clause-down : goal.returns-clause-down
 returns-clause-down c = record {
-  count = omega (arith, c.loop-link.invariant.own_count);
+  count = omega (arith, c.loop-link.invariant.room.own_count);
   down = λ m inside.
       c.loop-link.invariant.down m (omega (arith, inside, ap length c.links-link-end.ensures.value));
 }
 
 pub same_data-same-requires-clause-places : goal.same_data-same-requires-clause-places
 same_data-same-requires-clause-places c =
-    let a = c.args.change.now.before.now in
-    let l = c.loop-link.link in
-    let inside : l < length a.links =
-    omega (
-      arith,
-      shape_count a c.args.change.now.after.now c.requires.change.shape,
-      c.loop-link-test.true,
-      ap length c.links-link-end.ensures.value,
-    ) in
-    place_read a c.args.change.now.places.now l c.index-places-link.result c.requires.change.places inside c.index-places-link.is
+    (places_read c.args.change.now.before.now c.args.change.now.after.now c.requires.change.shape
+    c.args.change.now.places.now c.requires.change.places c.loop-link.link
+    (omega (arith, c.loop-link-test.true, ap length c.links-link-end.ensures.value)) c.index-places-link.result
+    c.index-places-link.is).0
 
 pub same_data-same-requires-clause-places_after : goal.same_data-same-requires-clause-places_after
 same_data-same-requires-clause-places_after c =
-    let a = c.args.change.now.before.now in
-    let l = c.loop-link.link in
-    let inside : l < length a.links =
-    omega (
-      arith,
-      shape_count a c.args.change.now.after.now c.requires.change.shape,
-      c.loop-link-test.true,
-      ap length c.links-link-end.ensures.value,
-    ) in
-    place_read a c.args.change.now.places.now l c.index-places-link.result c.requires.change.places inside c.index-places-link.is
-    ∙ shape_places a c.args.change.now.after.now c.requires.change.shape l inside
-
-pub returns-clause-room : goal.returns-clause-room
-returns-clause-room c = record {
-  own_count = c.loop-link.invariant.own_count;
-  count = c.loop-link.invariant.starting.count;
-  steps = c.loop-link.invariant.steps;
-}
+    (places_read c.args.change.now.before.now c.args.change.now.after.now c.requires.change.shape
+    c.args.change.now.places.now c.requires.change.places c.loop-link.link
+    (omega (arith, c.loop-link-test.true, ap length c.links-link-end.ensures.value)) c.index-places-link.result
+    c.index-places-link.is).1

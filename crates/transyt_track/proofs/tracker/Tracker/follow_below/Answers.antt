@@ -1,19 +1,17 @@
 -- The rows are those of the network with the edit made, or those from before it.
 use Rattle.std.proofs.Common.{◌≡◌, IfSome, IsSome, Some, refl, ap, sym, subst, if◌then◌else◌, nat_lt, ◌∙◌}
-use Rattle.transyt_parts.specs.declared.frame.Frame.{Frame}
 use Rattle.transyt_net.specs.Shape.{shape, SameShape}
 use Rattle.transyt_net.specs.Edits.{with_edit}
 use Rattle.transyt_track.specs.Own.{ArePlaces, DifferAt}
-use Rattle.transyt_sweep.specs.Rows.{index_in}
+use Rattle.transyt_kept.specs.Rows.{index_in}
 use Rattle.transyt_sweep.specs.Sweeps.{index}
 use Rattle.transyt_sweep.proofs.IndexLaws.{index_is}
 use Rattle.transyt_kept.specs.Saved.{KeptValue}
 use Rattle.transyt_track.specs.Due.{due}
-use Rattle.transyt_track.specs.Kept.{AreOfMark}
+use Rattle.transyt_track.specs.declared.change.Front.{Front}
 use Rattle.transyt_track.specs.Readers.{AreReaders}
-use Rattle.transyt_track.specs.Tracker.{TrackerValue, IsTracking}
-use Rattle.transyt_track.proofs.ShapeLaws.{shape_frame, shape_count}
-use Rattle.transyt_track.proofs.TrackLaws.{begun_tracks, followed_tracks, closed_tracks}
+use Rattle.transyt_track.specs.Tracker.{TrackerValue, AreOfMark}
+use Rattle.transyt_track.proofs.TrackLaws.{room_shape, begun_tracks, followed_tracks, closed_tracks}
 use Rattle.transyt_track.proofs.tracker.Tracker.follow_below.Goals as goal
 
 -- the mark has the rows of the network from before the edit
@@ -36,32 +34,25 @@ invariant_of-self g c =
     let was = c.self.invariant in
     let same : SameShape i.net c.args.after.now =
     ap (λ (t : TrackerValue). shape t.net) c.self.view_is ∙ c.requires.shape in
-    let followed : IsTracking c.args.after.now i.net new.front.kept i.places.items i.readers.items
-    new.front.own_changed.items new.front.awaited.items new.front.scratch =
-    followed_tracks i.net i.net (record i.front.kept { marked = Some i.front.kept.now }) i.places.items
-    i.readers.items i.front.own_changed.items i.front.awaited.items i.front.scratch
-    (begun_tracks i.net i.marked i.front.kept i.places.items i.readers.items i.front.own_changed.items
-    i.front.awaited.items i.front.scratch was)
-    c.args.after.now same new.front.kept new.front.own_changed.items new.front.awaited.items new.front.scratch
-    say.rows (say.marked ∙ ap (λ (k : KeptValue). k.marked) c.begin.ensures) say.room.own_count say.room.count
-    say.room.steps in
-    closed_tracks c.args.after.now i.net new.front.kept i.places.items i.readers.items new.front.own_changed.items
-    new.front.awaited.items new.front.scratch followed c.settle_on.new.net i.marked end.shape
-    (sym end.shape ∙ sym same ∙ was.shape) c.settle_on.new.kept end.rows end.closed
+    let begun : Front = record i.front { kept = record i.front.kept { marked = Some i.front.kept.now } } in
+    let followed = followed_tracks i.net i.net begun i.places.items i.readers.items
+    (begun_tracks i.net i.marked i.front i.places.items i.readers.items was) c.args.after.now same new.front say.rows
+    (say.marked ∙ ap (λ (k : KeptValue). k.marked) c.begin.ensures) say.room in
+    closed_tracks c.args.after.now i.net new.front i.places.items i.readers.items followed c.settle_on.new.net i.marked
+    end.shape (sym end.shape ∙ sym same ∙ was.shape) c.settle_on.new.kept end.rows end.closed
+
+pub returns-clause-index : goal.returns-clause-index
+returns-clause-index g c =
+    c.index-index.ensures.value ∙ ap index_in c.rows.ensures ∙ index_is c.args.after.now c.follow_rows-due.new.front.kept.now c.follow_rows-due.ensures.rows
 
 pub returns-clause-net : goal.returns-clause-net
 returns-clause-net g c =
     let after = c.args.after.now in
     let i = c.self.inside in
-    let found : c.index-index.result ≡ index after =
-    c.index-index.ensures.value ∙ ap index_in c.rows.ensures ∙ index_is after c.follow_rows-due.new.front.kept.now c.follow_rows-due.ensures.rows in
+    let found : c.index-index.result ≡ index after = returns-clause-index g c in
     c.settle_on.ensures.net
     ∙ ap (λ x. if nat_lt x c.args.bound then after else i.net) found
     ∙ ap (λ (t : TrackerValue). if nat_lt (index after) c.args.bound then after else t.net) c.self.view_is
-
-pub returns-clause-index : goal.returns-clause-index
-returns-clause-index g c =
-    c.index-index.ensures.value ∙ ap index_in c.rows.ensures ∙ index_is c.args.after.now c.follow_rows-due.new.front.kept.now c.follow_rows-due.ensures.rows
 
 pub returns-clause-due : goal.returns-clause-due
 returns-clause-due g c =
@@ -83,9 +74,5 @@ pub follow_rows-due-requires-clause-room : goal.follow_rows-due-requires-clause-
 follow_rows-due-requires-clause-room g c =
     let i = c.self.inside in
     let same : SameShape i.net c.args.after.now = ap (λ (t : TrackerValue). shape t.net) c.self.view_is ∙ c.requires.shape in
-    record {
-      own_count = c.self.invariant.own_count ∙ shape_count i.net c.args.after.now same;
-      count = c.self.invariant.awaited_count ∙ shape_count i.net c.args.after.now same;
-      steps = c.self.invariant.steps
-          ∙ ap (λ (f : Frame). f.step_count) (shape_frame i.net c.args.after.now same);
-    }
+    let room = room_shape i.net c.args.after.now same i.front c.self.invariant.room in
+    record { own_count = room.own_count; count = room.count; steps = room.steps }

@@ -1,29 +1,25 @@
 -- The rows are those of the network with the edit made.
 use Rattle.std.proofs.Common.{◌≡◌, IfSome, ap, sym, subst, ◌∙◌}
-use Rattle.transyt_parts.specs.declared.frame.Frame.{Frame}
 use Rattle.transyt_net.specs.Shape.{shape, SameShape}
 use Rattle.transyt_net.specs.Edits.{with_edit}
 use Rattle.transyt_track.specs.Own.{ArePlaces, DifferAt}
 use Rattle.transyt_track.specs.Due.{due}
 use Rattle.transyt_track.specs.Readers.{AreReaders}
 use Rattle.transyt_track.specs.Tracker.{TrackerValue}
-use Rattle.transyt_track.proofs.ShapeLaws.{shape_frame, shape_count}
-use Rattle.transyt_track.proofs.TrackLaws.{followed_tracks}
+use Rattle.transyt_track.proofs.TrackLaws.{room_shape, followed_tracks}
 use Rattle.transyt_track.proofs.tracker.Tracker.follow_edit.Goals as goal
 
 pub invariant_of-self : goal.invariant_of-self
 invariant_of-self g c =
     let i = c.self.inside in
-    let new = c.follow_rows-due.new in
     let say = c.follow_rows-due.ensures in
     let same : SameShape i.net c.args.after.now =
     ap (λ (t : TrackerValue). shape t.net) c.self.view_is ∙ c.requires.shape in
     let made : c.make.new.net ≡ c.args.after.now =
     c.make.ensures ∙ ap (λ (t : TrackerValue). with_edit t.net c.args.e) c.self.view_is ∙ sym c.requires.after in
     rw made
-    (followed_tracks i.net i.marked i.front.kept i.places.items i.readers.items i.front.own_changed.items i.front.awaited.items i.front.scratch
-    c.self.invariant c.args.after.now same new.front.kept new.front.own_changed.items new.front.awaited.items new.front.scratch
-    say.rows say.marked say.room.own_count say.room.count say.room.steps)
+    (followed_tracks i.net i.marked i.front i.places.items i.readers.items c.self.invariant c.args.after.now same
+    c.follow_rows-due.new.front say.rows say.marked say.room)
 
 pub returns-clause-due : goal.returns-clause-due
 returns-clause-due g c =
@@ -45,9 +41,4 @@ pub follow_rows-due-requires-clause-room : goal.follow_rows-due-requires-clause-
 follow_rows-due-requires-clause-room g c =
     let i = c.self.inside in
     let same : SameShape i.net c.args.after.now = ap (λ (t : TrackerValue). shape t.net) c.self.view_is ∙ c.requires.shape in
-    record {
-      own_count = c.self.invariant.own_count ∙ shape_count i.net c.args.after.now same;
-      count = c.self.invariant.awaited_count ∙ shape_count i.net c.args.after.now same;
-      steps = c.self.invariant.steps
-          ∙ ap (λ (f : Frame). f.step_count) (shape_frame i.net c.args.after.now same);
-    }
+    room_shape i.net c.args.after.now same i.front c.self.invariant.room

@@ -1,6 +1,6 @@
 -- The sum of the links' indexes is the network's.
 use Rattle.std.proofs.Common.{ap, ◌∙◌}
-use Rattle.transyt_sweep.specs.Rows.{index_in}
+use Rattle.transyt_kept.specs.Rows.{index_in}
 use Rattle.transyt_sweep.specs.Sweeps.{index}
 use Rattle.transyt_sweep.proofs.IndexLaws.{index_is}
 use Rattle.transyt_track.specs.Tracker.{TrackerValue}

@@ -1,8 +1,8 @@
 -- The shown rows are the evaluation.
 use Rattle.std.proofs.Common.{◌≡◌, ◌<◌, length, ap, ◌∙◌, arith}
 use Rattle.transyt_net.specs.Parts.{Network}
-use Rattle.transyt_sweep.specs.Cell.{CellValue}
-use Rattle.transyt_sweep.specs.Rows.{RowsValue, shown_at}
+use Rattle.transyt_kept.specs.Cell.{CellValue}
+use Rattle.transyt_kept.specs.Rows.{RowsValue, shown_at}
 use Rattle.transyt_sweep.specs.Sweeps.{evaluated}
 use Rattle.transyt_track.specs.Tracker.{TrackerValue}
 use Rattle.transyt_track.proofs.tracker.Tracker.queue.Goals as goal

@@ -14,6 +14,5 @@ invariant_of-self c =
     let i = c.self.inside in
     let was = c.self.invariant in
     rw (c.swap.ensures.x_after, c.swap.ensures.y_after)
-    (closed_tracks i.net i.marked i.front.kept i.places.items i.readers.items i.front.own_changed.items
-    i.front.awaited.items i.front.scratch was i.marked i.net was.shape (sym was.shape) c.go_back.new.kept
-    c.go_back.ensures.rows c.go_back.ensures.closed)
+    (closed_tracks i.net i.marked i.front i.places.items i.readers.items was i.marked i.net was.shape (sym was.shape)
+    c.go_back.new.kept c.go_back.ensures.rows c.go_back.ensures.closed)

@@ -25,6 +25,5 @@ invariant_of-self c =
     ap (λ (t : TrackerValue). shape t.net) c.self.view_is ∙ c.requires.shape
     ∙ sym (ap (λ (t : TrackerValue). shape t.net) c.from.view_is) in
     rw c.take_numbers.ensures
-    (closed_tracks i.net i.marked i.front.kept i.places.items i.readers.items i.front.own_changed.items
-    i.front.awaited.items i.front.scratch c.self.invariant c.from.inside.net i.marked same
+    (closed_tracks i.net i.marked i.front i.places.items i.readers.items c.self.invariant c.from.inside.net i.marked same
     (sym same ∙ c.self.invariant.shape) c.copy_rows.new.kept c.copy_rows.ensures.rows c.copy_rows.ensures.closed)
