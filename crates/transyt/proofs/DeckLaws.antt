@@ -5,7 +5,7 @@ use Rattle.std.specs.List.{list_all}
 use Rattle.std.specs.Option.{option_map}
 use Rattle.std.proofs.lemmas.Bool.{and_parts, not-false}
 use Rattle.std.proofs.lemmas.Bool.Decides.{nat_tests}
-use Rattle.transyt_syntax.specs.Findings.{when}
+use Rattle.transyt_syntax.specs.Syntax.{when}
 use Rattle.transyt_syntax.specs.declared.code.Code.{Code}
 use Rattle.transyt_syntax.specs.declared.code.Code.TheVariants as code
 use Rattle.transyt_syntax.specs.Syntax.{said, unless}
@@ -33,7 +33,7 @@ use Rattle.transyt_deck.specs.declared.state.Part.TheVariants as p
 use Rattle.transyt_deck.specs.declared.state.State.{State}
 use Rattle.transyt_deck.specs.declared.state.State.TheVariants as s
 use Rattle.transyt_deck.specs.State.{placed, added, plan_code, making, framed, state_with, state_by, form_of, rank, up_to}
-use Rattle.transyt_deck.specs.Table.{cards}
+use Rattle.transyt_deck.specs.Cards.{cards}
 use Rattle.transyt_deck.specs.Adds.{CanAdd}
 use Rattle.transyt_deck.specs.Deck.{Deck, Refused, Complete, Open, deck_at, deck_by, next}
 use Rattle.transyt.proofs.SaidCards.{CanSaid, said_can}

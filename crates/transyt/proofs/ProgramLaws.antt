@@ -3,7 +3,7 @@ use Rattle.std.proofs.Common.{◌≡◌, ◌≢◌, ℕ, List, Option, None, Som
 use Rattle.std.proofs.Common.{ap, subst, ◌∙◌, ◌≤◌, ◌++◌, length, arith}
 use Rattle.std.specs.Option.{option_map}
 use Rattle.transyt_io.specs.Streams.{Rose}
-use Rattle.transyt_outcome.specs.Exit.{exit_number}
+use Rattle.transyt_outcome.specs.Outcome.{exit_number}
 use Rattle.transyt_outcome.specs.declared.status.Status.{Status}
 use Rattle.transyt_answers.specs.Report.{report, status}
 use Rattle.transyt.specs.declared.word.Word.{Word}

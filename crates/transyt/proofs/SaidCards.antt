@@ -8,13 +8,13 @@ use Rattle.std.specs.Str.{bytes_eq}
 use Rattle.std.proofs.lemmas.Bool.{and_parts, leb-true}
 use Rattle.transyt_num.specs.Number.{number_of}
 use Rattle.transyt_io.specs.Lines.{words, is_skipped}
-use Rattle.transyt_syntax.specs.Findings.{when, first_found}
+use Rattle.transyt_syntax.specs.Syntax.{when, first_found}
 use Rattle.transyt_syntax.specs.declared.code.Code.{Code}
 use Rattle.transyt_syntax.specs.declared.code.Code.TheVariants as code
-use Rattle.transyt_syntax.specs.Syntax.{Entry, named, is_count, all_numbers, syntax_code, said, unless, first_word, further_words, numbers_of}
-use Rattle.transyt_syntax.specs.Syntax.{entry_of, is_plain}
+use Rattle.transyt_syntax.specs.Syntax.{Entry, named, is_count, all_numbers, syntax_code, said, unless, first_word}
+use Rattle.transyt_syntax.specs.Syntax.{further_words, numbers_of, entry_of, is_plain}
 use Rattle.transyt_deck.specs.declared.card.Card.{Card}
-use Rattle.transyt_deck.specs.Table.{cards}
+use Rattle.transyt_deck.specs.Cards.{cards}
 use Rattle.transyt_deck.specs.Adds.{CanAdd}
 
 -- an entry of cards that can be added

@@ -9,11 +9,10 @@ use Rattle.transyt_outcome.specs.Outcome.{IsSettled, TextRow}
 use Rattle.transyt_outcome.proofs.Head.{headline, complete, too_long_where}
 use Rattle.transyt_outcome.proofs.MoreBytes.{lines_settled}
 use Rattle.transyt_answers.specs.Report.{deck_answering, report, status}
-use Rattle.transyt_words.specs.Whole.{StepsWithin}
+use Rattle.transyt_words.specs.Whole.{StepsWithin, most_of_cut, most_after}
 use Rattle.transyt_deck.specs.declared.reader.CardStop.{CardStop}
 use Rattle.transyt_deck.specs.declared.cut.Cut.{Cut}
-use Rattle.transyt_deck.specs.Cut.{cut_of}
-use Rattle.transyt_words.specs.AfterDeck.{most_of_cut, most_after}
+use Rattle.transyt_deck.specs.Deck.{cut_of}
 use Rattle.transyt.specs.declared.word.Word.{Word}
 use Rattle.transyt.specs.declared.word.Word.TheVariants as w
 use Rattle.transyt.specs.Tasks.{Task, Reads, Writes, task, TaskOutcome, TaskHeadline, TaskComplete}

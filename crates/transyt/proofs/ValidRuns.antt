@@ -23,7 +23,7 @@ use Rattle.transyt_answers.specs.Commands.{judged, said_judged, line_answer, lin
 use Rattle.transyt_answers.specs.Report.{RunState, InDeck, InSession, run_of, run_after, run_state}
 use Rattle.transyt_answers.specs.Steps.{LeadDown}
 use Rattle.transyt_answers.proofs.StepLaws.{climb_leads}
-use Rattle.transyt.specs.Climbs.{ClimbDescends}
+use Rattle.transyt.specs.Reports.{ClimbDescends}
 use Rattle.transyt.proofs.BudgetLaws.{climb_spent}
 use Rattle.transyt.proofs.DeckLaws.{IsDeck, next_is}
 

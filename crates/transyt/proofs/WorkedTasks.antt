@@ -4,7 +4,7 @@ use Rattle.transyt_net.specs.Parts.{Network}
 use Rattle.transyt_outcome.specs.declared.status.Status.TheVariants.{Done, DeckRefused, WriteFault, TooLong}
 use Rattle.transyt_outcome.specs.Outcome.{TextRow}
 use Rattle.transyt_words.specs.Answer.{of_whole, done}
-use Rattle.transyt.specs.Climbs.{Descends}
+use Rattle.transyt.specs.Reports.{Descends}
 use Rattle.transyt.specs.Tasks.{Reads, Writes, TaskHeadline, TaskComplete, TaskTooLong}
 
 -- a text is written whole, or a front of it and the sink failed

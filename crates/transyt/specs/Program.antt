@@ -1,7 +1,7 @@
 -- The program with its words, between a source and a sink.
 use Rattle.std.specs.Prelude.{◌≡◌, ◌≢◌, ◌↔◌, ◌⊎◌, ◌≤◌, ◌++◌, ℕ, List, Option, None, Some, IfSome, drop, length}
 use Rattle.transyt_io.specs.Streams.{Rose}
-use Rattle.transyt_outcome.specs.Exit.{exit_number}
+use Rattle.transyt_outcome.specs.Outcome.{exit_number}
 use Rattle.transyt_outcome.specs.declared.status.Status.{Status}
 use Rattle.transyt_outcome.specs.declared.status.Status.TheVariants.{BadWords, ReadFault, WriteFault, NoMemory}
 use Rattle.transyt_answers.specs.Report.{report, status}

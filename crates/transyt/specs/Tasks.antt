@@ -10,8 +10,7 @@ use Rattle.transyt_outcome.specs.Runs.{StepsTaken}
 use Rattle.transyt_reporter.specs.Brief.{brief_text, brief_steps}
 use Rattle.transyt_answers.specs.Report.{deck_answering, reporting_run}
 use Rattle.transyt_words.specs.Answer.{of_whole}
-use Rattle.transyt_words.specs.Whole.{StepsWithin}
-use Rattle.transyt_words.specs.AfterDeck.{answer_after, most_after}
+use Rattle.transyt_words.specs.Whole.{StepsWithin, answer_after, most_after}
 use Rattle.transyt_words.specs.Audit.{audit_answer, audit_most}
 use Rattle.transyt_words.specs.Counts.{counts_answer}
 use Rattle.transyt_words.specs.Equisat.{equisat_answer}

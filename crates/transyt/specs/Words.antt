@@ -5,7 +5,7 @@ use Rattle.std.specs.Str.{bytes_eq}
 use Rattle.transyt_num.specs.Number.{number_of}
 use Rattle.transyt_scan.specs.Rows.{IsScan, scan_of}
 use Rattle.transyt_scan.specs.declared.word.ScanWord.{ScanWord}
-use Rattle.transyt_words.specs.Asked.{IsStarts, starts_of}
+use Rattle.transyt_words.specs.Plans.{IsStarts, starts_of}
 use Rattle.transyt.specs.declared.town.Town.{Town}
 use Rattle.transyt.specs.declared.word.Word.{Word}
 use Rattle.transyt.specs.declared.word.Word.TheVariants as w

@@ -1,6 +1,6 @@
 //! The end of the program: its number, and its sentence on standard error.
 ghost use Rattle.std.specs.Prelude.{◌≡◌, ◌≢◌, ◌≤◌, ◌↔◌, Ok, Err, IfOk, IfErr, IsSome};
-ghost use Rattle.transyt_outcome.specs.Exit.{exit_number};
+ghost use Rattle.transyt_outcome.specs.Outcome.{exit_number};
 
 use std::io::ErrorKind;
 use transyt_outcome::Status;

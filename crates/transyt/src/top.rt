@@ -2,7 +2,7 @@
 ghost use Rattle.std.specs.Prelude.{◌≡◌, ◌≢◌, ◌≤◌, ◌++◌, ◌↔◌, ℕ, List, Some, None, length, map, string_bytes, IfSome};
 ghost use Rattle.transyt_io.specs.Streams.{Rose};
 ghost use Rattle.transyt_answers.specs.Report.{report, status, run_state};
-ghost use Rattle.transyt.specs.Climbs.{ClimbDescends};
+ghost use Rattle.transyt.specs.Reports.{ClimbDescends};
 ghost use Rattle.transyt.specs.Tasks.{task, task_of, TaskOutcome, TaskHeadline, TaskComplete, TaskTooLong, WordSteps};
 ghost use Rattle.transyt.specs.Tasks.{IsRun, IsWriting};
 ghost use Rattle.transyt.specs.Words.{word_of, IsWord};

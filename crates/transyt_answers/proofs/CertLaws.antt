@@ -4,7 +4,7 @@ use Rattle.std.proofs.Common.{refl, sym, subst, arith}
 use Rattle.std.specs.Result.{IsErr}
 use Rattle.transyt_net.specs.Parts.{Network}
 use Rattle.transyt_net.specs.declared.edit.Edit.{Edit}
-use Rattle.transyt_track.specs.Work.{cert_work}
+use Rattle.transyt_track.specs.Due.{cert_work}
 use Rattle.std.proofs.lemmas.Bool.{leb-true, leb-false}
 use Rattle.transyt_moves.specs.Moves.{move}
 use Rattle.transyt_sweep.specs.Climb.{index_with, tried_at}

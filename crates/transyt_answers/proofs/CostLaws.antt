@@ -3,9 +3,8 @@ use Rattle.std.proofs.Common.{◌≡◌, ℕ, ◌+◌, ◌-◌, ◌*◌, ◌%◌
 use Rattle.std.proofs.Common.{Option, Some, None, IfSome, refl, sym, ◌∙◌, ap, subst, arith, append_assoc}
 use Rattle.std.proofs.lemmas.List.{append-nil, length-map}
 use Rattle.std.proofs.lemmas.List.Sums.{fold-append}
-use Rattle.transyt_parts.specs.Shape.{bare_link}
-use Rattle.transyt_net.specs.Parts.{Network}
-use Rattle.transyt_net.specs.Shape.{shape, SameShape}
+use Rattle.transyt_parts.specs.Made.{bare_link}
+use Rattle.transyt_net.specs.Parts.{Network, shape, SameShape}
 use Rattle.transyt_deck.specs.Deck.{Deck, Complete, next, start}
 use Rattle.transyt_commands.specs.Commands.{command_in}
 use Rattle.transyt_moves.specs.Moves.{move_count}
@@ -13,8 +12,7 @@ use Rattle.transyt_sweep.specs.Climb.{climb}
 use Rattle.transyt_session.specs.Session.{SessionValue}
 use Rattle.transyt_climb.proofs.CountLaws.{shape_moved}
 use Rattle.transyt_outcome.specs.declared.ending.Ending.{Ending}
-use Rattle.transyt_outcome.specs.Turns.{ending_after, costs_after, first_of, unless_ended}
-use Rattle.transyt_outcome.specs.Runs.{costs_by, ending_by}
+use Rattle.transyt_outcome.specs.Runs.{ending_after, costs_after, first_of, unless_ended, costs_by, ending_by}
 use Rattle.transyt_answers.specs.declared.answer.Answer.{Answer}
 use Rattle.transyt_answers.specs.declared.answer.Answer.TheVariants as a
 use Rattle.transyt_answers.specs.Commands.{after_answer, budget_of, line_answer, line_judged, session_after}

@@ -1,10 +1,9 @@
 -- A session after a line has the shape that it had before.
 use Rattle.std.proofs.Common.{Option, None, Some, Result, Ok}
 use Rattle.std.proofs.Common.{Bool, true, false, IfSome, is_some, if◌then◌else◌, refl, sym, ◌∙◌}
-use Rattle.transyt_net.specs.Parts.{Network}
+use Rattle.transyt_net.specs.Parts.{Network, SameShape}
 use Rattle.transyt_net.specs.declared.edit.Edit.{Edit}
 use Rattle.transyt_net.specs.declared.edit.EditFault.{EditFault}
-use Rattle.transyt_net.specs.Shape.{SameShape}
 use Rattle.transyt_net.specs.EditFaults.{edit_fault}
 use Rattle.transyt_net.proofs.KeptLaws.{shape_kept}
 use Rattle.transyt_session.specs.Session.{SessionValue, edited_net, net_with, net_before}

@@ -2,7 +2,7 @@
 use Rattle.std.proofs.Common.{◌≡◌, ℕ, List, ◌++◌, Option, Some, None, false, refl, ap, ◌∙◌}
 use Rattle.std.specs.Fmt.{digits}
 use Rattle.transyt_platoon.specs.Platoon.{smoothed}
-use Rattle.transyt_stopline.specs.LastSteps.{sum_back, greatest}
+use Rattle.transyt_stopline.specs.StopLine.{sum_back, greatest}
 use Rattle.transyt_net.specs.declared.edit.Edit.TheVariants.{Offset}
 use Rattle.transyt_net.specs.Edits.{with_edit}
 use Rattle.transyt_moves.specs.Moves.{move, move_count}
@@ -15,7 +15,7 @@ use Rattle.transyt_net.specs.Parts.{Network}
 use Rattle.transyt_session.specs.Session.{SessionValue}
 use Rattle.transyt_session.specs.WorkedSessions.{begun}
 use Rattle.transyt_text.specs.Forms.{filled, form_line}
-use Rattle.transyt_report.specs.MoveTexts.{end_text}
+use Rattle.transyt_report.specs.Texts.{end_text}
 use Rattle.transyt_answers.specs.declared.answer.Answer.{Answer}
 use Rattle.transyt_answers.specs.declared.answer.Answer.TheVariants as a
 use Rattle.transyt_answers.specs.Commands.{after_answer, answer_text, climb_text, steps_text}

@@ -13,7 +13,7 @@ use Rattle.transyt_audit.specs.declared.verdict.Verdict.{Verdict}
 use Rattle.transyt_audit.specs.declared.verdict.Verdict.TheVariants.{No}
 use Rattle.transyt_audit.specs.declared.truth.Finding.{Finding}
 use Rattle.transyt_audit.specs.declared.truth.Finding.TheVariants.{Wrong, Right, Lower}
-use Rattle.transyt_audit.specs.Given.{agrees}
+use Rattle.transyt_audit.specs.Verdict.{agrees}
 use Rattle.transyt_audit.specs.Findings.{finding_of, finding_at}
 use Rattle.transyt_audit.proofs.Onward.{lowers_there, onward, onward_beyond, onward_wrong, onward_right, noted}
 

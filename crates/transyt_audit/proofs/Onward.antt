@@ -17,8 +17,8 @@ use Rattle.transyt_cert.proofs.CertificateLaws.{lines_certificate}
 use Rattle.transyt_audit.proofs.TrueLines.{length-cert_texts, length-cert_lines, line_at, lowers_is}
 use Rattle.transyt_audit.specs.declared.verdict.Verdict.{Verdict}
 use Rattle.transyt_audit.specs.declared.verdict.Verdict.TheVariants.{Yes, No}
-use Rattle.transyt_audit.specs.Given.{Given, given_from, agrees, first_wrong, first_missing, first_lower}
-use Rattle.transyt_audit.specs.Verdict.{no_or, judged}
+use Rattle.transyt_audit.specs.Verdict.{Given, given_from, agrees, first_wrong, first_missing, first_lower, no_or}
+use Rattle.transyt_audit.specs.Verdict.{judged}
 use Rattle.transyt_audit.specs.Findings.{concluded}
 
 -- whether a move stands at a place that lowers the index

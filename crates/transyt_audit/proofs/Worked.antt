@@ -7,20 +7,18 @@ use Rattle.transyt_syntax.specs.declared.code.Code.TheVariants as code
 use Rattle.transyt_parts.specs.Parts.{PlanValue}
 use Rattle.transyt_delay.specs.declared.figures.Figures.{Figures}
 use Rattle.transyt_platoon.specs.Platoon.{smoothed}
-use Rattle.transyt_stopline.specs.LastSteps.{sum_back, greatest}
+use Rattle.transyt_stopline.specs.StopLine.{sum_back, greatest}
 use Rattle.transyt_net.specs.Parts.{Network}
 use Rattle.transyt_moves.specs.Moves.{move, move_count}
 use Rattle.transyt_sweep.specs.Sweeps.{seen, out_of, evaluated, index}
 use Rattle.transyt_sweep.specs.Climb.{tried_at}
 use Rattle.transyt_sweep.specs.WorkedLinks.{new_figures}
 use Rattle.transyt_sweep.proofs.WorkedFigures.{figures_by_root, its_terms}
-use Rattle.transyt_cert.specs.Texts.{joined, lines_text}
-use Rattle.transyt_cert.specs.Certificate.{CertLine, new_line, cert_lines, move_words, end_words}
+use Rattle.transyt_cert.specs.Certificate.{joined, lines_text, CertLine, new_line, cert_lines, move_words, end_words}
 use Rattle.transyt_cert.proofs.CertificateLaws.{lines_certificate}
 use Rattle.transyt_audit.specs.declared.verdict.Verdict.{Verdict}
 use Rattle.transyt_audit.specs.declared.verdict.Verdict.TheVariants.{Yes, No}
-use Rattle.transyt_audit.specs.Given.{given_from, agrees, first_wrong, first_missing, first_lower}
-use Rattle.transyt_audit.specs.Verdict.{no_or, verdict}
+use Rattle.transyt_audit.specs.Verdict.{given_from, agrees, first_wrong, first_missing, first_lower, no_or, verdict}
 use Rattle.transyt_audit.specs.WorkedVerdicts.{junction, bare, other, bare_lines, other_moves, agreements}
 use Rattle.transyt_audit.specs.WorkedVerdicts.{first_line, spaced_line, changed_line, note}
 

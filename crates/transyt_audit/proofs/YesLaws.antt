@@ -20,10 +20,8 @@ use Rattle.transyt_cert.specs.Certificate.{CertLine, cert_line, cert_lines, cert
 use Rattle.transyt_cert.proofs.CertificateLaws.{lines_certificate}
 use Rattle.transyt_audit.specs.declared.verdict.Verdict.{Verdict}
 use Rattle.transyt_audit.specs.declared.verdict.Verdict.TheVariants.{Yes, No}
-use Rattle.transyt_audit.specs.Given.{Given, given_from, same_words, agrees, first_wrong, first_missing}
-use Rattle.transyt_audit.specs.Given.{first_lower}
-use Rattle.transyt_audit.specs.Verdict.{no_or, judged, verdict}
-use Rattle.transyt_audit.specs.Certified.{IsCertified}
+use Rattle.transyt_audit.specs.Verdict.{Given, given_from, same_words, agrees, first_wrong, first_missing, first_lower}
+use Rattle.transyt_audit.specs.Verdict.{no_or, judged, verdict, IsCertified}
 use Rattle.transyt_audit.proofs.TrueLines.{length-cert_lines, length-cert_texts, line_at, lowers_is}
 
 -- a line of at most 4,096 bytes

@@ -9,8 +9,7 @@ use Rattle.transyt_sweep.specs.Climb.{lowers}
 use Rattle.transyt_cert.specs.Certificate.{cert_texts}
 use Rattle.transyt_audit.specs.declared.truth.Finding.{Finding}
 use Rattle.transyt_audit.specs.declared.truth.Finding.TheVariants.{Wrong, Right, Lower}
-use Rattle.transyt_audit.specs.Given.{agrees}
-use Rattle.transyt_audit.specs.Verdict.{Verdict, Yes, no_or}
+use Rattle.transyt_audit.specs.Verdict.{agrees, Verdict, Yes, no_or}
 
 -- the finding on a line that agrees with the true one or not, where a move stands that lowers the index or not
 abbrev pub finding_of : Bool → Bool → Finding

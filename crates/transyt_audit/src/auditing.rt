@@ -3,8 +3,7 @@
 ghost use Rattle.std.specs.Prelude.{◌≡◌, ◌+◌, ◌*◌, ◌≤◌, length, IfOk};
 ghost use Rattle.transyt_io.specs.Lines.{lines};
 ghost use Rattle.transyt_moves.specs.Moves.{move_count};
-ghost use Rattle.transyt_audit.specs.Given.{given_from};
-ghost use Rattle.transyt_audit.specs.Verdict.{judged, verdict};
+ghost use Rattle.transyt_audit.specs.Verdict.{given_from, judged, verdict};
 
 use crate::truth::{Finding, Truth};
 use crate::verdict::Verdict;

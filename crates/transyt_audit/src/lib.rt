@@ -2,8 +2,7 @@
 //!
 //! It lists the moves itself and evaluates each network from nothing, with no rows kept, so a certificate that another
 //! part of the program wrote is checked by a way of its own. A contract cites `verdict` of `specs/Verdict`, and
-//! `given_from`, `first_wrong`, `first_missing` and `first_lower` of `specs/Given` for its parts. It is this project's
-//! own.
+//! `given_from`, `first_wrong`, `first_missing` and `first_lower` there for its parts. It is this project's own.
 #![tactic(auto)]
 
 mod auditing;

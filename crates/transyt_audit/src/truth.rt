@@ -6,7 +6,7 @@ ghost use Rattle.transyt_moves.specs.Moves.{move_count};
 ghost use Rattle.transyt_sweep.specs.Sweeps.{index};
 ghost use Rattle.transyt_sweep.specs.Climb.{is_below, lowers, tried_at};
 ghost use Rattle.transyt_cert.specs.Certificate.{cert_texts};
-ghost use Rattle.transyt_audit.specs.Given.{agrees};
+ghost use Rattle.transyt_audit.specs.Verdict.{agrees};
 ghost use Rattle.transyt_audit.specs.Findings.{finding_of, finding_at, concluded};
 
 use crate::verdict::Verdict;

@@ -2,7 +2,7 @@
 
 ghost use Rattle.std.specs.Prelude.{◌≡◌};
 ghost use Rattle.transyt_io.specs.Lines.{words};
-ghost use Rattle.transyt_audit.specs.Given.{same_words, agrees};
+ghost use Rattle.transyt_audit.specs.Verdict.{same_words, agrees};
 
 use transyt_io::next_word;
 

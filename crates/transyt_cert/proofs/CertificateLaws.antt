@@ -12,8 +12,7 @@ use Rattle.transyt_net.specs.declared.edit.Edit.TheVariants.{Offset, Change}
 use Rattle.transyt_net.specs.Parts.{Network}
 use Rattle.transyt_moves.specs.Moves.{move_count}
 use Rattle.transyt_sweep.specs.Sweeps.{index}
-use Rattle.transyt_cert.specs.Texts.{joined}
-use Rattle.transyt_cert.specs.Certificate.{CertLine, cert_line, cert_lines, cert_texts, cert_text, edit_words}
+use Rattle.transyt_cert.specs.Certificate.{joined, CertLine, cert_line, cert_lines, cert_texts, cert_text, edit_words}
 use Rattle.transyt_cert.specs.Certificate.{tried_words, move_words, end_words, place_text, last_text}
 use Rattle.transyt_cert.proofs.WordTexts.{AreWords, both_words, number_word, words_joined, IsText}
 use Rattle.transyt_cert.proofs.WordTexts.{joined_text, lines_texts}

@@ -13,7 +13,7 @@ use Rattle.std.proofs.lemmas.Bool.Decides.{nat_tests}
 use Rattle.std.proofs.lemmas.Bool.{and_parts, and_from, not-true, cond_both}
 use Rattle.std.proofs.Math.Nat.{mod-lt}
 use Rattle.transyt_io.specs.Lines.{is_blank, is_some_word, words, cut, lines, line_of}
-use Rattle.transyt_cert.specs.Texts.{spaced, joined, lines_text}
+use Rattle.transyt_cert.specs.Certificate.{spaced, joined, lines_text}
 
 -- a byte of a word: printable ASCII, no blank
 abbrev pub is_word_byte : ℕ → Bool

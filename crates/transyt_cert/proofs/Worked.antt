@@ -2,8 +2,7 @@
 use Rattle.std.proofs.Common.{◌≡◌, codes, Some, None, refl}
 use Rattle.std.specs.Fmt.{digits}
 use Rattle.transyt_net.specs.declared.edit.Edit.TheVariants.{Offset, Change}
-use Rattle.transyt_cert.specs.Texts.{joined}
-use Rattle.transyt_cert.specs.Certificate.{new_line, move_words, end_words}
+use Rattle.transyt_cert.specs.Certificate.{joined, new_line, move_words, end_words}
 
 pub line_of_offset : joined (move_words (new_line 14 (Offset 300 15) (Some 520471746)))
     ≡ codes "MOVE 14 OFFSET 300 15 INDEX 520471746"

@@ -1,5 +1,5 @@
--- The certificate of a network: the index with each move of the list made, line by line.
-use Rattle.std.specs.Prelude.{ℕ, List, [], ◌∷◌, ◌++◌, map, codes, decimal, Option, Some, None}
+-- The certificate of a network: the index with each move of the list made, line by line, and its words as text.
+use Rattle.std.specs.Prelude.{ℕ, List, [], ◌∷◌, ◌++◌, flat_map, map, codes, decimal, Option, Some, None}
 use Rattle.std.specs.List.{range_with_len}
 use Rattle.transyt_net.specs.declared.edit.Edit.{Edit}
 use Rattle.transyt_net.specs.declared.edit.Edit.TheVariants.{Offset, Change}
@@ -7,7 +7,19 @@ use Rattle.transyt_net.specs.Parts.{Network}
 use Rattle.transyt_moves.specs.Moves.{move, move_count}
 use Rattle.transyt_sweep.specs.Sweeps.{index}
 use Rattle.transyt_sweep.specs.Climb.{tried_at}
-use Rattle.transyt_cert.specs.Texts.{joined, lines_text}
+
+-- the words, a blank before each
+abbrev pub spaced : List (List ℕ) → List ℕ
+spaced words = flat_map (λ word. 32 ∷ word) words
+
+-- the words, one blank between two of them
+abbrev pub joined : List (List ℕ) → List ℕ
+joined [] = []
+joined (word ∷ more) = word ++ spaced more
+
+-- the lines of these texts, one line end after each
+abbrev pub lines_text : List (List ℕ) → List ℕ
+lines_text texts = flat_map (λ text. text ++ 10 ∷ []) texts
 
 -- one line of a certificate: the place, the move that stands there, and the index with it, or none where it is barred
 pub record CertLine : Type 0 where

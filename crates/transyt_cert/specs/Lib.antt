@@ -1,2 +1,1 @@
 pub mod Certificate
-pub mod Texts

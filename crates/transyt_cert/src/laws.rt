@@ -6,9 +6,8 @@ ghost use Rattle.transyt_net.specs.declared.edit.Edit.{Edit};
 ghost use Rattle.transyt_net.specs.Parts.{Network};
 ghost use Rattle.transyt_moves.specs.Moves.{move_count};
 ghost use Rattle.transyt_sweep.specs.Sweeps.{index};
-ghost use Rattle.transyt_cert.specs.Texts.{joined};
-ghost use Rattle.transyt_cert.specs.Certificate.{CertLine, new_line, cert_text, cert_texts, move_words, end_words};
-ghost use Rattle.transyt_cert.specs.Certificate.{place_text, last_text};
+ghost use Rattle.transyt_cert.specs.Certificate.{joined, CertLine, new_line, cert_text, cert_texts, move_words};
+ghost use Rattle.transyt_cert.specs.Certificate.{end_words, place_text, last_text};
 
 /// A certificate's text reads back: its lines are its texts, and the words of these are those that were put. It is the
 /// text of each place's line, in the order of the list, and then that of the last line.

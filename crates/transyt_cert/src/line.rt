@@ -1,8 +1,8 @@
 //! The lines of a certificate.
 
 ghost use Rattle.std.specs.Prelude.{◌≡◌, ℕ, ◌+◌, ◌≤◌, ◌++◌, ◌∷◌, [], length, codes, decimal, Some};
-ghost use Rattle.transyt_cert.specs.Texts.{spaced, joined};
-ghost use Rattle.transyt_cert.specs.Certificate.{new_line, edit_words, tried_words, move_words, end_words};
+ghost use Rattle.transyt_cert.specs.Certificate.{spaced, joined, new_line, edit_words, tried_words, move_words};
+ghost use Rattle.transyt_cert.specs.Certificate.{end_words};
 
 use transyt_io::LineBuffer;
 use transyt_net::Edit;

@@ -3,9 +3,8 @@ use Rattle.std.proofs.Common.{◌≡◌, ℕ, ◌+◌, ◌*◌, List, [], ◌∷
 use Rattle.std.specs.List.{flat_map}
 use Rattle.std.proofs.lemmas.List.{length-map}
 use Rattle.transyt_parts.specs.Parts.{NodeValue}
-use Rattle.transyt_parts.specs.Shape.{bare_node, bare_stage}
-use Rattle.transyt_net.specs.Parts.{Network}
-use Rattle.transyt_net.specs.Shape.{shape, SameShape}
+use Rattle.transyt_parts.specs.Made.{bare_node, bare_stage}
+use Rattle.transyt_net.specs.Parts.{Network, shape, SameShape}
 use Rattle.transyt_net.proofs.KeptLaws.{shape_kept}
 use Rattle.transyt_moves.specs.Moves.{node_moves, size_moves, sizes_of, move, move_count}
 use Rattle.transyt_moves.proofs.MoveLaws.{length-node_moves}

@@ -7,7 +7,7 @@ use Rattle.transyt_moves.specs.Moves.{move, move_count}
 use Rattle.transyt_sweep.specs.Sweeps.{index}
 use Rattle.transyt_sweep.specs.Climb.{lowers, moved, Step}
 use Rattle.transyt_session.specs.Session.{SessionValue, credited, lowered, lower_index}
-use Rattle.transyt_track.specs.Work.{edit_work}
+use Rattle.transyt_track.specs.Due.{edit_work}
 use Rattle.transyt_climb.specs.declared.turn.Turn.{Turn}
 use Rattle.transyt_climb.specs.declared.turn.Turn.TheVariants.{Took, Passed, Local, Budget}
 

@@ -4,7 +4,7 @@ use Rattle.transyt_net.specs.Parts.{Network}
 use Rattle.transyt_moves.specs.Moves.{move_count}
 use Rattle.transyt_sweep.specs.Climb.{Climb, Step, after_search, least, lowers, climb}
 use Rattle.transyt_session.specs.Session.{SessionValue}
-use Rattle.transyt_track.specs.Work.{work_of}
+use Rattle.transyt_track.specs.Due.{work_of}
 use Rattle.transyt_climb.specs.declared.turn.Turn.{Turn}
 use Rattle.transyt_climb.specs.declared.turn.Turn.TheVariants.{Passed}
 use Rattle.transyt_climb.specs.Turns.{Machine, answer_of, turns, answers, steps_in, is_local}

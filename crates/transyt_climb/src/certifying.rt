@@ -3,7 +3,7 @@
 ghost use Rattle.std.specs.Prelude.{◌≡◌, ℕ, ◌+◌, ◌^◌, ◌≤◌, ◌<◌, None};
 ghost use Rattle.transyt_moves.specs.Moves.{move, move_count};
 ghost use Rattle.transyt_session.specs.Session.{try_of};
-ghost use Rattle.transyt_track.specs.Work.{edit_work};
+ghost use Rattle.transyt_track.specs.Due.{edit_work};
 ghost use Rattle.transyt_climb.specs.Turns.{certified};
 
 use std::sync::ledger::Ledger;

@@ -3,7 +3,7 @@
 ghost use Rattle.std.specs.Prelude.{◌≡◌, ℕ, ◌+◌, ◌*◌, ◌%◌, ◌^◌, ◌≤◌, ◌<◌, Option, Some, None, if◌then◌else◌};
 ghost use Rattle.transyt_moves.specs.Moves.{move, move_count};
 ghost use Rattle.transyt_sweep.specs.Climb.{lowers, moved};
-ghost use Rattle.transyt_track.specs.Work.{edit_work};
+ghost use Rattle.transyt_track.specs.Due.{edit_work};
 ghost use Rattle.transyt_climb.specs.Turns.{Counters, Machine, machine, start_of, noted, looked_at, found_at, answer_of, turned};
 
 use crate::turn::Turn;

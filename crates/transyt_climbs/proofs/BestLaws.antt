@@ -5,7 +5,7 @@ use Rattle.std.proofs.lemmas.Bool.{cases_lt, cond_both, leb-true, leb-false}
 use Rattle.transyt_climbs.specs.declared.row.PlanRow.{PlanRow}
 use Rattle.transyt_climbs.specs.declared.row.PlanRow.TheVariants as row
 use Rattle.transyt_climbs.specs.declared.ranking.BestRow.{BestRow}
-use Rattle.transyt_climbs.specs.Best.{AreBest, IsBestOf, better, first_lower, end_at, end_index}
+use Rattle.transyt_climbs.specs.Climbs.{AreBest, IsBestOf, better, first_lower, end_at, end_index}
 
 before_or_at : (k n : ℕ) → k < n + 1 → (k < n) ⊎ (k ≡ n)
 before_or_at k n below =

@@ -5,7 +5,7 @@ use Rattle.std.proofs.lemmas.List.FromFn.{fill_by_all}
 use Rattle.transyt_net.specs.Parts.{Network}
 use Rattle.transyt_climbs.specs.declared.row.PlanRow.{PlanRow}
 use Rattle.transyt_climbs.specs.declared.row.PlanRow.TheVariants as row
-use Rattle.transyt_climbs.specs.Plans.{PlanList, row_at, table}
+use Rattle.transyt_climbs.specs.Climbs.{PlanList, row_at, table}
 
 -- where each place holds its row, the rows are the table
 pub table_made : (asked : PlanList) (net : Network) (slots : List (Option PlanRow)) (rows : List PlanRow)

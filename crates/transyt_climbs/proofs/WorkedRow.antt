@@ -5,7 +5,7 @@ use Rattle.std.proofs.lemmas.Bool.Decides.{nat_tests}
 use Rattle.std.specs.Option.{option_map}
 use Rattle.transyt_delay.specs.declared.figures.Figures.{Figures}
 use Rattle.transyt_platoon.specs.Platoon.{smoothed}
-use Rattle.transyt_stopline.specs.LastSteps.{sum_back, greatest}
+use Rattle.transyt_stopline.specs.StopLine.{sum_back, greatest}
 use Rattle.transyt_net.specs.Parts.{Network}
 use Rattle.transyt_moves.specs.Moves.{move, move_count}
 use Rattle.transyt_sweep.specs.Sweeps.{seen, out_of, evaluated}
@@ -15,8 +15,7 @@ use Rattle.transyt_sweep.specs.WorkedLinks.{new_figures}
 use Rattle.transyt_sweep.proofs.WorkedFigures.{figures_by_root, its_terms}
 use Rattle.transyt_net.specs.Edits.{set_offset}
 use Rattle.transyt_climbs.specs.declared.plans.Planned.TheVariants as plan
-use Rattle.transyt_climbs.specs.Plans.{end_of}
-use Rattle.transyt_climbs.specs.Climbs.{row_by, own_climb, climbed_row}
+use Rattle.transyt_climbs.specs.Climbs.{end_of, row_by, own_climb, climbed_row}
 use Rattle.transyt_climbs.specs.WorkedClimbs.{climbed_at, junction}
 
 -- the junction at another offset

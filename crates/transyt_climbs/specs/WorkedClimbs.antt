@@ -10,7 +10,7 @@ use Rattle.transyt_climbs.specs.declared.row.Climbed.{Climbed}
 use Rattle.transyt_climbs.specs.declared.row.PlanRow.{PlanRow}
 use Rattle.transyt_climbs.specs.declared.row.PlanRow.TheVariants as row
 use Rattle.transyt_climbs.specs.Times.{cycle_at, cycle_count, times_of}
-use Rattle.transyt_climbs.specs.Plans.{PlanList}
+use Rattle.transyt_climbs.specs.Climbs.{PlanList}
 
 -- all cycle times, in their order
 abbrev pub listed : CycleTimes → List ℕ

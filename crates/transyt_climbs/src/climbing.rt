@@ -1,8 +1,7 @@
 //! One climb, and its row.
 
 ghost use Rattle.std.specs.Prelude.{◌≡◌, ◌^◌, ◌≤◌, ◌<◌, None, IfOk, IfSome};
-ghost use Rattle.transyt_climbs.specs.Climbs.{climbed_row, own_climb};
-ghost use Rattle.transyt_climbs.specs.Plans.{end_of, row_at, row_of};
+ghost use Rattle.transyt_climbs.specs.Climbs.{climbed_row, own_climb, end_of, row_at, row_of};
 
 use crate::bench::Bench;
 use crate::plans::{Planned, Plans};

@@ -5,9 +5,7 @@ ghost use Rattle.transyt_climb.specs.WorkedTurns.{idle};
 ghost use Rattle.transyt_climbs.specs.declared.plans.Planned.TheVariants as plan;
 ghost use Rattle.transyt_climbs.specs.declared.row.PlanRow.TheVariants as row;
 ghost use Rattle.transyt_climbs.specs.Times.{times_of, times_within};
-ghost use Rattle.transyt_climbs.specs.Climbs.{climbed_row};
-ghost use Rattle.transyt_climbs.specs.Plans.{end_of, row_of, table};
-ghost use Rattle.transyt_climbs.specs.Best.{best};
+ghost use Rattle.transyt_climbs.specs.Climbs.{climbed_row, end_of, row_of, table, best};
 ghost use Rattle.transyt_climbs.specs.WorkedClimbs.{climbed_at, five_rows, four_plans, in_range, junction, listed, no_climbs};
 ghost use Rattle.transyt_climbs.specs.WorkedClimbs.{out_of_range, stayed};
 

@@ -2,7 +2,7 @@
 
 ghost use Rattle.std.specs.Prelude.{◌≡◌, ◌<◌, IfOk};
 ghost use Rattle.transyt_net.specs.Parts.{Network};
-ghost use Rattle.transyt_climbs.specs.Plans.{PlanList};
+ghost use Rattle.transyt_climbs.specs.Climbs.{PlanList};
 
 use std::alloc::{AllocError, Global};
 use transyt_net::Net;

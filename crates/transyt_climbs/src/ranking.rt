@@ -1,7 +1,7 @@
 //! The best row of a table.
 
 ghost use Rattle.std.specs.Prelude.{◌≡◌, length};
-ghost use Rattle.transyt_climbs.specs.Best.{AreBest, best, better, first_lower};
+ghost use Rattle.transyt_climbs.specs.Climbs.{AreBest, best, better, first_lower};
 
 use crate::row::PlanRow;
 

@@ -1,7 +1,7 @@
 //! The table of the climbs.
 
 ghost use Rattle.std.specs.Prelude.{◌≡◌, ◌<◌, ℕ, length, map, Option, Some, IfOk, IfSome, slice_index_or};
-ghost use Rattle.transyt_climbs.specs.Plans.{row_at, table};
+ghost use Rattle.transyt_climbs.specs.Climbs.{row_at, table};
 ghost use Rattle.transyt_climbs.specs.declared.row.PlanRow.{PlanRow};
 
 use crate::bench::Bench;

@@ -7,17 +7,15 @@ use Rattle.std.proofs.lemmas.Bool.Decides.{nat_tests}
 use Rattle.transyt_syntax.specs.declared.code.Code.TheVariants as code
 use Rattle.transyt_parts.specs.declared.link.Feed.{Feed}
 use Rattle.transyt_parts.specs.Parts.{LinkValue}
-use Rattle.transyt_parts.specs.Shape.{bare_feed, bare_link}
+use Rattle.transyt_parts.specs.Made.{bare_feed, bare_link}
 use Rattle.transyt_parts.specs.Valid.{is_fed}
-use Rattle.transyt_net.specs.Parts.{Network}
-use Rattle.transyt_net.specs.Shape.{shape}
+use Rattle.transyt_net.specs.Parts.{Network, shape}
 use Rattle.transyt_net.specs.Valid.{feeds_at, is_among}
 use Rattle.transyt_net.specs.EditFaults.{edit_fault, is_link}
 use Rattle.transyt_net.proofs.ShapeLaws.{same_link_numbers}
 use Rattle.transyt_net.proofs.WriteLaws.{no_fault}
 use Rattle.transyt_counts.specs.declared.key.Key.{Key}
-use Rattle.transyt_counts.specs.Keys.{edit_of}
-use Rattle.transyt_counts.specs.Rows.{key_code}
+use Rattle.transyt_counts.specs.Rows.{edit_of, key_code}
 
 -- a key's code hangs on nothing that an edit sets
 fed_bare : (fs : List Feed) (feeder : ℕ) → is_fed (map bare_feed fs) feeder ≡ is_fed fs feeder

@@ -6,8 +6,8 @@ use Rattle.std.proofs.lemmas.Option.{slice_get_within, get_or_from_slice_get}
 use Rattle.transyt_net.specs.declared.edit.Edit.{Edit}
 use Rattle.transyt_counts.specs.declared.key.Key.{Key}
 use Rattle.transyt_counts.specs.declared.tally.Totals.{Totals}
-use Rattle.transyt_counts.specs.Keys.{edit_of}
-use Rattle.transyt_counts.specs.Tally.{flow_by}
+use Rattle.transyt_counts.specs.Rows.{edit_of}
+use Rattle.transyt_counts.specs.Counts.{flow_by}
 
 -- whether the flow of a key's totals is too great, and the edit of them
 abbrev pub is_too_great : Key × Totals → Bool

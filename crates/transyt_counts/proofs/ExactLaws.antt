@@ -13,12 +13,9 @@ use Rattle.transyt_net.specs.Valid.{IsValid}
 use Rattle.transyt_counts.specs.declared.key.Key.{Key}
 use Rattle.transyt_counts.specs.declared.row.Count.{Count}
 use Rattle.transyt_counts.specs.declared.tally.Totals.{Totals}
-use Rattle.transyt_counts.specs.Keys.{same_key, edit_of}
-use Rattle.transyt_counts.specs.Rows.{key_code}
-use Rattle.transyt_counts.specs.Tally.{keys_of, with_key, totals_of, tally_of, flow_of}
-use Rattle.transyt_counts.specs.Counts.{answer_for, answer_of, read_rows, counts_of}
-use Rattle.transyt_counts.specs.Answer.{CountsValue}
-use Rattle.transyt_counts.specs.Records.{records_of}
+use Rattle.transyt_counts.specs.Rows.{same_key, edit_of, key_code, records_of}
+use Rattle.transyt_counts.specs.Counts.{keys_of, with_key, totals_of, tally_of, flow_of, answer_for, answer_of}
+use Rattle.transyt_counts.specs.Counts.{read_rows, counts_of, CountsValue}
 use Rattle.transyt_counts.specs.Exact.{sets, AreExact}
 use Rattle.transyt_counts.proofs.EntryLaws.{is_too_great, edit_by}
 use Rattle.transyt_counts.proofs.RowLaws.{IsGood}

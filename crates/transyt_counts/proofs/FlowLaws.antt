@@ -18,8 +18,7 @@ use Rattle.transyt_net.proofs.ApplyLaws.{valid_edit}
 use Rattle.transyt_net.proofs.KeptLaws.{shape_kept}
 use Rattle.transyt_net.proofs.PlaceLaws.{eq_swapped}
 use Rattle.transyt_counts.specs.declared.key.Key.{Key}
-use Rattle.transyt_counts.specs.Keys.{same_key, edit_of}
-use Rattle.transyt_counts.specs.Rows.{key_code}
+use Rattle.transyt_counts.specs.Rows.{same_key, edit_of, key_code}
 use Rattle.transyt_counts.specs.Exact.{entry_key, part_key, AreAllowed, set_flow, set_feed, set_link, set_flows}
 use Rattle.transyt_counts.proofs.KeyLaws.{key_same}
 use Rattle.transyt_counts.proofs.CodeLaws.{code_shape, edit_allowed}

@@ -11,8 +11,8 @@ use Rattle.indexmap.specs.IndexMap.{insert_entry}
 use Rattle.transyt_counts.specs.declared.key.Key.{Key}
 use Rattle.transyt_counts.specs.declared.row.Count.{Count}
 use Rattle.transyt_counts.specs.declared.tally.Totals.{Totals}
-use Rattle.transyt_counts.specs.Keys.{same_key}
-use Rattle.transyt_counts.specs.Tally.{with_key, keys_of}
+use Rattle.transyt_counts.specs.Rows.{same_key}
+use Rattle.transyt_counts.specs.Counts.{with_key, keys_of}
 
 -- the same feeder, or none
 feeder_same : (a b : Option ℕ) → option_eq nat_eq a b ≡ true → a ≡ b

@@ -16,11 +16,8 @@ use Rattle.transyt_counts.specs.declared.row.Count.{Count}
 use Rattle.transyt_counts.specs.declared.tally.Totals.{Totals}
 use Rattle.transyt_counts.specs.declared.counts.CountStop.{CountStop}
 use Rattle.transyt_counts.specs.declared.counts.CountStop.TheVariants as stop
-use Rattle.transyt_counts.specs.Keys.{same_key}
-use Rattle.transyt_counts.specs.Records.{records_of}
-use Rattle.transyt_counts.specs.Rows.{read_row}
-use Rattle.transyt_counts.specs.Tally.{more_totals, tally_of, HasRoom, AreCounted}
-use Rattle.transyt_counts.specs.Counts.{read_rows, counts_of, Refuses}
+use Rattle.transyt_counts.specs.Rows.{same_key, records_of, read_row}
+use Rattle.transyt_counts.specs.Counts.{more_totals, tally_of, HasRoom, AreCounted, read_rows, counts_of, Refuses}
 use Rattle.transyt_counts.specs.Progress.{IsReading, RefusesRow}
 use Rattle.transyt_counts.proofs.TextLaws.{records_reached, reached_few}
 use Rattle.transyt_counts.proofs.TallyLaws.{AreFew, tally_push, entries_few}

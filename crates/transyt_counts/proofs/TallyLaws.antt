@@ -11,8 +11,8 @@ use Rattle.indexmap.specs.IndexMap.{insert_entry}
 use Rattle.transyt_counts.specs.declared.key.Key.{Key}
 use Rattle.transyt_counts.specs.declared.row.Count.{Count}
 use Rattle.transyt_counts.specs.declared.tally.Totals.{Totals}
-use Rattle.transyt_counts.specs.Keys.{same_key}
-use Rattle.transyt_counts.specs.Tally.{keys_of, with_key, more_totals, totals_in, totals_of, tally_of}
+use Rattle.transyt_counts.specs.Rows.{same_key}
+use Rattle.transyt_counts.specs.Counts.{keys_of, with_key, more_totals, totals_in, totals_of, tally_of}
 use Rattle.transyt_net.specs.Parts.{Network}
 use Rattle.transyt_counts.proofs.RowLaws.{IsGood}
 use Rattle.transyt_counts.proofs.KeyLaws.{key_same, key_self, key_swapped, keys_of_differ, insert_over, lookup_over, any_with, any_itself}

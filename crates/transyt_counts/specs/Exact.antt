@@ -11,8 +11,8 @@ use Rattle.transyt_net.specs.Edits.{with_edit}
 use Rattle.transyt_net.specs.EditFaults.{edit_fault}
 use Rattle.transyt_counts.specs.declared.key.Key.{Key}
 use Rattle.transyt_counts.specs.declared.row.Count.{Count}
-use Rattle.transyt_counts.specs.Keys.{same_key}
-use Rattle.transyt_counts.specs.Tally.{keys_of, flow_of}
+use Rattle.transyt_counts.specs.Rows.{same_key}
+use Rattle.transyt_counts.specs.Counts.{keys_of, flow_of}
 
 -- the key of a link's entry flow, and of what it takes from a feeder
 abbrev pub entry_key : ℕ → Key

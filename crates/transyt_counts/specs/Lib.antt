@@ -1,8 +1,4 @@
-pub mod Keys
-pub mod Answer
-pub mod Records
 pub mod Rows
-pub mod Tally
 pub mod Counts
 pub mod Progress
 pub mod Exact

@@ -1,17 +1,32 @@
--- A row of a table: what it counts, or its code.
-use Rattle.std.specs.Prelude.{ℕ, true, ◌&&◌, not, nat_le, List, [], ◌∷◌, Option, Some, None, Result, Err, if◌then◌else◌}
-use Rattle.std.specs.Option.{option_map, option_map_or, option_or}
+-- The rows of a table: the records of its bytes, and what each counts, or its code.
+use Rattle.std.specs.Prelude.{ℕ, List, Bool, ◌&&◌, nat_eq, true, not, nat_le, [], ◌∷◌, Option, Some, None, Result, Err}
+use Rattle.std.specs.Prelude.{if◌then◌else◌}
+use Rattle.csv.specs.Reading.{records, default_config, strip_bom}
+use Rattle.std.specs.Option.{option_eq, option_map_or, option_map, option_or}
+use Rattle.transyt_net.specs.declared.edit.Edit.{Edit}
+use Rattle.transyt_net.specs.declared.edit.Edit.TheVariants.{Entry, Part}
+use Rattle.transyt_counts.specs.declared.key.Key.{Key}
 use Rattle.transyt_syntax.specs.declared.code.Code.{Code}
-use Rattle.transyt_syntax.specs.declared.code.Code.TheVariants as code
-use Rattle.transyt_syntax.specs.Findings.{when}
-use Rattle.transyt_syntax.specs.Syntax.{unless}
+use Rattle.transyt_syntax.specs.Syntax.{when, unless}
 use Rattle.transyt_num.specs.Number.{number_of}
 use Rattle.transyt_parts.specs.Valid.{within, is_fed}
 use Rattle.transyt_net.specs.Parts.{Network}
 use Rattle.transyt_net.specs.Valid.{feeds_at}
 use Rattle.transyt_net.specs.EditFaults.{is_link}
-use Rattle.transyt_counts.specs.declared.key.Key.{Key}
 use Rattle.transyt_counts.specs.declared.row.Count.{Count}
+use Rattle.transyt_syntax.specs.declared.code.Code.TheVariants as code
+
+-- the records of a table, each as its fields
+abbrev pub records_of : List ℕ → List (List (List ℕ))
+records_of table = records default_config (strip_bom table)
+
+-- the edit that sets a key's flow: what a link takes from a feeder, or its entry flow where there is none
+abbrev pub edit_of : Key → ℕ → Edit
+edit_of k flow = option_map_or (λ feeder. Part k.link feeder flow) k.feeder (Entry k.link flow)
+
+-- whether two keys are the same flow
+abbrev pub same_key : Key → Key → Bool
+same_key a b = nat_eq a.link b.link && option_eq nat_eq a.feeder b.feeder
 
 -- the feeder that a field names: none where it is empty
 abbrev pub feeder_of : List ℕ → Option (Option ℕ)

@@ -9,7 +9,7 @@ use Rattle.transyt_net.specs.WorkedNets.{of, signals, streets}
 use Rattle.transyt_counts.specs.declared.row.Count.{Count}
 use Rattle.transyt_counts.specs.declared.counts.CountStop.{CountStop}
 use Rattle.transyt_counts.specs.declared.counts.CountStop.TheVariants as stop
-use Rattle.transyt_counts.specs.Answer.{CountsValue}
+use Rattle.transyt_counts.specs.Counts.{CountsValue}
 
 -- a row of four fields
 abbrev pub fields : List ℕ → List ℕ → List ℕ → List ℕ → List (List ℕ)

@@ -4,13 +4,11 @@ ghost use Rattle.std.specs.Prelude.{◌≡◌, ℕ, ◌+◌, ◌<◌, ◌≤◌,
 ghost use Rattle.indexmap.specs.IndexMap.{get, insert_entry};
 ghost use Rattle.csv.specs.Reading.{ReadRecord, source_of, strip_bom, reader_state};
 ghost use Rattle.csv.specs.declared.parser.State.TheVariants as st;
-ghost use Rattle.transyt_counts.specs.Records.{records_of};
-ghost use Rattle.transyt_counts.specs.Counts.{read_rows, counts_of, tally_answer, Refuses};
+ghost use Rattle.transyt_counts.specs.Rows.{records_of, same_key, read_row};
+ghost use Rattle.transyt_counts.specs.Counts.{read_rows, counts_of, tally_answer, Refuses, flow_by, more_totals};
+ghost use Rattle.transyt_counts.specs.Counts.{tally_of, HasRoom, AreCounted};
 ghost use Rattle.transyt_counts.specs.Exact.{AreExact};
 ghost use Rattle.csv.specs.Records.{fields_of};
-ghost use Rattle.transyt_counts.specs.Keys.{same_key};
-ghost use Rattle.transyt_counts.specs.Rows.{read_row};
-ghost use Rattle.transyt_counts.specs.Tally.{flow_by, more_totals, tally_of, HasRoom, AreCounted};
 ghost use Rattle.transyt_counts.specs.Progress.{IsReading, RefusesRow};
 ghost use Rattle.transyt_counts.specs.declared.row.Count.{Count};
 

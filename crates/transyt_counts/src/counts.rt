@@ -14,7 +14,7 @@ pub struct Counts {
 }
 
 impl Model for Counts {
-    ghost use Rattle.transyt_counts.specs.Answer.{CountsValue};
+    ghost use Rattle.transyt_counts.specs.Counts.{CountsValue};
 
     ghost Value = { CountsValue };
 

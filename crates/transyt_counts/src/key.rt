@@ -1,7 +1,7 @@
 //! The flow that a row counts.
 
 ghost use Rattle.std.specs.Prelude.{◌≡◌};
-ghost use Rattle.transyt_counts.specs.Keys.{edit_of};
+ghost use Rattle.transyt_counts.specs.Rows.{edit_of};
 
 use transyt_net::Edit;
 

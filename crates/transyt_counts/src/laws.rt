@@ -1,10 +1,9 @@
 //! Laws about the definitions.
 ghost use Rattle.std.specs.Prelude.{◌≡◌, map};
 ghost use Rattle.transyt_net.specs.WorkedNets.{town};
-ghost use Rattle.transyt_counts.specs.Counts.{answer_of, counts_of, read_rows};
+ghost use Rattle.transyt_counts.specs.Counts.{answer_of, counts_of, read_rows, flow_of, keys_of};
 ghost use Rattle.transyt_counts.specs.Exact.{AreExact, set_flows};
 ghost use Rattle.transyt_counts.specs.Rows.{read_row};
-ghost use Rattle.transyt_counts.specs.Tally.{flow_of, keys_of};
 ghost use Rattle.transyt_counts.specs.WorkedTables.{worked_rows, worked_tables, worked_texts};
 ghost use Rattle.transyt_counts.specs.WorkedTables.{fed_count, four_counts, three_edits, two_counts};
 ghost use Rattle.transyt_counts.specs.WorkedTables.{town_of_fed, town_of_two};

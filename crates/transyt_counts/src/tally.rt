@@ -2,8 +2,8 @@
 
 ghost use Rattle.std.specs.Prelude.{◌≡◌, OnOk, IfSome};
 ghost use Rattle.indexmap.specs.IndexMap.{get, insert_entry};
-ghost use Rattle.transyt_counts.specs.Keys.{same_key};
-ghost use Rattle.transyt_counts.specs.Tally.{more_totals, HasRoom};
+ghost use Rattle.transyt_counts.specs.Rows.{same_key};
+ghost use Rattle.transyt_counts.specs.Counts.{more_totals, HasRoom};
 
 use crate::key::Key;
 use crate::row::Count;

@@ -11,14 +11,14 @@ use Rattle.transyt_deck.specs.declared.state.State.TheVariants as s
 use Rattle.std.specs.Result.{IsErrAnd}
 use Rattle.std.proofs.lemmas.Grind.{common_steps}
 use Rattle.transyt_net.specs.Parts.{Network}
-use Rattle.transyt_net.specs.Refuses.{Refuses}
+use Rattle.transyt_net.specs.Faults.{Refuses}
 use Rattle.transyt_net.specs.declared.draft.DraftFault.{DraftFault}
 use Rattle.transyt_net.specs.declared.draft.DraftFault.TheVariants.{Memory}
 use Rattle.transyt_deck.specs.declared.state.Part.{Part}
 use Rattle.transyt_deck.specs.declared.state.Stop.{Stop}
 use Rattle.transyt_deck.specs.Adds.{Adds, stopped}
-use Rattle.transyt_deck.specs.Cut.{after_lines}
-use Rattle.transyt_deck.specs.Deck.{Complete, Deck, Open, Refused, deck, deck_at, deck_by, start, code_of, is_complete, is_open, line_count, next}
+use Rattle.transyt_deck.specs.Deck.{after_lines, Complete, Deck, Open, Refused, deck, deck_at, deck_by, start, code_of}
+use Rattle.transyt_deck.specs.Deck.{is_complete, is_open, line_count, next}
 use Rattle.transyt_deck.specs.State.{placed, state_after}
 
 -- a card in its place that the network refuses, or has no memory for

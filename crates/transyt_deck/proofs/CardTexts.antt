@@ -12,14 +12,13 @@ use Rattle.std.proofs.lemmas.Bool.{and_from}
 use Rattle.transyt_io.specs.Lines.{is_blank, is_skipped, words}
 use Rattle.transyt_syntax.specs.declared.code.Code.{Code}
 use Rattle.transyt_syntax.specs.declared.code.Code.TheVariants as code
-use Rattle.transyt_syntax.specs.Findings.{first_found, when}
-use Rattle.transyt_syntax.specs.Syntax.{Entry, all_numbers, counts_of, entry_of, first_word, further_words, is_count}
-use Rattle.transyt_syntax.specs.Syntax.{is_plain, named, numbers_of, said, says_of, syntax_code, unless}
+use Rattle.transyt_syntax.specs.Syntax.{first_found, when, Entry, all_numbers, counts_of, entry_of, first_word}
+use Rattle.transyt_syntax.specs.Syntax.{further_words, is_count, is_plain, named, numbers_of, said, says_of}
+use Rattle.transyt_syntax.specs.Syntax.{syntax_code, unless}
 use Rattle.transyt_deck.specs.declared.card.Card.{Card}
 use Rattle.transyt_deck.specs.declared.card.Card.TheVariants as c
 use Rattle.transyt_text.specs.Forms.{values_text}
-use Rattle.transyt_deck.specs.Cards.{card_text, card_words}
-use Rattle.transyt_deck.specs.Table.{cards}
+use Rattle.transyt_deck.specs.Cards.{card_text, card_words, cards}
 use Rattle.transyt_deck.proofs.NumberTexts.{is_small, numbers_back, numbers_plain, numbers_short}
 use Rattle.transyt_deck.proofs.NumberTexts.{words_text}
 

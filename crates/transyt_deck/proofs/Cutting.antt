@@ -6,9 +6,8 @@ use Rattle.transyt_io.specs.Lines.{after_first_line, lines}
 use Rattle.transyt_deck.specs.declared.reader.CardStop.{CardStop}
 use Rattle.transyt_deck.specs.declared.reader.CardStop.TheVariants as stop
 use Rattle.transyt_deck.specs.declared.cut.Cut.{Cut}
-use Rattle.transyt_deck.specs.Cut.{RefusesDeck, after_lines, cut_at, cut_of}
-use Rattle.transyt_deck.specs.Deck.{Complete, Deck, Open, Refused, deck, is_complete, is_open, line_count, next}
-use Rattle.transyt_deck.specs.Reader.{Answers}
+use Rattle.transyt_deck.specs.Deck.{RefusesDeck, after_lines, cut_at, cut_of, Complete, Deck, Open, Refused, deck}
+use Rattle.transyt_deck.specs.Deck.{is_complete, is_open, line_count, next, Answers}
 use Rattle.transyt_deck.proofs.Adding.{after_more, count_next, stays_complete, stays_refused}
 
 -- the lines of the input that were taken, and those of the rest

@@ -9,8 +9,7 @@ use Rattle.transyt_deck.proofs.CardTexts.{Fits}
 use Rattle.std.proofs.lemmas.Bool.Decides.{nat_tests}
 use Rattle.transyt_io.specs.Lines.{lines}
 use Rattle.transyt_syntax.specs.declared.code.Code.TheVariants as code
-use Rattle.transyt_syntax.specs.Findings.{when}
-use Rattle.transyt_syntax.specs.Syntax.{unless}
+use Rattle.transyt_syntax.specs.Syntax.{when, unless}
 use Rattle.transyt_parts.specs.declared.frame.Frame.{Frame}
 use Rattle.transyt_parts.specs.declared.stage_plan.PlanFault.{PlanFault}
 use Rattle.transyt_parts.specs.Parts.{PlanValue}

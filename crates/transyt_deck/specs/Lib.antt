@@ -1,10 +1,7 @@
 pub mod Adds
 pub mod Cards
-pub mod Cut
 pub mod Deck
-pub mod Reader
 pub mod State
-pub mod Table
 pub mod WorkedCodes
 pub mod WorkedTown
 pub mod WorkedVillage

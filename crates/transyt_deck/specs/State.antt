@@ -3,8 +3,7 @@ use Rattle.std.specs.Prelude.{ℕ, Bool, not, nat_le, if◌then◌else◌, ◌==
 use Rattle.std.specs.Prelude.{option_map, Result, Ok, Err}
 use Rattle.transyt_syntax.specs.declared.code.Code.{Code}
 use Rattle.transyt_syntax.specs.declared.code.Code.TheVariants as code
-use Rattle.transyt_syntax.specs.Findings.{when}
-use Rattle.transyt_syntax.specs.Syntax.{unless, said}
+use Rattle.transyt_syntax.specs.Syntax.{when, unless, said}
 use Rattle.transyt_parts.specs.declared.stage_plan.PlanFault.{PlanFault}
 use Rattle.transyt_parts.specs.declared.stage_plan.PlanFault.TheVariants as plan
 use Rattle.transyt_parts.specs.Valid.{within, is_frame}
@@ -21,7 +20,7 @@ pub use Rattle.transyt_deck.specs.declared.state.Part.{Part}
 use Rattle.transyt_deck.specs.declared.state.Part.TheVariants as p
 pub use Rattle.transyt_deck.specs.declared.state.State.{State}
 use Rattle.transyt_deck.specs.declared.state.State.TheVariants as s
-use Rattle.transyt_deck.specs.Table.{cards}
+use Rattle.transyt_deck.specs.Cards.{cards}
 
 -- the place of a part in the order of the parts
 abbrev pub rank : Part → ℕ

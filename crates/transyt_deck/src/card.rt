@@ -2,7 +2,7 @@
 ghost use Rattle.std.specs.Prelude.{◌≡◌, ◌≤◌, drop, length, true, IfSome, IfOk};
 ghost use Rattle.transyt_syntax.specs.Syntax.{at, named, is_count, said, with_numbers};
 ghost use Rattle.transyt_parts.specs.Made.{new_stage, new_feed, new_rule};
-ghost use Rattle.transyt_deck.specs.Table.{cards, frame_of, new_link_of};
+ghost use Rattle.transyt_deck.specs.Cards.{cards, frame_of, new_link_of};
 ghost use Rattle.transyt_deck.specs.Adds.{CanAdd};
 ghost use Rattle.transyt_deck.specs.declared.card.Card.TheVariants as card;
 

@@ -1,7 +1,6 @@
 //! The deck at the front of bytes, and where it ends.
 ghost use Rattle.std.specs.Prelude.{◌≡◌, ◌≤◌, length, IsTrue, IfOk, IfErr, Ok};
-ghost use Rattle.transyt_deck.specs.Reader.{may_finish};
-ghost use Rattle.transyt_deck.specs.Cut.{cut_at, cut_of, RefusesDeck};
+ghost use Rattle.transyt_deck.specs.Deck.{may_finish, cut_at, cut_of, RefusesDeck};
 
 use crate::reader::{CardReader, CardStop, Progress};
 use std::alloc::Global;

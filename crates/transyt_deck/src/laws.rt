@@ -6,12 +6,10 @@ ghost use Rattle.transyt_net.specs.Valid.{IsValid};
 ghost use Rattle.transyt_syntax.specs.declared.code.Code.TheVariants as c;
 ghost use Rattle.transyt_deck.specs.declared.reader.CardStop.TheVariants as stop;
 ghost use Rattle.transyt_deck.specs.Cards.{deck_cards, deck_text};
-ghost use Rattle.transyt_deck.specs.Deck.{deck, code, next, start, Complete, Refused};
+ghost use Rattle.transyt_deck.specs.Deck.{deck, code, next, start, Complete, Refused, cut_of, finished, Answers};
 ghost use Rattle.transyt_deck.specs.WorkedCodes.{coded, each_card, numbered, places};
 ghost use Rattle.transyt_deck.specs.WorkedTown.{town, town_net, town_text};
 ghost use Rattle.transyt_deck.specs.WorkedVillage.{bytes_of, cuts, finishes, village, village_net};
-ghost use Rattle.transyt_deck.specs.Cut.{cut_of};
-ghost use Rattle.transyt_deck.specs.Reader.{finished, Answers};
 
 /// The deck text of a valid network reads back as that network, with END at its last line.
 #[tactic(auto, using(crate::proofs::ReadBack::deck_read_back))]

@@ -1,10 +1,10 @@
 //! Cards, taken line by line.
 ghost use Rattle.std.specs.Prelude.{◌≡◌, ◌<◌, ℕ, true, IsTrue, OnOk, OnErr};
 ghost use Rattle.std.specs.Option.{option_map};
-ghost use Rattle.transyt_deck.specs.Deck.{start, next, line_count, network_in, Open};
+ghost use Rattle.transyt_deck.specs.Deck.{start, next, line_count, network_in, Open, Answers, goes_on, may_finish};
+ghost use Rattle.transyt_deck.specs.Deck.{finished};
 ghost use Rattle.transyt_deck.specs.State.{form_of};
 ghost use Rattle.transyt_deck.specs.declared.state.State.{State};
-ghost use Rattle.transyt_deck.specs.Reader.{Answers, goes_on, may_finish, finished};
 
 use crate::state::{Part, State, Stop, take_line};
 use std::alloc::Global;
@@ -47,8 +47,7 @@ pub struct CardReader {
 
 impl Model for CardReader {
     ghost use Rattle.std.specs.Prelude.{◌≡◌, ◌≤◌, true};
-    ghost use Rattle.transyt_deck.specs.Deck.{deck_at, is_open};
-    ghost use Rattle.transyt_deck.specs.Reader.{ReaderValue};
+    ghost use Rattle.transyt_deck.specs.Deck.{deck_at, is_open, ReaderValue};
     ghost use Rattle.transyt_deck.specs.Adds.{IsTiedState};
 
     ghost Value = { ReaderValue };

@@ -3,8 +3,7 @@ use Rattle.std.proofs.Common.{◌≡◌, ℕ, ◌+◌, ◌-◌, ◌*◌, ◌/◌
 use Rattle.transyt_num.proofs.RootLaws.{root_is}
 use Rattle.transyt_delay.specs.declared.terms.Terms.{Terms}
 use Rattle.transyt_delay.specs.declared.figures.Figures.{Figures}
-use Rattle.transyt_delay.specs.Index.{index_of}
-use Rattle.transyt_delay.specs.Figures.{figures, in_period, stops_of, under_root, uniform_of}
+use Rattle.transyt_delay.specs.Figures.{index_of, figures, in_period, stops_of, under_root, uniform_of}
 use Rattle.transyt_delay.specs.WorkedLinks.{usual, great_penalty, short_period, oversaturated, worked}
 
 -- the arrivals of the period

@@ -1,12 +1,17 @@
--- The figures of a link.
-use Rattle.std.specs.Prelude.{ℕ, ◌+◌, ◌-◌, ◌*◌, ◌/◌, ◌^◌, ◌<◌, ◌≤◌}
+-- The figures of a link, its part of the performance index among them.
+use Rattle.std.specs.Prelude.{ℕ, ◌+◌, ◌*◌, ◌/◌, ◌-◌, ◌^◌, ◌<◌, ◌≤◌}
+use Rattle.transyt_parts.specs.declared.link.Weights.{Weights}
 use Rattle.std.specs.Int.{abs_diff}
 use Rattle.transyt_num.specs.Root.{root}
 use Rattle.transyt_parts.specs.Valid.{AreWeights}
-use Rattle.transyt_delay.specs.Index.{index_of}
 use Rattle.transyt_delay.specs.declared.terms.Terms.{Terms}
 use Rattle.transyt_delay.specs.declared.terms.TermsFrame.{TermsFrame}
 use Rattle.transyt_delay.specs.declared.figures.Figures.{Figures}
+
+-- weighted delay and weighted stops; a stop weighs its penalty in hundredths, rounded down
+abbrev pub index_of : (uniform random stops stop_penalty : ℕ) → Weights → ℕ
+index_of uniform random stops stop_penalty weights =
+    weights.delay * (uniform + random) + weights.stop * stop_penalty * stops / 100
 
 -- the limits that the figures need
 pub record InLimits (terms : Terms) : Type 0 where

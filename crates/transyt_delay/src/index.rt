@@ -2,7 +2,7 @@
 
 ghost use Rattle.std.specs.Prelude.{◌≡◌, ◌^◌, ◌<◌, ◌≤◌};
 ghost use Rattle.transyt_parts.specs.Valid.{AreWeights};
-ghost use Rattle.transyt_delay.specs.Index.{index_of};
+ghost use Rattle.transyt_delay.specs.Figures.{index_of};
 
 use transyt_parts::Weights;
 

@@ -7,7 +7,7 @@ use Rattle.std.proofs.lemmas.List.{length-replicate, get_or-replicate, replicate
 use Rattle.std.proofs.lemmas.List.{length-set, length-drop}
 use Rattle.std.proofs.lemmas.List.{get_or-map as get_or-map-at}
 use Rattle.std.proofs.lemmas.Grind.{get_or_after_one}
-use Rattle.transyt_net.specs.Shape.{SameShape, shape as shape_word}
+use Rattle.transyt_net.specs.Parts.{SameShape, shape as shape_word}
 use Rattle.transyt_moves.specs.Moves.{move_count}
 use Rattle.transyt_session.specs.Session.{SessionValue, opened}
 use Rattle.transyt_desks.specs.declared.desk.Desk.{Desk}

@@ -8,14 +8,13 @@ use borrow.Author.Count.{below_more}
 use Rattle.std.proofs.lemmas.Nat.{mod_below}
 use Rattle.transyt_net.specs.Parts.{Network}
 use Rattle.transyt_moves.specs.Moves.{move}
-use Rattle.transyt_track.specs.Work.{edit_work}
+use Rattle.transyt_track.specs.Due.{edit_work}
 use Rattle.transyt_session.specs.declared.answers.Tried.{Tried}
 use Rattle.transyt_session.specs.Session.{SessionValue, try_of}
 use Rattle.transyt_desks.specs.declared.desk.Desk.{Desk}
 use Rattle.transyt_desks.specs.declared.stretch.Reach.{Reach}
-use Rattle.transyt_desks.specs.Stretches.{IsReach, place_at}
+use Rattle.transyt_desks.specs.Stretches.{IsReach, place_at, AreFinds, AreFound, AreTriesAt, HasFound}
 use Rattle.transyt_desks.specs.Desks.{desk_zero, no_desk, sessions_of, AreAligned}
-use Rattle.transyt_desks.specs.Finds.{AreFinds, AreFound, AreTriesAt, HasFound}
 use Rattle.transyt_desks.proofs.DeskLaws.{session_is, sessions_count}
 
 -- one try more

@@ -6,7 +6,7 @@ use Rattle.transyt_climb.specs.declared.turn.Turn.{Turn}
 use Rattle.transyt_climb.specs.declared.turn.Turn.TheVariants.{Passed}
 use Rattle.transyt_moves.specs.Moves.{move}
 use Rattle.transyt_sweep.specs.Climb.{lowers}
-use Rattle.transyt_track.specs.Work.{edit_work}
+use Rattle.transyt_track.specs.Due.{edit_work}
 use Rattle.transyt_session.specs.Session.{SessionValue, credited}
 use Rattle.transyt_climb.specs.Turns.{Counters, Machine, machine, answer_of, noted, turned, turns}
 use Rattle.transyt_climb.specs.Way.{IsRound}

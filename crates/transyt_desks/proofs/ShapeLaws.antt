@@ -1,7 +1,6 @@
 -- Turns keep the shape of the network, since a move sets an offset or a change.
 use Rattle.std.proofs.Common.{ℕ, zero, suc, Bool, true, false, if◌then◌else◌, refl, ap, ◌∙◌}
-use Rattle.transyt_net.specs.Parts.{Network}
-use Rattle.transyt_net.specs.Shape.{SameShape, shape as shape_word}
+use Rattle.transyt_net.specs.Parts.{Network, SameShape, shape as shape_word}
 use Rattle.transyt_sweep.specs.Climb.{lowers, moved, tried_at}
 use Rattle.transyt_climb.specs.declared.turn.Turn.{Turn}
 use Rattle.transyt_climb.specs.declared.turn.Turn.TheVariants.{Took, Passed, Local, Budget}

@@ -6,7 +6,7 @@ use Rattle.transyt_net.specs.Parts.{Network}
 use Rattle.transyt_moves.specs.Moves.{move}
 use Rattle.transyt_sweep.specs.Climb.{lowers}
 use Rattle.transyt_sweep.specs.Sweeps.{index}
-use Rattle.transyt_track.specs.Work.{edit_work}
+use Rattle.transyt_track.specs.Due.{edit_work}
 use Rattle.transyt_session.specs.declared.answers.Tried.{Tried}
 use Rattle.transyt_session.specs.Session.{try_of}
 use Rattle.transyt_desks.specs.declared.stretch.Stretch.{Stretch}

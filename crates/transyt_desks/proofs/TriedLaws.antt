@@ -9,7 +9,7 @@ use Rattle.transyt_net.specs.EditFaults.{edit_fault}
 use Rattle.transyt_moves.specs.Moves.{move}
 use Rattle.transyt_sweep.specs.Sweeps.{index}
 use Rattle.transyt_sweep.specs.Climb.{lowers, moved, is_below, index_with, tried_at}
-use Rattle.transyt_track.specs.Work.{edit_work, work_with}
+use Rattle.transyt_track.specs.Due.{edit_work, work_with}
 use Rattle.transyt_session.specs.Session.{try_of, tried_with}
 use Rattle.transyt_climb.specs.declared.turn.Turn.TheVariants.{Took, Passed, Local, Budget}
 use Rattle.transyt_climb.specs.Turns.{Machine, machine, look_answer, answer_of, after_answer, turned, noted}

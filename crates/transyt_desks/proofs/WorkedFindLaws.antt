@@ -1,13 +1,12 @@
 -- The worked tries, computed from the definitions.
 use Rattle.std.proofs.Common.{◌≡◌, ◌+◌, ◌<◌, ◌≤◌, ℕ, zero, suc, slice_index_or, refl, ◌∙◌, arith, lit<, lit≤}
 use Rattle.transyt_moves.specs.Moves.{move}
-use Rattle.transyt_track.specs.Due.{due_in, due_through, due}
-use Rattle.transyt_track.specs.Work.{edit_work}
+use Rattle.transyt_track.specs.Due.{due_in, due_through, due, edit_work}
 use Rattle.transyt_session.specs.declared.answers.Tried.{Tried}
 use Rattle.transyt_session.specs.declared.answers.Tried.TheVariants.{Barred, Index}
 use Rattle.transyt_session.specs.Session.{try_of}
 use Rattle.transyt_climb.specs.WorkedTurns.{idle}
-use Rattle.transyt_desks.specs.Finds.{AreTriesOf}
+use Rattle.transyt_desks.specs.Stretches.{AreTriesOf}
 use Rattle.transyt_desks.specs.WorkedDesks.{idle_tries}
 
 -- each try

@@ -1,7 +1,5 @@
 pub mod Stretches
 pub mod Desks
-pub mod Finds
 pub mod Rounds
-pub mod Lends
 pub mod WorkedRounds
 pub mod WorkedDesks

@@ -1,7 +1,7 @@
 //! One desk, and many that follow the first.
 
 ghost use Rattle.std.specs.Prelude.{◌≡◌, ℕ, ◌+◌, ◌<◌, ◌≤◌, length, List, All, None, slice_index_or, ◌↔◌, IsTrue};
-ghost use Rattle.transyt_net.specs.Shape.{SameShape};
+ghost use Rattle.transyt_net.specs.Parts.{SameShape};
 ghost use Rattle.transyt_desks.specs.Desks.{AreAlike, AreAligned, OthersClosed, sessions_of, desk_zero};
 
 use crate::equal::same_net;

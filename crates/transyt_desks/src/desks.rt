@@ -3,13 +3,11 @@
 ghost use Rattle.std.specs.Prelude.{◌≡◌, ℕ, ◌+◌, ◌*◌, ◌^◌, ◌<◌, ◌≤◌, ◌↔◌, [], ◌∷◌, ◌++◌, length, None, true, false, IfOk, OnOk, IsTrue};
 ghost use Rattle.std.specs.Borrow.{sem};
 ghost use Rattle.transyt_climb.specs.Turns.{machine};
-ghost use Rattle.transyt_desks.specs.Desks.{desk_zero, new_desk, opened_desks, AreAligned, AreAlike};
-ghost use Rattle.transyt_desks.specs.Finds.{AreTriesOf};
-ghost use Rattle.transyt_desks.specs.Lends.{LendsZero};
+ghost use Rattle.transyt_desks.specs.Desks.{desk_zero, new_desk, opened_desks, AreAligned, AreAlike, LendsZero};
+ghost use Rattle.transyt_desks.specs.Stretches.{AreTriesOf, IsReach, IsStretch};
 ghost use Rattle.transyt_moves.specs.Moves.{move_count};
 ghost use Rattle.transyt_session.specs.Session.{SessionValue};
 ghost use Rattle.transyt_desks.specs.Rounds.{places_of, CanRound, MakesRound};
-ghost use Rattle.transyt_desks.specs.Stretches.{IsReach, IsStretch};
 
 use crate::crew::Crew;
 use crate::desk::{Desk, all_same, follow_zero};

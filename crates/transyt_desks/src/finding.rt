@@ -4,11 +4,10 @@ ghost use Rattle.std.specs.Thread.{IsSync};
 ghost use Rattle.std.specs.Prelude.{◌≡◌, ℕ, ◌+◌, ◌*◌, ◌^◌, ◌<◌, ◌≤◌, length, None, All, slice_index_or};
 ghost use Rattle.transyt_moves.specs.Moves.{move, move_count};
 ghost use Rattle.transyt_sweep.specs.Sweeps.{index};
-ghost use Rattle.transyt_track.specs.Work.{edit_work};
+ghost use Rattle.transyt_track.specs.Due.{edit_work};
 ghost use Rattle.transyt_session.specs.Session.{try_of};
 ghost use Rattle.transyt_desks.specs.Desks.{AreAligned, OthersClosed, desk_zero, sessions_of};
-ghost use Rattle.transyt_desks.specs.Finds.{AreFinds, AreFound, AreTriesOf, HasFound};
-ghost use Rattle.transyt_desks.specs.Stretches.{IsReach, IsStretch, place_at};
+ghost use Rattle.transyt_desks.specs.Stretches.{AreFinds, AreFound, AreTriesOf, HasFound, IsReach, IsStretch, place_at};
 ghost use Rattle.transyt_desks.specs.declared.desk.Desk.{Desk};
 
 use crate::crew::Crew;

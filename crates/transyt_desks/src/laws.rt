@@ -4,7 +4,7 @@ ghost use Rattle.std.specs.Prelude.{◌≡◌, map, None, Some};
 ghost use Rattle.transyt_session.specs.WorkedSessions.{in_trial};
 ghost use Rattle.transyt_climb.specs.WorkedTurns.{idle, junctions_session};
 ghost use Rattle.transyt_desks.specs.Desks.{AreAligned, AreAlike, desk_zero, opened_desks, with_zero};
-ghost use Rattle.transyt_desks.specs.Finds.{AreTriesOf};
+ghost use Rattle.transyt_desks.specs.Stretches.{AreTriesOf};
 ghost use Rattle.transyt_desks.specs.Rounds.{is_took, places_of, room_of, turns_of, up_to};
 ghost use Rattle.transyt_desks.specs.WorkedDesks.{idle_tries, seven_left, trial_first, trial_second, unlike};
 ghost use Rattle.transyt_desks.specs.WorkedRounds.{three_desks, worked_places, worked_rooms, worked_rounds};

@@ -9,11 +9,10 @@ use Rattle.transyt_parts.specs.Plan.{no_stage}
 use Rattle.transyt_net.specs.Parts.{Network, node_of, no_node}
 use Rattle.transyt_net.specs.Valid.{IsValid}
 use Rattle.transyt_equisat.specs.declared.fraction.Fraction.{Fraction}
-use Rattle.transyt_equisat.specs.Fractions.{is_above}
-use Rattle.transyt_equisat.specs.Demands.{no_demand}
+use Rattle.transyt_equisat.specs.Degrees.{is_above}
+use Rattle.transyt_equisat.specs.Sharing.{no_demand, asked_of, IsAsked}
 use Rattle.transyt_equisat.specs.Peaks.{greens_of, lost}
 use Rattle.transyt_equisat.specs.Balance.{first_green, least_greens, greens_at}
-use Rattle.transyt_equisat.specs.Asked.{asked_of, IsAsked}
 use Rattle.transyt_equisat.proofs.SettingLaws.{IsSetting, setting_of}
 use Rattle.transyt_equisat.proofs.PeakLaws.{demand_count}
 use Rattle.transyt_equisat.proofs.FilledLaws.{demand_live}

@@ -10,12 +10,9 @@ use Rattle.transyt_parts.specs.Plan.{stage_of}
 use Rattle.transyt_net.specs.Parts.{Network}
 use Rattle.transyt_equisat.specs.declared.fraction.Fraction.{Fraction}
 use Rattle.transyt_equisat.specs.declared.demand.Demand.{Demand}
-use Rattle.transyt_equisat.specs.Fractions.{is_above}
-use Rattle.transyt_equisat.specs.Degrees.{counts_in, degree}
-use Rattle.transyt_equisat.specs.Demands.{degree_of, no_demand}
+use Rattle.transyt_equisat.specs.Degrees.{is_above, counts_in, degree}
+use Rattle.transyt_equisat.specs.Sharing.{degree_of, no_demand, asked_of, need_by, green_there, share_there}
 use Rattle.transyt_equisat.specs.Balance.{first_from, first_green, least_greens, need_at, share_at, no_share}
-use Rattle.transyt_equisat.specs.Asked.{asked_of}
-use Rattle.transyt_equisat.specs.Sharing.{need_by, green_there, share_there}
 use Rattle.transyt_equisat.proofs.SettingLaws.{IsSetting}
 use Rattle.transyt_equisat.proofs.DemandLaws.{IsLower, stage_tested, not_above_lower, below_lower}
 use Rattle.transyt_equisat.proofs.SearchLaws.{first_same, first_least}

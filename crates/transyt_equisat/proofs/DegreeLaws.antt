@@ -2,8 +2,8 @@
 use Rattle.std.proofs.Common.{◌≡◌, ℕ, ◌*◌, ◌≤◌, false}
 use Rattle.std.proofs.Math.Nat.{mul-le-mul_left}
 use Rattle.transyt_equisat.specs.declared.demand.Demand.{Demand}
-use Rattle.transyt_equisat.specs.Fractions.{is_above}
-use Rattle.transyt_equisat.specs.Demands.{degree_of}
+use Rattle.transyt_equisat.specs.Degrees.{is_above}
+use Rattle.transyt_equisat.specs.Sharing.{degree_of}
 use Rattle.transyt_equisat.proofs.FractionLaws.{not_above}
 
 -- with more green the degree is no greater

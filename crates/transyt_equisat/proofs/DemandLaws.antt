@@ -7,14 +7,12 @@ use Rattle.std.proofs.lemmas.Bool.{cases_Bool, ltb-false, not-true}
 use Rattle.std.proofs.lemmas.Bool.Decides.{nat_tests}
 use Rattle.std.proofs.lemmas.List.Elements.{All-head, All-tail}
 use Rattle.std.proofs.lemmas.List.FromFn.{map-range_with_len_more}
-use Rattle.transyt_parts.specs.Parts.{LinkValue}
-use Rattle.transyt_parts.specs.Flow.{total_flow}
+use Rattle.transyt_parts.specs.Parts.{LinkValue, total_flow}
 use Rattle.transyt_net.specs.Parts.{Network}
 use Rattle.transyt_equisat.specs.declared.fraction.Fraction.{Fraction}
 use Rattle.transyt_equisat.specs.declared.demand.Demand.{Demand}
-use Rattle.transyt_equisat.specs.Fractions.{is_above}
-use Rattle.transyt_equisat.specs.Degrees.{counts_in, degree}
-use Rattle.transyt_equisat.specs.Demands.{demand_of, degree_of, heavier, heavier_of, demand_in, demands_of, no_demand}
+use Rattle.transyt_equisat.specs.Degrees.{is_above, counts_in, degree}
+use Rattle.transyt_equisat.specs.Sharing.{demand_of, degree_of, heavier, heavier_of, demand_in, demands_of, no_demand}
 use Rattle.transyt_equisat.proofs.FractionLaws.{not_above, not_above-trans}
 
 -- a test that lesser fractions pass too, and what nothing asks of a green

@@ -4,7 +4,7 @@ use Rattle.std.specs.List.{fold}
 use Rattle.std.proofs.lemmas.Bool.{cases_Bool, cond_both}
 use Rattle.std.proofs.lemmas.List.Elements.{All-head, All-tail, All-nil, All-cons}
 use Rattle.transyt_equisat.specs.declared.fraction.Fraction.{Fraction}
-use Rattle.transyt_equisat.specs.Fractions.{is_above, greatest, nothing}
+use Rattle.transyt_equisat.specs.Degrees.{is_above, greatest, nothing}
 use Rattle.transyt_equisat.specs.Balance.{least_of}
 use Rattle.transyt_equisat.proofs.FractionLaws.{not_above, not_above-trans, above_not}
 

@@ -14,10 +14,9 @@ use Rattle.transyt_net.specs.Parts.{Network}
 use Rattle.transyt_equisat.specs.declared.fraction.Fraction.{Fraction}
 use Rattle.transyt_equisat.specs.declared.demand.Demand.{Demand}
 use Rattle.transyt_equisat.specs.Degrees.{counts_in}
-use Rattle.transyt_equisat.specs.Demands.{heavier, heavier_of, demand_of, degree_of, demands_of, no_demand}
+use Rattle.transyt_equisat.specs.Sharing.{heavier, heavier_of, demand_of, degree_of, demands_of, no_demand, asked_of}
 use Rattle.transyt_equisat.specs.Peaks.{Fits, lost}
 use Rattle.transyt_equisat.specs.Balance.{first_more}
-use Rattle.transyt_equisat.specs.Asked.{asked_of}
 use Rattle.transyt_equisat.proofs.SettingLaws.{IsSetting}
 use Rattle.transyt_equisat.proofs.DegreeLaws.{degree_falls}
 use Rattle.transyt_equisat.proofs.DemandLaws.{IsLower}

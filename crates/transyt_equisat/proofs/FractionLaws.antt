@@ -3,7 +3,7 @@ use Rattle.std.proofs.Common.{◌≡◌, ◌*◌, ◌<◌, true, false, arith}
 use Rattle.std.proofs.Math.Nat.{mul-le-mul_left, le_of_mul-le-mul_right}
 use Rattle.std.proofs.lemmas.Bool.{ltb-true, ltb-false, le-ltb}
 use Rattle.transyt_equisat.specs.declared.fraction.Fraction.{Fraction}
-use Rattle.transyt_equisat.specs.Fractions.{is_above, AtMost}
+use Rattle.transyt_equisat.specs.Degrees.{is_above, AtMost}
 
 -- a fraction that isn't above another is at most the other
 pub at_most : (a b : Fraction) → is_above a b ≡ false → AtMost a b

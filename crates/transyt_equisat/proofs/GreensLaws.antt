@@ -7,11 +7,10 @@ use Rattle.transyt_parts.specs.Parts.{NodeValue}
 use Rattle.transyt_parts.specs.Plan.{stage_of}
 use Rattle.transyt_net.specs.Parts.{Network}
 use Rattle.transyt_equisat.specs.declared.fraction.Fraction.{Fraction}
-use Rattle.transyt_equisat.specs.Fractions.{is_above, IsSame}
+use Rattle.transyt_equisat.specs.Degrees.{is_above, IsSame}
 use Rattle.transyt_equisat.specs.Peaks.{Fits, peak, lost}
 use Rattle.transyt_equisat.specs.Balance.{first_green, least_greens, greens_at}
-use Rattle.transyt_equisat.specs.Asked.{asked_of}
-use Rattle.transyt_equisat.specs.Sharing.{degree_at, IsUnder, IsLeastPeak}
+use Rattle.transyt_equisat.specs.Sharing.{asked_of, degree_at, IsUnder, IsLeastPeak}
 use Rattle.transyt_equisat.proofs.SettingLaws.{IsSetting}
 use Rattle.transyt_equisat.proofs.FractionLaws.{at_most}
 use Rattle.transyt_equisat.proofs.DemandLaws.{not_above_lower}

@@ -7,11 +7,10 @@ use Rattle.std.proofs.lemmas.List.Elements.{All-map, All-weaker, All-contains}
 use Rattle.transyt_parts.specs.Parts.{NodeValue}
 use Rattle.transyt_net.specs.Parts.{Network}
 use Rattle.transyt_equisat.specs.declared.fraction.Fraction.{Fraction}
-use Rattle.transyt_equisat.specs.Fractions.{is_above, IsSame}
+use Rattle.transyt_equisat.specs.Degrees.{is_above, IsSame}
 use Rattle.transyt_equisat.specs.Peaks.{Fits, peak, greens_of}
 use Rattle.transyt_equisat.specs.Balance.{all_greens, least_of, least_peak}
-use Rattle.transyt_equisat.specs.Asked.{AskedValue, asked_of}
-use Rattle.transyt_equisat.specs.Sharing.{IsUnder, IsLeastPeak}
+use Rattle.transyt_equisat.specs.Sharing.{AskedValue, asked_of, IsUnder, IsLeastPeak}
 use Rattle.transyt_equisat.proofs.SettingLaws.{IsSetting}
 use Rattle.transyt_equisat.proofs.FractionLaws.{at_most, not_above-trans}
 use Rattle.transyt_equisat.proofs.ExtremeLaws.{least_under, least_of_some}

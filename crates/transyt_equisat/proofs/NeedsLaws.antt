@@ -11,12 +11,10 @@ use Rattle.transyt_parts.specs.Plan.{stage_of}
 use Rattle.transyt_net.specs.Parts.{Network}
 use Rattle.transyt_equisat.specs.declared.fraction.Fraction.{Fraction}
 use Rattle.transyt_equisat.specs.declared.demand.Demand.{Demand}
-use Rattle.transyt_equisat.specs.Fractions.{is_above, AtMost}
-use Rattle.transyt_equisat.specs.Demands.{degree_of, no_demand}
+use Rattle.transyt_equisat.specs.Degrees.{is_above, AtMost}
+use Rattle.transyt_equisat.specs.Sharing.{degree_of, no_demand, asked_of, degree_at, IsUnder, IsLeastPeak}
 use Rattle.transyt_equisat.specs.Peaks.{Fits, peak, lost}
 use Rattle.transyt_equisat.specs.Balance.{first_green, first_more, need_at}
-use Rattle.transyt_equisat.specs.Asked.{asked_of}
-use Rattle.transyt_equisat.specs.Sharing.{degree_at, IsUnder, IsLeastPeak}
 use Rattle.transyt_equisat.proofs.SettingLaws.{IsSetting}
 use Rattle.transyt_equisat.proofs.FractionLaws.{at_most, at_most-trans}
 use Rattle.transyt_equisat.proofs.DemandLaws.{below_lower}

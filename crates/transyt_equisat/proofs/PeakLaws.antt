@@ -11,12 +11,9 @@ use Rattle.transyt_parts.specs.Parts.{LinkValue, NodeValue}
 use Rattle.transyt_net.specs.Parts.{Network}
 use Rattle.transyt_equisat.specs.declared.fraction.Fraction.{Fraction}
 use Rattle.transyt_equisat.specs.declared.demand.Demand.{Demand}
-use Rattle.transyt_equisat.specs.Fractions.{is_above, nothing}
-use Rattle.transyt_equisat.specs.Degrees.{is_counted, counts_in, degree, first_stage}
-use Rattle.transyt_equisat.specs.Demands.{degree_of, demand_in, demands_of, no_demand}
+use Rattle.transyt_equisat.specs.Degrees.{is_above, nothing, is_counted, counts_in, degree, first_stage}
+use Rattle.transyt_equisat.specs.Sharing.{degree_of, demand_in, demands_of, no_demand, asked_of, degree_at, IsUnder}
 use Rattle.transyt_equisat.specs.Peaks.{Fits, green_of, peak}
-use Rattle.transyt_equisat.specs.Asked.{asked_of}
-use Rattle.transyt_equisat.specs.Sharing.{degree_at, IsUnder}
 use Rattle.transyt_equisat.proofs.SettingLaws.{IsSetting}
 use Rattle.transyt_equisat.proofs.DemandLaws.{IsLower, stage_tested, not_above_lower}
 use Rattle.transyt_equisat.proofs.ExtremeLaws.{extreme_has, all_under}

@@ -9,7 +9,7 @@ use Rattle.std.proofs.lemmas.List.{get_or-map, length-map, take_all, length-set,
 use Rattle.std.proofs.lemmas.List.Sums.{AllPass-from_list_all, list_all-from_AllPass, sum_by-cons, sum_by_more, sum_by-set, get_or-le-sum_by}
 use Rattle.std.proofs.lemmas.List.FromFn.{length-range_with_len, get_or-range_with_len, sum_by-map-range_with_len_more, get_or-map-range_with_len, length-map-range_with_len}
 use Rattle.transyt_parts.specs.declared.node.Stage.{Stage}
-use Rattle.transyt_parts.specs.Shape.{bare_stage}
+use Rattle.transyt_parts.specs.Made.{bare_stage}
 use Rattle.transyt_parts.specs.Plan.{stage_of, no_stage, length_at, stage_lengths, in_order, has_green, have_greens, plan_fault}
 use Rattle.transyt_net.proofs.WriteLaws.{no_fault}
 use Rattle.transyt_equisat.specs.Peaks.{Fits, lost, greens_of, IsPlanOf}

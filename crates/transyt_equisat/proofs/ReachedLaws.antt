@@ -8,12 +8,10 @@ use Rattle.std.proofs.lemmas.List.Elements.{All-nil, All-cons}
 use Rattle.transyt_parts.specs.Parts.{NodeValue, LinkValue}
 use Rattle.transyt_net.specs.Parts.{Network}
 use Rattle.transyt_equisat.specs.declared.fraction.Fraction.{Fraction}
-use Rattle.transyt_equisat.specs.Fractions.{is_above, IsSame}
-use Rattle.transyt_equisat.specs.Degrees.{is_counted, degree}
+use Rattle.transyt_equisat.specs.Degrees.{is_above, IsSame, is_counted, degree}
 use Rattle.transyt_equisat.specs.Peaks.{green_of, peak}
 use Rattle.transyt_equisat.specs.Balance.{greens_at, is_same, reaches, balance_at, peak_told}
-use Rattle.transyt_equisat.specs.Asked.{asked_of}
-use Rattle.transyt_equisat.specs.Sharing.{IsLeastPeak}
+use Rattle.transyt_equisat.specs.Sharing.{asked_of, IsLeastPeak}
 use Rattle.transyt_equisat.proofs.SettingLaws.{IsSetting}
 use Rattle.transyt_equisat.proofs.FractionLaws.{at_most-trans}
 use Rattle.transyt_equisat.proofs.DemandLaws.{not_above_lower, below_lower}

@@ -1,7 +1,7 @@
 -- Equal fractions stand alike to every other.
 use Rattle.std.proofs.Common.{◌≡◌, ◌<◌, Bool, true, false, arith, sym, refl}
 use Rattle.transyt_equisat.specs.declared.fraction.Fraction.{Fraction}
-use Rattle.transyt_equisat.specs.Fractions.{is_above, IsSame}
+use Rattle.transyt_equisat.specs.Degrees.{is_above, IsSame}
 use Rattle.transyt_equisat.proofs.FractionLaws.{not_above, not_above-trans}
 
 -- a Bool that is false wherever another is, and the other way round

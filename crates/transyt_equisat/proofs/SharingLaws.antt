@@ -11,11 +11,10 @@ use Rattle.transyt_parts.specs.declared.node.Stage.{Stage}
 use Rattle.transyt_parts.specs.Valid.{IsStage}
 use Rattle.transyt_parts.specs.Plan.{no_stage}
 use Rattle.transyt_equisat.specs.declared.fraction.Fraction.{Fraction}
-use Rattle.transyt_equisat.specs.Fractions.{is_above}
-use Rattle.transyt_equisat.specs.Demands.{degree_of, no_demand}
+use Rattle.transyt_equisat.specs.Degrees.{is_above}
+use Rattle.transyt_equisat.specs.Sharing.{degree_of, no_demand, AskedValue, IsAsked, AreEnough, degree_at, IsUnder}
+use Rattle.transyt_equisat.specs.Sharing.{IsBest, IsLeastPeak}
 use Rattle.transyt_equisat.specs.Peaks.{Fits}
-use Rattle.transyt_equisat.specs.Asked.{AskedValue, IsAsked, AreEnough}
-use Rattle.transyt_equisat.specs.Sharing.{degree_at, IsUnder, IsBest, IsLeastPeak}
 use Rattle.transyt_equisat.proofs.FractionLaws.{not_above-trans}
 use Rattle.transyt_equisat.proofs.DegreeLaws.{degree_falls}
 

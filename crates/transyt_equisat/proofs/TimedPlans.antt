@@ -9,7 +9,7 @@ use Rattle.std.proofs.lemmas.List.FromFn.{fill_by_all}
 use Rattle.std.proofs.Math.Nat.{mod-add-mod, add-mod_right, mod-eq_of_lt}
 use Rattle.transyt_cycle.proofs.CycleLaws.{minus_mod-of_add}
 use Rattle.transyt_parts.specs.declared.node.Stage.{Stage}
-use Rattle.transyt_parts.specs.Shape.{bare_stage}
+use Rattle.transyt_parts.specs.Made.{bare_stage}
 use Rattle.transyt_parts.specs.Plan.{stage_of, no_stage, length_at, stage_lengths, in_order, has_green, have_greens, place_after}
 use Rattle.transyt_equisat.specs.Peaks.{Fits, lost, greens_of, IsPlanOf}
 use Rattle.transyt_equisat.specs.Balance.{change_at}

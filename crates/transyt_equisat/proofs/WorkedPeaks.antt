@@ -2,9 +2,8 @@
 use Rattle.std.proofs.Common.{All, refl, arith}
 use Rattle.std.proofs.lemmas.List.Elements.{All-from_recursion}
 use Rattle.transyt_net.specs.Parts.{node_of}
-use Rattle.transyt_equisat.specs.Answer.{GreensValue}
+use Rattle.transyt_equisat.specs.Balance.{GreensValue, IsBalanced}
 use Rattle.transyt_equisat.specs.Peaks.{IsPlanOf}
-use Rattle.transyt_equisat.specs.Balance.{IsBalanced}
 use Rattle.transyt_equisat.specs.WorkedBalances.{worked_town}
 use Rattle.transyt_equisat.specs.WorkedPeaks.{stages_of_21, stages_of_7, tight_node, tight_town}
 use Rattle.transyt_equisat.specs.WorkedPeaks.{worthless, not_least}

@@ -9,16 +9,16 @@ use Rattle.std.proofs.lemmas.List.FromFn.{fill_by_all, length-map-range_with_len
 use Rattle.transyt_parts.specs.Parts.{NodeValue}
 use Rattle.transyt_parts.specs.declared.node.Stage.{Stage}
 use Rattle.transyt_parts.specs.Plan.{stage_of, no_stage}
-use Rattle.transyt_parts.specs.Shape.{bare_stage}
+use Rattle.transyt_parts.specs.Made.{bare_stage}
 use Rattle.transyt_net.specs.Parts.{Network, node_of}
 use Rattle.transyt_net.specs.Valid.{IsValid}
 use Rattle.transyt_equisat.specs.declared.fraction.Fraction.{Fraction}
 use Rattle.transyt_equisat.specs.declared.greens.Share.{Share}
-use Rattle.transyt_equisat.specs.Fractions.{AtMost, IsSame}
+use Rattle.transyt_equisat.specs.Degrees.{AtMost, IsSame}
 use Rattle.transyt_equisat.specs.Peaks.{peak, greens_of}
-use Rattle.transyt_equisat.specs.Balance.{greens_at, share_at, balance_at, balance, least_peak, timed, no_share, peak_told, IsBalanced}
-use Rattle.transyt_equisat.specs.Asked.{asked_of}
-use Rattle.transyt_equisat.specs.Sharing.{IsLeastPeak}
+use Rattle.transyt_equisat.specs.Balance.{greens_at, share_at, balance_at, balance, least_peak, timed, no_share}
+use Rattle.transyt_equisat.specs.Balance.{peak_told, IsBalanced}
+use Rattle.transyt_equisat.specs.Sharing.{asked_of, IsLeastPeak}
 use Rattle.transyt_equisat.proofs.FractionLaws.{at_most, at_most-trans}
 use Rattle.transyt_equisat.proofs.PeakLaws.{peak_base, under_peak}
 use Rattle.transyt_equisat.proofs.PlanFits.{plan_fits}

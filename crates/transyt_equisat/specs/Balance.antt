@@ -1,19 +1,23 @@
 -- The balance of a node: the plan whose greatest degree of saturation is least. Times are in steps.
-use Rattle.std.specs.Prelude.{ℕ, zero, suc, ◌+◌, ◌-◌, ◌*◌, ◌%◌, Bool, not, ◌&&◌, nat_eq, List, [], ◌∷◌, map, sum}
-use Rattle.std.specs.Prelude.{◌≡◌, ◌<◌, length, slice_index, slice_index_or, slice_set, Option, Some, None, if◌then◌else◌}
+use Rattle.std.specs.Prelude.{ℕ, List, zero, suc, ◌+◌, ◌-◌, ◌*◌, ◌%◌, Bool, not, ◌&&◌, nat_eq, [], ◌∷◌, map, sum, ◌≡◌}
+use Rattle.std.specs.Prelude.{◌<◌, length, slice_index, slice_index_or, slice_set, Option, Some, None, if◌then◌else◌}
+use Rattle.transyt_equisat.specs.declared.greens.Share.{Share}
 use Rattle.std.specs.List.{list_all, filter, range_with_len, find, fold, flat_map}
 use Rattle.transyt_parts.specs.declared.node.Stage.{Stage}
-use Rattle.transyt_parts.specs.Parts.{NodeValue, LinkValue}
+use Rattle.transyt_parts.specs.Parts.{NodeValue, LinkValue, total_flow}
 use Rattle.transyt_parts.specs.Plan.{stage_of}
-use Rattle.transyt_parts.specs.Flow.{total_flow}
 use Rattle.transyt_net.specs.Parts.{Network, node_of}
 use Rattle.transyt_equisat.specs.declared.fraction.Fraction.{Fraction}
-use Rattle.transyt_equisat.specs.declared.greens.Share.{Share}
 use Rattle.transyt_equisat.specs.declared.balancing.Told.{Told}
-use Rattle.transyt_equisat.specs.Fractions.{is_above, nothing, AtMost, IsSame}
-use Rattle.transyt_equisat.specs.Degrees.{is_counted, counts_in, degree}
+use Rattle.transyt_equisat.specs.Degrees.{is_above, nothing, AtMost, IsSame, is_counted, counts_in, degree}
 use Rattle.transyt_equisat.specs.Peaks.{lost, green_of, peak, greens_of, IsPlanOf}
-use Rattle.transyt_equisat.specs.Answer.{GreensValue}
+
+-- the peak, the number of the first link that reaches it, and the shares of the stages in order
+pub record GreensValue : Type 0 where
+  pub top : ℕ
+  pub base : ℕ
+  pub link : ℕ
+  pub stages : List Share
 
 -- all greens of these stages, none below its least, that take so many steps with the intergreens
 abbrev pub all_greens : List Stage → ℕ → List (List ℕ)

@@ -1,10 +1,6 @@
-pub mod Fractions
 pub mod Degrees
-pub mod Demands
-pub mod Peaks
-pub mod Asked
 pub mod Sharing
-pub mod Answer
+pub mod Peaks
 pub mod Balance
 pub mod WorkedBalances
 pub mod WorkedPeaks

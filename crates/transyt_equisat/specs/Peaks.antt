@@ -4,11 +4,10 @@ use Rattle.std.specs.List.{filter, range_with_len}
 use Rattle.transyt_parts.specs.declared.node.Stage.{Stage}
 use Rattle.transyt_parts.specs.Parts.{LinkValue}
 use Rattle.transyt_parts.specs.Plan.{stage_of, length_at, plan_fault}
-use Rattle.transyt_parts.specs.Shape.{bare_stage}
+use Rattle.transyt_parts.specs.Made.{bare_stage}
 use Rattle.transyt_net.specs.Parts.{Network}
 use Rattle.transyt_equisat.specs.declared.fraction.Fraction.{Fraction}
-use Rattle.transyt_equisat.specs.Fractions.{greatest}
-use Rattle.transyt_equisat.specs.Degrees.{is_counted, first_stage, degree}
+use Rattle.transyt_equisat.specs.Degrees.{greatest, is_counted, first_stage, degree}
 
 -- the steps of the cycle that intergreens take
 abbrev pub lost : List Stage → ℕ

@@ -1,17 +1,71 @@
--- How steps are shared out among stages by what they ask. No public clause cites these.
-use Rattle.std.specs.Prelude.{ℕ, ◌≡◌, ◌<◌, ◌≤◌, ◌⊎◌, ◌-◌, true, false, not, nat_eq, List, length, All, slice_index}
-use Rattle.std.specs.Prelude.{slice_index_or, if◌then◌else◌}
-use Rattle.transyt_parts.specs.Parts.{LinkValue}
-use Rattle.transyt_parts.specs.Plan.{stage_of}
-use Rattle.transyt_equisat.specs.declared.greens.Share.{Share}
+-- The demands of the stages of a node, and how steps are shared out by them. No public clause cites these.
+use Rattle.std.specs.Prelude.{ℕ, ◌+◌, ◌*◌, Bool, ◌&&◌, nat_lt, List, map, if◌then◌else◌, ◌≡◌, ◌<◌, ◌≤◌, length, sum}
+use Rattle.std.specs.Prelude.{All, slice_index, ◌⊎◌, ◌-◌, true, false, not, nat_eq, slice_index_or}
+use Rattle.std.specs.List.{fold, range_with_len}
+use Rattle.transyt_parts.specs.Parts.{LinkValue, total_flow, NodeValue}
+use Rattle.transyt_net.specs.Parts.{Network}
 use Rattle.transyt_equisat.specs.declared.fraction.Fraction.{Fraction}
 use Rattle.transyt_equisat.specs.declared.demand.Demand.{Demand}
-use Rattle.transyt_equisat.specs.Degrees.{is_counted, first_stage}
+use Rattle.transyt_equisat.specs.Degrees.{counts_in, is_counted, first_stage, is_above}
+use Rattle.transyt_parts.specs.declared.node.Stage.{Stage}
+use Rattle.transyt_parts.specs.Plan.{stage_of}
+use Rattle.transyt_parts.specs.Valid.{IsStage}
+use Rattle.transyt_equisat.specs.Peaks.{lost, Fits}
+use Rattle.transyt_equisat.specs.declared.greens.Share.{Share}
 use Rattle.transyt_equisat.specs.Balance.{first_from, share_of}
-use Rattle.transyt_equisat.specs.Fractions.{is_above}
-use Rattle.transyt_equisat.specs.Demands.{degree_of, no_demand}
-use Rattle.transyt_equisat.specs.Peaks.{Fits}
-use Rattle.transyt_equisat.specs.Asked.{AskedValue}
+
+-- the demand of a stage with no counted link
+abbrev pub no_demand : Demand
+no_demand = record { flow = 0; saturation = 1 }
+
+-- the demand of a link
+abbrev pub demand_of : LinkValue → Demand
+demand_of l = record { flow = total_flow l; saturation = l.saturation }
+
+-- the degree of a demand at a green
+abbrev pub degree_of : ℕ → Demand → ℕ → Fraction
+degree_of steps d green = record { top = d.flow * steps; base = d.saturation * green }
+
+-- whether a asks for more green than b
+abbrev pub heavier : Demand → Demand → Bool
+heavier a b = nat_lt (b.flow * a.saturation) (a.flow * b.saturation)
+
+-- the demand of a link, where it counts in the stage and asks for more; else the demand so far
+abbrev pub heavier_of : ℕ → ℕ → Demand → LinkValue → Demand
+heavier_of number stage d l = if counts_in number stage l && heavier (demand_of l) d then demand_of l else d
+
+-- the demand of the link that asks most of a stage
+abbrev pub demand_in : Network → ℕ → ℕ → Demand
+demand_in net number stage = fold (heavier_of number stage) no_demand net.links
+
+-- the demands of the first stages of a node
+abbrev pub demands_of : Network → ℕ → ℕ → List Demand
+demands_of net number count = map (λ k. demand_in net number (k + 1)) (range_with_len 0 count)
+
+-- the steps of the cycle, the stages, and for each what its counted links ask
+pub record AskedValue : Type 0 where
+  pub steps : ℕ
+  pub stages : List Stage
+  pub demands : List Demand
+
+-- the demands of a node's stages
+abbrev pub asked_of : Network → NodeValue → AskedValue
+asked_of net n =
+    record { steps = net.frame.step_count; stages = n.stages; demands = demands_of net n.number (length n.stages) }
+
+-- its invariant: a demand for each stage, and least greens that fit into the cycle
+pub record IsAsked (a : AskedValue) : Type 0 where
+  pub short : a.steps ≤ 120
+  pub few : (0 < length a.stages) × (length a.stages ≤ 8)
+  pub count : length a.demands ≡ length a.stages
+  pub stages : All (IsStage a.steps) a.stages
+  pub live : All (λ d. 0 < d.saturation) a.demands
+  pub room : sum (map (λ s. s.least) a.stages) + lost a.stages ≤ a.steps
+
+-- greens of the stages, none below its least
+pub record AreEnough (a : AskedValue) (greens : List ℕ) : Type 0 where
+  pub count : length greens ≡ length a.stages
+  pub least : (k : ℕ) → k < length a.stages → (stage_of a.stages k).least ≤ slice_index greens k
 
 -- the degree of the stage at a place
 abbrev pub degree_at : AskedValue → List ℕ → ℕ → Fraction

@@ -6,7 +6,7 @@ use Rattle.transyt_parts.specs.Made.{new_stage, new_link, new_feed, add_feed}
 use Rattle.transyt_net.specs.Parts.{Network}
 use Rattle.transyt_net.specs.WorkedNets.{frame, of, signals}
 use Rattle.transyt_equisat.specs.declared.greens.Share.{Share}
-use Rattle.transyt_equisat.specs.Answer.{GreensValue}
+use Rattle.transyt_equisat.specs.Balance.{GreensValue}
 
 -- links with these entry flows of link 5 and of link 4: one in the first stage of node 21 and one in its third, one in
 -- each stage of node 7, and one in the first two stages of node 21, which doesn't count

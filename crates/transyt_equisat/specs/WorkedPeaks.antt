@@ -5,7 +5,7 @@ use Rattle.transyt_parts.specs.Parts.{NodeValue}
 use Rattle.transyt_parts.specs.Made.{new_stage, new_link}
 use Rattle.transyt_net.specs.Parts.{Network, node_of}
 use Rattle.transyt_equisat.specs.declared.fraction.Fraction.{Fraction}
-use Rattle.transyt_equisat.specs.Answer.{GreensValue}
+use Rattle.transyt_equisat.specs.Balance.{GreensValue}
 use Rattle.transyt_equisat.specs.WorkedBalances.{share, equal_town, four_at_peak}
 
 -- a fraction

@@ -2,8 +2,7 @@
 
 ghost use Rattle.std.specs.Prelude.{◌≡◌, ◌<◌, length};
 ghost use Rattle.transyt_net.specs.Parts.{node_of};
-ghost use Rattle.transyt_equisat.specs.Demands.{demands_of};
-ghost use Rattle.transyt_equisat.specs.Asked.{AskedValue, IsAsked, asked_of};
+ghost use Rattle.transyt_equisat.specs.Sharing.{demands_of, AskedValue, IsAsked, asked_of};
 
 use crate::demand::Demand;
 use std::marker::Model;
@@ -19,7 +18,7 @@ pub(crate) struct Asked<'a> {
 }
 
 impl<'a> Model for Asked<'a> {
-    ghost use Rattle.transyt_equisat.specs.Asked.{AskedValue, IsAsked};
+    ghost use Rattle.transyt_equisat.specs.Sharing.{AskedValue, IsAsked};
 
     ghost Value = { AskedValue };
 

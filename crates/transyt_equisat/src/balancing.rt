@@ -5,9 +5,10 @@ ghost use Rattle.std.specs.List.{range_with_len, find};
 ghost use Rattle.transyt_net.specs.Parts.{node_of, link_of};
 ghost use Rattle.transyt_equisat.specs.Degrees.{is_counted, degree};
 ghost use Rattle.transyt_equisat.specs.Peaks.{lost};
-ghost use Rattle.transyt_equisat.specs.Asked.{asked_of};
-ghost use Rattle.transyt_equisat.specs.Sharing.{green_by, need_by, green_there, share_there, AreWithin, IsLeastPeak};
-ghost use Rattle.transyt_equisat.specs.Balance.{balance, balance_at, greens_at, is_same, first_more, reaches, reaching, told_of, IsBalanced};
+ghost use Rattle.transyt_equisat.specs.Sharing.{asked_of, green_by, need_by, green_there, share_there, AreWithin};
+ghost use Rattle.transyt_equisat.specs.Sharing.{IsLeastPeak};
+ghost use Rattle.transyt_equisat.specs.Balance.{balance, balance_at, greens_at, is_same, first_more, reaches, reaching};
+ghost use Rattle.transyt_equisat.specs.Balance.{told_of, IsBalanced};
 
 use crate::asked::Asked;
 use crate::demand::{Demand, degree_of, demands_of};

@@ -4,7 +4,8 @@ ghost use Rattle.std.specs.Prelude.{◌≡◌, ℕ, ◌+◌, ◌*◌, ◌<◌, �
 ghost use Rattle.std.specs.List.{range_with_len};
 ghost use Rattle.transyt_net.specs.Parts.{link_of};
 ghost use Rattle.transyt_equisat.specs.Degrees.{counts_in};
-ghost use Rattle.transyt_equisat.specs.Demands.{degree_of, demand_of, heavier, heavier_of, demand_in, demands_of, no_demand};
+ghost use Rattle.transyt_equisat.specs.Sharing.{degree_of, demand_of, heavier, heavier_of, demand_in, demands_of};
+ghost use Rattle.transyt_equisat.specs.Sharing.{no_demand};
 
 use crate::fraction::Fraction;
 use std::alloc::{AllocError, Global};

@@ -1,7 +1,7 @@
 //! Fractions of whole numbers.
 
 ghost use Rattle.std.specs.Prelude.{◌≡◌};
-ghost use Rattle.transyt_equisat.specs.Fractions.{is_above};
+ghost use Rattle.transyt_equisat.specs.Degrees.{is_above};
 
 /// A fraction, with a positive base.
 #[derive(Clone, Copy)]

@@ -27,7 +27,7 @@ pub struct Greens {
 }
 
 impl Model for Greens {
-    ghost use Rattle.transyt_equisat.specs.Answer.{GreensValue};
+    ghost use Rattle.transyt_equisat.specs.Balance.{GreensValue};
 
     ghost Value = { GreensValue };
 

@@ -2,7 +2,7 @@
 ghost use Rattle.std.specs.Prelude.{◌≡◌, ◌∷◌, [], map, All};
 ghost use Rattle.transyt_parts.specs.Made.{new_stage};
 ghost use Rattle.transyt_net.specs.Parts.{node_of};
-ghost use Rattle.transyt_equisat.specs.Fractions.{is_above, AtMost, IsSame};
+ghost use Rattle.transyt_equisat.specs.Degrees.{is_above, AtMost, IsSame};
 ghost use Rattle.transyt_equisat.specs.Peaks.{IsPlanOf, greens_of};
 ghost use Rattle.transyt_equisat.specs.Balance.{all_greens, balance, least_greens, need_at, timed, IsBalanced};
 ghost use Rattle.transyt_equisat.specs.WorkedBalances.{balance_of_21, balance_of_7, balance_without_traffic};

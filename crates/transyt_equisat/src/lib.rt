@@ -1,9 +1,8 @@
 //! Stage lengths of equal saturation: the plan of a node whose greatest degree of saturation is least.
 //!
-//! A contract sees the answer as the record `GreensValue` of `specs/Answer`. Cite first: `degree` of
-//! `specs/Degrees` for the degree of a link at a green, `peak` of `specs/Peaks` for that of a plan,
-//! `IsPlanOf` there for the plans that are meant, and `balance` of `specs/Balance` for the whole
-//! answer. Everything here is this project's own.
+//! A contract sees the answer as the record `GreensValue` of `specs/Balance`. Cite first: `balance` there
+//! for the whole answer, `degree` of `specs/Degrees` for the degree of a link at a green, `peak` of
+//! `specs/Peaks` for that of a plan, and `IsPlanOf` there for the plans that are meant. Everything here is this project's own.
 #![tactic(auto)]
 
 mod asked;

@@ -1,10 +1,9 @@
 //! How the steps of the cycle are shared out among the stages.
 
 ghost use Rattle.std.specs.Prelude.{◌≡◌, ℕ, ◌+◌, ◌<◌, ◌≤◌, length, map, sum, sum_by, All, IfOk, false};
-ghost use Rattle.transyt_equisat.specs.Fractions.{is_above};
+ghost use Rattle.transyt_equisat.specs.Degrees.{is_above};
 ghost use Rattle.transyt_equisat.specs.Peaks.{lost, Fits};
-ghost use Rattle.transyt_equisat.specs.Asked.{IsAsked, AreEnough};
-ghost use Rattle.transyt_equisat.specs.Sharing.{degree_at, IsUnder, IsBest, IsLeastPeak};
+ghost use Rattle.transyt_equisat.specs.Sharing.{IsAsked, AreEnough, degree_at, IsUnder, IsBest, IsLeastPeak};
 
 use crate::asked::Asked;
 use crate::demand::degree_of;

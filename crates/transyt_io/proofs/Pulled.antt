@@ -12,10 +12,8 @@ use Rattle.transyt_io.specs.declared.reader.ReadStop.TheVariants.{Fault, TooLong
 use Rattle.transyt_io.specs.declared.reader.Pull.{Pull}
 use Rattle.transyt_io.specs.declared.reader.ReadStop.{ReadStop}
 use Rattle.transyt_io.specs.Lines.{line_of, lines_by, lines, whole, has_end}
-use Rattle.transyt_io.specs.Gather.{Gathers, Gathered}
-use Rattle.transyt_io.specs.Model.{Reading}
-use Rattle.transyt_io.specs.Pull.{Pulled, PulledAll, PulledLine}
-use Rattle.transyt_io.specs.Reading.{HasRead, ReadsLine, most_lines_left}
+use Rattle.transyt_io.specs.Pull.{Gathers, Gathered, Pulled, PulledAll, PulledLine}
+use Rattle.transyt_io.specs.Reading.{Reading, HasRead, ReadsLine, most_lines_left}
 use Rattle.transyt_io.proofs.Told.{takes_nothing}
 use Rattle.transyt_io.proofs.Lines.{line_of_kept}
 use Rattle.transyt_io.proofs.Reading.{all_given, not_both, some_length, reads_line, reads_last, reads_end, reads_fault}

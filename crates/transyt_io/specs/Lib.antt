@@ -1,12 +1,8 @@
-pub mod Gather
-pub mod Intake
+pub mod Pull
+pub mod Streams
 pub mod Lines
 pub mod Memory
-pub mod Model
-pub mod Pull
 pub mod Reading
-pub mod StdEnds
-pub mod Streams
 pub mod WorkedCalls
 pub mod WorkedEnds
 pub mod WorkedLines

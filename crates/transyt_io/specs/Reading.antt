@@ -1,5 +1,5 @@
--- The bytes that a line reader took, the lines that it handed out, and the effect of `next` on both.
-use Rattle.std.specs.Prelude.{◌≡◌, ◌≤◌, ◌⊎◌, ℕ, ◌+◌, ◌-◌, ◌*◌, ◌++◌, List, [], ◌∷◌, Bool, true, false, Option, Some}
+-- A line reader: the bytes that it took, the lines that it handed out, and the effect of `next` on both.
+use Rattle.std.specs.Prelude.{ℕ, List, Bool, Option, ◌≡◌, ◌≤◌, ◌⊎◌, ◌+◌, ◌-◌, ◌*◌, ◌++◌, [], ◌∷◌, true, false, Some}
 use Rattle.std.specs.Prelude.{None, Result, Ok, IfSome, MatchResult, length, take}
 use Rattle.transyt_io.specs.declared.reader.Line.{Line}
 use Rattle.transyt_io.specs.declared.reader.Line.TheVariants.{Text, End}
@@ -7,7 +7,15 @@ use Rattle.transyt_io.specs.declared.reader.ReadStop.{ReadStop}
 use Rattle.transyt_io.specs.declared.reader.ReadStop.TheVariants.{Fault, TooLong}
 use Rattle.transyt_io.specs.Lines.{lines_by, lines, whole}
 use Rattle.transyt_io.specs.Streams.{Takes, IsAtEnd}
-use Rattle.transyt_io.specs.Model.{Reading}
+
+-- a reader of lines: how many bytes a live one took, and those of them that no line handed out has; whether the source
+-- was read to its end, whether `next` may be called, and the line that the last call of `next` handed out
+pub record Reading : Type 0 where
+  pub taken : ℕ
+  pub held : List ℕ
+  pub ended : Bool
+  pub live : Bool
+  pub line : Option (List ℕ)
 
 -- The reader took these bytes and handed out these lines: before the lines of what it holds and of whatever comes
 -- after, they are the lines of all. That holds of the whole lines and of all lines; after the end, of all lines.

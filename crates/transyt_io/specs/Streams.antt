@@ -1,6 +1,8 @@
--- The effect of reads and writes on the bytes that a source or sink tells.
+-- The effect of reads and writes on the bytes that a source or sink tells; the ends of std, and input that is taken whole.
 use Rattle.std.specs.Prelude.{◌≡◌, ◌<◌, ◌≤◌, ◌⊎◌, ◌++◌, ℕ, List, [], Option, Result, IfSome, OnErr, MatchResult, take}
-use Rattle.std.specs.Prelude.{option_map}
+use Rattle.std.specs.Prelude.{option_map, length}
+use Rattle.transyt_io.specs.declared.reader.ReadStop.{ReadStop}
+use Rattle.transyt_io.specs.declared.reader.ReadStop.TheVariants.{Fault, TooLong}
 
 -- no byte is left, where the source tells it
 abbrev pub IsAtEnd : Option (List ℕ) → Type 0
@@ -45,3 +47,20 @@ Rose before after = (before < after) ⊎ (after ≡ last_count)
 pub record CountsFault {T E : Type 0} (before after : ℕ) (result : Result T E) : Type 0 where
   pub later : before ≤ after
   pub failed : OnErr result (Rose before after)
+
+-- the view of an end of std: the bytes that a reader has left or a writer holds, where std told them when the end was
+-- made; and how many calls failed
+pub record StdEnd : Type 0 where
+  pub told : Option (List ℕ)
+  pub faults : ℕ
+
+-- the meaning of a stop for the bytes taken
+abbrev pub StopTakes : List ℕ → ReadStop → Type 0
+StopTakes taken Fault = length taken ≤ 4194304
+StopTakes taken TooLong = length taken ≡ 4194305
+
+-- the source was read to its end, and these are the bytes that it gave; or a read stopped
+pub record TakesAll (bytes : List ℕ) (left left_new : Option (List ℕ)) (result : Result Unit ReadStop) : Type 0 where
+  pub taken : List ℕ
+  pub takes : Takes left left_new taken
+  pub says : MatchResult result (λ _. (bytes ≡ taken) × IsAtEnd left_new × (length taken ≤ 4194304)) (StopTakes taken)

@@ -3,7 +3,7 @@
 use Rattle.std.specs.Prelude.{ℕ, List, [], ◌∷◌, ◌++◌, true, false, Option, None, Some, Result, Ok, Err, codes}
 use Rattle.transyt_io.specs.declared.reader.ReadStop.{ReadStop}
 use Rattle.transyt_io.specs.declared.reader.ReadStop.TheVariants.{Fault}
-use Rattle.transyt_io.specs.Model.{Reading}
+use Rattle.transyt_io.specs.Reading.{Reading}
 
 -- of a read or a write: what is told before it and after it, how many bytes it gave or took, and those of its call
 abbrev pub WorkedCall : Type 0

@@ -15,7 +15,7 @@ ghost use Rattle.std.specs.Prelude.{
   IfSome,
 };
 ghost use Rattle.transyt_io.specs.Lines.{line_of};
-ghost use Rattle.transyt_io.specs.Gather.{Gathered};
+ghost use Rattle.transyt_io.specs.Pull.{Gathered};
 
 use memchr::memchr;
 

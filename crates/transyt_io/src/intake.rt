@@ -1,7 +1,6 @@
 //! The bytes of an input that is taken whole.
 ghost use Rattle.std.specs.Prelude.{◌≡◌, ◌<◌, ◌≤◌, [], length, vec_capacity, IfOk, IsErrOf};
-ghost use Rattle.transyt_io.specs.Streams.{Rose};
-ghost use Rattle.transyt_io.specs.Intake.{TakesAll};
+ghost use Rattle.transyt_io.specs.Streams.{Rose, TakesAll};
 
 use crate::asking::{BLOCK, MOST, room};
 use crate::reader::ReadStop;

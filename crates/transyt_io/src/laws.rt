@@ -2,13 +2,13 @@
 ghost use Rattle.std.specs.Prelude.{◌≡◌, ◌<◌, ℕ, List, ◌∷◌, ◌++◌, [], All, length, map, replicate, codes, None, Some, Ok, Err};
 ghost use Rattle.transyt_io.specs.declared.reader.Line.TheVariants.{Text, End};
 ghost use Rattle.transyt_io.specs.declared.reader.ReadStop.TheVariants.{Fault, TooLong};
-ghost use Rattle.transyt_io.specs.Intake.{StopTakes, TakesAll};
+ghost use Rattle.transyt_io.specs.Streams.{StopTakes, TakesAll, CountsFault, Reads, Rose, TellsLast, Writes};
+ghost use Rattle.transyt_io.specs.Streams.{last_count};
 ghost use Rattle.transyt_io.specs.Lines.{after_first_line, has_end, is_skipped, lines, whole, words};
 ghost use Rattle.transyt_io.specs.Memory.{fails_next, given_count, new_store, new_supply, next_count, refuses_next};
 ghost use Rattle.transyt_io.specs.Memory.{stock_after, store_after, store_after_fault, supply_after, supply_after_fault};
 ghost use Rattle.transyt_io.specs.Memory.{taken_count};
 ghost use Rattle.transyt_io.specs.Reading.{AnswerSays, HasRead, StopSays, new_reading};
-ghost use Rattle.transyt_io.specs.Streams.{CountsFault, Reads, Rose, TellsLast, Writes, last_count};
 ghost use Rattle.transyt_io.specs.WorkedCalls as call;
 ghost use Rattle.transyt_io.specs.WorkedEnds as end;
 ghost use Rattle.transyt_io.specs.WorkedLines.{worked_inputs, worked_lengths, worked_skips, worked_words};

@@ -6,8 +6,8 @@
 //! `Adds`, `AddsFront`, `Rose` and `CountsFault` first. `specs/Lines` says what the lines of a list of bytes are
 //! (`lines`, `whole`), which are skipped (`is_skipped`) and what the words of a line are (`words`). `specs/Reading`
 //! ties a `LineReader` to all bytes taken and all lines handed out: `HasRead` before and after a call of `next`,
-//! `ReadsLine` for the call. `specs/Intake` has `TakesAll`, what taking a whole input did to its source. `specs/StdEnds`
-//! has `StdEnd`, an end of std by what it tells and its count. The lemmas on these words stand in `proofs/Told`,
+//! `ReadsLine` for the call. `TakesAll` of `specs/Streams` is the effect of taking a whole input on its source, and
+//! `StdEnd` there an end of std by its bytes told and its count. The lemmas on these words stand in `proofs/Told`,
 //! `proofs/Lines` and `proofs/Reading`.
 #![tactic(auto)]
 

@@ -65,7 +65,7 @@ pub struct LineReader {
 impl Model for LineReader {
     ghost use Rattle.std.specs.Prelude.{◌≡◌, ◌<◌, ◌≤◌, true, Some, None, length, vec_len, vec_capacity, if◌then◌else◌};
     ghost use Rattle.std.specs.List.{between};
-    ghost use Rattle.transyt_io.specs.Model.{Reading};
+    ghost use Rattle.transyt_io.specs.Reading.{Reading};
 
     ghost Value = { Reading };
 

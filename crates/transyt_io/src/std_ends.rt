@@ -22,7 +22,7 @@ pub struct StdSource<R: Read> {
 impl<R: Read> Model for StdSource<R> {
     ghost use Rattle.std.specs.Prelude.{◌||◌, IsTrue, is_none, is_some};
     ghost use Rattle.std.specs.Option.{option_and};
-    ghost use Rattle.transyt_io.specs.StdEnds.{StdEnd};
+    ghost use Rattle.transyt_io.specs.Streams.{StdEnd};
 
     ghost Value = { StdEnd };
 
@@ -100,7 +100,7 @@ pub struct StdSink<W: Write> {
 impl<W: Write> Model for StdSink<W> {
     ghost use Rattle.std.specs.Prelude.{◌||◌, IsTrue, is_none, is_some};
     ghost use Rattle.std.specs.Option.{option_and};
-    ghost use Rattle.transyt_io.specs.StdEnds.{StdEnd};
+    ghost use Rattle.transyt_io.specs.Streams.{StdEnd};
 
     ghost Value = { StdEnd };
 

@@ -6,7 +6,7 @@ use Rattle.std.proofs.lemmas.List.{set-append_left, take-append-le, length-set, 
 use Rattle.std.proofs.lemmas.List.Elements.{All-head, All-tail}
 use Rattle.std.proofs.lemmas.Bool.Decides.{nat_tests}
 use Rattle.transyt_net.specs.Valid.{numbered, on_numbered, on_place}
-use Rattle.transyt_net.specs.Named.{IsPlace}
+use Rattle.transyt_net.specs.There.{IsPlace}
 use Rattle.transyt_parts.specs.declared.node.Stage.{Stage}
 use Rattle.transyt_parts.specs.declared.link.Feed.{Feed}
 use Rattle.transyt_parts.specs.Parts.{LinkValue}

@@ -2,7 +2,7 @@
 use Rattle.std.proofs.Common.{ℕ, ◌≡◌, ◌*◌, ◌/◌, ◌∙◌, sym, arith}
 use Rattle.std.proofs.Math.Nat.{mul-div-mul_right}
 use Rattle.transyt_parts.specs.declared.frame.Frame.{Frame}
-use Rattle.transyt_net.specs.Flow.{perstep}
+use Rattle.transyt_net.specs.Parts.{perstep}
 
 -- a flow a step by terms that are 400 times smaller
 pub perstep_is : (frame : Frame) (q : ℕ) → q * frame.cycle * 2500 / (9 * frame.step_count) ≡ perstep frame q

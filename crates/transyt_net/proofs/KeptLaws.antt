@@ -3,10 +3,9 @@ use Rattle.std.proofs.Common.{◌≡◌, ℕ, map, refl, ap}
 use Rattle.transyt_net.specs.Edits.{Edit, Offset, Change, Entry, Part, Cruise, Saturation, Weight, with_edit}
 use Rattle.transyt_net.specs.Edits.{set_offset, set_change, set_entry, set_saturation, set_weights, set_part}
 use Rattle.transyt_net.specs.Edits.{set_cruise, feeder_of}
-use Rattle.transyt_net.specs.Parts.{Network, NodeValue, LinkValue}
+use Rattle.transyt_net.specs.Parts.{Network, NodeValue, LinkValue, shape}
 use Rattle.transyt_net.specs.Valid.{on_numbered, node_number, link_number}
-use Rattle.transyt_parts.specs.Shape.{bare_node, bare_feed, bare_link}
-use Rattle.transyt_net.specs.Shape.{shape}
+use Rattle.transyt_parts.specs.Made.{bare_node, bare_feed, bare_link}
 use Rattle.transyt_net.proofs.PlaceLaws.{map_kept}
 use Rattle.transyt_net.proofs.ShapeLaws.{change_bare}
 

@@ -8,7 +8,7 @@ use Rattle.std.proofs.lemmas.List.Folds.{list_any_at}
 use Rattle.transyt_net.specs.Valid.{IsValid, all_differ, node_number}
 use Rattle.transyt_net.specs.Parts.{Network, node_of, no_node}
 use Rattle.transyt_net.specs.Edits.{the_node, node_in}
-use Rattle.transyt_net.specs.Named.{IsPlace}
+use Rattle.transyt_net.specs.There.{IsPlace}
 use Rattle.transyt_net.proofs.PlaceLaws.{numbered_here}
 
 -- of numbers that differ one that stands later is not one that stands earlier

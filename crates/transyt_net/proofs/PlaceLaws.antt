@@ -12,7 +12,7 @@ use Rattle.std.proofs.lemmas.List.{length-map, get_or-map, set-get_or}
 use Rattle.transyt_net.specs.Parts.{Network}
 use Rattle.transyt_net.specs.Valid.{is_among, numbered, on_numbered, on_place, place_of, link_numbers, found_or_first}
 use Rattle.transyt_net.specs.Valid.{link_place, all_differ, link_number}
-use Rattle.transyt_net.specs.Named.{IsPlace}
+use Rattle.transyt_net.specs.There.{IsPlace}
 use Rattle.transyt_parts.proofs.CopyLaws.{same_length}
 
 -- a number that is among these is among more

@@ -2,12 +2,11 @@
 use Rattle.std.proofs.Common.{◌≡◌, ℕ, ◌-◌, true, false, cond, nat_eq, List, [], ◌∷◌, map, Some, refl, sym, ap, ◌∙◌}
 use Rattle.std.proofs.lemmas.List.{length-map}
 use Rattle.std.proofs.lemmas.Simd.{map-map}
-use Rattle.transyt_net.specs.Parts.{Network, NodeValue}
-use Rattle.transyt_net.specs.Shape.{SameShape}
+use Rattle.transyt_net.specs.Parts.{Network, NodeValue, SameShape}
 use Rattle.transyt_net.specs.Valid.{node_numbers, numbered, stage_total, stages_at, node_number, link_number}
 use Rattle.transyt_net.specs.Edits.{set_change, change_to}
 use Rattle.transyt_net.proofs.PlaceLaws.{map_kept_at}
-use Rattle.transyt_parts.specs.Shape.{bare_stage, bare_node, bare_link}
+use Rattle.transyt_parts.specs.Made.{bare_stage, bare_node, bare_link}
 
 -- nodes that differ at most in offsets and changes have the same numbers
 pub same_numbers : (ms ns : List NodeValue) → map bare_node ms ≡ map bare_node ns → node_numbers ms ≡ node_numbers ns

@@ -5,7 +5,7 @@ use Rattle.std.proofs.lemmas.List.Elements.{All-get_or}
 use Rattle.std.proofs.lemmas.List.Sums.{sum_by-le}
 use Rattle.transyt_parts.specs.declared.link.Feed.{Feed}
 use Rattle.transyt_net.specs.Parts.{Network, link_of, no_link, LinkValue}
-use Rattle.transyt_parts.specs.Flow.{total_flow}
+use Rattle.transyt_parts.specs.Parts.{total_flow}
 use Rattle.transyt_net.specs.Valid.{link_numbers, on_numbered, IsSound, IsLink, IsValid, link_number}
 
 -- the total flow of a link, by the limits of its flows

@@ -12,8 +12,7 @@ use Rattle.transyt_net.specs.Parts.{Network, NodeValue, LinkValue}
 use Rattle.transyt_net.specs.Valid.{is_among, numbered, on_numbered, on_place, node_numbers, link_numbers, stages_at}
 use Rattle.transyt_net.specs.Valid.{IsSound, IsLink, IsFeed, IsRule}
 use Rattle.transyt_parts.specs.Valid.{all_differ, within, node_number, link_number, IsNode}
-use Rattle.transyt_parts.specs.Made.{add_stage}
-use Rattle.transyt_parts.specs.Shape.{bare_node}
+use Rattle.transyt_parts.specs.Made.{add_stage, bare_node}
 use Rattle.transyt_net.proofs.PlaceLaws.{keys_kept, map_kept, length_kept, all_on_numbered}
 use Rattle.transyt_net.proofs.ShapeLaws.{same_numbers, same_stages_at}
 

@@ -1,11 +1,31 @@
--- Edits: what each does, and the edit that takes it back.
-use Rattle.std.specs.Prelude.{ℕ, ◌-◌}
+-- Edits: the parts that they name, what each does, and the edit that takes it back.
+use Rattle.std.specs.Prelude.{ℕ, unwrap_or, ◌-◌}
+use Rattle.transyt_net.specs.Parts.{Network, NodeValue, LinkValue, Feed, Stage, Weights}
+use Rattle.transyt_net.specs.Valid.{numbered, node_number, link_number, on_numbered, on_place}
+use Rattle.transyt_parts.specs.Plan.{stage_of}
+pub use Rattle.transyt_net.specs.Parts.{node_in, link_in}
 pub use Rattle.transyt_net.specs.declared.edit.Edit.{Edit}
 pub use Rattle.transyt_net.specs.declared.edit.Edit.TheVariants.{Offset, Change, Entry, Part, Cruise, Saturation, Weight}
-use Rattle.transyt_net.specs.Parts.{Network, NodeValue, LinkValue, Stage, Weights}
-use Rattle.transyt_net.specs.Valid.{on_numbered, on_place, node_number, link_number}
-use Rattle.transyt_parts.specs.Plan.{stage_of}
-pub use Rattle.transyt_net.specs.Found.{feeder_of, node_in, link_in, no_feed, the_node, the_link, the_feed}
+
+-- a feed's feeder
+abbrev pub feeder_of : Feed → ℕ
+feeder_of f = f.feeder
+
+-- the feed that is found where there is none
+abbrev pub no_feed : Feed
+no_feed = record { feeder = 0; flow = 0; cruise = 0 }
+
+-- the node of a number
+abbrev pub the_node : Network → ℕ → NodeValue
+the_node net node = node_in (numbered node_number net.nodes node)
+
+-- the link of a number
+abbrev pub the_link : Network → ℕ → LinkValue
+the_link net link = link_in (numbered link_number net.links link)
+
+-- the feed of a link with this feeder
+abbrev pub the_feed : LinkValue → ℕ → Feed
+the_feed l feeder = unwrap_or (numbered feeder_of l.feeds feeder) no_feed
 
 -- the node with this offset
 abbrev pub set_offset : ℕ → NodeValue → NodeValue

@@ -1,6 +1,6 @@
 -- The calls of a draft: the first fault of each, and the network after it.
-use Rattle.std.specs.Prelude.{ℕ, Bool, ◌&&◌, ◌||◌, not, nat_le, List, [], ◌∷◌, ◌++◌, length, Option, Some, None}
-use Rattle.std.specs.Prelude.{if◌then◌else◌, slice_get, is_some, ◌-◌}
+use Rattle.std.specs.Prelude.{◌≡◌, Option, Some, None, Result, Ok, Err, ℕ, Bool, ◌&&◌, ◌||◌, not, nat_le, List, [], ◌∷◌}
+use Rattle.std.specs.Prelude.{◌++◌, length, if◌then◌else◌, slice_get, is_some, ◌-◌}
 use Rattle.std.specs.List.{list_all}
 use Rattle.transyt_net.specs.declared.draft.DraftFault.{DraftFault}
 use Rattle.transyt_net.specs.declared.draft.DraftFault.TheVariants.{Twice, Unknown, Range, TooMany}
@@ -10,6 +10,13 @@ use Rattle.transyt_net.specs.Valid.{rule_at, stage_total, within, all_differ, is
 use Rattle.transyt_net.specs.Valid.{stage_in_range, link_in_range, feed_in_range}
 use Rattle.transyt_parts.specs.Ranges.{is_in, most_percent, budget_range}
 use Rattle.transyt_parts.specs.Made.{new_node, add_stage, add_feed, set_rule}
+
+-- A call refuses exactly where it has a first fault, and with that fault. Where it has none it succeeds, or is refused
+-- with the fault that stands for out of memory; never, where the call has no such fault.
+abbrev pub Refuses : {T F : Type 0} → Result T F → (first memory : Option F) → Type 0
+Refuses (Ok done) first memory = first ≡ None
+Refuses (Err fault) (Some first) memory = fault ≡ first
+Refuses (Err fault) None memory = memory ≡ Some fault
 
 -- a network with nothing in it
 abbrev pub empty : Frame → Network

@@ -1,13 +1,8 @@
 pub mod Parts
-pub mod Refuses
+pub mod Faults
 pub mod Valid
 pub mod Edits
 pub mod EditFaults
-pub mod Faults
-pub mod Flow
-pub mod Found
-pub mod Named
-pub mod Shape
 pub mod There
 pub mod WorkedFaults
 pub mod WorkedNets

@@ -1,12 +1,13 @@
--- A network of its parts, as contracts see it.
-use Rattle.std.specs.Prelude.{ℕ, List, [], Option, unwrap_or, slice_index_or}
+-- A network of its parts as contracts see it, its flows and its shape.
+use Rattle.std.specs.Prelude.{ℕ, List, [], Option, unwrap_or, slice_index_or, ◌*◌, ◌/◌, ◌≡◌, map}
+use Rattle.transyt_parts.specs.Made.{new_node, new_link, bare_node, bare_link}
+use Rattle.transyt_parts.specs.declared.frame.Frame.{Frame}
 pub use Rattle.transyt_parts.specs.declared.frame.Frame.{Frame}
 pub use Rattle.transyt_parts.specs.declared.node.Stage.{Stage}
 pub use Rattle.transyt_parts.specs.declared.link.Feed.{Feed}
 pub use Rattle.transyt_parts.specs.declared.link.GiveWay.{GiveWay}
 pub use Rattle.transyt_parts.specs.declared.link.Weights.{Weights}
 pub use Rattle.transyt_parts.specs.Parts.{NodeValue, LinkValue, PlanValue}
-use Rattle.transyt_parts.specs.Made.{new_node, new_link}
 
 -- a network: its nodes and links in card order, and its climb plan if there is one
 pub record Network : Type 0 where
@@ -50,3 +51,15 @@ node_of net p = slice_index_or net.nodes p no_node
 -- the link at a place
 abbrev pub link_of : Network → ℕ → LinkValue
 link_of net p = slice_index_or net.links p no_link
+
+-- vehicles per hour as units per step, rounded down
+abbrev pub perstep : Frame → ℕ → ℕ
+perstep frame q = q * frame.cycle * 1000000 / (3600 * frame.step_count)
+
+-- the shape of a network: each number that an edit sets put to 0
+abbrev pub shape : Network → Network
+shape net = record net { nodes = map bare_node net.nodes; links = map bare_link net.links }
+
+-- the two differ at most in numbers that an edit sets
+abbrev pub SameShape : Network → Network → Type 0
+SameShape a b = shape a ≡ shape b

@@ -1,5 +1,5 @@
--- The part that an edit names, and whether the network has it.
-use Rattle.std.specs.Prelude.{⊤, ℕ, ◌≤◌, length, IsTrue}
+-- The part that an edit names, whether the network has it, and where it stands.
+use Rattle.std.specs.Prelude.{⊤, ℕ, ◌≤◌, length, IsTrue, ◌≡◌, ◌<◌, true, false, nat_eq, List, slice_index_or}
 use Rattle.transyt_net.specs.Edits.{Edit, Change, Part, Cruise, Named, NamesNode, NamesLink, named, the_node, the_link}
 use Rattle.transyt_net.specs.Parts.{Network, NodeValue, LinkValue}
 use Rattle.transyt_net.specs.Valid.{is_among, node_numbers, link_numbers, is_fed}
@@ -27,3 +27,9 @@ Takes net e (NamesLink link) = HasLink net link × LinkTakes e (the_link net lin
 -- the part that an edit names is there
 abbrev pub IsThere : Network → Edit → Type 0
 IsThere net e = Takes net e (named e)
+
+-- p is the first place whose number is k
+pub record IsPlace {A : Type 0} (key : A → ℕ) (xs : List A) (k p : ℕ) : Type 0 where
+  pub inside : p < length xs
+  pub here : (d : A) → nat_eq k (key (slice_index_or xs p d)) ≡ true
+  pub first : (d : A) (i : ℕ) → i < p → nat_eq k (key (slice_index_or xs i d)) ≡ false

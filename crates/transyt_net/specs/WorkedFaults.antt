@@ -2,10 +2,9 @@
 use Rattle.std.specs.Prelude.{ℕ, List, [], ◌∷◌, Option, Some, None, replicate}
 use Rattle.transyt_parts.specs.declared.link.Feed.{Feed}
 use Rattle.transyt_parts.specs.declared.link.GiveWay.{GiveWay}
-use Rattle.transyt_net.specs.Parts.{Network, node_of, link_of, NodeValue, LinkValue}
+use Rattle.transyt_net.specs.Parts.{Network, node_of, link_of, NodeValue, LinkValue, perstep}
 use Rattle.transyt_parts.specs.Made.{new_stage, new_feed, new_rule, new_plan, new_link, new_weights}
 use Rattle.transyt_net.specs.Valid.{place_of, link_place, link_numbers, stages_at, feeds_at, rule_at}
-use Rattle.transyt_net.specs.Flow.{perstep}
 use Rattle.transyt_net.specs.Edits.{Edit, Offset, Change, Entry, Part, Cruise, Saturation, Weight, the_node, the_link}
 use Rattle.transyt_net.specs.declared.edit.EditFault.{EditFault}
 use Rattle.transyt_net.specs.declared.edit.EditFault.TheVariants as edit

@@ -1,11 +1,10 @@
 -- A worked network in which no number is neutral, and what each edit makes of it.
 use Rattle.std.specs.Prelude.{ℕ, List, [], ◌∷◌, Some, None}
 use Rattle.transyt_parts.specs.declared.frame.Frame.{Frame}
-use Rattle.transyt_net.specs.Parts.{Network, with_cycle, with_signals, NodeValue, LinkValue}
+use Rattle.transyt_net.specs.Parts.{Network, with_cycle, with_signals, NodeValue, LinkValue, shape}
 use Rattle.transyt_parts.specs.Made.{new_stage, new_feed, new_rule, new_plan, new_link, new_weights}
 use Rattle.transyt_net.specs.Edits.{Edit, Offset, Change, Entry, Part, Cruise, Saturation, Weight, with_edit, inverse}
 use Rattle.transyt_net.specs.Faults.{empty, with_node, with_stage, with_link, with_feed, with_rule, with_plan}
-use Rattle.transyt_net.specs.Shape.{shape}
 
 -- a cycle of 90 seconds in 18 steps
 abbrev pub frame : Frame

@@ -2,10 +2,11 @@
 
 ghost use Rattle.std.specs.Prelude.{◌≡◌, ℕ, ◌-◌, ◌<◌, ◌≤◌, length, Some, None, IfErr, IfOk, OnOk, OnErr, IsTrue, IsOk, ◌↔◌};
 ghost use Rattle.transyt_net.specs.Valid.{IsValid};
-ghost use Rattle.transyt_net.specs.Refuses.{Refuses};
+ghost use Rattle.transyt_net.specs.Faults.{Refuses, empty, node_fault, with_node, stage_fault, with_stage, link_fault};
+ghost use Rattle.transyt_net.specs.Faults.{with_link, feed_fault, with_feed, rule_fault, with_rule, climb_fault};
+ghost use Rattle.transyt_net.specs.Faults.{with_plan};
 ghost use Rattle.transyt_parts.specs.Valid.{is_frame};
 ghost use Rattle.transyt_parts.specs.Plan.{first_fault};
-ghost use Rattle.transyt_net.specs.Faults.{empty, node_fault, with_node, stage_fault, with_stage, link_fault, with_link, feed_fault, with_feed, rule_fault, with_rule, climb_fault, with_plan};
 ghost use Rattle.transyt_parts.specs.Made.{new_stage, link_from, new_feed, new_rule, new_plan};
 
 mod fault;
@@ -83,7 +84,7 @@ impl Model for Draft {
     ghost Value = { Network };
 
     ghost use Rattle.transyt_net.specs.Valid.{IsSound, node_numbers, link_numbers};
-    ghost use Rattle.transyt_parts.specs.Flow.{total_flow};
+    ghost use Rattle.transyt_parts.specs.Parts.{total_flow};
 
     ghost view = { λ n. network_of n.frame n.nodes.items n.links.items n.plan };
 

@@ -2,10 +2,11 @@
 
 ghost use Rattle.std.specs.Prelude.{◌≡◌, ℕ, ◌+◌, ◌-◌, ◌<◌, ◌≤◌, length, true};
 ghost use Rattle.transyt_parts.specs.Valid.{is_fed};
-ghost use Rattle.transyt_net.specs.Named.{IsPlace};
+ghost use Rattle.transyt_net.specs.There.{IsPlace, NodeTakes, LinkTakes};
 ghost use Rattle.transyt_parts.specs.Plan.{stage_of};
-ghost use Rattle.transyt_net.specs.Edits.{feeder_of, node_edit, link_edit, node_back, link_back, set_offset, set_change, set_entry, set_saturation, set_weights, set_part, set_cruise, the_feed};
-ghost use Rattle.transyt_net.specs.There.{NodeTakes, LinkTakes};
+ghost use Rattle.transyt_net.specs.Edits.{feeder_of, node_edit, link_edit, node_back, link_back, set_offset};
+ghost use Rattle.transyt_net.specs.Edits.{set_change, set_entry, set_saturation, set_weights, set_part, set_cruise};
+ghost use Rattle.transyt_net.specs.Edits.{the_feed};
 
 use transyt_parts::{Feed, Link, Node, Weights};
 

@@ -5,9 +5,9 @@
 //! climb plan. The sets of numbers, which give each its place, and the totals, which keep the total
 //! flow of each link, are seen by no public clause. Cite first: `IsValid` of `specs/Valid` for what
 //! always holds of a `Net`, `numbered` and `on_numbered` there for the part of a number, `perstep`
-//! of `specs/Flow`, `node_fault` and its like of `specs/Faults` for a `Draft`, `Refuses` of
-//! `specs/Refuses` for what its calls answer, `with_edit` and `inverse` of `specs/Edits`,
-//! `edit_fault` of `specs/EditFaults`, and `SameShape` of `specs/Shape`.
+//! and `SameShape` of `specs/Parts`, `node_fault` and its like of `specs/Faults` for a `Draft`,
+//! `Refuses` there for the answers of its calls, `with_edit` and `inverse` of `specs/Edits`, and
+//! `edit_fault` of `specs/EditFaults`.
 //!
 //! Networks of such parts are those of Robertson's TRANSYT (LR 253); drafts, edits and all limits
 //! are this project's own.

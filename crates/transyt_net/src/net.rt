@@ -3,10 +3,8 @@
 ghost use Rattle.std.specs.Prelude.{◌≡◌, ℕ, ◌+◌, ◌*◌, ◌/◌, ◌<◌, ◌≤◌, ◌^◌, length, map, IfSome, IfNone, IfOk, ◌↔◌, IsTrue, false};
 ghost use Rattle.std.specs.Option.{option_map};
 ghost use Rattle.transyt_net.specs.Valid.{node_numbers, link_numbers, place_of, is_among, IsLink, IsValid};
-ghost use Rattle.transyt_net.specs.Shape.{SameShape};
-ghost use Rattle.transyt_net.specs.Flow.{perstep};
-ghost use Rattle.transyt_parts.specs.Flow.{total_flow};
-ghost use Rattle.transyt_net.specs.Parts.{with_cycle, with_signals, node_of, link_of};
+ghost use Rattle.transyt_net.specs.Parts.{SameShape, perstep, with_cycle, with_signals, node_of, link_of};
+ghost use Rattle.transyt_parts.specs.Parts.{total_flow};
 ghost use Rattle.transyt_net.specs.Edits.{the_node};
 ghost use Rattle.transyt_parts.specs.Valid.{IsNode};
 
@@ -45,7 +43,7 @@ impl Model for Net {
     ghost Value = { Network };
 
     ghost use Rattle.transyt_net.specs.Valid.{IsValid, node_numbers, link_numbers};
-    ghost use Rattle.transyt_parts.specs.Flow.{total_flow};
+    ghost use Rattle.transyt_parts.specs.Parts.{total_flow};
 
     ghost view = { λ n. network_of n.frame n.nodes.items n.links.items n.plan };
 

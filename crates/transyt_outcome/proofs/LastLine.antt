@@ -3,13 +3,12 @@ use Rattle.std.proofs.Common.{◌≡◌, inl, inr, ℕ, ◌+◌, ◌≤◌, ◌+
 use Rattle.std.proofs.Common.{refl, sym, ◌∙◌, ap, subst, arith, append_assoc}
 use Rattle.std.proofs.lemmas.List.{append-nil}
 use Rattle.transyt_io.specs.Lines.{lines, whole}
-use Rattle.transyt_io.specs.Model.{Reading}
-use Rattle.transyt_io.specs.Reading.{HasRead}
+use Rattle.transyt_io.specs.Reading.{Reading, HasRead}
 use Rattle.transyt_io.specs.Streams.{IsAtEnd}
 use Rattle.transyt_outcome.specs.declared.ending.Ending.{Ending}
-use Rattle.transyt_outcome.specs.Turns.{answers_after, costs_after, is_refusal, unless_ended, or_else}
+use Rattle.transyt_outcome.specs.Runs.{answers_after, costs_after, is_refusal, unless_ended, or_else, Answering}
+use Rattle.transyt_outcome.specs.Runs.{of_lines, answers_by, ending_by, costs_by, StepsMost}
 use Rattle.transyt_outcome.specs.Outcome.{IsFront, EndsRun, Finished, CutOff, IsPart}
-use Rattle.transyt_outcome.specs.Runs.{Answering, of_lines, answers_by, ending_by, costs_by, StepsMost}
 use Rattle.transyt_outcome.specs.RunSoFar.{AnsweredSoFar}
 use Rattle.transyt_outcome.proofs.SoFar.{all_texts, all_endings, line_texts, line_endings, line_costs, lines_given, whole_given}
 use Rattle.transyt_outcome.proofs.SoFar.{front_longer}

@@ -4,9 +4,9 @@ use Rattle.std.proofs.Common.{Some, refl, sym, ◌∙◌, ap}
 use Rattle.std.proofs.lemmas.List.{append-nil, map-append}
 use Rattle.transyt_io.specs.Lines.{cut, onto_first, line_of, lines, whole, lines_by}
 use Rattle.transyt_outcome.specs.declared.ending.Ending.{Ending}
-use Rattle.transyt_outcome.specs.Turns.{answers_after, ending_after, unless_ended, first_of, or_else}
+use Rattle.transyt_outcome.specs.Runs.{answers_after, ending_after, unless_ended, first_of, or_else, Answering}
+use Rattle.transyt_outcome.specs.Runs.{of_lines, answers_by, ending_by, is_refused_by}
 use Rattle.transyt_outcome.specs.Outcome.{EndsRun, IsSettled}
-use Rattle.transyt_outcome.specs.Runs.{Answering, of_lines, answers_by, ending_by, is_refused_by}
 
 onto_more : (keep : Bool) (b : ℕ) (parts more all : List (List ℕ)) → all ≡ parts ++ more
     → (behind : List (List ℕ)) × (onto_first keep b all ≡ onto_first false b parts ++ behind)

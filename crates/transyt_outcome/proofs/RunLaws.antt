@@ -9,8 +9,7 @@ use Rattle.transyt_io.specs.declared.reader.Line.TheVariants.{Text, End}
 use Rattle.transyt_io.specs.declared.reader.ReadStop.{ReadStop}
 use Rattle.transyt_io.specs.declared.reader.ReadStop.TheVariants.{Fault, TooLong as Long}
 use Rattle.transyt_io.specs.Lines.{lines, whole}
-use Rattle.transyt_io.specs.Model.{Reading}
-use Rattle.transyt_io.specs.Reading.{HasRead, ReadsLine, AnswerSays, StopSays, new_reading}
+use Rattle.transyt_io.specs.Reading.{Reading, HasRead, ReadsLine, AnswerSays, StopSays, new_reading}
 use Rattle.transyt_io.specs.Streams.{Takes, Adds, AddsFront}
 use Rattle.transyt_io.proofs.Told.{takes_nothing, takes_both, adds_nothing, adds_both}
 use Rattle.transyt_io.proofs.Reading.{new_has_read}
@@ -20,9 +19,9 @@ use Rattle.transyt_outcome.specs.declared.ending.Stop.TheVariants.{Write, Memory
 use Rattle.transyt_outcome.specs.declared.status.Status.{Status}
 use Rattle.transyt_outcome.specs.declared.status.Status.TheVariants.{Done, DeckRefused, ReadFault, TooLong, WriteFault}
 use Rattle.transyt_outcome.specs.declared.status.Status.TheVariants.{NoMemory}
-use Rattle.transyt_outcome.specs.Turns.{AnsweredWhole, ClosedWhole, is_refusal}
+use Rattle.transyt_outcome.specs.Runs.{AnsweredWhole, ClosedWhole, is_refusal, Answering, of_lines, answers_by}
+use Rattle.transyt_outcome.specs.Runs.{costs_by, StepsRow, Ran}
 use Rattle.transyt_outcome.specs.Outcome.{Finished, IsWritten, Row}
-use Rattle.transyt_outcome.specs.Runs.{Answering, of_lines, answers_by, costs_by, StepsRow, Ran}
 use Rattle.transyt_outcome.specs.RunSoFar.{RunSoFar}
 use Rattle.transyt_outcome.proofs.SoFar.{so_far_none, so_far_on, all_texts, all_costs, written_none, written_on, written_next}
 use Rattle.transyt_outcome.proofs.LastLine.{finished_line, steps_line, part_of_line, steps_of_line, finished_end, part_of_end}

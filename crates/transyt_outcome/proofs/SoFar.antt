@@ -7,13 +7,12 @@ use Rattle.std.proofs.Math.Seq.{take-nil}
 use Rattle.transyt_io.specs.declared.reader.Line.{Line}
 use Rattle.transyt_io.specs.declared.reader.ReadStop.{ReadStop}
 use Rattle.transyt_io.specs.Lines.{lines, whole, lines_by}
-use Rattle.transyt_io.specs.Model.{Reading}
-use Rattle.transyt_io.specs.Reading.{HasRead, ReadsLine}
+use Rattle.transyt_io.specs.Reading.{Reading, HasRead, ReadsLine}
 use Rattle.transyt_io.specs.Streams.{IsAtEnd}
 use Rattle.transyt_outcome.specs.declared.ending.Ending.{Ending}
-use Rattle.transyt_outcome.specs.Turns.{answers_after, ending_after, costs_after, unless_ended, first_of}
+use Rattle.transyt_outcome.specs.Runs.{answers_after, ending_after, costs_after, unless_ended, first_of, Answering}
+use Rattle.transyt_outcome.specs.Runs.{of_lines, answers_by, ending_by, costs_by}
 use Rattle.transyt_outcome.specs.Outcome.{IsFront, IsWritten}
-use Rattle.transyt_outcome.specs.Runs.{Answering, of_lines, answers_by, ending_by, costs_by}
 use Rattle.transyt_outcome.specs.RunSoFar.{AnsweredSoFar}
 
 -- no line

@@ -1,6 +1,6 @@
--- The report of an input, and the meaning of a status: the bytes taken and those written.
-use Rattle.std.specs.Prelude.{◌≡◌, ◌⊎◌, ℕ, ◌-◌, ◌++◌, ◌≤◌, ◌<◌, List, [], Bool, true, false, Option, None, Some}
-use Rattle.std.specs.Prelude.{IfSome, length, take, if◌then◌else◌}
+-- The report of an input, the meaning of a status (the bytes taken and those written), and the exit numbers.
+use Rattle.std.specs.Prelude.{◌≡◌, ◌⊎◌, ℕ, ◌-◌, ◌++◌, ◌≤◌, ◌<◌, List, [], Bool, true, false, Option, None, Some, IfSome}
+use Rattle.std.specs.Prelude.{length, take, if◌then◌else◌}
 use Rattle.transyt_io.specs.Streams.{Takes, Adds, IsAtEnd}
 use Rattle.transyt_outcome.specs.declared.ending.Ending.{Ending}
 use Rattle.transyt_outcome.specs.declared.status.Status.{Status}
@@ -112,3 +112,13 @@ abbrev pub TooLongWhere : Reporting → Option (List ℕ) → Status → Type 0
 TooLongWhere by left status =
     (input : List ℕ) → left ≡ Some input → 4194304 < length input → by.ends (take 4194304 input) ≡ None
     → status ≡ s.TooLong
+
+-- the exit number of a status
+abbrev pub exit_number : Status → ℕ
+exit_number s.Done = 0
+exit_number s.BadWords = 1
+exit_number s.DeckRefused = 2
+exit_number s.ReadFault = 3
+exit_number s.WriteFault = 4
+exit_number s.NoMemory = 5
+exit_number s.TooLong = 6

@@ -1,11 +1,10 @@
 -- How far a run over the lines of a source has come: the invariant of its loop. No public clause cites it.
 use Rattle.std.specs.Prelude.{◌≡◌, ◌≤◌, ℕ, ◌+◌, ◌++◌, Bool, true, List, Option, length}
-use Rattle.transyt_io.specs.Model.{Reading}
-use Rattle.transyt_io.specs.Reading.{HasRead}
+use Rattle.transyt_io.specs.Reading.{Reading, HasRead}
 use Rattle.transyt_io.specs.Streams.{Takes, Adds}
-use Rattle.transyt_outcome.specs.Turns.{answers_after, ending_after, costs_after}
+use Rattle.transyt_outcome.specs.Runs.{answers_after, ending_after, costs_after, Answering, of_lines, answers_by}
+use Rattle.transyt_outcome.specs.Runs.{ending_by, costs_by}
 use Rattle.transyt_outcome.specs.Outcome.{IsWritten}
-use Rattle.transyt_outcome.specs.Runs.{Answering, of_lines, answers_by, ending_by, costs_by}
 
 -- these lines are answered by this text, from the one count of steps to the other, and none of them ends the run
 pub record AnsweredSoFar (by : Answering) (before : List (List ℕ)) (out : List ℕ) (steps steps_new : ℕ) : Type 0 where

@@ -1,6 +1,6 @@
 //! The status of a run by what ended it.
 ghost use Rattle.std.specs.Prelude.{◌≡◌, if◌then◌else◌};
-ghost use Rattle.transyt_outcome.specs.Turns.{is_refusal};
+ghost use Rattle.transyt_outcome.specs.Runs.{is_refusal};
 
 use crate::status::Status;
 use transyt_io::ReadStop;

@@ -1,6 +1,6 @@
 //! How a run ended.
 ghost use Rattle.std.specs.Prelude.{◌≡◌};
-ghost use Rattle.transyt_outcome.specs.Exit.{exit_number};
+ghost use Rattle.transyt_outcome.specs.Outcome.{exit_number};
 
 /// How a run ended.
 #[derive(Debug, Clone, Copy, PartialEq, Eq, Drop)]

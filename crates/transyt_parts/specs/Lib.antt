@@ -3,7 +3,5 @@ pub mod Valid
 pub mod WorkedParts
 pub mod WorkedPlans
 pub mod Made
-pub mod Flow
 pub mod Plan
 pub mod Ranges
-pub mod Shape

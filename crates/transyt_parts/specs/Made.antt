@@ -1,5 +1,5 @@
--- Parts of given numbers, and parts with one thing more.
-use Rattle.std.specs.Prelude.{ℕ, List, [], ◌∷◌, ◌++◌, Some, None}
+-- Parts of given numbers, parts with one thing more, and the shape of parts: all but the numbers that an edit sets.
+use Rattle.std.specs.Prelude.{ℕ, List, [], ◌∷◌, ◌++◌, Some, None, map}
 use Rattle.transyt_parts.specs.Parts.{NodeValue, LinkValue, PlanValue, Stage, Feed, GiveWay, Weights}
 use Rattle.transyt_parts.specs.declared.link.NewLink.{NewLink}
 
@@ -59,3 +59,19 @@ set_rule rule l = record l { gives_way = Some rule }
 -- a climb plan of these numbers
 abbrev pub new_plan : ℕ → List ℕ → PlanValue
 new_plan budget sizes = record { budget = budget; sizes = sizes }
+
+-- a stage with its change put to 0
+abbrev pub bare_stage : Stage → Stage
+bare_stage s = record s { change = 0 }
+
+-- a node with each number that an edit sets put to 0
+abbrev pub bare_node : NodeValue → NodeValue
+bare_node n = record n { offset = 0; stages = map bare_stage n.stages }
+
+-- a feed with its flow and cruise time put to 0
+abbrev pub bare_feed : Feed → Feed
+bare_feed f = record f { flow = 0; cruise = 0 }
+
+-- a link with each number that an edit sets put to 0
+abbrev pub bare_link : LinkValue → LinkValue
+bare_link l = record l { entry = 0; saturation = 0; weights = new_weights 0 0; feeds = map bare_feed l.feeds }

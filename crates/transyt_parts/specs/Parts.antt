@@ -1,5 +1,5 @@
 -- The parts of a network as contracts see them: a list in place of each vector.
-use Rattle.std.specs.Prelude.{ℕ, List, Option}
+use Rattle.std.specs.Prelude.{ℕ, List, Option, ◌+◌, sum_by}
 pub use Rattle.transyt_parts.specs.declared.node.Stage.{Stage}
 pub use Rattle.transyt_parts.specs.declared.link.Feed.{Feed}
 pub use Rattle.transyt_parts.specs.declared.link.GiveWay.{GiveWay}
@@ -28,3 +28,7 @@ pub record LinkValue : Type 0 where
 pub record PlanValue : Type 0 where
   pub budget : ℕ
   pub sizes : List ℕ
+
+-- a link's entry flow and the flows of its feeds, in vehicles per hour
+abbrev pub total_flow : LinkValue → ℕ
+total_flow l = l.entry + sum_by (λ f. f.flow) l.feeds

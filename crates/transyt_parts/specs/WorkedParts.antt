@@ -1,15 +1,13 @@
 -- Worked parts: each limit and one past it, parts of given numbers, what no edit changes, and the total flow.
 use Rattle.std.specs.Prelude.{ℕ, Bool, List, [], ◌∷◌, map, Some, None}
 use Rattle.transyt_parts.specs.declared.link.NewLink.{NewLink}
-use Rattle.transyt_parts.specs.Parts.{NodeValue, LinkValue, PlanValue}
+use Rattle.transyt_parts.specs.Parts.{NodeValue, LinkValue, PlanValue, total_flow}
 use Rattle.transyt_parts.specs.Ranges.{within, is_in, cycle_range, step_count_range, sweeps_range, period_range}
 use Rattle.transyt_parts.specs.Ranges.{most_penalty, most_dispersion, number_range, most_flow, saturation_range}
 use Rattle.transyt_parts.specs.Ranges.{most_weight, cruise_range, most_percent, budget_range, most_stages, most_sizes}
 use Rattle.transyt_parts.specs.Valid.{all_differ, feeders, is_fed, node_number, link_number}
 use Rattle.transyt_parts.specs.Made.{new_node, new_stage, add_stage, link_from, new_feed, add_feed, new_rule, set_rule}
-use Rattle.transyt_parts.specs.Made.{new_plan}
-use Rattle.transyt_parts.specs.Flow.{total_flow}
-use Rattle.transyt_parts.specs.Shape.{bare_node, bare_link}
+use Rattle.transyt_parts.specs.Made.{new_plan, bare_node, bare_link}
 
 -- the ranges at their ends: no, yes, yes, no
 abbrev pub ends : List (List Bool)

@@ -4,8 +4,8 @@
 //! place of each vector: `NodeValue`, `LinkValue` and `PlanValue`; frames, stages, feeds and rules
 //! are seen as they are. Cite first: `is_in` and `IsIn` of `specs/Ranges` for ranges, `IsNode`
 //! and its like of `specs/Valid` for what a part keeps to, `link_from` and its like of `specs/Made` for parts
-//! of given numbers, `length_at`, `plan_fault` and `first_fault` of `specs/Plan`, `total_flow` of
-//! `specs/Flow`, and `bare_node` and `bare_link` of `specs/Shape` for what no edit changes.
+//! of given numbers, `bare_node` and `bare_link` there for what no edit changes, `length_at`,
+//! `plan_fault` and `first_fault` of `specs/Plan`, and `total_flow` of `specs/Parts`.
 //!
 //! The parts are those of Robertson's TRANSYT (LR 253); lags, give-way rules, climb plans and all
 //! limits are this project's own.

@@ -2,7 +2,7 @@
 
 ghost use Rattle.std.specs.Prelude.{◌≡◌, ◌+◌, ◌≤◌, length, All, OnOk, OnErr};
 ghost use Rattle.transyt_parts.specs.Made.{add_feed, set_rule};
-ghost use Rattle.transyt_parts.specs.Flow.{total_flow};
+ghost use Rattle.transyt_parts.specs.Parts.{total_flow};
 ghost use Rattle.transyt_parts.specs.Valid.{is_fed};
 
 use std::alloc::AllocFailed;

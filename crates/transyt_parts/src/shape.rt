@@ -4,7 +4,7 @@
 //! project's own.
 
 ghost use Rattle.std.specs.Prelude.{◌≡◌, ◌↔◌, ℕ, IsTrue, map};
-ghost use Rattle.transyt_parts.specs.Shape.{bare_stage, bare_node, bare_feed, bare_link};
+ghost use Rattle.transyt_parts.specs.Made.{bare_stage, bare_node, bare_feed, bare_link};
 
 use crate::climb_plan::ClimbPlan;
 use crate::frame::Frame;

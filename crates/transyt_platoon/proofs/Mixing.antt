@@ -12,7 +12,7 @@ use Rattle.std.proofs.Math.Nat.{div-le_of_le-mul}
 use Rattle.transyt_cycle.specs.Cycle.{minus_mod}
 use Rattle.transyt_cycle.proofs.CycleLaws.{minus_mod-lt, minus_mod-add, turned_apart}
 use Rattle.transyt_platoon.specs.Platoon.{mixed, smoothed, dispersed_at, dispersed}
-use Rattle.transyt_platoon.specs.Turns.{Placed}
+use Rattle.transyt_platoon.specs.Passing.{Placed}
 
 -- a mean of two numbers below a bound is below it
 pub mixed_below : (w x z b : ℕ) → x < b → z < b → mixed w x z < b

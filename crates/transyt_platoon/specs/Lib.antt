@@ -1,6 +1,5 @@
 pub mod Platoon
-pub mod Turns
+pub mod Passing
 pub mod Travels
 pub mod Arriving
-pub mod Passing
 pub mod WorkedPlatoons

@@ -1,10 +1,14 @@
 -- Platoons that go by side by side, step by step, twice round the cycle. No public clause cites it.
-use Rattle.std.specs.Prelude.{◌≡◌, ℕ, ◌+◌, ◌-◌, ◌*◌, ◌%◌, ◌<◌, List, length, slice_index, slice_index_or, sum, All}
+use Rattle.std.specs.Prelude.{◌≡◌, ℕ, ◌+◌, ◌*◌, ◌%◌, ◌<◌, List, length, slice_index, ◌-◌, slice_index_or, sum, All}
 use Rattle.std.specs.Prelude.{if◌then◌else◌, ltb}
 use Rattle.transyt_platoon.specs.Platoon.{smoothed}
 use Rattle.transyt_platoon.specs.Arriving.{sent}
 use Rattle.transyt_platoon.specs.declared.platoon.Platoon.{Platoon}
 use Rattle.transyt_platoon.specs.declared.passing.Passing.{Passing}
+
+-- ys has the first n steps of the second turn of xs in their places: t steps of travel at k percent lead each there
+abbrev pub Placed : List ℕ → List ℕ → ℕ → ℕ → ℕ → Type 0
+Placed xs ys t k n = (m : ℕ) → m < n → slice_index ys ((m + t) % length xs) ≡ smoothed xs (k * t) (length xs + 1 + m)
 
 -- the steps of a platoon
 abbrev pub steps_of : Platoon → ℕ

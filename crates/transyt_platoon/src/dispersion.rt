@@ -2,7 +2,7 @@
 
 ghost use Rattle.std.specs.Prelude.{◌≡◌, ℕ, ◌+◌, ◌-◌, ◌*◌, ◌/◌, ◌%◌, ◌^◌, ◌<◌, ◌≤◌, length, replicate, slice_index, sum, All};
 ghost use Rattle.transyt_platoon.specs.Platoon.{mixed, smoothed, dispersed};
-ghost use Rattle.transyt_platoon.specs.Turns.{Placed};
+ghost use Rattle.transyt_platoon.specs.Passing.{Placed};
 
 use crate::mixer::{most_of, travel_by};
 use transyt_profile::total;

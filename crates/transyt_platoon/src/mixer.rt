@@ -2,7 +2,7 @@
 
 ghost use Rattle.std.specs.Prelude.{◌≡◌, ℕ, ◌+◌, ◌*◌, ◌/◌, ◌%◌, ◌^◌, ◌<◌, ◌≤◌, length, slice_index, sum};
 ghost use Rattle.transyt_platoon.specs.Platoon.{mixed};
-ghost use Rattle.transyt_platoon.specs.Turns.{Placed};
+ghost use Rattle.transyt_platoon.specs.Passing.{Placed};
 
 use crate::dispersion::{Journey, after};
 use transyt_num::reciprocal;

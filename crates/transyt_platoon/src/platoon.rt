@@ -1,7 +1,7 @@
 //! A platoon that is to set out.
 
 ghost use Rattle.std.specs.Prelude.{◌^◌, ◌<◌, length, All};
-ghost use Rattle.transyt_profile.specs.Parts.{IsPart};
+ghost use Rattle.transyt_profile.specs.Profile.{IsPart};
 ghost use Rattle.transyt_platoon.specs.Travels.{IsTravel};
 
 use crate::travel::Travel;

@@ -2,7 +2,7 @@
 use Rattle.std.proofs.Common.{◌≡◌, [], refl}
 use Rattle.std.specs.Prelude.{slice_index_or}
 use Rattle.transyt_platoon.specs.Platoon.{smoothed}
-use Rattle.transyt_stopline.specs.LastSteps.{sum_back, greatest}
+use Rattle.transyt_stopline.specs.StopLine.{sum_back, greatest}
 use Rattle.transyt_stage.specs.ThreeJunctions.{three_junctions}
 use Rattle.transyt_sweep.specs.Sweeps.{seen, out_of, evaluated}
 use Rattle.transyt_sweep.specs.WorkedLinks.{arrivals_of_three, gos_of_three, outs_of_three}

@@ -1,3 +1,2 @@
 pub mod Profile
-pub mod Parts
 pub mod WorkedProfiles

@@ -1,6 +1,8 @@
--- Profiles: lists with one value for each step of the cycle.
-use Rattle.std.specs.Prelude.{ℕ, ◌+◌, ◌*◌, ◌/◌, ◌==◌, List, length, map, replicate, slice_index, if◌then◌else◌}
+-- Profiles: lists with one value for each step of the cycle, and parts of them.
+use Rattle.std.specs.Prelude.{ℕ, ◌+◌, ◌*◌, ◌/◌, ◌==◌, List, length, map, replicate, slice_index, if◌then◌else◌, ◌≡◌}
+use Rattle.std.specs.Prelude.{◌^◌, ◌<◌, ◌≤◌, true}
 use Rattle.std.specs.List.{range_with_len}
+use Rattle.transyt_profile.specs.declared.sharing.Part.{Part}
 
 -- the profile with this value at each step
 abbrev pub uniform : ℕ → ℕ → List ℕ
@@ -25,3 +27,17 @@ share_of part whole value = (if whole == 0 then 0 else value * part / whole)
 -- the part of each value of a profile
 abbrev pub shared : ℕ → ℕ → List ℕ → List ℕ
 shared part whole xs = map (share_of part whole) xs
+
+-- a product by the factor takes the place of a division: the factor is the part times the reciprocal of the whole
+pub record IsQuick (p : Part) : Type 0 where
+  pub fits : p.part ≤ 9999
+  pub some : 1 < p.whole
+  pub whole : p.whole < 2 ^ 20
+  pub least : 2 ^ 64 ≤ p.reciprocal * p.whole
+  pub close : p.reciprocal * p.whole < 2 ^ 64 + p.whole
+  pub factor : p.factor ≡ p.part * p.reciprocal
+
+-- where it says that a product serves, it does
+pub record IsPart (p : Part) : Type 0 where
+  pub fits : p.part ≤ 9999
+  pub quick : p.quick ≡ true → IsQuick p

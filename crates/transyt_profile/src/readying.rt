@@ -2,8 +2,7 @@
 
 ghost use Rattle.std.specs.Prelude.{◌≡◌, ℕ, ◌+◌, ◌*◌, ◌^◌, ◌<◌, ◌≤◌, bit_or, fold, length, slice_index, sum, All, Any};
 ghost use Rattle.std.specs.Prelude.{IfNone, IfSome};
-ghost use Rattle.transyt_profile.specs.Parts.{IsPart, IsQuick};
-ghost use Rattle.transyt_profile.specs.Profile.{share_of, shared};
+ghost use Rattle.transyt_profile.specs.Profile.{IsPart, IsQuick, share_of, shared};
 
 use crate::sharing::{Part, product, share_step};
 

@@ -1,8 +1,7 @@
 //! The part of a profile that goes on to one link.
 
 ghost use Rattle.std.specs.Prelude.{◌≡◌, ◌+◌, ◌*◌, ◌^◌, ◌<◌, ◌≤◌, length, All};
-ghost use Rattle.transyt_profile.specs.Profile.{share_of, shared};
-ghost use Rattle.transyt_profile.specs.Parts.{IsPart, IsQuick};
+ghost use Rattle.transyt_profile.specs.Profile.{share_of, shared, IsPart, IsQuick};
 
 use transyt_num::reciprocal;
 

@@ -3,8 +3,8 @@ use Rattle.std.proofs.Common.{◌≡◌, [], ◌∷◌, ◌++◌, codes, true, f
 use Rattle.std.specs.Fmt.{digits}
 use Rattle.transyt_net.specs.declared.edit.Edit.TheVariants.{Offset, Change}
 use Rattle.transyt_text.specs.Forms.{filled, form_line}
-use Rattle.transyt_report.specs.Texts.{index_line, figures_line, node_line, stage_line, node_text, timing_end, work_line}
-use Rattle.transyt_report.specs.MoveTexts.{took_text, end_text}
+use Rattle.transyt_report.specs.Texts.{index_line, figures_line, node_line, stage_line, node_text, timing_end}
+use Rattle.transyt_report.specs.Texts.{work_line, took_text, end_text}
 use Rattle.transyt_report.specs.WorkedTexts.{some_figures, figures_text, node_of_two, lines_of_two, node_of_three}
 use Rattle.transyt_report.specs.WorkedTexts.{lines_of_three}
 

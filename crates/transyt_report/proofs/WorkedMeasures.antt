@@ -4,7 +4,7 @@ use Rattle.std.specs.List.{range_with_len}
 use Rattle.std.specs.Fmt.{digits}
 use Rattle.transyt_delay.specs.declared.figures.Figures.{Figures}
 use Rattle.transyt_platoon.specs.Platoon.{smoothed}
-use Rattle.transyt_stopline.specs.LastSteps.{sum_back, greatest}
+use Rattle.transyt_stopline.specs.StopLine.{sum_back, greatest}
 use Rattle.transyt_stage.specs.ThreeJunctions.{three_junctions}
 use Rattle.transyt_sweep.specs.Sweeps.{seen, out_of, evaluated, index}
 use Rattle.transyt_sweep.specs.WorkedLinks.{figures_of_three}
@@ -12,7 +12,7 @@ use Rattle.transyt_sweep.proofs.WorkedFigures.{figures_come_out, index_comes_out
 use Rattle.transyt_text.specs.Forms.{filled, form_line}
 use Rattle.transyt_report.specs.declared.measures.LinkFigures.{LinkFigures}
 use Rattle.transyt_report.specs.Measures.{flow_sent, degree_of_saturation, mean_delay, part_stopped, worst_of}
-use Rattle.transyt_report.specs.FiguresText.{figures_report, link_figures_line, total_line}
+use Rattle.transyt_report.specs.Measures.{figures_report, link_figures_line, total_line}
 use Rattle.transyt_report.specs.declared.showing.Report.TheVariants as r
 use Rattle.transyt_report.specs.Texts.{report_text}
 use Rattle.transyt_report.specs.WorkedMeasures.{worked_degrees, worked_delays, worked_stops, worked_worst, sent_of_three}

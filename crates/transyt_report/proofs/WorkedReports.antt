@@ -4,7 +4,7 @@ use Rattle.std.specs.List.{range_with_len}
 use Rattle.std.specs.Fmt.{digits}
 use Rattle.transyt_delay.specs.declared.figures.Figures.{Figures}
 use Rattle.transyt_platoon.specs.Platoon.{smoothed}
-use Rattle.transyt_stopline.specs.LastSteps.{sum_back, greatest}
+use Rattle.transyt_stopline.specs.StopLine.{sum_back, greatest}
 use Rattle.transyt_stage.specs.ThreeJunctions.{three_junctions}
 use Rattle.transyt_sweep.specs.Sweeps.{seen, out_of, evaluated, index}
 use Rattle.transyt_sweep.specs.WorkedLinks.{figures_of_three}

@@ -1,15 +1,15 @@
--- The figures of links and of the network in the units of an engineer.
+-- The figures of links and of the network in the units of an engineer, and the text of FIGURES.
 use Rattle.std.specs.Prelude.{ℕ, ◌+◌, ◌*◌, ◌/◌, ◌==◌, nat_eq, nat_le, min, max, Bool, List, length, map, fold, find}
-use Rattle.std.specs.Prelude.{sum, sum_by, if◌then◌else◌}
+use Rattle.std.specs.Prelude.{sum, sum_by, if◌then◌else◌, [], ◌∷◌, ◌++◌, codes, flat_map}
 use Rattle.std.specs.Option.{option_map_or}
 use Rattle.std.specs.List.{range_with_len, list_all}
 use Rattle.transyt_parts.specs.declared.link.Feed.{Feed}
-use Rattle.transyt_parts.specs.Parts.{LinkValue}
-use Rattle.transyt_parts.specs.Flow.{total_flow}
+use Rattle.transyt_parts.specs.Parts.{LinkValue, total_flow}
 use Rattle.transyt_net.specs.Parts.{Network, link_of}
 use Rattle.transyt_sweep.specs.Sweeps.{evaluated, index}
 use Rattle.transyt_report.specs.declared.measures.LinkFigures.{LinkFigures}
 use Rattle.transyt_report.specs.declared.totals.NetworkFigures.{NetworkFigures}
+use Rattle.transyt_text.specs.Forms.{form_line}
 
 -- the greatest of a number and these values
 abbrev pub greatest : ℕ → List ℕ → ℕ
@@ -102,3 +102,23 @@ network_figures net = record {
   index = index net;
   worst = worst_of (all_link_figures net);
 }
+
+-- the line of a link
+unfoldable pub link_figures_line : LinkFigures → List ℕ
+link_figures_line f =
+    form_line (codes "LINK # FLOW # SENT # SATURATION # DELAY # STOPPED # QUEUE #")
+    (f.link ∷ f.flow ∷ f.sent ∷ f.saturation ∷ f.delay ∷ f.stopped ∷ f.queue ∷ [])
+
+-- the line of the link at a place
+abbrev pub link_figures_at : Network → ℕ → List ℕ
+link_figures_at net l = link_figures_line (link_figures net l)
+
+-- the last line
+unfoldable pub total_line : NetworkFigures → List ℕ
+total_line f =
+    form_line (codes "TOTAL DELAY # STOPS # INDEX # WORST #") (f.delay ∷ f.stops ∷ f.index ∷ f.worst ∷ [])
+
+-- FIGURES: each link, then the network
+abbrev pub figures_report : Network → List ℕ
+figures_report net =
+    flat_map (link_figures_at net) (range_with_len 0 (length net.links)) ++ total_line (network_figures net)

@@ -1,5 +1,6 @@
--- The texts of the reports, over a network and the work so far.
-use Rattle.std.specs.Prelude.{ℕ, ◌+◌, ◌-◌, ◌%◌, ◌<◌, List, [], ◌∷◌, ◌++◌, length, codes, flat_map}
+-- The texts of the reports, over a network and the work so far, and the lines of a climb.
+use Rattle.std.specs.Prelude.{ℕ, ◌+◌, ◌-◌, ◌%◌, ◌<◌, List, [], ◌∷◌, ◌++◌, length, codes, flat_map, Bool, true, false}
+use Rattle.std.specs.Prelude.{if◌then◌else◌}
 use Rattle.std.specs.List.{range_with_len}
 use Rattle.transyt_delay.specs.declared.figures.Figures.{Figures}
 use Rattle.transyt_parts.specs.Parts.{NodeValue}
@@ -8,9 +9,11 @@ use Rattle.transyt_net.specs.Parts.{Network, node_of, link_of}
 use Rattle.transyt_sweep.specs.Sweeps.{evaluated, index}
 use Rattle.transyt_text.specs.Forms.{form_line, values_line}
 use Rattle.transyt_report.specs.declared.showing.Report.{Report}
-use Rattle.transyt_report.specs.declared.showing.Report.TheVariants as r
 use Rattle.transyt_report.specs.Chart.{chart_text}
-use Rattle.transyt_report.specs.FiguresText.{figures_report}
+use Rattle.transyt_report.specs.Measures.{figures_report}
+use Rattle.transyt_net.specs.declared.edit.Edit.{Edit}
+use Rattle.transyt_net.specs.declared.edit.Edit.TheVariants.{Offset, Change}
+use Rattle.transyt_report.specs.declared.showing.Report.TheVariants as r
 
 -- the line of an index
 unfoldable pub index_line : ℕ → List ℕ
@@ -98,3 +101,22 @@ abbrev pub IsOfPlace : Network → Report → Type 0
 IsOfPlace net (r.Profile link) = link < length net.links
 IsOfPlace net (r.Queue link) = link < length net.links
 IsOfPlace net _ = Unit {0}
+
+-- whether an edit is one that a climb makes: of an offset or a change
+abbrev pub is_move : Edit → Bool
+is_move (Offset node offset) = true
+is_move (Change node stage change) = true
+is_move e = false
+
+-- the line of a step that a climb takes; another edit has none
+abbrev pub took_text : ℕ → Edit → ℕ → List ℕ
+took_text place (Offset node offset) index =
+    form_line (codes "TOOK # OFFSET # # INDEX #") (place ∷ node ∷ offset ∷ index ∷ [])
+took_text place (Change node stage change) index =
+    form_line (codes "TOOK # CHANGE # # # INDEX #") (place ∷ node ∷ stage ∷ change ∷ index ∷ [])
+took_text place e index = []
+
+-- the last line of a climb: LOCAL or BUDGET, the places looked at, and the index
+abbrev pub end_text : Bool → ℕ → ℕ → List ℕ
+end_text local looked index =
+    form_line (if local then codes "LOCAL # INDEX #" else codes "BUDGET # INDEX #") (looked ∷ index ∷ [])

@@ -1,8 +1,8 @@
 //! FIGURES.
 ghost use Rattle.std.specs.Prelude.{◌≡◌, ◌<◌, length};
 ghost use Rattle.transyt_text.specs.Prints.{PrintsOn};
-ghost use Rattle.transyt_report.specs.Measures.{network_figures};
-ghost use Rattle.transyt_report.specs.FiguresText.{link_figures_line, link_figures_at, total_line, figures_report};
+ghost use Rattle.transyt_report.specs.Measures.{network_figures, link_figures_line, link_figures_at, total_line};
+ghost use Rattle.transyt_report.specs.Measures.{figures_report};
 
 use crate::measures::{LinkFigures, link_figures};
 use crate::totals::{NetworkFigures, network_figures};

@@ -2,7 +2,7 @@
 //! lines of a climb and of a certificate.
 //!
 //! `specs/Texts` has the text of each report over the network and the work so far, `report_text net work what`, and
-//! `specs/MoveTexts` the lines of a climb; those of a certificate are of `transyt_cert`. [`show`] writes a report of a
+//! the lines of a climb; those of a certificate are of `transyt_cert`. [`show`] writes a report of a
 //! session, and says so by `Prints` of `transyt_text`. The figures of FIGURES are values too, by `specs/Measures`:
 //! [`link_figures`] and [`network_figures`]. All texts are this project's own.
 #![tactic(auto)]

@@ -1,7 +1,7 @@
 //! The lines of a climb and of a certificate, each with its line end.
 ghost use Rattle.std.specs.Prelude.{◌≡◌, ◌<◌, ◌≤◌, IsTrue, length};
 ghost use Rattle.transyt_cert.specs.Certificate.{move_text, last_text};
-ghost use Rattle.transyt_report.specs.MoveTexts.{is_move, took_text, end_text};
+ghost use Rattle.transyt_report.specs.Texts.{is_move, took_text, end_text};
 
 use transyt_cert::{put_end, put_move};
 use transyt_io::LineBuffer;

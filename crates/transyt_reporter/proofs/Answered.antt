@@ -7,8 +7,7 @@ use Rattle.transyt_deck.specs.Deck.{Deck, Open, Complete, Refused, next, is_open
 use Rattle.transyt_session.specs.Session.{SessionValue}
 use Rattle.transyt_desks.specs.Desks.{desk_zero}
 use Rattle.transyt_outcome.specs.declared.ending.Ending.{Ending}
-use Rattle.transyt_outcome.specs.Runs.{answers_by}
-use Rattle.transyt_outcome.specs.Turns.{answers_after, unless_ended, AnsweredWhole}
+use Rattle.transyt_outcome.specs.Runs.{answers_by, answers_after, unless_ended, AnsweredWhole}
 use Rattle.transyt_outcome.specs.declared.ending.Stop.{Stop}
 use Rattle.transyt_answers.specs.Commands.{session_after}
 use Rattle.transyt_answers.specs.Report.{RunState, InDeck, InSession, run_of, run_after, run_state, line_text, line_ends}

@@ -8,7 +8,7 @@ use Rattle.transyt_io.proofs.Told.{adds_both}
 use Rattle.transyt_net.specs.Parts.{Network}
 use Rattle.transyt_moves.specs.Moves.{move, move_count}
 use Rattle.transyt_sweep.specs.Sweeps.{index}
-use Rattle.transyt_track.specs.Work.{edit_work, cert_work}
+use Rattle.transyt_track.specs.Due.{edit_work, cert_work}
 use Rattle.transyt_session.specs.declared.answers.Tried.{Tried}
 use Rattle.transyt_session.specs.Session.{SessionValue, try_of, credited}
 use Rattle.transyt_text.specs.Prints.{Prints, Printed}
@@ -19,10 +19,9 @@ use Rattle.transyt_answers.specs.declared.answer.Answer.TheVariants as a
 use Rattle.transyt_answers.specs.Commands.{after_answer}
 use Rattle.transyt_answers.proofs.CertLaws.{cert_more}
 use Rattle.std.specs.Prelude.{slice_index_or}
-use Rattle.transyt_desks.specs.Finds.{AreTriesOf}
-use Rattle.transyt_desks.specs.Stretches.{work_found}
+use Rattle.transyt_desks.specs.Stretches.{AreTriesOf, work_found}
 use Rattle.transyt_desks.proofs.TriedLaws.{try_work}
-use Rattle.transyt_reporter.specs.Certifying.{HasCertified, places_text}
+use Rattle.transyt_reporter.specs.Conditions.{HasCertified, places_text}
 use Rattle.transyt_reporter.proofs.ClimbTexts.{whole}
 
 -- the work of a try is little

@@ -5,9 +5,8 @@ use Rattle.transyt_deck.specs.declared.state.Part.TheVariants as p
 use Rattle.transyt_deck.specs.declared.state.State.{State}
 use Rattle.transyt_deck.specs.declared.state.State.TheVariants as s
 use Rattle.transyt_deck.specs.State.{state_after}
-use Rattle.transyt_deck.specs.Reader.{ReaderValue}
+use Rattle.transyt_deck.specs.Deck.{ReaderValue, Deck, Refused, Complete, Open, deck_at, deck_by, next, line_count}
 use Rattle.transyt_reporter.specs.Reporter.{ReporterValue, IsReporter, reporter_of}
-use Rattle.transyt_deck.specs.Deck.{Deck, Refused, Complete, Open, deck_at, deck_by, next, line_count}
 
 -- a deck at a line
 count_at : (n : ℕ) (state : State) → line_count (deck_at n state) ≡ n

@@ -3,10 +3,9 @@ use Rattle.std.proofs.Common.{◌+◌, ◌≡◌, ℕ, zero, suc, ◌-◌, ◌�
 use Rattle.std.proofs.Common.{refl, sym, subst, arith, slice_index_or}
 use Rattle.std.specs.List.{flat_map, range_with_len}
 use Rattle.std.proofs.lemmas.Bool.{cond_both}
-use Rattle.transyt_parts.specs.Parts.{NodeValue}
+use Rattle.transyt_parts.specs.Parts.{NodeValue, PlanValue}
 use Rattle.transyt_net.specs.Parts.{Network}
 use Rattle.transyt_net.specs.declared.edit.Edit.{Edit}
-use Rattle.transyt_parts.specs.Parts.{PlanValue}
 use Rattle.transyt_parts.specs.Valid.{IsPlan}
 use Rattle.transyt_net.specs.Valid.{IsValid}
 use Rattle.transyt_answers.specs.Commands.{budget_of}
@@ -17,7 +16,7 @@ use Rattle.transyt_climb.specs.Way.{IsRound}
 use Rattle.transyt_climb.proofs.TurnLaws.{by_answer, by_look}
 use Rattle.transyt_climb.specs.Turns.{Counters, start_at, start_of, Machine, answer_of, turns, is_end}
 use Rattle.transyt_desks.specs.Rounds.{is_took, up_to, turns_up_to, room_of, turns_of}
-use Rattle.transyt_report.specs.MoveTexts.{is_move}
+use Rattle.transyt_report.specs.Texts.{is_move}
 use Rattle.transyt_reporter.specs.Conditions.{IsStep}
 use Rattle.transyt_answers.proofs.StepLaws.{least_some}
 

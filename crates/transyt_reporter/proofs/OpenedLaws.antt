@@ -2,8 +2,7 @@
 use Rattle.std.proofs.Common.{◌≡◌, ℕ, ◌-◌, ◌≤◌, None, Ok, arith}
 use Rattle.std.proofs.lemmas.List.{length-replicate}
 use Rattle.transyt_net.specs.Parts.{Network}
-use Rattle.transyt_deck.specs.Deck.{Deck, Refused, Complete, Open}
-use Rattle.transyt_deck.specs.Reader.{finished}
+use Rattle.transyt_deck.specs.Deck.{Deck, Refused, Complete, Open, finished}
 use Rattle.transyt_session.specs.Session.{SessionValue, opened}
 use Rattle.transyt_desks.specs.Desks.{opened_desks}
 use Rattle.transyt_reporter.specs.Reporter.{AreKept}

@@ -2,7 +2,7 @@
 use Rattle.std.proofs.Common.{◌≡◌, ℕ, zero, suc, ◌-◌, ◌<◌, List, length, None, IfSome, refl, sym, ap, subst, arith, set}
 use Rattle.std.proofs.lemmas.List.{length-set, length-replicate}
 use Rattle.std.proofs.lemmas.Option.{MatchOption-from_none}
-use Rattle.transyt_net.specs.Shape.{shape, SameShape}
+use Rattle.transyt_net.specs.Parts.{shape, SameShape}
 use Rattle.transyt_session.specs.Session.{SessionValue, opened}
 use Rattle.transyt_desks.specs.Desks.{session_at, desk_zero, opened_desks, AreAlike}
 use Rattle.transyt_desks.proofs.DeskLaws.{alike_lent, opened_at, zero_set}

@@ -6,7 +6,7 @@ use Rattle.transyt_net.specs.Parts.{Network}
 use Rattle.transyt_deck.specs.Deck.{Complete}
 use Rattle.transyt_moves.specs.Moves.{move, move_count}
 use Rattle.transyt_sweep.specs.Climb.{tried_at, lowers, moved, climb}
-use Rattle.transyt_track.specs.Work.{work_of}
+use Rattle.transyt_track.specs.Due.{work_of}
 use Rattle.transyt_session.specs.Session.{opened}
 use Rattle.transyt_climb.specs.WorkedTurns.{idle}
 use Rattle.transyt_text.specs.Forms.{filled, form_line}

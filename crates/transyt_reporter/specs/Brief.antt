@@ -3,7 +3,7 @@ use Rattle.std.specs.Prelude.{ℕ, ◌+◌, ◌*◌, Bool, List, [], ◌∷◌, 
 use Rattle.transyt_net.specs.Parts.{Network}
 use Rattle.transyt_sweep.specs.Sweeps.{index}
 use Rattle.transyt_sweep.specs.Climb.{Climb}
-use Rattle.transyt_track.specs.Work.{work_of}
+use Rattle.transyt_track.specs.Due.{work_of}
 use Rattle.transyt_text.specs.Forms.{form_line}
 use Rattle.transyt_answers.specs.Commands.{climb_of}
 

@@ -1,18 +1,22 @@
--- The invariant of the desks between two lines. No clause of the top call cites it.
-use Rattle.std.specs.Prelude.{ℕ, ◌+◌, ◌≡◌, ◌<◌, ◌≤◌, true, length, Option, IfSome, List}
-use Rattle.std.specs.Prelude.{Result, OnOk, OnErr, IfOk, IsErrOf}
+-- The invariant of the desks between two lines, and a certificate by several desks, which try a batch of places at once.
+-- No clause of the top call cites it.
+use Rattle.std.specs.Prelude.{ℕ, ◌+◌, ◌≡◌, ◌<◌, ◌≤◌, true, length, Option, IfSome, List, Result, OnOk, OnErr, IfOk}
+use Rattle.std.specs.Prelude.{IsErrOf, ◌*◌, flat_map}
 use Rattle.transyt_io.specs.Streams.{Adds, AddsFront, Rose}
 use Rattle.transyt_deck.specs.Deck.{Deck}
 use Rattle.transyt_outcome.specs.declared.ending.Ending.{Ending}
 use Rattle.transyt_outcome.specs.declared.ending.Stop.{Stop}
 use Rattle.transyt_outcome.specs.declared.ending.Stop.TheVariants.{Write}
 use Rattle.transyt_answers.specs.Report.{deck_said, deck_ends, deck_steps}
-use Rattle.transyt_net.specs.Shape.{SameShape}
+use Rattle.transyt_net.specs.Parts.{SameShape, Network}
 use Rattle.transyt_session.specs.Session.{SessionValue}
 use Rattle.transyt_climb.specs.declared.turn.Turn.{Turn}
 use Rattle.transyt_climb.specs.declared.turn.Turn.TheVariants.{Took}
 use Rattle.transyt_desks.specs.Desks.{desk_zero, AreAlike}
-use Rattle.transyt_report.specs.MoveTexts.{is_move}
+use Rattle.transyt_report.specs.Texts.{is_move}
+use Rattle.std.specs.List.{range_with_len}
+use Rattle.transyt_track.specs.Due.{cert_work}
+use Rattle.transyt_cert.specs.Certificate.{place_text}
 
 -- desks between two lines: each has the shape of desk 0, and so has the network before an open trial
 pub record AreReady (desks : List SessionValue) : Type 0 where
@@ -45,3 +49,16 @@ pub record AnswersDeck (deck : Deck) (result : Result (Option Ending) Stop) (wri
   pub ends : IfOk result (λ end. end ≡ deck_ends deck)
   pub steps_ok : OnOk result (steps_new ≡ steps + deck_steps deck)
   pub steps_err : OnErr result (steps_new ≤ steps + deck_steps deck)
+
+-- the lines of so many places from one on
+abbrev pub places_text : Network → ℕ → ℕ → List ℕ
+places_text net from count = flat_map (place_text net) (range_with_len from count)
+
+-- a session at whose network the lines of so many places from one on were written, or broke off: it is as it was but for
+-- the work of the places, which was added whole or in part
+pub record HasCertified {T E : Type 0} (old new : SessionValue) (from count : ℕ) (result : Result T E) : Type 0 where
+  pub net : new.net ≡ old.net
+  pub before : new.before ≡ old.before
+  pub few : new.work ≤ old.work + 8000 * count
+  pub some : new.work + cert_work old.net from ≤ old.work + cert_work old.net (from + count)
+  pub all : OnOk result (new.work + cert_work old.net from ≡ old.work + cert_work old.net (from + count))

@@ -1,6 +1,5 @@
 -- The definitions of the crate.
 pub mod Brief
-pub mod Certifying
 pub mod Conditions
 pub mod Reporter
 pub mod WorkedBrief

@@ -1,11 +1,9 @@
 -- The view of a reporter, and its invariant.
 use Rattle.std.specs.Prelude.{ℕ, ◌≡◌, ◌*◌, ◌≤◌, ◌++◌, true, List, length, Option, None, Some, IfSome, IfNone}
-use Rattle.transyt_deck.specs.Deck.{start, line_count, is_open}
-use Rattle.transyt_deck.specs.Reader.{ReaderValue}
+use Rattle.transyt_deck.specs.Deck.{start, line_count, is_open, ReaderValue}
 use Rattle.transyt_session.specs.Session.{SessionValue}
 use Rattle.transyt_desks.specs.Desks.{desk_zero}
-use Rattle.transyt_outcome.specs.Runs.{answers_by}
-use Rattle.transyt_outcome.specs.Turns.{answers_after}
+use Rattle.transyt_outcome.specs.Runs.{answers_by, answers_after}
 use Rattle.transyt_answers.specs.Report.{RunState, InDeck, InSession, deck_answering, run_state}
 use Rattle.transyt_reporter.specs.Conditions.{AreReady}
 

@@ -5,7 +5,7 @@ ghost use Rattle.transyt_sweep.specs.Sweeps.{index};
 ghost use Rattle.transyt_desks.specs.Desks.{desk_zero};
 ghost use Rattle.transyt_text.specs.Prints.{PrintsOn};
 ghost use Rattle.transyt_text.specs.Forms.{form_line};
-ghost use Rattle.transyt_track.specs.Work.{work_of};
+ghost use Rattle.transyt_track.specs.Due.{work_of};
 ghost use Rattle.transyt_reporter.specs.Brief.{brief_form, brief_text, brief_steps};
 ghost use Rattle.transyt_answers.specs.Commands.{climb_of};
 ghost use Rattle.transyt_reporter.specs.Conditions.{AreReady};

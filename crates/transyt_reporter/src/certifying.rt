@@ -6,10 +6,8 @@ ghost use Rattle.transyt_desks.specs.Desks.{desk_zero, AreAlike};
 ghost use Rattle.transyt_text.specs.Prints.{PrintsOn};
 ghost use Rattle.transyt_cert.specs.Certificate.{cert_text};
 ghost use Rattle.transyt_answers.specs.Commands.{after_answer};
-ghost use Rattle.transyt_desks.specs.Finds.{AreTriesOf};
-ghost use Rattle.transyt_desks.specs.Stretches.{work_found};
-ghost use Rattle.transyt_reporter.specs.Certifying.{HasCertified, places_text};
-ghost use Rattle.transyt_reporter.specs.Conditions.{AreReady, Leaves};
+ghost use Rattle.transyt_desks.specs.Stretches.{AreTriesOf, work_found};
+ghost use Rattle.transyt_reporter.specs.Conditions.{HasCertified, places_text, AreReady, Leaves};
 
 use crate::workers::Clerk;
 use std::sync::ledger::Ledger;

@@ -6,7 +6,7 @@ ghost use Rattle.transyt_climb.specs.Turns.{start_at, step_then};
 ghost use Rattle.transyt_climb.specs.Way.{climbed};
 ghost use Rattle.transyt_desks.specs.Desks.{desk_zero, AreAlike};
 ghost use Rattle.transyt_text.specs.Prints.{PrintsOn};
-ghost use Rattle.transyt_report.specs.MoveTexts.{end_text};
+ghost use Rattle.transyt_report.specs.Texts.{end_text};
 ghost use Rattle.transyt_answers.specs.Commands.{after_answer, steps_text, climb_text, climb_of, budget_of};
 ghost use Rattle.transyt_reporter.specs.Conditions.{IsStep, AreReady, Leaves};
 

@@ -1,7 +1,6 @@
 //! The reporter: it answers the lines of a deck and of its commands.
 ghost use Rattle.std.specs.Prelude.{◌≡◌, ◌≤◌, ◌<◌, ◌+◌, ◌^◌, true, None, Some, Ok, IfOk, IfNone, OnOk, OnErr, IsErrOf, IsTrue, length, ℕ, List, []};
-ghost use Rattle.transyt_outcome.specs.Runs.{answers_by};
-ghost use Rattle.transyt_outcome.specs.Turns.{AnsweredWhole, ClosedWhole};
+ghost use Rattle.transyt_outcome.specs.Runs.{answers_by, AnsweredWhole, ClosedWhole};
 ghost use Rattle.transyt_io.specs.Streams.{Adds, AddsFront, Rose};
 ghost use Rattle.transyt_text.specs.Prints.{PrintsOn};
 ghost use Rattle.transyt_deck.specs.Deck.{next, is_complete, line_count};

@@ -1,6 +1,6 @@
 -- The least of the worked rows.
 use Rattle.std.proofs.Common.{◌≤◌, ◌<◌, ℕ, zero, suc, lit≤, lit<, arith}
-use Rattle.transyt_scan.specs.Best.{IsLeast, to_at}
+use Rattle.transyt_scan.specs.Rows.{IsLeast, to_at}
 use Rattle.transyt_scan.specs.WorkedScan.{three_rows}
 
 -- no row is below that at place 1

@@ -1,17 +1,40 @@
--- Climbs over cycle times: the cycle times, and the row of each.
-use Rattle.std.specs.Prelude.{ℕ, ◌≤◌, nat_le, ◌&&◌, if◌then◌else◌, List, map, Option, None, option_map}
+-- Climbs over cycle times: the cycle times, the row of each, and the best row.
+use Rattle.std.specs.Prelude.{ℕ, ◌<◌, ◌≤◌, nat_lt, true, List, [], ◌∷◌, length, fold, slice_index_or, if◌then◌else◌}
+use Rattle.std.specs.Prelude.{nat_le, ◌&&◌, map, Option, None, option_map}
 use Rattle.std.specs.List.{range_with_len}
 use Rattle.transyt_net.specs.Parts.{Network, with_cycle}
 use Rattle.transyt_climbs.specs.declared.times.CycleTimes.{CycleTimes}
-use Rattle.transyt_climbs.specs.declared.plans.Planned.TheVariants as plan
 use Rattle.transyt_climbs.specs.declared.row.Climbed.{Climbed}
 use Rattle.transyt_climbs.specs.declared.row.PlanRow.{PlanRow}
-use Rattle.transyt_climbs.specs.declared.row.PlanRow.TheVariants as row
 use Rattle.transyt_climbs.specs.Times.{AreTimes, cycle_at, cycle_count, times_of, times_within}
-use Rattle.transyt_climbs.specs.Climbs.{climbed_row}
-use Rattle.transyt_climbs.specs.Plans.{PlanList}
-use Rattle.transyt_scan.specs.Best.{ScanRow, no_row}
+use Rattle.transyt_climbs.specs.Climbs.{climbed_row, PlanList}
 use Rattle.transyt_scan.specs.declared.word.ScanWord.{ScanWord}
+pub use Rattle.transyt_scan.specs.declared.row.ScanRow.{ScanRow}
+use Rattle.transyt_climbs.specs.declared.plans.Planned.TheVariants as plan
+use Rattle.transyt_climbs.specs.declared.row.PlanRow.TheVariants as row
+
+-- the row at a place that has none
+abbrev pub no_row : ScanRow
+no_row = record { cycle = 0; from = 0; took = 0; local = true; looked = 0; to = 0 }
+
+-- the index at the end of the row at a place
+abbrev pub to_at : List ScanRow → ℕ → ℕ
+to_at rows place = (slice_index_or rows place no_row).to
+
+-- the place of the first row with the least index at its end
+pub record IsLeast (rows : List ScanRow) (place : ℕ) : Type 0 where
+  pub within : place < length rows
+  pub least : (k : ℕ) → k < length rows → to_at rows place ≤ to_at rows k
+  pub first : (k : ℕ) → k < place → to_at rows place < to_at rows k
+
+-- the better of two rows: the later only where its index at the end is lower
+abbrev pub better : ScanRow → ScanRow → ScanRow
+better row later = if nat_lt later.to row.to then later else row
+
+-- the best row
+abbrev pub best : List ScanRow → ScanRow
+best [] = no_row
+best (row ∷ rows) = fold better row rows
 
 -- a question that may be asked: one to eight workers, and cycle times that may be
 pub record IsScan (asked : ScanWord) : Type 0 where

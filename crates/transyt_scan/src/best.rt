@@ -1,7 +1,7 @@
 //! The best row of a table.
 
 ghost use Rattle.std.specs.Prelude.{◌≡◌, ◌<◌, length, slice_index_or};
-ghost use Rattle.transyt_scan.specs.Best.{IsLeast, best, no_row};
+ghost use Rattle.transyt_scan.specs.Rows.{IsLeast, best, no_row};
 
 use crate::row::ScanRow;
 

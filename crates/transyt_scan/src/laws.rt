@@ -3,8 +3,7 @@
 ghost use Rattle.std.specs.Prelude.{◌≡◌, [], ◌∷◌, map, true, false, None, Some};
 ghost use Rattle.transyt_parts.specs.Made.{new_plan};
 ghost use Rattle.transyt_climb.specs.WorkedTurns.{idle};
-ghost use Rattle.transyt_scan.specs.Rows.{row_at, scan_of, table};
-ghost use Rattle.transyt_scan.specs.Best.{IsLeast, best};
+ghost use Rattle.transyt_scan.specs.Rows.{row_at, scan_of, table, IsLeast, best};
 ghost use Rattle.transyt_scan.specs.WorkedScan.{from_44, idle_with, in_range, junction_at_61, out_of_range, stayed};
 ghost use Rattle.transyt_scan.specs.WorkedScan.{climbed_at, three_rows};
 

@@ -1,7 +1,7 @@
 -- The worked session, computed from the definitions.
 use Rattle.std.proofs.Common.{◌≡◌, map, refl, ap}
 use Rattle.transyt_platoon.specs.Platoon.{smoothed}
-use Rattle.transyt_stopline.specs.LastSteps.{sum_back, greatest}
+use Rattle.transyt_stopline.specs.StopLine.{sum_back, greatest}
 use Rattle.transyt_net.specs.declared.edit.Edit.TheVariants.{Offset}
 use Rattle.transyt_sweep.specs.Sweeps.{seen, out_of, index}
 use Rattle.transyt_track.specs.Due.{differs, due_in, due_through, due}

@@ -8,8 +8,7 @@ use Rattle.transyt_net.specs.Edits.{with_edit}
 use Rattle.transyt_net.specs.EditFaults.{edit_fault}
 use Rattle.transyt_sweep.specs.Climb.{index_with, is_below}
 use Rattle.transyt_sweep.specs.Sweeps.{index}
-use Rattle.transyt_track.specs.Due.{due}
-use Rattle.transyt_track.specs.Work.{edit_work}
+use Rattle.transyt_track.specs.Due.{due, edit_work}
 use Rattle.transyt_session.specs.declared.answers.Reply.{Reply}
 use Rattle.transyt_session.specs.declared.answers.Reply.TheVariants.{Done, Refused}
 use Rattle.transyt_session.specs.declared.answers.Tried.{Tried}

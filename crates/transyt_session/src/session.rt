@@ -3,10 +3,9 @@
 ghost use Rattle.std.specs.Prelude.{◌≡◌, ◌+◌, ◌*◌, ◌^◌, ◌≤◌, ◌<◌, length, Option, Some, None, IfOk, IfErr, OnOk, OnErr, is_some, is_none, is_err};
 ghost use Rattle.transyt_net.specs.EditFaults.{edit_fault};
 ghost use Rattle.transyt_net.specs.Edits.{with_edit};
-ghost use Rattle.transyt_net.specs.Shape.{SameShape};
+ghost use Rattle.transyt_net.specs.Parts.{SameShape};
 ghost use Rattle.transyt_sweep.specs.Sweeps.{index, out_of, evaluated};
-ghost use Rattle.transyt_track.specs.Due.{due};
-ghost use Rattle.transyt_track.specs.Work.{edit_work};
+ghost use Rattle.transyt_track.specs.Due.{due, edit_work};
 ghost use Rattle.transyt_session.specs.Session.{SessionValue, opened, edited_net, edited, reply_to, try_of, trial_of, back_of, keep_of, credited, standing_for, lowered, lower_index};
 
 use crate::answers::{NoTrial, Reply, TrialOpen, Tried};

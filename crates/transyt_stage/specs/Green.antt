@@ -1,13 +1,12 @@
--- When the signals of its node let a link run.
+-- When the signals of its node let a link run, and GO of a link that gives way to another.
 use Rattle.std.specs.Prelude.{ℕ, ◌+◌, Bool, false, ◌&&◌, ◌||◌, not, nat_eq, nat_lt, nat_le, List, length, map}
-use Rattle.std.specs.Prelude.{slice_index_or, if◌then◌else◌, ◌<◌, ◌≤◌, ◌⊎◌}
+use Rattle.std.specs.Prelude.{slice_index_or, if◌then◌else◌, ◌<◌, ◌≤◌, ◌⊎◌, ◌-◌, ◌*◌, ◌/◌, ◌==◌, max, slice_index}
 use Rattle.std.specs.List.{list_any, range_with_len, Contains}
 use Rattle.transyt_cycle.specs.Cycle.{minus_mod, step_before}
 use Rattle.transyt_parts.specs.Parts.{NodeValue}
 use Rattle.transyt_parts.specs.Plan.{stage_of, length_at}
-use Rattle.transyt_net.specs.Parts.{Network, link_of}
+use Rattle.transyt_net.specs.Parts.{Network, link_of, perstep}
 use Rattle.transyt_net.specs.Edits.{the_node}
-use Rattle.transyt_net.specs.Flow.{perstep}
 
 -- how many steps after the change to the stage at a place step i comes, round the cycle
 abbrev pub since_change : ℕ → NodeValue → ℕ → ℕ → ℕ
@@ -88,3 +87,16 @@ Opens net l i = IsShown net l i × (IsShown net l (step_before net.frame.step_co
 pub record IsGreen (net : Network) (l i : ℕ) : Type 0 where
   pub held : (n : ℕ) × (n < (link_of net l).end_lag + 1) × IsShown net l (minus_mod net.frame.step_count i n)
   pub started : (n : ℕ) → n < (link_of net l).start_lag → Opens net l (minus_mod net.frame.step_count i n) → ⊥
+
+-- GO of one step, where `other` leaves the other link in it: a part of `other` less, rounded down, but a unit
+-- at least; where nothing could go nothing can
+abbrev pub yielded : ℕ → ℕ → ℕ → ℕ
+yielded percent other go = if go == 0 then 0 else max 1 (go - percent * other / 100)
+
+-- GO in step i
+abbrev pub yielded_at : ℕ → List ℕ → List ℕ → ℕ → ℕ
+yielded_at percent others goes i = yielded percent (slice_index others i) (slice_index goes i)
+
+-- GO of a link that gives way, in each step
+abbrev pub yielding : ℕ → List ℕ → List ℕ → List ℕ
+yielding percent others goes = map (yielded_at percent others goes) (range_with_len 0 (length goes))

@@ -1,4 +1,3 @@
 pub mod Green
-pub mod GiveWay
 pub mod ThreeJunctions
 pub mod WorkedGreens

@@ -1,7 +1,7 @@
 //! GO of a link that gives way to another.
 
 ghost use Rattle.std.specs.Prelude.{◌≡◌, ◌^◌, ◌<◌, ◌≤◌, length, All};
-ghost use Rattle.transyt_stage.specs.GiveWay.{yielded, yielding};
+ghost use Rattle.transyt_stage.specs.Green.{yielded, yielding};
 
 /// Takes from what can go in each step a part of what leaves the other link in it.
 ///

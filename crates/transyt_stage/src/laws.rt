@@ -2,8 +2,7 @@
 
 ghost use Rattle.std.specs.Prelude.{◌≡◌, map, length};
 ghost use Rattle.std.specs.List.{range_with_len};
-ghost use Rattle.transyt_stage.specs.Green.{is_green, green_at, signal};
-ghost use Rattle.transyt_stage.specs.GiveWay.{yielding};
+ghost use Rattle.transyt_stage.specs.Green.{is_green, green_at, signal, yielding};
 ghost use Rattle.transyt_stage.specs.ThreeJunctions.{three_junctions};
 ghost use Rattle.transyt_stage.specs.WorkedGreens.{greens, green_steps, lagging, yields};
 

@@ -7,7 +7,7 @@ use Rattle.std.proofs.lemmas.List.FromFn.{sum_by-map-range_with_len_more}
 use Rattle.std.proofs.Math.Nat.{mod_self, mod-eq_of_lt}
 use Rattle.transyt_cycle.specs.Cycle.{minus_mod, step_before}
 use Rattle.transyt_cycle.proofs.CycleLaws.{minus_mod-turns, minus_mod-step_before, step_before-lt}
-use Rattle.transyt_stopline.specs.LastSteps.{sum_back, sum_at_places}
+use Rattle.transyt_stopline.specs.StopLine.{sum_back, sum_at_places}
 
 -- the sum back to step 0 is that of the steps from 0 to i
 back_front : (xs : List ℕ) (i : ℕ) → i < length xs → sum_back xs i (suc i) ≡ sum (take (i + 1) xs)

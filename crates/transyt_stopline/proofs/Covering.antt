@@ -1,7 +1,6 @@
 -- The queue by two facts, without a difference: it covers each excess of the last steps, and it is 0 or one of them.
 use Rattle.std.proofs.Common.{◌≡◌, ℕ, ◌-◌, ◌<◌, List, length, arith, subst}
-use Rattle.transyt_stopline.specs.LastSteps.{sum_back, sum_at_places}
-use Rattle.transyt_stopline.specs.Queue.{queue_at, IsQueue}
+use Rattle.transyt_stopline.specs.StopLine.{sum_back, sum_at_places, queue_at, IsQueue}
 use Rattle.transyt_stopline.proofs.BackSums.{back_at_places}
 use Rattle.transyt_stopline.proofs.Greatest.{le_greatest, greatest_is, IsNoneOrExcess}
 

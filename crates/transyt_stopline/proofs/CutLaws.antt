@@ -7,7 +7,7 @@ use Rattle.std.proofs.lemmas.List.Sums.{sum_by-cons, get_or-le-sum_by}
 use Rattle.std.proofs.Math.Nat.{mul-le-mul_left, div-le_of_le-mul, le_of_mul-le-mul_right, div-mul-le_self}
 use Rattle.std.proofs.lemmas.Nat.{mul-lt}
 use Rattle.std.proofs.lemmas.List.{length-map}
-use Rattle.transyt_stopline.specs.Cut.{scaled, arrivals_of}
+use Rattle.transyt_stopline.specs.StopLine.{scaled, arrivals_of}
 
 -- a part of a value is at most the value
 pub scaled_part : (a b value : ℕ) → b ≤ a → scaled a b value ≤ value

@@ -1,8 +1,6 @@
 -- The worked cycles and queues, computed from the definitions; and that a queue is one number.
 use Rattle.std.proofs.Common.{◌≡◌, ◌≤◌, ℕ, zero, suc, List, [], ◌∷◌, All, map, refl, inl, inr, arith}
-use Rattle.transyt_stopline.specs.LastSteps.{sum_back, greatest}
-use Rattle.transyt_stopline.specs.Queue.{IsQueue, queues, outs}
-use Rattle.transyt_stopline.specs.Stops.{stopped_of}
+use Rattle.transyt_stopline.specs.StopLine.{sum_back, greatest, IsQueue, queues, outs, stopped_of}
 use Rattle.transyt_stopline.specs.WorkedCycles.{crowd, green, worked_queues, worked_sums}
 use Rattle.transyt_stopline.specs.WorkedQueues.{queues_by_facts}
 use Rattle.transyt_stopline.proofs.Covering.{queue_is}

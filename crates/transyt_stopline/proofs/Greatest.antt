@@ -1,7 +1,7 @@
 -- The greatest of a function's values.
 use Rattle.std.proofs.Common.{◌≡◌, ℕ, zero, suc, ◌+◌, ◌-◌, ◌<◌, ◌≤◌, ◌⊎◌, max, ap, arith, refl, inl, inr}
 use Rattle.std.proofs.lemmas.Bool.{cases_lt}
-use Rattle.transyt_stopline.specs.LastSteps.{greatest}
+use Rattle.transyt_stopline.specs.StopLine.{greatest}
 
 -- Sums that grow at the front: the greatest excess over n + 1 of them, from that over n. The functions `a` and `g` are
 -- the sums with a first value x and y, the functions `b` and `h` those without it.

@@ -2,8 +2,7 @@
 use Rattle.std.proofs.Common.{ℕ, ◌-◌, ◌^◌, ◌<◌, ◌≤◌, List, length, sum, arith}
 use Rattle.std.specs.List.{All}
 use Rattle.std.proofs.lemmas.List.Sums.{sum_by-le}
-use Rattle.transyt_stopline.specs.LastSteps.{sum_back}
-use Rattle.transyt_stopline.specs.Queue.{queue_at}
+use Rattle.transyt_stopline.specs.StopLine.{sum_back, queue_at}
 use Rattle.transyt_stopline.proofs.BackSums.{back-le}
 use Rattle.transyt_stopline.proofs.Greatest.{greatest-le}
 

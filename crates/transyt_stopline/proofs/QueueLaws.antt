@@ -8,8 +8,7 @@ use Rattle.std.proofs.lemmas.List.Sums.{sum_by_more}
 use Rattle.std.proofs.lemmas.List.FromFn.{sum_by-map-range_with_len_more}
 use Rattle.transyt_cycle.specs.Cycle.{step_before}
 use Rattle.transyt_cycle.proofs.CycleLaws.{step_before-lt}
-use Rattle.transyt_stopline.specs.LastSteps.{sum_back, greatest}
-use Rattle.transyt_stopline.specs.Queue.{queue_at, out_at, outs, turn}
+use Rattle.transyt_stopline.specs.StopLine.{sum_back, greatest, queue_at, out_at, outs, turn}
 use Rattle.transyt_stopline.proofs.BackSums.{back_full}
 use Rattle.transyt_stopline.proofs.Greatest.{greatest_shift, greatest_turn}
 

@@ -1,6 +1,3 @@
-pub mod LastSteps
-pub mod Queue
-pub mod Cut
-pub mod Stops
+pub mod StopLine
 pub mod WorkedCycles
 pub mod WorkedQueues

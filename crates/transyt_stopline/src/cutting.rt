@@ -1,7 +1,7 @@
 //! The cut: the arrivals that the green can serve.
 
 ghost use Rattle.std.specs.Prelude.{◌≡◌, ℕ, ◌^◌, ◌*◌, ◌<◌, ◌≤◌, length, sum, slice_index, All};
-ghost use Rattle.transyt_stopline.specs.Cut.{arrivals_of, scaled};
+ghost use Rattle.transyt_stopline.specs.StopLine.{arrivals_of, scaled};
 
 use crate::totals::Totals;
 use transyt_num::{divided_near, mul_div};

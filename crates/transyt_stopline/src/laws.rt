@@ -1,10 +1,8 @@
 //! Laws about the definitions.
 
 ghost use Rattle.std.specs.Prelude.{◌≡◌, ℕ, List, [], ◌∷◌, All, map};
-ghost use Rattle.transyt_stopline.specs.Cut.{arrivals_of};
-ghost use Rattle.transyt_stopline.specs.LastSteps.{sum_at_places, sum_back};
-ghost use Rattle.transyt_stopline.specs.Queue.{IsQueue, outs, queues};
-ghost use Rattle.transyt_stopline.specs.Stops.{stopped_of};
+ghost use Rattle.transyt_stopline.specs.StopLine.{arrivals_of, sum_at_places, sum_back, IsQueue, outs, queues};
+ghost use Rattle.transyt_stopline.specs.StopLine.{stopped_of};
 ghost use Rattle.transyt_stopline.specs.WorkedCycles.{
   crowd,
   cut_crowd,

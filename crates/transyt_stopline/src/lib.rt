@@ -2,10 +2,10 @@
 //! that stop.
 //!
 //! Profiles are slices of `u64` with one value for each step of the cycle, in millionths of a vehicle; a contract
-//! sees them as lists of numbers. Cite `queues` and `outs` of `specs/Queue` first: the queue of a cycle that
-//! repeats for ever, by the sums over the last steps of `specs/LastSteps`. `arrivals_of` of `specs/Cut` and
-//! `stopped_of` of `specs/Stops` stand before and after it. The recurrence of the queue is LR 253's; the cut, the
-//! queue without a start and the count of stops are this project's own.
+//! sees them as lists of numbers. Cite `queues` and `outs` of `specs/StopLine` first: the queue of a cycle that
+//! repeats for ever, by the sums over the last steps. `arrivals_of` and `stopped_of` there stand before and after it.
+//! The recurrence of the queue is LR 253's; the cut, the queue without a start and the count of stops are this
+//! project's own.
 
 #![tactic(auto)]
 

@@ -2,7 +2,7 @@
 
 ghost use Rattle.std.specs.Prelude.{◌≡◌, ℕ, ◌+◌, ◌-◌, ◌*◌, ◌^◌, ◌<◌, ◌≤◌, length, sum, slice_index, All};
 ghost use Rattle.transyt_cycle.specs.Cycle.{step_before};
-ghost use Rattle.transyt_stopline.specs.Queue.{IsQueue, outs, queues, turn};
+ghost use Rattle.transyt_stopline.specs.StopLine.{IsQueue, outs, queues, turn};
 
 /// The queue at the end of each step, and what leaves in each step.
 ///

@@ -1,7 +1,7 @@
 //! The vehicles that stop.
 
 ghost use Rattle.std.specs.Prelude.{◌≡◌, ◌^◌, ◌<◌, ◌≤◌, length, nat_lt, if◌then◌else◌, All};
-ghost use Rattle.transyt_stopline.specs.Stops.{stopped_of};
+ghost use Rattle.transyt_stopline.specs.StopLine.{stopped_of};
 
 /// How much of a cycle's arrivals stops: what arrives in a step that ends with a queue.
 ///

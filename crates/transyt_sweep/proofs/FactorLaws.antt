@@ -4,7 +4,7 @@ use Rattle.transyt_platoon.specs.Platoon.{travel_steps}
 use Rattle.transyt_parts.specs.declared.frame.Frame.{Frame}
 use Rattle.transyt_parts.specs.declared.link.Feed.{Feed}
 use Rattle.transyt_sweep.specs.declared.factors.Factors.{Factors}
-use Rattle.transyt_sweep.specs.Factors.{AreFactors, Serve}
+use Rattle.transyt_sweep.specs.Inflow.{AreFactors, Serve}
 
 -- factors that name a feed's numbers and its feeder's place serve it
 pub serves : (frame : Frame) (feed : Feed) (place whole : ℕ) (f : Factors) → AreFactors frame.step_count f

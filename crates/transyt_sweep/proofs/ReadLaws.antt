@@ -4,13 +4,11 @@ use Rattle.transyt_profile.specs.Profile.{uniform, added, shared}
 use Rattle.transyt_platoon.specs.Platoon.{travel_steps, dispersed}
 use Rattle.transyt_parts.specs.declared.link.Feed.{Feed}
 use Rattle.transyt_parts.specs.declared.link.GiveWay.{GiveWay}
-use Rattle.transyt_parts.specs.Flow.{total_flow}
-use Rattle.transyt_net.specs.Parts.{Network, link_of}
+use Rattle.transyt_parts.specs.Parts.{total_flow}
+use Rattle.transyt_net.specs.Parts.{Network, link_of, perstep}
 use Rattle.transyt_net.specs.Valid.{link_place}
 use Rattle.transyt_net.proofs.PlaceLaws.{link_place-lt}
-use Rattle.transyt_stage.specs.Green.{signal}
-use Rattle.transyt_stage.specs.GiveWay.{yielding}
-use Rattle.transyt_net.specs.Flow.{perstep}
+use Rattle.transyt_stage.specs.Green.{signal, yielding}
 use Rattle.std.specs.Prelude.{fold}
 use Rattle.transyt_sweep.specs.Cell.{brought, inflow, under_rule, go, cell_of, cell_by}
 

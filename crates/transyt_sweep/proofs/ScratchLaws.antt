@@ -4,9 +4,7 @@ use Rattle.std.proofs.lemmas.Bool.Decides.{nat_tests}
 use Rattle.std.proofs.lemmas.List.{length-replicate}
 use Rattle.std.proofs.lemmas.List.Elements.{All-replicate}
 use Rattle.std.proofs.lemmas.List.Sums.{sum_by-le}
-use Rattle.transyt_stopline.specs.Cut.{arrivals_of}
-use Rattle.transyt_stopline.specs.Queue.{queues, outs}
-use Rattle.transyt_stopline.specs.Stops.{stopped_of}
+use Rattle.transyt_stopline.specs.StopLine.{arrivals_of, queues, outs, stopped_of}
 use Rattle.transyt_delay.specs.Figures.{figures}
 use Rattle.transyt_net.specs.Parts.{Network, link_of}
 use Rattle.transyt_delay.specs.declared.figures.Figures.{Figures}
@@ -14,7 +12,7 @@ use Rattle.transyt_sweep.specs.declared.figures.LazyFigures.{LazyFigures}
 use Rattle.transyt_sweep.specs.declared.figures.LazyFigures.TheVariants.{Known}
 use Rattle.transyt_sweep.specs.declared.figures.Weights.{Weights}
 use Rattle.transyt_sweep.specs.declared.factors.Factors.{Factors}
-use Rattle.transyt_sweep.specs.Factors.{AreFactors}
+use Rattle.transyt_sweep.specs.Inflow.{AreFactors}
 use Rattle.transyt_kept.specs.Cell.{AreSmall}
 use Rattle.transyt_sweep.specs.Cell.{CellValue, cell_of, terms_frame}
 use Rattle.transyt_sweep.specs.Scratch.{IsScratch, terms_in}

@@ -3,12 +3,11 @@ use Rattle.std.proofs.Common.{◌≡◌, ℕ, suc, List, [], ◌∷◌}
 use Rattle.std.proofs.Common.{refl, ap, ◌∙◌, arith}
 use Rattle.transyt_profile.specs.Profile.{shared, added}
 use Rattle.transyt_parts.specs.declared.link.Feed.{Feed}
-use Rattle.transyt_parts.specs.Flow.{total_flow}
+use Rattle.transyt_parts.specs.Parts.{total_flow}
 use Rattle.transyt_net.specs.Parts.{Network, link_of}
 use Rattle.transyt_net.specs.Valid.{link_place}
 use Rattle.transyt_sweep.specs.Cell.{taken, brought}
-use Rattle.transyt_sweep.specs.Factors.{ServeIn, taken_by}
-use Rattle.transyt_sweep.specs.Inflow.{AreServed, Served, carried, with_carried, with_feeds}
+use Rattle.transyt_sweep.specs.Inflow.{ServeIn, taken_by, AreServed, Served, carried, with_carried, with_feeds}
 use Rattle.transyt_sweep.specs.declared.factors.Factors.{Factors}
 use Rattle.transyt_sweep.proofs.InflowLaws.{brought_by}
 

@@ -8,8 +8,7 @@ use borrow.Rule.Slice.PartMut.{put_mid}
 use Rattle.transyt_net.specs.Parts.{Network}
 use Rattle.transyt_parts.specs.declared.link.Feed.{Feed}
 use Rattle.transyt_sweep.specs.declared.factors.Factors.{Factors}
-use Rattle.transyt_sweep.specs.Factors.{AreFactors}
-use Rattle.transyt_sweep.specs.Inflow.{no_feed, AreServed, AreSendable, Served}
+use Rattle.transyt_sweep.specs.Inflow.{AreFactors, no_feed, AreServed, AreSendable, Served}
 use Rattle.transyt_sweep.specs.declared.inputs.Inputs.{Inputs}
 
 -- slots that are right again leave all right

@@ -11,16 +11,12 @@ use Rattle.std.proofs.Math.Nat.{mul-le-mul, div-le_of_le-mul}
 use Rattle.transyt_parts.specs.declared.frame.Frame.{Frame}
 use Rattle.transyt_parts.specs.declared.link.Feed.{Feed}
 use Rattle.transyt_parts.specs.declared.link.GiveWay.{GiveWay}
-use Rattle.transyt_parts.specs.Parts.{LinkValue}
-use Rattle.transyt_parts.specs.Flow.{total_flow}
+use Rattle.transyt_parts.specs.Parts.{LinkValue, total_flow}
 use Rattle.transyt_parts.specs.Valid.{IsFrame}
-use Rattle.transyt_net.specs.Parts.{Network, link_of, no_link}
+use Rattle.transyt_net.specs.Parts.{Network, link_of, no_link, perstep}
 use Rattle.transyt_net.specs.Valid.{IsValid, IsLink, link_numbers, link_place}
-use Rattle.transyt_net.specs.Flow.{perstep}
-use Rattle.transyt_stage.specs.Green.{signal, shown_link, green_at}
-use Rattle.transyt_stage.specs.GiveWay.{yielded, yielded_at}
-use Rattle.transyt_stopline.specs.Cut.{arrivals_of, scaled}
-use Rattle.transyt_stopline.specs.Queue.{out_at}
+use Rattle.transyt_stage.specs.Green.{signal, shown_link, green_at, yielded, yielded_at}
+use Rattle.transyt_stopline.specs.StopLine.{arrivals_of, scaled, out_at}
 use Rattle.transyt_stopline.proofs.CutLaws.{scaled_total}
 use Rattle.transyt_stopline.proofs.QueueLaws.{out-le-go}
 use Rattle.transyt_sweep.specs.Cell.{under_rule, inflow, go, cell_by}

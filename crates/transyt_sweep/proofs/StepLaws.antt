@@ -7,11 +7,9 @@ use Rattle.std.proofs.lemmas.List.FromFn.{length-map-range_with_len}
 use Rattle.transyt_profile.specs.Profile.{uniform, added, added_at}
 use Rattle.transyt_parts.specs.declared.link.Feed.{Feed}
 use Rattle.transyt_parts.specs.declared.link.GiveWay.{GiveWay}
-use Rattle.transyt_net.specs.Parts.{Network, link_of}
-use Rattle.transyt_net.specs.Flow.{perstep}
+use Rattle.transyt_net.specs.Parts.{Network, link_of, perstep}
 use Rattle.transyt_stage.specs.Green.{signal, shown_link, passed_at}
-use Rattle.transyt_stopline.specs.Cut.{arrivals_of, scaled}
-use Rattle.transyt_stopline.specs.Queue.{queue_at, out_at}
+use Rattle.transyt_stopline.specs.StopLine.{arrivals_of, scaled, queue_at, out_at}
 use Rattle.transyt_sweep.specs.Cell.{HasSteps, brought, inflow, go, under_rule, cell_by}
 
 length-gathered : (net : Network) (read : ℕ → List ℕ) (feeds : List Feed) (come : List ℕ)

@@ -2,21 +2,17 @@
 use Rattle.std.specs.Prelude.{ℕ, List, Option, Some, None, fold, sum}
 use Rattle.transyt_profile.specs.Profile.{uniform, added, shared}
 use Rattle.transyt_platoon.specs.Platoon.{travel_steps, dispersed}
-use Rattle.transyt_stopline.specs.Cut.{arrivals_of}
-use Rattle.transyt_stopline.specs.Queue.{queues, outs}
-use Rattle.transyt_stopline.specs.Stops.{stopped_of}
+use Rattle.transyt_stopline.specs.StopLine.{arrivals_of, queues, outs, stopped_of}
 use Rattle.transyt_delay.specs.declared.terms.Terms.{Terms}
 use Rattle.transyt_delay.specs.declared.terms.TermsFrame.{TermsFrame}
 use Rattle.transyt_delay.specs.Figures.{figures}
 use Rattle.transyt_parts.specs.declared.frame.Frame.{Frame}
 use Rattle.transyt_parts.specs.declared.link.Feed.{Feed}
 use Rattle.transyt_parts.specs.declared.link.GiveWay.{GiveWay}
-use Rattle.transyt_parts.specs.Flow.{total_flow}
-use Rattle.transyt_net.specs.Parts.{Network, link_of}
+use Rattle.transyt_parts.specs.Parts.{total_flow}
+use Rattle.transyt_net.specs.Parts.{Network, link_of, perstep}
 use Rattle.transyt_net.specs.Valid.{link_place}
-use Rattle.transyt_net.specs.Flow.{perstep}
-use Rattle.transyt_stage.specs.Green.{signal}
-use Rattle.transyt_stage.specs.GiveWay.{yielding}
+use Rattle.transyt_stage.specs.Green.{signal, yielding}
 pub use Rattle.transyt_kept.specs.Cell.{CellValue, HasSteps}
 
 -- the part of its feeder's departures that goes on with a feed; `read` gives the departures that are read of each link

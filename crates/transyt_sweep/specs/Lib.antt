@@ -2,7 +2,6 @@ pub mod Cell
 pub mod Sweeps
 pub mod Reading
 pub mod Front
-pub mod Factors
 pub mod Inflow
 pub mod Scratch
 pub mod Climb

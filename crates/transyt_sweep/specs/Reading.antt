@@ -1,7 +1,7 @@
 -- The rows of a network: what a link reads of them, and a link weighed anew.
 use Rattle.std.specs.Prelude.{◌≡◌, ℕ, List, length, slice_index_or}
 use Rattle.transyt_delay.specs.declared.figures.Figures.{Figures}
-use Rattle.transyt_delay.specs.Index.{index_of}
+use Rattle.transyt_delay.specs.Figures.{index_of}
 use Rattle.transyt_net.specs.Parts.{Network, link_of}
 use Rattle.transyt_kept.specs.Cell.{no_figures}
 use Rattle.transyt_kept.specs.Rows.{RowsValue, out_at, with_figures}

@@ -2,8 +2,7 @@
 use Rattle.std.specs.Prelude.{◌≡◌, ℕ, ◌*◌, ◌^◌, ◌<◌, ◌≤◌, List, length, sum, All}
 use Rattle.transyt_parts.specs.Valid as parts
 use Rattle.transyt_stopline.specs.declared.totals.Totals.{Totals}
-use Rattle.transyt_stopline.specs.Cut.{arrivals_of}
-use Rattle.transyt_stopline.specs.Stops.{stopped_of}
+use Rattle.transyt_stopline.specs.StopLine.{arrivals_of, stopped_of}
 use Rattle.transyt_delay.specs.declared.terms.Terms.{Terms}
 use Rattle.transyt_delay.specs.declared.figures.Figures.{Figures}
 use Rattle.transyt_delay.specs.Figures.{figures}
@@ -11,7 +10,7 @@ use Rattle.transyt_sweep.specs.declared.factors.Factors.{Factors}
 use Rattle.transyt_sweep.specs.declared.figures.Weights.{Weights}
 use Rattle.transyt_sweep.specs.declared.figures.LazyFigures.{LazyFigures}
 use Rattle.transyt_sweep.specs.declared.figures.LazyFigures.TheVariants.{Known, Open}
-use Rattle.transyt_sweep.specs.Factors.{AreFactors}
+use Rattle.transyt_sweep.specs.Inflow.{AreFactors}
 use Rattle.transyt_kept.specs.Cell.{AreSmall}
 
 -- the terms of the figures: the sums of arrivals and of GO over a cycle, the vehicles that stop of the arrivals after the

@@ -2,9 +2,8 @@
 use Rattle.std.specs.Prelude.{ℕ, zero, suc, ◌-◌, ◌==◌, nat_lt, List, length, map, sum, if◌then◌else◌}
 use Rattle.std.specs.List.{range_with_len}
 use Rattle.transyt_profile.specs.Profile.{uniform}
-use Rattle.transyt_parts.specs.Flow.{total_flow}
-use Rattle.transyt_net.specs.Parts.{Network, link_of}
-use Rattle.transyt_net.specs.Flow.{perstep}
+use Rattle.transyt_parts.specs.Parts.{total_flow}
+use Rattle.transyt_net.specs.Parts.{Network, link_of, perstep}
 use Rattle.transyt_sweep.specs.Cell.{CellValue, cell_by}
 
 -- the sweep at which link l, at sweep s, reads link j: one that stands before it was worked out in this sweep

@@ -5,7 +5,7 @@ ghost use Rattle.transyt_parts.specs.declared.frame.Frame.{Frame};
 ghost use Rattle.transyt_parts.specs.declared.link.Feed.{Feed};
 ghost use Rattle.transyt_platoon.specs.Platoon.{travel_steps};
 ghost use Rattle.transyt_platoon.specs.Travels.{IsTravel};
-ghost use Rattle.transyt_sweep.specs.Factors.{AreFactors, Serve};
+ghost use Rattle.transyt_sweep.specs.Inflow.{AreFactors, Serve};
 
 use transyt_net::{Feed, Frame, Net};
 use transyt_platoon::{Travel, travel_of, travel_steps};

@@ -5,7 +5,7 @@ ghost use Rattle.transyt_parts.specs.declared.link.Feed.{Feed};
 ghost use Rattle.transyt_net.specs.Parts.{link_of};
 ghost use Rattle.transyt_profile.specs.Profile.{added, folded};
 ghost use Rattle.transyt_sweep.specs.Cell.{brought, inflow};
-ghost use Rattle.transyt_sweep.specs.Factors.{AreFactors};
+ghost use Rattle.transyt_sweep.specs.Inflow.{AreFactors};
 ghost use Rattle.transyt_sweep.specs.Inflow.{
   AreSendable,
   AreServed,

@@ -5,8 +5,7 @@ ghost use Rattle.transyt_parts.specs.declared.link.Feed.{Feed};
 ghost use Rattle.transyt_net.specs.Valid.{link_place};
 ghost use Rattle.transyt_platoon.specs.Arriving.{arriving};
 ghost use Rattle.transyt_sweep.specs.Cell.{taken};
-ghost use Rattle.transyt_sweep.specs.Factors.{AreFactors};
-ghost use Rattle.transyt_sweep.specs.Inflow.{AreSendable, IsSmall, Served, carried, read_by};
+ghost use Rattle.transyt_sweep.specs.Inflow.{AreFactors, AreSendable, IsSmall, Served, carried, read_by};
 
 use crate::factors::{Factors, renew};
 use crate::inputs::Inputs;

@@ -1,8 +1,7 @@
 //! One link at one sweep: the cell of which an evaluation is made.
 
 ghost use Rattle.std.specs.Prelude.{◌≡◌, ◌+◌, ◌-◌, ◌*◌, ◌^◌, ◌<◌, ◌≤◌, ℕ, length, sum, All};
-ghost use Rattle.transyt_stopline.specs.Cut.{arrivals_of};
-ghost use Rattle.transyt_stopline.specs.Queue.{queues, outs};
+ghost use Rattle.transyt_stopline.specs.StopLine.{arrivals_of, queues, outs};
 ghost use Rattle.transyt_sweep.specs.Cell.{go, cell_by};
 ghost use Rattle.transyt_sweep.specs.Inflow.{read_by};
 ghost use Rattle.transyt_sweep.specs.Reading.{Fits, read_in};

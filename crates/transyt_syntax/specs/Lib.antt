@@ -1,4 +1,3 @@
 pub mod Codes
-pub mod Findings
 pub mod Syntax
 pub mod WorkedLines

@@ -1,13 +1,22 @@
--- A line as a keyword and its numbers.
-use Rattle.std.specs.Prelude.{ℕ, Bool, ◌&&◌, ◌||◌, not, nat_le, nat_lt, if◌then◌else◌, List, [], ◌∷◌, length, get_or}
-use Rattle.std.specs.Prelude.{drop, Option, Some, None, is_some, unwrap_or, option_and_then, Result, Ok, Err}
+-- A line as a keyword and its numbers, and the first of several findings in an order of tests.
+use Rattle.std.specs.Prelude.{Bool, List, [], ◌∷◌, Option, Some, None, if◌then◌else◌, ℕ, ◌&&◌, ◌||◌, not, nat_le}
+use Rattle.std.specs.Prelude.{nat_lt, length, get_or, drop, is_some, unwrap_or, option_and_then, Result, Ok, Err}
 use Rattle.std.specs.Prelude.{option_map, bytes_eq}
+use Rattle.std.specs.Option.{option_or}
 use Rattle.std.specs.List.{list_all}
 use Rattle.transyt_num.specs.Number.{number_of}
 use Rattle.transyt_io.specs.Lines.{words, is_blank, is_skipped}
-use Rattle.transyt_syntax.specs.Findings.{when, first_found}
 use Rattle.transyt_syntax.specs.declared.code.Code.{Code}
 use Rattle.transyt_syntax.specs.declared.code.Code.TheVariants as code
+
+-- a finding where a test holds
+abbrev pub when : {A : Type 0} → Bool → A → Option A
+when test finding = if test then Some finding else None
+
+-- the first finding that is there
+abbrev pub first_found : {A : Type 0} → List (Option A) → Option A
+first_found [] = None
+first_found (finding ∷ later) = option_or finding (first_found later)
 
 -- an entry of a table of keywords: the keyword, the least and the most numbers after it, and what it says with them
 pub record Entry (A : Type 0) : Type 0 where

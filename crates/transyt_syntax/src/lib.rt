@@ -5,7 +5,7 @@
 //! numbers) and 13 (a word that is no number), and the first of them in this order is answered; a number is a
 //! word of 1 to 9 decimal digits. Codes and their order are this project's own. Cite
 //! `Rattle.transyt_syntax.specs.Syntax.{syntax_code, numbers_of}` first, and for an order of tests
-//! `Rattle.transyt_syntax.specs.Findings.{first_found, when}`.
+//! `Rattle.transyt_syntax.specs.Syntax.{first_found, when}`.
 //!
 //! The keywords and the counts of their numbers are the caller's: a table for cards, another for commands.
 //! No call takes memory.

@@ -8,14 +8,11 @@ use Rattle.transyt_platoon.specs.Platoon.{travel_steps, dispersed}
 use Rattle.transyt_parts.specs.declared.frame.Frame.{Frame}
 use Rattle.transyt_parts.specs.declared.link.Feed.{Feed}
 use Rattle.transyt_parts.specs.declared.link.GiveWay.{GiveWay}
-use Rattle.transyt_parts.specs.Parts.{NodeValue}
-use Rattle.transyt_parts.specs.Flow.{total_flow}
-use Rattle.transyt_net.specs.Parts.{Network, link_of}
+use Rattle.transyt_parts.specs.Parts.{NodeValue, total_flow}
+use Rattle.transyt_net.specs.Parts.{Network, link_of, perstep}
 use Rattle.transyt_net.specs.Edits.{the_node}
 use Rattle.transyt_net.specs.Valid.{place_of, link_numbers}
-use Rattle.transyt_net.specs.Flow.{perstep}
-use Rattle.transyt_stage.specs.Green.{signal, shown_of, passed_at}
-use Rattle.transyt_stage.specs.GiveWay.{yielding}
+use Rattle.transyt_stage.specs.Green.{signal, shown_of, passed_at, yielding}
 use Rattle.transyt_net.specs.Valid.{found_or_first, link_place}
 use Rattle.transyt_sweep.specs.Cell.{brought, inflow, under_rule, go}
 use Rattle.transyt_track.specs.Own.{feeder_total}

@@ -8,9 +8,8 @@ use Rattle.transyt_parts.specs.Parts.{NodeValue, LinkValue}
 use Rattle.transyt_parts.specs.Valid.{node_number}
 use Rattle.transyt_net.specs.declared.edit.Edit.{Edit}
 use Rattle.transyt_net.specs.declared.edit.Edit.TheVariants.{Offset, Change}
-use Rattle.transyt_net.specs.Parts.{Network, node_of, link_of, no_node, no_link}
+use Rattle.transyt_net.specs.Parts.{Network, node_of, link_of, no_node, no_link, SameShape}
 use Rattle.transyt_net.specs.Edits.{with_edit, set_offset, set_change}
-use Rattle.transyt_net.specs.Shape.{SameShape}
 use Rattle.transyt_net.specs.Valid.{IsValid, on_numbered, place_of, node_numbers}
 use Rattle.transyt_net.proofs.PlaceLaws.{place_is, on_numbered_here}
 use Rattle.transyt_track.specs.Own.{SameTimes, SameNumbers, HaveNode, HaveData, DifferAt, places_at}

@@ -3,15 +3,11 @@ use Rattle.std.specs.Prelude.{slice_index_or}
 use Rattle.std.proofs.lemmas.List.{set-get_or}
 use Rattle.std.proofs.Common.{◌≡◌, ℕ, ◌<◌, ◌≤◌, false, List, length, sum, ap, sym, ◌∙◌}
 use Rattle.transyt_delay.specs.declared.figures.Figures.{Figures}
-use Rattle.transyt_delay.specs.Figures.{figures}
-use Rattle.transyt_delay.specs.Index.{index_of}
-use Rattle.transyt_stopline.specs.Cut.{arrivals_of}
-use Rattle.transyt_stopline.specs.Queue.{queues}
-use Rattle.transyt_stopline.specs.Stops.{stopped_of}
+use Rattle.transyt_delay.specs.Figures.{figures, index_of}
+use Rattle.transyt_stopline.specs.StopLine.{arrivals_of, queues, stopped_of}
 use Rattle.transyt_parts.specs.declared.frame.Frame.{Frame}
 use Rattle.transyt_parts.specs.declared.link.Weights.{Weights}
-use Rattle.transyt_net.specs.Parts.{Network, link_of}
-use Rattle.transyt_net.specs.Shape.{SameShape}
+use Rattle.transyt_net.specs.Parts.{Network, link_of, SameShape}
 use Rattle.transyt_kept.specs.Cell.{CellValue}
 use Rattle.transyt_sweep.specs.Cell.{inflow, go, terms_frame, terms_of, cell_of}
 use Rattle.transyt_sweep.specs.Sweeps.{out_of, read_of, cell_at, evaluated}

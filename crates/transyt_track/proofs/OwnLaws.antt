@@ -6,13 +6,12 @@ use Rattle.std.proofs.lemmas.List.Elements.{All-nil, All-cons}
 use Rattle.transyt_parts.specs.declared.node.Stage.{Stage}
 use Rattle.transyt_parts.specs.declared.link.Feed.{Feed}
 use Rattle.transyt_parts.specs.Parts.{NodeValue, LinkValue}
-use Rattle.transyt_parts.specs.Shape.{bare_stage, bare_node, bare_feed, bare_link}
+use Rattle.transyt_parts.specs.Made.{bare_stage, bare_node, bare_feed, bare_link}
 use Rattle.transyt_parts.specs.Valid.{node_number, link_number}
 use Rattle.transyt_parts.proofs.CopyLaws.{same_length}
-use Rattle.transyt_net.specs.Parts.{Network, link_of, no_link}
+use Rattle.transyt_net.specs.Parts.{Network, link_of, no_link, SameShape}
 use Rattle.transyt_net.specs.Edits.{the_node, node_in}
 use Rattle.transyt_net.specs.Valid.{numbered}
-use Rattle.transyt_net.specs.Shape.{SameShape}
 use Rattle.transyt_track.specs.Own.{Own, change_of, flow_of, cruise_of, feeder_total, own}
 use Rattle.transyt_track.proofs.DataLaws.{SameData}
 

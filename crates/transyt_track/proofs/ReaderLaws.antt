@@ -10,7 +10,7 @@ use Rattle.std.proofs.lemmas.List.Elements.{All-nil, All-cons}
 use Rattle.std.proofs.lemmas.List.{take_all}
 use Rattle.transyt_net.specs.Parts.{Network}
 use Rattle.transyt_track.specs.Own.{PlacesValue}
-use Rattle.transyt_track.specs.Readers.{AreReaders, is_reader, reads}
+use Rattle.transyt_track.specs.Change.{AreReaders, is_reader, reads}
 
 -- a fact of each number that is among these is one of the whole list
 all_among : (fact : ℕ → Type 0) (xs : List ℕ) → ((x : ℕ) → list_any (nat_eq x) xs ≡ true → fact x) → All fact xs

@@ -3,15 +3,14 @@ use Rattle.std.proofs.Common.{◌≡◌, ℕ, ◌<◌, List, [], ◌∷◌, leng
 use Rattle.transyt_parts.specs.declared.link.Feed.{Feed}
 use Rattle.transyt_parts.specs.declared.link.GiveWay.{GiveWay}
 use Rattle.transyt_parts.specs.Parts.{NodeValue, LinkValue}
-use Rattle.transyt_parts.specs.Shape.{bare_node, bare_feed, bare_link}
+use Rattle.transyt_parts.specs.Made.{bare_node, bare_feed, bare_link}
 use Rattle.transyt_parts.specs.Valid.{node_number}
 use Rattle.transyt_parts.proofs.CopyLaws.{same_length}
-use Rattle.transyt_net.specs.Parts.{Network, link_of}
-use Rattle.transyt_net.specs.Shape.{SameShape}
+use Rattle.transyt_net.specs.Parts.{Network, link_of, SameShape}
 use Rattle.transyt_net.specs.Valid.{place_of}
 use Rattle.transyt_net.specs.Valid.{found_or_first, link_place}
 use Rattle.transyt_track.specs.Own.{feeder_place, rule_place, node_place, places_at, ArePlaces, PlacesValue}
-use Rattle.transyt_track.specs.Readers.{AreReaders, reads}
+use Rattle.transyt_track.specs.Change.{AreReaders, reads}
 use Rattle.transyt_track.proofs.OwnLaws.{numbers_same, bare_at}
 use Rattle.transyt_track.proofs.PlaceLaws.{place_read, feeders_inside, rule_inside}
 

@@ -12,11 +12,9 @@ use Rattle.std.proofs.lemmas.List.{length-set, get_or-replicate, get_or-set_othe
 use Rattle.std.proofs.lemmas.Grind.{get_or-set_at}
 use Rattle.transyt_profile.specs.Profile.{uniform}
 use Rattle.transyt_parts.specs.declared.frame.Frame.{Frame}
-use Rattle.transyt_parts.specs.Flow.{total_flow}
+use Rattle.transyt_parts.specs.Parts.{total_flow}
 use Rattle.transyt_parts.specs.Valid.{IsFrame}
-use Rattle.transyt_net.specs.Parts.{Network, link_of, no_link}
-use Rattle.transyt_net.specs.Shape.{SameShape}
-use Rattle.transyt_net.specs.Flow.{perstep}
+use Rattle.transyt_net.specs.Parts.{Network, link_of, no_link, SameShape, perstep}
 use Rattle.transyt_sweep.specs.Sweeps.{out_of, start, evaluated}
 use Rattle.transyt_kept.specs.Rows.{RowsValue, shown_at, with_out, AreRows}
 use Rattle.transyt_sweep.specs.Front.{AreEvaluation, is_before}

@@ -2,16 +2,14 @@
 use Rattle.std.proofs.Common.{◌≡◌, ℕ, List, Option, Some, None, IsSome, refl, ap, sym, subst, ◌∙◌}
 use Rattle.std.specs.Option.{option_map}
 use Rattle.transyt_parts.specs.declared.frame.Frame.{Frame}
-use Rattle.transyt_net.specs.Parts.{Network}
-use Rattle.transyt_net.specs.Shape.{shape, SameShape}
+use Rattle.transyt_net.specs.Parts.{Network, shape, SameShape}
 use Rattle.transyt_kept.specs.Rows.{RowsValue}
 use Rattle.transyt_sweep.specs.Reading.{Fits}
 use Rattle.transyt_sweep.specs.Front.{AreEvaluation}
 use Rattle.transyt_kept.specs.Saved.{KeptValue}
 use Rattle.transyt_track.specs.Own.{PlacesValue, ArePlaces, all_places}
-use Rattle.transyt_track.specs.Readers.{AreReaders}
+use Rattle.transyt_track.specs.Change.{AreReaders, HasRoom}
 use Rattle.transyt_track.specs.declared.change.Front.{Front}
-use Rattle.transyt_track.specs.Change.{HasRoom}
 use Rattle.transyt_track.specs.Tracker.{AreOfMark, IsTracking}
 use Rattle.transyt_track.proofs.ShapeLaws.{shape_frame, shape_count, shape_table, shape_readers}
 use Rattle.transyt_track.proofs.PlaceLaws.{all_places_are}

@@ -8,8 +8,7 @@ use Rattle.std.specs.List.{list_any}
 use Rattle.std.specs.Option.{is_some}
 use Rattle.std.proofs.lemmas.List.{get_or_default}
 use Rattle.transyt_parts.specs.declared.link.GiveWay.{GiveWay}
-use Rattle.transyt_net.specs.Parts.{Network, link_of}
-use Rattle.transyt_net.specs.Shape.{SameShape}
+use Rattle.transyt_net.specs.Parts.{Network, link_of, SameShape}
 use Rattle.transyt_kept.specs.Cell.{CellValue}
 use Rattle.transyt_sweep.specs.Cell.{cell_by}
 use Rattle.transyt_sweep.specs.Sweeps.{out_of, read_of, cell_at, evaluated}
@@ -19,7 +18,7 @@ use Rattle.transyt_sweep.proofs.SweepLaws.{evaluated_is}
 use Rattle.transyt_sweep.proofs.StepLaws.{cell_steps}
 use Rattle.transyt_sweep.proofs.FrontLaws.{cell_is}
 use Rattle.transyt_track.specs.Own.{own, same_own}
-use Rattle.transyt_track.specs.Readers.{AreReaders}
+use Rattle.transyt_track.specs.Change.{AreReaders}
 use Rattle.transyt_track.specs.Front.{AreAt, AreFlags, flag, own_differs}
 use Rattle.transyt_track.proofs.DataLaws.{green_same}
 use Rattle.transyt_track.proofs.DueLaws.{not_false, own_told}

@@ -1,11 +1,10 @@
 -- The worked networks, computed from the definitions.
 use Rattle.std.proofs.Common.{◌≡◌, map, refl}
 use Rattle.transyt_platoon.specs.Platoon.{smoothed}
-use Rattle.transyt_stopline.specs.LastSteps.{sum_back, greatest}
+use Rattle.transyt_stopline.specs.StopLine.{sum_back, greatest}
 use Rattle.transyt_sweep.specs.Sweeps.{seen, out_of}
 use Rattle.transyt_moves.specs.Moves.{move}
-use Rattle.transyt_track.specs.Due.{differs, is_due, due_in, due_through, due}
-use Rattle.transyt_track.specs.Work.{edit_work, work_of, cert_work}
+use Rattle.transyt_track.specs.Due.{differs, is_due, due_in, due_through, due, edit_work, work_of, cert_work}
 use Rattle.transyt_track.specs.WorkedWork.{junctions, worked_edits, worked_looks, loop_of_three, fed_by_two}
 use Rattle.transyt_track.specs.WorkedWork.{due_of_three}
 

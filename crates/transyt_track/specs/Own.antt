@@ -6,8 +6,7 @@ use Rattle.std.specs.Option.{option_map}
 use Rattle.transyt_parts.specs.declared.node.Stage.{Stage}
 use Rattle.transyt_parts.specs.declared.link.Feed.{Feed}
 use Rattle.transyt_parts.specs.declared.link.GiveWay.{GiveWay}
-use Rattle.transyt_parts.specs.Flow.{total_flow}
-use Rattle.transyt_parts.specs.Parts.{NodeValue, LinkValue}
+use Rattle.transyt_parts.specs.Parts.{total_flow, NodeValue, LinkValue}
 use Rattle.transyt_net.specs.Parts.{Network, node_of, link_of}
 use Rattle.transyt_net.specs.Edits.{the_node}
 use Rattle.transyt_net.specs.Valid.{place_of, node_numbers, found_or_first, link_place}

@@ -1,14 +1,12 @@
 -- A tracker as its contracts see it, and the facts of its parts.
 use Rattle.std.specs.Prelude.{ℕ, List, Option, None, IfSome}
 use Rattle.std.specs.Option.{option_map}
-use Rattle.transyt_net.specs.Parts.{Network}
-use Rattle.transyt_net.specs.Shape.{SameShape}
+use Rattle.transyt_net.specs.Parts.{Network, SameShape}
 use Rattle.transyt_kept.specs.Rows.{RowsValue}
 use Rattle.transyt_sweep.specs.Front.{AreEvaluation}
 use Rattle.transyt_track.specs.declared.change.Front.{Front}
 use Rattle.transyt_track.specs.Own.{PlacesValue, ArePlaces}
-use Rattle.transyt_track.specs.Readers.{AreReaders}
-use Rattle.transyt_track.specs.Change.{HasRoom}
+use Rattle.transyt_track.specs.Change.{AreReaders, HasRoom}
 
 -- a tracker: the network that it stands for, and the one that its open mark stands for, or none
 pub record TrackerValue : Type 0 where

@@ -3,9 +3,8 @@
 ghost use Rattle.std.specs.Prelude.{◌≡◌, ◌↔◌, ℕ, [], ◌∷◌, false, map, IsTrue};
 ghost use Rattle.transyt_net.specs.Parts.{Network};
 ghost use Rattle.transyt_sweep.specs.Sweeps.{out_of};
-ghost use Rattle.transyt_track.specs.Due.{differs, due, is_due};
+ghost use Rattle.transyt_track.specs.Due.{differs, due, is_due, cert_work, edit_work, work_of};
 ghost use Rattle.transyt_track.specs.Own.{Own, own, same_own};
-ghost use Rattle.transyt_track.specs.Work.{cert_work, edit_work, work_of};
 ghost use Rattle.transyt_track.specs.WorkedWork.{due_of_three, fed_by_two, junctions, loop_of_three, own_three};
 ghost use Rattle.transyt_track.specs.WorkedWork.{worked_edits, worked_looks};
 

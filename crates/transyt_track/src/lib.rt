@@ -2,7 +2,7 @@
 //! of a link and a sweep that are due.
 //!
 //! Cite `due` of `specs/Due` first: the number of pairs whose own data or whose reads differ between two networks of one
-//! shape. `edit_work`, `work_of` and `cert_work` of `specs/Work` are the work of an edit, of a climb and of a
+//! shape. `edit_work`, `work_of` and `cert_work` of `specs/Due` are the work of an edit, of a climb and of a
 //! certificate. A `Tracker` is seen as the record `TrackerValue` of `specs/Tracker`: the network that it stands for, and
 //! the one that its open mark stands for, or none. What it shows is the evaluation of that network, at every sweep. The
 //! law of the front is `AreAt` of `specs/Front`, that of the mark `AreOfMark` of `specs/Tracker`.

@@ -5,7 +5,7 @@ ghost use Rattle.std.specs.Prelude.{if◌then◌else◌, nat_lt};
 ghost use Rattle.std.specs.Option.{is_some};
 ghost use Rattle.transyt_net.specs.EditFaults.{edit_fault};
 ghost use Rattle.transyt_net.specs.Edits.{with_edit};
-ghost use Rattle.transyt_net.specs.Shape.{SameShape};
+ghost use Rattle.transyt_net.specs.Parts.{SameShape};
 ghost use Rattle.transyt_sweep.specs.Front.{AreEvaluation};
 ghost use Rattle.transyt_sweep.specs.Sweeps.{out_of, evaluated, index};
 ghost use Rattle.transyt_track.specs.Due.{due};

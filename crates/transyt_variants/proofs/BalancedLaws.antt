@@ -5,7 +5,7 @@ use Rattle.std.proofs.lemmas.List.FromFn.{length-map-range_with_len, get_or-map-
 use Rattle.transyt_parts.specs.declared.node.Stage.{Stage}
 use Rattle.transyt_parts.specs.Parts.{NodeValue}
 use Rattle.transyt_parts.specs.Plan.{stage_of, no_stage, plan_fault}
-use Rattle.transyt_parts.specs.Shape.{bare_node}
+use Rattle.transyt_parts.specs.Made.{bare_node}
 use Rattle.transyt_parts.specs.Valid.{IsNode, IsStage}
 use Rattle.transyt_net.specs.Parts.{Network, node_of, no_node, with_signals}
 use Rattle.transyt_net.specs.Valid.{IsValid, node_numbers}

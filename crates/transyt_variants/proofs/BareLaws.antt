@@ -13,7 +13,7 @@ use Rattle.transyt_parts.specs.declared.frame.Frame.{Frame}
 use Rattle.transyt_parts.specs.declared.node.Stage.{Stage}
 use Rattle.transyt_parts.specs.Parts.{NodeValue, PlanValue}
 use Rattle.transyt_parts.specs.Plan.{stage_of, no_stage, plan_fault}
-use Rattle.transyt_parts.specs.Shape.{bare_node, bare_stage}
+use Rattle.transyt_parts.specs.Made.{bare_node, bare_stage}
 use Rattle.transyt_parts.specs.Valid.{IsNode, IsStage, IsPlan}
 use Rattle.transyt_parts.proofs.CopyLaws.{same_length}
 use Rattle.transyt_net.specs.Parts.{Network, with_signals}

@@ -5,7 +5,7 @@ use Rattle.std.proofs.Math.Nat.{mod-lt}
 use Rattle.std.proofs.lemmas.List.{ext_get_or, length-map, get_or-map, get_or_default}
 use Rattle.std.proofs.lemmas.List.FromFn.{length-map-range_with_len, get_or-map-range_with_len, map-range_with_len_more}
 use Rattle.transyt_parts.specs.Parts.{NodeValue}
-use Rattle.transyt_parts.specs.Shape.{bare_node}
+use Rattle.transyt_parts.specs.Made.{bare_node}
 use Rattle.transyt_parts.specs.Plan.{plan_fault}
 use Rattle.transyt_parts.specs.Valid.{IsNode}
 use Rattle.transyt_net.specs.Parts.{Network, with_signals, node_of, no_node}

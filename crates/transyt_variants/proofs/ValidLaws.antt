@@ -4,7 +4,7 @@ use Rattle.std.proofs.lemmas.Bool.Decides.{nat_tests}
 use Rattle.transyt_parts.specs.declared.frame.Frame.{Frame}
 use Rattle.transyt_parts.specs.Parts.{NodeValue, LinkValue}
 use Rattle.transyt_parts.specs.Plan.{plan_fault}
-use Rattle.transyt_parts.specs.Shape.{bare_node}
+use Rattle.transyt_parts.specs.Made.{bare_node}
 use Rattle.transyt_parts.specs.Valid.{IsFrame, IsNode, IsPlan, all_differ}
 use Rattle.transyt_parts.proofs.CopyLaws.{same_length}
 use Rattle.transyt_net.specs.Parts.{Network, with_signals}

@@ -1,6 +1,6 @@
 -- The parts that a network made of another keeps.
 use Rattle.std.specs.Prelude.{⊤, ◌≡◌, ◌*◌, map}
-use Rattle.transyt_parts.specs.Shape.{bare_node}
+use Rattle.transyt_parts.specs.Made.{bare_node}
 use Rattle.transyt_net.specs.Parts.{Network}
 use Rattle.transyt_net.specs.Edits.{set_offset}
 use Rattle.transyt_net.specs.Valid.{IsValid}

@@ -7,8 +7,7 @@ use Rattle.transyt_text.specs.Forms.{filled, form_line}
 use Rattle.transyt_outcome.specs.Outcome.{IsFront, TextRow}
 use Rattle.transyt_outcome.specs.WorkedOutcomes.{Each}
 use Rattle.transyt_outcome.specs.declared.status.Status.TheVariants.{Done}
-use Rattle.transyt_words.specs.Answer.{of_whole, answer_text, done, refusal}
-use Rattle.transyt_words.specs.Lines.{lines_text, refused_card}
+use Rattle.transyt_words.specs.Answer.{of_whole, answer_text, done, refusal, lines_text, refused_card}
 use Rattle.transyt_words.specs.Whole.{StepsWithin, Told}
 use Rattle.transyt_words.specs.WorkedTexts.{worked_lines}
 use Rattle.transyt_words.specs.WorkedTold.{two_lines, first_text, both_texts, told_rows, untold_rows}

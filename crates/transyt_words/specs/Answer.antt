@@ -1,9 +1,32 @@
--- The answer to a whole input, and what is reported by it.
-use Rattle.std.specs.Prelude.{ℕ, List, [], ◌++◌, Bool, true, false, Option, None, Some}
+-- The answer to a whole input, its lines and their texts, and what is reported by it.
+use Rattle.std.specs.Prelude.{ℕ, List, [], ◌∷◌, codes, flat_map, ◌++◌, Bool, true, false, Option, None, Some}
+use Rattle.transyt_syntax.specs.declared.code.Code.{Code}
+use Rattle.transyt_syntax.specs.Codes.{number}
+use Rattle.transyt_text.specs.Forms.{form_line}
 use Rattle.transyt_net.specs.Parts.{Network}
 use Rattle.transyt_deck.specs.Cards.{deck_text}
 use Rattle.transyt_outcome.specs.Outcome.{Reporting}
-use Rattle.transyt_words.specs.Lines.{LineValue, lines_text}
+
+-- a line: its form, with `#` for each number, and the numbers in their order
+pub record LineValue : Type 0 where
+  pub form : List ℕ
+  pub numbers : List ℕ
+
+-- the line of a form with its numbers
+abbrev pub line_of : List ℕ → List ℕ → LineValue
+line_of form numbers = record { form = form; numbers = numbers }
+
+-- the text of a line
+abbrev pub line_text : LineValue → List ℕ
+line_text line = form_line line.form line.numbers
+
+-- the text of lines, one after another
+abbrev pub lines_text : List LineValue → List ℕ
+lines_text lines = flat_map line_text lines
+
+-- a card of the deck is refused: the number of its line, and the code
+abbrev pub refused_card : ℕ → Code → LineValue
+refused_card card code = line_of (codes "CARD # REFUSED #") (card ∷ number code ∷ [])
 
 -- the lines that are written, the network whose deck text follows them, if any, and whether the input is refused
 pub record AnswerValue : Type 0 where

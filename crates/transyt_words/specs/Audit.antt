@@ -6,8 +6,7 @@ use Rattle.transyt_moves.specs.Moves.{move_count}
 use Rattle.transyt_audit.specs.declared.verdict.Verdict.{Verdict}
 use Rattle.transyt_audit.specs.declared.verdict.Verdict.TheVariants.{Yes, No}
 use Rattle.transyt_audit.specs.Verdict.{verdict}
-use Rattle.transyt_words.specs.Answer.{AnswerValue, done}
-use Rattle.transyt_words.specs.Lines.{LineValue, line_of}
+use Rattle.transyt_words.specs.Answer.{AnswerValue, done, LineValue, line_of}
 
 -- the line of a verdict: the number of places and the index, or the number of the line that shows it and the code
 abbrev pub audit_line : Verdict → LineValue

@@ -6,12 +6,10 @@ use Rattle.transyt_syntax.specs.Codes.{number}
 use Rattle.transyt_net.specs.Parts.{Network}
 use Rattle.transyt_net.specs.declared.edit.Edit.{Edit}
 use Rattle.transyt_net.specs.declared.edit.Edit.TheVariants as edit
-use Rattle.transyt_counts.specs.Answer.{CountsValue}
-use Rattle.transyt_counts.specs.Counts.{counts_of}
+use Rattle.transyt_counts.specs.Counts.{CountsValue, counts_of}
 use Rattle.transyt_counts.specs.declared.counts.CountStop.{CountStop}
 use Rattle.transyt_counts.specs.declared.counts.CountStop.TheVariants as stop
-use Rattle.transyt_words.specs.Answer.{AnswerValue, done, refusal}
-use Rattle.transyt_words.specs.Lines.{LineValue, line_of}
+use Rattle.transyt_words.specs.Answer.{AnswerValue, done, refusal, LineValue, line_of}
 
 -- a row is refused: its number and the code
 abbrev pub refused_row : ℕ → Code → LineValue

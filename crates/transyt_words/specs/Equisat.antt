@@ -3,10 +3,8 @@ use Rattle.std.specs.Prelude.{ℕ, ◌+◌, ◌++◌, List, [], ◌∷◌, codes
 use Rattle.std.specs.List.{flat_map, range_with_len}
 use Rattle.transyt_net.specs.Parts.{Network, node_of}
 use Rattle.transyt_equisat.specs.declared.greens.Share.{Share}
-use Rattle.transyt_equisat.specs.Answer.{GreensValue}
-use Rattle.transyt_equisat.specs.Balance.{balance}
-use Rattle.transyt_words.specs.Answer.{AnswerValue, done}
-use Rattle.transyt_words.specs.Lines.{LineValue, line_of}
+use Rattle.transyt_equisat.specs.Balance.{GreensValue, balance}
+use Rattle.transyt_words.specs.Answer.{AnswerValue, done, LineValue, line_of}
 
 -- a stage: its number from 1, its change, its green, and the green that it needs, all in steps
 abbrev pub stage_line : ℕ → Share → LineValue

@@ -1,22 +1,68 @@
--- The answers of `starts` and `cycles` to a network.
-use Rattle.std.specs.Prelude.{ℕ, List, Option, Some, None}
-use Rattle.transyt_net.specs.Parts.{Network}
-use Rattle.transyt_words.specs.Answer.{AnswerValue, with_deck}
-use Rattle.transyt_climbs.specs.declared.times.CycleTimes.{CycleTimes}
-use Rattle.transyt_climbs.specs.declared.plans.Planned.{Planned}
-use Rattle.transyt_climbs.specs.declared.plans.Planned.TheVariants as plan
+-- The answers of `starts` and `cycles` to a network: a table of plans, each line a comment of a deck.
+use Rattle.std.specs.Prelude.{ℕ, ◌≤◌, Bool, nat_le, ◌&&◌, if◌then◌else◌, Option, Some, None, ◌++◌, List, [], ◌∷◌, codes}
+use Rattle.std.specs.Prelude.{map}
+use Rattle.transyt_words.specs.declared.starts.StartsWord.{StartsWord}
+use Rattle.transyt_climbs.specs.declared.row.Climbed.{Climbed}
 use Rattle.transyt_climbs.specs.declared.row.PlanRow.{PlanRow}
 use Rattle.transyt_climbs.specs.declared.ranking.BestRow.{BestRow}
+use Rattle.transyt_climbs.specs.Climbs.{best, PlanList, end_of, table}
+use Rattle.transyt_words.specs.declared.table.Numbered.{Numbered}
+use Rattle.transyt_words.specs.declared.table.Numbered.TheVariants.{Starts, Cycles}
+use Rattle.transyt_words.specs.Answer.{LineValue, line_of, AnswerValue, with_deck}
+use Rattle.transyt_net.specs.Parts.{Network}
+use Rattle.transyt_climbs.specs.declared.times.CycleTimes.{CycleTimes}
+use Rattle.transyt_climbs.specs.declared.plans.Planned.{Planned}
 use Rattle.transyt_climbs.specs.Times.{cycle_at, cycle_count}
-use Rattle.transyt_climbs.specs.Plans.{PlanList, end_of, table}
-use Rattle.transyt_climbs.specs.Best.{best}
 use Rattle.transyt_variants.specs.Starts.{start_at}
 use Rattle.transyt_variants.specs.Cycles.{at_cycle}
 use Rattle.transyt_variants.specs.declared.cycles.AtCycle.{AtCycle}
+use Rattle.transyt_climbs.specs.declared.row.PlanRow.TheVariants as row
+use Rattle.transyt_climbs.specs.declared.plans.Planned.TheVariants as plan
 use Rattle.transyt_variants.specs.declared.cycles.AtCycle.TheVariants as at
-use Rattle.transyt_words.specs.declared.table.Numbered.{Numbered}
-use Rattle.transyt_words.specs.declared.table.Numbered.TheVariants.{Starts, Cycles}
-use Rattle.transyt_words.specs.Table.{table_lines}
+
+-- one to eight workers, a seed of at most nine digits, and 1 to 1,000 starts
+pub record IsStarts (asked : StartsWord) : Type 0 where
+  pub some_workers : 1 ≤ asked.workers
+  pub few_workers : asked.workers ≤ 8
+  pub seed : asked.seed ≤ 999999999
+  pub some : 1 ≤ asked.count
+  pub few : asked.count ≤ 1000
+
+-- whether such may be asked for
+abbrev pub are_starts : ℕ → ℕ → ℕ → Bool
+are_starts workers seed count =
+    nat_le 1 workers && nat_le workers 8 && nat_le seed 999999999 && nat_le 1 count && nat_le count 1000
+
+-- the question of these numbers, where they may be
+abbrev pub starts_of : ℕ → ℕ → ℕ → Option StartsWord
+starts_of workers seed count =
+    if are_starts workers seed count then Some (record { workers = workers; seed = seed; count = count }) else None
+
+-- the form of a climb's line, by whether it ended LOCAL
+abbrev pub climbed_form : Numbered → Bool → List ℕ
+climbed_form Starts local =
+    if local then codes "* START # FROM # TOOK # LOCAL # TO #" else codes "* START # FROM # TOOK # BUDGET # TO #"
+climbed_form Cycles local =
+    if local then codes "* CYCLE # FROM # TOOK # LOCAL # TO #" else codes "* CYCLE # FROM # TOOK # BUDGET # TO #"
+
+-- the line of a climb: its number, the index before it, the steps taken, the places looked at, and the index after it
+abbrev pub climbed_line : Numbered → Climbed → LineValue
+climbed_line by c = line_of (climbed_form by c.local) (c.number ∷ c.from ∷ c.took ∷ c.looked ∷ c.to ∷ [])
+
+-- the line of a row: a climb, or why there is none
+abbrev pub row_line : Numbered → PlanRow → LineValue
+row_line by (row.NoPlan number) = line_of (codes "* CYCLE # NONE") (number ∷ [])
+row_line by (row.Barred number node) = line_of (codes "* CYCLE # BARRED #") (number ∷ node ∷ [])
+row_line by (row.Climbed climbed) = climbed_line by climbed
+
+-- the last line: the number of the best row and its index at the end, or that there is none
+abbrev pub best_line : Option BestRow → LineValue
+best_line None = line_of (codes "* NONE") []
+best_line (Some best) = line_of (codes "* BEST # #") (best.number ∷ best.to ∷ [])
+
+-- a line for each row, and then the last
+abbrev pub table_lines : Numbered → List PlanRow → List LineValue
+table_lines by rows = map (row_line by) rows ++ best_line (best rows) ∷ []
 
 -- so many starts, numbered from 0
 abbrev pub starts : ℕ → ℕ → PlanList

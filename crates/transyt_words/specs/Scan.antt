@@ -3,10 +3,8 @@ use Rattle.std.specs.Prelude.{ℕ, ◌++◌, List, [], ◌∷◌, codes, map, if
 use Rattle.transyt_net.specs.Parts.{Network}
 use Rattle.transyt_climbs.specs.declared.times.CycleTimes.{CycleTimes}
 use Rattle.transyt_scan.specs.declared.row.ScanRow.{ScanRow}
-use Rattle.transyt_scan.specs.Rows.{table}
-use Rattle.transyt_scan.specs.Best.{best}
-use Rattle.transyt_words.specs.Answer.{AnswerValue, done}
-use Rattle.transyt_words.specs.Lines.{LineValue, line_of}
+use Rattle.transyt_scan.specs.Rows.{table, best}
+use Rattle.transyt_words.specs.Answer.{AnswerValue, done, LineValue, line_of}
 
 -- the line of a row: its cycle time, the index before the climb, the steps, the places looked at, the index after it
 abbrev pub row_line : ScanRow → LineValue

@@ -7,11 +7,10 @@ use Rattle.transyt_net.specs.WorkedNets.{town}
 use Rattle.transyt_deck.specs.declared.cut.Cut.{Cut}
 use Rattle.transyt_deck.specs.declared.reader.CardStop.{CardStop}
 use Rattle.transyt_deck.specs.declared.reader.CardStop.TheVariants as deck_stop
-use Rattle.transyt_counts.specs.Answer.{CountsValue}
+use Rattle.transyt_counts.specs.Counts.{CountsValue}
 use Rattle.transyt_counts.specs.declared.counts.CountStop.{CountStop}
 use Rattle.transyt_counts.specs.declared.counts.CountStop.TheVariants as stop
-use Rattle.transyt_words.specs.Answer.{AnswerValue, done, refusal}
-use Rattle.transyt_words.specs.Lines.{LineValue, line_of}
+use Rattle.transyt_words.specs.Answer.{AnswerValue, done, refusal, LineValue, line_of}
 use Rattle.transyt_words.specs.Counts.{counted_line}
 
 -- the command of an entry flow, that of a fed flow, and the line of a refused row

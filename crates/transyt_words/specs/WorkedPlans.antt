@@ -3,9 +3,9 @@ use Rattle.std.specs.Prelude.{ℕ, ◌+◌, ◌==◌, List, [], ◌∷◌, Some,
 use Rattle.transyt_parts.specs.Made.{new_stage, new_plan}
 use Rattle.transyt_net.specs.Parts.{Network}
 use Rattle.transyt_climbs.specs.declared.plans.Planned.TheVariants as plan
-use Rattle.transyt_climbs.specs.Plans.{PlanList}
+use Rattle.transyt_climbs.specs.Climbs.{PlanList}
 use Rattle.transyt_climbs.specs.WorkedClimbs.{junction}
-use Rattle.transyt_words.specs.Lines.{LineValue, line_of}
+use Rattle.transyt_words.specs.Answer.{LineValue, line_of}
 
 -- the least that `starts` may be asked for in each place, and the greatest: workers, seed, count
 abbrev pub starts_in_range : List (ℕ × ℕ × ℕ)

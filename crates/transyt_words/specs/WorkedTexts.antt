@@ -2,13 +2,13 @@
 use Rattle.std.specs.Prelude.{ℕ, ◌++◌, List, [], ◌∷◌, true, false, None, Some, codes}
 use Rattle.transyt_syntax.specs.declared.code.Code.TheVariants as code
 use Rattle.transyt_net.specs.declared.edit.Edit.TheVariants.{Entry, Part}
-use Rattle.transyt_equisat.specs.Answer.{GreensValue}
+use Rattle.transyt_equisat.specs.Balance.{GreensValue}
 use Rattle.transyt_audit.specs.declared.verdict.Verdict.TheVariants.{Yes, No}
 use Rattle.transyt_climbs.specs.declared.row.Climbed.{Climbed}
 use Rattle.transyt_climbs.specs.declared.row.PlanRow.TheVariants as row
 use Rattle.transyt_scan.specs.declared.row.ScanRow.{ScanRow}
 use Rattle.transyt_words.specs.declared.table.Numbered.TheVariants.{Starts, Cycles}
-use Rattle.transyt_words.specs.Lines.{LineValue, refused_card}
+use Rattle.transyt_words.specs.Answer.{LineValue, refused_card}
 use Rattle.transyt_words.specs.Counts.{command_lines, counted_line, refused_row}
 use Rattle.transyt_words.specs.Equisat.{end_line, node_line, stage_line}
 use Rattle.transyt_words.specs.Audit.{audit_line}

@@ -2,8 +2,7 @@
 use Rattle.std.specs.Prelude.{ℕ, ◌++◌, List, [], ◌∷◌, codes}
 use Rattle.transyt_outcome.specs.declared.status.Status.{Status}
 use Rattle.transyt_outcome.specs.declared.status.Status.TheVariants.{Done, DeckRefused, ReadFault, WriteFault, NoMemory}
-use Rattle.transyt_words.specs.Answer.{AnswerValue, done, refusal}
-use Rattle.transyt_words.specs.Lines.{LineValue, line_of}
+use Rattle.transyt_words.specs.Answer.{AnswerValue, done, refusal, LineValue, line_of}
 
 -- two lines
 abbrev pub two_lines : List LineValue

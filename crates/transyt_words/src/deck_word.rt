@@ -3,9 +3,8 @@
 ghost use Rattle.std.specs.Prelude.{◌≡◌, ◌≤◌, ◌+◌, ℕ, List, drop, length, IfOk};
 ghost use Rattle.std.specs.Thread.{IsSync};
 ghost use Rattle.transyt_net.specs.Parts.{Network};
-ghost use Rattle.transyt_words.specs.AfterDeck.{answer_after, most_after};
+ghost use Rattle.transyt_words.specs.Whole.{answer_after, most_after, ReadsBack};
 ghost use Rattle.transyt_words.specs.Answer.{AnswerValue};
-ghost use Rattle.transyt_words.specs.ReadBack.{ReadsBack};
 
 use crate::answer::Answer;
 use crate::line::{AnswerLine, one};

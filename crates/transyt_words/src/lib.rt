@@ -5,9 +5,9 @@
 //! whose deck text comes after them, if there is one. [`judge_deck`] answers an input by a word, a refused deck by the
 //! line of its card, and [`answer_whole`] takes a source to its end and writes the answer to it.
 //!
-//! A contract sees the answer to an input as `answer_after` of `specs/AfterDeck`, and what is reported of it as
+//! A contract sees the answer to an input as `answer_after` of `specs/Whole`, and what is reported of it as
 //! `of_whole` of `specs/Answer`, a `Reporting` by which nothing is written and nothing ends the run before the input was
-//! read to its end. `line_text` of `specs/Lines` is the text of a line. No answer names a number of workers.
+//! read to its end. `line_text` of `specs/Answer` is the text of a line. No answer names a number of workers.
 //!
 //! `counts`, `equisat`, `audit` and `scan` are the calculations of their crates, written in lines. `starts` climbs on a
 //! deck's network from its own offsets and from drawn ones; `cycles` climbs on it at other cycle times, with steps of the

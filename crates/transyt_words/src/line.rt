@@ -2,7 +2,7 @@
 
 ghost use Rattle.std.specs.Prelude.{◌≡◌, ◌≤◌, ◌++◌, [], ◌∷◌, length, IfOk, OnOk};
 ghost use Rattle.transyt_text.specs.Prints.{PrintsOn};
-ghost use Rattle.transyt_words.specs.Lines.{line_of, line_text, lines_text, refused_card};
+ghost use Rattle.transyt_words.specs.Answer.{line_of, line_text, lines_text, refused_card};
 
 use std::alloc::{AllocError, Global};
 use std::marker::Model;
@@ -23,7 +23,7 @@ pub struct AnswerLine {
 
 impl Model for AnswerLine {
     ghost use Rattle.std.specs.Prelude.{◌≤◌, length, take};
-    ghost use Rattle.transyt_words.specs.Lines.{LineValue};
+    ghost use Rattle.transyt_words.specs.Answer.{LineValue};
 
     ghost Value = { LineValue };
 

@@ -1,7 +1,7 @@
 //! The word `starts`.
 
 ghost use Rattle.std.specs.Prelude.{◌≡◌, IfSome};
-ghost use Rattle.transyt_words.specs.Asked.{IsStarts, starts_of};
+ghost use Rattle.transyt_words.specs.Plans.{IsStarts, starts_of};
 
 use crate::answer::Answer;
 use crate::deck_word::{DeckWord, Host};
@@ -45,8 +45,7 @@ impl StartsWord {
 }
 
 impl Plans for StartsWord {
-    ghost use Rattle.transyt_words.specs.Asked.{IsStarts};
-    ghost use Rattle.transyt_words.specs.Plans.{starts};
+    ghost use Rattle.transyt_words.specs.Plans.{IsStarts, starts};
 
     ghost fits = { IsStarts };
 
@@ -81,8 +80,7 @@ impl TableWord for StartsWord {
 }
 
 impl DeckWord for StartsWord {
-    ghost use Rattle.transyt_words.specs.Asked.{IsStarts};
-    ghost use Rattle.transyt_words.specs.Plans.{starts_answer};
+    ghost use Rattle.transyt_words.specs.Plans.{IsStarts, starts_answer};
 
     ghost fits = { IsStarts };
 

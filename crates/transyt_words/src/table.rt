@@ -1,9 +1,8 @@
 //! A table of plans compared, and the deck of the best: what `starts` and `cycles` have in common.
 
 ghost use Rattle.std.specs.Prelude.{◌≡◌, ◌<◌, IfOk, IfSome};
-ghost use Rattle.transyt_words.specs.Plans.{deck_of, plans_answer};
-ghost use Rattle.transyt_words.specs.ReadBack.{DeckReadsBack, ReadsBack};
-ghost use Rattle.transyt_words.specs.Table.{best_line, climbed_line, row_line, table_lines};
+ghost use Rattle.transyt_words.specs.Plans.{deck_of, plans_answer, best_line, climbed_line, row_line, table_lines};
+ghost use Rattle.transyt_words.specs.Whole.{DeckReadsBack, ReadsBack};
 ghost use Rattle.transyt_words.specs.declared.table.Numbered.{Numbered};
 
 use crate::answer::Answer;

@@ -4,7 +4,7 @@ ghost use Rattle.std.specs.Prelude.{◌≡◌, IfSome, IfNone, IfOk, OnOk, OnErr
 ghost use Rattle.transyt_net.specs.EditFaults.{edit_fault};
 ghost use Rattle.transyt_net.specs.Edits.{with_edit, inverse, named, NamesNode, NamesLink};
 ghost use Rattle.transyt_net.specs.Valid.{IsValid};
-ghost use Rattle.transyt_net.specs.Shape.{SameShape};
+ghost use Rattle.transyt_net.specs.Parts.{SameShape};
 
 use super::Net;
 use crate::edit::{Edit, EditFault, edit_link, edit_node};

@@ -1,6 +1,6 @@
 -- The run of the program, by the bytes that the ends of std tell.
 use Rattle.std.proofs.Common.{ap}
-use Rattle.transyt_io.specs.StdEnds.{StdEnd}
+use Rattle.transyt_io.specs.Streams.{StdEnd}
 use Rattle.transyt.proofs.ProgramLaws.{given_ran, given_headline}
 use Rattle.transyt.proofs.over.run_over.Goals as goal
 

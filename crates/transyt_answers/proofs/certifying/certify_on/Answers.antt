@@ -7,7 +7,7 @@ use Rattle.transyt_net.specs.Parts.{Network}
 use Rattle.transyt_moves.specs.Moves.{move_count}
 use Rattle.transyt_moves.specs.Moves.{move}
 use Rattle.transyt_sweep.specs.Sweeps.{index}
-use Rattle.transyt_track.specs.Work.{edit_work, cert_work}
+use Rattle.transyt_track.specs.Due.{edit_work, cert_work}
 use Rattle.transyt_session.specs.Session.{SessionValue}
 use Rattle.transyt_cert.specs.Certificate.{place_text, last_text}
 use Rattle.transyt_cert.proofs.CertificateLaws.{text_by_place}

@@ -2,7 +2,7 @@
 use Rattle.std.proofs.Common.{◌≡◌, ◌+◌, ◌*◌, ◌≤◌, None, take, flat_map}
 use Rattle.std.specs.List.{range_with_len}
 use Rattle.transyt_moves.specs.Moves.{move_count}
-use Rattle.transyt_track.specs.Work.{cert_work}
+use Rattle.transyt_track.specs.Due.{cert_work}
 use Rattle.transyt_cert.specs.Certificate.{place_text}
 use Rattle.transyt_text.specs.Prints.{Printed}
 use Rattle.transyt_answers.proofs.certifying.certify_on.Given as goal

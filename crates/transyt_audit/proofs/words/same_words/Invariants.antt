@@ -1,7 +1,7 @@
 -- The words that are left of both lines compare as all of them did.
 use Rattle.std.proofs.Common.{◌≡◌, length}
 use Rattle.transyt_io.specs.Lines.{words}
-use Rattle.transyt_audit.specs.Given.{same_words}
+use Rattle.transyt_audit.specs.Verdict.{same_words}
 use Rattle.transyt_audit.proofs.words.same_words.Given as goal
 
 abbrev pub invariant-loop-word : goal.invariant-loop-word

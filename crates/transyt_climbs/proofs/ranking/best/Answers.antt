@@ -2,7 +2,7 @@
 use Rattle.std.proofs.Common.{◌+◌, List, drop, get_or, sym, ◌∙◌, ap, subst, add-one, drop-cons}
 use Rattle.transyt_climbs.specs.declared.row.PlanRow.{PlanRow}
 use Rattle.transyt_climbs.specs.declared.row.PlanRow.TheVariants as row
-use Rattle.transyt_climbs.specs.Best.{AreBest, best_from, better}
+use Rattle.transyt_climbs.specs.Climbs.{AreBest, best_from, better}
 use Rattle.transyt_climbs.proofs.BestLaws.{with_row}
 use Rattle.transyt_climbs.proofs.ranking.best.Goals as goal
 

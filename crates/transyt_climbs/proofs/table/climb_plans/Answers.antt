@@ -3,7 +3,7 @@ use Rattle.std.proofs.Common.{◌≡◌, List, Option, Some, map, drop, length, 
 use Rattle.std.proofs.lemmas.List.{length-map, take-append-le, take_all}
 use Rattle.std.proofs.lemmas.Result.{IfOk-weaker}
 use Rattle.transyt_climbs.specs.declared.row.PlanRow.{PlanRow}
-use Rattle.transyt_climbs.specs.Plans.{table}
+use Rattle.transyt_climbs.specs.Climbs.{table}
 use Rattle.transyt_climbs.proofs.TableLaws.{table_made}
 use Rattle.transyt_climbs.proofs.table.climb_plans.Goals as goal
 

@@ -5,9 +5,8 @@ use Rattle.transyt_net.specs.Parts.{Network}
 use Rattle.transyt_counts.specs.declared.key.Key.{Key}
 use Rattle.transyt_counts.specs.declared.row.Count.{Count}
 use Rattle.transyt_counts.specs.declared.tally.Totals.{Totals}
-use Rattle.transyt_counts.specs.Records.{records_of}
-use Rattle.transyt_counts.specs.Counts.{read_rows, answer_of, tally_answer, counts_of}
-use Rattle.transyt_counts.specs.Tally.{tally_of}
+use Rattle.transyt_counts.specs.Rows.{records_of}
+use Rattle.transyt_counts.specs.Counts.{read_rows, answer_of, tally_answer, counts_of, tally_of}
 use Rattle.transyt_counts.specs.Exact.{AreExact}
 use Rattle.transyt_counts.proofs.ExactLaws.{table_exact}
 use Rattle.transyt_counts.proofs.ReadLaws.{rows_good}

@@ -2,7 +2,7 @@
 use Rattle.std.proofs.Common.{◌≡◌, sym, ◌∙◌, false}
 use Rattle.transyt_io.specs.Lines.{is_skipped}
 use Rattle.transyt_syntax.proofs.Says.{found_of, kept_says}
-use Rattle.transyt_deck.specs.Table.{cards}
+use Rattle.transyt_deck.specs.Cards.{cards}
 use Rattle.transyt_deck.proofs.card.read_card.Goals as goal
 
 -- the entry that is found is the table's

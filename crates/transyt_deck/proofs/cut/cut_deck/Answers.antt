@@ -3,9 +3,7 @@ use Rattle.std.proofs.Common.{◌≡◌, ◌≤◌, ◌-◌, length, true, Resul
 use Rattle.transyt_deck.specs.declared.reader.CardStop.{CardStop}
 use Rattle.transyt_deck.specs.declared.cut.Cut.{Cut}
 use Rattle.transyt_deck.specs.declared.reader.Progress.{Progress}
-use Rattle.transyt_deck.specs.Reader.{Answers, goes_on}
-use Rattle.transyt_deck.specs.Cut.{cut_of}
-use Rattle.transyt_deck.specs.Deck.{is_complete, is_open, line_count, next}
+use Rattle.transyt_deck.specs.Deck.{Answers, goes_on, cut_of, is_complete, is_open, line_count, next}
 use Rattle.transyt_deck.proofs.Cutting.{cut_complete, line_within, ok_of, refuses_by, takes_one}
 use Rattle.transyt_deck.proofs.cut.cut_deck.Goals as goal
 

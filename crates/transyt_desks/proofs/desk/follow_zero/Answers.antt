@@ -1,6 +1,6 @@
 -- The desks after the first stand for its network.
 use Rattle.std.proofs.Common.{◌≡◌, ◌+◌, ◌++◌, List, slice_index_or, sym, ap, ◌∙◌, subst, arith}
-use Rattle.transyt_net.specs.Shape.{shape}
+use Rattle.transyt_net.specs.Parts.{shape}
 use Rattle.transyt_session.specs.Session.{SessionValue}
 use Rattle.transyt_desks.specs.declared.desk.Desk.{Desk}
 use Rattle.transyt_desks.specs.Desks.{desk_zero, no_desk, sessions_of, AreAligned, OthersClosed}

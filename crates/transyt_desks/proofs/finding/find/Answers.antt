@@ -2,9 +2,9 @@
 use Rattle.std.proofs.Common.{◌≡◌, ◌≤◌, ap, ◌∙◌, subst, arith}
 use Rattle.std.proofs.lemmas.List.{length-set}
 use Rattle.transyt_moves.specs.Moves.{move}
-use Rattle.transyt_track.specs.Work.{edit_work}
+use Rattle.transyt_track.specs.Due.{edit_work}
 use Rattle.transyt_session.specs.Session.{SessionValue, try_of}
-use Rattle.transyt_desks.specs.Finds.{turn_place}
+use Rattle.transyt_desks.specs.Stretches.{turn_place}
 use Rattle.transyt_desks.proofs.FindLaws.{tries_more}
 use Rattle.transyt_desks.proofs.finding.find.Goals as goal
 

@@ -1,6 +1,6 @@
 -- The moves so far were tried, and the session is as it was.
 use Rattle.std.proofs.Common.{◌≡◌, length}
-use Rattle.transyt_desks.specs.Finds.{AreTriesAt, turn_place}
+use Rattle.transyt_desks.specs.Stretches.{AreTriesAt, turn_place}
 use Rattle.transyt_desks.proofs.finding.find.Given as goal
 
 -- their tries stand at the front

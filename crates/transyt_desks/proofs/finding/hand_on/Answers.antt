@@ -2,7 +2,7 @@
 use Rattle.std.proofs.Common.{◌≡◌, ◌+◌, ◌≤◌, ap, ◌∙◌, subst, arith}
 use Rattle.std.proofs.lemmas.List.{length-set}
 use Rattle.transyt_moves.specs.Moves.{move}
-use Rattle.transyt_track.specs.Work.{edit_work}
+use Rattle.transyt_track.specs.Due.{edit_work}
 use Rattle.transyt_session.specs.Session.{try_of}
 use Rattle.transyt_desks.specs.Desks.{desk_zero, sessions_of}
 use Rattle.transyt_desks.specs.Stretches.{place_at}

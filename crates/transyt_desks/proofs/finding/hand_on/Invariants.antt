@@ -1,7 +1,7 @@
 -- The finds so far were handed on.
 use Rattle.std.proofs.Common.{◌≡◌, length}
 use Rattle.transyt_desks.specs.Desks.{desk_zero, sessions_of}
-use Rattle.transyt_desks.specs.Finds.{AreTriesOf}
+use Rattle.transyt_desks.specs.Stretches.{AreTriesOf}
 use Rattle.transyt_desks.proofs.finding.hand_on.Given as goal
 
 -- they stand at the front

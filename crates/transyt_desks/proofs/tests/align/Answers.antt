@@ -1,6 +1,6 @@
 -- Desks that stand for one network are alike.
 use Rattle.std.proofs.Common.{ap}
-use Rattle.transyt_net.specs.Shape.{shape}
+use Rattle.transyt_net.specs.Parts.{shape}
 use Rattle.transyt_desks.proofs.tests.align.Goals as goal
 
 pub align-requires-clause-shape : goal.align-requires-clause-shape

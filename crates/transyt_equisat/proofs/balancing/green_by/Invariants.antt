@@ -1,9 +1,8 @@
 -- A search from here finds what one from the start finds, since no number before this one passes.
 use Rattle.std.proofs.Common.{◌≡◌, ◌-◌, not}
-use Rattle.transyt_equisat.specs.Fractions.{is_above}
-use Rattle.transyt_equisat.specs.Demands.{degree_of}
+use Rattle.transyt_equisat.specs.Degrees.{is_above}
+use Rattle.transyt_equisat.specs.Sharing.{degree_of, green_by}
 use Rattle.transyt_equisat.specs.Balance.{first_from}
-use Rattle.transyt_equisat.specs.Sharing.{green_by}
 use Rattle.transyt_equisat.proofs.balancing.green_by.Given as goal
 
 abbrev pub invariant-loop-green : goal.invariant-loop-green

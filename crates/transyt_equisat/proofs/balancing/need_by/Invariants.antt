@@ -1,9 +1,8 @@
 -- A search from here finds what one from the start finds, since no number before this one passes.
 use Rattle.std.proofs.Common.{◌≡◌, ◌-◌}
-use Rattle.transyt_equisat.specs.Fractions.{is_above}
-use Rattle.transyt_equisat.specs.Demands.{degree_of}
+use Rattle.transyt_equisat.specs.Degrees.{is_above}
+use Rattle.transyt_equisat.specs.Sharing.{degree_of, need_by}
 use Rattle.transyt_equisat.specs.Balance.{first_from}
-use Rattle.transyt_equisat.specs.Sharing.{need_by}
 use Rattle.transyt_equisat.proofs.balancing.need_by.Given as goal
 
 abbrev pub invariant-loop-green : goal.invariant-loop-green

@@ -3,9 +3,7 @@ use Rattle.std.proofs.Common.{◌≡◌, ℕ, suc, ◌+◌, sym, arith, get_or}
 use Rattle.std.proofs.lemmas.Grind.{common_steps}
 use Rattle.std.proofs.lemmas.List.FromFn.{map-range_with_len_more}
 use Rattle.transyt_parts.specs.Plan.{stage_of}
-use Rattle.transyt_equisat.specs.Demands.{no_demand}
-use Rattle.transyt_equisat.specs.Sharing.{share_there, need_by}
-use Rattle.transyt_equisat.specs.Asked.{AskedValue}
+use Rattle.transyt_equisat.specs.Sharing.{no_demand, share_there, need_by, AskedValue}
 use Rattle.transyt_equisat.proofs.balancing.shares_for.Goals as goal
 
 pub loop-place-preserved : goal.loop-place-preserved

@@ -1,7 +1,7 @@
 -- The demand so far is that of the links before the place.
 use Rattle.std.proofs.Common.{◌≡◌, take}
 use Rattle.std.specs.List.{fold}
-use Rattle.transyt_equisat.specs.Demands.{heavier_of, no_demand}
+use Rattle.transyt_equisat.specs.Sharing.{heavier_of, no_demand}
 use Rattle.transyt_equisat.proofs.demand.demand_in.Given as goal
 
 abbrev pub invariant-loop-place : goal.invariant-loop-place

@@ -1,6 +1,6 @@
 -- The demands of the stages before the place.
 use Rattle.std.proofs.Common.{◌≡◌}
-use Rattle.transyt_equisat.specs.Demands.{demands_of}
+use Rattle.transyt_equisat.specs.Sharing.{demands_of}
 use Rattle.transyt_equisat.proofs.demand.demands_of.Given as goal
 
 abbrev pub invariant-loop-place : goal.invariant-loop-place

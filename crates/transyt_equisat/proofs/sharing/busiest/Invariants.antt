@@ -1,6 +1,6 @@
 -- No stage before the place has a degree above that of the best so far.
 use Rattle.std.proofs.Common.{◌≡◌, ℕ, ◌<◌, false, length}
-use Rattle.transyt_equisat.specs.Fractions.{is_above}
+use Rattle.transyt_equisat.specs.Degrees.{is_above}
 use Rattle.transyt_equisat.specs.Sharing.{degree_at}
 use Rattle.transyt_equisat.proofs.sharing.busiest.Given as goal
 

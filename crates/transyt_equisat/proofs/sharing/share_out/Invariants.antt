@@ -1,8 +1,7 @@
 -- The greens so far take as many steps as turns, and none do better.
 use Rattle.std.proofs.Common.{◌≡◌, ◌+◌, sum}
 use Rattle.transyt_equisat.specs.Peaks.{lost}
-use Rattle.transyt_equisat.specs.Asked.{AreEnough}
-use Rattle.transyt_equisat.specs.Sharing.{IsBest}
+use Rattle.transyt_equisat.specs.Sharing.{AreEnough, IsBest}
 use Rattle.transyt_equisat.proofs.sharing.share_out.Given as goal
 
 abbrev pub invariant-loop-turn : goal.invariant-loop-turn

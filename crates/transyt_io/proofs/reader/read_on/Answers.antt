@@ -2,7 +2,7 @@
 use Rattle.std.proofs.Common.{◌≡◌, ◌∙◌, ◌<◌, ◌+◌, ◌++◌, ℕ, List, length, take, drop, sym, ap, subst, arith, rules}
 use Rattle.std.proofs.Common.{append_assoc, IfSome}
 use Rattle.std.proofs.lemmas.Slice.{between_is}
-use Rattle.transyt_io.specs.Gather.{Gathers}
+use Rattle.transyt_io.specs.Pull.{Gathers}
 use Rattle.transyt_io.proofs.Lines.{ends_in_piece}
 use Rattle.transyt_io.proofs.Pieces.{piece_read}
 use Rattle.transyt_io.proofs.Told.{takes_both}

@@ -1,7 +1,7 @@
 -- All bytes taken so far belong to the line, and no more may come than the limit leaves.
 use Rattle.std.proofs.Common.{◌≡◌, ◌≤◌, ◌+◌, ◌-◌, ◌++◌, List, ℕ, length, vec_capacity}
 use Rattle.transyt_io.specs.Streams.{Takes}
-use Rattle.transyt_io.specs.Gather.{Gathers}
+use Rattle.transyt_io.specs.Pull.{Gathers}
 use Rattle.transyt_io.proofs.reader.read_on.Given as goal
 
 -- the bytes taken so far belong to the line, which has not ended

@@ -1,6 +1,6 @@
 -- The nodes that are taken are those of the other list, place by place.
 use Rattle.std.proofs.Common.{sym, ap, ◌∙◌, arith}
-use Rattle.transyt_parts.specs.Shape.{bare_node}
+use Rattle.transyt_parts.specs.Made.{bare_node}
 use Rattle.transyt_parts.proofs.CopyLaws.{same_lists, same_length, same_at, shape_more, agree_more}
 use Rattle.transyt_parts.proofs.shape.take_nodes.Goals as goal
 

@@ -1,7 +1,7 @@
 -- A profile goes by twice, step by step.
 use Rattle.std.proofs.Common.{◌≡◌, ◌+◌, ◌*◌, ◌%◌, ◌^◌, ◌<◌, length}
 use Rattle.transyt_platoon.specs.Platoon.{smoothed}
-use Rattle.transyt_platoon.specs.Turns.{Placed}
+use Rattle.transyt_platoon.specs.Passing.{Placed}
 use Rattle.transyt_platoon.proofs.dispersion.travel.Given as goal
 
 -- the value after i steps of the first turn

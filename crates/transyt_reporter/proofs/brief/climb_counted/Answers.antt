@@ -1,7 +1,7 @@
 -- The climb by the network's plan is that by its budget.
 use Rattle.std.proofs.Common.{length, ◌∙◌, ap, arith}
 use Rattle.transyt_sweep.specs.Climb.{Climb}
-use Rattle.transyt_track.specs.Work.{work_of}
+use Rattle.transyt_track.specs.Due.{work_of}
 use Rattle.transyt_session.specs.Session.{SessionValue}
 use Rattle.transyt_desks.specs.Desks.{desk_zero}
 use Rattle.transyt_reporter.proofs.BriefLaws.{whole_climb}

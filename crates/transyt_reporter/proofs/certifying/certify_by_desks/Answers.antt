@@ -8,7 +8,7 @@ use Rattle.transyt_desks.specs.Desks.{desk_zero}
 use Rattle.transyt_text.proofs.LoopLaws.{printed_nothing}
 use Rattle.transyt_text.proofs.PrintLaws.{prints_same}
 use Rattle.transyt_cert.specs.Certificate.{last_text}
-use Rattle.transyt_reporter.specs.Certifying.{places_text}
+use Rattle.transyt_reporter.specs.Conditions.{places_text}
 use Rattle.transyt_reporter.proofs.CertifyLaws.{batch_printed, batch_broken, lines_ended}
 use Rattle.transyt_reporter.proofs.CertifyLaws.{certified_none, certified_both, certified_any, certified_front}
 use Rattle.transyt_reporter.proofs.certifying.certify_by_desks.Goals as goal

@@ -2,7 +2,7 @@
 use Rattle.std.proofs.Common.{◌≡◌, ◌-◌, ◌≤◌, Ok, length}
 use Rattle.transyt_desks.specs.Desks.{desk_zero, AreAlike}
 use Rattle.transyt_text.specs.Prints.{Printed}
-use Rattle.transyt_reporter.specs.Certifying.{HasCertified, places_text}
+use Rattle.transyt_reporter.specs.Conditions.{HasCertified, places_text}
 use Rattle.transyt_reporter.proofs.certifying.certify_by_desks.Given as goal
 
 -- the text so far, and the desks

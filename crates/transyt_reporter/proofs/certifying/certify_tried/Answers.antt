@@ -4,7 +4,7 @@ use Rattle.std.specs.List.{range_with_len}
 use Rattle.std.proofs.lemmas.List.FromFn.{length-range_with_len, get_or-range_with_len}
 use Rattle.transyt_net.specs.Parts.{Network}
 use Rattle.transyt_moves.specs.Moves.{move}
-use Rattle.transyt_track.specs.Work.{edit_work}
+use Rattle.transyt_track.specs.Due.{edit_work}
 use Rattle.transyt_session.specs.Session.{try_of}
 use Rattle.transyt_text.proofs.LoopLaws.{printed_nothing, item_printed, item_broken, items_printed}
 use Rattle.transyt_text.proofs.PrintLaws.{prints_same}

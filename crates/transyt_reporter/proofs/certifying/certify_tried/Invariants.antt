@@ -3,7 +3,7 @@ use Rattle.std.proofs.Common.{Ok, take, flat_map, length}
 use Rattle.std.specs.List.{range_with_len}
 use Rattle.transyt_cert.specs.Certificate.{place_text}
 use Rattle.transyt_text.specs.Prints.{Printed}
-use Rattle.transyt_reporter.specs.Certifying.{HasCertified}
+use Rattle.transyt_reporter.specs.Conditions.{HasCertified}
 use Rattle.transyt_reporter.proofs.certifying.certify_tried.Given as goal
 
 -- the text so far, and the session

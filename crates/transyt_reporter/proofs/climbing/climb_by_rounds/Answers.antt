@@ -5,7 +5,7 @@ use Rattle.transyt_sweep.specs.Sweeps.{index}
 use Rattle.transyt_session.specs.Session.{SessionValue}
 use Rattle.transyt_desks.specs.Desks.{desk_zero}
 use Rattle.transyt_text.proofs.PrintLaws.{prints_same}
-use Rattle.transyt_report.specs.MoveTexts.{end_text}
+use Rattle.transyt_report.specs.Texts.{end_text}
 use Rattle.transyt_reporter.proofs.ClimbTexts.{writes_nothing, climb_work, climb_few, climb_ended, step_written, step_breaks, end_written}
 use Rattle.transyt_reporter.proofs.MoveLaws.{steps_round}
 use Rattle.transyt_reporter.proofs.climbing.climb_by_rounds.Goals as goal

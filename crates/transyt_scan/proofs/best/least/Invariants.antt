@@ -1,6 +1,6 @@
 -- The best of the rows so far.
 use Rattle.std.proofs.Common.{◌≡◌, ℕ, ◌<◌, ◌≤◌, get_or, drop, fold}
-use Rattle.transyt_scan.specs.Best.{to_at, no_row, best, better}
+use Rattle.transyt_scan.specs.Rows.{to_at, no_row, best, better}
 use Rattle.transyt_scan.proofs.best.least.Given as goal
 
 -- it is the first of those before this one with the least index at its end, and it stands for them

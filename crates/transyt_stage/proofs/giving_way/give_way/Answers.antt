@@ -1,7 +1,7 @@
 -- GO of each step is that of the definition.
 use Rattle.std.proofs.Common.{length, arith}
 use Rattle.std.proofs.lemmas.List.FromFn.{fill_by_all}
-use Rattle.transyt_stage.specs.GiveWay.{yielded_at}
+use Rattle.transyt_stage.specs.Green.{yielded_at}
 use Rattle.transyt_stage.proofs.giving_way.give_way.Goals as goal
 
 -- with every step passed, the profile is the definition's

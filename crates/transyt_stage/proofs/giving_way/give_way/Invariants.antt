@@ -1,6 +1,6 @@
 -- GO is lessened step by step.
 use Rattle.std.proofs.Common.{◌≡◌, ◌^◌, ◌<◌, ◌≤◌, ℕ, get_or}
-use Rattle.transyt_stage.specs.GiveWay.{yielded_at}
+use Rattle.transyt_stage.specs.Green.{yielded_at}
 use Rattle.transyt_stage.proofs.giving_way.give_way.Given as goal
 
 -- the steps passed are lessened, the others are as they were

@@ -1,8 +1,7 @@
 -- GO without lags.
 use Rattle.std.proofs.Common.{rules}
-use Rattle.transyt_net.specs.Parts.{link_of}
+use Rattle.transyt_net.specs.Parts.{link_of, perstep}
 use Rattle.transyt_net.specs.Edits.{the_node}
-use Rattle.transyt_net.specs.Flow.{perstep}
 use Rattle.transyt_stage.proofs.ShownLaws.{passed_without_lags}
 use Rattle.transyt_stage.proofs.green.fill_go.Goals as goal
 

@@ -1,6 +1,6 @@
 -- Arrivals are scaled step by step.
 use Rattle.std.proofs.Common.{◌≡◌, ℕ, ◌<◌, get_or}
-use Rattle.transyt_stopline.specs.Cut.{scaled}
+use Rattle.transyt_stopline.specs.StopLine.{scaled}
 use Rattle.transyt_stopline.proofs.cutting.scale_each.Given as goal
 
 -- the steps passed are scaled

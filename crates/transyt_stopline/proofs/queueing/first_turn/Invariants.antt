@@ -1,6 +1,6 @@
 -- The recurrence goes round the cycle from an empty queue.
 use Rattle.std.proofs.Common.{◌≡◌, ℕ, ◌+◌, ◌*◌, ◌^◌, ◌<◌, ◌≤◌, get_or}
-use Rattle.transyt_stopline.specs.Queue.{turn}
+use Rattle.transyt_stopline.specs.StopLine.{turn}
 use Rattle.transyt_stopline.proofs.queueing.first_turn.Given as goal
 
 -- the queue after i steps; the steps passed are written

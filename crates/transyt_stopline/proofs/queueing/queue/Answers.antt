@@ -5,7 +5,7 @@ use Rattle.std.proofs.lemmas.Bool.{cases_lt}
 use Rattle.std.proofs.lemmas.List.{get_or_past, get_or_default}
 use Rattle.transyt_cycle.specs.Cycle.{step_before}
 use Rattle.transyt_cycle.proofs.CycleLaws.{step_before-lt}
-use Rattle.transyt_stopline.specs.Queue.{IsQueue, queue_at, out_at}
+use Rattle.transyt_stopline.specs.StopLine.{IsQueue, queue_at, out_at}
 use Rattle.transyt_stopline.proofs.QueueLaws.{queue_more, second_is, outs_total, out-le-go}
 use Rattle.transyt_stopline.proofs.Covering.{queue_is}
 use Rattle.transyt_stopline.proofs.QueueBounds.{queue-lt}

@@ -3,7 +3,7 @@ use Rattle.std.proofs.Common.{◌≡◌, ℕ, ◌+◌, ◌<◌, ◌≤◌, arith
 use Rattle.std.proofs.lemmas.Bool.{cases_lt}
 use Rattle.std.proofs.Math.Logic.{⊎_elim}
 use Rattle.std.proofs.lemmas.Grind.{common_steps}
-use Rattle.transyt_stopline.specs.Queue.{turn}
+use Rattle.transyt_stopline.specs.StopLine.{turn}
 use Rattle.transyt_stopline.proofs.QueueLaws.{turn_more, turns_meet}
 use Rattle.transyt_stopline.proofs.queueing.second_turn.Goals as goal
 

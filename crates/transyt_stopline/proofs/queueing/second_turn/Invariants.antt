@@ -1,6 +1,6 @@
 -- The recurrence goes round the cycle once more, and writes over the first turn.
 use Rattle.std.proofs.Common.{◌≡◌, ℕ, ◌+◌, ◌*◌, ◌^◌, ◌<◌, ◌≤◌, length, get_or}
-use Rattle.transyt_stopline.specs.Queue.{turn}
+use Rattle.transyt_stopline.specs.StopLine.{turn}
 use Rattle.transyt_stopline.proofs.queueing.second_turn.Given as goal
 
 -- the queue after i steps; the steps passed are written, and the others are as the first turn left them

@@ -1,8 +1,7 @@
 -- The feeds, four at a time, then three, and then those that are left.
 use Rattle.std.proofs.Common.{◌≡◌, ℕ, ◌+◌, ◌-◌, ◌*◌, ◌^◌, ◌<◌, ◌≤◌, length, take, All}
 use Rattle.transyt_profile.specs.Profile.{folded}
-use Rattle.transyt_sweep.specs.Factors.{AreFactors}
-use Rattle.transyt_sweep.specs.Inflow.{read_by, with_feeds}
+use Rattle.transyt_sweep.specs.Inflow.{AreFactors, read_by, with_feeds}
 use Rattle.transyt_sweep.proofs.inflow.add_feeds.Given as goal
 
 -- so far the arrivals of the feeds so far are added

@@ -3,10 +3,8 @@ use Rattle.std.proofs.Common.{◌≡◌, ℕ, ◌-◌, ◌^◌, ◌<◌, List, A
 use Rattle.std.proofs.lemmas.List.Elements.{All-take, All-drop}
 use Rattle.transyt_profile.specs.Profile.{folded, uniform}
 use Rattle.transyt_parts.specs.Parts.{LinkValue}
-use Rattle.transyt_net.specs.Parts.{Network, link_of}
-use Rattle.transyt_net.specs.Flow.{perstep}
-use Rattle.transyt_sweep.specs.Factors.{AreFactors}
-use Rattle.transyt_sweep.specs.Inflow.{read_by, with_feeds}
+use Rattle.transyt_net.specs.Parts.{Network, link_of, perstep}
+use Rattle.transyt_sweep.specs.Inflow.{AreFactors, read_by, with_feeds}
 use Rattle.transyt_sweep.proofs.InflowLaws.{grown_small, started_room, started_small}
 use Rattle.transyt_sweep.proofs.SlotLaws.{are_put}
 use Rattle.transyt_sweep.proofs.inflow.fill_inflow.Goals as goal

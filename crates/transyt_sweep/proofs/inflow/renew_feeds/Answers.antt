@@ -1,7 +1,7 @@
 -- One slot more has the factors of its feed.
 use Rattle.std.proofs.Common.{arith}
 use Rattle.std.proofs.lemmas.List.Elements.{All-set}
-use Rattle.transyt_sweep.specs.Factors.{AreFactors}
+use Rattle.transyt_sweep.specs.Inflow.{AreFactors}
 use Rattle.transyt_sweep.proofs.SlotLaws.{served_more}
 use Rattle.transyt_sweep.proofs.inflow.renew_feeds.Goals as goal
 

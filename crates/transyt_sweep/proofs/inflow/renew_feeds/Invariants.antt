@@ -1,8 +1,7 @@
 -- The slots so far have the factors of their feeds, and all are right.
 use Rattle.std.proofs.Common.{ℕ, ◌<◌, get_or, All}
 use Rattle.transyt_sweep.specs.declared.factors.Factors.{Factors}
-use Rattle.transyt_sweep.specs.Factors.{AreFactors}
-use Rattle.transyt_sweep.specs.Inflow.{Served, no_feed}
+use Rattle.transyt_sweep.specs.Inflow.{AreFactors, Served, no_feed}
 use Rattle.transyt_sweep.proofs.inflow.renew_feeds.Given as goal
 
 abbrev pub invariant-slots : goal.invariant-slots

@@ -1,7 +1,7 @@
 -- The links are started one after another.
 use Rattle.std.proofs.Common.{◌≡◌, ◌<◌, ◌+◌, length, sym, subst, ap, ◌∙◌, arith}
 use Rattle.transyt_profile.specs.Profile.{uniform}
-use Rattle.transyt_net.specs.Flow.{perstep}
+use Rattle.transyt_net.specs.Parts.{perstep}
 use Rattle.transyt_kept.specs.Rows.{with_out}
 use Rattle.transyt_sweep.specs.Sweeps.{out_of, start}
 use Rattle.transyt_sweep.specs.Front.{AreMixed, empty_out}

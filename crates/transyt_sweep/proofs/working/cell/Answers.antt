@@ -1,7 +1,6 @@
 -- Each vector holds the values that its slice was filled with.
 use Rattle.std.proofs.Common.{◌≡◌, ◌<◌, ◌^◌, ℕ, List, length, sum, All, subst, sym, ap, ◌∙◌, arith}
-use Rattle.transyt_stopline.specs.Cut.{arrivals_of}
-use Rattle.transyt_stopline.specs.Queue.{queues, outs}
+use Rattle.transyt_stopline.specs.StopLine.{arrivals_of, queues, outs}
 use Rattle.transyt_sweep.specs.Cell.{CellValue, go, inflow}
 use Rattle.transyt_sweep.specs.Reading.{read_in}
 use Rattle.transyt_sweep.proofs.FactorLaws.{are_in}

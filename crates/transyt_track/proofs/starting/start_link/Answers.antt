@@ -1,7 +1,7 @@
 -- A link whose start differs is started anew, any other is left.
 use Rattle.std.proofs.Common.{◌≡◌, ap, sym, ◌∙◌}
 use Rattle.transyt_profile.specs.Profile.{uniform}
-use Rattle.transyt_net.specs.Flow.{perstep}
+use Rattle.transyt_net.specs.Parts.{perstep}
 use Rattle.transyt_sweep.specs.Sweeps.{start}
 use Rattle.transyt_track.proofs.StartLaws.{started_put, started_left}
 use Rattle.transyt_track.proofs.starting.start_link.Goals as goal

@@ -2,7 +2,7 @@
 use Rattle.std.proofs.Common.{◌≡◌, ℕ, List, Result, IfOk, sym, subst}
 use Rattle.transyt_deck.specs.declared.reader.CardStop.{CardStop}
 use Rattle.transyt_deck.specs.declared.cut.Cut.{Cut}
-use Rattle.transyt_words.specs.AfterDeck.{answer_of_cut}
+use Rattle.transyt_words.specs.Whole.{answer_of_cut}
 use Rattle.transyt_words.proofs.deck_word.judge_deck.Goals as goal
 
 pub returns-in-Ok-clause-answer : goal.returns-in-Ok-clause-answer

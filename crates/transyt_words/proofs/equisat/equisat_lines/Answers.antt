@@ -2,7 +2,7 @@
 use Rattle.std.proofs.Common.{◌++◌, List, [], sym, ap, ◌∙◌}
 use Rattle.std.specs.List.{flat_map, range_with_len}
 use Rattle.std.proofs.lemmas.List.{flat_map_more}
-use Rattle.transyt_words.specs.Lines.{LineValue}
+use Rattle.transyt_words.specs.Answer.{LineValue}
 use Rattle.transyt_words.specs.Equisat.{lines_at}
 use Rattle.transyt_words.proofs.Places.{places_more}
 use Rattle.transyt_words.proofs.equisat.equisat_lines.Goals as goal

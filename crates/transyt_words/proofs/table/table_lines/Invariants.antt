@@ -1,6 +1,6 @@
 -- The lines so far.
 use Rattle.std.proofs.Common.{◌≡◌, ◌++◌, map, drop}
-use Rattle.transyt_words.specs.Table.{row_line}
+use Rattle.transyt_words.specs.Plans.{row_line}
 use Rattle.transyt_words.proofs.table.table_lines.Given as goal
 
 -- those of the rows before this one, and those to come, are all

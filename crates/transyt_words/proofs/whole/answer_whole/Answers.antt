@@ -1,6 +1,6 @@
 -- The answer is told of all bytes taken.
 use Rattle.std.proofs.Common.{◌∙◌}
-use Rattle.transyt_words.specs.AfterDeck.{answer_after}
+use Rattle.transyt_words.specs.Whole.{answer_after}
 use Rattle.transyt_words.proofs.OutcomeLaws.{told_outcome}
 use Rattle.transyt_words.proofs.whole.answer_whole.Goals as goal
 

@@ -2,8 +2,7 @@
 use Rattle.std.proofs.Common.{◌≡◌, true, sym, subst, ◌∙◌, ap, not, is_some, Err}
 use Rattle.transyt_deck.specs.declared.state.Stop.{Stop}
 use Rattle.transyt_deck.specs.Adds.{Adds}
-use Rattle.transyt_deck.specs.Deck.{code_of, next}
-use Rattle.transyt_deck.specs.Reader.{ReaderValue}
+use Rattle.transyt_deck.specs.Deck.{code_of, next, ReaderValue}
 use Rattle.transyt_deck.specs.State.{state_after}
 use Rattle.transyt_deck.proofs.Adding.{still_fits}
 use Rattle.transyt_deck.proofs.reader.CardReader.take.Goals as goal

@@ -1,7 +1,7 @@
 -- The draft with the new give-way rule is sound, and has no new number and no other total.
 use Rattle.std.proofs.Common.{rules, ◌≡◌, refl, sym, ap, ◌∙◌, subst, get_or}
 use Rattle.std.proofs.Math.Seq.{map-set_same}
-use Rattle.transyt_parts.specs.Flow.{total_flow}
+use Rattle.transyt_parts.specs.Parts.{total_flow}
 use Rattle.transyt_net.specs.Valid.{IsSound, link_number}
 use Rattle.transyt_parts.specs.Made.{new_rule, set_rule}
 use Rattle.transyt_net.proofs.PlaceLaws.{IsPut, put_there}

@@ -1,9 +1,8 @@
 -- The net holds the nodes and links of the other one, which is valid, and keeps its numbers.
 use Rattle.std.proofs.Common.{rules, ◌≡◌, List, ◌++◌, take, drop, length, sym, ap, ◌∙◌, subst, map}
-use Rattle.transyt_net.specs.Parts.{Network, network_of, NodeValue, LinkValue}
-use Rattle.transyt_parts.specs.Flow.{total_flow}
+use Rattle.transyt_net.specs.Parts.{Network, network_of, NodeValue, LinkValue, SameShape, shape}
+use Rattle.transyt_parts.specs.Parts.{total_flow}
 use Rattle.transyt_net.specs.Valid.{node_numbers, link_numbers, IsValid}
-use Rattle.transyt_net.specs.Shape.{SameShape, shape}
 use Rattle.transyt_net.proofs.ShapeLaws.{same_node_numbers, same_link_numbers}
 use Rattle.transyt_net.proofs.CopyLaws.{written_back}
 use Rattle.transyt_net.proofs.net.Net.take_numbers.Goals as goal

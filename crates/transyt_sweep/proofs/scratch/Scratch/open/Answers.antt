@@ -1,7 +1,7 @@
 -- Rows of 0 are room for one link's work, and known figures of 0 are small.
 use Rattle.std.proofs.Common.{◌*◌, length, ap, subst, sym, rules, arith}
 use Rattle.transyt_parts.specs.declared.frame.Frame.{Frame}
-use Rattle.transyt_sweep.specs.Factors.{AreFactors}
+use Rattle.transyt_sweep.specs.Inflow.{AreFactors}
 use Rattle.transyt_kept.specs.Cell.{no_figures}
 use Rattle.transyt_sweep.proofs.ScratchLaws.{empty_scratch}
 use Rattle.transyt_sweep.proofs.scratch.Scratch.open.Goals as goal

@@ -1,9 +1,9 @@
 -- The rows are those of the network after.
 use Rattle.std.proofs.Common.{ap, sym, subst, ◌∙◌, rules}
-use Rattle.transyt_net.specs.Shape.{shape, SameShape}
+use Rattle.transyt_net.specs.Parts.{shape, SameShape}
 use Rattle.transyt_track.specs.Due.{due}
 use Rattle.transyt_track.specs.Own.{ArePlaces}
-use Rattle.transyt_track.specs.Readers.{AreReaders}
+use Rattle.transyt_track.specs.Change.{AreReaders}
 use Rattle.transyt_track.specs.Tracker.{TrackerValue}
 use Rattle.transyt_track.proofs.TrackLaws.{room_shape, followed_tracks}
 use Rattle.transyt_track.proofs.tracker.Tracker.follow.Goals as goal

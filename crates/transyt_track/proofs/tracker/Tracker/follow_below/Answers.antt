@@ -1,6 +1,6 @@
 -- The rows are those of the network with the edit made, or those from before it.
 use Rattle.std.proofs.Common.{◌≡◌, IfSome, IsSome, Some, refl, ap, sym, subst, if◌then◌else◌, nat_lt, ◌∙◌}
-use Rattle.transyt_net.specs.Shape.{shape, SameShape}
+use Rattle.transyt_net.specs.Parts.{shape, SameShape}
 use Rattle.transyt_net.specs.Edits.{with_edit}
 use Rattle.transyt_track.specs.Own.{ArePlaces, DifferAt}
 use Rattle.transyt_kept.specs.Rows.{index_in}
@@ -9,7 +9,7 @@ use Rattle.transyt_sweep.proofs.IndexLaws.{index_is}
 use Rattle.transyt_kept.specs.Saved.{KeptValue}
 use Rattle.transyt_track.specs.Due.{due}
 use Rattle.transyt_track.specs.declared.change.Front.{Front}
-use Rattle.transyt_track.specs.Readers.{AreReaders}
+use Rattle.transyt_track.specs.Change.{AreReaders}
 use Rattle.transyt_track.specs.Tracker.{TrackerValue, AreOfMark}
 use Rattle.transyt_track.proofs.TrackLaws.{room_shape, begun_tracks, followed_tracks, closed_tracks}
 use Rattle.transyt_track.proofs.tracker.Tracker.follow_below.Goals as goal

@@ -1,10 +1,10 @@
 -- The rows are those of the network with the edit made.
 use Rattle.std.proofs.Common.{◌≡◌, IfSome, ap, sym, subst, ◌∙◌}
-use Rattle.transyt_net.specs.Shape.{shape, SameShape}
+use Rattle.transyt_net.specs.Parts.{shape, SameShape}
 use Rattle.transyt_net.specs.Edits.{with_edit}
 use Rattle.transyt_track.specs.Own.{ArePlaces, DifferAt}
 use Rattle.transyt_track.specs.Due.{due}
-use Rattle.transyt_track.specs.Readers.{AreReaders}
+use Rattle.transyt_track.specs.Change.{AreReaders}
 use Rattle.transyt_track.specs.Tracker.{TrackerValue}
 use Rattle.transyt_track.proofs.TrackLaws.{room_shape, followed_tracks}
 use Rattle.transyt_track.proofs.tracker.Tracker.follow_edit.Goals as goal

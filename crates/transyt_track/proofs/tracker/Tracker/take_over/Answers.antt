@@ -1,6 +1,6 @@
 -- The rows are those of the other tracker.
 use Rattle.std.proofs.Common.{ap, sym, ◌∙◌}
-use Rattle.transyt_net.specs.Shape.{shape, SameShape}
+use Rattle.transyt_net.specs.Parts.{shape, SameShape}
 use Rattle.transyt_track.specs.Tracker.{TrackerValue}
 use Rattle.transyt_track.proofs.TrackLaws.{fits_shape, no_mark, closed_tracks}
 use Rattle.transyt_track.proofs.tracker.Tracker.take_over.Goals as goal

@@ -1,11 +1,24 @@
--- The climbs of a report.
-use Rattle.std.specs.Prelude.{◌≡◌, ℕ, true, false, length}
+-- When the deck at the front of an input is refused, and the climbs of a report.
+use Rattle.std.specs.Prelude.{◌≡◌, ◌↔◌, ℕ, List, true, false, length}
+use Rattle.transyt_io.specs.Lines.{lines}
+use Rattle.transyt_deck.specs.Deck.{Deck, Refused, Complete, Open, deck}
+use Rattle.transyt_outcome.specs.declared.status.Status.TheVariants.{DeckRefused}
+use Rattle.transyt_answers.specs.Report.{status, RunState, InDeck, InSession}
 use Rattle.transyt_net.specs.Parts.{Network}
 use Rattle.transyt_sweep.specs.Climb.{Climb}
 use Rattle.transyt_climb.specs.Way.{IsLocal}
 use Rattle.transyt_answers.specs.Commands.{budget_of, climb_of}
-use Rattle.transyt_answers.specs.Report.{RunState, InDeck, InSession}
 use Rattle.transyt_answers.specs.Steps.{LeadDown}
+
+-- a line of the deck was refused, or its END didn't come
+abbrev pub IsRefusedOrOpen : Deck → Type 0
+IsRefusedOrOpen (Refused number code) = Unit {0}
+IsRefusedOrOpen (Open count state) = Unit {0}
+IsRefusedOrOpen (Complete number net) = ⊥
+
+-- the run of an input is refused exactly where the deck of its lines is refused or open
+abbrev pub IsRefusedByDeck : List ℕ → Type 0
+IsRefusedByDeck input = (status input ≡ DeckRefused) ↔ IsRefusedOrOpen (deck (lines input))
 
 -- A climb from a network: each step is a listed move that is allowed, and strictly lowers the index within every least
 -- green and intergreen. At LOCAL no listed move is allowed and lowers the index; at BUDGET all looks were taken.
