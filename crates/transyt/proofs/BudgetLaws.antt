@@ -3,7 +3,7 @@ use Rattle.std.proofs.Common.{◌≡◌, ℕ, zero, suc, ◌+◌, ◌-◌, ◌++
 use Rattle.std.proofs.Common.{refl, ap, arith, length-append, ltb-true}
 use Rattle.transyt_net.specs.Parts.{Network}
 use Rattle.transyt_sweep.specs.Climb.{Climb, looks_from, climb}
-use Rattle.transyt_answers.proofs.ClimbLaws.{of_climb}
+use Rattle.transyt_line_answers.proofs.ClimbLaws.{of_climb}
 
 -- so many looks
 looks_many : (net : Network) (k n : ℕ) → length (looks_from net k n) ≡ n

@@ -5,7 +5,7 @@ use Rattle.std.specs.Option.{option_map}
 use Rattle.transyt_io.specs.Streams.{Rose}
 use Rattle.transyt_outcome.specs.Outcome.{exit_number}
 use Rattle.transyt_outcome.specs.declared.status.Status.{Status}
-use Rattle.transyt_answers.specs.Report.{report, status}
+use Rattle.transyt_line_answers.specs.Report.{report, status}
 use Rattle.transyt.specs.declared.word.Word.{Word}
 use Rattle.transyt.specs.Program.{Ends, TopCall, ProgramRan, ProgramHeadline, OverRan, OverHeadline}
 use Rattle.transyt.specs.Tasks.{Task, Reads, Writes, task, task_of, TaskOutcome, TaskHeadline, IsRun}

@@ -10,11 +10,11 @@ use Rattle.transyt_session.specs.Session.{SessionValue, opened}
 use Rattle.transyt_outcome.specs.declared.ending.Ending.{Ending}
 use Rattle.transyt_outcome.specs.declared.status.Status.TheVariants.{Done, DeckRefused}
 use Rattle.transyt_outcome.specs.Runs.{is_refused_by, ending_after, first_of, or_else}
-use Rattle.transyt_answers.specs.declared.answer.Answer.{Answer}
-use Rattle.transyt_answers.specs.declared.answer.Answer.TheVariants as a
-use Rattle.transyt_answers.specs.Commands.{line_answer, session_after}
-use Rattle.transyt_answers.specs.Report.{RunState, InDeck, InSession, run_of, run_after, run_state, line_ends, ends, deck_ends}
-use Rattle.transyt_answers.specs.Report.{answer_ends, end_refused, deck_answering}
+use Rattle.transyt_line_answers.specs.declared.answer.Answer.{Answer}
+use Rattle.transyt_line_answers.specs.declared.answer.Answer.TheVariants as a
+use Rattle.transyt_line_answers.specs.Commands.{line_answer, session_after}
+use Rattle.transyt_line_answers.specs.Report.{RunState, InDeck, InSession, run_of, run_after, run_state, line_ends, ends, deck_ends}
+use Rattle.transyt_line_answers.specs.Report.{answer_ends, end_refused, deck_answering}
 use Rattle.transyt.specs.Reports.{IsRefusedOrOpen, IsRefusedByDeck}
 
 -- the state after lines and one more

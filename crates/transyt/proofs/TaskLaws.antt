@@ -8,7 +8,7 @@ use Rattle.transyt_outcome.specs.declared.status.Status.TheVariants.{Done, DeckR
 use Rattle.transyt_outcome.specs.Outcome.{IsSettled, TextRow}
 use Rattle.transyt_outcome.proofs.Head.{headline, complete, too_long_where}
 use Rattle.transyt_outcome.proofs.MoreBytes.{lines_settled}
-use Rattle.transyt_answers.specs.Report.{deck_answering, report, status}
+use Rattle.transyt_line_answers.specs.Report.{deck_answering, report, status}
 use Rattle.transyt_words.specs.Whole.{StepsWithin, most_of_cut, most_after}
 use Rattle.transyt_deck.specs.declared.reader.CardStop.{CardStop}
 use Rattle.transyt_deck.specs.declared.cut.Cut.{Cut}

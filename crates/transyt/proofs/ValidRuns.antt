@@ -17,12 +17,12 @@ use Rattle.transyt_commands.specs.Commands.{command_in}
 use Rattle.transyt_sweep.specs.Climb.{Step, climb}
 use Rattle.transyt_session.specs.Session.{SessionValue, net_with, net_before}
 use Rattle.transyt_climb.proofs.LocalLaws.{local_climb}
-use Rattle.transyt_answers.specs.declared.answer.Answer.{Answer}
-use Rattle.transyt_answers.specs.declared.answer.Answer.TheVariants as a
-use Rattle.transyt_answers.specs.Commands.{judged, said_judged, line_answer, line_judged, after_answer, budget_of}
-use Rattle.transyt_answers.specs.Report.{RunState, InDeck, InSession, run_of, run_after, run_state}
-use Rattle.transyt_answers.specs.Steps.{LeadDown}
-use Rattle.transyt_answers.proofs.StepLaws.{climb_leads}
+use Rattle.transyt_line_answers.specs.declared.answer.Answer.{Answer}
+use Rattle.transyt_line_answers.specs.declared.answer.Answer.TheVariants as a
+use Rattle.transyt_line_answers.specs.Commands.{judged, said_judged, line_answer, line_judged, after_answer, budget_of}
+use Rattle.transyt_line_answers.specs.Report.{RunState, InDeck, InSession, run_of, run_after, run_state}
+use Rattle.transyt_line_answers.specs.Steps.{LeadDown}
+use Rattle.transyt_line_answers.proofs.StepLaws.{climb_leads}
 use Rattle.transyt.specs.Reports.{ClimbDescends}
 use Rattle.transyt.proofs.BudgetLaws.{climb_spent}
 use Rattle.transyt.proofs.DeckLaws.{IsDeck, next_is}

@@ -5,7 +5,7 @@ use Rattle.transyt_outcome.specs.Runs.{StepsTaken}
 use Rattle.transyt_outcome.specs.declared.status.Status.{Status}
 use Rattle.transyt_outcome.specs.declared.status.Status.TheVariants.{Done, WriteFault}
 use Rattle.transyt_reporter.specs.Brief.{brief_steps}
-use Rattle.transyt_answers.specs.Report.{deck_answering}
+use Rattle.transyt_line_answers.specs.Report.{deck_answering}
 use Rattle.transyt.specs.declared.town.Town.{Town}
 use Rattle.transyt.specs.declared.word.Word.TheVariants as w
 use Rattle.transyt.specs.Tasks.{TextSteps, WordSteps}

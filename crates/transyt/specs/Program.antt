@@ -4,7 +4,7 @@ use Rattle.transyt_io.specs.Streams.{Rose}
 use Rattle.transyt_outcome.specs.Outcome.{exit_number}
 use Rattle.transyt_outcome.specs.declared.status.Status.{Status}
 use Rattle.transyt_outcome.specs.declared.status.Status.TheVariants.{BadWords, ReadFault, WriteFault, NoMemory}
-use Rattle.transyt_answers.specs.Report.{report, status}
+use Rattle.transyt_line_answers.specs.Report.{report, status}
 use Rattle.transyt.specs.Tasks.{task_of, TaskOutcome, TaskHeadline, TaskComplete, TaskTooLong, IsRun}
 use Rattle.transyt.specs.Words.{word_of}
 

@@ -3,12 +3,12 @@ use Rattle.std.specs.Prelude.{◌≡◌, ◌↔◌, ℕ, List, true, false, leng
 use Rattle.transyt_io.specs.Lines.{lines}
 use Rattle.transyt_deck.specs.Deck.{Deck, Refused, Complete, Open, deck}
 use Rattle.transyt_outcome.specs.declared.status.Status.TheVariants.{DeckRefused}
-use Rattle.transyt_answers.specs.Report.{status, RunState, InDeck, InSession}
+use Rattle.transyt_line_answers.specs.Report.{status, RunState, InDeck, InSession}
 use Rattle.transyt_net.specs.Parts.{Network}
 use Rattle.transyt_sweep.specs.Climb.{Climb}
 use Rattle.transyt_climb.specs.Way.{IsLocal}
-use Rattle.transyt_answers.specs.Commands.{budget_of, climb_of}
-use Rattle.transyt_answers.specs.Steps.{LeadDown}
+use Rattle.transyt_line_answers.specs.Commands.{budget_of, climb_of}
+use Rattle.transyt_line_answers.specs.Steps.{LeadDown}
 
 -- a line of the deck was refused, or its END didn't come
 abbrev pub IsRefusedOrOpen : Deck → Type 0

@@ -8,7 +8,7 @@ use Rattle.transyt_outcome.specs.declared.status.Status.TheVariants.{Done}
 use Rattle.transyt_outcome.specs.Outcome.{Reporting, Outcome, TextOutcome, Headline, Complete, TooLongWhere}
 use Rattle.transyt_outcome.specs.Runs.{StepsTaken}
 use Rattle.transyt_reporter.specs.Brief.{brief_text, brief_steps}
-use Rattle.transyt_answers.specs.Report.{deck_answering, reporting_run}
+use Rattle.transyt_line_answers.specs.Report.{deck_answering, reporting_run}
 use Rattle.transyt_words.specs.Answer.{of_whole}
 use Rattle.transyt_words.specs.Whole.{StepsWithin, answer_after, most_after}
 use Rattle.transyt_words.specs.Audit.{audit_answer, audit_most}

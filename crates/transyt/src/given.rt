@@ -12,7 +12,8 @@ use std::thread::Threads;
 
 /// The words that std's `env::args` answered, in order: the program's name, and those after it.
 pub fn given_words(args: io::Result<Args>, alloc: Global) -> io::Result<Vec<String>>
-    ensures words { IfOk result (λ words. IsOkAnd args (λ given. words.items ≡ into_iter_items given)) }
+    ensures words { IfOk result
+        (λ words. IsOkAnd args (λ given. words.items ≡ into_iter_items given)) }
     // without std's words its error is passed on; with them there was no memory for the list
     ensures cause { IfErr result (λ error. MatchResult args
         (λ given. error_kind error ≡ ErrorKind.OutOfMemory) (λ cause. error ≡ cause)) }
@@ -38,16 +39,19 @@ pub fn run_args<R: Threads + Sync + Eprint + AllocGlobal, I: Read + Drop, W: Wri
 ) -> (u8, W)
     // with the words that std answered, after the first, the program's name: the number is that of a status, and where no
     // call failed and there was memory the writer holds what it held and what the words ask for
-    ensures ran { IfOk args (λ given. ArgsRan (map string_bytes (after_name (into_iter_items given)))
+    ensures ran { IfOk args (λ given. ArgsRan
+        (map string_bytes (after_name (into_iter_items given)))
         (I.remaining reader) (W.contents writer) (W.contents result.1) result.0) }
     // with `run` that is the report of the input, and the number is that of its status
-    ensures headline { IfOk args (λ given. OverHeadline (map string_bytes (after_name (into_iter_items given)))
+    ensures headline { IfOk args
+        (λ given. OverHeadline (map string_bytes (after_name (into_iter_items given)))
         (I.remaining reader) (W.contents writer) (W.contents result.1) result.0) }
     // with no words nothing is written
     ensures no_words { IfErr args (λ error.
         IfSome (W.contents writer) (λ held. W.contents result.1 ≡ Some held)) }
     ensures no_words_number { IfErr args (λ error. (result.0 ≡ 5) ⊎ (result.0 ≡ 7)) }
-    ensures out_of_memory { IfErr args (λ error. error_kind error ≡ ErrorKind.OutOfMemory → result.0 ≡ 5) }
+    ensures out_of_memory { IfErr args
+        (λ error. error_kind error ≡ ErrorKind.OutOfMemory → result.0 ≡ 5) }
     ensures most { result.0 ≤ 7 }
 {
     let given = given_words(args, rt.alloc());

@@ -5,7 +5,7 @@ ghost use Rattle.transyt_outcome.specs.Outcome.{TextRow};
 ghost use Rattle.transyt_outcome.specs.Runs.{StepsTaken};
 ghost use Rattle.transyt_outcome.specs.declared.status.Status.{Status};
 ghost use Rattle.transyt_reporter.specs.Brief.{brief_steps};
-ghost use Rattle.transyt_answers.specs.Report.{deck_answering};
+ghost use Rattle.transyt_line_answers.specs.Report.{deck_answering};
 ghost use Rattle.transyt.specs.declared.town.Town.{Town};
 ghost use Rattle.transyt.specs.declared.word.Word.{Word};
 ghost use Rattle.transyt_net.specs.Parts.{Network};
@@ -37,10 +37,12 @@ pub fn worked_steps()
         → WordSteps (Word.Run 1) left left_new steps steps_new status
         → StepsTaken deck_answering left left_new steps steps_new status }
     ensures run_by_two { WordSteps (Word.Run 2) None None 40 7 Status.Done }
-    ensures brief { (town : Town) (left left_new : Option (List ℕ)) (steps steps_new : ℕ) (status : Status)
+    ensures brief { (town : Town) (left left_new : Option (List ℕ)) (steps steps_new : ℕ)
+        (status : Status)
         → WordSteps (Word.Brief town 1) left left_new steps steps_new status
         → TextSteps (brief_steps (made town.seed town.nodes)) steps steps_new status }
-    ensures brief_by_two { WordSteps (Word.Brief (record { seed = 7; nodes = 1 }) 2) None None 40 7 Status.Done }
+    ensures brief_by_two { WordSteps (Word.Brief (record { seed = 7; nodes = 1 }) 2) None None 40 7
+        Status.Done }
 {}
 
 /// The meaning of a status for a text, an input of too many bytes and a climb: cases that hold, and cases that don't.
@@ -50,11 +52,14 @@ pub fn worked_tasks()
     ensures cut { TextRow (5 ∷ 7 ∷ []) false (5 ∷ []) Status.Done → ⊥ }
     ensures front { TextRow (5 ∷ 7 ∷ []) false (5 ∷ []) Status.WriteFault }
     ensures other { TextRow (5 ∷ 7 ∷ []) false (7 ∷ []) Status.WriteFault → ⊥ }
-    ensures after { TaskHeadline (Writes (5 ∷ 7 ∷ [])) None (Some (9 ∷ [])) (Some (9 ∷ 5 ∷ 7 ∷ [])) Status.Done }
-    ensures over { TaskHeadline (Writes (5 ∷ 7 ∷ [])) None (Some (9 ∷ [])) (Some (5 ∷ 7 ∷ [])) Status.Done → ⊥ }
+    ensures after { TaskHeadline (Writes (5 ∷ 7 ∷ [])) None (Some (9 ∷ [])) (Some (9 ∷ 5 ∷ 7 ∷ []))
+        Status.Done }
+    ensures over { TaskHeadline (Writes (5 ∷ 7 ∷ [])) None (Some (9 ∷ [])) (Some (5 ∷ 7 ∷ []))
+        Status.Done → ⊥ }
     ensures complete { TaskComplete (Writes (5 ∷ 7 ∷ [])) None Status.Done }
     ensures refused { TaskComplete (Writes (5 ∷ 7 ∷ [])) None Status.DeckRefused → ⊥ }
-    ensures many { (input : List ℕ) → TaskTooLong (Reads (of_whole (λ bytes. done []))) (Some input) Status.TooLong }
+    ensures many { (input : List ℕ)
+        → TaskTooLong (Reads (of_whole (λ bytes. done []))) (Some input) Status.TooLong }
     ensures many_done { (input : List ℕ) → 4194304 < length input
         → TaskTooLong (Reads (of_whole (λ bytes. done []))) (Some input) Status.Done → ⊥ }
     ensures no_looks { (net : Network)

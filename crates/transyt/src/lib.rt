@@ -2,7 +2,7 @@
 //! [`Status`].
 //!
 //! With the words `run` it reads a deck and commands line by line and writes the report. A contract sees the report as a
-//! function of the input's bytes: cite `report` and `status` of transyt_answers' `specs/Report` first, the answers to the
+//! function of the input's bytes: cite `report` and `status` of transyt_line_answers' `specs/Report` first, the answers to the
 //! lines one after another over what the lines before them have come to. `Descends` of `specs/Reports` says what a climb of
 //! the report is. What each word asks for is `task_of` of `specs/Tasks`: a report of an input, or a text for which nothing
 //! is read. `Outcome` of transyt_outcome says what a run took, what it wrote and what each status says of both.
@@ -27,7 +27,7 @@ pub use over::run_over;
 pub use program::{run_program, run_steady, run_tallied};
 pub use refusing::refused_by_deck;
 pub use top::transyt;
-pub use transyt_answers::steps_lower;
 pub use transyt_desks::{Gate, OpenGate};
+pub use transyt_line_answers::steps_lower;
 pub use transyt_outcome::Status;
 pub use version::VERSION;

@@ -30,7 +30,8 @@ pub fn run_over<R: Threads + Sync + Eprint + AllocGlobal, I: Read + Drop, W: Wri
     ensures no_words { IfErr given (λ error.
         IfSome (W.contents writer) (λ held. W.contents result.1 ≡ Some held)) }
     ensures no_words_number { IfErr given (λ error. (result.0 ≡ 5) ⊎ (result.0 ≡ 7)) }
-    ensures out_of_memory { IfErr given (λ error. error_kind error ≡ ErrorKind.OutOfMemory → result.0 ≡ 5) }
+    ensures out_of_memory { IfErr given
+        (λ error. error_kind error ≡ ErrorKind.OutOfMemory → result.0 ≡ 5) }
     ensures most { result.0 ≤ 7 }
 {
     let mut source = StdSource::new(reader);

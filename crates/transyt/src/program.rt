@@ -141,13 +141,15 @@ pub fn run_program<R: Threads + Sync + Eprint + AllocGlobal, S: Source, K: Sink>
         (ends_of S.left S.last S.faults K.written K.faults source.old sink)
         (ends_of S.left S.last S.faults K.written K.faults source.new result.1) result.0) }
     // with `run`, with no fault and no want of memory: the report of the input, and the number of its status
-    ensures headline { IfOk given (λ words. ProgramHeadline (map string_bytes (after_name words.items))
+    ensures headline { IfOk given
+        (λ words. ProgramHeadline (map string_bytes (after_name words.items))
         (ends_of S.left S.last S.faults K.written K.faults source.old sink)
         (ends_of S.left S.last S.faults K.written K.faults source.new result.1) result.0) }
     // with no words nothing is read or written
     ensures no_words { IfErr given (λ error. (source.new ≡ source.old) × (result.1 ≡ sink)) }
     ensures no_words_number { IfErr given (λ error. (result.0 ≡ 5) ⊎ (result.0 ≡ 7)) }
-    ensures out_of_memory { IfErr given (λ error. error_kind error ≡ ErrorKind.OutOfMemory → result.0 ≡ 5) }
+    ensures out_of_memory { IfErr given
+        (λ error. error_kind error ≡ ErrorKind.OutOfMemory → result.0 ≡ 5) }
     ensures most { result.0 ≤ 7 }
 {
     let words = match given {

@@ -1,7 +1,7 @@
 //! The top call.
 ghost use Rattle.std.specs.Prelude.{◌≡◌, ◌≢◌, ◌≤◌, ◌++◌, ◌↔◌, ℕ, List, Some, None, length, map, string_bytes, IfSome};
 ghost use Rattle.transyt_io.specs.Streams.{Rose};
-ghost use Rattle.transyt_answers.specs.Report.{report, status, run_state};
+ghost use Rattle.transyt_line_answers.specs.Report.{report, status, run_state};
 ghost use Rattle.transyt.specs.Reports.{ClimbDescends};
 ghost use Rattle.transyt.specs.Tasks.{task, task_of, TaskOutcome, TaskHeadline, TaskComplete, TaskTooLong, WordSteps};
 ghost use Rattle.transyt.specs.Tasks.{IsRun, IsWriting};
@@ -59,12 +59,16 @@ fn answer_word<R: Threads + Sync, S: Source, K: Sink, G: Gate, L: Ledger>(
     steps: &mut Steps<L>,
 ) -> Status
     requires { IsWord word }
-    ensures outcome { TaskOutcome (task word) (S.left source.old) (S.left source.new) (S.last source.new)
+    ensures outcome { TaskOutcome (task word) (S.left source.old) (S.left source.new)
+        (S.last source.new)
         (K.written sink.old) (K.written sink.new) result }
-    ensures read_fault { result ≡ Status.ReadFault → Rose (S.faults source.old) (S.faults source.new) }
-    ensures write_fault { result ≡ Status.WriteFault → Rose (K.faults sink.old) (K.faults sink.new) }
+    ensures read_fault { result ≡ Status.ReadFault
+        → Rose (S.faults source.old) (S.faults source.new) }
+    ensures write_fault { result ≡ Status.WriteFault
+        → Rose (K.faults sink.old) (K.faults sink.new) }
     ensures untouched { IsWriting (task word) → source.new ≡ source.old }
-    ensures steps { WordSteps word (S.left source.old) (S.left source.new) steps.old steps.new result }
+    ensures steps { WordSteps word (S.left source.old) (S.left source.new) steps.old steps.new
+        result }
 {
     match word {
         Word::Run { workers } => run_deck(crew.workers(workers), crew.alloc, source, sink, steps),
@@ -122,8 +126,10 @@ pub fn transyt<R: Threads + Sync, S: Source, K: Sink, G: Gate, L: Ledger>(
         IsWriting asked → source.new ≡ source.old) }
 
     // a fault of the source or the sink comes only where its count rose
-    ensures read_fault { result ≡ Status.ReadFault → Rose (S.faults source.old) (S.faults source.new) }
-    ensures write_fault { result ≡ Status.WriteFault → Rose (K.faults sink.old) (K.faults sink.new) }
+    ensures read_fault { result ≡ Status.ReadFault
+        → Rose (S.faults source.old) (S.faults source.new) }
+    ensures write_fault { result ≡ Status.WriteFault
+        → Rose (K.faults sink.old) (K.faults sink.new) }
 
     // with `run`, with no fault and no want of memory: the report of the input, and its status
     ensures headline { IsRun (word_of (map string_bytes words.now)) → result ≢ Status.NoMemory
@@ -145,12 +151,14 @@ pub fn transyt<R: Threads + Sync, S: Source, K: Sink, G: Gate, L: Ledger>(
     ensures complete { result ≢ Status.NoMemory
         → (Rose (S.faults source.old) (S.faults source.new) → ⊥)
         → (Rose (K.faults sink.old) (K.faults sink.new) → ⊥)
-        → IfSome (task_of (map string_bytes words.now)) (λ asked. TaskComplete asked (S.left source.old) result) }
+        → IfSome (task_of (map string_bytes words.now))
+        (λ asked. TaskComplete asked (S.left source.old) result) }
     // TooLong where the first 4,194,304 bytes don't end the run and more come
     ensures too_long { result ≢ Status.NoMemory
         → (Rose (S.faults source.old) (S.faults source.new) → ⊥)
         → (Rose (K.faults sink.old) (K.faults sink.new) → ⊥)
-        → IfSome (task_of (map string_bytes words.now)) (λ asked. TaskTooLong asked (S.left source.old) result) }
+        → IfSome (task_of (map string_bytes words.now))
+        (λ asked. TaskTooLong asked (S.left source.old) result) }
 
     // the steps: with one worker, and of words without workers
     ensures steps { IfSome (word_of (map string_bytes words.now)) (λ word.

@@ -31,9 +31,11 @@ pub(crate) struct Town {
 /// Writes the deck text of a town. All memory is taken before the first line is written.
 pub(crate) fn write_made<K: Sink>(alloc: Global, town: Town, sink: &mut K) -> Status
     requires { IsTown town }
-    ensures outcome { TextOutcome (deck_text (made town.seed town.nodes)) false (K.written sink.old) (K.written sink.new) result }
+    ensures outcome { TextOutcome (deck_text (made town.seed town.nodes)) false (K.written sink.old)
+        (K.written sink.new) result }
     ensures later { K.faults sink.old ≤ K.faults sink.new }
-    ensures write_fault { result ≡ Status.WriteFault → Rose (K.faults sink.old) (K.faults sink.new) }
+    ensures write_fault { result ≡ Status.WriteFault
+        → Rose (K.faults sink.old) (K.faults sink.new) }
     ensures silent { result ≡ Status.NoMemory → sink.new ≡ sink.old }
 {
     let Ok(net) = make_net(alloc, town.seed, town.nodes) else {
@@ -62,11 +64,14 @@ pub(crate) fn write_made_brief<R: Threads + Sync, K: Sink, G: Gate, L: Ledger>(
     steps: &mut Steps<L>,
 ) -> Status
     requires { IsTown town }
-    ensures outcome { TextOutcome (brief_text (made town.seed town.nodes)) false (K.written sink.old) (K.written sink.new) result }
+    ensures outcome { TextOutcome (brief_text (made town.seed town.nodes)) false
+        (K.written sink.old) (K.written sink.new) result }
     ensures later { K.faults sink.old ≤ K.faults sink.new }
-    ensures write_fault { result ≡ Status.WriteFault → Rose (K.faults sink.old) (K.faults sink.new) }
+    ensures write_fault { result ≡ Status.WriteFault
+        → Rose (K.faults sink.old) (K.faults sink.new) }
     ensures silent { result ≡ Status.NoMemory → sink.new ≡ sink.old }
-    ensures steps { workers.entry.count ≡ 1 → TextSteps (brief_steps (made town.seed town.nodes)) steps.old steps.new result }
+    ensures steps { workers.entry.count ≡ 1
+        → TextSteps (brief_steps (made town.seed town.nodes)) steps.old steps.new result }
 {
     let Ok(net) = make_net(alloc, town.seed, town.nodes) else {
         return Status::NoMemory;

@@ -52,7 +52,8 @@ fn judge<L: Ledger>(
 ) -> Result<Verdict, AllocError>
     requires table { length table.now ≤ 4194304 }
     requires first { first ≤ 4194305 }
-    ensures verdict { IfOk result (λ found. found ≡ judged truth.old (given_from first (lines table.now))
+    ensures verdict { IfOk result
+        (λ found. found ≡ judged truth.old (given_from first (lines table.now))
         (first + length (lines table.now))) }
     ensures steps { steps.new
         ≤ steps.old + truth.old.frame.sweeps * length truth.old.links * move_count truth.old }

@@ -39,10 +39,14 @@ pub fn worked_verdicts()
     ensures surplus { verdict bare (lines_text (first_line ∷ bare_lines ++ first_line ∷ [])) 8
         ≡ No 16 Code.OtherLine }
     ensures no_plan { verdict (record bare { plan = None }) [] 8 ≡ No 8 Code.NoPlan }
-    ensures lower { verdict other (lines_text (note ∷ other_moves ++ codes "CERT 6 INDEX 10773335" ∷ [])) 8
+    ensures lower { verdict other
+        (lines_text (note ∷ other_moves ++ codes "CERT 6 INDEX 10773335" ∷ [])) 8
         ≡ No 13 Code.LowerIndex }
-    ensures wrong_first { verdict other (lines_text (other_moves ++ codes "CERT 6 INDEX 10773336" ∷ [])) 8
+    ensures wrong_first { verdict other
+        (lines_text (other_moves ++ codes "CERT 6 INDEX 10773336" ∷ [])) 8
         ≡ No 15 Code.OtherLine }
-    ensures missing_first { verdict other (lines_text (other_moves ++ note ∷ [])) 8 ≡ No 16 Code.OtherLine }
-    ensures agreements { map (λ row. agrees row.0 (codes "CERT 6")) agreements ≡ map (λ row. row.1) agreements }
+    ensures missing_first { verdict other (lines_text (other_moves ++ note ∷ [])) 8
+        ≡ No 16 Code.OtherLine }
+    ensures agreements { map (λ row. agrees row.0 (codes "CERT 6")) agreements
+        ≡ map (λ row. row.1) agreements }
 {}

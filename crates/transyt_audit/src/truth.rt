@@ -55,7 +55,8 @@ impl Model for Truth {
 
     ghost view = { λ truth. truth.net };
 
-    ghost invariant = { λ truth. (truth.places ≡ move_count truth.net) × (truth.present ≡ index truth.net) };
+    ghost invariant = { λ truth. (truth.places ≡ move_count truth.net)
+        × (truth.present ≡ index truth.net) };
 }
 
 impl Truth {
@@ -66,7 +67,8 @@ impl Truth {
         steps: &mut Steps<L>,
     ) -> Result<Truth, AllocError>
         ensures value { IfOk result (λ truth. truth ≡ net.now) }
-        ensures ok { OnOk result (steps.new ≡ steps.old + net.now.frame.sweeps * length net.now.links) }
+        ensures ok { OnOk result (steps.new
+            ≡ steps.old + net.now.frame.sweeps * length net.now.links) }
         ensures err { OnErr result (steps.new ≡ steps.old) }
     {
         let text = LineBuffer::open(alloc)?;
@@ -93,7 +95,8 @@ impl Truth {
         ensures same { self.new ≡ self.old }
         // the rest of an evaluation for each place from this one on
         ensures steps { steps.new + self.old.frame.sweeps * length self.old.links * (move_count self.old - (place + 1))
-            ≤ steps.old + self.old.frame.sweeps * length self.old.links * (move_count self.old - place) }
+            ≤ steps.old + self.old.frame.sweeps * length self.old.links * (move_count self.old -
+            place) }
         ensures more_steps { steps.old ≤ steps.new }
     {
         if place > self.places {
@@ -116,7 +119,8 @@ impl Truth {
     ) -> Result<Finding, AllocError>
         requires place { place < move_count self.old }
         ensures finding { IfOk result (λ found. found ≡ finding_of
-            (agrees line.now (slice_index_or (cert_texts self.old) place [])) (lowers self.old place)) }
+            (agrees line.now (slice_index_or (cert_texts self.old) place []))
+            (lowers self.old place)) }
         ensures same { self.new ≡ self.old }
         ensures steps { steps.new ≤ steps.old + self.old.frame.sweeps * length self.old.links }
         ensures more_steps { steps.old ≤ steps.new }

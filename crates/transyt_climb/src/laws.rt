@@ -45,12 +45,15 @@ pub fn rule_of_way()
 /// an equal index that none takes, and a certified place.
 #[tactic(auto, using(crate::proofs::WorkedLaws::three, crate::proofs::WorkedLaws::took, crate::proofs::WorkedLaws::tied, crate::proofs::WorkedLaws::certificate))]
 pub fn worked_turns()
-    ensures noted { noted false (on_way 9) ≡ record { place = 5; since = 2; looked = 4; budget = 9; count = 6 } }
-    ensures noted_step { noted true (on_way 9) ≡ record { place = 4; since = 0; looked = 4; budget = 9; count = 6 } }
+    ensures noted { noted false (on_way 9)
+        ≡ record { place = 5; since = 2; looked = 4; budget = 9; count = 6 } }
+    ensures noted_step { noted true (on_way 9)
+        ≡ record { place = 4; since = 0; looked = 4; budget = 9; count = 6 } }
     ensures local { answer_of (machine gone_round idle_session) ≡ Local }
     ensures budget { answer_of (machine used_up idle_session) ≡ Budget }
     ensures turns { turns 3 (way 9)
-        ≡ machine (record { place = 1; since = 4; looked = 6; budget = 9; count = 6 }) idle_session }
+        ≡ machine (record { place = 1; since = 4; looked = 6; budget = 9; count = 6 })
+        idle_session }
     ensures took { answer_of (machine before_step three_session) ≡ Took 0 (Offset 21 8) 554272112 }
     ensures tied { found_at idle 0 ≡ None }
     ensures certified { certified 0 junctions_session ≡ record junctions_session { work = 11 } }

@@ -146,7 +146,8 @@ pub(crate) struct Work<'a, P, B> {
 fn row_at<P: Plans, B: Bench>(work: &Work<'_, P, B>, place: usize) -> Option<PlanRow>
     requires fits { P.fits work.now.asked.now }
     requires place { place < (P.list work.now.asked.now).count }
-    ensures { IfSome result (λ row. row ≡ row_at (P.list work.now.asked.now) work.now.net.now place) }
+    ensures { IfSome result (λ row. row
+        ≡ row_at (P.list work.now.asked.now) work.now.net.now place) }
 {
     let Ok(planned) = work.asked.plan(work.alloc, work.net, place) else {
         return None;
@@ -159,7 +160,8 @@ fn row_at<P: Plans, B: Bench>(work: &Work<'_, P, B>, place: usize) -> Option<Pla
 pub(crate) fn pass_bench<P: Plans, B: Bench>(work: &Work<'_, P, B>, place: usize) -> Option<PlanRow>
     requires fits { P.fits work.now.asked.now }
     requires place { place < (P.list work.now.asked.now).count }
-    ensures { IfSome result (λ row. row ≡ row_at (P.list work.now.asked.now) work.now.net.now place) }
+    ensures { IfSome result (λ row. row
+        ≡ row_at (P.list work.now.asked.now) work.now.net.now place) }
 {
     let number = work.asked.number(place);
     work.bench.enter(number);

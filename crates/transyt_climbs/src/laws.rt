@@ -15,15 +15,18 @@ pub fn worked_times()
     ensures missed { listed (times_of 60 120 17) ≡ 60 ∷ 77 ∷ 94 ∷ 111 ∷ [] }
     ensures met { listed (times_of 44 51 7) ≡ 44 ∷ 51 ∷ [] }
     ensures within { map (λ t. times_within t.low t.high t.by) in_range ≡ map Some in_range }
-    ensures beyond { map (λ t. times_within t.low t.high t.by) out_of_range ≡ map (λ _. None) out_of_range }
+    ensures beyond { map (λ t. times_within t.low t.high t.by) out_of_range
+        ≡ map (λ _. None) out_of_range }
 {}
 
 /// A table with rows of each kind, over a network on which no move lowers the index; without a climb plan nothing is
 /// looked at. On a junction with a link the third move lowers the index, and the network at the end has that move made.
 pub fn worked_rows()
-    ensures table { table four_plans idle ≡ row.NoPlan 50 ∷ row.Climbed (stayed 58 true 6) ∷ row.Barred 66 7
+    ensures table { table four_plans idle
+        ≡ row.NoPlan 50 ∷ row.Climbed (stayed 58 true 6) ∷ row.Barred 66 7
         ∷ row.Climbed (stayed 74 false 4) ∷ [] }
-    ensures unplanned { row_of 17 (plan.Plan (record idle { plan = None })) ≡ row.Climbed (stayed 17 true 0) }
+    ensures unplanned { row_of 17 (plan.Plan (record idle { plan = None }))
+        ≡ row.Climbed (stayed 17 true 0) }
     ensures row { climbed_row 17 (junction 16) ≡ climbed_at 17 13935199 1 false 3 8632377 }
     ensures end { end_of (plan.Plan (junction 16)) ≡ Some (junction 0) }
     ensures no_end { end_of (plan.Barred 7) ≡ None }

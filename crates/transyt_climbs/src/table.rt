@@ -16,7 +16,8 @@ use transyt_net::Net;
 fn fill<P: Plans, B: Bench>(work: &Work<'_, P, B>, place: usize, row: &mut Option<PlanRow>)
     requires fits { P.fits work.now.asked.now }
     requires place { place < (P.list work.now.asked.now).count }
-    ensures { IfSome row.new (λ made. made ≡ row_at (P.list work.now.asked.now) work.now.net.now place) }
+    ensures { IfSome row.new (λ made. made
+        ≡ row_at (P.list work.now.asked.now) work.now.net.now place) }
 {
     *row = pass_bench(work, place);
 }

@@ -137,7 +137,11 @@ fn cruise_of(link: u32, feeder: u32, seconds: u32) -> Option<((usize, usize), Co
 
 /// The WEIGHT command of these numbers.
 fn weight_of(link: u32, delay: u32, stop: u32) -> Option<((usize, usize), Command)>
-    ensures { result ≡ Some ((3, 3), command.Edit (edit.Weight link (record { delay = delay; stop = stop }))) }
+    ensures { result ≡ Some (
+      (3, 3),
+      command.Edit
+          (edit.Weight link (record { delay = delay; stop = stop })),
+    ) }
 {
     edit(
         3,

@@ -15,7 +15,8 @@ pub fn worked_counts()
     ensures rows { map (λ row. read_row town 6 row.0) worked_rows ≡ map (λ row. row.1) worked_rows }
     ensures tables { map (λ table. answer_of (read_rows town 1 table.0)) worked_tables
         ≡ map (λ table. table.1) worked_tables }
-    ensures texts { map (λ text. counts_of town text.0) worked_texts ≡ map (λ text. text.1) worked_texts }
+    ensures texts { map (λ text. counts_of town text.0) worked_texts
+        ≡ map (λ text. text.1) worked_texts }
     ensures own { set_flows (keys_of two_counts) (flow_of two_counts) town ≡ town_of_two }
     ensures fed { set_flows (keys_of fed_count) (flow_of fed_count) town ≡ town_of_fed }
     ensures exact { AreExact town four_counts three_edits }

@@ -6,5 +6,6 @@ ghost use Rattle.transyt_cycle.specs.Worked.{worked_differences};
 
 /// The worked values come out as they are written beside the definitions.
 pub fn worked_differences()
-    ensures { map (λ row. minus_mod row.0.0 row.0.1 row.0.2) worked_differences ≡ map (λ row. row.1) worked_differences }
+    ensures { map (λ row. minus_mod row.0.0 row.0.1 row.0.2) worked_differences
+        ≡ map (λ row. row.1) worked_differences }
 {}

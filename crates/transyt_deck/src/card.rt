@@ -76,7 +76,8 @@ pub(crate) fn read_card(form: u32, line: &[u8]) -> Result<Option<Card>, Code>
 fn card_named(form: u32, keyword: &[u8], ns: &Numbers) -> Option<((usize, usize), Card)>
     ensures card { result ≡ with_numbers ns.now (named (cards form) keyword.now) }
     ensures most { IfSome result (λ found. found.0.1 ≤ 17) }
-    ensures counts { IfSome result (λ found. is_count found.0 (length ns.now) ≡ true → CanAdd found.1) }
+    ensures counts { IfSome result
+        (λ found. is_count found.0 (length ns.now) ≡ true → CanAdd found.1) }
 {
     let (number, offset) = (ns.at(0), ns.at(1));
     match keyword {

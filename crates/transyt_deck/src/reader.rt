@@ -89,7 +89,8 @@ impl CardReader {
 
     /// The form of the LINK cards, 1 or 2.
     pub fn form(&self) -> u32
-        ensures { (count : ℕ) (state : State) → self.now.deck ≡ Open count state → result ≡ form_of state }
+        ensures { (count : ℕ) (state : State) → self.now.deck ≡ Open count state
+            → result ≡ form_of state }
     {
         self.state.form()
     }

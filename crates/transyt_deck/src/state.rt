@@ -141,7 +141,8 @@ fn add(alloc: Global, state: &mut State, card: &Card) -> Result<(), Stop>
 /// state is dropped by a call, as wherever a state is dropped: its drop is then proved once.
 fn replace(state: &mut State, begun: Result<State, Code>) -> Result<(), Stop>
     ensures begun { IfOk begun (λ new. (state.new ≡ new) × (result ≡ Ok tt)) }
-    ensures refused { IfErr begun (λ code. (state.new ≡ state.old) × (result ≡ Err (stop.Code code))) }
+    ensures refused { IfErr begun
+        (λ code. (state.new ≡ state.old) × (result ≡ Err (stop.Code code))) }
 {
     match begun {
         Ok(new) => {

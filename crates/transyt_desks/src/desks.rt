@@ -239,7 +239,8 @@ impl Desks {
         requires alike { AreAlike self.old }
         requires ready { CanRound climber.old (desk_zero self.old) }
         ensures made { MakesRound (places_of (length self.old) climber.old)
-            (machine climber.old (desk_zero self.old)) (machine climber.new (desk_zero self.new)) result }
+            (machine climber.old (desk_zero self.old)) (machine climber.new (desk_zero self.new))
+            result }
         ensures alike { AreAlike self.new }
         ensures workers { length self.new ≡ length self.old }
         ensures steps { length self.old ≡ 1

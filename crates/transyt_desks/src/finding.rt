@@ -159,7 +159,8 @@ fn find_at(desks: &[Desk], reach: Reach, number: u32) -> Tried
     ensures found { result ≡ try_of (desk_zero (sessions_of desks.now)).net
         (move (desk_zero (sessions_of desks.now)).net (place_at reach.place reach.count number)) }
     ensures few { edit_work (desk_zero (sessions_of desks.now)).net
-        (move (desk_zero (sessions_of desks.now)).net (place_at reach.place reach.count number)) ≤ 8000 }
+        (move (desk_zero (sessions_of desks.now)).net (place_at reach.place reach.count number))
+        ≤ 8000 }
 {
     let desk = (number % reach.desks) as usize;
     let turn = (number / reach.desks) as usize;

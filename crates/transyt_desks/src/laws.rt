@@ -13,9 +13,12 @@ ghost use Rattle.transyt_desks.specs.WorkedRounds.{worked_tooks};
 /// The worked rounds and desks come out as they are written beside the definitions.
 #[tactic(auto, using(crate::proofs::WorkedLaws::rounds, crate::proofs::WorkedLaws::are_aligned, crate::proofs::WorkedLaws::step_round))]
 pub fn worked_rounds()
-    ensures rooms { map (λ row. room_of row.0 row.1) worked_rooms ≡ map (λ row. row.2) worked_rooms }
-    ensures places { map (λ row. places_of row.0 row.1) worked_places ≡ map (λ row. row.2) worked_places }
-    ensures rounds { map (λ row. turns_of row.0 row.1) worked_rounds ≡ map (λ row. row.2) worked_rounds }
+    ensures rooms { map (λ row. room_of row.0 row.1) worked_rooms
+        ≡ map (λ row. row.2) worked_rooms }
+    ensures places { map (λ row. places_of row.0 row.1) worked_places
+        ≡ map (λ row. row.2) worked_places }
+    ensures rounds { map (λ row. turns_of row.0 row.1) worked_rounds
+        ≡ map (λ row. row.2) worked_rounds }
     ensures step { turns_of 8 seven_left ≡ 2 }
     ensures tooks { map (λ row. is_took row.0) worked_tooks ≡ map (λ row. row.1) worked_tooks }
     ensures first { up_to (Some 2) 7 ≡ 3 }

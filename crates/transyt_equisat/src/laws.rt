@@ -18,8 +18,10 @@ pub fn worked_balances()
     ensures second { balance worked_town 1 ≡ balance_of_7 }
     ensures empty { balance empty_town 1 ≡ balance_without_traffic }
     ensures quiet { balance quiet_town 1 ≡ balance_without_traffic }
-    ensures four_first { balance (equal_town (four_at_peak ∷ nine_at_peak ∷ [])) 0 ≡ balance_by_four }
-    ensures nine_first { balance (equal_town (nine_at_peak ∷ four_at_peak ∷ [])) 0 ≡ balance_by_nine }
+    ensures four_first { balance (equal_town (four_at_peak ∷ nine_at_peak ∷ [])) 0
+        ≡ balance_by_four }
+    ensures nine_first { balance (equal_town (nine_at_peak ∷ four_at_peak ∷ [])) 0
+        ≡ balance_by_nine }
     ensures greens { all_greens two_stages 10 ≡ greens_in_ten }
     ensures no_room { all_greens two_stages 5 ≡ [] }
 {}
@@ -32,12 +34,15 @@ pub fn worked_peaks()
     ensures at_most { AtMost (fraction 6 14) (fraction 3 7) }
     ensures not_at_most { AtMost (fraction 7 14) (fraction 3 7) → ⊥ }
     ensures same { IsSame (fraction 6 14) (fraction 3 7) }
-    ensures others { (IsSame (fraction 5 14) (fraction 3 7) → ⊥) × (IsSame (fraction 7 14) (fraction 3 7) → ⊥) }
+    ensures others { (IsSame (fraction 5 14) (fraction 3 7) → ⊥)
+        × (IsSame (fraction 7 14) (fraction 3 7) → ⊥) }
     ensures planned { IsPlanOf 18 (stages_of_21 2 8 15) (stages_of_21 2 10 16) }
     ensures unplanned { All (λ plan. IsPlanOf 18 (stages_of_21 2 8 15) plan → ⊥) unplanned }
     ensures greens { greens_of 18 (stages_of_7 5 16) ≡ 8 ∷ 6 ∷ [] }
-    ensures least { least_greens worked_town (node_of worked_town 0) (fraction 1 999) ≡ 18 ∷ 4 ∷ 18 ∷ [] }
-    ensures need { map (need_at worked_town (node_of worked_town 0) (fraction 1 999)) (0 ∷ 1 ∷ 2 ∷ [])
+    ensures least { least_greens worked_town (node_of worked_town 0) (fraction 1 999)
+        ≡ 18 ∷ 4 ∷ 18 ∷ [] }
+    ensures need { map (need_at worked_town (node_of worked_town 0) (fraction 1 999))
+        (0 ∷ 1 ∷ 2 ∷ [])
         ≡ 18 ∷ 4 ∷ 18 ∷ [] }
     ensures timed { timed two_stages (share 7 6 9 ∷ []) ≡ new_stage 7 1 2 ∷ new_stage 0 1 2 ∷ [] }
 {}

@@ -24,7 +24,8 @@ impl Model for Intake {
 
     ghost view = { λ intake. intake.bytes.items };
 
-    ghost invariant = { λ intake. (4194304 ≤ vec_capacity intake.bytes) × (0 < length intake.block.items) };
+    ghost invariant = { λ intake. (4194304 ≤ vec_capacity intake.bytes)
+        × (0 < length intake.block.items) };
 }
 
 impl Intake {

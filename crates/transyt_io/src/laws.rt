@@ -15,11 +15,14 @@ ghost use Rattle.transyt_io.specs.WorkedLines.{worked_inputs, worked_lengths, wo
 
 /// The worked inputs and lines come out as they are written beside the definitions.
 pub fn worked_lines()
-    ensures inputs { map (λ row. (lines row.0, whole row.0, after_first_line row.0, has_end row.0)) worked_inputs
+    ensures inputs { map (λ row. (lines row.0, whole row.0, after_first_line row.0, has_end row.0))
+        worked_inputs
         ≡ map (λ row. row.1) worked_inputs }
-    ensures lengths { map (λ row. map length (lines (replicate row.0.0 120 ++ row.0.1))) worked_lengths
+    ensures lengths { map (λ row. map length (lines (replicate row.0.0 120 ++ row.0.1)))
+        worked_lengths
         ≡ map (λ row. row.1) worked_lengths }
-    ensures words { map (λ row. (words row.0, is_skipped row.0)) worked_words ≡ map (λ row. row.1) worked_words }
+    ensures words { map (λ row. (words row.0, is_skipped row.0)) worked_words
+        ≡ map (λ row. row.1) worked_words }
     ensures skips { map (λ row. is_skipped (replicate row.0.0 row.0.1)) worked_skips
         ≡ map (λ row. row.1) worked_skips }
 {}
@@ -27,11 +30,13 @@ pub fn worked_lines()
 /// The worked calls of sources and sinks in memory leave what is written beside the definitions.
 pub fn worked_ends()
     ensures counts { map (λ row. next_count row.0) end.counts ≡ map (λ row. row.1) end.counts }
-    ensures failures { map (λ row. fails_next row.0.0 row.0.1) end.failures ≡ map (λ row. row.1) end.failures }
+    ensures failures { map (λ row. fails_next row.0.0 row.0.1) end.failures
+        ≡ map (λ row. row.1) end.failures }
     ensures new_supply { new_supply (5 ∷ 6 ∷ []) 3 (2 ∷ 4 ∷ []) ≡ end.supply_new }
     ensures supply { supply_after end.a_supply 3 ≡ end.supply_given }
     ensures supply_fault { supply_after_fault end.a_supply ≡ end.supply_failed }
-    ensures gifts { given_count end.a_supply 2 ∷ given_count end.a_supply 4 ∷ given_count end.supply_given 4 ∷ []
+    ensures gifts { given_count end.a_supply 2 ∷ given_count end.a_supply 4 ∷ given_count
+        end.supply_given 4 ∷ []
         ≡ 2 ∷ 3 ∷ 2 ∷ [] }
     ensures stock { stock_after end.a_stock 2 ≡ end.stock_given }
     ensures new_store { new_store 4 3 (6 ∷ []) ≡ end.store_with [] 4 0 0 }
@@ -64,8 +69,10 @@ pub fn worked_intake()
     ensures no_fault { (bytes : List ℕ) → length bytes ≡ 4194305 → ¬ StopTakes bytes Fault }
     ensures too_long { (bytes : List ℕ) → length bytes ≡ 4194305 → StopTakes bytes TooLong }
     ensures not_long { (bytes : List ℕ) → length bytes ≡ 4194304 → ¬ StopTakes bytes TooLong }
-    ensures taken { (bytes : List ℕ) → length bytes ≡ 4194304 → TakesAll bytes (Some bytes) (Some []) (Ok tt) }
-    ensures taken_over { (bytes : List ℕ) → length bytes ≡ 4194305 → ¬ TakesAll bytes (Some bytes) (Some []) (Ok tt) }
+    ensures taken { (bytes : List ℕ) → length bytes ≡ 4194304
+        → TakesAll bytes (Some bytes) (Some []) (Ok tt) }
+    ensures taken_over { (bytes : List ℕ) → length bytes ≡ 4194305
+        → ¬ TakesAll bytes (Some bytes) (Some []) (Ok tt) }
     ensures other_bytes { ¬ TakesAll (codes "ac") (Some (codes "ab")) (Some []) (Ok tt) }
     ensures some_left { ¬ TakesAll (codes "ab") (Some (codes "abc")) (Some (codes "c")) (Ok tt) }
 {}
@@ -77,14 +84,17 @@ pub fn worked_reading()
     ensures reader { HasRead (call.reader 4) (Some []) call.taken (codes "c" ∷ []) }
     ensures other_count { ¬ HasRead (call.reader 5) (Some []) call.taken (codes "c" ∷ []) }
     ensures other_line { ¬ HasRead (call.reader 4) (Some []) call.taken (codes "d" ∷ []) }
-    ensures source_left { ¬ HasRead (call.reader 4) (Some (codes "xy")) call.taken (codes "c" ∷ []) }
+    ensures source_left { ¬ HasRead (call.reader 4) (Some (codes "xy")) call.taken
+        (codes "c" ∷ []) }
     ensures handed_out { AnswerSays (call.handing (Some (codes "ab"))) (Some (codes "xy"))
         (codes "ab" ++ 10 ∷ codes "cd") [] Text }
-    ensures not_handed_out { ¬ AnswerSays (call.handing None) (Some (codes "xy")) (codes "ab" ++ 10 ∷ codes "cd") []
+    ensures not_handed_out { ¬ AnswerSays (call.handing None) (Some (codes "xy"))
+        (codes "ab" ++ 10 ∷ codes "cd") []
         Text }
     ensures ended { AnswerSays new_reading (Some []) call.taken (codes "c" ∷ codes "ab" ∷ []) End }
     ensures not_ended { ¬ AnswerSays new_reading (Some []) call.taken (codes "c" ∷ []) End }
-    ensures some_left { ¬ AnswerSays new_reading (Some (codes "e")) call.taken (codes "c" ∷ codes "ab" ∷ []) End }
+    ensures some_left { ¬ AnswerSays new_reading (Some (codes "e")) call.taken
+        (codes "c" ∷ codes "ab" ∷ []) End }
     ensures fault { StopSays call.taken (codes "c" ∷ []) Fault }
     ensures no_fault { ¬ StopSays call.taken (codes "c" ∷ codes "ab" ∷ []) Fault }
 {}

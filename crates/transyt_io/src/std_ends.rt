@@ -32,7 +32,8 @@ impl<R: Read> Model for StdSource<R> {
     } };
 
     // where something was told at first, something is told now
-    ghost invariant = { λ s. IsTrue (is_none (R.remaining s.first.value) || is_some (R.remaining s.inner)) };
+    ghost invariant = { λ s. IsTrue
+        (is_none (R.remaining s.first.value) || is_some (R.remaining s.inner)) };
 }
 
 impl<R: Read> StdSource<R> {
@@ -110,7 +111,8 @@ impl<W: Write> Model for StdSink<W> {
     } };
 
     // where something was told at first, something is told now
-    ghost invariant = { λ s. IsTrue (is_none (W.contents s.first.value) || is_some (W.contents s.inner)) };
+    ghost invariant = { λ s. IsTrue
+        (is_none (W.contents s.first.value) || is_some (W.contents s.inner)) };
 }
 
 impl<W: Write> StdSink<W> {

@@ -71,7 +71,8 @@ impl FlatTable {
     #[tactic(auto, using(crate::proofs::FlatLaws::cut_length, crate::proofs::FlatLaws::cut_steps))]
     pub(crate) fn fill(&mut self, place: usize, value: u64)
         requires { place < length self.old }
-        ensures { self.new ≡ slice_set self.old place (uniform (length (row self.old place)) value) }
+        ensures { self.new ≡ slice_set self.old place
+            (uniform (length (row self.old place)) value) }
     {
         let from = place * self.step_count;
         fill_uniform(value, &mut self.values[from..from + self.step_count]);

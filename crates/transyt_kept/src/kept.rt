@@ -152,7 +152,8 @@ impl KeptRows {
     pub fn exchange_go(&mut self, link: usize, go: &mut Vec<u64>)
         requires link { link < length self.old.now.figures }
         requires steps { length go.old.items ≡ self.old.now.step_count }
-        ensures value { self.new ≡ record self.old { now = with_go self.old.now link go.old.items } }
+        ensures value { self.new ≡ record
+            self.old { now = with_go self.old.now link go.old.items } }
         ensures steps { length go.new.items ≡ self.old.now.step_count }
     {
         self.rows.exchange_go(link, go);
@@ -165,7 +166,8 @@ impl KeptRows {
         requires sweep { sweep ≤ self.old.now.sweeps }
         requires link { link < length self.old.now.figures }
         requires size { SameSize self.old.now from.now }
-        ensures { self.new ≡ unmarked (placed self.old.now sweep link (pair_in from.now sweep link)) }
+        ensures { self.new ≡ unmarked
+            (placed self.old.now sweep link (pair_in from.now sweep link)) }
     {
         self.rows.take_pair(sweep, link, from);
     }

@@ -13,7 +13,8 @@ pub fn worked_rows()
     ensures before { placed rows 0 1 another ≡ placed_before }
     ensures last { placed rows 1 0 another ≡ placed_last }
     ensures rest { with_rest rows 0 another ≡ with_another }
-    ensures arrivals { with_arrivals rows 1 another.arrivals another.queue another.figures ≡ arrivals_of_another }
+    ensures arrivals { with_arrivals rows 1 another.arrivals another.queue another.figures
+        ≡ arrivals_of_another }
     ensures go { with_go rows 1 another.go ≡ go_of_another }
     ensures index { index_in rows ≡ 138 }
 {}

@@ -127,7 +127,8 @@ impl Rows {
 
     /// Rows in which all is 0. On an error nothing is left of them.
     pub fn empty(alloc: Global, size: Size) -> Result<Rows, AllocError>
-        ensures { IfOk result (λ rows. rows ≡ empty_rows size.step_count size.sweeps size.link_count) }
+        ensures { IfOk result (λ rows. rows
+            ≡ empty_rows size.step_count size.sweeps size.link_count) }
     {
         let step_count = size.step_count;
         let link_count = size.link_count;
@@ -167,7 +168,8 @@ impl Rows {
         requires last { sweep ≤ self.old.sweeps }
         requires link { link < length self.old.figures }
         requires small { value < 2 ^ 30 }
-        ensures value { self.new ≡ with_out self.old sweep link (uniform self.old.step_count value) }
+        ensures value { self.new ≡ with_out self.old sweep link
+            (uniform self.old.step_count value) }
         ensures kept { AreRows self.old }
     {
         let place = self.pair_place(sweep, link);

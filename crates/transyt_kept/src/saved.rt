@@ -130,7 +130,8 @@ impl Saved {
     pub(crate) fn save_arrivals(&mut self, link: usize, rows: &Rows)
         requires fits { FitsRows rows.now self.old }
         requires link { link < length rows.now.figures }
-        ensures { self.new ≡ arrivals_kept self.old link (row rows.now.arrivals link) (row rows.now.queue link)
+        ensures { self.new ≡ arrivals_kept self.old link (row rows.now.arrivals link)
+            (row rows.now.queue link)
             (slice_index_or rows.now.figures link no_figures) }
     {
         if self.live && !self.arrivals_flags[link] {
@@ -240,7 +241,8 @@ impl Saved {
         requires link { link < length self.old.arrivals_flags }
         ensures back { GivesBack rows.old self.old rows.new self.new }
         ensures flags { self.new.arrivals_flags ≡ slice_set self.old.arrivals_flags link false }
-        ensures rest { self.new ≡ record self.old { arrivals_flags = self.new.arrivals_flags; rows = self.new.rows } }
+        ensures rest { self.new ≡ record
+            self.old { arrivals_flags = self.new.arrivals_flags; rows = self.new.rows } }
     {
         if self.arrivals_flags[link] {
             let figures = rows.figures(link);
@@ -258,7 +260,8 @@ impl Saved {
         requires link { link < length self.old.arrivals_flags }
         ensures back { GivesBack rows.old self.old rows.new self.new }
         ensures flags { self.new.go_flags ≡ slice_set self.old.go_flags link false }
-        ensures rest { self.new ≡ record self.old { go_flags = self.new.go_flags; rows = self.new.rows } }
+        ensures rest { self.new ≡ record
+            self.old { go_flags = self.new.go_flags; rows = self.new.rows } }
     {
         if self.go_flags[link] {
             rows.go.exchange_with(link, &mut self.go);

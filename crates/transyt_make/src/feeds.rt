@@ -85,7 +85,8 @@ fn put_three(
     requires first_range { feed_in_range first ≡ true }
     requires second_range { feed_in_range second ≡ true }
     requires third_range { feed_in_range third ≡ true }
-    requires apart { (nat_eq second.feeder first.feeder ≡ false) × (nat_eq third.feeder first.feeder ≡ false)
+    requires apart { (nat_eq second.feeder first.feeder ≡ false)
+        × (nat_eq third.feeder first.feeder ≡ false)
         × (nat_eq third.feeder second.feeder ≡ false) }
     ensures { OnOk result (draft.new
         ≡ with_feed (with_feed (with_feed draft.old link first) link second) link third) }

@@ -47,7 +47,8 @@ pub(crate) fn grant_link(
     stage: u32,
 ) -> Result<(), AllocError>
     requires { link_fault draft.old (new_link number node entry 1800 1 1 0 0 (stage ∷ [])) ≡ None }
-    ensures { OnOk result (draft.new ≡ with_link draft.old (new_link number node entry 1800 1 1 0 0 (stage ∷ []))) }
+    ensures { OnOk result (draft.new
+        ≡ with_link draft.old (new_link number node entry 1800 1 1 0 0 (stage ∷ []))) }
 {
     let link = NewLink {
         number,

@@ -48,7 +48,8 @@ fn listed_move(step_count: u32, nodes: &[Node], sizes: &[u32], place: u32) -> Ed
     requires nodes { All (IsNode step_count) nodes.now }
     requires sizes { All (λ size. size < step_count) sizes.now }
     requires place { place < length (flat_map (size_moves step_count nodes.now) sizes.now) }
-    ensures { result ≡ slice_index_or (flat_map (size_moves step_count nodes.now) sizes.now) place no_move }
+    ensures { result ≡ slice_index_or (flat_map (size_moves step_count nodes.now) sizes.now) place
+        no_move }
 {
     let each = nodes_count(step_count, nodes);
     let size = sizes[(place / each) as usize];

@@ -9,7 +9,8 @@ ghost use Rattle.transyt_outcome.specs.WorkedOutcomes.{Each, echo, unworked_rows
 pub fn worked_outcomes()
     ensures rows { Each (λ row. Row (of_lines echo) row.0 row.1 row.2 row.3 row.5) worked_rows }
     ensures steps { Each (λ row. StepsRow echo row.0 row.2 7 row.4 row.5) worked_rows }
-    ensures no_rows { Each (λ row. ¬ Row (of_lines echo) row.0 row.1 row.2 row.3 row.5) unworked_rows }
+    ensures no_rows { Each (λ row. ¬ Row (of_lines echo) row.0 row.1 row.2 row.3 row.5)
+        unworked_rows }
     ensures no_steps { Each (λ row. ¬ StepsRow echo row.0 row.2 7 row.4 row.5) unworked_steps }
     ensures too_many { (by : Reporting) (bytes out : List ℕ) → length bytes ≡ 4194305
         → ¬ Finished by (Some []) bytes out false }

@@ -20,7 +20,8 @@ pub fn tests_tell()
     ensures node { (steps number offset : ℕ) → IsTrue (node_in_range steps number offset)
         ↔ IsIn number_range number × (offset < steps) }
     ensures stage { (steps : ℕ) (s : Stage) → IsTrue (stage_in_range steps s) ↔ IsStage steps s }
-    ensures link { (steps : ℕ) (l : LinkValue) → IsTrue (link_in_range steps l) ↔ HasRanges steps l }
+    ensures link { (steps : ℕ) (l : LinkValue) → IsTrue (link_in_range steps l)
+        ↔ HasRanges steps l }
     ensures feed { (f : Feed) → IsTrue (feed_in_range f)
         ↔ (f.flow ≤ most_flow) × IsIn cruise_range f.cruise }
     ensures nodes { (steps : ℕ) (n : NodeValue) → IsNode steps n

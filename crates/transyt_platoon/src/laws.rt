@@ -9,7 +9,8 @@ ghost use Rattle.transyt_platoon.specs.WorkedPlatoons.{uneven, worked_mixes, wor
 pub fn worked_platoons()
     ensures travels { map (λ row. travel_steps row.0.0 row.0.1 row.0.2) worked_travels
         ≡ map (λ row. row.1) worked_travels }
-    ensures mixes { map (λ row. mixed row.0.0 row.0.1 row.0.2) worked_mixes ≡ map (λ row. row.1) worked_mixes }
+    ensures mixes { map (λ row. mixed row.0.0 row.0.1 row.0.2) worked_mixes
+        ≡ map (λ row. row.1) worked_mixes }
     ensures platoons { map (λ row. dispersed uneven row.0.0 row.0.1) worked_platoons
         ≡ map (λ row. row.1) worked_platoons }
 {}

@@ -42,7 +42,8 @@ impl Passing {
         requires factor { self.now.factor ≡ platoon.now.travel.now.before_factor }
         requires before { self.now.value < platoon.now.travel.now.limit }
         ensures value { result
-            ≡ mixed platoon.now.travel.now.weight (slice_index (sent platoon.now) step) self.now.value }
+            ≡ mixed platoon.now.travel.now.weight (slice_index (sent platoon.now) step)
+            self.now.value }
         ensures small { result < platoon.now.travel.now.limit }
     {
         (product + self.value * self.factor) >> 40

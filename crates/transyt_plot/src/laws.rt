@@ -8,8 +8,10 @@ ghost use Rattle.transyt_plot.specs.WorkedPlots.{three_steps, one_step, open_ste
 /// The plots that are written beside the definitions, worked out apart, come out of them.
 #[tactic(auto, using(crate::proofs::Worked::three_digits_are, crate::proofs::Worked::three_are, crate::proofs::Worked::one_is, crate::proofs::Worked::open_is))]
 pub fn worked_plots()
-    ensures digits { map three_digits (117 ∷ 99 ∷ 100 ∷ []) ≡ codes "117" ∷ codes "099" ∷ codes "100" ∷ [] }
-    ensures three { plot_of 8 (558201 ∷ 468920 ∷ 1563415 ∷ []) (2776388 ∷ 2776388 ∷ 0 ∷ []) (2776388 ∷ 2776379 ∷ 0 ∷ [])
+    ensures digits { map three_digits (117 ∷ 99 ∷ 100 ∷ [])
+        ≡ codes "117" ∷ codes "099" ∷ codes "100" ∷ [] }
+    ensures three { plot_of 8 (558201 ∷ 468920 ∷ 1563415 ∷ []) (2776388 ∷ 2776388 ∷ 0 ∷ [])
+        (2776388 ∷ 2776379 ∷ 0 ∷ [])
         ≡ three_steps }
     ensures one { plot_of 1 (0 ∷ []) (0 ∷ []) (0 ∷ []) ≡ one_step }
     ensures open { plot_of 5 (2 ∷ []) (8 ∷ []) (5 ∷ []) ≡ open_step }

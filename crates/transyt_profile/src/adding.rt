@@ -29,7 +29,8 @@ pub fn add_to_first(x: &[u64], turns: &mut [u64])
     requires lengths { length turns.old ≡ 2 * length x.now }
     requires fit { All (λ v. v < 2 ^ 44) x.now }
     requires turns_fit { All (λ v. v < 2 ^ 48 - 2 ^ 44) (folded (length x.now) turns.old) }
-    ensures value { folded (length x.now) turns.new ≡ added (folded (length x.now) turns.old) x.now }
+    ensures value { folded (length x.now) turns.new
+        ≡ added (folded (length x.now) turns.old) x.now }
     ensures grows { (limit : ℕ) → All (λ v. v < limit) (folded (length x.now) turns.old)
         → All (λ v. v < limit + 2 ^ 44) (folded (length x.now) turns.new) }
 {

@@ -16,6 +16,7 @@ pub fn worked_profiles()
     ensures uniform { uniform 3 37 ≡ 37 ∷ 37 ∷ 37 ∷ [] }
     ensures added { added one_link other_link ≡ both_links }
     ensures folded { folded 5 two_turns ≡ both_links }
-    ensures shares { map (λ row. share_of row.0.0 row.0.1 row.0.2) worked_shares ≡ map (λ row. row.1) worked_shares }
+    ensures shares { map (λ row. share_of row.0.0 row.0.1 row.0.2) worked_shares
+        ≡ map (λ row. row.1) worked_shares }
     ensures shared { shared 311 742 one_link ≡ part_of_one_link }
 {}

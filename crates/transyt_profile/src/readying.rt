@@ -40,7 +40,8 @@ pub fn share_ready(
     ensures ready { IfSome result (λ _. (k : ℕ) → k < length x.now
         → slice_index lanes.new (4 * k + lane)
         ≡ share_of part.now.part part.now.whole (slice_index x.now k) * scale.factor) }
-    ensures total { IfSome result (λ total. total ≡ sum (shared part.now.part part.now.whole x.now)) }
+    ensures total { IfSome result
+        (λ total. total ≡ sum (shared part.now.part part.now.whole x.now)) }
     ensures none { IfNone result (0 < length x.now
         → Any (λ v. scale.limit ≤ v) (shared part.now.part part.now.whole x.now)) }
     ensures others { (k : ℕ) → (m : ℕ) → m < 4 → (m ≡ lane → ⊥)
@@ -69,9 +70,11 @@ fn share_below(x: &[u64], part: &Part, scale: Scale, lane: usize, lanes: &mut [u
     ensures ready { IfSome result (λ _. (k : ℕ) → k < length x.now
         → slice_index lanes.new (4 * k + lane)
         ≡ share_of part.now.part part.now.whole (slice_index x.now k) * scale.factor) }
-    ensures total { IfSome result (λ total. total ≡ sum (shared part.now.part part.now.whole x.now)) }
+    ensures total { IfSome result
+        (λ total. total ≡ sum (shared part.now.part part.now.whole x.now)) }
     ensures none { IfNone result
-        (scale.limit ≤ fold (λ bits v. bit_or bits (share_of part.now.part part.now.whole v)) 0 x.now) }
+        (scale.limit ≤ fold (λ bits v. bit_or bits (share_of part.now.part part.now.whole v)) 0
+        x.now) }
     ensures others { (k : ℕ) → (m : ℕ) → m < 4 → (m ≡ lane → ⊥)
         → slice_index lanes.new (4 * k + m) ≡ slice_index lanes.old (4 * k + m) }
 {
@@ -103,7 +106,8 @@ fn share_any(x: &[u64], part: &Part, scale: Scale, lane: usize, lanes: &mut [u64
     ensures ready { IfSome result (λ _. (k : ℕ) → k < length x.now
         → slice_index lanes.new (4 * k + lane)
         ≡ share_of part.now.part part.now.whole (slice_index x.now k) * scale.factor) }
-    ensures total { IfSome result (λ total. total ≡ sum (shared part.now.part part.now.whole x.now)) }
+    ensures total { IfSome result
+        (λ total. total ≡ sum (shared part.now.part part.now.whole x.now)) }
     ensures none { IfNone result (0 < length x.now
         → Any (λ v. scale.limit ≤ v) (shared part.now.part part.now.whole x.now)) }
     ensures others { (k : ℕ) → (m : ℕ) → m < 4 → (m ≡ lane → ⊥)

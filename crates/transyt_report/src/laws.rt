@@ -35,14 +35,16 @@ pub fn worked_texts()
 /// beside the definitions.
 #[tactic(auto, using(crate::proofs::WorkedReports::index_of_three, crate::proofs::WorkedReports::links_are, crate::proofs::WorkedReports::timing_is, crate::proofs::WorkedReports::profile_is, crate::proofs::WorkedReports::queue_is, crate::proofs::Worked::work_is, crate::proofs::WorkedReports::last_place, crate::proofs::WorkedReports::no_place))]
 pub fn worked_reports()
-    ensures index { report_text three_junctions 1378 Report.Index ≡ codes "INDEX 556223009" ++ 10 ∷ [] }
+    ensures index { report_text three_junctions 1378 Report.Index
+        ≡ codes "INDEX 556223009" ++ 10 ∷ [] }
     ensures links { report_text three_junctions 1378 Report.Links ≡ links_of_three }
     ensures timing { report_text two_nodes 1378 Report.Timing
         ≡ lines_of_three ++ (lines_of_two ++ (codes "END TIMING" ++ 10 ∷ [])) }
     ensures profile { report_text three_junctions 1378 (Report.Profile 3) ≡ profile_of_fourth }
     ensures queue { report_text three_junctions 1378 (Report.Queue 3) ≡ queue_of_fourth }
     ensures work { report_text three_junctions 1378 Report.Work ≡ codes "WORK 1378" ++ 10 ∷ [] }
-    ensures last_place { IsOfPlace three_junctions (Report.Profile 7) × IsOfPlace three_junctions (Report.Queue 7) }
+    ensures last_place { IsOfPlace three_junctions (Report.Profile 7)
+        × IsOfPlace three_junctions (Report.Queue 7) }
     ensures no_place { (IsOfPlace three_junctions (Report.Profile 8) → ⊥)
         × (IsOfPlace three_junctions (Report.Queue 8) → ⊥) }
 {}

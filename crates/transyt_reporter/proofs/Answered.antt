@@ -9,12 +9,12 @@ use Rattle.transyt_desks.specs.Desks.{desk_zero}
 use Rattle.transyt_outcome.specs.declared.ending.Ending.{Ending}
 use Rattle.transyt_outcome.specs.Runs.{answers_by, answers_after, unless_ended, AnsweredWhole}
 use Rattle.transyt_outcome.specs.declared.ending.Stop.{Stop}
-use Rattle.transyt_answers.specs.Commands.{session_after}
-use Rattle.transyt_answers.specs.Report.{RunState, InDeck, InSession, run_of, run_after, run_state, line_text, line_ends}
-use Rattle.transyt_answers.specs.Report.{line_steps, deck_answering, deck_said, deck_ends}
+use Rattle.transyt_line_answers.specs.Commands.{session_after}
+use Rattle.transyt_line_answers.specs.Report.{RunState, InDeck, InSession, run_of, run_after, run_state, line_text, line_ends}
+use Rattle.transyt_line_answers.specs.Report.{line_steps, deck_answering, deck_said, deck_ends}
 use Rattle.transyt_reporter.specs.Reporter.{ReporterValue, new_reporter, state_of, HasAnswered}
-use Rattle.transyt_answers.proofs.CostLaws.{state_on}
-use Rattle.transyt_answers.proofs.WorkLaws.{line_more}
+use Rattle.transyt_line_answers.proofs.CostLaws.{state_on}
+use Rattle.transyt_line_answers.proofs.WorkLaws.{line_more}
 
 -- these lines write nothing
 abbrev AreQuiet : List (List ℕ) → Type 0

@@ -3,7 +3,7 @@ use Rattle.std.proofs.Common.{ℕ, ◌+◌, ◌≤◌, List, [], Option, Err, re
 use Rattle.transyt_io.proofs.Told.{adds_nothing}
 use Rattle.transyt_deck.specs.Deck.{Deck}
 use Rattle.transyt_outcome.specs.declared.ending.Stop.TheVariants as stop
-use Rattle.transyt_answers.specs.Report.{deck_said, deck_steps}
+use Rattle.transyt_line_answers.specs.Report.{deck_said, deck_steps}
 use Rattle.transyt_reporter.specs.Conditions.{AnswersDeck}
 
 -- without memory nothing was written

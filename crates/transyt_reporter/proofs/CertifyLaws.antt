@@ -15,9 +15,9 @@ use Rattle.transyt_text.specs.Prints.{Prints, Printed}
 use Rattle.transyt_text.proofs.PrintLaws.{prints_both, prints_front, prints_same, adds_same}
 use Rattle.transyt_cert.specs.Certificate.{place_text, last_text, cert_text}
 use Rattle.transyt_cert.proofs.CertificateLaws.{text_by_place}
-use Rattle.transyt_answers.specs.declared.answer.Answer.TheVariants as a
-use Rattle.transyt_answers.specs.Commands.{after_answer}
-use Rattle.transyt_answers.proofs.CertLaws.{cert_more}
+use Rattle.transyt_line_answers.specs.declared.answer.Answer.TheVariants as a
+use Rattle.transyt_line_answers.specs.Commands.{after_answer}
+use Rattle.transyt_line_answers.proofs.CertLaws.{cert_more}
 use Rattle.std.specs.Prelude.{slice_index_or}
 use Rattle.transyt_desks.specs.Stretches.{AreTriesOf, work_found}
 use Rattle.transyt_desks.proofs.TriedLaws.{try_work}

@@ -16,7 +16,7 @@ use Rattle.transyt_text.specs.Prints.{Prints, Printed}
 use Rattle.transyt_text.proofs.PrintLaws.{prints_both, prints_front, prints_same, adds_same}
 use Rattle.transyt_text.proofs.LoopLaws.{printed_nothing}
 use Rattle.transyt_report.specs.Texts.{took_text, end_text}
-use Rattle.transyt_answers.specs.Commands.{steps_text, climb_text}
+use Rattle.transyt_line_answers.specs.Commands.{steps_text, climb_text}
 use Rattle.transyt_reporter.proofs.MoveLaws.{turns_left}
 
 -- a climb whose steps are written as they are taken

@@ -2,9 +2,9 @@
 use Rattle.std.proofs.Common.{◌≡◌, ℕ, ◌<◌, List, length, ◌∙◌, ap, set}
 use Rattle.transyt_session.specs.Session.{SessionValue}
 use Rattle.transyt_desks.specs.Desks.{desk_zero}
-use Rattle.transyt_answers.specs.declared.answer.Answer.{Answer}
-use Rattle.transyt_answers.specs.Commands.{after_answer, answer_text, line_answer, line_judged}
-use Rattle.transyt_answers.proofs.JudgedTexts.{line_said}
+use Rattle.transyt_line_answers.specs.declared.answer.Answer.{Answer}
+use Rattle.transyt_line_answers.specs.Commands.{after_answer, answer_text, line_answer, line_judged}
+use Rattle.transyt_line_answers.proofs.JudgedTexts.{line_said}
 use Rattle.transyt_desks.proofs.DeskLaws.{zero_set}
 
 -- desks whose desk 0 was lent out and judged a line to this session and this answer

@@ -6,11 +6,11 @@ use Rattle.transyt_track.specs.Due.{cert_work}
 use Rattle.transyt_session.specs.Session.{SessionValue}
 use Rattle.transyt_desks.specs.Desks.{desk_zero, AreAlike}
 use Rattle.transyt_climb.specs.Way.{climbed}
-use Rattle.transyt_answers.specs.declared.answer.Answer.{Answer}
-use Rattle.transyt_answers.specs.declared.answer.Answer.TheVariants as a
-use Rattle.transyt_answers.specs.Commands.{after_answer}
+use Rattle.transyt_line_answers.specs.declared.answer.Answer.{Answer}
+use Rattle.transyt_line_answers.specs.declared.answer.Answer.TheVariants as a
+use Rattle.transyt_line_answers.specs.Commands.{after_answer}
 use Rattle.transyt_reporter.specs.Conditions.{HasCertified, AreReady, Leaves}
-use Rattle.transyt_answers.specs.Conditions.{is_told}
+use Rattle.transyt_line_answers.specs.Conditions.{is_told}
 use Rattle.transyt_reporter.proofs.ReadyLaws.{ready_same, ready_closed}
 use Rattle.transyt_desks.proofs.DeskLaws.{zero_set}
 

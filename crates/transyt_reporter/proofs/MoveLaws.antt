@@ -8,7 +8,7 @@ use Rattle.transyt_net.specs.Parts.{Network}
 use Rattle.transyt_net.specs.declared.edit.Edit.{Edit}
 use Rattle.transyt_parts.specs.Valid.{IsPlan}
 use Rattle.transyt_net.specs.Valid.{IsValid}
-use Rattle.transyt_answers.specs.Commands.{budget_of}
+use Rattle.transyt_line_answers.specs.Commands.{budget_of}
 use Rattle.transyt_moves.specs.Moves.{offset_moves, change_moves, node_moves, size_moves, sizes_of, moves, move, move_count, no_move}
 use Rattle.transyt_sweep.specs.Climb.{least}
 use Rattle.transyt_climb.specs.declared.turn.Turn.{Turn}
@@ -18,7 +18,7 @@ use Rattle.transyt_climb.specs.Turns.{Counters, start_at, start_of, Machine, ans
 use Rattle.transyt_desks.specs.Rounds.{is_took, up_to, turns_up_to, room_of, turns_of}
 use Rattle.transyt_report.specs.Texts.{is_move}
 use Rattle.transyt_reporter.specs.Conditions.{IsStep}
-use Rattle.transyt_answers.proofs.StepLaws.{least_some}
+use Rattle.transyt_line_answers.proofs.StepLaws.{least_some}
 
 -- moves of an offset or of a change
 abbrev AreMoves : List Edit → Type 0

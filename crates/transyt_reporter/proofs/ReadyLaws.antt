@@ -7,8 +7,8 @@ use Rattle.transyt_session.specs.Session.{SessionValue, opened}
 use Rattle.transyt_desks.specs.Desks.{session_at, desk_zero, opened_desks, AreAlike}
 use Rattle.transyt_desks.proofs.DeskLaws.{alike_lent, opened_at, zero_set}
 use Rattle.transyt_commands.specs.Commands.{command_in}
-use Rattle.transyt_answers.specs.Commands.{line_judged}
-use Rattle.transyt_answers.proofs.ShapeLaws.{KeepsShape, keeps_said}
+use Rattle.transyt_line_answers.specs.Commands.{line_judged}
+use Rattle.transyt_line_answers.proofs.ShapeLaws.{KeepsShape, keeps_said}
 use Rattle.transyt_reporter.specs.Conditions.{AreReady}
 
 -- desks with another session of one shape at desk 0

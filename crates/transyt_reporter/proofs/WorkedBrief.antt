@@ -12,12 +12,12 @@ use Rattle.transyt_climb.specs.WorkedTurns.{idle}
 use Rattle.transyt_text.specs.Forms.{filled, form_line}
 use Rattle.transyt_stage.specs.ThreeJunctions.{three_junctions}
 use Rattle.transyt_sweep.proofs.WorkedFigures.{index_comes_out}
-use Rattle.transyt_answers.proofs.WorkedCommands.{index_after}
-use Rattle.transyt_answers.specs.WorkedCommands.{some_climb}
+use Rattle.transyt_line_answers.proofs.WorkedCommands.{index_after}
+use Rattle.transyt_line_answers.specs.WorkedCommands.{some_climb}
 use Rattle.transyt_reporter.specs.Brief.{brief_form, brief_steps, brief_text, climbed_line}
 use Rattle.transyt_reporter.specs.WorkedBrief.{climb_line}
-use Rattle.transyt_answers.specs.Commands.{climb_of}
-use Rattle.transyt_answers.specs.Report.{InSession, deck_steps, line_steps}
+use Rattle.transyt_line_answers.specs.Commands.{climb_of}
+use Rattle.transyt_line_answers.specs.Report.{InSession, deck_steps, line_steps}
 
 -- a network without links: no move lowers an index of 0
 pub brief_is : brief_text idle ≡ codes "BRIEF 1 0 FROM 0 TOOK 0 LOCAL 6 TO 0" ++ 10 ∷ []

@@ -7,7 +7,7 @@ use Rattle.transyt_deck.specs.Deck.{Deck}
 use Rattle.transyt_outcome.specs.declared.ending.Ending.{Ending}
 use Rattle.transyt_outcome.specs.declared.ending.Stop.{Stop}
 use Rattle.transyt_outcome.specs.declared.ending.Stop.TheVariants.{Write}
-use Rattle.transyt_answers.specs.Report.{deck_said, deck_ends, deck_steps}
+use Rattle.transyt_line_answers.specs.Report.{deck_said, deck_ends, deck_steps}
 use Rattle.transyt_net.specs.Parts.{SameShape, Network}
 use Rattle.transyt_session.specs.Session.{SessionValue}
 use Rattle.transyt_climb.specs.declared.turn.Turn.{Turn}

@@ -4,7 +4,7 @@ use Rattle.transyt_deck.specs.Deck.{start, line_count, is_open, ReaderValue}
 use Rattle.transyt_session.specs.Session.{SessionValue}
 use Rattle.transyt_desks.specs.Desks.{desk_zero}
 use Rattle.transyt_outcome.specs.Runs.{answers_by, answers_after}
-use Rattle.transyt_answers.specs.Report.{RunState, InDeck, InSession, deck_answering, run_state}
+use Rattle.transyt_line_answers.specs.Report.{RunState, InDeck, InSession, deck_answering, run_state}
 use Rattle.transyt_reporter.specs.Conditions.{AreReady}
 
 -- a reporter: how many workers, how many lines it has counted, its reader of cards, and from END on its desks

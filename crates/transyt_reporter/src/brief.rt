@@ -7,7 +7,7 @@ ghost use Rattle.transyt_text.specs.Prints.{PrintsOn};
 ghost use Rattle.transyt_text.specs.Forms.{form_line};
 ghost use Rattle.transyt_track.specs.Due.{work_of};
 ghost use Rattle.transyt_reporter.specs.Brief.{brief_form, brief_text, brief_steps};
-ghost use Rattle.transyt_answers.specs.Commands.{climb_of};
+ghost use Rattle.transyt_line_answers.specs.Commands.{climb_of};
 ghost use Rattle.transyt_reporter.specs.Conditions.{AreReady};
 
 use crate::climbing::start_climber;
@@ -89,7 +89,8 @@ fn print_brief<K: Sink>(
     sink: &mut K,
 ) -> Result<(), Failed>
     ensures { PrintsOn K.written K.faults sink.old sink.new result
-        (form_line (brief_form climbed.local) (before.nodes ∷ before.links ∷ before.index ∷ climbed.took
+        (form_line (brief_form climbed.local)
+        (before.nodes ∷ before.links ∷ before.index ∷ climbed.took
         ∷ climbed.looked ∷ to ∷ [])) }
 {
     let numbers = [
@@ -151,12 +152,15 @@ pub fn write_brief<R: Threads + Sync, G: Gate, K: Sink, L: Ledger>(
 ) -> Result<(), Stop>
     requires plan { IsSome net.plan }
     ensures ok { OnOk result (Adds (K.written sink.old) (K.written sink.new) (brief_text net)) }
-    ensures err { OnErr result (AddsFront (K.written sink.old) (K.written sink.new) (brief_text net)) }
+    ensures err { OnErr result
+        (AddsFront (K.written sink.old) (K.written sink.new) (brief_text net)) }
     ensures later { K.faults sink.old ≤ K.faults sink.new }
     ensures fault { IsErrOf result Stop.Write → Rose (K.faults sink.old) (K.faults sink.new) }
     ensures silent { IsErrOf result Stop.Memory → sink.new ≡ sink.old }
-    ensures steps { workers.entry.count ≡ 1 → OnOk result (steps.new ≡ steps.old + brief_steps net) }
-    ensures some_steps { workers.entry.count ≡ 1 → OnErr result (steps.new ≤ steps.old + brief_steps net) }
+    ensures steps { workers.entry.count ≡ 1
+        → OnOk result (steps.new ≡ steps.old + brief_steps net) }
+    ensures some_steps { workers.entry.count ≡ 1
+        → OnErr result (steps.new ≤ steps.old + brief_steps net) }
 {
     let Ok(mut desks) = desks_of(alloc, net, workers.count, steps) else {
         return Err(Stop::Memory);

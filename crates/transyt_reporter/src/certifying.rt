@@ -5,16 +5,16 @@ ghost use Rattle.transyt_session.specs.Session.{credited};
 ghost use Rattle.transyt_desks.specs.Desks.{desk_zero, AreAlike};
 ghost use Rattle.transyt_text.specs.Prints.{PrintsOn};
 ghost use Rattle.transyt_cert.specs.Certificate.{cert_text};
-ghost use Rattle.transyt_answers.specs.Commands.{after_answer};
+ghost use Rattle.transyt_line_answers.specs.Commands.{after_answer};
 ghost use Rattle.transyt_desks.specs.Stretches.{AreTriesOf, work_found};
 ghost use Rattle.transyt_reporter.specs.Conditions.{HasCertified, places_text, AreReady, Leaves};
 
 use crate::workers::Clerk;
 use std::sync::ledger::Ledger;
 use std::thread::Threads;
-use transyt_answers::{Answer, certify_on, say_cert_end, say_cert_place};
 use transyt_desks::{Desks, Gate};
 use transyt_io::{Failed, LineBuffer, Sink};
+use transyt_line_answers::{Answer, certify_on, say_cert_end, say_cert_place};
 use transyt_moves::move_count;
 use transyt_session::{Session, Tried};
 use transyt_steps::Steps;
@@ -127,9 +127,11 @@ pub(crate) fn certify<R: Threads + Sync, G: Gate, K: Sink, L: Ledger>(
     requires room { (desk_zero desks.old).work ≤ 2 ^ 60 }
     ensures prints { PrintsOn K.written K.faults sink.old sink.new result
         (cert_text (desk_zero desks.old).net) }
-    ensures state { OnOk result (desk_zero desks.new ≡ after_answer Answer.Cert (desk_zero desks.old)) }
+    ensures state { OnOk result
+        (desk_zero desks.new ≡ after_answer Answer.Cert (desk_zero desks.old)) }
     ensures workers { clerk.new.workers.count ≡ clerk.old.workers.count }
-    ensures leaves { Leaves 8000072000 (after_answer Answer.Cert (desk_zero desks.old)) desks.old desks.new
+    ensures leaves { Leaves 8000072000 (after_answer Answer.Cert (desk_zero desks.old)) desks.old
+        desks.new
         steps.old steps.new }
 {
     if clerk.workers.count == 1 {

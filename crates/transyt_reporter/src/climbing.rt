@@ -7,17 +7,17 @@ ghost use Rattle.transyt_climb.specs.Way.{climbed};
 ghost use Rattle.transyt_desks.specs.Desks.{desk_zero, AreAlike};
 ghost use Rattle.transyt_text.specs.Prints.{PrintsOn};
 ghost use Rattle.transyt_report.specs.Texts.{end_text};
-ghost use Rattle.transyt_answers.specs.Commands.{after_answer, steps_text, climb_text, climb_of, budget_of};
+ghost use Rattle.transyt_line_answers.specs.Commands.{after_answer, steps_text, climb_text, climb_of, budget_of};
 ghost use Rattle.transyt_reporter.specs.Conditions.{IsStep, AreReady, Leaves};
 
 use crate::remarks::remark_end;
 use crate::workers::Clerk;
 use std::sync::ledger::Ledger;
 use std::thread::Threads;
-use transyt_answers::Answer;
 use transyt_climb::{Climber, Turn};
 use transyt_desks::{Desks, Gate};
 use transyt_io::{Failed, LineBuffer, Sink, write_line};
+use transyt_line_answers::Answer;
 use transyt_net::Net;
 use transyt_report::{end_line, took_line};
 use transyt_steps::Steps;
@@ -71,20 +71,24 @@ fn climb_by_rounds<R: Threads + Sync, G: Gate, K: Sink, L: Ledger>(
     sink: &mut K,
     steps: &mut Steps<L>,
 ) -> Result<(), Failed>
-    requires start { climber.old ≡ start_at climber.old.budget (move_count (desk_zero desks.old).net) }
+    requires start { climber.old
+        ≡ start_at climber.old.budget (move_count (desk_zero desks.old).net) }
     requires budget { climber.old.budget ≤ 1000000 }
     requires alike { AreAlike desks.old }
     requires closed { (desk_zero desks.old).before ≡ None }
     requires room { (desk_zero desks.old).work ≤ 2 ^ 60 }
     ensures prints { PrintsOn K.written K.faults sink.old sink.new result
         (climb_text (climb (desk_zero desks.old).net 0 climber.old.budget)) }
-    ensures state { OnOk result (desk_zero desks.new ≡ climbed climber.old.budget (desk_zero desks.old)) }
+    ensures state { OnOk result
+        (desk_zero desks.new ≡ climbed climber.old.budget (desk_zero desks.old)) }
     ensures workers { clerk.new.workers.count ≡ clerk.old.workers.count }
     ensures alike { AreAlike desks.new }
     ensures closed { (desk_zero desks.new).before ≡ None }
     ensures len { length desks.new ≡ length desks.old }
-    ensures few { (desk_zero desks.new).work ≤ (desk_zero desks.old).work + 8000 * climber.old.budget + 72000 }
-    ensures work { (desk_zero desks.new).work ≤ (climbed climber.old.budget (desk_zero desks.old)).work }
+    ensures few { (desk_zero desks.new).work
+        ≤ (desk_zero desks.old).work + 8000 * climber.old.budget + 72000 }
+    ensures work { (desk_zero desks.new).work
+        ≤ (climbed climber.old.budget (desk_zero desks.old)).work }
     ensures steps { length desks.old ≡ 1
         → steps.new + (desk_zero desks.old).work ≡ steps.old + (desk_zero desks.new).work }
 {
@@ -117,9 +121,11 @@ pub(crate) fn climb_on<R: Threads + Sync, G: Gate, K: Sink, L: Ledger>(
     requires room { (desk_zero desks.old).work ≤ 2 ^ 60 }
     ensures prints { PrintsOn K.written K.faults sink.old sink.new result
         (climb_text (climb_of (desk_zero desks.old).net)) }
-    ensures state { OnOk result (desk_zero desks.new ≡ after_answer Answer.Climb (desk_zero desks.old)) }
+    ensures state { OnOk result
+        (desk_zero desks.new ≡ after_answer Answer.Climb (desk_zero desks.old)) }
     ensures workers { clerk.new.workers.count ≡ clerk.old.workers.count }
-    ensures leaves { Leaves 8000072000 (after_answer Answer.Climb (desk_zero desks.old)) desks.old desks.new
+    ensures leaves { Leaves 8000072000 (after_answer Answer.Climb (desk_zero desks.old)) desks.old
+        desks.new
         steps.old steps.new }
 {
     let mut climber = start_climber(desks.session().net());

@@ -1,6 +1,6 @@
 //! The reporter: it answers the lines of a run, a deck and then the commands over desks, each before the next is read.
 //!
-//! The report is a definition of `transyt_answers`. `specs/Reporter` has what the reporter's lines have come to,
+//! The report is a definition of `transyt_line_answers`. `specs/Reporter` has what the reporter's lines have come to,
 //! `specs/Brief` one climb on a network in one line.
 #![tactic(auto)]
 

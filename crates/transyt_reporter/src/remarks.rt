@@ -1,9 +1,9 @@
 //! Remarks of a run, which a sink is told beside its report.
 ghost use Rattle.std.specs.Prelude.{◌≡◌};
 
-use transyt_answers::Answer;
 use transyt_deck::CardReader;
 use transyt_io::Sink;
+use transyt_line_answers::Answer;
 use transyt_sentences::{Site, on_budget, on_card, on_command, on_refused_commands};
 use transyt_session::Session;
 use transyt_syntax::Code;

@@ -5,10 +5,10 @@ ghost use Rattle.transyt_io.specs.Streams.{Adds, AddsFront, Rose};
 ghost use Rattle.transyt_text.specs.Prints.{PrintsOn};
 ghost use Rattle.transyt_deck.specs.Deck.{next, is_complete, line_count};
 ghost use Rattle.transyt_desks.specs.Desks.{desk_zero};
-ghost use Rattle.transyt_answers.specs.Commands.{line_answer, answer_text, session_after};
+ghost use Rattle.transyt_line_answers.specs.Commands.{line_answer, answer_text, session_after};
 ghost use Rattle.transyt_reporter.specs.Conditions.{AnswersDeck, AreReady, Leaves};
-ghost use Rattle.transyt_answers.specs.Report.{InSession, answer_ends, deck_answering, deck_said};
-ghost use Rattle.transyt_answers.specs.Report.{deck_ends, deck_steps, run_of};
+ghost use Rattle.transyt_line_answers.specs.Report.{InSession, answer_ends, deck_answering, deck_said};
+ghost use Rattle.transyt_line_answers.specs.Report.{deck_ends, deck_steps, run_of};
 ghost use Rattle.transyt_reporter.specs.Reporter.{HasAnswered, state_of, AreKept, new_reporter};
 
 use crate::opening::desks_of;
@@ -20,10 +20,10 @@ use std::marker::Model;
 use std::mem;
 use std::sync::ledger::Ledger;
 use std::thread::Threads;
-use transyt_answers::{judge, print_accepted, print_card_refused};
 use transyt_deck::{CardReader, CardStop, Progress};
 use transyt_desks::{Desks, Gate};
 use transyt_io::{Failed, Sink};
+use transyt_line_answers::{judge, print_accepted, print_card_refused};
 use transyt_outcome::{Ending, Stop};
 use transyt_steps::Steps;
 use transyt_syntax::Code;
@@ -47,7 +47,8 @@ impl<'a, R, G> Model for Reporter<'a, R, G> {
 
     ghost view = { λ r. reporter_of r.clerk.workers.count r.lines r.cards r.desks };
 
-    ghost invariant = { λ r. IsReporter (reporter_of r.clerk.workers.count r.lines r.cards r.desks) };
+    ghost invariant = { λ r. IsReporter
+        (reporter_of r.clerk.workers.count r.lines r.cards r.desks) };
 }
 
 /// Opens the desks of a complete deck: all memory of the commands is taken here.
@@ -84,11 +85,14 @@ fn answer_command<R: Threads + Sync, G: Gate, K: Sink, L: Ledger>(
     requires room { (desk_zero desks.old).work ≤ 2 ^ 59 }
     ensures prints { PrintsOn K.written K.faults sink.old sink.new result
         (answer_text (desk_zero desks.old) (line_answer (desk_zero desks.old) command.now)) }
-    ensures ends { IfOk result (λ end. end ≡ answer_ends (line_answer (desk_zero desks.old) command.now)) }
-    ensures state { OnOk result (desk_zero desks.new ≡ session_after (desk_zero desks.old) command.now) }
+    ensures ends { IfOk result
+        (λ end. end ≡ answer_ends (line_answer (desk_zero desks.old) command.now)) }
+    ensures state { OnOk result
+        (desk_zero desks.new ≡ session_after (desk_zero desks.old) command.now) }
     ensures takes_none { IsErrOf result Stop.Memory → ⊥ }
     ensures workers { clerk.new.workers.count ≡ clerk.old.workers.count }
-    ensures leaves { Leaves 8589934592 (session_after (desk_zero desks.old) command.now) desks.old desks.new
+    ensures leaves { Leaves 8589934592 (session_after (desk_zero desks.old) command.now) desks.old
+        desks.new
         steps.old steps.new }
 {
     let answer = judge(desks.session_mut(), command, steps);
@@ -135,7 +139,8 @@ impl<'a, R, G> Reporter<'a, R, G> {
         requires live { self.old.cards.live ≡ true }
         requires room { line_count self.old.cards.deck < 4294967294 }
         requires counted { line_count self.old.cards.deck < self.old.lines }
-        ensures answers { AnswersDeck (next self.old.cards.deck line.now) result (K.written sink.old)
+        ensures answers { AnswersDeck (next self.old.cards.deck line.now) result
+            (K.written sink.old)
             (K.written sink.new) (K.faults sink.old) (K.faults sink.new) steps.old steps.new }
         ensures silent { IsErrOf result Stop.Memory → sink.new ≡ sink.old }
         ensures state { result ≡ Ok None
@@ -170,10 +175,12 @@ impl<'a, R, G> Reporter<'a, R, G> {
     ) -> Result<Option<Ending>, Stop>
         requires closed { self.old.desks ≡ None }
         requires complete { IsTrue (is_complete self.old.cards.deck) }
-        ensures answers { AnswersDeck self.old.cards.deck result (K.written sink.old) (K.written sink.new)
+        ensures answers { AnswersDeck self.old.cards.deck result (K.written sink.old)
+            (K.written sink.new)
             (K.faults sink.old) (K.faults sink.new) steps.old steps.new }
         ensures silent { IsErrOf result Stop.Memory → sink.new ≡ sink.old }
-        ensures state { OnOk result (state_of self.new.cards self.new.desks ≡ run_of self.old.cards.deck) }
+        ensures state { OnOk result
+            (state_of self.new.cards self.new.desks ≡ run_of self.old.cards.deck) }
         ensures live { OnOk result (IfNone self.new.desks ⊥) }
         ensures lines { self.new.lines ≡ self.old.lines }
         ensures workers { self.new.workers ≡ self.old.workers }
@@ -201,18 +208,22 @@ pub(crate) fn answer_line<R: Threads + Sync, G: Gate, K: Sink, L: Ledger>(
 ) -> Result<Option<Ending>, Stop>
     requires { reporter.old.lines < 4194305 }
     ensures whole { (before : List (List ℕ)) → HasAnswered reporter.old before
-        → IfOk result (AnsweredWhole deck_answering.text deck_answering.ends (HasAnswered reporter.new)
+        → IfOk result (AnsweredWhole deck_answering.text deck_answering.ends
+        (HasAnswered reporter.new)
         (K.written sink.old) (K.written sink.new) before line.now) }
     ensures part { (before : List (List ℕ)) → HasAnswered reporter.old before
         → OnErr result (AddsFront (K.written sink.old) (K.written sink.new)
         (deck_answering.text before line.now)) }
-    ensures steps { (before : List (List ℕ)) → HasAnswered reporter.old before → reporter.old.workers ≡ 1
+    ensures steps { (before : List (List ℕ)) → HasAnswered reporter.old before
+        → reporter.old.workers ≡ 1
         → OnOk result (steps.new ≡ steps.old + deck_answering.cost before line.now) }
-    ensures some_steps { (before : List (List ℕ)) → HasAnswered reporter.old before → reporter.old.workers ≡ 1
+    ensures some_steps { (before : List (List ℕ)) → HasAnswered reporter.old before
+        → reporter.old.workers ≡ 1
         → OnErr result (steps.new ≤ steps.old + deck_answering.cost before line.now) }
     ensures workers { reporter.new.workers ≡ reporter.old.workers }
     // out of memory only where nothing was written yet
-    ensures silent { (before : List (List ℕ)) → HasAnswered reporter.old before → IsErrOf result Stop.Memory
+    ensures silent { (before : List (List ℕ)) → HasAnswered reporter.old before
+        → IsErrOf result Stop.Memory
         → (answers_by deck_answering before ≡ []) × (sink.new ≡ sink.old) }
     ensures count { reporter.new.lines ≤ reporter.old.lines + 1 }
     ensures later { K.faults sink.old ≤ K.faults sink.new }

@@ -4,7 +4,7 @@ ghost use Rattle.transyt_io.specs.Streams.{Rose};
 ghost use Rattle.transyt_io.specs.Reading.{new_reading};
 ghost use Rattle.transyt_outcome.specs.Outcome.{Outcome};
 ghost use Rattle.transyt_outcome.specs.Runs.{Ran, StepsTaken};
-ghost use Rattle.transyt_answers.specs.Report.{deck_answering, reporting_run};
+ghost use Rattle.transyt_line_answers.specs.Report.{deck_answering, reporting_run};
 ghost use Rattle.transyt_reporter.specs.Reporter.{new_reporter};
 
 use crate::remarks::remark_refused;
@@ -33,8 +33,10 @@ fn run<R: Threads + Sync, S: Source, K: Sink, G: Gate, L: Ledger>(
         (K.written sink.old) (K.written sink.new) steps.old steps.new result }
     ensures source_later { S.faults source.old ≤ S.faults source.new }
     ensures sink_later { K.faults sink.old ≤ K.faults sink.new }
-    ensures read_fault { result ≡ Status.ReadFault → Rose (S.faults source.old) (S.faults source.new) }
-    ensures write_fault { result ≡ Status.WriteFault → Rose (K.faults sink.old) (K.faults sink.new) }
+    ensures read_fault { result ≡ Status.ReadFault
+        → Rose (S.faults source.old) (S.faults source.new) }
+    ensures write_fault { result ≡ Status.WriteFault
+        → Rose (K.faults sink.old) (K.faults sink.new) }
 {
     loop {
         let found = match reader.next(source) {
@@ -66,14 +68,18 @@ pub fn run_deck<R: Threads + Sync, S: Source, K: Sink, G: Gate, L: Ledger>(
     sink: &mut K,
     steps: &mut Steps<L>,
 ) -> Status
-    ensures outcome { Outcome reporting_run (S.left source.old) (S.left source.new) (S.last source.new)
+    ensures outcome { Outcome reporting_run (S.left source.old) (S.left source.new)
+        (S.last source.new)
         (K.written sink.old) (K.written sink.new) result }
     ensures source_later { S.faults source.old ≤ S.faults source.new }
     ensures sink_later { K.faults sink.old ≤ K.faults sink.new }
-    ensures read_fault { result ≡ Status.ReadFault → Rose (S.faults source.old) (S.faults source.new) }
-    ensures write_fault { result ≡ Status.WriteFault → Rose (K.faults sink.old) (K.faults sink.new) }
+    ensures read_fault { result ≡ Status.ReadFault
+        → Rose (S.faults source.old) (S.faults source.new) }
+    ensures write_fault { result ≡ Status.WriteFault
+        → Rose (K.faults sink.old) (K.faults sink.new) }
     ensures steps { workers.entry.count ≡ 1
-        → StepsTaken deck_answering (S.left source.old) (S.left source.new) steps.old steps.new result }
+        → StepsTaken deck_answering (S.left source.old) (S.left source.new) steps.old steps.new
+        result }
 {
     let Ok(mut reporter) = Reporter::open(alloc, workers) else {
         return Status::NoMemory;

@@ -2,8 +2,8 @@
 ghost use Rattle.std.specs.Prelude.{◌≡◌, ◌≤◌, IfOk};
 
 use std::alloc::{AllocError, Global};
-use transyt_answers::Answer;
 use transyt_io::LineBuffer;
+use transyt_line_answers::Answer;
 
 /// One to eight workers, who try moves at once: how many, the runtime that starts them, and the gate that they pass.
 #[derive(Drop)]

@@ -2,8 +2,8 @@
 ghost use Rattle.std.specs.Prelude.{◌≡◌, ◌^◌, ◌≤◌, length, OnOk};
 ghost use Rattle.transyt_desks.specs.Desks.{desk_zero};
 ghost use Rattle.transyt_text.specs.Prints.{PrintsOn};
-ghost use Rattle.transyt_answers.specs.Commands.{answer_text, after_answer};
-ghost use Rattle.transyt_answers.specs.Conditions.{IsOf};
+ghost use Rattle.transyt_line_answers.specs.Commands.{answer_text, after_answer};
+ghost use Rattle.transyt_line_answers.specs.Conditions.{IsOf};
 ghost use Rattle.transyt_reporter.specs.Conditions.{AreReady, Leaves};
 
 use crate::certifying::certify;
@@ -11,9 +11,9 @@ use crate::climbing::climb_on;
 use crate::workers::Clerk;
 use std::sync::ledger::Ledger;
 use std::thread::Threads;
-use transyt_answers::{Answer, say_text};
 use transyt_desks::{Desks, Gate};
 use transyt_io::{Failed, Sink};
+use transyt_line_answers::{Answer, say_text};
 use transyt_steps::Steps;
 
 /// Writes the text of an answer; CLIMB and CERT are carried out as they are written.
@@ -34,7 +34,8 @@ pub(crate) fn say<R: Threads + Sync, G: Gate, K: Sink, L: Ledger>(
         (answer_text (desk_zero desks.old) answer) }
     ensures state { OnOk result (desk_zero desks.new ≡ after_answer answer (desk_zero desks.old)) }
     ensures workers { clerk.new.workers.count ≡ clerk.old.workers.count }
-    ensures leaves { Leaves 8000072000 (after_answer answer (desk_zero desks.old)) desks.old desks.new
+    ensures leaves { Leaves 8000072000 (after_answer answer (desk_zero desks.old)) desks.old
+        desks.new
         steps.old steps.new }
 {
     match answer {

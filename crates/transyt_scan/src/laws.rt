@@ -10,7 +10,8 @@ ghost use Rattle.transyt_scan.specs.WorkedScan.{climbed_at, three_rows};
 /// The questions that may be asked (each number at its limits, and one past them), and rows where no move lowers the
 /// index.
 pub fn worked_scan()
-    ensures within { map (λ a. scan_of a.workers a.times.low a.times.high a.times.by) in_range ≡ map Some in_range }
+    ensures within { map (λ a. scan_of a.workers a.times.low a.times.high a.times.by) in_range
+        ≡ map Some in_range }
     ensures beyond { map (λ a. scan_of a.workers a.times.low a.times.high a.times.by) out_of_range
         ≡ map (λ _. None) out_of_range }
     ensures rows { table idle from_44 ≡ stayed 44 true 6 ∷ stayed 51 true 6 ∷ [] }

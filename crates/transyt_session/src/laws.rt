@@ -21,7 +21,8 @@ pub fn worked_session()
     ensures credit { credited 3 in_trial ≡ record in_trial { work = 14 } }
     ensures stand { standing_for shifted taken_back ≡ kept }
     ensures stand_in_trial { standing_for junctions in_trial ≡ taken_back }
-    ensures replies { map (λ row. reply_to junctions row.0) worked_replies ≡ map (λ row. row.1) worked_replies }
+    ensures replies { map (λ row. reply_to junctions row.0) worked_replies
+        ≡ map (λ row. row.1) worked_replies }
     ensures tried { try_of junctions (Offset 21 9) ≡ Index (index shifted) 6 }
     ensures refused_look { lowered (Offset 21 15) in_trial ≡ kept }
     ensures refused_found { lower_index junctions (Offset 21 15) ≡ None }

@@ -207,7 +207,8 @@ fn show_stages<T: Copy>(step_count: u32, node: &Node, stages: &[u32], value: T, 
     requires most { step_count ≤ 120 }
     ensures steps { length out.new ≡ length out.old }
     ensures shown { (i : ℕ) → (other : T) → i < step_count → slice_index_or out.new i other
-        ≡ (if is_shown step_count node.now stages.now i then value else slice_index_or out.old i other) }
+        ≡ (if is_shown step_count node.now stages.now i then value else slice_index_or out.old i
+        other) }
 {
     for place in 0..node.stages.len() {
         show_stage(step_count, node, stages, place, value, out);
@@ -230,7 +231,8 @@ fn show_stage<T: Copy>(
     requires most { step_count ≤ 120 }
     ensures steps { length out.new ≡ length out.old }
     ensures shown { (i : ℕ) → (other : T) → i < step_count → slice_index_or out.new i other
-        ≡ (if shows step_count node.now stages.now i place then value else slice_index_or out.old i other) }
+        ≡ (if shows step_count node.now stages.now i place then value else slice_index_or out.old i
+        other) }
 {
     if !runs_in(stages, place) {
         return;
@@ -266,7 +268,8 @@ fn show_steps<T: Copy>(change: u32, from: u32, to: u32, value: T, out: &mut [T])
     requires to { to ≤ length out.old }
     ensures steps { length out.new ≡ length out.old }
     ensures shown { (i : ℕ) → (other : T) → i < length out.old → slice_index_or out.new i other
-        ≡ (if nat_le from (minus_mod (length out.old) i change) && nat_lt (minus_mod (length out.old) i change) to
+        ≡ (if nat_le from (minus_mod (length out.old) i change) && nat_lt
+        (minus_mod (length out.old) i change) to
         then value else slice_index_or out.old i other) }
 {
     let mut step = (from + change) as usize % out.len();

@@ -10,7 +10,8 @@ ghost use Rattle.transyt_stage.specs.WorkedGreens.{greens, green_steps, lagging,
 pub fn worked_greens()
     ensures greens { map (signal three_junctions) (range_with_len 0 8) ≡ greens }
     ensures steps { map (is_green three_junctions 0) (range_with_len 0 18) ≡ green_steps }
-    ensures lags { map (λ row. map (green_at row.0 row.1 row.2) (range_with_len 0 (length row.0))) lagging
+    ensures lags { map (λ row. map (green_at row.0 row.1 row.2)
+        (range_with_len 0 (length row.0))) lagging
         ≡ map (λ row. row.3) lagging }
     ensures yields { map (λ row. yielding row.0 row.1 row.2) yields ≡ map (λ row. row.3) yields }
 {}

@@ -18,9 +18,16 @@ ghost use Rattle.transyt_stopline.specs.WorkedQueues.{queues_by_facts};
 pub fn worked_cycles()
     ensures cut { arrivals_of crowd green ≡ cut_crowd }
     ensures uncut { arrivals_of some_traffic green ≡ some_traffic }
-    ensures places { map (λ row. sum_at_places crowd row.0.0 row.0.1) worked_sums ≡ map (λ row. row.1) worked_sums }
-    ensures sums { map (λ row. sum_back crowd row.0.0 row.0.1) worked_sums ≡ map (λ row. row.1) worked_sums }
-    ensures queues { map (λ row. (queues row.0 green, outs row.0 green, stopped_of row.0 (queues row.0 green)))
+    ensures places { map (λ row. sum_at_places crowd row.0.0 row.0.1) worked_sums
+        ≡ map (λ row. row.1) worked_sums }
+    ensures sums { map (λ row. sum_back crowd row.0.0 row.0.1) worked_sums
+        ≡ map (λ row. row.1) worked_sums }
+    ensures queues { map (λ row. (
+      queues row.0 green,
+      outs row.0 green,
+      stopped_of row.0
+          (queues row.0 green),
+    ))
         worked_queues ≡ map (λ row. row.1) worked_queues }
     ensures stops { stopped_of (7 ∷ 5 ∷ 3 ∷ []) (0 ∷ 1 ∷ 2 ∷ []) ≡ 8 }
 {}

@@ -32,7 +32,8 @@ pub(crate) struct Factors {
 /// How a feed's platoon travels.
 fn travel(net: &Net, feed: Feed) -> Travel
     requires cruise { feed.cruise ≤ 300 }
-    ensures time { result.time ≡ travel_steps feed.cruise net.now.frame.step_count net.now.frame.cycle }
+    ensures time { result.time
+        ≡ travel_steps feed.cruise net.now.frame.step_count net.now.frame.cycle }
     ensures percent { result.percent ≡ net.now.frame.dispersion }
     ensures is { IsTravel net.now.frame.step_count result }
 {

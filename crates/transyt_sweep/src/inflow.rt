@@ -32,7 +32,8 @@ fn add_feed(inputs: &Inputs<'_>, feed: Feed, room: &mut [u64], turns: &mut [u64]
     requires turns_len { length turns.old ≡ 2 * inputs.now.step_count }
     requires turns_small { All (λ v. v < 2 ^ 48 - 2 ^ 44) (folded inputs.now.step_count turns.old) }
     ensures value { folded inputs.now.step_count turns.new
-        ≡ added (folded inputs.now.step_count turns.old) (brought inputs.now.net.now (read_by inputs.now) feed) }
+        ≡ added (folded inputs.now.step_count turns.old)
+        (brought inputs.now.net.now (read_by inputs.now) feed) }
     ensures grows { (limit : ℕ) → All (λ v. v < limit) (folded inputs.now.step_count turns.old)
         → All (λ v. v < limit + 2 ^ 44) (folded inputs.now.step_count turns.new) }
 {
@@ -53,9 +54,11 @@ fn add_each(inputs: &Inputs<'_>, feeds: &[Feed], room: &mut [u64], turns: &mut [
     requires room_len { 2 * inputs.now.step_count ≤ length room.old }
     requires turns { HaveRoom inputs.now.step_count (length feeds.now) turns.old }
     ensures value { folded inputs.now.step_count turns.new
-        ≡ with_feeds inputs.now.net.now (read_by inputs.now) (folded inputs.now.step_count turns.old) feeds.now }
+        ≡ with_feeds inputs.now.net.now (read_by inputs.now)
+        (folded inputs.now.step_count turns.old) feeds.now }
     ensures grows { (limit : ℕ) → All (λ v. v < limit) (folded inputs.now.step_count turns.old)
-        → All (λ v. v < limit + length feeds.now * 2 ^ 44) (folded inputs.now.step_count turns.new) }
+        → All (λ v. v < limit + length feeds.now * 2 ^ 44)
+        (folded inputs.now.step_count turns.new) }
 {
     'feeds: for i in 0..feeds.len() {
         add_feed(inputs, feeds[i], room, turns);
@@ -85,7 +88,8 @@ fn send_group(inputs: &Inputs<'_>, slots: &[Factors], lanes: &mut [u64], turns: 
     requires turns { HaveRoom inputs.now.step_count (length slots.now) turns.old }
     ensures value { IsTrue result → folded inputs.now.step_count turns.new
         ≡ with_carried (read_by inputs.now) (folded inputs.now.step_count turns.old) slots.now }
-    ensures grows { IsTrue result → (limit : ℕ) → All (λ v. v < limit) (folded inputs.now.step_count turns.old)
+    ensures grows { IsTrue result → (limit : ℕ)
+        → All (λ v. v < limit) (folded inputs.now.step_count turns.old)
         → All (λ v. v < limit + 4 * 2 ^ 22) (folded inputs.now.step_count turns.new) }
     ensures stays { (IsTrue result → ⊥) → turns.new ≡ turns.old }
 {
@@ -118,9 +122,11 @@ fn add_together(
     requires room_len { length room.old ≡ 6 * inputs.now.step_count }
     requires turns { HaveRoom inputs.now.step_count (length feeds.now) turns.old }
     ensures value { folded inputs.now.step_count turns.new
-        ≡ with_feeds inputs.now.net.now (read_by inputs.now) (folded inputs.now.step_count turns.old) feeds.now }
+        ≡ with_feeds inputs.now.net.now (read_by inputs.now)
+        (folded inputs.now.step_count turns.old) feeds.now }
     ensures grows { (limit : ℕ) → All (λ v. v < limit) (folded inputs.now.step_count turns.old)
-        → All (λ v. v < limit + length feeds.now * 2 ^ 44) (folded inputs.now.step_count turns.new) }
+        → All (λ v. v < limit + length feeds.now * 2 ^ 44)
+        (folded inputs.now.step_count turns.new) }
     ensures slots { All (AreFactors inputs.now.net.now.frame.step_count) slots.new }
 {
     let (lanes, rest) = room.split_at_mut(4 * inputs.step_count);
@@ -161,9 +167,11 @@ fn add_feeds(
     requires room_len { length room.old ≡ 6 * inputs.now.step_count }
     requires turns { HaveRoom inputs.now.step_count (length feeds.now) turns.old }
     ensures value { folded inputs.now.step_count turns.new
-        ≡ with_feeds inputs.now.net.now (read_by inputs.now) (folded inputs.now.step_count turns.old) feeds.now }
+        ≡ with_feeds inputs.now.net.now (read_by inputs.now)
+        (folded inputs.now.step_count turns.old) feeds.now }
     ensures grows { (limit : ℕ) → All (λ v. v < limit) (folded inputs.now.step_count turns.old)
-        → All (λ v. v < limit + length feeds.now * 2 ^ 44) (folded inputs.now.step_count turns.new) }
+        → All (λ v. v < limit + length feeds.now * 2 ^ 44)
+        (folded inputs.now.step_count turns.new) }
     ensures slots { All (AreFactors inputs.now.net.now.frame.step_count) slots.new }
 {
     let served = feeds.len().min(slots.len());

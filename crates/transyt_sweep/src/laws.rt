@@ -43,28 +43,35 @@ pub fn rule_of_departures()
 #[tactic(auto, using(crate::proofs::ClimbLaws::climb_is))]
 pub fn rule_of_climbs()
     ensures { (net : Network) (place left : ℕ)
-        → climb net place left ≡ after_search climb net place (move_count net) left (first net place) }
+        → climb net place left ≡ after_search climb net place (move_count net) left
+        (first net place) }
 {}
 
 /// The links of the three junctions come out as they are written beside the definitions.
 pub fn worked_links()
-    ensures arrivals { map (λ l. (evaluated three_junctions l).arrivals) (range_with_len 0 8) ≡ arrivals_of_three }
+    ensures arrivals { map (λ l. (evaluated three_junctions l).arrivals) (range_with_len 0 8)
+        ≡ arrivals_of_three }
     ensures go { map (λ l. (evaluated three_junctions l).go) (range_with_len 0 8) ≡ gos_of_three }
-    ensures queue { map (λ l. (evaluated three_junctions l).queue) (range_with_len 0 8) ≡ queues_of_three }
-    ensures out { map (λ l. (evaluated three_junctions l).out) (range_with_len 0 8) ≡ outs_of_three }
+    ensures queue { map (λ l. (evaluated three_junctions l).queue) (range_with_len 0 8)
+        ≡ queues_of_three }
+    ensures out { map (λ l. (evaluated three_junctions l).out) (range_with_len 0 8)
+        ≡ outs_of_three }
 {}
 
 /// So do their figures, and their index is the sum.
 #[tactic(auto, using(crate::proofs::WorkedFigures::figures_come_out, crate::proofs::WorkedFigures::index_comes_out))]
 pub fn worked_figures()
-    ensures links { map (λ l. (evaluated three_junctions l).figures) (range_with_len 0 8) ≡ figures_of_three }
+    ensures links { map (λ l. (evaluated three_junctions l).figures) (range_with_len 0 8)
+        ≡ figures_of_three }
     ensures index { index three_junctions ≡ 556223009 }
 {}
 
 /// So do a ring, sweep by sweep, a link that feeds itself, a link that gives way to a later one, and no link at all.
 pub fn worked_sweeps()
-    ensures ring { map (λ s. map (out_of ring s) (range_with_len 0 3)) (range_with_len 0 4) ≡ outs_of_ring }
-    ensures itself { map (λ s. (cell_at fed_by_itself s 0).arrivals) (range_with_len 1 2) ≡ arrivals_of_itself }
+    ensures ring { map (λ s. map (out_of ring s) (range_with_len 0 3)) (range_with_len 0 4)
+        ≡ outs_of_ring }
+    ensures itself { map (λ s. (cell_at fed_by_itself s 0).arrivals) (range_with_len 1 2)
+        ≡ arrivals_of_itself }
     ensures later { (evaluated gives_way_to_later 0).go ≡ replicate 10 2400000 }
     ensures none { index no_links ≡ 0 }
 {}
@@ -89,5 +96,6 @@ pub fn worked_climbs()
     ensures budget { climb idle 4 3 ≡ stayed false idle (4 ∷ 5 ∷ 0 ∷ []) }
     ensures no_move { climb planless 0 0 ≡ stayed true planless [] }
     ensures step { after_search (ended true) idle 5 6 9 (Some 2) ≡ stepped_back }
-    ensures no_step { after_search (ended true) idle 4 6 3 (Some 3) ≡ stayed false idle (4 ∷ 5 ∷ 0 ∷ []) }
+    ensures no_step { after_search (ended true) idle 4 6 3 (Some 3)
+        ≡ stayed false idle (4 ∷ 5 ∷ 0 ∷ []) }
 {}

@@ -54,7 +54,8 @@ impl Model for Scratch {
     } };
 
     ghost invariant = { λ s.
-        IsScratch s.arrivals.items s.go.items s.queue.items s.out.items s.asked s.room.items s.reaching.items
+        IsScratch s.arrivals.items s.go.items s.queue.items s.out.items s.asked s.room.items
+        s.reaching.items
         s.factors.items };
 }
 

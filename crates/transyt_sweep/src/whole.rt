@@ -61,7 +61,8 @@ fn started(alloc: Global, net: &Net) -> Result<Rows, AllocError>
 
 /// Starts each link.
 fn fill_starts(net: &Net, rows: &mut Rows)
-    requires { rows.old ≡ empty_rows net.now.frame.step_count net.now.frame.sweeps (length net.now.links) }
+    requires { rows.old ≡ empty_rows net.now.frame.step_count net.now.frame.sweeps
+        (length net.now.links) }
     ensures { AreFilled net.now 1 0 rows.new }
 {
     for link in 0..net.links().len() {

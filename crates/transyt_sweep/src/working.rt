@@ -82,10 +82,12 @@ fn stand(
     requires arrivals_small { All (λ v. v < 2 ^ 48) arrivals.now }
     requires go_small { All (λ v. v < 2 ^ 30) go_profile.now }
     ensures queued { queued.new ≡ queues (arrivals_of arrivals.now go_profile.now) go_profile.now }
-    ensures departures { departures.new ≡ outs (arrivals_of arrivals.now go_profile.now) go_profile.now }
+    ensures departures { departures.new
+        ≡ outs (arrivals_of arrivals.now go_profile.now) go_profile.now }
     ensures total { result.come ≡ sum arrivals.now }
     ensures served { result.served ≡ sum go_profile.now }
-    ensures cut { result.served < result.come → cut_arrivals.new ≡ arrivals_of arrivals.now go_profile.now }
+    ensures cut { result.served < result.come
+        → cut_arrivals.new ≡ arrivals_of arrivals.now go_profile.now }
     ensures cut_small { All (λ v. v < 2 ^ 48) (arrivals_of arrivals.now go_profile.now) }
     ensures queued_small { All (λ v. v < 2 ^ 37) queued.new }
     ensures departures_small { All (λ v. v < 2 ^ 30) departures.new }

@@ -41,7 +41,8 @@ pub fn say<A: Drop>(
     requires most { IfSome found (λ f. f.0.1 ≤ 17) }
     ensures says { (table : List (Entry A))
         → found ≡ with_numbers further.now.numbers (entry_of table line.now)
-        → result ≡ unless (syntax_code (counts_of table line.now) line.now) (says_of table line.now) }
+        → result ≡ unless (syntax_code (counts_of table line.now) line.now)
+        (says_of table line.now) }
     ensures something { IfOk result IsSome }
     ensures found { IfOk result (λ said. said ≡ option_map (λ f. f.1) found) }
     ensures counted { IfOk result (λ said. IfSome found (λ f.

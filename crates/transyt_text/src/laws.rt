@@ -8,7 +8,8 @@ ghost use Rattle.transyt_text.specs.Forms.{filled, form_line, values_line};
 pub fn worked_lines()
     ensures step { form_line (codes "TOOK # OFFSET # # INDEX #") (3 ∷ 21 ∷ 0 ∷ 1948618 ∷ [])
         ≡ codes "TOOK 3 OFFSET 21 0 INDEX 1948618" ++ 10 ∷ [] }
-    ensures queue { values_line (codes "QUEUE #") (300 ∷ []) (214786 ∷ 0 ∷ 18446744073709551615 ∷ [])
+    ensures queue { values_line (codes "QUEUE #") (300 ∷ [])
+        (214786 ∷ 0 ∷ 18446744073709551615 ∷ [])
         ≡ codes "QUEUE 300 214786 0 18446744073709551615" ++ 10 ∷ [] }
     ensures few { filled (codes "NODE # OFFSET #") (7 ∷ []) ≡ codes "NODE 7 OFFSET " }
     ensures many { filled (codes "NODE #") (7 ∷ 17 ∷ []) ≡ codes "NODE 7" }

@@ -145,7 +145,8 @@ fn turn<L: Ledger>(
     requires front { IsFront change.now sweep link front.old }
     ensures front { IsFront change.now sweep (link + 1) front.new }
     ensures marked { front.new.kept.marked ≡ front.old.kept.marked }
-    ensures count { result ≡ (if is_due change.now.before.now change.now.after.now sweep link then 1 else 0) }
+    ensures count { result ≡ (if is_due change.now.before.now change.now.after.now sweep link then 1
+        else 0) }
     ensures steps { steps.new ≡ steps.old + result }
 {
     if is_awaited(&front.awaited, link) {

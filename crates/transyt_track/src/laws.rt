@@ -13,7 +13,8 @@ ghost use Rattle.transyt_track.specs.WorkedWork.{worked_edits, worked_looks};
 #[tactic(auto, using(crate::proofs::RuleLaws::own_decides, crate::proofs::RuleLaws::differs_decides))]
 pub fn rule_of_due()
     ensures own { (x y : Own) → IsTrue (same_own x y) ↔ x ≡ y }
-    ensures departures { (a b : Network) (s j : ℕ) → (differs a b s j ≡ false) ↔ out_of a s j ≡ out_of b s j }
+    ensures departures { (a b : Network) (s j : ℕ) → (differs a b s j ≡ false)
+        ↔ out_of a s j ≡ out_of b s j }
 {}
 
 /// The worked networks have the work that is written there: edits of each kind, places that a climb looks at, the
@@ -21,7 +22,8 @@ pub fn rule_of_due()
 /// one of two that it reads.
 #[tactic(auto, using(crate::proofs::WorkedLaws::edits, crate::proofs::WorkedLaws::looks, crate::proofs::WorkedLaws::certificate, crate::proofs::WorkedLaws::due_by_one, crate::proofs::WorkedLaws::loop_work))]
 pub fn worked_work()
-    ensures edits { map (λ row. edit_work junctions row.0) worked_edits ≡ map (λ row. row.1) worked_edits }
+    ensures edits { map (λ row. edit_work junctions row.0) worked_edits
+        ≡ map (λ row. row.1) worked_edits }
     ensures looks { work_of worked_looks ≡ 16 }
     ensures certificate { cert_work junctions 12 ≡ 66 }
     ensures by_one { map (λ row. is_due (fed_by_two 1800) (fed_by_two 300) 1 row.0) due_of_three

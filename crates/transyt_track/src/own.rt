@@ -101,7 +101,8 @@ pub(crate) fn same_data(
     requires link_after { link < length after.now.links }
     requires places { places.now ≡ places_at before.now link }
     requires places_after { places.now ≡ places_at after.now link }
-    requires nodes { AreDownWhere (HaveNode before.now after.now) (length after.now.nodes) node_changed.now }
+    requires nodes { AreDownWhere (HaveNode before.now after.now) (length after.now.nodes)
+        node_changed.now }
     ensures { IsTrue result ↔ HaveData before.now after.now link }
 {
     let old = link_at(before, link);

@@ -26,7 +26,8 @@ impl Model for Readers {
 /// As many empty lists.
 fn no_readers(alloc: Global, count: usize) -> Result<Vec<Readers>, AllocError>
     ensures count { IfOk result (λ readers. length readers.items ≡ count) }
-    ensures none { IfOk result (λ readers. (other : ℕ) → (link : ℕ) → is_reader readers.items other link ≡ false) }
+    ensures none { IfOk result
+        (λ readers. (other : ℕ) → (link : ℕ) → is_reader readers.items other link ≡ false) }
 {
     let mut readers = Vec::with_capacity(alloc, count)?;
     for _link in 0..count {

@@ -19,7 +19,8 @@ fn place_out(sweep: u32, link: usize, differs: bool, scratch: &Scratch, kept: &m
     requires link { link < length kept.old.now.figures }
     requires steps { length scratch.now.arrivals ≡ kept.old.now.step_count }
     requires same { differs ≡ false → out_at kept.old.now sweep link ≡ scratch.now.out }
-    ensures { kept.new ≡ record kept.old { now = with_out kept.old.now sweep link scratch.now.out } }
+    ensures { kept.new ≡ record
+        kept.old { now = with_out kept.old.now sweep link scratch.now.out } }
 {
     if differs {
         kept.put_out(sweep, link, scratch.out());
@@ -55,7 +56,8 @@ pub(crate) fn place(net: &Net, sweep: u32, link: usize, differs: Differs, front:
     requires sweep { sweep ≤ net.now.frame.sweeps }
     requires link { link < length net.now.links }
     requires steps { length front.old.scratch.arrivals ≡ front.old.kept.now.step_count }
-    requires out_same { differs.out ≡ false → out_at front.old.kept.now sweep link ≡ front.old.scratch.out }
+    requires out_same { differs.out ≡ false
+        → out_at front.old.kept.now sweep link ≡ front.old.scratch.out }
     requires go_same { sweep ≡ net.now.frame.sweeps → differs.go ≡ false
         → (shown_at front.old.kept.now link).go ≡ front.old.scratch.go }
     ensures value { front.new.kept
@@ -79,7 +81,8 @@ pub(crate) fn leave(change: &Change<'_>, sweep: u32, link: usize, kept: &mut Kep
     requires link { link < length change.now.after.now.links }
     requires shown { sweep ≡ change.now.after.now.frame.sweeps
         → shown_at kept.old.now link ≡ evaluated change.now.before.now link }
-    ensures { kept.new ≡ record kept.old { now = left_at change.now.after.now sweep link kept.old.now } }
+    ensures { kept.new ≡ record
+        kept.old { now = left_at change.now.after.now sweep link kept.old.now } }
 {
     let after = change.after;
     if sweep != after.frame().sweeps {

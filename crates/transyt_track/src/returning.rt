@@ -42,7 +42,8 @@ fn copy_pair(net: &Net, sweep: u32, link: usize, from: &Rows, kept: &mut KeptRow
     requires closed { kept.old.marked ≡ None }
     requires sweep { sweep ≤ net.now.frame.sweeps }
     requires link { link < length net.now.links }
-    ensures value { kept.new ≡ unmarked (placed kept.old.now sweep link (pair_in from.now sweep link)) }
+    ensures value { kept.new ≡ unmarked
+        (placed kept.old.now sweep link (pair_in from.now sweep link)) }
     ensures rows { AreRows kept.old.now }
 {
     kept.rows().index();

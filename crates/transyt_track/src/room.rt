@@ -47,9 +47,11 @@ impl Room {
     pub(crate) fn open(alloc: Global, net: &Net) -> Result<Room, AllocError>
         ensures places { IfOk result (λ room. room.places.items ≡ all_places net.now) }
         ensures readers { IfOk result (λ room. AreReaders net.now room.readers.items) }
-        ensures own_count { IfOk result (λ room. length room.own_changed.items ≡ length net.now.links) }
+        ensures own_count { IfOk result
+            (λ room. length room.own_changed.items ≡ length net.now.links) }
         ensures count { IfOk result (λ room. length room.awaited.items ≡ length net.now.links) }
-        ensures steps { IfOk result (λ room. length room.scratch.arrivals ≡ net.now.frame.step_count) }
+        ensures steps { IfOk result
+            (λ room. length room.scratch.arrivals ≡ net.now.frame.step_count) }
     {
         let read = read(alloc, net)?;
         let flags = flags(alloc, net)?;

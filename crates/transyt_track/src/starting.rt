@@ -34,7 +34,8 @@ fn any_changed(changed: &[bool], places: &[usize]) -> bool
 fn flag_nodes(before: &Net, after: &Net, node_changed: &mut [bool])
     requires nodes { length before.now.nodes ≡ length after.now.nodes }
     requires room { length after.now.nodes ≤ length node_changed.old }
-    ensures { AreDownWhere (HaveNode before.now after.now) (length after.now.nodes) node_changed.new }
+    ensures { AreDownWhere (HaveNode before.now after.now) (length after.now.nodes)
+        node_changed.new }
 {
     let old = before.nodes();
     let new = after.nodes();
@@ -49,8 +50,10 @@ fn start_link(change: &Change<'_>, link: usize, moves: bool, front: &mut Front)
     requires link { link < length change.now.after.now.links }
     requires moves { moves ≡ differs change.now.before.now change.now.after.now 0 link }
     requires some { 1 ≤ change.now.after.now.frame.sweeps }
-    requires starting { AreStarting change.now.before.now change.now.after.now link front.old.kept.now front.old.awaited.items }
-    ensures starting { AreStarting change.now.before.now change.now.after.now (link + 1) front.new.kept.now
+    requires starting { AreStarting change.now.before.now change.now.after.now link
+        front.old.kept.now front.old.awaited.items }
+    ensures starting { AreStarting change.now.before.now change.now.after.now (link + 1)
+        front.new.kept.now
         front.new.awaited.items }
     ensures marked { front.new.kept.marked ≡ front.old.kept.marked }
     ensures own_changed { front.new.own_changed ≡ front.old.own_changed }
@@ -69,11 +72,13 @@ fn start_links(change: &Change<'_>, front: &mut Front)
     requires change { IsChange change.now }
     requires rows { AreEvaluation change.now.before.now front.old.kept.now }
     requires room { HasRoom change.now.after.now front.old }
-    ensures starting { AreStarting change.now.before.now change.now.after.now (length change.now.after.now.links)
+    ensures starting { AreStarting change.now.before.now change.now.after.now
+        (length change.now.after.now.links)
         front.new.kept.now front.new.awaited.items }
     ensures totals { AreFlags (total_differs change.now.before.now change.now.after.now)
         (length change.now.after.now.links) front.new.awaited.items }
-    ensures down { AreDownWhere (HaveData change.now.before.now change.now.after.now) (length change.now.after.now.links)
+    ensures down { AreDownWhere (HaveData change.now.before.now change.now.after.now)
+        (length change.now.after.now.links)
         front.new.own_changed.items }
     ensures room { HasRoom change.now.after.now front.new }
     ensures marked { front.new.kept.marked ≡ front.old.kept.marked }
@@ -123,10 +128,13 @@ fn flag_own(
 )
     requires shape { SameShape before.now after.now }
     requires places { ArePlaces before.now places.now }
-    requires totals { AreFlags (total_differs before.now after.now) (length after.now.links) total_changed.now }
+    requires totals { AreFlags (total_differs before.now after.now) (length after.now.links)
+        total_changed.now }
     requires count { length own_changed.old.items ≡ length after.now.links }
-    requires down { AreDownWhere (HaveData before.now after.now) (length after.now.links) own_changed.old.items }
-    ensures { AreFlags (own_differs before.now after.now) (length after.now.links) own_changed.new.items }
+    requires down { AreDownWhere (HaveData before.now after.now) (length after.now.links)
+        own_changed.old.items }
+    ensures { AreFlags (own_differs before.now after.now) (length after.now.links)
+        own_changed.new.items }
 {
     let any = any_up(total_changed);
     for link in 0..after.links().len() {
@@ -168,9 +176,12 @@ fn await_first(
 )
     requires shape { SameShape before.now after.now }
     requires places { ArePlaces before.now places.now }
-    requires own_changed { AreFlags (own_differs before.now after.now) (length after.now.links) own_changed.now }
-    requires started { AreFlags (differs before.now after.now 0) (length after.now.links) awaited.old.items }
-    ensures { AreFlags (awaits before.now after.now 1 0) (length after.now.links) awaited.new.items }
+    requires own_changed { AreFlags (own_differs before.now after.now) (length after.now.links)
+        own_changed.now }
+    requires started { AreFlags (differs before.now after.now 0) (length after.now.links)
+        awaited.old.items }
+    ensures { AreFlags (awaits before.now after.now 1 0) (length after.now.links)
+        awaited.new.items }
 {
     for link in 0..after.links().len() {
         let at = &places[link];
@@ -186,7 +197,8 @@ fn flag_node(before: &Net, after: &Net, node: usize, places: &[Places], own_chan
     requires places { ArePlaces before.now places.now }
     requires node { DifferAt node before.now after.now }
     requires count { length own_changed.old.items ≡ length after.now.links }
-    ensures { AreFlags (own_differs before.now after.now) (length after.now.links) own_changed.new.items }
+    ensures { AreFlags (own_differs before.now after.now) (length after.now.links)
+        own_changed.new.items }
 {
     let changed = !same_times(&before.nodes()[node], &after.nodes()[node]);
     for link in 0..after.links().len() {

@@ -62,8 +62,10 @@ impl Tracker {
         steps: &mut Steps<L>,
     ) -> Result<Tracker, AllocError>
         ensures value { IfOk result (λ tracker. tracker ≡ unmarked net.now) }
-        ensures ok { OnOk result (steps.new ≡ steps.old + net.now.frame.sweeps * length net.now.links) }
-        ensures err { OnErr result (steps.new ≤ steps.old + net.now.frame.sweeps * length net.now.links) }
+        ensures ok { OnOk result (steps.new
+            ≡ steps.old + net.now.frame.sweeps * length net.now.links) }
+        ensures err { OnErr result
+            (steps.new ≤ steps.old + net.now.frame.sweeps * length net.now.links) }
     {
         let rows = full(alloc, net, steps)?;
         let kept = KeptRows::open(alloc, rows)?;
@@ -265,7 +267,8 @@ impl Tracker {
         requires shape { SameShape self.old.net after.now }
         requires allowed { edit_fault self.old.net e ≡ None }
         requires after { after.now ≡ with_edit self.old.net e }
-        ensures net { self.new.net ≡ (if nat_lt (index after.now) bound then after.now else self.old.net) }
+        ensures net { self.new.net
+            ≡ (if nat_lt (index after.now) bound then after.now else self.old.net) }
         ensures mark { self.new.mark ≡ None }
         ensures index { result.index ≡ index after.now }
         ensures due { result.due ≡ due self.old.net after.now }

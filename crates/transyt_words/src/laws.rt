@@ -33,13 +33,18 @@ ghost use Rattle.transyt_words.specs.declared.table.Numbered.TheVariants.{Cycles
 #[tactic(auto, using(crate::proofs::Worked::texts, crate::proofs::Worked::refused_report, crate::proofs::Worked::all_steps, crate::proofs::Worked::one_step_more))]
 pub fn worked_texts()
     ensures texts { map (λ row. lines_text row.0) worked_lines ≡ map (λ row. row.1) worked_lines }
-    ensures open { (of_whole (λ input. refusal (refused_card 7 Code.Unknown ∷ []))).ends (9 ∷ []) ≡ None }
-    ensures report { (of_whole (λ input. refusal (refused_card 7 Code.Unknown ∷ []))).report (9 ∷ [])
+    ensures open { (of_whole (λ input. refusal (refused_card 7 Code.Unknown ∷ []))).ends (9 ∷ [])
+        ≡ None }
+    ensures report { (of_whole (λ input. refusal (refused_card 7 Code.Unknown ∷ []))).report
+        (9 ∷ [])
         ≡ codes "CARD 7 REFUSED 17" ++ 10 ∷ [] }
-    ensures refused { (of_whole (λ input. refusal (refused_card 7 Code.Unknown ∷ []))).refused (9 ∷ [])
+    ensures refused { (of_whole (λ input. refusal (refused_card 7 Code.Unknown ∷ []))).refused
+        (9 ∷ [])
         ≡ true }
-    ensures steps { StepsWithin (λ bytes. 8 * length bytes) (Some (5 ∷ 7 ∷ 9 ∷ [])) (Some (9 ∷ [])) 40 56 }
-    ensures no_more_steps { ¬ StepsWithin (λ bytes. 8 * length bytes) (Some (5 ∷ 7 ∷ 9 ∷ [])) (Some (9 ∷ [])) 40 57 }
+    ensures steps { StepsWithin (λ bytes. 8 * length bytes) (Some (5 ∷ 7 ∷ 9 ∷ []))
+        (Some (9 ∷ [])) 40 56 }
+    ensures no_more_steps { ¬ StepsWithin (λ bytes. 8 * length bytes) (Some (5 ∷ 7 ∷ 9 ∷ []))
+        (Some (9 ∷ [])) 40 57 }
 {}
 
 /// Of an answer of two lines each status says what is written beside the definitions, and not what is written there
@@ -47,8 +52,10 @@ pub fn worked_texts()
 #[tactic(auto, using(crate::proofs::Worked::rows_told, crate::proofs::Worked::rows_untold, crate::proofs::Worked::told, crate::proofs::Worked::told_over))]
 pub fn worked_told()
     ensures rows { Each (λ row. TextRow (answer_text row.0) row.0.refused row.1 row.2) told_rows }
-    ensures no_rows { Each (λ row. ¬ TextRow (answer_text row.0) row.0.refused row.1 row.2) untold_rows }
-    ensures told { Told (done two_lines) (Some (codes "x")) (Some (codes "x" ++ both_texts)) Status.Done }
+    ensures no_rows { Each (λ row. ¬ TextRow (answer_text row.0) row.0.refused row.1 row.2)
+        untold_rows }
+    ensures told { Told (done two_lines) (Some (codes "x")) (Some (codes "x" ++ both_texts))
+        Status.Done }
     ensures told_over { ¬ Told (done two_lines) (Some (codes "x")) (Some both_texts) Status.Done }
     ensures silent { Each IsSilent (Status.ReadFault ∷ Status.TooLong ∷ Status.NoMemory ∷ []) }
     ensures not_silent { Each (λ status. ¬ IsSilent status)
@@ -57,10 +64,13 @@ pub fn worked_told()
 
 /// The worked answers come out as they are written beside the definitions.
 pub fn worked_answers()
-    ensures counts { map (λ row. answer_of_counts row.0) worked_tables ≡ map (λ row. row.1) worked_tables }
+    ensures counts { map (λ row. answer_of_counts row.0) worked_tables
+        ≡ map (λ row. row.1) worked_tables }
     ensures balance { equisat_answer worked_town 17 (5 ∷ []) ≡ done balance_lines }
-    ensures yes { audit_line (Verdict.Yes 24 1352922) ≡ line_of (codes "AUDIT YES # INDEX #") (24 ∷ 1352922 ∷ []) }
-    ensures no { audit_line (Verdict.No 31 Code.OtherLine) ≡ line_of (codes "AUDIT NO # #") (31 ∷ 28 ∷ []) }
+    ensures yes { audit_line (Verdict.Yes 24 1352922)
+        ≡ line_of (codes "AUDIT YES # INDEX #") (24 ∷ 1352922 ∷ []) }
+    ensures no { audit_line (Verdict.No 31 Code.OtherLine)
+        ≡ line_of (codes "AUDIT NO # #") (31 ∷ 28 ∷ []) }
     ensures audit_steps { audit_most town 17 (5 ∷ []) ≡ 387 }
     ensures scan { table_lines three_rows ≡ scan_lines }
     ensures scan_answer { scan_answer from_44 idle 17 (5 ∷ []) ≡ done idle_lines }
@@ -76,7 +86,8 @@ pub fn worked_answers()
 pub fn worked_asked()
     ensures within { map (λ a. starts_of a.0 a.1 a.2) starts_in_range
         ≡ map (λ a. Some (record { workers = a.0; seed = a.1; count = a.2 })) starts_in_range }
-    ensures beyond { map (λ a. starts_of a.0 a.1 a.2) starts_out_of_range ≡ map (λ _. None) starts_out_of_range }
+    ensures beyond { map (λ a. starts_of a.0 a.1 a.2) starts_out_of_range
+        ≡ map (λ _. None) starts_out_of_range }
 {}
 
 /// Worked answers of `starts` and `cycles`: of starts that are equal the first is the best; cycle times of each kind; cycle
@@ -85,6 +96,8 @@ pub fn worked_table()
     ensures starts { plans_answer Starts (starts 5 3) idle ≡ with_deck three_starts (Some idle) }
     ensures cycles { plans_answer Cycles (cycles (times_of 60 66 3)) unlinked
         ≡ with_deck three_cycles (Some unlinked_at_66) }
-    ensures none { plans_answer Cycles (cycles (times_of 57 63 3)) unlinked ≡ with_deck no_cycles None }
-    ensures end { plans_answer Cycles two_plans unlinked ≡ with_deck two_plan_lines (Some (junction 0)) }
+    ensures none { plans_answer Cycles (cycles (times_of 57 63 3)) unlinked
+        ≡ with_deck no_cycles None }
+    ensures end { plans_answer Cycles two_plans unlinked
+        ≡ with_deck two_plan_lines (Some (junction 0)) }
 {}

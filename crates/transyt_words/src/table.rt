@@ -135,7 +135,8 @@ pub(crate) fn answer_net<R: Threads + Sync, W: TableWord>(
     net: &Net,
 ) -> Result<Answer, AllocError>
     requires { W.fits asked.now }
-    ensures answer { IfOk result (λ found. found ≡ plans_answer (W.kind asked.now) (W.list asked.now) net.now) }
+    ensures answer { IfOk result
+        (λ found. found ≡ plans_answer (W.kind asked.now) (W.list asked.now) net.now) }
     ensures reads_back { IfOk result ReadsBack }
 {
     let alloc = host.alloc;

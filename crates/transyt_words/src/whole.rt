@@ -69,8 +69,10 @@ pub fn answer_whole<R: Threads + Sync, W: DeckWord, S: Source, K: Sink, L: Ledge
         (K.written sink.old) (K.written sink.new) result }
     ensures source_later { S.faults source.old ≤ S.faults source.new }
     ensures sink_later { K.faults sink.old ≤ K.faults sink.new }
-    ensures read_fault { result ≡ Status.ReadFault → Rose (S.faults source.old) (S.faults source.new) }
-    ensures write_fault { result ≡ Status.WriteFault → Rose (K.faults sink.old) (K.faults sink.new) }
+    ensures read_fault { result ≡ Status.ReadFault
+        → Rose (S.faults source.old) (S.faults source.new) }
+    ensures write_fault { result ≡ Status.WriteFault
+        → Rose (K.faults sink.old) (K.faults sink.new) }
     // the sink isn't touched before the input is judged
     ensures silent { IsSilent result → sink.new ≡ sink.old }
     ensures steps { StepsWithin (most_after (W.most word.now))

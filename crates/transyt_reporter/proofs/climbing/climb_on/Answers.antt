@@ -4,7 +4,7 @@ use Rattle.transyt_net.specs.Parts.{Network}
 use Rattle.transyt_session.specs.Session.{SessionValue}
 use Rattle.transyt_climb.specs.Turns.{Counters}
 use Rattle.transyt_desks.specs.Desks.{desk_zero}
-use Rattle.transyt_answers.specs.Commands.{budget_of}
+use Rattle.transyt_line_answers.specs.Commands.{budget_of}
 use Rattle.transyt_reporter.proofs.LeavesLaws.{climb_leaves}
 use Rattle.transyt_reporter.proofs.climbing.climb_on.Goals as goal
 

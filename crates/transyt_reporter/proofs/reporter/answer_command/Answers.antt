@@ -1,7 +1,7 @@
 -- A command is judged, and then said.
 use Rattle.std.proofs.Common.{sym, ◌∙◌, ap, subst, set}
 use Rattle.transyt_session.specs.Session.{SessionValue}
-use Rattle.transyt_answers.specs.Commands.{line_judged}
+use Rattle.transyt_line_answers.specs.Commands.{line_judged}
 use Rattle.transyt_reporter.specs.Conditions.{AreReady}
 use Rattle.transyt_reporter.proofs.ReadyLaws.{ready_judged}
 use Rattle.transyt_reporter.proofs.JudgedLaws.{text_is, after_is}

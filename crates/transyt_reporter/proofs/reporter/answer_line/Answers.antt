@@ -5,7 +5,7 @@ use Rattle.transyt_outcome.specs.declared.ending.Ending.{Ending}
 use Rattle.transyt_session.specs.Session.{SessionValue}
 use Rattle.transyt_desks.specs.Desks.{desk_zero}
 use Rattle.transyt_deck.specs.Deck.{next}
-use Rattle.transyt_answers.specs.Report.{RunState, line_text, line_ends, deck_ends}
+use Rattle.transyt_line_answers.specs.Report.{RunState, line_text, line_ends, deck_ends}
 use Rattle.transyt_reporter.specs.Reporter.{ReporterValue, HasAnswered, AreKept}
 use Rattle.transyt_reporter.proofs.Answered.{told_whole, answered_command, answered_card, answered_nothing}
 use Rattle.transyt_reporter.proofs.Answered.{session_is, deck_is, command_cost}

@@ -3,7 +3,7 @@ use Rattle.std.proofs.Common.{◌≡◌, ℕ, ◌+◌, ◌≤◌, List, refl, sy
 use Rattle.std.proofs.lemmas.Result.{IfOk-weaker, on_ok_weaker, on_err_weaker}
 use Rattle.transyt_session.specs.Session.{SessionValue, opened}
 use Rattle.transyt_desks.specs.Desks.{desk_zero, opened_desks}
-use Rattle.transyt_answers.specs.Report.{InSession, run_of, deck_steps}
+use Rattle.transyt_line_answers.specs.Report.{InSession, run_of, deck_steps}
 use Rattle.transyt_reporter.specs.Reporter.{AreKept}
 use Rattle.transyt_reporter.proofs.OpenedLaws.{opened_is, opened_kept}
 use Rattle.transyt_reporter.proofs.reporter.open_desks.Goals as goal

@@ -1,7 +1,7 @@
 -- Each turn goes on, or ends the run, by what its call of `next` reads and by what was answered.
 use Rattle.std.proofs.Common.{[], Err, ap, ◌∙◌, sym, subst, refl, rules}
 use Rattle.std.proofs.lemmas.Bool.{eqb-true}
-use Rattle.transyt_answers.specs.Report.{deck_answering}
+use Rattle.transyt_line_answers.specs.Report.{deck_answering}
 use Rattle.transyt_reporter.specs.Reporter.{HasAnswered, ReporterValue}
 use Rattle.transyt_reporter.proofs.Answered.{answered_none}
 use Rattle.transyt_outcome.proofs.RunLaws.{run_new, goes_on, line_ends, line_stops, end_closes, end_stops}

@@ -1,7 +1,7 @@
 -- How far the run has come, and that no count fell.
 use Rattle.std.proofs.Common.{◌≡◌, ◌≤◌, nat_eq}
 use Rattle.transyt_io.specs.Reading.{most_lines_left}
-use Rattle.transyt_answers.specs.Report.{deck_answering}
+use Rattle.transyt_line_answers.specs.Report.{deck_answering}
 use Rattle.transyt_reporter.specs.Reporter.{HasAnswered}
 use Rattle.transyt_outcome.specs.RunSoFar.{RunSoFar}
 use Rattle.transyt_reporter.proofs.running.run.Given as goal

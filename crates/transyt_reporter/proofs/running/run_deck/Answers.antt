@@ -2,7 +2,7 @@
 use Rattle.std.proofs.Common.{ℕ, List, Option, nat_eq, inl, arith, [], refl, ap, sym, subst, ◌∙◌}
 use Rattle.transyt_io.proofs.Told.{takes_nothing, adds_nothing}
 use Rattle.transyt_outcome.specs.Outcome.{Outcome}
-use Rattle.transyt_answers.specs.Report.{reporting_run}
+use Rattle.transyt_line_answers.specs.Report.{reporting_run}
 use Rattle.transyt_reporter.specs.Reporter.{ReporterValue}
 use Rattle.transyt_reporter.proofs.running.run_deck.Goals as goal
 

@@ -2,7 +2,7 @@
 use Rattle.std.proofs.Common.{ap}
 use Rattle.transyt_session.specs.Session.{SessionValue}
 use Rattle.transyt_text.proofs.PrintLaws.{prints_same}
-use Rattle.transyt_answers.specs.Commands.{answer_text}
+use Rattle.transyt_line_answers.specs.Commands.{answer_text}
 use Rattle.transyt_reporter.proofs.LeavesLaws.{told_by, told_leaves}
 use Rattle.transyt_reporter.proofs.writing.say.Goals as goal
 

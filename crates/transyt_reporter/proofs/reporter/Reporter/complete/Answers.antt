@@ -1,7 +1,7 @@
 -- Without memory nothing was written.
 use Rattle.std.proofs.Common.{◌≤◌, ◌+◌, arith}
 use Rattle.std.proofs.lemmas.Grind.{common_steps}
-use Rattle.transyt_answers.specs.Report.{deck_steps}
+use Rattle.transyt_line_answers.specs.Report.{deck_steps}
 use Rattle.transyt_reporter.proofs.CardLaws.{no_memory}
 use Rattle.transyt_reporter.proofs.reporter.Reporter.complete.Goals as goal
 
