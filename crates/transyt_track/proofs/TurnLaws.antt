@@ -1,7 +1,7 @@
--- A link that is worked out: its turn, and its GO at the last sweep, which stays where its own data do and it gives way to
--- no other link.
+-- A link that is worked out: its turn, and its GO at the last sweep, which stays where its own data do and it gives way
+-- to no other link.
 use Rattle.std.proofs.Common.{◌≡◌, ℕ, ◌+◌, ◌<◌, ◌≤◌, Bool, false, not, ◌||◌, ◌&&◌, List, [], length, Option, Some, None}
-use Rattle.std.proofs.Common.{refl, ap, sym, subst, ◌∙◌, arith, nat_eq, if◌then◌else◌}
+use Rattle.std.proofs.Common.{refl, ap, sym, ◌∙◌, arith, nat_eq, if◌then◌else◌}
 use Rattle.std.specs.Prelude.{slice_index_or}
 use Rattle.std.specs.Str.{bytes_eq}
 use Rattle.std.specs.List.{list_any}

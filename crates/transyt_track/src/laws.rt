@@ -18,8 +18,8 @@ pub fn rule_of_due()
 {}
 
 /// The worked networks have the work that is written there: edits of each kind, places that a climb looks at, the
-/// certificate of all moves, and an edit that goes round a loop until a link's departures stay the same. A link is due for
-/// one of two that it reads.
+/// certificate of all moves, and an edit that goes round a loop until a link's departures stay the same. A link is due
+/// for one of two that it reads.
 #[tactic(auto, using(crate::proofs::WorkedLaws::edits, crate::proofs::WorkedLaws::looks, crate::proofs::WorkedLaws::certificate, crate::proofs::WorkedLaws::due_by_one, crate::proofs::WorkedLaws::loop_work))]
 pub fn worked_work()
     ensures edits { map (λ row. edit_work junctions row.0) worked_edits

@@ -26,7 +26,8 @@ const ROW: usize = PROFILE + size_of::<Vec<u64>>();
 const SHOWN: usize = LINKS * (3 * ROW + size_of::<Figures>());
 // the departures of each link at each sweep, in one piece of memory, and the rest of the last
 const ROWS: usize = PAIRS * PROFILE + SHOWN;
-// the flags of saved rows: one for the departures of each pair, and for each link one for its arrivals and one for its GO
+// the flags of saved rows: one for the departures of each pair, and for each link one for its arrivals and one for its
+// GO
 const FLAGS: usize = (PAIRS + 2 * LINKS) * size_of::<bool>();
 // the saved rows, in which departures take half the memory, and their flags
 const SAVED: usize = PAIRS * STEPS * size_of::<u32>() + SHOWN + FLAGS;

@@ -66,8 +66,8 @@ fn start_link(change: &Change<'_>, link: usize, moves: bool, front: &mut Front)
     }
 }
 
-/// Flags the links whose own data differ, the total flows of their feeders apart, and starts those anew whose departures
-/// before the first sweep differ: their other flag goes up.
+/// Flags the links whose own data differ, the total flows of their feeders apart, and starts those anew whose
+/// departures before the first sweep differ: their other flag goes up.
 fn start_links(change: &Change<'_>, front: &mut Front)
     requires change { IsChange change.now }
     requires rows { AreEvaluation change.now.before.now front.old.kept.now }

@@ -30,8 +30,8 @@ use transyt_sweep::full;
 
 /// The evaluation of a network, which follows its edits, and can go back to a mark.
 ///
-/// Links and sweeps are numbered as in the network: links in card order from 0, sweeps from 1, and sweep 0 is the start,
-/// at which the total flow of each link leaves it. A profile has one value for each step of the cycle.
+/// Links and sweeps are numbered as in the network: links in card order from 0, sweeps from 1, and sweep 0 is the
+/// start, at which the total flow of each link leaves it. A profile has one value for each step of the cycle.
 #[derive(Drop)]
 pub struct Tracker {
     net: Net,
@@ -226,8 +226,8 @@ impl Tracker {
 
     /// Follows an allowed edit: stands for `after`, the network with it made, and returns how many pairs were due.
     ///
-    /// As `follow`, but it copies no more of the network than the edit sets, and compares no links where the edit leaves
-    /// them.
+    /// As `follow`, but it copies no more of the network than the edit sets, and compares no links where the edit
+    /// leaves them.
     #[tactic(auto, using(crate::proofs::DueBounds::due_most))]
     pub fn follow_edit<L: Ledger>(&mut self, after: &Net, e: Edit, steps: &mut Steps<L>) -> u64
         requires shape { SameShape self.old.net after.now }
@@ -254,7 +254,8 @@ impl Tracker {
     /// Follows an allowed edit to `after`, the network with it made, where the index is below a bound then, and else
     /// stays as it was. Returns the index there, and how many pairs were due.
     ///
-    /// Each pair that is due is worked out once, in one step, and no other is. No network is copied. It takes no memory.
+    /// Each pair that is due is worked out once, in one step, and no other is. No network is copied. It takes no
+    /// memory.
     #[tactic(auto, using(crate::proofs::DueBounds::due_most))]
     pub fn follow_below<L: Ledger>(
         &mut self,
@@ -339,8 +340,8 @@ fn make(net: &mut Net, e: Edit)
     let _ = net.apply(e);
 }
 
-/// The rows of an evaluation of `after`, which is a network with an allowed edit made, are kept, and the edit is made in
-/// the network itself, or the rows go back to those of the mark. The mark is gone.
+/// The rows of an evaluation of `after`, which is a network with an allowed edit made, are kept, and the edit is made
+/// in the network itself, or the rows go back to those of the mark. The mark is gone.
 fn settle_on(net: &mut Net, after: &Net, e: Edit, keeps: bool, kept: &mut KeptRows)
     requires shape { SameShape net.old after.now }
     requires allowed { edit_fault net.old e ≡ None }
