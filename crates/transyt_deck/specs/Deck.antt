@@ -10,7 +10,7 @@ use Rattle.transyt_io.specs.Lines.{lines, after_first_line}
 use Rattle.transyt_deck.specs.declared.cut.Cut.{Cut}
 use Rattle.transyt_deck.specs.declared.state.Part.TheVariants as p
 use Rattle.transyt_deck.specs.declared.state.State.TheVariants as s
-use Rattle.transyt_syntax.specs.declared.code.Code.TheVariants as code
+use Rattle.transyt_syntax.specs.declared.code.Code.TheVariants as codes
 pub use Rattle.transyt_deck.specs.declared.reader.CardStop.{CardStop}
 use Rattle.transyt_deck.specs.declared.reader.CardStop.TheVariants as stop
 use Rattle.transyt_deck.specs.declared.reader.Progress.TheVariants as progress
@@ -101,7 +101,7 @@ may_finish reader = reader.live || is_complete reader.deck
 abbrev pub finished : Deck → Result Network CardStop
 finished (Complete number net) = Ok net
 finished (Refused number code) = Err (stop.Refused number code)
-finished (Open count state) = Err (stop.Refused (count + 1) code.NoEnd)
+finished (Open count state) = Err (stop.Refused (count + 1) codes.NoEnd)
 
 -- the bytes after so many lines
 abbrev pub after_lines : ℕ → List ℕ → List ℕ
