@@ -11,7 +11,7 @@ use transyt_session::Session;
 use transyt_text::{Parts, print_form, print_parts};
 
 /// Writes the line of a link.
-#[tactic(auto, unfolding(crate::specs::FiguresText::link_figures_line))]
+#[tactic(auto, unfolding(crate::specs::Measures::link_figures_line))]
 fn print_link_figures<K: Sink>(
     figures: LinkFigures,
     line: &mut LineBuffer,
@@ -59,7 +59,7 @@ impl Parts for FiguresLines<'_> {
 }
 
 /// Writes the last line.
-#[tactic(auto, unfolding(crate::specs::FiguresText::total_line))]
+#[tactic(auto, unfolding(crate::specs::Measures::total_line))]
 fn print_total<K: Sink>(
     figures: NetworkFigures,
     line: &mut LineBuffer,
