@@ -11,7 +11,7 @@ use Rattle.transyt_io.specs.declared.reader.Line.TheVariants.{Text, End}
 use Rattle.transyt_io.specs.declared.reader.ReadStop.TheVariants.{Fault, TooLong}
 use Rattle.transyt_io.specs.declared.reader.Pull.{Pull}
 use Rattle.transyt_io.specs.declared.reader.ReadStop.{ReadStop}
-use Rattle.transyt_io.specs.Lines.{line_of, lines_by, lines, whole, has_end}
+use Rattle.transyt_io.specs.Lines.{line_of, lines_by, lines, whole}
 use Rattle.transyt_io.specs.Pull.{Gathers, Gathered, Pulled, PulledAll, PulledLine}
 use Rattle.transyt_io.specs.Reading.{Reading, HasRead, ReadsLine, most_lines_left}
 use Rattle.transyt_io.proofs.Told.{takes_nothing}
@@ -49,12 +49,6 @@ module _ (old : Reading) (taken at upto : ℕ) (block : List ℕ) (ended live : 
         first = subst (λ (xs : List ℕ). Gathers line xs) held (gathered [] (record { first = refl; open_yet = refl }));
         had = ap (λ (r : Reading). r.taken) view;
       }
-
-  -- such a one holds no line end, and its source has not ended
-  pub not_due : {A : Type 0} (seen line : List ℕ) → ended ≡ false → seen ≡ block
-      → Gathered [] line (between at upto seen) None → (has_end old.held ≡ true) ⊎ (old.ended ≡ true) → A
-  not_due seen line going same gathered (inl e) = not_both e (begun seen line going same gathered).first.open_yet
-  not_due seen line going same gathered (inr e) = not_both e (begun seen line going same gathered).going
 
   -- one that has ended holds nothing, and all its lines were handed out
   pub reads_over : (new : Reading) (left : Option (List ℕ)) (last : Option ℕ) → ended ≡ true
