@@ -177,7 +177,8 @@ module _ (old new : Reading) (line line_new block : List ℕ) (taken taken_new :
       }
 
   -- the source ended after a last line, and fewer may come
-  pub reads_pulled_last : (live : Bool) (closed : List ℕ) → Pulled line line_new block taken taken_new left left_new last_new (Ok None)
+  pub reads_pulled_last : (live : Bool) (closed : List ℕ)
+      → Pulled line line_new block taken taken_new left left_new last_new (Ok None)
       → nat_lt 0 (length line_new) ≡ true → taken_new ≤ 4194304 → closed ≡ line_of line_new
       → new ≡ read_as taken_new 0 0 [] true live (Some closed)
       → ReadsLine old new left left_new last last_new (Ok Text) × (most_lines_left new < most_lines_left old)
@@ -189,7 +190,8 @@ module _ (old new : Reading) (line line_new block : List ℕ) (taken taken_new :
       let filled : all ≢ [] = λ e. some_list line_new some (g.gathers.first ∙ ap (take 4098) e) in
       let empty : new.held ≡ [] = ap (λ (r : Reading). r.held) now in
       let total : new.taken ≡ taken_new = ap (λ (r : Reading). r.taken) now in
-      let long : length all ≡ length old.held + length (p.front ++ p.back) = length-append old.held (p.front ++ p.back) in
+      let long : length all ≡ length old.held + length (p.front ++ p.back) =
+      length-append old.held (p.front ++ p.back) in
       let positive : 0 < length all = some_length all filled in (
         reads_last old new left left_new last last_new p.front p.back b.going p.takes (pulled_reads (Ok None) p)
             (ap (λ (r : Reading). r.ended) now) empty (ap (λ (r : Reading). r.line) now ∙ ap Some line_is)

@@ -31,7 +31,8 @@ pub loop-rest-preserved : goal.loop-rest-preserved
 loop-rest-preserved c =
     let at = c.loop-rest in
     let step = decimal_step_wide at.rest c.loop-rest-test.true (omega (arith, at.auto.rest-fits)) in
-    let more = put_digit c.args.v at.rest at.start _ _ at.digits step at.invariant.text at.invariant.room (omega arith) in
+    let more =
+    put_digit c.args.v at.rest at.start _ _ at.digits step at.invariant.text at.invariant.room (omega arith) in
     grind (arith, common_steps, more)
 
 -- the first digit has its place
