@@ -1,6 +1,8 @@
 -- A piece that a read put into the front of a block.
-use Rattle.std.proofs.Common.{◌≡◌, ℕ, ◌+◌, ◌≤◌, ◌++◌, List, length, take, arith}
+use Rattle.std.proofs.Common.{◌≡◌, ℕ, ◌+◌, ◌≤◌, ◌++◌, List, [], Option, None, Some, false, length, take, refl, arith}
 use Rattle.std.proofs.lemmas.List.{length-take-le, take-append-le, length-append}
+use Rattle.transyt_io.specs.Lines.{has_end}
+use Rattle.transyt_io.specs.Pull.{Gathered}
 
 -- the first n bytes of buf, which stands before rest in a block; the bytes of front were taken before them
 pub record Piece (buf rest front : List ℕ) (n want : ℕ) : Type 0 where
@@ -26,3 +28,9 @@ piece_read block buf rest front n want size within bound =
       long = long;
       both = omega arith;
     }
+
+-- a piece in which the line that it begins does not end has no line end
+pub open_piece : (line piece : List ℕ) (result : Option ℕ) → Gathered [] line piece result → result ≡ None
+    → has_end piece ≡ false
+open_piece line piece None gathered none = (gathered [] (record { first = refl; open_yet = refl })).open_yet
+open_piece line piece (Some n) gathered none = absurd cc

@@ -11,7 +11,7 @@ use Rattle.transyt_io.specs.declared.reader.Line.TheVariants.{Text, End}
 use Rattle.transyt_io.specs.declared.reader.ReadStop.TheVariants.{Fault, TooLong}
 use Rattle.transyt_io.specs.declared.reader.Pull.{Pull}
 use Rattle.transyt_io.specs.declared.reader.ReadStop.{ReadStop}
-use Rattle.transyt_io.specs.Lines.{line_of, lines_by, lines, whole, has_end}
+use Rattle.transyt_io.specs.Lines.{line_of, lines_by, lines, whole}
 use Rattle.transyt_io.specs.Pull.{Gathers, Gathered, Pulled, PulledAll, PulledLine}
 use Rattle.transyt_io.specs.Reading.{Reading, HasRead, ReadsLine, most_lines_left}
 use Rattle.transyt_io.proofs.Told.{takes_nothing}
@@ -49,12 +49,6 @@ module _ (old : Reading) (taken at upto : ℕ) (block : List ℕ) (ended live : 
         first = subst (λ (xs : List ℕ). Gathers line xs) held (gathered [] (record { first = refl; open_yet = refl }));
         had = ap (λ (r : Reading). r.taken) view;
       }
-
-  -- such a one holds no line end, and its source has not ended
-  pub not_due : {A : Type 0} (seen line : List ℕ) → ended ≡ false → seen ≡ block
-      → Gathered [] line (between at upto seen) None → (has_end old.held ≡ true) ⊎ (old.ended ≡ true) → A
-  not_due seen line going same gathered (inl e) = not_both e (begun seen line going same gathered).first.open_yet
-  not_due seen line going same gathered (inr e) = not_both e (begun seen line going same gathered).going
 
   -- one that has ended holds nothing, and all its lines were handed out
   pub reads_over : (new : Reading) (left : Option (List ℕ)) (last : Option ℕ) → ended ≡ true
@@ -183,7 +177,8 @@ module _ (old new : Reading) (line line_new block : List ℕ) (taken taken_new :
       }
 
   -- the source ended after a last line, and fewer may come
-  pub reads_pulled_last : (live : Bool) (closed : List ℕ) → Pulled line line_new block taken taken_new left left_new last_new (Ok None)
+  pub reads_pulled_last : (live : Bool) (closed : List ℕ)
+      → Pulled line line_new block taken taken_new left left_new last_new (Ok None)
       → nat_lt 0 (length line_new) ≡ true → taken_new ≤ 4194304 → closed ≡ line_of line_new
       → new ≡ read_as taken_new 0 0 [] true live (Some closed)
       → ReadsLine old new left left_new last last_new (Ok Text) × (most_lines_left new < most_lines_left old)
@@ -195,7 +190,8 @@ module _ (old new : Reading) (line line_new block : List ℕ) (taken taken_new :
       let filled : all ≢ [] = λ e. some_list line_new some (g.gathers.first ∙ ap (take 4098) e) in
       let empty : new.held ≡ [] = ap (λ (r : Reading). r.held) now in
       let total : new.taken ≡ taken_new = ap (λ (r : Reading). r.taken) now in
-      let long : length all ≡ length old.held + length (p.front ++ p.back) = length-append old.held (p.front ++ p.back) in
+      let long : length all ≡ length old.held + length (p.front ++ p.back) =
+      length-append old.held (p.front ++ p.back) in
       let positive : 0 < length all = some_length all filled in (
         reads_last old new left left_new last last_new p.front p.back b.going p.takes (pulled_reads (Ok None) p)
             (ap (λ (r : Reading). r.ended) now) empty (ap (λ (r : Reading). r.line) now ∙ ap Some line_is)

@@ -7,6 +7,8 @@ ghost use Rattle.std.specs.Prelude.{
   ◌≤◌,
   ◌++◌,
   [],
+  false,
+  None,
   nat_lt,
   slice_index,
   length,
@@ -14,7 +16,7 @@ ghost use Rattle.std.specs.Prelude.{
   vec_capacity,
   IfSome,
 };
-ghost use Rattle.transyt_io.specs.Lines.{line_of};
+ghost use Rattle.transyt_io.specs.Lines.{line_of, has_end};
 ghost use Rattle.transyt_io.specs.Pull.{Gathered};
 
 use memchr::memchr;
@@ -82,6 +84,7 @@ pub(crate) fn begin(line: &mut Vec<u8>, piece: &[u8]) -> Option<usize>
     ensures kept { length line.new.items ≤ 4098 }
     ensures within { IfSome result (λ at. at < length piece.now) }
     ensures begun { Gathered [] line.new.items piece.now result }
+    ensures none { result ≡ None → has_end piece.now ≡ false }
 {
     line.clear();
     gather(line, piece)

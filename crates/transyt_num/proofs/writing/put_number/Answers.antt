@@ -24,25 +24,21 @@ loop-rest-init c = record {
 -- there is room for one digit more
 pub overflow_sub-start : goal.overflow_sub-start
 overflow_sub-start c =
-    let at = c.loop-rest in
-    let step = decimal_step_wide at.rest c.loop-rest-test.true (omega (arith, at.auto.rest-fits)) in
-    let more = put_digit c.args.v at.rest at.start _ _ at.digits step at.invariant.text at.invariant.room (omega arith) in
-    omega (arith, more.0)
+    omega (arith, (shortest_decimal c.loop-rest.rest (omega (arith, c.loop-rest.auto.rest-fits))).some)
 
 -- one digit more stands
 pub loop-rest-preserved : goal.loop-rest-preserved
 loop-rest-preserved c =
     let at = c.loop-rest in
     let step = decimal_step_wide at.rest c.loop-rest-test.true (omega (arith, at.auto.rest-fits)) in
-    let more = put_digit c.args.v at.rest at.start _ _ at.digits step at.invariant.text at.invariant.room (omega arith) in
+    let more =
+    put_digit c.args.v at.rest at.start _ _ at.digits step at.invariant.text at.invariant.room (omega arith) in
     grind (arith, common_steps, more)
 
 -- the first digit has its place
 pub overflow_sub-start-2 : goal.overflow_sub-start-2
 overflow_sub-start-2 c =
-    let at = c.loop-rest in
-    (put_digit c.args.v at.rest at.start _ [] at.digits (decimal_digit at.rest (omega arith)) at.invariant.text
-    at.invariant.room (omega arith)).0
+    omega (arith, (shortest_decimal c.loop-rest.rest (omega (arith, c.loop-rest.auto.rest-fits))).some)
 
 -- with it the whole text stands, from its place on
 written : (c : goal.After-copy_from_slice) → decimal c.args.v
@@ -72,17 +68,9 @@ returns-clause-read_back c = λ small. ap number_of (returns-clause-text c) ∙ 
 -- the length is that of the text
 pub returns-clause-digits : goal.returns-clause-digits
 returns-clause-digits c = λ k some small.
-    let at = c.loop-rest in
-    let digits : List ℕ = set at.digits (at.start - 1) (48 + at.rest) in
     let fits : c.args.v < 10 ^ 64 = omega (arith, c.ranges.v.fits) in
     let few : length (decimal c.args.v) ≤ k = length-decimal-le_wide k c.args.v some small fits in
-    omega (
-      arith,
-      ap length (written c),
-      few,
-      length-drop (at.start - 1) digits,
-      length-set at.digits (at.start - 1) (48 + at.rest),
-    )
+    omega (arith, few, ap length (written c), length-drop {A = ℕ}, length-set {A = ℕ})
 
 -- 2^64 is below 10^20
 pub returns-clause-short : goal.returns-clause-short

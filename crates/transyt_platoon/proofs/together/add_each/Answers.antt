@@ -29,12 +29,9 @@ arrive_each-requires g c =
     mul-le (all * 2 ^ 22) c.second.step (4 * 2 ^ 22) 120 (omega (arith, c.args.abreast.now.few))
     (omega (arith, c.second-test.true, c.args.abreast.now.most)) in
     let len : length c.second.turns ≡ 2 * n = omega (arith, c.second.auto.turns, c.requires.turns_len) in
+    let stood = folded_each n c.args.turns.now (2 ^ 48) c.requires.fit c.requires.turns_len in
     let fit : All (λ v. v < 2 ^ 61) c.second.turns = λ j d h.
-    omega (
-      arith,
-      most,
-      c.second.invariant.grows (2 ^ 48) (folded_each n c.args.turns.now (2 ^ 48) c.requires.fit c.requires.turns_len) j d h,
-    ) in
+    omega (arith, most, c.second.invariant.grows (2 ^ 48) stood j d h) in
     (few, (c.requires.count, (c.second-test.true, (c.second.invariant.passed, (len, fit)))))
 
 -- one step more
@@ -42,11 +39,8 @@ pub second-preserved : goal.second-preserved
 second-preserved g c = record {
   passed = c.arrive_each.ensures.passed;
   sums = λ j. omega (arith, c.arrive_each.ensures.arrives j, c.second.invariant.sums j);
-  grows = λ limit within j d h. omega (
-    arith,
-    c.arrive_each.ensures.grows (limit + length c.args.abreast.now.platoons.now * 2 ^ 22 * c.second.step)
-        (c.second.invariant.grows limit within) j d h,
-  );
+  grows = λ limit within j d h.
+      omega (arith, c.arrive_each.ensures.grows _ (c.second.invariant.grows limit within) j d h);
 }
 
 -- the values added at both places of a step are its arrivals
