@@ -3,7 +3,8 @@
 ghost use Rattle.std.specs.Prelude.{◌≡◌, ℕ, ◌+◌, ◌*◌, ◌^◌, ◌<◌, ◌≤◌, ◌↔◌, [], ◌∷◌, ◌++◌, length, None, true, false, IfOk, OnOk, IsTrue};
 ghost use Rattle.std.specs.Borrow.{sem};
 ghost use Rattle.transyt_climb.specs.Turns.{machine};
-ghost use Rattle.transyt_desks.specs.Desks.{desk_zero, new_desk, opened_desks, AreAligned, AreAlike, LendsZero};
+ghost use Rattle.transyt_desks.specs.Desks.{desk_zero, new_desk, opened_desks, AreAligned, AreAlike};
+ghost use Rattle.transyt_desks.specs.Lends.{LendsZero};
 ghost use Rattle.transyt_desks.specs.Stretches.{AreTriesOf, IsReach, IsStretch};
 ghost use Rattle.transyt_moves.specs.Moves.{move_count};
 ghost use Rattle.transyt_session.specs.Session.{SessionValue};
