@@ -12,8 +12,8 @@ use Rattle.transyt_track.specs.Due.{edit_work}
 use Rattle.transyt_session.specs.declared.answers.Tried.{Tried}
 use Rattle.transyt_session.specs.Session.{SessionValue, try_of}
 use Rattle.transyt_desks.specs.declared.desk.Desk.{Desk}
-use Rattle.transyt_desks.specs.declared.stretch.Reach.{Reach}
-use Rattle.transyt_desks.specs.Stretches.{IsReach, place_at, AreFinds, AreFound, AreTriesAt, HasFound}
+use Rattle.transyt_desks.specs.declared.reach.Reach.{Reach}
+use Rattle.transyt_desks.specs.Stretches.{place_at, AreFinds, AreFound, AreTriesAt, HasFound}
 use Rattle.transyt_desks.specs.Desks.{desk_zero, no_desk, sessions_of, AreAligned}
 use Rattle.transyt_desks.proofs.DeskLaws.{session_is, sessions_count}
 
@@ -35,30 +35,30 @@ pub record IsTurnOf (reach : Reach) (number : ℕ) : Type 0 where
   pub desk : number % reach.desks < reach.desks
   pub sum : number % reach.desks + number / reach.desks * reach.desks ≡ number
 
-pub turn_of : (reach : Reach) (number : ℕ) → IsReach reach → IsTurnOf reach number
-turn_of reach number is = record { desk = mod_below number reach.desks is.some; sum = omega (arith, is.some) }
+pub turn_of : (reach : Reach) (number : ℕ) → IsTurnOf reach number
+turn_of reach number = record { desk = mod_below number reach.desks reach.some; sum = omega (arith, reach.some) }
 
 -- its find
-pub found_at : (reach : Reach) (desks : List Desk) (number : ℕ) (d : Desk) (t : Tried) → IsReach reach → AreFound reach desks
+pub found_at : (reach : Reach) (desks : List Desk) (number : ℕ) (d : Desk) (t : Tried) → AreFound reach desks
     → number < reach.room → d ≡ slice_index_or desks (number % reach.desks) no_desk
     → slice_index_or d.finds (number / reach.desks) t
     ≡ try_of (desk_zero (sessions_of desks)).net (move (desk_zero (sessions_of desks)).net
     (place_at reach.place reach.count number))
-found_at reach desks number d t reaches found inside is =
+found_at reach desks number d t found inside is =
     let net = (desk_zero (sessions_of desks)).net in
-    let at : IsTurnOf reach number = turn_of reach number reaches in
+    let at : IsTurnOf reach number = turn_of reach number in
     ap (λ (x : Desk). slice_index_or x.finds (number / reach.desks) t) is
     ∙ (found.each (number % reach.desks) (omega (arith, at.desk, found.count))).each (number / reach.desks) t
     (omega (arith, at.sum, inside))
     ∙ ap (λ n. try_of net (move net (place_at reach.place reach.count n))) at.sum
 
 -- and its work
-pub found_few : (reach : Reach) (desks : List Desk) (number : ℕ) → IsReach reach → AreFound reach desks → number < reach.room
+pub found_few : (reach : Reach) (desks : List Desk) (number : ℕ) → AreFound reach desks → number < reach.room
     → edit_work (desk_zero (sessions_of desks)).net (move (desk_zero (sessions_of desks)).net
     (place_at reach.place reach.count number)) ≤ 8000
-found_few reach desks number reaches found inside =
+found_few reach desks number found inside =
     let net = (desk_zero (sessions_of desks)).net in
-    let at : IsTurnOf reach number = turn_of reach number reaches in
+    let at : IsTurnOf reach number = turn_of reach number in
     subst (λ n. edit_work net (move net (place_at reach.place reach.count n)) ≤ 8000) at.sum
     ((found.each (number % reach.desks) (omega (arith, at.desk, found.count))).few (number / reach.desks)
     (omega (arith, at.sum, inside)))

@@ -6,9 +6,6 @@ use Rattle.transyt_net.specs.Parts.{network_of, SameShape}
 use Rattle.transyt_session.specs.declared.answers.Tried.TheVariants.{Barred}
 use Rattle.transyt_session.specs.Session.{SessionValue, opened}
 use Rattle.transyt_desks.specs.declared.desk.Desk.{Desk}
-use Rattle.std.specs.Borrow.{Lends, MutBor, Fml}
-use Rattle.transyt_session.specs.contracts.session.Session.{the_row as session_row}
-use Rattle.transyt_desks.specs.contracts.desks.Desks.{the_row as desks_row}
 
 -- the session at a place that has none
 abbrev pub no_session : SessionValue
@@ -63,7 +60,3 @@ new_desk session = record { session = session; finds = replicate 64 Barred }
 -- the desk at a place that has none
 abbrev pub no_desk : Desk
 no_desk = new_desk no_session
-
--- they end with the last session in its place at desk 0, and the others as they were
-abbrev pub LendsZero : MutBor (List SessionValue) → MutBor SessionValue → Fml
-LendsZero s r = Lends desks_row session_row s r (with_zero s.now)

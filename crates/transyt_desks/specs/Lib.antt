@@ -1,5 +1,6 @@
 pub mod Stretches
 pub mod Desks
 pub mod Rounds
+pub mod Lends
 pub mod WorkedRounds
 pub mod WorkedDesks

@@ -7,7 +7,7 @@ use Rattle.transyt_sweep.specs.Climb.{lowers}
 use Rattle.transyt_track.specs.Due.{edit_work}
 use Rattle.transyt_session.specs.declared.answers.Tried.{Tried}
 use Rattle.transyt_session.specs.declared.answers.Tried.TheVariants.{Barred, Index}
-use Rattle.transyt_desks.specs.declared.stretch.Reach.{Reach}
+use Rattle.transyt_desks.specs.declared.reach.Reach.{Reach}
 use Rattle.transyt_desks.specs.declared.stretch.Stretch.{Stretch}
 use Rattle.transyt_session.specs.Session.{try_of}
 use Rattle.transyt_desks.specs.declared.desk.Desk.{Desk}
@@ -16,13 +16,6 @@ use Rattle.transyt_desks.specs.Desks.{desk_zero, no_desk, sessions_of}
 -- the place of the move with a number, from a place on, round the list
 abbrev pub place_at : ℕ → ℕ → ℕ → ℕ
 place_at place count number = (place + number) % count
-
--- a reach round a list that has its place, with at most 64 moves for each of one to eight desks
-pub record IsReach (reach : Reach) : Type 0 where
-  pub place : reach.place < reach.count
-  pub some : 0 < reach.desks
-  pub many : reach.desks ≤ 8
-  pub room : reach.room ≤ 64 * reach.desks
 
 -- one move more with this work doesn't lower the index
 abbrev pub passing : Stretch → ℕ → Stretch

@@ -3,8 +3,9 @@
 ghost use Rattle.std.specs.Prelude.{◌≡◌, ℕ, ◌+◌, ◌*◌, ◌^◌, ◌<◌, ◌≤◌, ◌↔◌, [], ◌∷◌, ◌++◌, length, None, true, false, IfOk, OnOk, IsTrue};
 ghost use Rattle.std.specs.Borrow.{sem};
 ghost use Rattle.transyt_climb.specs.Turns.{machine};
-ghost use Rattle.transyt_desks.specs.Desks.{desk_zero, new_desk, opened_desks, AreAligned, AreAlike, LendsZero};
-ghost use Rattle.transyt_desks.specs.Stretches.{AreTriesOf, IsReach, IsStretch};
+ghost use Rattle.transyt_desks.specs.Desks.{desk_zero, new_desk, opened_desks, AreAligned, AreAlike};
+ghost use Rattle.transyt_desks.specs.Lends.{LendsZero};
+ghost use Rattle.transyt_desks.specs.Stretches.{AreTriesOf, IsStretch};
 ghost use Rattle.transyt_moves.specs.Moves.{move_count};
 ghost use Rattle.transyt_session.specs.Session.{SessionValue};
 ghost use Rattle.transyt_desks.specs.Rounds.{places_of, CanRound, MakesRound};
@@ -14,8 +15,9 @@ use crate::desk::{Desk, all_same, follow_zero};
 use crate::finding::{find_reach, first_lower, hand_on};
 use crate::gate::Gate;
 use crate::policy::{each, goes_alone};
+use crate::reach::Reach;
 use crate::rounds::{alone, together};
-use crate::stretch::{Reach, Stretch};
+use crate::stretch::Stretch;
 use crate::turns::Round;
 use std::alloc::{AllocError, Global};
 use std::marker::Model;
@@ -178,7 +180,6 @@ impl Desks {
         crew: &Crew<'_, R, G>,
         reach: Reach,
     ) -> Stretch
-        requires reach { IsReach reach }
         requires desks { reach.desks ≡ length self.old }
         requires aligned { AreAligned self.old }
         requires moves { reach.count ≡ move_count (desk_zero self.old).net }

@@ -7,19 +7,19 @@ ghost use Rattle.transyt_sweep.specs.Sweeps.{index};
 ghost use Rattle.transyt_track.specs.Due.{edit_work};
 ghost use Rattle.transyt_session.specs.Session.{try_of};
 ghost use Rattle.transyt_desks.specs.Desks.{AreAligned, OthersClosed, desk_zero, sessions_of};
-ghost use Rattle.transyt_desks.specs.Stretches.{AreFinds, AreFound, AreTriesOf, HasFound, IsReach, IsStretch, place_at};
+ghost use Rattle.transyt_desks.specs.Stretches.{AreFinds, AreFound, AreTriesOf, HasFound, IsStretch, place_at};
 ghost use Rattle.transyt_desks.specs.declared.desk.Desk.{Desk};
 
 use crate::crew::Crew;
 use crate::desk::Desk;
 use crate::gate::Gate;
-use crate::stretch::{Reach, Stretch, after_find, place_of, try_at};
+use crate::reach::Reach;
+use crate::stretch::{Stretch, after_find, place_of, try_at};
 use std::thread::{self, Threads};
 use transyt_session::{Session, Tried};
 
 /// Tries the moves of a reach that come to a desk in turn.
 fn find(session: &mut Session, reach: Reach, desk: u32) -> [Tried; 64]
-    requires reach { IsReach reach }
     requires desk { desk < 8 }
     requires count { reach.count ≡ move_count session.old.net }
     requires closed { session.old.before ≡ None }
@@ -40,7 +40,6 @@ fn find(session: &mut Session, reach: Reach, desk: u32) -> [Tried; 64]
 /// Tries a desk's moves of a reach, between entering and leaving the gate.
 fn find_at_gate<G: Gate>(gate: &G, desk: &mut Desk, number: usize, reach: Reach)
     requires number { number < 8 }
-    requires reach { IsReach reach }
     requires moves { move_count desk.old.session.net ≡ reach.count }
     requires closed { desk.old.session.before ≡ None }
     ensures { HasFound reach number desk.old desk.new }
@@ -53,7 +52,6 @@ fn find_at_gate<G: Gate>(gate: &G, desk: &mut Desk, number: usize, reach: Reach)
 /// Tries the moves of a reach that come in turn to the desks after desk 0, all at once.
 fn find_others<R: Threads + Sync, G: Gate>(crew: &Crew<'_, R, G>, others: &mut [Desk], reach: Reach)
     requires few { length others.old < 8 }
-    requires reach { IsReach reach }
     requires moves { All (λ d. move_count d.session.net ≡ reach.count) others.old }
     requires closed { All (λ d. d.session.before ≡ None) others.old }
     ensures len { length others.new ≡ length others.old }
@@ -66,7 +64,7 @@ fn find_others<R: Threads + Sync, G: Gate>(crew: &Crew<'_, R, G>, others: &mut [
         others,
         7,
         &|i: usize, desk: &mut Desk|
-            requires { (i < 7) × IsReach reach × (move_count desk.old.session.net ≡ reach.count)
+            requires { (i < 7) × (move_count desk.old.session.net ≡ reach.count)
                 × (desk.old.session.before ≡ None) }
         { find_at_gate(gate, desk, i + 1, reach) },
     );
@@ -80,7 +78,6 @@ fn find_apart<R: Threads + Sync, G: Gate>(
     reach: Reach,
 )
     requires few { length others.old < 8 }
-    requires reach { IsReach reach }
     requires moves { All (λ d. move_count d.session.net ≡ reach.count) others.old }
     requires closed { All (λ d. d.session.before ≡ None) others.old }
     requires zero_moves { move_count zero.old.session.net ≡ reach.count }
@@ -91,7 +88,7 @@ fn find_apart<R: Threads + Sync, G: Gate>(
         → HasFound reach (k + 1) (slice_index_or others.old k d) (slice_index_or others.new k d) }
 {
     let mut there = ||
-        requires { IsSync R.row × IsSync G.row × (length others.now < 8) × IsReach reach
+        requires { IsSync R.row × IsSync G.row × (length others.now < 8)
             × All (λ d. move_count d.session.net ≡ reach.count) others.now
             × All (λ d. d.session.before ≡ None) others.now }
         ensures { (length others.exit.now ≡ length others.entry.now)
@@ -99,7 +96,7 @@ fn find_apart<R: Threads + Sync, G: Gate>(
             (slice_index_or others.entry.now k d) (slice_index_or others.exit.now k d)) }
     { find_others(crew, others, reach) };
     let mut here = ||
-        requires { IsReach reach × (move_count zero.now.session.net ≡ reach.count)
+        requires { (move_count zero.now.session.net ≡ reach.count)
             × (zero.now.session.before ≡ None) }
         ensures { HasFound reach 0 zero.entry.now zero.exit.now }
     { find_at_gate(crew.gate, zero, 0, reach) };
@@ -113,7 +110,6 @@ fn find_apart<R: Threads + Sync, G: Gate>(
 /// turn; up to four desks take no two such threads.
 fn find_all<R: Threads + Sync, G: Gate>(crew: &Crew<'_, R, G>, desks: &mut [Desk], reach: Reach)
     requires few { length desks.old ≤ 8 }
-    requires reach { IsReach reach }
     requires moves { All (λ d. move_count d.session.net ≡ reach.count) desks.old }
     requires closed { All (λ d. d.session.before ≡ None) desks.old }
     ensures len { length desks.new ≡ length desks.old }
@@ -138,7 +134,6 @@ pub(crate) fn find_reach<R: Threads + Sync, G: Gate>(
     reach: Reach,
 )
     requires few { length desks.old ≤ 8 }
-    requires reach { IsReach reach }
     requires desks { reach.desks ≡ length desks.old }
     requires aligned { AreAligned (sessions_of desks.old) }
     requires others { OthersClosed (sessions_of desks.old) }
@@ -153,7 +148,6 @@ pub(crate) fn find_reach<R: Threads + Sync, G: Gate>(
 
 /// The find of the move of a reach with a number.
 fn find_at(desks: &[Desk], reach: Reach, number: u32) -> Tried
-    requires reach { IsReach reach }
     requires number { number < reach.room }
     requires found { AreFound reach desks.now }
     ensures found { result ≡ try_of (desk_zero (sessions_of desks.now)).net
@@ -170,7 +164,6 @@ fn find_at(desks: &[Desk], reach: Reach, number: u32) -> Tried
 /// The moves of a reach as a stretch, up to the first in the list's order that lowers the index; `limit` is the index of
 /// the network.
 pub(crate) fn first_lower(desks: &[Desk], reach: Reach, limit: u128) -> Stretch
-    requires reach { IsReach reach }
     requires limit { limit ≡ index (desk_zero (sessions_of desks.now)).net }
     requires found { AreFound reach desks.now }
     ensures { IsStretch (desk_zero (sessions_of desks.now)).net
@@ -193,7 +186,6 @@ pub(crate) fn first_lower(desks: &[Desk], reach: Reach, limit: u128) -> Stretch
 
 /// Hands on the finds in the list's order.
 pub(crate) fn hand_on(desks: &[Desk], reach: Reach, tries: &mut [Tried])
-    requires reach { IsReach reach }
     requires inside { reach.place + reach.room ≤ reach.count }
     requires room { reach.room ≡ length tries.old }
     requires found { AreFound reach desks.now }

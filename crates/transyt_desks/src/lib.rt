@@ -21,6 +21,7 @@ mod finding;
 mod gate;
 mod laws;
 mod policy;
+mod reach;
 mod rounds;
 mod stretch;
 mod turns;

@@ -5,12 +5,11 @@ ghost use Rattle.transyt_climb.specs.Turns.{machine};
 ghost use Rattle.transyt_session.specs.Session.{SessionValue};
 ghost use Rattle.transyt_desks.specs.Desks.{desk_zero, AreAligned};
 ghost use Rattle.transyt_desks.specs.Rounds.{room_of, turns_of, CanRound, RoundsDesks};
-ghost use Rattle.transyt_desks.specs.Stretches.{IsReach};
 
 use crate::crew::Crew;
 use crate::desks::Desks;
 use crate::gate::Gate;
-use crate::stretch::Reach;
+use crate::reach::Reach;
 use crate::turns::{Round, make_turn, make_turns};
 use std::sync::ledger::Ledger;
 use std::thread::Threads;
@@ -72,7 +71,6 @@ fn reach_of(climber: &Climber, places: u32, desks: usize) -> Reach
     requires some { 0 < desks }
     requires many { desks ≤ 8 }
     requires few { places ≤ 64 * desks }
-    ensures is { IsReach result }
     ensures place { result.place ≡ climber.now.place }
     ensures list { result.count ≡ climber.now.count }
     ensures room { result.room ≡ room_of places climber.now }

@@ -4,27 +4,15 @@ ghost use Rattle.std.specs.Prelude.{◌≡◌, ℕ, ◌+◌, ◌^◌, ◌<◌, �
 ghost use Rattle.transyt_moves.specs.Moves.{move, move_count};
 ghost use Rattle.transyt_track.specs.Due.{edit_work};
 ghost use Rattle.transyt_session.specs.Session.{try_of};
-ghost use Rattle.transyt_desks.specs.Stretches.{IsReach, after_found, passing, place_at, work_found};
+ghost use Rattle.transyt_desks.specs.Stretches.{after_found, passing, place_at, work_found};
 
+use crate::reach::Reach;
 use std::marker::Brand;
 use std::sync::ledger::{Blank, Ledger};
 use transyt_moves::move_at;
 use transyt_net::Edit;
 use transyt_session::{Session, Tried};
 use transyt_steps::Steps;
-
-/// The moves that the desks of a round try: from a place on, round the list. They are numbered from 0.
-#[derive(Clone, Copy, Debug, PartialEq, Eq)]
-pub(crate) struct Reach {
-    /// The place of the first.
-    pub(crate) place: u32,
-    /// How many places the list has.
-    pub(crate) count: u32,
-    /// How many moves are tried.
-    pub(crate) room: u32,
-    /// How many desks try them, in turn.
-    pub(crate) desks: u32,
-}
 
 /// Moves that the desks have tried, up to the first that lowers the index.
 #[derive(Clone, Copy, Debug, PartialEq, Eq)]
@@ -52,7 +40,6 @@ fn passing(stretch: Stretch, work: u64) -> Stretch
 
 /// The place of the move with a number.
 pub(crate) fn place_of(reach: Reach, number: u32) -> u32
-    requires { IsReach reach }
     ensures value { result ≡ place_at reach.place reach.count number }
     ensures below { result < reach.count }
 {

@@ -8,10 +8,10 @@ use Rattle.transyt_desks.proofs.finding.find_at.Goals as goal
 
 pub returns-clause-found : goal.returns-clause-found
 returns-clause-found c =
-    found_at c.args.reach c.args.desks.now c.args.number _ Barred c.requires.reach c.requires.found c.requires.number
+    found_at c.args.reach c.args.desks.now c.args.number _ Barred c.requires.found c.requires.number
     (get_or_default c.args.desks.now (c.args.number % c.args.reach.desks) c.index-desks-desk.result no_desk
-    (omega (arith, (turn_of c.args.reach c.args.number c.requires.reach).desk, c.requires.found.count)))
+    (omega (arith, (turn_of c.args.reach c.args.number).desk, c.requires.found.count)))
 
 pub returns-clause-few : goal.returns-clause-few
 returns-clause-few c =
-    found_few c.args.reach c.args.desks.now c.args.number c.requires.reach c.requires.found c.requires.number
+    found_few c.args.reach c.args.desks.now c.args.number c.requires.found c.requires.number
