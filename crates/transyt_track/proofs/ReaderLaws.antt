@@ -1,6 +1,6 @@
 -- The readers of each link.
-use Rattle.std.proofs.Common.{◌≡◌, ℕ, ◌<◌, ◌≤◌, Bool, true, false, ◌||◌, ◌&&◌, List, [], ◌∷◌, ◌++◌, length, All, zero, suc}
-use Rattle.std.proofs.Common.{Some, None, Result, Ok, Err, OnOk, take}
+use Rattle.std.proofs.Common.{◌≡◌, ℕ, ◌<◌, ◌≤◌, Bool, true, false, ◌||◌, ◌&&◌, List, [], ◌∷◌, ◌++◌, length, All}
+use Rattle.std.proofs.Common.{zero, suc, Some, None, Result, Ok, Err, OnOk, take}
 use Rattle.std.proofs.Common.{refl, ap, sym, subst, ◌∙◌, arith, nat_eq}
 use Rattle.std.specs.Prelude.{slice_index_or}
 use Rattle.std.specs.List.{list_any}

@@ -58,7 +58,8 @@ module _ (a b : Network) (s l : ℕ) (rows : RowsValue) (awaited : List Bool) (a
       at_place ∙ get_or_default readers l rs [] (omega (arith, all.count, links, inside)) in
       let moved = differs_told a b s l rows awaited at same first swept inside c worked_is d told in
       turned_worked a b s l rows awaited at same first swept inside kept c worked_is passed
-      (flags_passed a b s l rows awaited at links inside own_changed owned readers all d moved rs are passed count flags)
+      (flags_passed a b s l rows awaited at links inside own_changed owned readers all d moved rs are passed count
+      flags)
 
 -- the row that is shown is what is worked out anew
 go_stays : (a b : Network) (s l : ℕ) (rows : RowsValue) (awaited : List Bool) → AreAt a b s l rows awaited
@@ -66,8 +67,8 @@ go_stays : (a b : Network) (s l : ℕ) (rows : RowsValue) (awaited : List Bool) 
     → is_some (link_of b l).gives_way ≡ false → (shown_at rows l).go ≡ (cell_at b s l).go
 go_stays a b s l rows awaited at same inside last none no_other =
     let inside_a : l < length a.links = omega (arith, inside, shape_count a b same) in
-    let sames = same_data a b l same inside_a (own_told (own a l) (own b l) (not_false (same_own (own a l) (own b l)) none))
-    in
+    let sames = same_data a b l same inside_a (own_told (own a l) (own b l) (not_false (same_own (own a l) (own b l))
+    none)) in
     ap (λ (v : CellValue). v.go) (shown_now b (evaluated b) (evaluated a) s l rows at.shown last inside)
     ∙ ap (λ (v : CellValue). v.go) (evaluated_is a l)
     ∙ green_same a b l sames (read_of a a.frame.sweeps l) (read_of b s l) (no_rule (link_of b l).gives_way no_other)

@@ -53,10 +53,10 @@ place-requires-clause-go_same g c = λ last.
     let r = c.requires in
     let a = c.args.change.now.before.now in
     let b = c.args.change.now.after.now in
-    go_told a b c.args.sweep c.args.link c.args.front.now.kept.now c.args.front.now.awaited.items r.front.at r.change.shape
-    r.first r.last r.link c.work_cell-differs.new.scratch c.work_cell-differs.ensures.value c.deref-2.result.now
-    (subst (AreFlags (own_differs a b) (length b.links)) (sym c.deref-2.ensures.value) r.front.own) last
-    c.go_may_differ-go_differs.result c.go_may_differ-go_differs.ensures
+    go_told a b c.args.sweep c.args.link c.args.front.now.kept.now c.args.front.now.awaited.items r.front.at
+    r.change.shape r.first r.last r.link c.work_cell-differs.new.scratch c.work_cell-differs.ensures.value
+    c.deref-2.result.now (subst (AreFlags (own_differs a b) (length b.links)) (sym c.deref-2.ensures.value) r.front.own)
+    last c.go_may_differ-go_differs.result c.go_may_differ-go_differs.ensures
 
 pub returns-clause-front : goal.returns-clause-front
 returns-clause-front g c =
@@ -64,8 +64,8 @@ returns-clause-front g c =
     let a = c.args.change.now.before.now in
     let b = c.args.change.now.after.now in
     let own = subst (AreFlags (own_differs a b) (length b.links)) (sym c.deref.ensures.value) r.front.own in
-    let at = worked_turn a b c.args.sweep c.args.link c.args.front.now.kept.now c.args.front.now.awaited.items r.front.at
-    r.change.shape r.first r.last r.link c.work_cell-differs.new.scratch c.work_cell-differs.ensures.value
+    let at = worked_turn a b c.args.sweep c.args.link c.args.front.now.kept.now c.args.front.now.awaited.items
+    r.front.at r.change.shape r.first r.last r.link c.work_cell-differs.new.scratch c.work_cell-differs.ensures.value
     c.place.ensures.rows c.work_cell-differs.result c.work_cell-differs.ensures.differs c.deref.result.now own
     c.args.change.now.readers.now r.change.readers c.index-readers-link.result c.index-readers-link.is
     c.pass_on.new.awaited.items c.pass_on.ensures.count c.pass_on.ensures.flags in
