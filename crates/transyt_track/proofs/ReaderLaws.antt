@@ -10,7 +10,7 @@ use Rattle.std.proofs.lemmas.List.Elements.{All-nil, All-cons}
 use Rattle.std.proofs.lemmas.List.{take_all, get_or_default}
 use Rattle.transyt_net.specs.Parts.{Network, SameShape}
 use Rattle.transyt_track.specs.Own.{PlacesValue}
-use Rattle.transyt_track.specs.Change.{AreReaders, is_reader, reads}
+use Rattle.transyt_track.specs.Readers.{AreReaders, is_reader, reads}
 use Rattle.transyt_track.proofs.ShapeLaws.{shape_count}
 
 -- a fact of each number that is among these is one of the whole list

@@ -20,7 +20,7 @@ use Rattle.transyt_sweep.proofs.SweepLaws.{evaluated_is}
 use Rattle.transyt_sweep.proofs.StepLaws.{cell_steps}
 use Rattle.transyt_sweep.proofs.FrontLaws.{cell_is}
 use Rattle.transyt_track.specs.Own.{own, same_own}
-use Rattle.transyt_track.specs.Change.{AreReaders}
+use Rattle.transyt_track.specs.Readers.{AreReaders}
 use Rattle.transyt_track.specs.Front.{AreAt, AreFlags, flag, own_differs}
 use Rattle.transyt_track.proofs.DataLaws.{green_same}
 use Rattle.transyt_track.proofs.DueLaws.{not_false, own_told}

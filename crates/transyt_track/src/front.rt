@@ -10,7 +10,7 @@ ghost use Rattle.transyt_sweep.specs.Cell.{cell_by};
 ghost use Rattle.transyt_sweep.specs.Front.{AreEvaluation};
 ghost use Rattle.transyt_sweep.specs.Reading.{Fits, read_in};
 ghost use Rattle.transyt_track.specs.Due.{is_due, due_at, due};
-ghost use Rattle.transyt_track.specs.Change.{HasRoom, IsChange, IsFront};
+ghost use Rattle.transyt_track.specs.Change.{HasRoom, IsFront};
 ghost use Rattle.transyt_track.specs.Front.{flag};
 
 use crate::change::{Change, Front};
@@ -111,7 +111,6 @@ fn work_out<L: Ledger>(
     front: &mut Front,
     steps: &mut Steps<L>,
 )
-    requires change { IsChange change.now }
     requires first { 1 ≤ sweep }
     requires last { sweep ≤ change.now.after.now.frame.sweeps }
     requires link { link < length change.now.after.now.links }
@@ -161,7 +160,6 @@ fn turn<L: Ledger>(
     front: &mut Front,
     steps: &mut Steps<L>,
 ) -> u64
-    requires change { IsChange change.now }
     requires first { 1 ≤ sweep }
     requires last { sweep ≤ change.now.after.now.frame.sweeps }
     requires link { link < length change.now.after.now.links }
@@ -188,7 +186,6 @@ fn sweep_links<L: Ledger>(
     front: &mut Front,
     steps: &mut Steps<L>,
 ) -> u64
-    requires change { IsChange change.now }
     requires first { 1 ≤ sweep }
     requires last { sweep ≤ change.now.after.now.frame.sweeps }
     requires front { IsFront change.now sweep 0 front.old }
@@ -211,7 +208,6 @@ pub(crate) fn follow_rows<L: Ledger>(
     front: &mut Front,
     steps: &mut Steps<L>,
 ) -> u64
-    requires change { IsChange change.now }
     requires rows { AreEvaluation change.now.before.now front.old.kept.now }
     requires room { HasRoom change.now.after.now front.old }
     ensures rows { AreEvaluation change.now.after.now front.new.kept.now }
