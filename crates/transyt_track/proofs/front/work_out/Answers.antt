@@ -30,7 +30,8 @@ pass_on-requires-clause-own_count g c =
 pub pass_on-requires-clause-inside : goal.pass_on-requires-clause-inside
 pass_on-requires-clause-inside g c =
     let r = c.requires in
-    readers_inside c.args.change.now.before.now c.args.change.now.after.now c.args.change.now.same_shape c.args.change.now.readers.now
+    readers_inside c.args.change.now.before.now c.args.change.now.after.now c.args.change.now.same_shape
+    c.args.change.now.readers.now
     c.args.change.now.are_readers c.args.link (length c.args.front.now.awaited.items) r.link r.front.at.flags.count
     c.index-readers-link.result c.index-readers-link.is
 
@@ -65,7 +66,8 @@ returns-clause-front g c =
     let b = c.args.change.now.after.now in
     let own = subst (AreFlags (own_differs a b) (length b.links)) (sym c.deref.ensures.value) r.front.own in
     let at = worked_turn a b c.args.sweep c.args.link c.args.front.now.kept.now c.args.front.now.awaited.items
-    r.front.at c.args.change.now.same_shape r.first r.last r.link c.work_cell-differs.new.scratch c.work_cell-differs.ensures.value
+    r.front.at c.args.change.now.same_shape r.first r.last r.link c.work_cell-differs.new.scratch
+    c.work_cell-differs.ensures.value
     c.place.ensures.rows c.work_cell-differs.result c.work_cell-differs.ensures.differs c.deref.result.now own
     c.args.change.now.readers.now c.args.change.now.are_readers c.index-readers-link.result c.index-readers-link.is
     c.pass_on.new.awaited.items c.pass_on.ensures.count c.pass_on.ensures.flags in
