@@ -8,7 +8,7 @@ use Rattle.std.proofs.lemmas.List.Elements.{All-head, All-tail}
 use Rattle.transyt_net.specs.Parts.{Network}
 use Rattle.transyt_track.specs.Own.{places_at}
 use Rattle.transyt_track.specs.Due.{differs, read_differs, is_due}
-use Rattle.transyt_track.specs.Change.{reads}
+use Rattle.transyt_track.specs.Readers.{reads}
 use Rattle.transyt_track.specs.Front.{awaits, has_moved, own_differs}
 
 -- or

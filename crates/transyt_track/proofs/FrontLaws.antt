@@ -23,7 +23,7 @@ use Rattle.transyt_sweep.proofs.SweepLaws.{out_of_pair, evaluated_is}
 use Rattle.transyt_sweep.proofs.FrontLaws.{mixed_turn, before_end}
 use Rattle.transyt_track.specs.Own.{places_at}
 use Rattle.transyt_track.specs.Due.{differs, read_differs, is_due}
-use Rattle.transyt_track.specs.Change.{AreReaders, reads}
+use Rattle.transyt_track.specs.Readers.{AreReaders, reads}
 use Rattle.transyt_track.specs.Front.{AreShownMixed, AreFlags, flag, AreAt, awaits, left_at, own_differs}
 use Rattle.transyt_track.proofs.AwaitLaws.{awaits_here, awaits_on, awaits_own, awaits_turn, or_false}
 use Rattle.transyt_track.proofs.PlaceLaws.{feeders_inside, rule_inside}

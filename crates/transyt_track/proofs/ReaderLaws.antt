@@ -1,16 +1,17 @@
 -- The readers of each link.
-use Rattle.std.proofs.Common.{◌≡◌, ℕ, ◌<◌, ◌≤◌, Bool, true, false, ◌||◌, ◌&&◌, List, [], ◌∷◌, ◌++◌, length, All, zero, suc}
-use Rattle.std.proofs.Common.{Some, None, Result, Ok, Err, OnOk, take}
+use Rattle.std.proofs.Common.{◌≡◌, ℕ, ◌<◌, ◌≤◌, Bool, true, false, ◌||◌, ◌&&◌, List, [], ◌∷◌, ◌++◌, length, All}
+use Rattle.std.proofs.Common.{zero, suc, Some, None, Result, Ok, Err, OnOk, take}
 use Rattle.std.proofs.Common.{refl, ap, sym, subst, ◌∙◌, arith, nat_eq}
 use Rattle.std.specs.Prelude.{slice_index_or}
 use Rattle.std.specs.List.{list_any}
 use Rattle.std.specs.Option.{option_map_or}
 use Rattle.std.proofs.lemmas.Bool.Decides.{nat_tests}
 use Rattle.std.proofs.lemmas.List.Elements.{All-nil, All-cons}
-use Rattle.std.proofs.lemmas.List.{take_all}
-use Rattle.transyt_net.specs.Parts.{Network}
+use Rattle.std.proofs.lemmas.List.{take_all, get_or_default}
+use Rattle.transyt_net.specs.Parts.{Network, SameShape}
 use Rattle.transyt_track.specs.Own.{PlacesValue}
-use Rattle.transyt_track.specs.Change.{AreReaders, is_reader, reads}
+use Rattle.transyt_track.specs.Readers.{AreReaders, is_reader, reads}
+use Rattle.transyt_track.proofs.ShapeLaws.{shape_count}
 
 -- a fact of each number that is among these is one of the whole list
 all_among : (fact : ℕ → Type 0) (xs : List ℕ) → ((x : ℕ) → list_any (nat_eq x) xs ≡ true → fact x) → All fact xs
@@ -64,10 +65,14 @@ module _ (places : PlacesValue) (items : List ℕ) (are : items ≡ places.feede
       grind (arith, fed, some)
 
 -- the readers of a link are links
-pub readers_inside : (net : Network) (readers : List (List ℕ)) (other count : ℕ) → AreReaders net readers
-    → other < length net.links → length net.links ≡ count → (rs : List ℕ) → rs ≡ slice_index_or readers other []
+pub readers_inside : (a b : Network) → SameShape a b → (readers : List (List ℕ)) → AreReaders a readers → (l count : ℕ)
+    → l < length b.links → count ≡ length b.links → (rs : List ℕ) → rs ≡ slice_index_or readers l rs
     → All (λ r. r < count) rs
-readers_inside net readers other count all here same rs is =
-    subst (λ n. All (λ r. r < n) rs) same
-    (all_among (λ r. r < length net.links) rs
-    (λ r among. all.inside other r here (sym (ap (list_any (nat_eq r)) is) ∙ among)))
+readers_inside a b same readers all l count inside is rs at_place =
+    let links = shape_count a b same in
+    let here : l < length a.links = omega (arith, inside, links) in
+    let are : rs ≡ slice_index_or readers l [] =
+    at_place ∙ get_or_default readers l rs [] (omega (arith, all.count, here)) in
+    subst (λ n. All (λ r. r < n) rs) (links ∙ sym is)
+    (all_among (λ r. r < length a.links) rs
+    (λ r among. all.inside l r here (sym (ap (list_any (nat_eq r)) are) ∙ among)))

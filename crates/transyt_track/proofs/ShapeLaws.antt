@@ -10,7 +10,7 @@ use Rattle.transyt_net.specs.Parts.{Network, link_of, SameShape}
 use Rattle.transyt_net.specs.Valid.{place_of}
 use Rattle.transyt_net.specs.Valid.{found_or_first, link_place}
 use Rattle.transyt_track.specs.Own.{feeder_place, rule_place, node_place, places_at, ArePlaces, PlacesValue}
-use Rattle.transyt_track.specs.Change.{AreReaders, reads}
+use Rattle.transyt_track.specs.Readers.{AreReaders, reads}
 use Rattle.transyt_track.proofs.OwnLaws.{numbers_same, bare_at}
 use Rattle.transyt_track.proofs.PlaceLaws.{place_read, feeders_inside, rule_inside}
 

@@ -8,7 +8,8 @@ use Rattle.transyt_sweep.specs.Reading.{Fits}
 use Rattle.transyt_sweep.specs.Front.{AreEvaluation}
 use Rattle.transyt_kept.specs.Saved.{KeptValue}
 use Rattle.transyt_track.specs.Own.{PlacesValue, ArePlaces, all_places}
-use Rattle.transyt_track.specs.Change.{AreReaders, HasRoom}
+use Rattle.transyt_track.specs.Change.{HasRoom}
+use Rattle.transyt_track.specs.Readers.{AreReaders}
 use Rattle.transyt_track.specs.declared.change.Front.{Front}
 use Rattle.transyt_track.specs.Tracker.{AreOfMark, IsTracking}
 use Rattle.transyt_track.proofs.ShapeLaws.{shape_frame, shape_count, shape_table, shape_readers}

@@ -6,6 +6,8 @@ use Rattle.std.specs.Prelude.{slice_index_or}
 use Rattle.std.specs.Str.{bytes_eq}
 use Rattle.std.specs.List.{list_any}
 use Rattle.std.specs.Option.{is_some}
+use Rattle.std.specs.Cmp.Lexicographic.{same_text}
+use Rattle.std.proofs.lemmas.Bool.{or_parts}
 use Rattle.std.proofs.lemmas.List.{get_or_default}
 use Rattle.transyt_parts.specs.declared.link.GiveWay.{GiveWay}
 use Rattle.transyt_net.specs.Parts.{Network, link_of, SameShape}
@@ -18,7 +20,7 @@ use Rattle.transyt_sweep.proofs.SweepLaws.{evaluated_is}
 use Rattle.transyt_sweep.proofs.StepLaws.{cell_steps}
 use Rattle.transyt_sweep.proofs.FrontLaws.{cell_is}
 use Rattle.transyt_track.specs.Own.{own, same_own}
-use Rattle.transyt_track.specs.Change.{AreReaders}
+use Rattle.transyt_track.specs.Readers.{AreReaders}
 use Rattle.transyt_track.specs.Front.{AreAt, AreFlags, flag, own_differs}
 use Rattle.transyt_track.proofs.DataLaws.{green_same}
 use Rattle.transyt_track.proofs.DueLaws.{not_false, own_told}
@@ -41,7 +43,7 @@ worked_steps net l read n c made steps =
 module _ (a b : Network) (s l : ℕ) (rows : RowsValue) (awaited : List Bool) (at : AreAt a b s l rows awaited)
     (same : SameShape a b) (first : 1 ≤ s) (swept : s ≤ b.frame.sweeps) (inside : l < length b.links) (c : CellValue)
     (made : c ≡ cell_by b (read_in rows s l) l) where
-  pub worked_is : c ≡ cell_at b s l
+  worked_is : c ≡ cell_at b s l
   worked_is = made ∙ cell_is b (out_of a) s l rows at.outs first swept inside
 
   pub worked_turn : AreRows rows → (d : Bool) → d ≡ not (bytes_eq (out_at rows s l) c.out) → (own_changed : List Bool)
@@ -56,16 +58,32 @@ module _ (a b : Network) (s l : ℕ) (rows : RowsValue) (awaited : List Bool) (a
       at_place ∙ get_or_default readers l rs [] (omega (arith, all.count, links, inside)) in
       let moved = differs_told a b s l rows awaited at same first swept inside c worked_is d told in
       turned_worked a b s l rows awaited at same first swept inside kept c worked_is passed
-      (flags_passed a b s l rows awaited at links inside own_changed owned readers all d moved rs are passed count flags)
+      (flags_passed a b s l rows awaited at links inside own_changed owned readers all d moved rs are passed count
+      flags)
 
 -- the row that is shown is what is worked out anew
-pub go_stays : (a b : Network) (s l : ℕ) (rows : RowsValue) (awaited : List Bool) → AreAt a b s l rows awaited
+go_stays : (a b : Network) (s l : ℕ) (rows : RowsValue) (awaited : List Bool) → AreAt a b s l rows awaited
     → SameShape a b → l < length b.links → b.frame.sweeps ≡ s → own_differs a b l ≡ false
     → is_some (link_of b l).gives_way ≡ false → (shown_at rows l).go ≡ (cell_at b s l).go
 go_stays a b s l rows awaited at same inside last none no_other =
     let inside_a : l < length a.links = omega (arith, inside, shape_count a b same) in
-    let sames = same_data a b l same inside_a (own_told (own a l) (own b l) (not_false (same_own (own a l) (own b l)) none))
-    in
+    let sames = same_data a b l same inside_a (own_told (own a l) (own b l) (not_false (same_own (own a l) (own b l))
+    none)) in
     ap (λ (v : CellValue). v.go) (shown_now b (evaluated b) (evaluated a) s l rows at.shown last inside)
     ∙ ap (λ (v : CellValue). v.go) (evaluated_is a l)
     ∙ green_same a b l sames (read_of a a.frame.sweeps l) (read_of b s l) (no_rule (link_of b l).gives_way no_other)
+
+-- so the scratch has the GO that is shown where neither may differ
+pub go_told : (a b : Network) (s l : ℕ) (rows : RowsValue) (awaited : List Bool) → AreAt a b s l rows awaited
+    → SameShape a b → 1 ≤ s → s ≤ b.frame.sweeps → l < length b.links → (c : CellValue)
+    → c ≡ cell_by b (read_in rows s l) l → (own_changed : List Bool)
+    → AreFlags (own_differs a b) (length b.links) own_changed → s ≡ b.frame.sweeps → (may : Bool)
+    → may ≡ (flag own_changed l || is_some (link_of b l).gives_way) → may ≡ false → (shown_at rows l).go ≡ c.go
+go_told a b s l rows awaited at same first swept inside c made own_changed owned last may told none =
+    let parts = or_parts (flag own_changed l) (is_some (link_of b l).gives_way) (sym told ∙ none) in
+    go_stays a b s l rows awaited at same inside (sym last) (sym (owned.flagged l inside) ∙ parts.0) parts.1
+    ∙ sym (ap (λ (v : CellValue). v.go) (worked_is a b s l rows awaited at same first swept inside c made))
+
+-- and its departures are those of the rows where they don't differ
+pub out_told : (d : Bool) (one other : List ℕ) → d ≡ not (bytes_eq one other) → d ≡ false → one ≡ other
+out_told d one other told none = same_text one other (sym (not_false (bytes_eq one other) (sym told ∙ none)))

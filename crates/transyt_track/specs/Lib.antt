@@ -1,4 +1,5 @@
 pub mod Own
+pub mod Readers
 pub mod Due
 pub mod Change
 pub mod WorkedWork

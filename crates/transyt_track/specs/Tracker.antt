@@ -6,7 +6,8 @@ use Rattle.transyt_kept.specs.Rows.{RowsValue}
 use Rattle.transyt_sweep.specs.Front.{AreEvaluation}
 use Rattle.transyt_track.specs.declared.change.Front.{Front}
 use Rattle.transyt_track.specs.Own.{PlacesValue, ArePlaces}
-use Rattle.transyt_track.specs.Change.{AreReaders, HasRoom}
+use Rattle.transyt_track.specs.Change.{HasRoom}
+use Rattle.transyt_track.specs.Readers.{AreReaders}
 
 -- a tracker: the network that it stands for, and the one that its open mark stands for, or none
 pub record TrackerValue : Type 0 where

@@ -1,5 +1,10 @@
 //! A change that a tracker follows, and the front that follows it.
 
+ghost use Rattle.std.specs.Option.{ForSome};
+ghost use Rattle.transyt_net.specs.Parts.{SameShape};
+ghost use Rattle.transyt_track.specs.Own.{ArePlaces, DifferAt};
+ghost use Rattle.transyt_track.specs.Readers.{AreReaders};
+
 use crate::own::Places;
 use crate::readers::Readers;
 use transyt_kept::KeptRows;
@@ -19,6 +24,10 @@ pub(crate) struct Change<'a> {
     pub(crate) places: &'a [Places],
     /// The links that read each link.
     pub(crate) readers: &'a [Readers],
+    ghost same_shape: { SameShape before.now after.now },
+    ghost one_node: { ForSome node (λ place. DifferAt place before.now after.now) },
+    ghost are_places: { ArePlaces before.now places.now },
+    ghost are_readers: { AreReaders before.now readers.now },
 }
 
 /// The rows while they go over from one network to another, and all that changes with them.

@@ -6,9 +6,11 @@ ghost use Rattle.std.specs.List.{list_any};
 ghost use Rattle.std.specs.Option.{is_some};
 ghost use Rattle.transyt_net.specs.Parts.{link_of};
 ghost use Rattle.transyt_kept.specs.Rows.{out_at};
+ghost use Rattle.transyt_sweep.specs.Cell.{cell_by};
 ghost use Rattle.transyt_sweep.specs.Front.{AreEvaluation};
+ghost use Rattle.transyt_sweep.specs.Reading.{Fits, read_in};
 ghost use Rattle.transyt_track.specs.Due.{is_due, due_at, due};
-ghost use Rattle.transyt_track.specs.Change.{HasRoom, IsChange, IsFront};
+ghost use Rattle.transyt_track.specs.Change.{HasRoom, IsFront};
 ghost use Rattle.transyt_track.specs.Front.{flag};
 
 use crate::change::{Change, Front};
@@ -16,7 +18,7 @@ use crate::readers::Readers;
 use crate::replacing::{Differs, leave, place};
 use crate::starting::set_out;
 use std::sync::ledger::Ledger;
-use transyt_kept::Rows;
+use transyt_kept::{KeptRows, Rows};
 use transyt_net::Net;
 use transyt_steps::Steps;
 use transyt_sweep::{Scratch, cell};
@@ -78,6 +80,29 @@ fn go_may_differ(net: &Net, own_changed: &[bool], link: usize) -> bool
     own_changed[link] || at.gives_way.is_some()
 }
 
+/// Works a link out into a scratch. Returns whether its departures differ from those of the rows.
+fn work_cell<L: Ledger>(
+    net: &Net,
+    sweep: u32,
+    link: usize,
+    kept: &KeptRows,
+    scratch: &mut Scratch,
+    steps: &mut Steps<L>,
+) -> bool
+    requires first { 1 ≤ sweep }
+    requires last { sweep ≤ net.now.frame.sweeps }
+    requires link { link < length net.now.links }
+    requires fits { Fits net.now kept.now.now }
+    requires step_count { length scratch.old.arrivals ≡ net.now.frame.step_count }
+    ensures value { scratch.new ≡ cell_by net.now (read_in kept.now.now sweep link) link }
+    ensures differs { result ≡ not (bytes_eq (out_at kept.now.now sweep link) scratch.new.out) }
+    ensures steps { steps.new ≡ steps.old + 1 }
+{
+    let rows = kept.rows();
+    cell(net, link, sweep, rows, scratch, steps);
+    row_differs(rows, sweep, link, scratch)
+}
+
 /// The link at the front is due: it is worked out.
 fn work_out<L: Ledger>(
     change: &Change<'_>,
@@ -86,7 +111,6 @@ fn work_out<L: Ledger>(
     front: &mut Front,
     steps: &mut Steps<L>,
 )
-    requires change { IsChange change.now }
     requires first { 1 ≤ sweep }
     requires last { sweep ≤ change.now.after.now.frame.sweeps }
     requires link { link < length change.now.after.now.links }
@@ -97,9 +121,7 @@ fn work_out<L: Ledger>(
 {
     let after = change.after;
     after.frame();
-    let rows = front.kept.rows();
-    cell(after, link, sweep, rows, &mut front.scratch, steps);
-    let differs = row_differs(rows, sweep, link, &front.scratch);
+    let differs = work_cell(after, sweep, link, &front.kept, &mut front.scratch, steps);
     let readers = change.readers;
     pass_on(
         link,
@@ -138,7 +160,6 @@ fn turn<L: Ledger>(
     front: &mut Front,
     steps: &mut Steps<L>,
 ) -> u64
-    requires change { IsChange change.now }
     requires first { 1 ≤ sweep }
     requires last { sweep ≤ change.now.after.now.frame.sweeps }
     requires link { link < length change.now.after.now.links }
@@ -165,7 +186,6 @@ fn sweep_links<L: Ledger>(
     front: &mut Front,
     steps: &mut Steps<L>,
 ) -> u64
-    requires change { IsChange change.now }
     requires first { 1 ≤ sweep }
     requires last { sweep ≤ change.now.after.now.frame.sweeps }
     requires front { IsFront change.now sweep 0 front.old }
@@ -188,7 +208,6 @@ pub(crate) fn follow_rows<L: Ledger>(
     front: &mut Front,
     steps: &mut Steps<L>,
 ) -> u64
-    requires change { IsChange change.now }
     requires rows { AreEvaluation change.now.before.now front.old.kept.now }
     requires room { HasRoom change.now.after.now front.old }
     ensures rows { AreEvaluation change.now.after.now front.new.kept.now }

@@ -2,7 +2,7 @@
 
 ghost use Rattle.std.specs.Prelude.{◌≡◌, ◌<◌, ◌&&◌, ◌||◌, ℕ, false, length, nat_eq, All, IfOk, IfSome, OnOk};
 ghost use Rattle.transyt_track.specs.Own.{ArePlaces};
-ghost use Rattle.transyt_track.specs.Change.{AreReaders, is_reader, reads};
+ghost use Rattle.transyt_track.specs.Readers.{AreReaders, is_reader, reads};
 
 use crate::own::Places;
 use std::alloc::{AllocError, Global};

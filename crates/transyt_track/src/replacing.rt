@@ -4,7 +4,6 @@ ghost use Rattle.std.specs.Prelude.{◌≡◌, ◌<◌, ◌≤◌, false, length
 ghost use Rattle.transyt_kept.specs.Rows.{AreRows, out_at, shown_at, placed, with_out, with_rest};
 ghost use Rattle.transyt_sweep.specs.Reading.{Fits};
 ghost use Rattle.transyt_sweep.specs.Sweeps.{evaluated};
-ghost use Rattle.transyt_track.specs.Change.{IsChange};
 ghost use Rattle.transyt_track.specs.Front.{left_at};
 
 use crate::change::{Change, Front};
@@ -76,7 +75,6 @@ pub(crate) fn place(net: &Net, sweep: u32, link: usize, differs: Differs, front:
 
 /// A link that isn't due is weighed anew at the last sweep; where its weights are equal, its index stays.
 pub(crate) fn leave(change: &Change<'_>, sweep: u32, link: usize, kept: &mut KeptRows)
-    requires change { IsChange change.now }
     requires fits { Fits change.now.after.now kept.old.now }
     requires link { link < length change.now.after.now.links }
     requires shown { sweep ≡ change.now.after.now.frame.sweeps

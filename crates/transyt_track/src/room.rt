@@ -2,7 +2,7 @@
 
 ghost use Rattle.std.specs.Prelude.{◌≡◌, length, IfOk};
 ghost use Rattle.transyt_track.specs.Own.{all_places};
-ghost use Rattle.transyt_track.specs.Change.{AreReaders};
+ghost use Rattle.transyt_track.specs.Readers.{AreReaders};
 
 use crate::own::{Places, all_places};
 use crate::readers::{Readers, all_readers};

@@ -6,7 +6,7 @@ ghost use Rattle.std.specs.Option.{option_map_or};
 ghost use Rattle.transyt_net.specs.Parts.{SameShape};
 ghost use Rattle.transyt_sweep.specs.Front.{AreEvaluation};
 ghost use Rattle.transyt_track.specs.Own.{ArePlaces, DifferAt, HaveData, HaveNode};
-ghost use Rattle.transyt_track.specs.Change.{HasRoom, IsChange, IsFront};
+ghost use Rattle.transyt_track.specs.Change.{HasRoom, IsFront};
 ghost use Rattle.transyt_track.specs.Due.{differs};
 ghost use Rattle.transyt_track.specs.Front.{flag, flag_from, AreFlags, AreDownWhere, own_differs, total_differs};
 ghost use Rattle.transyt_track.specs.Front.{awaits, AreStarting};
@@ -46,7 +46,6 @@ fn flag_nodes(before: &Net, after: &Net, node_changed: &mut [bool])
 
 /// Starts a link anew where its departures before the first sweep differ.
 fn start_link(change: &Change<'_>, link: usize, moves: bool, front: &mut Front)
-    requires change { IsChange change.now }
     requires link { link < length change.now.after.now.links }
     requires moves { moves ≡ differs change.now.before.now change.now.after.now 0 link }
     requires some { 1 ≤ change.now.after.now.frame.sweeps }
@@ -69,7 +68,6 @@ fn start_link(change: &Change<'_>, link: usize, moves: bool, front: &mut Front)
 /// Flags the links whose own data differ, the total flows of their feeders apart, and starts those anew whose
 /// departures before the first sweep differ: their other flag goes up.
 fn start_links(change: &Change<'_>, front: &mut Front)
-    requires change { IsChange change.now }
     requires rows { AreEvaluation change.now.before.now front.old.kept.now }
     requires room { HasRoom change.now.after.now front.old }
     ensures starting { AreStarting change.now.before.now change.now.after.now
@@ -210,7 +208,6 @@ fn flag_node(before: &Net, after: &Net, node: usize, places: &[Places], own_chan
 /// The rows stand before the first sweep, and the links are flagged whose own data differ and that are due first. Where
 /// the networks differ in the times of a node alone, no link is started anew.
 pub(crate) fn set_out(change: &Change<'_>, front: &mut Front)
-    requires change { IsChange change.now }
     requires rows { AreEvaluation change.now.before.now front.old.kept.now }
     requires room { HasRoom change.now.after.now front.old }
     ensures front { IsFront change.now 1 0 front.new }

@@ -55,7 +55,7 @@ returns-clause-count g c =
     omega (
       arith,
       ap (λ (f : Frame). f.sweeps) c.frame-sweep-end.ensures.value,
-      ap (λ (f : Frame). f.sweeps) (shape_frame a b c.requires.change.shape),
+      ap (λ (f : Frame). f.sweeps) (shape_frame a b c.args.change.now.same_shape),
     ) in
     c.loop-sweep.invariant.count ∙ ap (due_through a b) all ∙ due_is a b
 

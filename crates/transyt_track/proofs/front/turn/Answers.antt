@@ -37,7 +37,7 @@ returns-else-is_awaited-clause-front g c =
     ∙ c.if-is_awaited.false in
     record {
       at = rw c.leave.ensures (turned_left a b c.args.sweep c.args.link c.args.front.now.kept.now flags r.front.at
-          r.change.shape r.first r.last r.link none);
+          c.args.change.now.same_shape r.first r.last r.link none);
       own = r.front.own;
       steps = r.front.steps;
     }

@@ -3,7 +3,7 @@ use Rattle.std.proofs.Common.{◌<◌, length, nat_eq, get_or, IfSome, refl, ap,
 use Rattle.std.proofs.Common.{◌∙◌, arith}
 use Rattle.std.proofs.lemmas.List.Folds.{list_any_more}
 use Rattle.transyt_track.specs.Own.{PlacesValue}
-use Rattle.transyt_track.specs.Change.{is_reader}
+use Rattle.transyt_track.specs.Readers.{is_reader}
 use Rattle.transyt_track.proofs.ReaderLaws.{added_none, added_rule, on_ok}
 use Rattle.transyt_track.proofs.readers.add_reads.Goals as goal
 

@@ -1,7 +1,7 @@
 -- The feeders, one after another.
 use Rattle.std.proofs.Common.{◌≡◌, ◌||◌, ◌&&◌, ℕ, length, nat_eq, take}
 use Rattle.std.specs.List.{list_any}
-use Rattle.transyt_track.specs.Change.{is_reader}
+use Rattle.transyt_track.specs.Readers.{is_reader}
 use Rattle.transyt_track.proofs.readers.add_reads.Given as goal
 
 -- the link is a reader of those so far

@@ -1,7 +1,7 @@
 -- The links, one after another.
 use Rattle.std.proofs.Common.{◌≡◌, ◌&&◌, ℕ, length, nat_lt}
 use Rattle.transyt_track.specs.Own.{places_at}
-use Rattle.transyt_track.specs.Change.{is_reader, reads}
+use Rattle.transyt_track.specs.Readers.{is_reader, reads}
 use Rattle.transyt_track.proofs.readers.all_readers.Given as goal
 
 -- those so far are readers of what they read

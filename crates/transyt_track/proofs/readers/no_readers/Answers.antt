@@ -1,7 +1,7 @@
 -- One list more.
 use Rattle.std.proofs.Common.{◌≡◌, [], ◌∷◌, ◌++◌, length, ap, ◌∙◌, arith}
 use Rattle.std.proofs.lemmas.List.{length-append}
-use Rattle.transyt_track.specs.Change.{is_reader}
+use Rattle.transyt_track.specs.Readers.{is_reader}
 use Rattle.transyt_track.proofs.ReaderLaws.{none_at_first, none_more}
 use Rattle.transyt_track.proofs.readers.no_readers.Goals as goal
 

@@ -1,6 +1,6 @@
 -- The lists, one after another.
 use Rattle.std.proofs.Common.{◌≡◌, ℕ, false, length}
-use Rattle.transyt_track.specs.Change.{is_reader}
+use Rattle.transyt_track.specs.Readers.{is_reader}
 use Rattle.transyt_track.proofs.readers.no_readers.Given as goal
 
 -- those so far are empty

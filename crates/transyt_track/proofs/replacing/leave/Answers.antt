@@ -18,5 +18,5 @@ returns-else-not-same_weights c =
     let told : IsTrue c.same_weights.result = search rules in
     ap (λ (r : RowsValue). record c.args.kept.now { now = r })
     (sym (ap (λ w. if w then with_weights rows b l else rows) (same_test c.args.sweep b.frame.sweeps (sym last))
-    ∙ weights_stay c.args.change.now.before.now b l rows c.requires.change.shape (c.same_weights.ensures.0 told)
+    ∙ weights_stay c.args.change.now.before.now b l rows c.args.change.now.same_shape (c.same_weights.ensures.0 told)
     (ap (λ (v : CellValue). v.figures) (c.requires.shown last))))

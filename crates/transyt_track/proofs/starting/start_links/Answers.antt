@@ -11,7 +11,7 @@ use Rattle.transyt_track.proofs.starting.start_links.Goals as goal
 
 pub loop-link-init : goal.loop-link-init
 loop-link-init c = record {
-  starting = started_none c.args.change.now.before.now c.args.change.now.after.now c.requires.change.shape c.args.front.now.kept.now c.args.front.now.awaited.items
+  starting = started_none c.args.change.now.before.now c.args.change.now.after.now c.args.change.now.same_shape c.args.front.now.kept.now c.args.front.now.awaited.items
       c.requires.rows c.requires.room.count;
   room = c.requires.room;
   down = λ m none. absurd (omega arith);
@@ -21,7 +21,7 @@ loop-link-init c = record {
 pub start_link-requires-clause-moves : goal.start_link-requires-clause-moves
 start_link-requires-clause-moves c =
     c.other_total-moves.ensures
-    ∙ total_start c.args.change.now.before.now c.args.change.now.after.now c.requires.change.shape c.frame.ensures.valid.sound.frame c.loop-link.link
+    ∙ total_start c.args.change.now.before.now c.args.change.now.after.now c.args.change.now.same_shape c.frame.ensures.valid.sound.frame c.loop-link.link
 
 pub loop-link-preserved : goal.loop-link-preserved
 loop-link-preserved c = record {
@@ -53,7 +53,7 @@ returns-clause-totals c = record {
   count = c.loop-link.invariant.starting.count;
   flagged = λ m inside.
       c.loop-link.invariant.starting.flagged m (omega (arith, inside, ap length c.links-link-end.ensures.value))
-      ∙ sym (total_start c.args.change.now.before.now c.args.change.now.after.now c.requires.change.shape c.frame.ensures.valid.sound.frame m);
+      ∙ sym (total_start c.args.change.now.before.now c.args.change.now.after.now c.args.change.now.same_shape c.frame.ensures.valid.sound.frame m);
 }
 
 pub returns-clause-down : goal.returns-clause-down
@@ -65,14 +65,14 @@ returns-clause-down c = record {
 
 pub same_data-same-requires-clause-places : goal.same_data-same-requires-clause-places
 same_data-same-requires-clause-places c =
-    (places_read c.args.change.now.before.now c.args.change.now.after.now c.requires.change.shape
-    c.args.change.now.places.now c.requires.change.places c.loop-link.link
+    (places_read c.args.change.now.before.now c.args.change.now.after.now c.args.change.now.same_shape
+    c.args.change.now.places.now c.args.change.now.are_places c.loop-link.link
     (omega (arith, c.loop-link-test.true, ap length c.links-link-end.ensures.value)) c.index-places-link.result
     c.index-places-link.is).0
 
 pub same_data-same-requires-clause-places_after : goal.same_data-same-requires-clause-places_after
 same_data-same-requires-clause-places_after c =
-    (places_read c.args.change.now.before.now c.args.change.now.after.now c.requires.change.shape
-    c.args.change.now.places.now c.requires.change.places c.loop-link.link
+    (places_read c.args.change.now.before.now c.args.change.now.after.now c.args.change.now.same_shape
+    c.args.change.now.places.now c.args.change.now.are_places c.loop-link.link
     (omega (arith, c.loop-link-test.true, ap length c.links-link-end.ensures.value)) c.index-places-link.result
     c.index-places-link.is).1

@@ -1,9 +1,7 @@
 -- The rows are those of the network after.
-use Rattle.std.proofs.Common.{ap, sym, subst, ◌∙◌, rules}
+use Rattle.std.proofs.Common.{ap, ◌∙◌}
 use Rattle.transyt_net.specs.Parts.{shape, SameShape}
 use Rattle.transyt_track.specs.Due.{due}
-use Rattle.transyt_track.specs.Own.{ArePlaces}
-use Rattle.transyt_track.specs.Change.{AreReaders}
 use Rattle.transyt_track.specs.Tracker.{TrackerValue}
 use Rattle.transyt_track.proofs.TrackLaws.{room_shape, followed_tracks}
 use Rattle.transyt_track.proofs.tracker.Tracker.follow.Goals as goal
@@ -20,16 +18,6 @@ invariant_of-self g c =
 pub returns-clause-due : goal.returns-clause-due
 returns-clause-due g c =
     c.follow_rows-due.ensures.count ∙ ap (λ (t : TrackerValue). due t.net c.args.after.now) c.self.view_is
-
-pub follow_rows-due-requires-clause-change : goal.follow_rows-due-requires-clause-change
-follow_rows-due-requires-clause-change g c =
-    let i = c.self.inside in
-    record {
-      shape = ap (λ (t : TrackerValue). shape t.net) c.self.view_is ∙ c.requires;
-      node = search rules;
-      places = subst (ArePlaces i.net) (sym c.deref.ensures.value) c.self.invariant.table;
-      readers = subst (AreReaders i.net) (sym c.deref-2.ensures.value) c.self.invariant.reading;
-    }
 
 pub follow_rows-due-requires-clause-room : goal.follow_rows-due-requires-clause-room
 follow_rows-due-requires-clause-room g c =

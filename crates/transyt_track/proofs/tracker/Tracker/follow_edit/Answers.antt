@@ -1,10 +1,8 @@
 -- The rows are those of the network with the edit made.
-use Rattle.std.proofs.Common.{◌≡◌, IfSome, ap, sym, subst, ◌∙◌}
+use Rattle.std.proofs.Common.{◌≡◌, ap, sym, ◌∙◌}
 use Rattle.transyt_net.specs.Parts.{shape, SameShape}
 use Rattle.transyt_net.specs.Edits.{with_edit}
-use Rattle.transyt_track.specs.Own.{ArePlaces, DifferAt}
 use Rattle.transyt_track.specs.Due.{due}
-use Rattle.transyt_track.specs.Change.{AreReaders}
 use Rattle.transyt_track.specs.Tracker.{TrackerValue}
 use Rattle.transyt_track.proofs.TrackLaws.{room_shape, followed_tracks}
 use Rattle.transyt_track.proofs.tracker.Tracker.follow_edit.Goals as goal
@@ -24,18 +22,6 @@ invariant_of-self g c =
 pub returns-clause-due : goal.returns-clause-due
 returns-clause-due g c =
     c.follow_rows-due.ensures.count ∙ ap (λ (t : TrackerValue). due t.net c.args.after.now) c.self.view_is
-
-pub follow_rows-due-requires-clause-change : goal.follow_rows-due-requires-clause-change
-follow_rows-due-requires-clause-change g c =
-    let i = c.self.inside in
-    record {
-      shape = ap (λ (t : TrackerValue). shape t.net) c.self.view_is ∙ c.requires.shape;
-      node = subst (λ n. IfSome c.edited_node.result (λ place. DifferAt place i.net n))
-          (sym (c.requires.after ∙ sym (ap (λ (t : TrackerValue). with_edit t.net c.args.e) c.self.view_is)))
-          c.edited_node.ensures;
-      places = subst (ArePlaces i.net) (sym c.deref.ensures.value) c.self.invariant.table;
-      readers = subst (AreReaders i.net) (sym c.deref-2.ensures.value) c.self.invariant.reading;
-    }
 
 pub follow_rows-due-requires-clause-room : goal.follow_rows-due-requires-clause-room
 follow_rows-due-requires-clause-room g c =
