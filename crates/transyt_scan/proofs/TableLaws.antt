@@ -5,7 +5,7 @@ use Rattle.std.proofs.lemmas.Simd.{map-map}
 use Rattle.transyt_net.specs.Parts.{Network}
 use Rattle.transyt_climbs.specs.declared.times.CycleTimes.{CycleTimes}
 use Rattle.transyt_climbs.specs.Times.{cycle_count}
-use Rattle.transyt_climbs.specs.Plans as climbs
+use Rattle.transyt_climbs.specs.Climbs as climbs
 use Rattle.transyt_scan.specs.Rows.{listed, scan_row_of, table}
 
 -- they are those of the climbs

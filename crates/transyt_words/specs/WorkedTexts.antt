@@ -13,7 +13,7 @@ use Rattle.transyt_words.specs.Counts.{command_lines, counted_line, refused_row}
 use Rattle.transyt_words.specs.Equisat.{end_line, node_line, stage_line}
 use Rattle.transyt_words.specs.Audit.{audit_line}
 use Rattle.transyt_words.specs.Scan as scan
-use Rattle.transyt_words.specs.Table as plan
+use Rattle.transyt_words.specs.Plans as plan
 
 -- a climb at a cycle time
 abbrev pub a_row : ScanRow
