@@ -7,7 +7,7 @@ use Rattle.transyt_cycle.specs.Cycle.{minus_mod, step_before}
 pub minus_mod-lt : (n a b : ℕ) → 0 < n → minus_mod n a b < n
 minus_mod-lt n a b positive = mod-lt (a + (n - b % n)) positive
 
--- b and what its last turn lacks are whole turns
+-- b and the rest of its last turn are whole turns
 pub rest_of_turns : (n a b : ℕ) → 0 < n → (a + (n - b % n)) + b ≡ a + (b / n + 1) * n
 rest_of_turns n a b positive = omega (arith, mod-lt b positive, mod-add-div' b n)
 
@@ -47,7 +47,7 @@ pub minus_mod-turns : (n a b : ℕ) → a < n → b % n ≡ 0 → minus_mod n a 
 minus_mod-turns n a b below whole =
     minus_mod-above n a b (omega arith) (omega arith) ∙ omega (arith, mod-eq_of_lt below)
 
--- where a comes first in its turn, the difference is what is left of the turn
+-- where a comes first in its turn, the difference is the rest of the turn
 pub minus_mod-under : (n a b : ℕ) → 0 < n → a % n < b % n → minus_mod n a b ≡ n - (b % n - a % n)
 minus_mod-under n a b positive before =
     let there : b % n < n = mod-lt b positive in

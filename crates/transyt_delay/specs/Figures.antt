@@ -42,7 +42,7 @@ random_delay x y = (root (under_root x y) + x - y) / 4
 abbrev pub uniform_of : Terms → ℕ
 uniform_of terms = terms.queued / terms.frame.step_count
 
--- the random delay of what comes, before any cut, and of what the green lets pass
+-- the random delay of the arrivals, before any cut, and of GO
 abbrev pub random_of : Terms → ℕ
 random_of terms = random_delay (in_period terms.frame terms.arrivals) (in_period terms.frame terms.room)
 

@@ -27,7 +27,7 @@ pub struct Figures {
 
 /// The figures of a link from its terms.
 ///
-/// The terms are sums over one cycle, in millionths of a vehicle. What arrives and what can go are taken to the
+/// The terms are sums over one cycle, in millionths of a vehicle. Arrivals and GO are taken to the
 /// period first, each rounded down, and then the random delay is worked out.
 pub fn figures_of(terms: &Terms) -> Figures
     requires limits { InLimits terms.now }

@@ -9,7 +9,7 @@ use transyt_parts::Weights;
 /// A link's part of the performance index: its weighted delay and its weighted stops, these rounded down.
 ///
 /// `uniform` and `random` are delays and `stops` is a rate, in millionths as in `Figures`, and the index is in the
-/// same. `stop_penalty` is what a stop weighs against delay, in hundredths. The weighted sum is from LR 253; its
+/// same. `stop_penalty` is the weight of a stop against delay, in hundredths. The weighted sum is from LR 253; its
 /// scale and rounding are this project's own.
 pub fn weigh(uniform: u64, random: u64, stops: u64, stop_penalty: u32, weights: Weights) -> u128
     requires uniform_fits { uniform < 2 ^ 63 }

@@ -22,7 +22,7 @@ module _ {X A : Type 0} (f : X → List A) where
       ap length (flat_map-cons f x xs)
       ∙ omega (arith, length-append (f x) (flat_map f xs), same x, length_pieces c same xs)
 
-  -- a place by its piece and what is left, where all pieces have one length
+  -- a place by its piece and the rest, where all pieces have one length
   pub at_piece : (c : ℕ) → ((x : X) → length (f x) ≡ c) → (xs : List X) (i j p : ℕ) (e : X) (d : A)
       → i < length xs → j < c → p ≡ i * c + j → get_or (flat_map f xs) p d ≡ get_or (f (get_or xs i e)) j d
   at_piece c same [] i j p e d inside low at = absurd (omega arith)
@@ -71,7 +71,7 @@ stage_move steps size n i false place inside side at =
 stage_move steps size n i true place inside side at =
     let off : place % 2 ≡ 1 = grind (arith) in at_stage steps size n i 1 place inside (omega arith) (omega arith)
 
--- a place below so many pieces, by its piece and what is left
+-- a place below that many pieces, by its piece and the rest
 pub record IsParted (n c p : ℕ) : Type 0 where
   pub some : 0 < c
   pub piece : p / c < n

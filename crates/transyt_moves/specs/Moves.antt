@@ -1,4 +1,4 @@
--- The moves of a climb: what it tries, in order. Offsets, changes and sizes are in steps.
+-- The moves that a climb tries, in order. Offsets, changes and sizes are in steps.
 use Rattle.std.specs.Prelude.{ℕ, ◌+◌, ◌%◌, Bool, true, false, List, [], ◌∷◌, ◌++◌, length, Option, Some, None}
 use Rattle.std.specs.Prelude.{slice_index_or, if◌then◌else◌}
 use Rattle.std.specs.List.{flat_map, range_with_len}
@@ -9,16 +9,16 @@ use Rattle.transyt_net.specs.declared.edit.Edit.{Edit}
 use Rattle.transyt_net.specs.declared.edit.Edit.TheVariants.{Offset, Change}
 use Rattle.transyt_net.specs.Parts.{Network}
 
--- a step so many steps on, or as many back, round the cycle
+-- a step moved by a size, on or back, round the cycle
 abbrev pub shifted : Bool → ℕ → ℕ → ℕ → ℕ
 shifted back steps step size = if back then minus_mod steps step size else (step + size) % steps
 
--- the offset of a node so many steps on, and as many back
+-- the offset of a node moved by a size on, and back
 abbrev pub offset_moves : ℕ → ℕ → NodeValue → List Edit
 offset_moves steps size n =
     Offset n.number (shifted false steps n.offset size) ∷ Offset n.number (shifted true steps n.offset size) ∷ []
 
--- the change of the stage at a place so many steps on, and as many back
+-- the change of the stage at a place moved by a size on, and back
 abbrev pub change_moves : ℕ → ℕ → NodeValue → ℕ → List Edit
 change_moves steps size n k =
     Change n.number (k + 1) (shifted false steps (stage_of n.stages k).change size)

@@ -128,7 +128,7 @@ fn node_move(step_count: u32, node: &Node, size: u32, place: u32) -> Edit
     }
 }
 
-/// A step so many steps on, or as many back, round the cycle.
+/// A step moved by a size, on or back, round the cycle.
 fn shifted(step_count: u32, step: u32, size: u32, back: bool) -> u32
     requires few_steps { step_count ≤ 120 }
     requires step { step < step_count }

@@ -8,8 +8,8 @@ use Rattle.std.proofs.Math.Nat.{pow-le-pow_right}
 pub eight_digits : (i : ℕ) → i ≤ 8 → 10 ^ i ≤ 100000000
 eight_digits i few = pow-le-pow_right {n = 10} (omega arith) few
 
--- The last digit of what is left is written before those that stand. There is room for it, and the text is that of
--- the other digits and those that stand then.
+-- The last digit of the number that is left is written before those that stand. There is room for it, and the text is
+-- that of the other digits and those that stand then.
 pub put_digit : (v r start digit : ℕ) (front ds : List ℕ) → decimal r ≡ front ++ digit ∷ []
     → decimal v ≡ decimal r ++ drop start ds → length (decimal r) ≤ start → start ≤ length ds
     → (length front + 1 ≤ start) × (decimal v ≡ front ++ drop (start - 1) (set ds (start - 1) digit))

@@ -13,7 +13,7 @@ use Rattle.std.proofs.lemmas.List.Sums.{fold-append}
 use Rattle.std.proofs.Math.Nat.{mod-lt, mod-add-div'}
 use Rattle.transyt_num.specs.Number.{word_value, number_of, IsShortest}
 
--- one digit more behind gives ten times the value and the digit
+-- one digit more at the end gives ten times the value and the digit
 pub word_value_push : (ds : List ℕ) (c : ℕ) → word_value (ds ++ c ∷ []) ≡ word_value ds * 10 + (c - 48)
 word_value_push ds c = fold-append (λ value digit. value * 10 + (digit - 48)) 0 ds (c ∷ [])
 

@@ -72,7 +72,8 @@ fn long_guess(v: u128, half: u32) -> u64
 /// The root of `n` or the number before it, where `n` is at least 2^62.
 ///
 /// Let x be `n` over 2^64. In parts of 2^30, y begins on a parabola near 1 over the root of x, and two steps of Newton's
-/// lead nearer. `n` times y is the root but for its last bits, which come of what its square leaves.
+/// lead nearer. `n` times y is the root but for its last bits, which follow from the rest that its square
+/// leaves.
 fn near_root(n: u64) -> u64 {
     let x = n >> 32;
     let slope = 3_527_623_300u64.wrapping_sub(1_759_398_870u64.wrapping_mul(x) >> 32);

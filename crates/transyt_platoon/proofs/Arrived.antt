@@ -27,7 +27,7 @@ arrived_more g first i place old new same here others j =
     (λ (apart : j ≡ place + i → ⊥). grind (arith, nat_tests, others j apart))
     (cases_eq j (place + i))
 
--- with the whole turn past, both places of a step have what the step that t steps of travel lead to it brought
+-- with the whole turn past, both places of a step have the value of the step from which t steps of travel lead to it
 arrived_whole : (g : ℕ → ℕ) (n t k : ℕ) → k < n
     → arrived_by g (t % n) n k + arrived_by g (t % n) n (n + k) ≡ g (minus_mod n k t)
 arrived_whole g n t k inside =
@@ -40,7 +40,7 @@ arrived_whole g n t k inside =
     ap g (omega (arith, minus_mod-above n k t some (omega (arith, after, own)), own)) in
     grind (arith, nat_tests, far, near)
 
--- with the whole turn past, it is what arrives
+-- with the whole turn past, it is the arriving profile
 arriving_at : (p : Platoon) (i k : ℕ) → i ≡ steps_of p → k < steps_of p
     → get_or (arriving p) k 0 ≡ arrived i k p + arrived i (steps_of p + k) p
 arriving_at p i k end inside =

@@ -1,4 +1,4 @@
--- Laws of the dispersion: what one step mixes, the smoothed profile, and where its values stand.
+-- Laws of the dispersion: the mix of one step, the smoothed profile, and where its values stand.
 use Rattle.std.proofs.Common.{◌≡◌, ◌≢◌, ℕ, zero, suc, ◌+◌, ◌-◌, ◌*◌, ◌/◌, ◌%◌, ◌<◌, ◌≤◌, List, length, get_or, set}
 use Rattle.std.proofs.Common.{replicate, sum, refl, ap, sym, ◌∙◌, arith, get_or-set_same, get_or-set_other, below_more}
 use Rattle.std.specs.List.{All, range_with_len}
@@ -107,7 +107,7 @@ placed_by_step xs ys t k j placed low high =
     ap (λ n. get_or ys (n % length xs) 0) turn ∙ ap (λ n. get_or ys n 0) (add-mod_left (length xs) (m + t))
     ∙ placed m (omega arith) ∙ ap (smoothed xs (k * t)) same
 
--- one step more of the second turn: what it mixes, the place after its own, and its value there
+-- one step more of the second turn: its mix, the place after its own, and its value there
 pub step_placed : (xs ys : List ℕ) (t k i p z r next : ℕ) → i < length xs → length ys ≡ length xs
     → z ≡ smoothed xs (k * t) (length xs + i) → p ≡ (i + t) % length xs → Placed xs ys t k i
     → r ≡ mixed (k * t) (get_or xs i 0) z → next ≡ (p + 1) % length xs

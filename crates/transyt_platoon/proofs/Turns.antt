@@ -33,7 +33,7 @@ passed_at p i j g same passed = subst (λ (k : ℕ). HasPassed p k g) same passe
 pub sent_fits : (p : Platoon) (i : ℕ) → Fits p → i < steps_of p → get_or (sent p) i 0 < p.travel.now.limit
 sent_fits p i fits below = fits i 0 (omega (arith, below, length-sent p))
 
--- so the product of the step and that of what went by before have room
+-- so the product of the step and that of the smoothed value before it have room
 pub step_fits : (p : Platoon) (i value factor : ℕ) → Fits p → i < steps_of p → factor ≡ p.travel.now.before_factor
     → value < p.travel.now.limit → product_at p i + value * factor < 2 ^ 63
 step_fits p i value factor fits below is before =

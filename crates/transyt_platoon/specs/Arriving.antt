@@ -1,10 +1,10 @@
--- Platoons: what of each sets out, and what arrives.
+-- Platoons: the profile of each as it sets out, and as it arrives.
 use Rattle.std.specs.Prelude.{List, ℕ, fold}
 use Rattle.transyt_profile.specs.Profile.{added, shared}
 use Rattle.transyt_platoon.specs.Platoon.{dispersed}
 use Rattle.transyt_platoon.specs.declared.platoon.Platoon.{Platoon}
 
--- the profile of a platoon that sets out: the part of what leaves a link that goes on
+-- the profile of a platoon that sets out: its part of the departures of the feeding link
 abbrev pub sent : Platoon → List ℕ
 sent p = shared p.part.now.part p.part.now.whole p.leaving.now
 

@@ -22,7 +22,7 @@ Fits p = All (λ v. v < p.travel.now.limit) (sent p)
 abbrev pub gone_by : Platoon → ℕ → ℕ
 gone_by p j = smoothed (sent p) (p.travel.now.percent * p.travel.now.time) j
 
--- After j steps of both turns of a platoon: what went by last, and what each step takes of the travel.
+-- After j steps of both turns of a platoon: the smoothed value of the last step, and the numbers of its travel.
 pub record HasPassed (p : Platoon) (j : ℕ) (g : Passing) : Type 0 where
   pub value : g.value ≡ gone_by p j
   pub small : g.value < p.travel.now.limit
@@ -43,7 +43,7 @@ arrived_by g first i j = if ltb j first then 0 else (if ltb j (first + i) then g
 abbrev pub arrived : ℕ → ℕ → Platoon → ℕ
 arrived i j p = arrived_by (λ m. gone_by p (steps_of p + 1 + m)) (p.travel.now.time % steps_of p) i j
 
--- the product of what sets out at step k by the first factor of the travel
+-- the product of the value that sets out at step k with the first factor of the travel
 abbrev pub product_at : Platoon → ℕ → ℕ
 product_at p k = slice_index (sent p) k * p.travel.now.starting_factor
 
@@ -51,7 +51,7 @@ product_at p k = slice_index (sent p) k * p.travel.now.starting_factor
 abbrev pub InLane : ℕ → List ℕ → Platoon → Type 0
 InLane lane lanes p = (k : ℕ) → k < steps_of p → slice_index lanes (4 * k + lane) ≡ product_at p k
 
--- Platoons of as many steps as the cycle, of each of which the products are ready in a lane.
+-- Platoons of as many steps as the cycle, each with its products ready in a lane.
 pub record AreReady (steps : ℕ) (lanes : List ℕ) (ps : List Platoon) : Type 0 where
   pub same : All (λ p. steps_of p ≡ steps) ps
   pub fit : All Fits ps

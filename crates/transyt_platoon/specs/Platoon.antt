@@ -7,7 +7,8 @@ use Rattle.transyt_cycle.specs.Cycle.{minus_mod}
 abbrev pub travel_steps : ℕ → ℕ → ℕ → ℕ
 travel_steps cruise step_count cycle = (8 * cruise * step_count + 5 * cycle) / (10 * cycle)
 
--- 100 parts of what sets out and `weight` parts of what went by a step before, in units per step, rounded down
+-- 100 parts of the value that sets out and `weight` parts of the smoothed value a step before, in units per step,
+-- rounded down
 abbrev pub mixed : ℕ → ℕ → ℕ → ℕ
 mixed weight starting before = (100 * starting + weight * before) / (100 + weight)
 

@@ -1,4 +1,4 @@
--- How a platoon travels, with what is worked out of it once.
+-- How a platoon travels, with the factors that follow from it.
 use Rattle.std.specs.Prelude.{◌≡◌, ℕ, ◌+◌, ◌*◌, ◌%◌, ◌<◌, ◌≤◌}
 use Rattle.transyt_platoon.specs.declared.travel.Travel.{Travel}
 

@@ -1,4 +1,4 @@
--- Worked platoons, with what comes of each. No number is neutral.
+-- Worked platoons, each with its answer. No number is neutral.
 use Rattle.std.specs.Prelude.{ℕ, List, [], ◌∷◌}
 
 -- cruise times, numbers of steps and cycles, with the travel time of each; a half is rounded up
@@ -14,7 +14,7 @@ worked_travels =
     ∷ ((0, 18, 90), 0)
     ∷ []
 
--- weights, what sets out and what went by a step before, with what goes by
+-- weights, the value that sets out, the smoothed value a step before, and the smoothed value
 abbrev pub worked_mixes : List ((ℕ × ℕ × ℕ) × ℕ)
 worked_mixes =
     ((160, 1000003, 77777), 432479)

@@ -25,7 +25,7 @@ pub(crate) struct Abreast<'a> {
 }
 
 /// Makes the products of platoons ready, each in a lane of its own, with the sum of each, and says so; says no at the
-/// first of which a value is not below the limit of its travel.
+/// first that has a value not below the limit of its travel.
 pub(crate) fn fill_lanes(
     step_count: usize,
     platoons: &[Platoon<'_>],

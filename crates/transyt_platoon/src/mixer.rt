@@ -23,15 +23,15 @@ pub(crate) fn most_of(weight: u64) -> u64
 /// The factors of `travel_by`, which take the place of a division.
 #[derive(Clone, Copy)]
 struct Mixer {
-    /// The weight of what went by a step before, against 100 of what sets out.
+    /// The weight of the smoothed value a step before, against 100 for the value that sets out.
     weight: u64,
     /// Values below this are mixed.
     most: u64,
     /// The reciprocal of 100 and the weight, against 2^64.
     reciprocal: u64,
-    /// 100 times the reciprocal: the factor of what sets out.
+    /// 100 times the reciprocal: the factor of the value that sets out.
     starting_factor: u64,
-    /// The weight times the reciprocal: the factor of what went by a step before.
+    /// The weight times the reciprocal: the factor of the smoothed value a step before.
     before_factor: u64,
     ghost some: { 0 < weight },
     ghost weight_fits: { weight ≤ 96000 },

@@ -20,7 +20,7 @@ pub(crate) struct Passing {
 }
 
 impl Passing {
-    /// Before the first step, as if the mean had gone by; `total` is the sum of what sets out.
+    /// Before the first step, as if the mean had gone by; `total` is the sum of the departures that set out.
     pub(crate) fn begin(platoon: &Platoon<'_>, total: u64) -> Passing
         requires some { 0 < steps_of platoon.now }
         requires fits { Fits platoon.now }

@@ -51,7 +51,7 @@ pub fn disperse_together(
     true
 }
 
-/// Adds platoons of which the products are ready to two turns round the cycle; `totals` are their sums.
+/// Adds platoons whose products are ready to two turns round the cycle; `totals` are their sums.
 fn add_all(abreast: &Abreast<'_>, totals: &[u64], turns: &mut [u64])
     requires some { 0 < length abreast.now.platoons.now }
     requires totals_len { length totals.now ≡ length abreast.now.platoons.now }

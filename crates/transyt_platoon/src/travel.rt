@@ -1,4 +1,4 @@
-//! How a platoon travels: its travel time in steps, and what is worked out of that and the dispersion once.
+//! How a platoon travels: its travel time in steps, and the factors that follow from time and dispersion.
 
 ghost use Rattle.std.specs.Prelude.{◌≡◌, ◌+◌, ◌*◌, ◌<◌, ◌≤◌};
 ghost use Rattle.transyt_platoon.specs.Platoon.{travel_steps};
@@ -20,7 +20,7 @@ pub fn travel_steps(cruise: u32, step_count: u32, cycle: u32) -> u32
     (8 * cruise * step_count + 5 * cycle) / (10 * cycle)
 }
 
-/// A travel time and a dispersion, with what is worked out of both once. `IsTravel` says how its numbers hang
+/// A travel time and a dispersion, with the factors that follow from both. `IsTravel` says how its numbers hang
 /// together.
 #[derive(Clone, Copy, Debug, PartialEq, Eq)]
 pub struct Travel {
@@ -28,15 +28,15 @@ pub struct Travel {
     pub time: u32,
     /// The dispersion in percent.
     pub percent: u32,
-    /// The weight of what went by a step before, against 100 of what sets out: the dispersion times the time.
+    /// The weight of the smoothed value a step before, against 100 for the value that sets out: dispersion times time.
     pub weight: u64,
     /// Profiles whose values are all below this are mixed by products.
     pub limit: u64,
     /// The reciprocal of 100 and the weight, against 2^40.
     pub reciprocal: u64,
-    /// 100 times the reciprocal: the factor of what sets out.
+    /// 100 times the reciprocal: the factor of the value that sets out.
     pub starting_factor: u64,
-    /// The weight times the reciprocal: the factor of what went by a step before.
+    /// The weight times the reciprocal: the factor of the smoothed value a step before.
     pub before_factor: u64,
     /// The step that the first step leads to.
     pub place: usize,

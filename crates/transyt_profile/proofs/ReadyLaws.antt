@@ -62,7 +62,7 @@ reached_more share n b r most greater here before some =
     (λ (least : b ≤ r). (n, omega arith, omega (arith, least, greater, here)))
     (cases_lt r b)
 
--- a value of the part that goes on comes to what is at most the greatest of all shares
+-- each value of the part that goes on is at most the greatest of all shares
 pub any_shared : (part whole n most limit : ℕ) (xs : List ℕ) → 0 < length xs → n ≤ length xs
     → Reached (share_at part whole xs) n most → limit ≤ most → Any (λ v. limit ≤ v) (shared part whole xs)
 any_shared part whole n most limit xs some all reached within =

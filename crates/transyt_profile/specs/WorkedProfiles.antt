@@ -1,4 +1,4 @@
--- Worked profiles, with what comes of each. No number is neutral.
+-- Worked profiles, each with its answer. No number is neutral.
 use Rattle.std.specs.Prelude.{ℕ, List, [], ◌∷◌}
 
 -- five steps of one link

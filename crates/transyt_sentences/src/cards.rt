@@ -60,7 +60,7 @@ fn before_stages(form: u32) -> usize {
     if form == 2 { 8 } else { 6 }
 }
 
-/// Code 16: what is there already.
+/// Code 16: the number is there already.
 fn say_twice(sentence: &mut Sentence, words: &Words<'_>, site: Site<'_>) {
     let (first, second) = (words.number(0), words.number(1));
     match words.keyword {
@@ -101,7 +101,7 @@ fn say_stage_twice(sentence: &mut Sentence, words: &Words<'_>, site: Site<'_>) {
     sentence.say("the number is there already");
 }
 
-/// Code 17: what isn't there.
+/// Code 17: the node, link, stage or feeder that isn't there.
 fn say_unknown(sentence: &mut Sentence, words: &Words<'_>, site: Site<'_>) {
     let (first, second) = (words.number(0), words.number(1));
     if let "LINK" = words.keyword {

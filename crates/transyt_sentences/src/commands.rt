@@ -34,7 +34,7 @@ pub fn on_command(number: u32, code: Code, line: &[u8], site: Site<'_>) -> Sente
     sentence
 }
 
-/// Code 17: what isn't there.
+/// Code 17: the node, link or feeder that isn't there.
 fn say_unknown(sentence: &mut Sentence, words: &Words<'_>, site: Site<'_>) {
     let (first, second) = (words.number(0), words.number(1));
     match (words.keyword, site.node(first)) {

@@ -14,7 +14,7 @@ pub(crate) enum Range {
 }
 
 impl Range {
-    /// The least and the greatest number in a cycle of so many steps; none of a name.
+    /// The least and the greatest number in a cycle of this many steps; none of a name.
     pub(crate) fn bounds(self, step_count: u32) -> Option<(u32, u32)> {
         match self {
             Range::Name => None,

@@ -47,7 +47,7 @@ pub fn on_budget(budget: u32) -> Sentence {
     sentence
 }
 
-/// A run ended in which so many commands were refused.
+/// A run ended in which this many commands were refused.
 pub fn on_refused_commands(count: u32) -> Sentence {
     let mut sentence = Sentence::new();
     sentence.say_number(count);

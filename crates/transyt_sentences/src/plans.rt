@@ -3,7 +3,7 @@
 use crate::sentence::Sentence;
 use transyt_net::{Node, Stage};
 
-/// The stage of a plan with one change put in place of another, in a cycle of so many steps.
+/// The stage of a plan with one change put in place of another, in a cycle of this many steps.
 #[derive(Clone, Copy)]
 pub(crate) struct Plan<'a> {
     pub(crate) number: u32,
@@ -59,7 +59,7 @@ impl<'a> Plan<'a> {
     }
 }
 
-/// Says what is wrong with a plan; whether anything is.
+/// Names the fault of a plan, if it has one, and answers whether it has.
 pub(crate) fn say_plan(sentence: &mut Sentence, plan: &Plan<'_>) -> bool {
     if plan.stages.len() < 2 {
         sentence.say_with("node ", plan.number);

@@ -6,7 +6,7 @@ use transyt_syntax::Code;
 /// How many bytes a sentence has at most.
 const ROOM: usize = 240;
 
-/// A sentence for standard error, without a line end. What doesn't fit is left out.
+/// A sentence for standard error, without a line end. A rest that doesn't fit is left out.
 #[derive(Drop)]
 pub struct Sentence {
     bytes: [u8; 240],

@@ -1,4 +1,4 @@
--- A look at an edit, by what was found.
+-- A look at an edit, by its answer.
 use Rattle.std.proofs.Common.{◌≡◌, ℕ, Bool, Some, None, nat_lt, ap, sym, ◌∙◌, if◌then◌else◌}
 use Rattle.transyt_net.specs.declared.edit.Edit.{Edit}
 use Rattle.transyt_net.specs.Parts.{Network}

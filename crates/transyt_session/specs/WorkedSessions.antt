@@ -1,4 +1,4 @@
--- A worked session: a trial with an allowed edit of work 6, on a network of which no number is neutral.
+-- A worked session: a trial with an allowed edit of work 6, on a network in which no number is neutral.
 use Rattle.std.specs.Prelude.{List, [], ◌∷◌, Some, None}
 use Rattle.transyt_parts.specs.Made.{new_weights}
 use Rattle.transyt_net.specs.declared.edit.Edit.{Edit}

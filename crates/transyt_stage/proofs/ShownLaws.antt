@@ -62,7 +62,7 @@ shown_is steps node stages clear shown none long each =
     fill_by_all (is_shown steps node stages) shown steps false long
     (λ i below. grind (arith, nat_tests, each i false below, get_or-replicate steps i false false below))
 
--- a list of zeros, with `room` at each step at which the link is shown, is what passes without lags
+-- a list of zeros, with `room` at each step at which the link is shown, is GO without lags
 module _ (steps : ℕ) (node : NodeValue) (stages : List ℕ) (room : ℕ) (clear out : List ℕ)
     (none : clear ≡ replicate steps 0) (long : length out ≡ steps)
     (each : (i : ℕ) (d : ℕ) → i < steps

@@ -7,7 +7,7 @@ use Rattle.transyt_cycle.specs.Cycle.{minus_mod}
 use Rattle.transyt_cycle.proofs.CycleLaws.{minus_mod-of_add}
 use Rattle.transyt_stage.specs.Green.{green_at}
 
--- so many steps back, where there are as many before the step
+-- a number of steps back, where as many lie before the step
 pub back_within : (n i b : ℕ) → i < n → b ≤ i → minus_mod n i b ≡ i - b
 back_within n i b below within =
     let there : i - b + b ≡ i = omega arith in
@@ -21,7 +21,7 @@ back_round n i b below past round =
     let at : (n - (b - i) + b) % n ≡ i = ap (λ k. k % n) there ∙ add-mod_left n i ∙ mod-eq_of_lt below in
     ap (λ k. minus_mod n k b) (sym at) ∙ minus_mod-of_add n (n - (b - i)) b (omega arith)
 
--- the step after that of so many steps after a change is that of one step more
+-- the step after n steps after a change is that of n + 1 steps
 pub step_more : (n since change step after : ℕ) → step ≡ (since + change) % n → after ≡ (step + 1) % n
     → after ≡ (since + 1 + change) % n
 step_more n since change step after at next =

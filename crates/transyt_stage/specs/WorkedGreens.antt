@@ -1,4 +1,4 @@
--- Worked greens: those of the three junctions, and what is left of a green where a link gives way.
+-- Worked greens: those of the three junctions, and the GO that is left where a link gives way.
 use Rattle.std.specs.Prelude.{ℕ, List, [], ◌∷◌, ◌++◌, replicate, Bool, true, false}
 
 -- GO of each link of the three junctions, in each step
@@ -31,7 +31,7 @@ lagging =
     ∷ (true ∷ true ∷ false ∷ true ∷ true ∷ [], 3, 0, false ∷ true ∷ false ∷ false ∷ false ∷ [])
     ∷ []
 
--- a percentage, what leaves the other link, what could go, and what can
+-- a percentage, the departures of the other link, GO before and GO after
 abbrev pub yields : List (ℕ × List ℕ × List ℕ × List ℕ)
 yields =
     (150, 1001 ∷ 700 ∷ 700 ∷ 5 ∷ [], 2000 ∷ 1000 ∷ 0 ∷ 9 ∷ [], 499 ∷ 1 ∷ 0 ∷ 2 ∷ [])

@@ -3,10 +3,10 @@
 ghost use Rattle.std.specs.Prelude.{◌≡◌, ◌^◌, ◌<◌, ◌≤◌, length, All};
 ghost use Rattle.transyt_stage.specs.Green.{yielded, yielding};
 
-/// Takes from what can go in each step a part of what leaves the other link in it.
+/// Takes from GO of each step a part of the departures of the other link in it.
 ///
 /// Both slices have one value for each step of the cycle, in millionths of a vehicle. `percent` is in per cent of
-/// `other_out`, and what is taken is rounded down. Where anything could go, a unit still can. This project's own.
+/// `other_out`, and the part is rounded down. A GO above 0 stays at least one unit. This project's own.
 #[tactic(auto, using(std::proofs::lemmas::List::get_or_default))]
 pub fn give_way(other_out: &[u64], percent: u32, go: &mut [u64])
     requires lengths { length other_out.now ≡ length go.old }

@@ -1,4 +1,4 @@
-//! When a link is green, and what its green lets pass.
+//! When a link is green, and the GO of its green.
 
 ghost use Rattle.std.specs.Prelude.{◌≡◌, ℕ, ◌^◌, ◌+◌, ◌%◌, ◌<◌, ◌≤◌, ◌&&◌, ◌||◌, nat_le, nat_lt, length, map, All};
 ghost use Rattle.std.specs.Prelude.{slice_index_or, false, if◌then◌else◌, IsTrue, ◌↔◌};
@@ -46,9 +46,9 @@ fn test_green(net: &Net, link: usize, step: u32) -> bool
     green_at(shown, link.start_lag, link.end_lag, step as usize)
 }
 
-/// Fills `out` with what the green of the link at a place lets pass in each step, in millionths of a vehicle.
+/// Fills `out` with the GO of the link at a place in each step by its green alone, in millionths of a vehicle.
 ///
-/// `out` has one value for each step of the cycle; what stood there is overwritten. It is the saturation flow of a
+/// `out` has one value for each step of the cycle, and is overwritten. It is the saturation flow of a
 /// step, rounded down, in each step of green, and 0 in the others.
 #[tactic(auto, using(crate::proofs::ShownLaws::passed_below))]
 pub fn fill_go(net: &Net, link: usize, out: &mut [u64])
@@ -85,7 +85,7 @@ fn fill_lagged(net: &Net, link: usize, out: &mut [u64])
     fill_passed(shown, link.start_lag, link.end_lag, room, out);
 }
 
-/// Gives each step what the green lets pass in it: `room` in a step of green, else nothing.
+/// Gives each step its GO by the green: `room` in a step of green, else nothing.
 #[tactic(auto, using(std::proofs::lemmas::List::get_or_default))]
 fn fill_passed(shown: &[bool], start_lag: u32, end_lag: u32, room: u64, out: &mut [u64])
     requires steps { length out.old ≡ length shown.now }
@@ -167,7 +167,7 @@ fn opens(shown: &[bool], step: usize) -> bool
     shown[step] && !shown[before]
 }
 
-/// The step that comes so many steps before a step, round the cycle.
+/// The step that lies a number of steps before a step, round the cycle.
 #[tactic(auto, using(crate::proofs::StepLaws::back_within, crate::proofs::StepLaws::back_round))]
 fn step_back(step_count: usize, step: usize, back: u32) -> usize
     requires { step < step_count }

@@ -1,9 +1,9 @@
 //! When a link may go: its green by the stages of its node, and the rule by which it gives way.
 //!
 //! A profile is a slice of `u64` with one value for each step of the cycle, in millionths of a vehicle, and a
-//! contract sees it as a list of numbers. Cite `signal` of `specs/Green` first: what the green of a link lets pass
+//! contract sees it as a list of numbers. Cite `signal` of `specs/Green` first: the GO of a link by its green
 //! in each step; `is_green` there is the test of one step, and `shown_of` the test without lags. `yielding` of
-//! `specs/Green` is what is left of it where the link gives way. Stages and intergreens are those of LR 253; lags,
+//! `specs/Green` is the GO that is left where the link gives way. Stages and intergreens are those of LR 253; lags,
 //! the green through a shared intergreen and the rule of giving way are this project's own.
 #![tactic(auto)]
 

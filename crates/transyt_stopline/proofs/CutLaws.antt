@@ -33,12 +33,12 @@ scaled_sum a b (x ∷ xs) =
 pub scaled_total : (b : ℕ) (xs : List ℕ) → b < sum xs → sum (map (scaled (sum xs) b) xs) ≤ b
 scaled_total b xs above = le_of_mul-le-mul_right {k = sum xs} (omega (arith, scaled_sum (sum xs) b xs)) (omega arith)
 
--- a part of what comes times what is served fits where what comes is below 2^32
+-- an arrival times the sum that is served fits where the sum of arrivals is below 2^32
 pub product_fits : (value served come : ℕ) → value ≤ come → served < come → come < 2 ^ 32 → value * served < 2 ^ 64
 product_fits value served come part less fits =
     omega (arith, mul-lt value served (2 ^ 32) (2 ^ 32) (omega arith) (omega arith))
 
--- at each step what is scaled down is no more than it was
+-- at each step the scaled arrivals are at most the arrivals
 scaled_no_more : (a b : ℕ) (xs : List ℕ) (i : ℕ) → b ≤ a → get_or (map (scaled a b) xs) i 0 ≤ get_or xs i 0
 scaled_no_more a b [] i part = omega arith
 scaled_no_more a b (x ∷ xs) zero part = scaled_part a b x part
@@ -52,7 +52,7 @@ arrivals_total xs go = grind (arith, nat_tests, scaled_total (sum go) xs)
 pub arrivals_no_more : (xs go : List ℕ) (i : ℕ) → get_or (arrivals_of xs go) i 0 ≤ get_or xs i 0
 arrivals_no_more xs go i = grind (arith, nat_tests, scaled_no_more (sum xs) (sum go) xs i)
 
--- it has a value for each step of what comes
+-- it has a value for each step of the arrivals
 arrivals_length : (xs go : List ℕ) → length (arrivals_of xs go) ≡ length xs
 arrivals_length xs go = grind (arith, nat_tests, length-map xs (scaled (sum xs) (sum go)))
 

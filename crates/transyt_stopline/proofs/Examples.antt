@@ -10,7 +10,7 @@ pub sums : map (λ row. sum_back crowd row.0.0 row.0.1) worked_sums ≡ map (λ 
 unfolding sum_back
 sums = refl
 
--- each queue, and what leaves and stops, is as it is written
+-- the queue, departures and stopped arrivals of each are as written
 pub worked : map (λ row. (queues row.0 green, outs row.0 green, stopped_of row.0 (queues row.0 green))) worked_queues
     ≡ map (λ row. row.1) worked_queues
 unfolding sum_back greatest

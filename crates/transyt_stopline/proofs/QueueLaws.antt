@@ -16,7 +16,7 @@ use Rattle.transyt_stopline.proofs.Greatest.{greatest_shift, greatest_turn}
 abbrev queue_over : List ℕ → List ℕ → ℕ → ℕ → ℕ
 queue_over arrivals go n i = greatest (λ m. sum_back arrivals i m - sum_back go i m) n
 
--- the greatest excess over one step more is that of a step before, with what came and passed at this step
+-- the greatest excess over one step more is that of a step before, with the arrivals and GO of this step
 queue_over_more : (arrivals go : List ℕ) (n i : ℕ) → length go ≡ length arrivals
     → queue_over arrivals go (suc n) i
     ≡ queue_over arrivals go n (step_before (length arrivals) i) + get_or arrivals i 0 - get_or go i 0

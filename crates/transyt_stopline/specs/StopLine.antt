@@ -9,7 +9,7 @@ use Rattle.transyt_cycle.specs.Cycle.{minus_mod, step_before}
 abbrev pub scaled : ℕ → ℕ → ℕ → ℕ
 scaled a b value = value * b / a
 
--- the arrivals after the cut: where more comes than `go` serves, each step is scaled to its total, rounded down
+-- the arrivals after the cut: where they are above GO, each step is scaled to its total, rounded down
 abbrev pub arrivals_of : List ℕ → List ℕ → List ℕ
 arrivals_of xs go = (if nat_lt (sum go) (sum xs) then map (scaled (sum xs) (sum go)) xs else xs)
 
@@ -27,8 +27,8 @@ unfoldable pub greatest : (ℕ → ℕ) → ℕ → ℕ
 greatest f zero = 0
 greatest f (suc n) = max (greatest f n) (f (suc n))
 
--- The queue at the end of step i: the greatest of 0 and, for each n from 1 to the number of steps, what arrived in
--- the n last steps less what they let pass. A difference below 0 never is the greatest, so `-`, which stops at 0,
+-- The queue at the end of step i: the greatest of 0 and, for each n from 1 to the number of steps, the arrivals of the
+-- n last steps less their GO. A difference below 0 never is the greatest, so `-`, which stops at 0,
 -- serves.
 abbrev pub queue_at : List ℕ → List ℕ → ℕ → ℕ
 queue_at arrivals go i = greatest (λ n. sum_back arrivals i n - sum_back go i n) (length arrivals)
@@ -46,7 +46,7 @@ queues arrivals go = map (queue_at arrivals go) (range_with_len 0 (length arriva
 abbrev pub outs : List ℕ → List ℕ → List ℕ
 outs arrivals go = map (out_at arrivals go) (range_with_len 0 (length arrivals))
 
--- The queue by two facts, without a difference: with what passed it covers the arrivals of each n last steps, and it
+-- The queue by two facts, without a difference: with GO it covers the arrivals of each n last steps, and it
 -- is 0 or just covers those of some.
 pub record IsQueue (arrivals go : List ℕ) (i queue : ℕ) : Type 0 where
   pub covers : (n : ℕ) → 0 < n → n ≤ length arrivals → sum_at_places arrivals i n ≤ queue + sum_at_places go i n

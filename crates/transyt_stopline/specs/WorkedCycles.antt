@@ -1,4 +1,4 @@
--- Worked cycles at a stop line, with what comes of each. No number is neutral.
+-- Worked cycles at a stop line, each with its answer. No number is neutral.
 use Rattle.std.specs.Prelude.{ℕ, List, [], ◌∷◌}
 
 -- GO in six steps
@@ -28,7 +28,7 @@ worked_sums =
     ∷ ((2, 7), 2750107)
     ∷ []
 
--- arrivals, with their queue, what leaves of them and what stops
+-- arrivals, with their queue, departures and stopped arrivals
 abbrev pub worked_queues : List (List ℕ × (List ℕ × List ℕ × ℕ))
 worked_queues = (
   some_traffic,

@@ -9,9 +9,9 @@ use transyt_profile::total;
 
 /// The cut: the arrivals that the green can serve.
 ///
-/// All three slices have one value for each step of the cycle, in millionths of a vehicle; what stood in `out` is
-/// overwritten. `go` is what the green lets pass. Where more comes in a cycle than that, each step is scaled down
-/// to it, rounded down; else all of it arrives. This cut is this project's own.
+/// All three slices have one value for each step of the cycle, in millionths of a vehicle; `out` is overwritten.
+/// Where the arrivals of a cycle are above its GO, each step is scaled down by their ratio, rounded down; else they
+/// stay as they are. This cut is this project's own.
 #[tactic(auto, using(crate::proofs::CutLaws::arrivals_total, crate::proofs::CutLaws::arrivals_no_more, crate::proofs::CutLaws::arrivals_small))]
 pub fn cut_arrivals(x: &[u64], go: &[u64], out: &mut [u64])
     requires most { length x.now ≤ 120 }
@@ -29,8 +29,8 @@ pub fn cut_arrivals(x: &[u64], go: &[u64], out: &mut [u64])
     }
 }
 
-/// Writes what reaches the stop line only where more comes than the green lets pass, and answers both sums, which say
-/// whether it does. Else all that comes arrives, and nobody need copy it: `out` then holds nothing of use.
+/// Writes the arrivals after the cut only where they are above GO, and answers both sums, which say whether they are.
+/// Else the arrivals stay as they are, and nobody need copy them: `out` then holds nothing of use.
 ///
 /// The slices and the rule are those of `cut_arrivals`.
 #[tactic(auto, using(crate::proofs::CutLaws::arrivals_total, crate::proofs::CutLaws::arrivals_small))]

@@ -1,5 +1,4 @@
-//! The stop line: how much of what arrives the green can serve, the queue and what leaves, and the vehicles
-//! that stop.
+//! The stop line: the arrivals that the green can serve, the queue, the departures, and the vehicles that stop.
 //!
 //! Profiles are slices of `u64` with one value for each step of the cycle, in millionths of a vehicle; a contract
 //! sees them as lists of numbers. Cite `queues` and `outs` of `specs/StopLine` first: the queue of a cycle that

@@ -1,16 +1,15 @@
-//! The queue at the stop line, and what leaves.
+//! The queue at the stop line, and the departures.
 
 ghost use Rattle.std.specs.Prelude.{◌≡◌, ℕ, ◌+◌, ◌-◌, ◌*◌, ◌^◌, ◌<◌, ◌≤◌, length, sum, slice_index, All};
 ghost use Rattle.transyt_cycle.specs.Cycle.{step_before};
 ghost use Rattle.transyt_stopline.specs.StopLine.{IsQueue, outs, queues, turn};
 
-/// The queue at the end of each step, and what leaves in each step.
+/// The queue at the end of each step, and the departures in each step.
 ///
-/// All four slices have one value for each step of the cycle, in millionths of a vehicle; what stood in `queue` and
-/// `out` is overwritten, and nothing is rounded. `go` is what the green lets pass, and the arrivals of a cycle are at
-/// most what it lets pass, so that the queue of a cycle that repeats for ever is finite. A queue stands at the step's
-/// end: what arrives in a step with room leaves in it. The recurrence is LR 253's; the queue without a start is this
-/// project's own.
+/// All four slices have one value for each step of the cycle, in millionths of a vehicle; `queue` and `out` are
+/// overwritten, and nothing is rounded. The arrivals of a cycle are at most its GO, so that the queue of a cycle that
+/// repeats for ever is finite. A queue stands at the step's end: arrivals in a step with room depart in it. The
+/// recurrence is LR 253's; the queue without a start is this project's own.
 pub fn queue(arrivals: &[u64], go: &[u64], queue: &mut [u64], out: &mut [u64])
     requires steps { 0 < length arrivals.now }
     requires most { length arrivals.now ≤ 120 }
@@ -29,7 +28,7 @@ pub fn queue(arrivals: &[u64], go: &[u64], queue: &mut [u64], out: &mut [u64])
     ensures recurrence { (i : ℕ) → i < length arrivals.now → slice_index queue.new i
         ≡ slice_index queue.new (step_before (length arrivals.now) i)
         + slice_index arrivals.now i - slice_index go.now i }
-    // nothing is lost: what leaves and what still stands is what stood and what came
+    // no vehicle is lost: departures and the queue after the step are the queue before it and its arrivals
     ensures kept { (i : ℕ) → i < length arrivals.now
         → slice_index out.new i + slice_index queue.new i
         ≡ slice_index queue.new (step_before (length arrivals.now) i) + slice_index arrivals.now i }
@@ -42,7 +41,8 @@ pub fn queue(arrivals: &[u64], go: &[u64], queue: &mut [u64], out: &mut [u64])
     second_turn(arrivals, go, left, queue, out);
 }
 
-/// Once round the cycle from an empty queue, and what then is left: the queue of every later cycle at its last step.
+/// Once round the cycle from an empty queue. The answer is the queue left then, that of every later cycle at its last
+/// step.
 #[tactic(auto, using(crate::proofs::QueueLaws::turn_more))]
 fn first_turn(arrivals: &[u64], go: &[u64], queue: &mut [u64], out: &mut [u64]) -> u64
     requires most { length arrivals.now ≤ 120 }
@@ -69,7 +69,7 @@ fn first_turn(arrivals: &[u64], go: &[u64], queue: &mut [u64], out: &mut [u64]) 
     waiting
 }
 
-/// Round the cycle again, from what was left, until what stands is what stood there in the first turn: from there on
+/// Round the cycle again, from the queue that was left, up to a step with the queue of the first turn: from there on
 /// the two turns are the same.
 #[tactic(auto, using(crate::proofs::QueueLaws::turn_more))]
 fn second_turn(arrivals: &[u64], go: &[u64], left: u64, queue: &mut [u64], out: &mut [u64])

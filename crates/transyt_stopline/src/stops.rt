@@ -3,10 +3,10 @@
 ghost use Rattle.std.specs.Prelude.{◌≡◌, ◌^◌, ◌<◌, ◌≤◌, length, nat_lt, if◌then◌else◌, All};
 ghost use Rattle.transyt_stopline.specs.StopLine.{stopped_of};
 
-/// How much of a cycle's arrivals stops: what arrives in a step that ends with a queue.
+/// The stopped arrivals of a cycle: those of each step that ends with a queue.
 ///
-/// Both slices have one value for each step of the cycle, in millionths of a vehicle: `queue` is what stands at
-/// the step's end. The result is in the same unit, exact. This count of stops is this project's own.
+/// Both slices have one value for each step of the cycle, in millionths of a vehicle: `queue` is that at the
+/// step's end. The result is in the same unit, exact. This count of stops is this project's own.
 pub fn stopped(arrivals: &[u64], queue: &[u64]) -> u64
     requires most { length arrivals.now ≤ 120 }
     requires queue_len { length queue.now ≡ length arrivals.now }

@@ -24,7 +24,7 @@ pub record Entry (A : Type 0) : Type 0 where
   pub counts : ℕ × ℕ
   pub says : List ℕ → A
 
--- an entry of a keyword with so many numbers
+-- an entry of a keyword with this many numbers
 abbrev pub entry : {A : Type 0} → List ℕ → ℕ → (List ℕ → A) → Entry A
 entry word count says = record { word = word; counts = (count, count); says = says }
 
@@ -92,12 +92,12 @@ counts_of table line = option_map (λ found. found.counts) (entry_of table line)
 abbrev pub says_of : {A : Type 0} → List (Entry A) → List ℕ → Option A
 says_of table line = option_and_then (λ found. option_map found.says (numbers_of line)) (entry_of table line)
 
--- a code as a refusal, or with no code what is said
+-- a code as a refusal, or with no code the meaning
 abbrev pub unless : {A : Type 0} → Option Code → A → Result A Code
 unless (Some code) said = Err code
 unless None said = Ok said
 
--- the meaning of a line by a table of keywords: none where it is skipped; else its code, or what its keyword says
+-- the meaning of a line by a table of keywords: none where it is skipped; else its code, or the meaning of its keyword
 abbrev pub said : {A : Type 0} → List (Entry A) → List ℕ → Result (Option A) Code
 said table line =
     if is_skipped line then Ok None else unless (syntax_code (counts_of table line) line) (says_of table line)

@@ -1,4 +1,4 @@
--- Worked lines by a table of two keywords, with what each says; and each code with its number.
+-- Worked lines by a table of two keywords, each with its meaning; and each code with its number.
 use Rattle.std.specs.Prelude.{ℕ, List, [], ◌∷◌, ◌++◌, codes, replicate, Option, Some, None, Result, Ok, Err}
 use Rattle.transyt_syntax.specs.declared.code.Code.{Code}
 use Rattle.transyt_syntax.specs.declared.code.Code.TheVariants as code
@@ -10,8 +10,8 @@ table =
     entry (codes "QUEUE") 2 (λ ns. (at ns 0, at ns 1, at ns 2))
     ∷ ranged (codes "STAGE") 1 3 (λ ns. (at ns 2, at ns 0, at ns 1)) ∷ []
 
--- lines, with what each says: its numbers and 0 for those past the last; or its code, at a line that has the next one too
--- where it can
+-- lines, each with its meaning: its numbers and 0 for those past the last; or its code, at a line that has the next
+-- code too where it can
 abbrev pub worked : List (List ℕ × Result (Option (ℕ × ℕ × ℕ)) Code)
 worked =
     (codes "QUEUE 21 3", Ok (Some (21, 3, 0))) ∷ (codes "STAGE 21 3 17", Ok (Some (17, 21, 3)))
@@ -25,7 +25,7 @@ worked =
     ∷ (codes "STAGE", Err code.WrongCount) ∷ (codes "STAGE 21 3 17 x", Err code.WrongCount)
     ∷ (codes "QUEUE 21 !", Err code.NoNumber) ∷ (codes "QUEUE ~ 3", Err code.NoNumber) ∷ []
 
--- so many words and sixteen more
+-- this many words and sixteen more
 abbrev pub many : ℕ → List (List ℕ)
 many more = replicate more (codes "7") ++ replicate 16 (codes "11")
 

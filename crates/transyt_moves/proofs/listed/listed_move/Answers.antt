@@ -1,4 +1,4 @@
--- The place is that of a size, and of what is left within the moves by it.
+-- The place is a size, and a rest within the moves by it.
 use Rattle.std.proofs.Common.{◌/◌, get_or, sym, ◌∙◌, arith}
 use Rattle.transyt_moves.specs.Moves.{no_move}
 use Rattle.transyt_moves.proofs.MoveLaws.{among_sizes, at_piece}

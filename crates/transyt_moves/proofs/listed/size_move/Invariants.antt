@@ -3,7 +3,7 @@ use Rattle.std.proofs.Common.{◌≡◌, ◌<◌, length, drop, get_or}
 use Rattle.transyt_moves.specs.Moves.{size_moves, no_move}
 use Rattle.transyt_moves.proofs.listed.size_move.Given as goal
 
--- the place is what is left among the moves of the nodes from here on
+-- the rest of the place counts among the moves of the nodes from here on
 abbrev pub invariant-loop-node : goal.invariant-loop-node
 invariant-loop-node l = record {
   inside : l.left < length (size_moves l.step_count (drop l.node-index l.nodes) l.size);

@@ -3,7 +3,7 @@ use Rattle.std.proofs.Common.{◌≡◌, ◌≤◌, ◌++◌, drop, length}
 use Rattle.std.specs.Fmt.{decimal}
 use Rattle.transyt_num.proofs.writing.put_number.Given as goal
 
--- the text of what is left, and the digits that stand
+-- the text of the number that is left, and the digits that stand
 abbrev pub invariant-loop-rest : goal.invariant-loop-rest
 invariant-loop-rest l = record {
   text : decimal l.v ≡ decimal l.rest ++ drop l.start l.digits;

@@ -10,7 +10,7 @@ invariant_of-journey-clause-mean_fits c =
     let whole = c.total-whole.ensures.bounded (2 ^ 44 - 1) (λ k d h. omega (arith, c.requires.fit k d h)) in
     let mean = div-le_of_le-mul (length c.args.x.now) whole in omega arith
 
--- so each step has what the definition says
+-- so each step has the value of the definition
 pub returns-clause-value : goal.returns-clause-value
 returns-clause-value c =
     placed_all c.args.x.now c.go_round.new.out c.args.t c.args.percent c.requires.steps (omega arith) c.go_round.ensures
@@ -20,7 +20,7 @@ pub returns-clause-by_step : goal.returns-clause-by_step
 returns-clause-by_step c = λ j low high.
     placed_by_step c.args.x.now c.go_round.new.out c.args.t c.args.percent j c.go_round.ensures low high
 
--- a mean is within the bound of what it is made of
+-- a mean is within the bound of its values
 pub returns-clause-small : goal.returns-clause-small
 returns-clause-small c =
     rw (returns-clause-value c)

@@ -7,7 +7,7 @@ use Rattle.transyt_platoon.proofs.together.add_each.Given as goal
 abbrev pub invariant-first : goal.invariant-first
 invariant-first g l = HavePassed l.abreast.platoons.now l.step l.goings
 
--- the second turn: each place has what stood there and what of all platoons has arrived there
+-- the second turn: each place has its value from before and the arrivals of all platoons so far
 abbrev pub invariant-second : goal.invariant-second
 invariant-second g l = record {
   passed : HavePassed l.abreast.platoons.now (l.abreast.step_count + l.step) l.goings;

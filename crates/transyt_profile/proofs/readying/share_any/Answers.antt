@@ -1,4 +1,4 @@
--- One step more, and what all of them come to.
+-- One step more, and the sum of all.
 use Rattle.std.proofs.Common.{rules, ◌*◌, ◌∙◌, ap, arith}
 use Rattle.std.proofs.lemmas.List.Sums.{sum_by_more}
 use Rattle.transyt_profile.specs.Profile.{share_of}

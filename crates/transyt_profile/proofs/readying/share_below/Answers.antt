@@ -1,4 +1,4 @@
--- One step more, and what all of them come to.
+-- One step more, and the sum of all.
 use Rattle.std.proofs.Common.{bit_or, fold, below_more, sym, ◌*◌, ◌∙◌, ap, arith}
 use Rattle.std.proofs.lemmas.List.Sums.{fold_more, sum_by_more}
 use Rattle.std.proofs.lemmas.List.{take_all}

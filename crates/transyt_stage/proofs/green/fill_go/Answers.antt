@@ -5,7 +5,7 @@ use Rattle.transyt_net.specs.Edits.{the_node}
 use Rattle.transyt_stage.proofs.ShownLaws.{passed_without_lags}
 use Rattle.transyt_stage.proofs.green.fill_go.Goals as goal
 
--- at each step at which the link is shown, what passes in a step of green
+-- at each step at which the link is shown, the GO of a step of green
 pub returns-clause-value : goal.returns-clause-value
 returns-clause-value c =
     let net = c.args.net.now in

@@ -3,7 +3,7 @@ use Rattle.std.proofs.Common.{◌≡◌, ◌^◌, ◌<◌, ℕ, get_or}
 use Rattle.transyt_stage.specs.Green.{passed_at}
 use Rattle.transyt_stage.proofs.green.fill_passed.Given as goal
 
--- the steps so far have what passes in them
+-- the steps so far have their GO
 abbrev pub invariant-loop-i : goal.invariant-loop-i
 invariant-loop-i l = record {
   passed : (k : ℕ) → k < l.i → get_or l.out k 0 ≡ passed_at l.shown l.start_lag l.end_lag l.room k;

@@ -1,4 +1,4 @@
--- The two turns write the queue of the repeating cycle, and what leaves; the clauses are laws of the two.
+-- The two turns write the queue of the repeating cycle, and the departures; the clauses are laws of the two.
 use Rattle.std.proofs.Common.{◌≡◌, ℕ, ◌<◌, ◌≤◌, List, length, get_or, subst, ap, sym, ◌∙◌, arith, sum, inl, inr}
 use Rattle.std.proofs.lemmas.List.FromFn.{fill_by_all}
 use Rattle.std.proofs.lemmas.Bool.{cases_lt}

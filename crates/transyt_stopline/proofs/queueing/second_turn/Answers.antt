@@ -31,7 +31,7 @@ returns-then-standing-queue-clause-queue c = λ k below.
       c.loop-i.invariant.first_queue k,
     )
 
--- and what leaves in them
+-- and the departures in them
 pub returns-then-standing-queue-clause-out : goal.returns-then-standing-queue-clause-out
 returns-then-standing-queue-clause-out c = λ k below.
     ⊎_elim

@@ -1,9 +1,9 @@
--- The sum of what stops, one step more.
+-- The sum of stopped arrivals, one step more.
 use Rattle.std.proofs.Common.{◌^◌, ◌<◌, ℕ, nat_lt, if◌then◌else◌, get_or, arith}
 use Rattle.std.proofs.lemmas.List.FromFn.{sum_by-map-range_with_len_more}
 use Rattle.transyt_stopline.proofs.stops.stopped.Goals as goal
 
--- one step more adds what stops in it
+-- one step more adds its stopped arrivals
 pub loop-i-preserved : goal.loop-i-preserved
 loop-i-preserved c =
     let arrival : get_or c.args.arrivals.now c.loop-i.i 0 < 2 ^ 48 = c.requires.fit c.loop-i.i 0 (omega arith) in

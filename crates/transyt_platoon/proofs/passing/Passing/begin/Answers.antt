@@ -1,4 +1,4 @@
--- The mean goes before the first step, and is within the bound of what it is made of.
+-- The mean stands before the first step, and is within the bound of the values that it is the mean of.
 use Rattle.std.proofs.Common.{◌≡◌, ◌*◌, ◌/◌, length, sum, ap, sym, ◌∙◌, arith}
 use Rattle.transyt_platoon.specs.Arriving.{sent}
 use Rattle.transyt_platoon.specs.Passing.{steps_of}
