@@ -3,6 +3,7 @@ pub mod Lines
 pub mod Pieces
 pub mod Pulled
 pub mod Reading
+pub mod SpacedWords
 pub mod StdEnds
 pub mod Told
 pub mod WordParts
