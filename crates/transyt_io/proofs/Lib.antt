@@ -1,4 +1,5 @@
 pub mod Copies
+pub mod Held
 pub mod Lines
 pub mod Pieces
 pub mod Pulled

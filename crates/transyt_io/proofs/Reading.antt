@@ -8,7 +8,7 @@ use Rattle.transyt_io.specs.declared.reader.Line.TheVariants.{Text, End}
 use Rattle.transyt_io.specs.declared.reader.ReadStop.{ReadStop}
 use Rattle.transyt_io.specs.declared.reader.ReadStop.TheVariants.{Fault, TooLong}
 use Rattle.transyt_io.specs.Lines.{line_of, lines_by, lines, whole, has_end}
-use Rattle.transyt_io.specs.Reading.{Reading, AnswerSays, HasRead, StopSays, ReadsLine, new_reading}
+use Rattle.transyt_io.specs.Reading.{Reading, AnswerSays, HasRead, StopSays, ReadsLine, new_reading, most_lines_left}
 use Rattle.transyt_io.specs.Streams.{Takes, IsAtEnd}
 use Rattle.transyt_io.proofs.Lines.{no_whole, open_line}
 
@@ -102,6 +102,11 @@ hand_last old new left left_new got taken given going ended empty count at_end n
       at_end = λ _. at_end;
       few = omega arith;
     }
+
+-- fewer lines may still be handed out after a line that took these bytes
+pub less_lines : (old new : Reading) (got : ℕ) → new.taken ≡ old.taken + got → length new.held < length old.held + got
+    → new.taken ≤ 4194304 → most_lines_left new < most_lines_left old
+less_lines old new got count fewer most = omega arith
 
 -- a call that took these bytes, of which the last read gave those of `back`
 module _ (old new : Reading) (left left_new : Option (List ℕ)) (last last_new : Option ℕ) (front back : List ℕ)
