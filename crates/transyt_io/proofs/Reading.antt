@@ -1,7 +1,8 @@
 -- The calls of `next`, by what was gathered.
 use Rattle.std.proofs.Common.{◌≡◌, ◌≢◌, ◌<◌, ◌≤◌, ℕ, ◌+◌, ◌++◌, Bool, true, false, List, [], ◌∷◌}
 use Rattle.std.proofs.Common.{map, MatchResult, Option, Result, Some, Ok, Err, length, take, refl, sym, ◌∙◌, ap, subst}
-use Rattle.std.proofs.Common.{arith, append_assoc, length-append, ◌⊎◌, IfSome}
+use Rattle.std.proofs.Common.{arith, append_assoc, length-append, ◌⊎◌, inl, inr, IfSome}
+use Rattle.std.proofs.lemmas.Bool.{cases_Bool}
 use Rattle.std.proofs.lemmas.List.{append-nil, take_at}
 use Rattle.transyt_io.specs.declared.reader.Line.{Line}
 use Rattle.transyt_io.specs.declared.reader.Line.TheVariants.{Text, End}
@@ -34,6 +35,24 @@ all_given old left front taken given going none has_read =
     has_read.to_come false front (λ over. not_both over going) in
     sym (told ∙ ap (λ (ls : List (List ℕ)). given ++ map line_of ls) (no_whole (old.held ++ front) none)
     ∙ append-nil given)
+
+-- a reader that took these bytes and handed out these lines
+module _ {reading : Reading} {left : Option (List ℕ)} {taken : List ℕ} {given : List (List ℕ)}
+    (has_read : HasRead reading left taken given) where
+  given_by : (keep : Bool) → (reading.ended ≡ true → keep ≡ true)
+      → lines_by keep taken ≡ given ++ lines_by keep (reading.held ++ [])
+  given_by keep h = ap (lines_by keep) (sym (append-nil taken)) ∙ has_read.to_come keep [] (λ over. (h over, refl))
+
+  -- the lines handed out are the first of those of the bytes taken
+  pub lines_given : (more : List (List ℕ)) × (lines taken ≡ given ++ more)
+  lines_given = (lines (reading.held ++ []), given_by true (λ _. refl))
+
+  -- and the first of the whole ones, where the source isn't at its end
+  pub whole_given : IsAtEnd left ⊎ ((more : List (List ℕ)) × (whole taken ≡ given ++ more))
+  whole_given = elim (cases_Bool reading.ended) [
+    | inl over ↦ inl (has_read.at_end over)
+    | inr going ↦ inr (whole (reading.held ++ []), given_by false (λ over. not_both over going))
+  ]
 
 -- a line that ended was handed out
 pub hand_on : (old new : Reading) (left left_new : Option (List ℕ)) (got line taken : List ℕ) (given : List (List ℕ))
