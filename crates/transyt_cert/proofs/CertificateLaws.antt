@@ -54,15 +54,15 @@ words_end count x = words_joined (end_words count x) (end_are count x).0
 -- the lines of a certificate's text
 pub lines_certificate : (net : Network) → lines (cert_text net) ≡ cert_texts net
 lines_certificate net =
-    let last = end_are (move_count net) (index net) in
+    let ending = end_words (move_count net) (index net) in
+    let are = end_are (move_count net) (index net) in
+    let text = λ (l : CertLine). joined (move_words l) in
+    let is_text : (l : CertLine) → IsText (text l) = λ l.
+    joined_text (move_words l) (move_are l).0 (omega (arith, (move_are l).1)) in
     lines_texts (cert_texts net)
-    (All-push IsText (map (λ l. joined (move_words l)) (cert_lines net)) (joined (end_words (move_count net) (index net)))
-    (All-map IsText (λ l. joined (move_words l)) (cert_lines net) (
-    λ i d below.
-    let l : CertLine = get_or (cert_lines net) i d in
-    joined_text (move_words l) (move_are l).0 (omega (arith, (move_are l).1))
-    ))
-    (joined_text (end_words (move_count net) (index net)) last.0 (omega (arith, last.1))))
+    (All-push IsText (map text (cert_lines net)) (joined ending)
+    (All-map IsText text (cert_lines net) (λ i d below. is_text (get_or (cert_lines net) i d)))
+    (joined_text ending are.0 (omega (arith, are.1))))
 
 -- a certificate's text is that of each place, and then the last line
 pub text_by_place : (net : Network) → cert_text net

@@ -11,7 +11,8 @@ use transyt_text::put_form;
 /// Puts the line of a place into `line`, without its line end: the place, the move, and the index with it, or BARRED
 /// where there is none.
 ///
-/// The bytes that the line held before are lost. An edit that is no move, neither of an offset nor of a change, has no words.
+/// The bytes that the line held before are lost. An edit that is no move, neither of an offset nor of a change, has no
+/// words.
 pub fn put_move(place: u32, e: &Edit, tried: Option<u128>, line: &mut LineBuffer)
     ensures text { line.new ≡ joined (move_words (new_line place e.now tried)) }
     ensures room { length line.new ≤ 300 }

@@ -1,8 +1,10 @@
 pub mod Copies
+pub mod Held
 pub mod Lines
 pub mod Pieces
 pub mod Pulled
 pub mod Reading
+pub mod SpacedWords
 pub mod StdEnds
 pub mod Told
 pub mod WordParts

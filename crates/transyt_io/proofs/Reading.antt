@@ -1,14 +1,15 @@
 -- The calls of `next`, by what was gathered.
 use Rattle.std.proofs.Common.{◌≡◌, ◌≢◌, ◌<◌, ◌≤◌, ℕ, ◌+◌, ◌++◌, Bool, true, false, List, [], ◌∷◌}
 use Rattle.std.proofs.Common.{map, MatchResult, Option, Result, Some, Ok, Err, length, take, refl, sym, ◌∙◌, ap, subst}
-use Rattle.std.proofs.Common.{arith, append_assoc, length-append, ◌⊎◌, IfSome}
+use Rattle.std.proofs.Common.{arith, append_assoc, length-append, ◌⊎◌, inl, inr, IfSome}
+use Rattle.std.proofs.lemmas.Bool.{cases_Bool}
 use Rattle.std.proofs.lemmas.List.{append-nil, take_at}
 use Rattle.transyt_io.specs.declared.reader.Line.{Line}
 use Rattle.transyt_io.specs.declared.reader.Line.TheVariants.{Text, End}
 use Rattle.transyt_io.specs.declared.reader.ReadStop.{ReadStop}
 use Rattle.transyt_io.specs.declared.reader.ReadStop.TheVariants.{Fault, TooLong}
 use Rattle.transyt_io.specs.Lines.{line_of, lines_by, lines, whole, has_end}
-use Rattle.transyt_io.specs.Reading.{Reading, AnswerSays, HasRead, StopSays, ReadsLine, new_reading}
+use Rattle.transyt_io.specs.Reading.{Reading, AnswerSays, HasRead, StopSays, ReadsLine, new_reading, most_lines_left}
 use Rattle.transyt_io.specs.Streams.{Takes, IsAtEnd}
 use Rattle.transyt_io.proofs.Lines.{no_whole, open_line}
 
@@ -34,6 +35,24 @@ all_given old left front taken given going none has_read =
     has_read.to_come false front (λ over. not_both over going) in
     sym (told ∙ ap (λ (ls : List (List ℕ)). given ++ map line_of ls) (no_whole (old.held ++ front) none)
     ∙ append-nil given)
+
+-- a reader that took these bytes and handed out these lines
+module _ {reading : Reading} {left : Option (List ℕ)} {taken : List ℕ} {given : List (List ℕ)}
+    (has_read : HasRead reading left taken given) where
+  given_by : (keep : Bool) → (reading.ended ≡ true → keep ≡ true)
+      → lines_by keep taken ≡ given ++ lines_by keep (reading.held ++ [])
+  given_by keep h = ap (lines_by keep) (sym (append-nil taken)) ∙ has_read.to_come keep [] (λ over. (h over, refl))
+
+  -- the lines handed out are the first of those of the bytes taken
+  pub lines_given : (more : List (List ℕ)) × (lines taken ≡ given ++ more)
+  lines_given = (lines (reading.held ++ []), given_by true (λ _. refl))
+
+  -- and the first of the whole ones, where the source isn't at its end
+  pub whole_given : IsAtEnd left ⊎ ((more : List (List ℕ)) × (whole taken ≡ given ++ more))
+  whole_given = elim (cases_Bool reading.ended) [
+    | inl over ↦ inl (has_read.at_end over)
+    | inr going ↦ inr (whole (reading.held ++ []), given_by false (λ over. not_both over going))
+  ]
 
 -- a line that ended was handed out
 pub hand_on : (old new : Reading) (left left_new : Option (List ℕ)) (got line taken : List ℕ) (given : List (List ℕ))
@@ -102,6 +121,11 @@ hand_last old new left left_new got taken given going ended empty count at_end n
       at_end = λ _. at_end;
       few = omega arith;
     }
+
+-- fewer lines may still be handed out after a line that took these bytes
+pub less_lines : (old new : Reading) (got : ℕ) → new.taken ≡ old.taken + got → length new.held < length old.held + got
+    → new.taken ≤ 4194304 → most_lines_left new < most_lines_left old
+less_lines old new got count fewer most = omega arith
 
 -- a call that took these bytes, of which the last read gave those of `back`
 module _ (old new : Reading) (left left_new : Option (List ℕ)) (last last_new : Option ℕ) (front back : List ℕ)

@@ -30,12 +30,16 @@ adds_both (Some front) b c xs ys h k =
 pub adds_so_far : (a b : Option (List ℕ)) (out rest all : List ℕ) → Adds a b out → out ++ rest ≡ all → AddsFront a b all
 adds_so_far a b out rest all h is = record { front = out; back = rest; whole = is; adds = h }
 
--- a front of a text is a front of a longer one
+-- a front of some bytes is one of more
+pub front_of_more : (front back all more : List ℕ) → front ++ back ≡ all → front ++ (back ++ more) ≡ all ++ more
+front_of_more front back all more is = sym (append_assoc front back more) ∙ ap (λ (xs : List ℕ). xs ++ more) is
+
+-- some first bytes of a text are some of a longer one
 pub front_longer : (a b : Option (List ℕ)) (text more : List ℕ) → AddsFront a b text → AddsFront a b (text ++ more)
 front_longer a b text more h = record {
   front = h.front;
   back = h.back ++ more;
-  whole = sym (append_assoc h.front h.back more) ∙ ap (λ (xs : List ℕ). xs ++ more) h.whole;
+  whole = front_of_more h.front h.back text more h.whole;
   adds = h.adds;
 }
 
@@ -46,8 +50,7 @@ adds_further a b c out text all h k more is = record {
   front = out ++ k.front;
   back = k.back ++ more;
   whole = append_assoc out k.front (k.back ++ more)
-      ∙ ap (λ (xs : List ℕ). out ++ xs) (sym (append_assoc k.front k.back more)
-      ∙ ap (λ (xs : List ℕ). xs ++ more) k.whole) ∙ is;
+      ∙ ap (λ (xs : List ℕ). out ++ xs) (front_of_more k.front k.back text more k.whole) ∙ is;
   adds = adds_both a b c out k.front h k.adds;
 }
 

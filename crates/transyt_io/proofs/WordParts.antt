@@ -24,11 +24,11 @@ split_none p (b ∷ bs) others =
     ap (λ (t : Bool). cond t ([] ∷ slice_split p bs) (onto_first b (slice_split p bs))) (others 0 (omega arith))
     ∙ ap (onto_first b) (split_none p bs (λ k below. others (suc k) (omega arith)))
 
--- a word is kept in front
-kept : (word : List ℕ) (more : List (List ℕ)) → 0 < length word
+-- a word is kept, with those kept of the parts after it
+pub word_kept : (word : List ℕ) (more : List (List ℕ)) → 0 < length word
     → filter is_some_word (word ∷ more) ≡ word ∷ filter is_some_word more
-kept [] more some = absurd (omega arith)
-kept (b ∷ bs) more some = refl
+word_kept [] more some = absurd (omega arith)
+word_kept (b ∷ bs) more some = refl
 
 -- a blank in front makes no word
 words_after : (bytes : List ℕ) (i : ℕ) → i < length bytes → is_blank (get_or bytes i 0) ≡ true
@@ -45,13 +45,13 @@ pub words_at : (bytes : List ℕ) (i : ℕ) → 0 < i → i < length bytes
     → words bytes ≡ take i bytes ∷ words (drop i bytes)
 words_at bytes i some inside others here =
     ap (filter is_some_word) (split_at is_blank bytes i inside others here)
-    ∙ kept (take i bytes) (slice_split is_blank (drop (suc i) bytes)) (omega (arith, length-take i bytes))
+    ∙ word_kept (take i bytes) (slice_split is_blank (drop (suc i) bytes)) (omega (arith, length-take i bytes))
     ∙ ap (λ (l : List (List ℕ)). take i bytes ∷ l) (sym (words_after bytes i inside here))
 
 -- bytes with no blank are one word
 pub words_alone : (bytes : List ℕ) → 0 < length bytes
     → ((k : ℕ) → k < length bytes → is_blank (get_or bytes k 0) ≡ false) → words bytes ≡ bytes ∷ words []
-words_alone bytes some others = ap (filter is_some_word) (split_none is_blank bytes others) ∙ kept bytes [] some
+words_alone bytes some others = ap (filter is_some_word) (split_none is_blank bytes others) ∙ word_kept bytes [] some
 
 -- a byte that the test passes is not the first, which it does not
 pub not_first : (bytes : List ℕ) (i : ℕ) → is_blank (get_or bytes 0 0) ≡ false → is_blank (get_or bytes i 0) ≡ true

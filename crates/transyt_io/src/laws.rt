@@ -1,13 +1,14 @@
 //! Laws about the definitions.
-ghost use Rattle.std.specs.Prelude.{◌≡◌, ◌<◌, ℕ, List, ◌∷◌, ◌++◌, [], All, length, map, replicate, codes, None, Some, Ok, Err};
+ghost use Rattle.std.specs.Prelude.{◌≡◌, ◌<◌, ℕ, List, ◌∷◌, ◌++◌, [], All, length, map, replicate, codes, None, Some};
+ghost use Rattle.std.specs.Prelude.{Ok, Err};
 ghost use Rattle.transyt_io.specs.declared.reader.Line.TheVariants.{Text, End};
 ghost use Rattle.transyt_io.specs.declared.reader.ReadStop.TheVariants.{Fault, TooLong};
 ghost use Rattle.transyt_io.specs.Streams.{StopTakes, TakesAll, CountsFault, Reads, Rose, TellsLast, Writes};
 ghost use Rattle.transyt_io.specs.Streams.{last_count};
 ghost use Rattle.transyt_io.specs.Lines.{after_first_line, has_end, is_skipped, lines, whole, words};
 ghost use Rattle.transyt_io.specs.Memory.{fails_next, given_count, new_store, new_supply, next_count, refuses_next};
-ghost use Rattle.transyt_io.specs.Memory.{stock_after, store_after, store_after_fault, supply_after, supply_after_fault};
-ghost use Rattle.transyt_io.specs.Memory.{taken_count};
+ghost use Rattle.transyt_io.specs.Memory.{stock_after, store_after, store_after_fault, supply_after};
+ghost use Rattle.transyt_io.specs.Memory.{supply_after_fault, taken_count};
 ghost use Rattle.transyt_io.specs.Reading.{AnswerSays, HasRead, StopSays, new_reading};
 ghost use Rattle.transyt_io.specs.WorkedCalls as call;
 ghost use Rattle.transyt_io.specs.WorkedEnds as end;
@@ -62,8 +63,8 @@ pub fn worked_calls()
     ensures no_counts { ¬ CountsFault 6 5 call.three × ¬ CountsFault 5 5 call.failed }
 {}
 
-/// An input of 4,194,304 bytes may be taken, or a read of it may have failed, and none longer; at one byte more it is too
-/// long. The bytes of an input are those that its source gave, and the source is at its end.
+/// An input of 4,194,304 bytes may be taken, or a read of it may have failed, and none longer; at one byte more it is
+/// too long. The bytes of an input are those that its source gave, and the source is at its end.
 pub fn worked_intake()
     ensures fault { (bytes : List ℕ) → length bytes ≡ 4194304 → StopTakes bytes Fault }
     ensures no_fault { (bytes : List ℕ) → length bytes ≡ 4194305 → ¬ StopTakes bytes Fault }
@@ -77,8 +78,8 @@ pub fn worked_intake()
     ensures some_left { ¬ TakesAll (codes "ab") (Some (codes "abc")) (Some (codes "c")) (Ok tt) }
 {}
 
-/// The worked reader took its bytes and handed out its lines, and no other count, line or source goes with it. A line is
-/// answered by its text, and the end where all lines were handed out and none is left; a fault stops where all whole
+/// The worked reader took its bytes and handed out its lines, and no other count, line or source goes with it. A line
+/// is answered by its text, and the end where all lines were handed out and none is left; a fault stops where all whole
 /// lines were handed out.
 pub fn worked_reading()
     ensures reader { HasRead (call.reader 4) (Some []) call.taken (codes "c" ∷ []) }

@@ -8,7 +8,7 @@
 //! ties a `LineReader` to all bytes taken and all lines handed out: `HasRead` before and after a call of `next`,
 //! `ReadsLine` for the call. `TakesAll` of `specs/Streams` is the effect of taking a whole input on its source, and
 //! `StdEnd` there an end of std by its bytes told and its count. The lemmas on these words stand in `proofs/Told`,
-//! `proofs/Lines` and `proofs/Reading`.
+//! `proofs/Lines`, `proofs/SpacedWords` and `proofs/Reading`.
 #![tactic(auto)]
 
 mod asking;

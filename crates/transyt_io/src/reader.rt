@@ -46,10 +46,10 @@ pub enum ReadStop {
 /// The lines of a source, one at a time, however the reads cut them.
 ///
 /// Contracts see it as a `Reading`: of a live reader how many bytes were taken and those that no line handed out has;
-/// and whether the source was read to its end, whether the reader is live, and the line of the last call. `HasRead` ties
-/// a reader to all bytes taken and all lines handed out; `ReadsLine` says what a call of `next` did to both. Its memory is
-/// taken in `open` alone: a block for what a read brings, and room for the 4,098 first bytes of a line, which tell what
-/// the line is.
+/// and whether the source was read to its end, whether the reader is live, and the line of the last call. `HasRead`
+/// ties a reader to all bytes taken and all lines handed out; `ReadsLine` says what a call of `next` did to both. Its
+/// memory is taken in `open` alone: a block for what a read brings, and room for the 4,098 first bytes of a line, which
+/// tell what the line is.
 #[derive(Debug, Drop)]
 pub struct LineReader {
     line: Vec<u8>,

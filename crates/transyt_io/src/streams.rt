@@ -52,8 +52,8 @@ pub trait Sink {
         ensures cause { CountsFault (faults self.old) (faults self.new) result }
         ensures most { faults self.new ≤ last_count };
 
-    /// Takes a sentence for a person, which is no part of what is written: one that standard error may show. A sink that
-    /// doesn't say otherwise drops it.
+    /// Takes a sentence for a person, which is no part of what is written: one that standard error may show. A sink
+    /// that doesn't say otherwise drops it.
     fn remark(&mut self, _sentence: &[u8])
         ensures written { written self.new ≡ written self.old }
         ensures faults { faults self.new ≡ faults self.old }

@@ -99,7 +99,8 @@ module _ {by : Reporting} (settled : IsSettled by) {left left_new : Option (List
     (outcome : Outcome by left left_new last written written_new status) (memory : status ≢ NoMemory)
     (no_read : status ≡ ReadFault → ⊥) (no_write : status ≡ WriteFault → ⊥) where
   takes_told : (input : List ℕ) → left ≡ Some input → Takes (Some input) left_new outcome.taken
-  takes_told input is = let P : Option (List ℕ) → Type 0 = λ o. Takes o left_new outcome.taken in subst P is outcome.takes
+  takes_told input is =
+      let P : Option (List ℕ) → Type 0 = λ o. Takes o left_new outcome.taken in subst P is outcome.takes
 
   outcome_told : (input : List ℕ) → left ≡ Some input → length input ≤ 4194304
       → (outcome.out ≡ by.report input) × (status ≡ status_by by input)

@@ -5,14 +5,16 @@ use Rattle.std.proofs.lemmas.List.{append-nil}
 use Rattle.transyt_io.specs.Lines.{lines, whole}
 use Rattle.transyt_io.specs.Reading.{Reading, HasRead}
 use Rattle.transyt_io.specs.Streams.{IsAtEnd}
+use Rattle.transyt_io.proofs.Told.{front_of_more}
+use Rattle.transyt_io.proofs.Lines.{whole_then}
+use Rattle.transyt_io.proofs.Reading.{lines_given, whole_given}
 use Rattle.transyt_outcome.specs.declared.ending.Ending.{Ending}
 use Rattle.transyt_outcome.specs.Runs.{answers_after, costs_after, is_refusal, unless_ended, or_else, Answering}
 use Rattle.transyt_outcome.specs.Runs.{of_lines, answers_by, ending_by, costs_by, StepsMost}
 use Rattle.transyt_outcome.specs.Outcome.{IsFront, EndsRun, Finished, CutOff, IsPart}
 use Rattle.transyt_outcome.specs.RunSoFar.{AnsweredSoFar}
-use Rattle.transyt_outcome.proofs.SoFar.{all_texts, all_endings, line_texts, line_endings, line_costs, lines_given, whole_given}
-use Rattle.transyt_outcome.proofs.SoFar.{front_longer}
-use Rattle.transyt_outcome.proofs.MoreBytes.{whole_then}
+use Rattle.transyt_outcome.proofs.SoFar.{all_texts, all_endings, line_texts, line_endings, line_costs}
+use Rattle.transyt_outcome.proofs.Written.{is_front_longer}
 
 module _ {by : Answering} {before : List (List ℕ)} {out : List ℕ} {steps steps_old : ℕ}
     (so : AnsweredSoFar by before out steps steps_old) {reading : Reading} {left : Option (List ℕ)} {taken : List ℕ}
@@ -51,7 +53,8 @@ module _ {by : Answering} {before : List (List ℕ)} {out : List ℕ} {steps ste
       omega (arith, e, cost)
 
   -- the answer to the line is cut off
-  pub part_of_line : (front back : List ℕ) → front ++ back ≡ by.text before line → IsPart (of_lines by) left taken (out ++ front)
+  pub part_of_line : (front back : List ℕ) → front ++ back ≡ by.text before line
+      → IsPart (of_lines by) left taken (out ++ front)
   part_of_line front back parts =
       let rest : List (List ℕ) → List ℕ = λ more.
       unless_ended (by.ends before line) [] (answers_after by.text by.ends (before ++ line ∷ []) more) in
@@ -59,14 +62,13 @@ module _ {by : Answering} {before : List (List ℕ)} {out : List ℕ} {steps ste
       → IsFront (out ++ front) (answers_by by all) = λ all behind is. record {
         back = back ++ rest behind;
         parts = append_assoc out front (back ++ rest behind)
-            ∙ ap (λ (xs : List ℕ). out ++ xs) (sym (append_assoc front back (rest behind))
-            ∙ ap (λ (xs : List ℕ). xs ++ rest behind) parts)
+            ∙ ap (λ (xs : List ℕ). out ++ xs) (front_of_more front back (by.text before line) (rest behind) parts)
             ∙ sym (ap (answers_by by) is ∙ line_texts so line refl behind);
       } in
       elim (whole_given stands) [
         | inl at_end ↦
             let all = lines_given stands in
-            inr (at_end, front_longer _ _ _ (part (lines taken) all.0 all.1))
+            inr (at_end, is_front_longer _ _ _ (part (lines taken) all.0 all.1))
         | inr some ↦ inl (part (whole taken) some.0 some.1)
       ]
 

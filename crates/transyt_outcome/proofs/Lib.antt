@@ -4,3 +4,4 @@ pub mod LastLine
 pub mod MoreBytes
 pub mod RunLaws
 pub mod SoFar
+pub mod Written

@@ -1,36 +1,13 @@
 -- Bytes after others leave their whole lines as they are, and all of the report where one of these ends the run.
-use Rattle.std.proofs.Common.{◌≡◌, ℕ, ◌++◌, ◌==◌, Bool, true, false, if◌then◌else◌, List, [], ◌∷◌, map, Option, None}
+use Rattle.std.proofs.Common.{◌≡◌, ℕ, ◌++◌, Bool, true, false, List, [], ◌∷◌, Option, None}
 use Rattle.std.proofs.Common.{Some, refl, sym, ◌∙◌, ap}
-use Rattle.std.proofs.lemmas.List.{append-nil, map-append}
-use Rattle.transyt_io.specs.Lines.{cut, onto_first, line_of, lines, whole, lines_by}
+use Rattle.std.proofs.lemmas.List.{append-nil}
+use Rattle.transyt_io.specs.Lines.{lines, whole}
+use Rattle.transyt_io.proofs.Lines.{whole_then}
 use Rattle.transyt_outcome.specs.declared.ending.Ending.{Ending}
 use Rattle.transyt_outcome.specs.Runs.{answers_after, ending_after, unless_ended, first_of, or_else, Answering}
 use Rattle.transyt_outcome.specs.Runs.{of_lines, answers_by, ending_by, is_refused_by}
 use Rattle.transyt_outcome.specs.Outcome.{EndsRun, IsSettled}
-
-onto_more : (keep : Bool) (b : ℕ) (parts more all : List (List ℕ)) → all ≡ parts ++ more
-    → (behind : List (List ℕ)) × (onto_first keep b all ≡ onto_first false b parts ++ behind)
-onto_more keep b [] more all h = (onto_first keep b all, refl)
-onto_more keep b (part ∷ parts) more all h = (more, ap (onto_first keep b) h)
-
-cut_more : (keep : Bool) (xs ys : List ℕ) → (behind : List (List ℕ)) × (cut keep (xs ++ ys) ≡ cut false xs ++ behind)
-cut_more keep [] ys = (cut keep ys, refl)
-cut_more keep (b ∷ bs) ys =
-    let rest = cut_more keep bs ys in
-    let all = cut keep (bs ++ ys) in
-    let some = cut false bs in
-    elim (b == 10) as (λ t. (behind : List (List ℕ)) × ((if t then [] ∷ all else onto_first keep b all)
-    ≡ (if t then [] ∷ some else onto_first false b some) ++ behind)) [
-      | true ↦ (rest.0, ap (λ (ls : List (List ℕ)). [] ∷ ls) rest.1)
-      | false ↦ onto_more keep b some rest.0 all rest.1
-    ]
-
--- bytes after some others leave their whole lines as they are
-pub whole_then : (keep : Bool) (xs ys : List ℕ)
-    → (behind : List (List ℕ)) × (lines_by keep (xs ++ ys) ≡ whole xs ++ behind)
-whole_then keep xs ys =
-    let parts = cut_more keep xs ys in
-    (map line_of parts.0, ap (map line_of) parts.1 ∙ map-append line_of (cut false xs) parts.0)
 
 unless_more : (turn later : Option Ending) (xs ys : List ℕ) → (EndsRun later → xs ≡ ys)
     → EndsRun (first_of turn later) → unless_ended turn [] xs ≡ unless_ended turn [] ys

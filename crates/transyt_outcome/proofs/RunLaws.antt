@@ -23,9 +23,10 @@ use Rattle.transyt_outcome.specs.Runs.{AnsweredWhole, ClosedWhole, is_refusal, A
 use Rattle.transyt_outcome.specs.Runs.{costs_by, StepsRow, Ran}
 use Rattle.transyt_outcome.specs.Outcome.{Finished, IsWritten, Row}
 use Rattle.transyt_outcome.specs.RunSoFar.{RunSoFar}
-use Rattle.transyt_outcome.proofs.SoFar.{so_far_none, so_far_on, all_texts, all_costs, written_none, written_on, written_next}
-use Rattle.transyt_outcome.proofs.LastLine.{finished_line, steps_line, part_of_line, steps_of_line, finished_end, part_of_end}
-use Rattle.transyt_outcome.proofs.LastLine.{cut_off, steps_cut}
+use Rattle.transyt_outcome.proofs.SoFar.{so_far_none, so_far_on, all_texts, all_costs}
+use Rattle.transyt_outcome.proofs.Written.{written_none, written_on, written_next}
+use Rattle.transyt_outcome.proofs.LastLine.{finished_line, steps_line, part_of_line, steps_of_line, finished_end}
+use Rattle.transyt_outcome.proofs.LastLine.{part_of_end, cut_off, steps_cut}
 
 -- a run that has taken nothing
 pub run_new : (by : Answering) {answered : List (List ℕ) → Type 0} {count : ℕ} {counted : Bool}
@@ -138,7 +139,8 @@ module _ {by : Answering} {answered : List (List ℕ) → Type 0} {count : ℕ} 
       {status : Status}
       → new.line ≡ Some line → new.taken ≤ 4194304
       → AnsweredWhole by.text by.ends answered_new written_old written_new way.before line (Some ending)
-      → (counted ≡ true → steps_new ≡ steps_old + by.cost way.before line) → status ≡ (if is_refusal ending then DeckRefused else Done)
+      → (counted ≡ true → steps_new ≡ steps_old + by.cost way.before line)
+      → status ≡ (if is_refusal ending then DeckRefused else Done)
       → Ran by counted left left_new last_new written written_new steps steps_new status
   line_ends p {line} {ending = ending} now most told cost is =
       let text = by.text way.before line in

@@ -4,8 +4,8 @@ ghost use Rattle.transyt_outcome.specs.Outcome.{Finished, Reporting, Row};
 ghost use Rattle.transyt_outcome.specs.Runs.{StepsRow, of_lines};
 ghost use Rattle.transyt_outcome.specs.WorkedOutcomes.{Each, echo, unworked_rows, unworked_steps, worked_rows};
 
-/// Runs end with a status and in steps as it is written beside the definitions, and not as it is written there that they
-/// don't. One that took 4,194,305 bytes isn't done.
+/// Runs end with a status and in steps as it is written beside the definitions, and not as it is written there that
+/// they don't. One that took 4,194,305 bytes isn't done.
 pub fn worked_outcomes()
     ensures rows { Each (λ row. Row (of_lines echo) row.0 row.1 row.2 row.3 row.5) worked_rows }
     ensures steps { Each (λ row. StepsRow echo row.0 row.2 7 row.4 row.5) worked_rows }

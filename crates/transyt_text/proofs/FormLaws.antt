@@ -24,7 +24,8 @@ form_more form ns ms line next all i inside left put before =
     ∙ before
 
 -- after the last byte of a form nothing more stands
-pub form_end : (form ns line all : List ℕ) (i : ℕ) → length form ≤ i → line ++ filled (drop i form) ns ≡ all → line ≡ all
+pub form_end : (form ns line all : List ℕ) (i : ℕ) → length form ≤ i → line ++ filled (drop i form) ns ≡ all
+    → line ≡ all
 unfolding filled
 form_end form ns line all i past before =
     sym (append-nil line) ∙ ap (λ rest. line ++ filled rest ns) (sym (drop_all i form past)) ∙ before

@@ -53,8 +53,8 @@ item_printed F xs i d x a b c inside is before item = record {
 }
 
 -- the text broke off in an item
-pub item_broken : {T E : Type 0} {e : E} (r : Result T E) (v : T) {A : Type 0} (F : A → List ℕ) (xs : List A) (i : ℕ) (d x : A)
-    (a b c : Option (List ℕ)) {f g h : ℕ} → IsErr r → i < length xs → x ≡ get_or xs i d
+pub item_broken : {T E : Type 0} {e : E} (r : Result T E) (v : T) {A : Type 0} (F : A → List ℕ) (xs : List A) (i : ℕ)
+    (d x : A) (a b c : Option (List ℕ)) {f g h : ℕ} → IsErr r → i < length xs → x ≡ get_or xs i d
     → Printed a b f g (flat_map F (take i xs)) → Prints {T = T} {E = E} b c g h (Err e) (F x)
     → Prints {T = T} {E = E} a c f h r (flat_map F xs)
 item_broken r v F xs i d x a b c failed inside is before item =
@@ -84,8 +84,8 @@ place_printed F n i a b c inside before item =
     (omega (arith, get_or-range_with_len 0 n i 0 inside)) before item
 
 -- the text broke off at a place
-pub place_broken : {T E : Type 0} {e : E} (r : Result T E) (v : T) (F : ℕ → List ℕ) (n i : ℕ) (a b c : Option (List ℕ)) {f g h : ℕ}
-    → IsErr r → i < n
+pub place_broken : {T E : Type 0} {e : E} (r : Result T E) (v : T) (F : ℕ → List ℕ) (n i : ℕ)
+    (a b c : Option (List ℕ)) {f g h : ℕ} → IsErr r → i < n
     → Printed a b f g (flat_map F (take i (range_with_len 0 n))) → Prints {T = T} {E = E} b c g h (Err e) (F i)
     → Prints {T = T} {E = E} a c f h r (flat_map F (range_with_len 0 n))
 place_broken r v F n i a b c failed inside before item =

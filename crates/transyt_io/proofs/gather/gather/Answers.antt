@@ -1,5 +1,6 @@
 -- A piece without a line end only lengthens the line; one with it ends the line at the first.
-use Rattle.std.proofs.Common.{◌≡◌, length, length-take, ◌∙◌, ◌+◌, sym, arith, ap, List, ℕ, false, take, drop, slice_index, ◌++◌, ◌∷◌}
+use Rattle.std.proofs.Common.{◌≡◌, ◌∙◌, ◌+◌, ◌++◌, ◌∷◌, ℕ, List, false, length, take, drop, slice_index, sym, ap, arith}
+use Rattle.std.proofs.Common.{length-take}
 use Rattle.std.proofs.lemmas.Bool.{eqb-true}
 use Rattle.transyt_io.specs.Lines.{line_of, lines_by, has_end}
 use Rattle.transyt_io.proofs.Lines.{no_end_in, no_end_more, kept_more, line_of_kept, gathered_line}

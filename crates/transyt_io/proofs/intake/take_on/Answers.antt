@@ -1,5 +1,5 @@
 -- The byte too many.
-use Rattle.std.proofs.Common.{◌++◌, true, drop, take, arith}
+use Rattle.std.proofs.Common.{◌++◌, drop, take, arith}
 use Rattle.transyt_io.proofs.Told.{takes_both}
 use Rattle.transyt_io.proofs.Pieces.{piece_read}
 use Rattle.transyt_io.proofs.intake.take_on.Goals as goal

@@ -12,8 +12,8 @@ loop-place-preserved g c =
 -- the text broke off in this one
 pub returns-in_err-print : goal.returns-in_err-print
 returns-in_err-print g c =
-    place_broken _ (tt {0}) (g.P.Parts.text c.args.parts.now) (g.P.Parts.number c.args.parts.now) c.loop-place.place _ _ _
-    c.from_residual.ensures.0 (omega (arith, c.loop-place-test.true, c.count-place-end.ensures)) c.loop-place.invariant
+    place_broken _ (tt {0}) (g.P.Parts.text c.args.parts.now) (g.P.Parts.number c.args.parts.now) c.loop-place.place
+    _ _ _ c.from_residual.ensures.0 (omega (arith, c.loop-place-test.true, c.count-place-end.ensures)) c.loop-place.invariant
     c.in_err-print.ensures
 
 -- all are written

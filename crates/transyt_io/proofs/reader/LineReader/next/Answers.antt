@@ -2,7 +2,7 @@
 -- readers.
 use Rattle.std.proofs.Common.{◌∙◌, None, refl, arith, sym, true}
 use Rattle.std.proofs.lemmas.List.{with_items_is}
-use Rattle.transyt_io.proofs.Pulled.{begun, reads_over, reads_held}
+use Rattle.transyt_io.proofs.Held.{begun, reads_over, reads_held}
 use Rattle.transyt_io.proofs.Pulled.{reads_pulled_line, reads_pulled_last, reads_pulled_end, reads_stop}
 use Rattle.transyt_io.proofs.reader.LineReader.next.Goals as goal
 

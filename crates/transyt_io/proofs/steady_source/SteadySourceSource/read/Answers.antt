@@ -1,5 +1,5 @@
 -- The bytes copied are those from the place on, so what stays is what comes after them.
-use Rattle.std.proofs.Common.{◌≡◌, ◌≤◌, ◌+◌, ◌-◌, List, ℕ, Some, length, drop, ◌∙◌, sym, ap, arith}
+use Rattle.std.proofs.Common.{◌≡◌, ◌≤◌, ◌+◌, List, ℕ, Some, length, drop, ◌∙◌, sym, ap, arith}
 use Rattle.std.proofs.lemmas.List.{drop_all}
 use Rattle.std.specs.List.{between}
 use Rattle.transyt_io.specs.Memory.{Stock}
