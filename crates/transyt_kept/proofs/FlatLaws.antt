@@ -5,14 +5,13 @@ use Rattle.std.specs.Prelude.{slice_range}
 use Rattle.std.proofs.lemmas.Bool.{cases_eq, cases_lt}
 use Rattle.std.proofs.lemmas.Grind.{get_or-set_at}
 use Rattle.std.proofs.lemmas.List.{length-take-le, length-set, length-replicate, get_or-set_other, get_or-replicate}
-use Rattle.std.proofs.lemmas.List.{drop-replicate, take-replicate}
+use Rattle.std.proofs.lemmas.List.{drop-replicate, take-replicate, take_at}
 use Rattle.std.proofs.lemmas.List.FromFn.{length-map-range_with_len, get_or-map-range_with_len, fill_by_all}
 use Rattle.std.proofs.lemmas.Slice.{between-put_mid, between_is, take-put_mid_below, drop-put_mid}
 use Rattle.std.proofs.Math.Nat.{mul-le-mul_right}
 use borrow.Rule.Slice.PartMut.{put_mid}
 use Rattle.transyt_kept.specs.Rows.{row, empty_table}
 use Rattle.transyt_kept.specs.Table.{cut_rows}
-use Rattle.transyt_kept.proofs.RowLaws.{written_back}
 
 -- row p
 abbrev pub piece : ℕ → List ℕ → ℕ → List ℕ
@@ -113,7 +112,8 @@ module _ (count n : ℕ) (values : List ℕ) (long : length values ≡ count * n
       let room = cut_room count n values long p there in
       let same : length (put_mid (p * n) (p * n + n - p * n) values x) ≡ len =
       length-put (p * n) (p * n + n - p * n) values x (omega (arith, steps)) (omega (arith, room)) ∙ sym all in
-      ap (cut_rows count n) (written_back values (put_mid (p * n) (p * n + n - p * n) values x) len same)
+      let written : List ℕ = put_mid (p * n) (p * n + n - p * n) values x in
+      ap (cut_rows count n) (take_at written (drop (length written) values) len same)
       ∙ ap (λ k. cut_rows count n (put_mid (p * n) k values x)) width
       ∙ cut_put count n values long p there x steps
       ∙ ap (λ t. set t p x) is

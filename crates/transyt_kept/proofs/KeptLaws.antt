@@ -1,17 +1,17 @@
--- Rows with a mark: its rows stay where rows are written or given back, and right after it was set they are those now.
+-- Rows with a mark: its rows stay where rows are written, and right after it was set they are those now.
 use Rattle.std.proofs.Common.{◌≡◌, ◌≢◌, ℕ, ◌+◌, ◌*◌, ◌<◌, ◌≤◌, ◌==◌, Bool, true, false, List, [], length, set, get_or, replicate}
 use Rattle.std.proofs.Common.{Some, IsSome, refl, rules, ap, sym, subst, ◌∙◌, arith, ◌⊎◌, inl, inr, if◌then◌else◌}
 use Rattle.std.proofs.lemmas.Bool.{cases_lt, cases_eq}
-use Rattle.std.proofs.lemmas.List.{length-set, get_or-replicate, get_or_past, length-replicate, set-get_or}
+use Rattle.std.proofs.lemmas.List.{get_or-replicate, get_or_past, length-replicate, set-get_or}
 use Rattle.std.proofs.lemmas.List.{get_or-set_other}
 use Rattle.std.proofs.lemmas.Grind.{get_or-set_at}
 use Rattle.transyt_delay.specs.declared.figures.Figures.{Figures}
 use Rattle.transyt_kept.specs.Cell.{CellValue, no_figures}
-use Rattle.transyt_kept.specs.Rows.{RowsValue, row, shown_at, with_out, with_arrivals, with_go, with_rest, placed}
+use Rattle.transyt_kept.specs.Rows.{RowsValue, row, with_out, with_arrivals, with_go, with_rest, placed}
 use Rattle.transyt_kept.specs.Rows.{empty_rows, empty_table, with_figures, AreRows, SameSize}
-use Rattle.transyt_kept.specs.Saved.{SavedValue, FitsRows, GivesBack, old_rows, old_of, marked_by, kept_of, is_up}
+use Rattle.transyt_kept.specs.Saved.{SavedValue, FitsRows, old_rows, marked_by, kept_of, is_up}
 use Rattle.transyt_kept.specs.Saved.{out_kept, arrivals_kept, go_kept, begun, all_down, AreDownTo}
-use Rattle.transyt_kept.proofs.OldLaws.{old_put, old_give, old_none, length-old_of, places_put}
+use Rattle.transyt_kept.proofs.OldLaws.{old_put, old_none, length-old_of, places_put}
 
 -- rows with a mark, where those of an open mark stay
 kept_same : (rows new : RowsValue) (saved new_saved : SavedValue) → new_saved.live ≡ saved.live
@@ -29,8 +29,7 @@ module _ (rows : RowsValue) (saved : SavedValue) (fits : FitsRows rows saved) wh
   -- departures are saved, and then written over
   pub marked_out : (p : ℕ) (x : List ℕ) → kept_of (record rows { outs = set rows.outs p x }) (out_kept saved rows p)
       ≡ record (kept_of rows saved) { now = record rows { outs = set rows.outs p x } }
-  marked_out p x =
-      kept_same rows (record rows { outs = set rows.outs p x }) saved (out_kept saved rows p) refl (λ live.
+  marked_out p x = kept_same rows _ saved (out_kept saved rows p) refl (λ live.
       let outs = old_put saved.out_flags saved.rows.outs rows.outs fits.outs saved.live live p x [] in
       (λ j. record (old_rows saved rows) { outs = outs j }))
 
@@ -43,8 +42,7 @@ module _ (rows : RowsValue) (saved : SavedValue) (fits : FitsRows rows saved) wh
   pub marked_arrivals : (l : ℕ) (a q : List ℕ) (f : Figures)
       → kept_of (with_arrivals rows l a q f) (saved_arrivals l)
       ≡ record (kept_of rows saved) { now = with_arrivals rows l a q f }
-  marked_arrivals l a q f =
-      kept_same rows (with_arrivals rows l a q f) saved (saved_arrivals l) refl (λ live.
+  marked_arrivals l a q f = kept_same rows _ saved (saved_arrivals l) refl (λ live.
       let flags : List Bool = saved.arrivals_flags in
       let arrivals = old_put flags saved.rows.arrivals rows.arrivals fits.arrivals saved.live live l a [] in
       let queue = old_put flags saved.rows.queue rows.queue fits.queue saved.live live l q [] in
@@ -54,68 +52,19 @@ module _ (rows : RowsValue) (saved : SavedValue) (fits : FitsRows rows saved) wh
   -- and GO
   pub marked_go : (l : ℕ) (g : List ℕ) → kept_of (with_go rows l g) (go_kept saved l (row rows.go l))
       ≡ record (kept_of rows saved) { now = with_go rows l g }
-  marked_go l g =
-      kept_same rows (with_go rows l g) saved (go_kept saved l (row rows.go l)) refl (λ live.
+  marked_go l g = kept_same rows _ saved (go_kept saved l (row rows.go l)) refl (λ live.
       let go = old_put saved.go_flags saved.rows.go rows.go fits.go saved.live live l g [] in
       (λ j. record (old_rows saved rows) { go = go j }))
 
   -- so they are where a link is weighed anew
-  written : (l : ℕ) (f : Figures)
-      → with_arrivals rows l (row rows.arrivals l) (row rows.queue l) f ≡ with_figures rows l f
-  written l f =
-      let arrivals = set-get_or rows.arrivals l [] in
-      let queue = set-get_or rows.queue l [] in
-      (λ j. record (with_figures rows l f) { arrivals = arrivals j; queue = queue j })
-
   pub marked_figures : (l : ℕ) (f : Figures) → kept_of (with_figures rows l f) (saved_arrivals l)
       ≡ record (kept_of rows saved) { now = with_figures rows l f }
   marked_figures l f =
+      let arrivals = set-get_or rows.arrivals l [] in
+      let queue = set-get_or rows.queue l [] in
       subst (λ new. kept_of new (saved_arrivals l) ≡ record (kept_of rows saved) { now = new })
-      (written l f) (marked_arrivals l (row rows.arrivals l) (row rows.queue l) f)
-
-  -- saved departures are given back, and aren't saved then
-  pub given_out : (p : ℕ) → is_up saved.out_flags p ≡ true
-      → GivesBack rows saved (record rows { outs = set rows.outs p (row saved.rows.outs p) })
-      (record saved { out_flags = set saved.out_flags p false })
-  given_out p up =
-      let outs = ap (λ s. old_of (set saved.out_flags p false) s (set rows.outs p (row saved.rows.outs p)))
-      (sym (set-get_or saved.rows.outs p []))
-      ∙ old_give saved.out_flags saved.rows.outs rows.outs fits.outs (row saved.rows.outs p) p [] up in
-      record {
-        fits = search (rules, places_put fits.outs true false);
-        old = (λ j. record (old_rows saved rows) { outs = outs j });
-      }
-
-  -- and so are arrivals, queue and figures, which change places
-  pub given_arrivals : (l : ℕ) → is_up saved.arrivals_flags l ≡ true
-      → GivesBack rows saved
-      (with_arrivals rows l (row saved.rows.arrivals l) (row saved.rows.queue l) (get_or saved.rows.figures l no_figures))
-      (record saved {
-        arrivals_flags = set saved.arrivals_flags l false;
-        rows = with_arrivals saved.rows l (row rows.arrivals l) (row rows.queue l) (get_or rows.figures l no_figures);
-      })
-  given_arrivals l up =
-      let flags : List Bool = saved.arrivals_flags in
-      let now = shown_at rows l in
-      let was = shown_at saved.rows l in
-      let arrivals = old_give flags saved.rows.arrivals rows.arrivals fits.arrivals now.arrivals l [] up in
-      let queue = old_give flags saved.rows.queue rows.queue fits.queue now.queue l [] up in
-      let figures = old_give flags saved.rows.figures rows.figures fits.figures now.figures l no_figures up in
-      record {
-        fits = search (rules, places_put, length-set);
-        old = (λ j. record (old_rows saved rows) { arrivals = arrivals j; queue = queue j; figures = figures j });
-      }
-
-  -- and GO
-  pub given_go : (l : ℕ) → is_up saved.go_flags l ≡ true
-      → GivesBack rows saved (with_go rows l (row saved.rows.go l))
-      (record saved { go_flags = set saved.go_flags l false; rows = with_go saved.rows l (row rows.go l) })
-  given_go l up =
-      let go = old_give saved.go_flags saved.rows.go rows.go fits.go (row rows.go l) l [] up in
-      record {
-        fits = search (rules, places_put, length-set);
-        old = (λ j. record (old_rows saved rows) { go = go j });
-      }
+      (λ j. record (with_figures rows l f) { arrivals = arrivals j; queue = queue j })
+      (marked_arrivals l (row rows.arrivals l) (row rows.queue l) f)
 
 -- where no flag is up the rows of the mark are those now
 pub none_old : (rows : RowsValue) (saved : SavedValue) → ((p : ℕ) → is_up saved.out_flags p ≡ false)

@@ -7,3 +7,4 @@ pub mod IndexLaws
 pub mod WrittenLaws
 pub mod OldLaws
 pub mod KeptLaws
+pub mod GivenLaws

@@ -1,6 +1,6 @@
--- Rows of n values each, and one of them written; and what a write to a slice leaves in its vector.
-use Rattle.std.proofs.Common.{◌≡◌, ℕ, ◌<◌, List, [], length, take, drop, ◌++◌, set, replicate, ◌∙◌, arith}
-use Rattle.std.proofs.lemmas.List.{take_at, length-set, length-replicate}
+-- Rows of n values each, and one of them written.
+use Rattle.std.proofs.Common.{◌≡◌, ℕ, ◌<◌, List, [], length, set, replicate, ◌∙◌, arith}
+use Rattle.std.proofs.lemmas.List.{length-set, length-replicate}
 use Rattle.std.proofs.lemmas.List.Elements.{All-set, All-replicate}
 use Rattle.transyt_kept.specs.Rows.{row, empty_table, AreSized}
 
@@ -23,8 +23,3 @@ sized_empty count n = record {
   many = length-replicate count (replicate n 0);
   steps = All-replicate (λ y. length y ≡ n) count (replicate n 0) (length-replicate {A = ℕ} n 0);
 }
-
--- a vector whose slice was written has what the slice has
-pub written_back : {A : Type 0} (items new : List A) (len : ℕ) → length new ≡ len
-    → take len (new ++ drop (length new) items) ≡ new
-written_back items new len same = take_at new (drop (length new) items) len (omega arith)

@@ -1,5 +1,5 @@
 -- The factors of a feed are worked out once, and are right for its numbers.
-use Rattle.std.proofs.Common.{◌≡◌, ℕ, List, All, ◌∙◌, ap, sym, subst}
+use Rattle.std.proofs.Common.{◌≡◌, ℕ, ◌∙◌, ap}
 use Rattle.transyt_platoon.specs.Platoon.{travel_steps}
 use Rattle.transyt_parts.specs.declared.frame.Frame.{Frame}
 use Rattle.transyt_parts.specs.declared.link.Feed.{Feed}
@@ -18,8 +18,3 @@ serves frame feed place whole f are feeder flow is_whole cruise cycle percent = 
       ∙ ap (travel_steps feed.cruise frame.step_count) cycle;
   percent = percent;
 }
-
--- equal lists of factors are right for equal numbers of steps
-pub are_in : (n m : ℕ) (fs gs : List Factors) → n ≡ m → fs ≡ gs → All (AreFactors n) gs → All (AreFactors m) fs
-are_in n m fs gs same equal are =
-    subst (λ k. All (AreFactors k) fs) same (subst (λ hs. All (AreFactors n) hs) (sym equal) are)

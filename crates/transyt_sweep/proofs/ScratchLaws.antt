@@ -78,23 +78,30 @@ empty_scratch n links arrivals go queue out room reaching factors f g come green
 pub all_arrives : (come room : List ℕ) → sum come ≤ sum room → arrivals_of come room ≡ come
 all_arrives come room less = grind (arith, nat_tests)
 
--- where the rows are those of a link and the weights are its own, the link is seen
-pub seen_is : (net : Network) (l : ℕ) (come room arrivals go queue out : List ℕ) (w : Weights)
-    → arrivals ≡ come → go ≡ room → queue ≡ queues (arrivals_of come room) room
-    → out ≡ outs (arrivals_of come room) room → w.frame ≡ terms_frame net.frame
+-- where the rows are those of a link and the weights are its own, the link is seen; the queue and the departures are
+-- worked out from arrivals and GO as they were read
+pub seen_is : (net : Network) (l : ℕ) (come room come_read room_read arrivals go queue out : List ℕ) (w : Weights)
+    → arrivals ≡ come → go ≡ room → come_read ≡ come → room_read ≡ room
+    → queue ≡ queues (arrivals_of come_read room_read) room_read
+    → out ≡ outs (arrivals_of come_read room_read) room_read → w.frame ≡ terms_frame net.frame
     → w.link ≡ (link_of net l).weights
     → seen arrivals go queue out w ≡ cell_of net l come room
-seen_is net l come room arrivals go queue out w comes goes stands leaves frame link = λ j. record {
-  arrivals = comes j;
-  go = goes j;
-  queue = stands j;
-  out = leaves j;
-  figures = figures record {
-    arrivals = sum (comes j);
-    room = sum (goes j);
-    queued = sum (stands j);
-    stopped = stopped_of (arrivals_of (comes j) (goes j)) (stands j);
-    frame = frame j;
-    weights = link j;
-  };
-}
+seen_is net l come room come_read room_read arrivals go queue out w comes goes reads lets stands leaves frame link =
+    let standing : queue ≡ queues (arrivals_of come room) room =
+    stands ∙ (λ j. queues (arrivals_of (reads j) (lets j)) (lets j)) in
+    let leaving : out ≡ outs (arrivals_of come room) room =
+    leaves ∙ (λ j. outs (arrivals_of (reads j) (lets j)) (lets j)) in
+    (λ j. record {
+      arrivals = comes j;
+      go = goes j;
+      queue = standing j;
+      out = leaving j;
+      figures = figures record {
+        arrivals = sum (comes j);
+        room = sum (goes j);
+        queued = sum (standing j);
+        stopped = stopped_of (arrivals_of (comes j) (goes j)) (standing j);
+        frame = frame j;
+        weights = link j;
+      };
+    })

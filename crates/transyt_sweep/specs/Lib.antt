@@ -2,6 +2,7 @@ pub mod Cell
 pub mod Sweeps
 pub mod Reading
 pub mod Front
+pub mod Opened
 pub mod Inflow
 pub mod Scratch
 pub mod Climb

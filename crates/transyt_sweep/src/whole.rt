@@ -2,14 +2,16 @@
 
 ghost use Rattle.std.specs.Prelude.{◌≡◌, ◌+◌, ◌*◌, ◌<◌, ◌≤◌, length, IfOk, OnOk, OnErr};
 ghost use Rattle.transyt_sweep.specs.Sweeps.{index};
-ghost use Rattle.transyt_kept.specs.Rows.{empty_rows, index_in, placed, AreRows};
+ghost use Rattle.transyt_kept.specs.Rows.{index_in};
 ghost use Rattle.transyt_sweep.specs.Front.{AreFilled, AreEvaluation};
+ghost use Rattle.transyt_sweep.specs.Opened.{AreOpened};
 
+use crate::rows::RowsOfNetwork;
 use crate::scratch::Scratch;
 use crate::working::cell;
 use std::alloc::{AllocError, Global};
 use std::sync::ledger::Ledger;
-use transyt_kept::{Rows, Size};
+use transyt_kept::Rows;
 use transyt_net::Net;
 use transyt_steps::Steps;
 
@@ -23,7 +25,7 @@ pub fn full<L: Ledger>(alloc: Global, net: &Net, steps: &mut Steps<L>) -> Result
     ensures ok { OnOk result (steps.new ≡ steps.old + net.now.frame.sweeps * length net.now.links) }
     ensures err { OnErr result (steps.new ≡ steps.old) }
 {
-    let mut rows = started(alloc, net)?;
+    let mut rows = Rows::open(alloc, net)?;
     let mut scratch = match Scratch::open(alloc, net) {
         Ok(scratch) => scratch,
         Err(fault) => {
@@ -36,43 +38,9 @@ pub fn full<L: Ledger>(alloc: Global, net: &Net, steps: &mut Steps<L>) -> Result
     Ok(rows)
 }
 
-/// How many steps, sweeps and links a network has.
-fn size_of(net: &Net) -> Size
-    ensures step_count { result.step_count ≡ net.now.frame.step_count }
-    ensures sweeps { result.sweeps ≡ net.now.frame.sweeps }
-    ensures link_count { result.link_count ≡ length net.now.links }
-{
-    let frame = net.frame();
-    Size {
-        step_count: frame.step_count as usize,
-        sweeps: frame.sweeps,
-        link_count: net.links().len(),
-    }
-}
-
-/// Rows for a network: before the first sweep the total flow of each link leaves it, and all else is 0.
-fn started(alloc: Global, net: &Net) -> Result<Rows, AllocError>
-    ensures { IfOk result (λ rows. AreFilled net.now 1 0 rows) }
-{
-    let mut rows = Rows::empty(alloc, size_of(net))?;
-    fill_starts(net, &mut rows);
-    Ok(rows)
-}
-
-/// Starts each link.
-fn fill_starts(net: &Net, rows: &mut Rows)
-    requires { rows.old ≡ empty_rows net.now.frame.step_count net.now.frame.sweeps
-        (length net.now.links) }
-    ensures { AreFilled net.now 1 0 rows.new }
-{
-    for link in 0..net.links().len() {
-        rows.fill_out(0, link, net.per_step(net.total_flow(link)));
-    }
-}
-
 /// Works out each link at each sweep.
 fn fill<L: Ledger>(net: &Net, rows: &mut Rows, scratch: &mut Scratch, steps: &mut Steps<L>)
-    requires filled { AreFilled net.now 1 0 rows.old }
+    requires opened { AreOpened net.now rows.old }
     requires step_count { length scratch.old.arrivals ≡ net.now.frame.step_count }
     ensures rows { AreEvaluation net.now rows.new }
     ensures steps { steps.new ≡ steps.old + net.now.frame.sweeps * length net.now.links }
@@ -122,25 +90,5 @@ fn fill_cell<L: Ledger>(
     ensures steps { steps.new ≡ steps.old + 1 }
 {
     cell(net, link, sweep, rows, scratch, steps);
-    place(sweep, link, scratch, rows);
-}
-
-/// Keeps a link at a sweep: its departures, and at the last sweep all of it.
-fn place(sweep: u32, link: usize, scratch: &Scratch, rows: &mut Rows)
-    requires last { sweep ≤ rows.old.sweeps }
-    requires link { link < length rows.old.figures }
-    requires steps { length scratch.now.arrivals ≡ rows.old.step_count }
-    ensures value { rows.new ≡ placed rows.old sweep link scratch.now }
-    ensures kept { AreRows rows.old }
-{
-    rows.put_out(sweep, link, scratch.out());
-    if sweep == rows.size().sweeps {
-        rows.show(
-            link,
-            scratch.arrivals(),
-            scratch.go(),
-            scratch.queue(),
-            scratch.figures(),
-        );
-    }
+    rows.place(sweep, link, scratch);
 }

@@ -2,13 +2,14 @@
 use Rattle.std.proofs.Common.{◌≡◌, ◌+◌, subst, ap, arith, rules}
 use Rattle.transyt_parts.specs.declared.frame.Frame.{Frame}
 use Rattle.transyt_sweep.specs.Front.{AreFilled}
-use Rattle.transyt_sweep.proofs.FilledLaws.{filled_end}
+use Rattle.transyt_sweep.proofs.FilledLaws.{filled_end, opened_filled}
 use Rattle.transyt_sweep.proofs.whole.fill.Goals as goal
 
 -- before the first sweep the links are started
 pub loop-sweep-init : goal.loop-sweep-init
 loop-sweep-init g c = record {
-  filled = c.requires.filled;
+  filled = opened_filled c.args.net.now c.args.rows.now c.frame-sweep-end.ensures.valid.sound.frame.sweeps.0
+      c.requires.opened;
   step_count = search rules;
   steps = omega arith;
 }

@@ -4,7 +4,7 @@ use Rattle.std.proofs.lemmas.List.{get_or_read}
 use Rattle.transyt_kept.specs.Cell.{no_figures}
 use Rattle.transyt_kept.specs.Rows.{RowsValue}
 use Rattle.transyt_kept.specs.Saved.{SavedValue, FitsRows, is_up}
-use Rattle.transyt_kept.proofs.KeptLaws.{given_arrivals}
+use Rattle.transyt_kept.proofs.GivenLaws.{given_arrivals}
 use Rattle.transyt_kept.proofs.saved.Saved.give_arrivals.Goals as goal
 
 pub returns-then-index-clause-back : goal.returns-then-index-clause-back

@@ -3,7 +3,7 @@ use Rattle.std.proofs.Common.{◌≡◌, ◌<◌, true, false, length, ap, sym, 
 use Rattle.std.proofs.lemmas.List.{get_or_read}
 use Rattle.transyt_kept.specs.Rows.{RowsValue}
 use Rattle.transyt_kept.specs.Saved.{SavedValue, FitsRows, is_up}
-use Rattle.transyt_kept.proofs.KeptLaws.{given_out}
+use Rattle.transyt_kept.proofs.GivenLaws.{given_out}
 use Rattle.transyt_kept.proofs.saved.Saved.give_out.Goals as goal
 
 pub returns-then-index-clause-back : goal.returns-then-index-clause-back
