@@ -1,13 +1,15 @@
 -- The greens of an allowed plan fill the cycle.
 use Rattle.std.proofs.Common.{◌≡◌, ◌≢◌, ℕ, zero, suc, ◌+◌, ◌-◌, ◌<◌, ◌≤◌, Bool, true, not, List, [], ◌∷◌, map, length, sum, get_or}
 use Rattle.std.proofs.Common.{sym, ◌∙◌, ap, refl, arith, inl, inr, take, set, None, nat_le, ◌==◌}
-use Rattle.std.specs.List.{list_all, range_with_len}
+use Rattle.std.specs.List.{range_with_len}
 use Rattle.std.proofs.Math.Nat.{eq-zero-or-pos}
 use Rattle.std.proofs.lemmas.Bool.{leb-true, not-false}
 use Rattle.std.proofs.lemmas.Bool.Decides.{nat_tests}
 use Rattle.std.proofs.lemmas.List.{get_or-map, length-map, take_all, length-set, get_or-set_other}
-use Rattle.std.proofs.lemmas.List.Sums.{AllPass-from_list_all, list_all-from_AllPass, sum_by-cons, sum_by_more, sum_by-set, get_or-le-sum_by}
-use Rattle.std.proofs.lemmas.List.FromFn.{length-range_with_len, get_or-range_with_len, sum_by-map-range_with_len_more, get_or-map-range_with_len, length-map-range_with_len}
+use Rattle.std.proofs.lemmas.List.Sums.{AllPass-from_list_all, sum_by-cons, sum_by_more, sum_by-set}
+use Rattle.std.proofs.lemmas.List.Sums.{get_or-le-sum_by}
+use Rattle.std.proofs.lemmas.List.FromFn.{length-range_with_len, get_or-range_with_len, length-map-range_with_len}
+use Rattle.std.proofs.lemmas.List.FromFn.{sum_by-map-range_with_len_more, get_or-map-range_with_len}
 use Rattle.transyt_parts.specs.declared.node.Stage.{Stage}
 use Rattle.transyt_parts.specs.Made.{bare_stage}
 use Rattle.transyt_parts.specs.Plan.{stage_of, no_stage, length_at, stage_lengths, in_order, has_green, have_greens, plan_fault}
@@ -101,15 +103,6 @@ plan_fits steps stages plan is =
           omega (arith, room k inside, here, same);
       fills = omega (arith, lengths_sum steps plan (λ k inside. omega (arith, room k inside)), parts.1, gaps);
     }
-
--- a test that passes at each place
-pub all_places : (test : ℕ → Bool) (n : ℕ) → ((k : ℕ) → k < n → test k ≡ true) → list_all test (range_with_len 0 n) ≡ true
-all_places test n each =
-    list_all-from_AllPass test (range_with_len 0 n) (
-    λ k d below.
-    let inside : k < n = omega (arith, length-range_with_len 0 n) in
-    ap test (get_or-range_with_len 0 n k d inside ∙ omega arith) ∙ each k inside
-    )
 
 -- a green leaves room for another one
 one_beside : (steps : ℕ) (stages : List Stage) (gs : List ℕ) (k j : ℕ) → Fits steps stages gs → j ≢ k → k < length stages

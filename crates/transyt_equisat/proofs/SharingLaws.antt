@@ -107,7 +107,7 @@ best_more a greens p is enough inside most best w es pos fits under =
       | inr already ↦ inr (more already)
     ]
 
--- of lists of equal sums none of whose numbers is greater, the numbers are equal
+-- where no number is greater than the other list's at its place, the sum isn't either
 pub sum_pointwise : (xs ys : List ℕ) → length xs ≡ length ys
     → ((k : ℕ) → k < length xs → get_or xs k 0 ≤ get_or ys k 0) → sum xs ≤ sum ys
 sum_pointwise [] [] same less = omega arith

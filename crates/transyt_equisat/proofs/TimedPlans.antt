@@ -10,10 +10,12 @@ use Rattle.std.proofs.Math.Nat.{mod-add-mod, add-mod_right, mod-eq_of_lt}
 use Rattle.transyt_cycle.proofs.CycleLaws.{minus_mod-of_add}
 use Rattle.transyt_parts.specs.declared.node.Stage.{Stage}
 use Rattle.transyt_parts.specs.Made.{bare_stage}
-use Rattle.transyt_parts.specs.Plan.{stage_of, no_stage, length_at, stage_lengths, in_order, has_green, have_greens, place_after}
+use Rattle.transyt_parts.specs.Plan.{stage_of, no_stage, length_at, stage_lengths, in_order, has_green}
+use Rattle.transyt_parts.specs.Plan.{have_greens, place_after}
+use Rattle.transyt_parts.proofs.BelowLaws.{each_below}
 use Rattle.transyt_equisat.specs.Peaks.{Fits, lost, greens_of, IsPlanOf}
 use Rattle.transyt_equisat.specs.Balance.{change_at}
-use Rattle.transyt_equisat.proofs.PlanFits.{green_at, lengths_sum, lost_bare, all_places, one_shorter}
+use Rattle.transyt_equisat.proofs.PlanFits.{green_at, lengths_sum, lost_bare, one_shorter}
 
 -- the change of the stage at a place: as many steps behind the first as the stages before it take
 pub change_sum : (steps : ℕ) (stages : List Stage) (gs : List ℕ) (k : ℕ) → length gs ≡ length stages
@@ -120,5 +122,5 @@ timed_allowed steps stages gs plan timed fits two first some same =
     let few : nat_le 2 (length plan) ≡ true = le-leb 2 (length plan) (omega (arith, timed.count)) in
     let order : in_order steps plan ≡ true = eq-eqb (sum (stage_lengths steps plan)) steps total in
     let long : have_greens steps plan ≡ true =
-    all_places (has_green steps plan) (length plan) (λ k below. le-leb _ _ (room k below)) in
+    each_below (has_green steps plan) (length plan) (λ k below. le-leb _ _ (room k below)) in
     record { same = same; allowed = rw (few, order, long) }

@@ -2,7 +2,8 @@
 //!
 //! A contract sees the answer as the record `GreensValue` of `specs/Balance`. Cite first: `balance` there
 //! for the whole answer, `degree` of `specs/Degrees` for the degree of a link at a green, `peak` of
-//! `specs/Peaks` for that of a plan, and `IsPlanOf` there for the plans that are meant. Everything here is this project's own.
+//! `specs/Peaks` for that of a plan, and `IsPlanOf` there for the plans that are meant.
+//! Everything here is this project's own.
 #![tactic(auto)]
 
 mod asked;

@@ -1,8 +1,9 @@
 -- The feeds, link by link.
 use Rattle.std.proofs.Common.{◌≡◌, ℕ, suc, zero, ◌+◌, ◌-◌, ◌*◌, ◌<◌, ◌≤◌, true, false, List, [], ◌∷◌, ◌++◌, map}
-use Rattle.std.proofs.Common.{ap, ◌∙◌, arith, append_assoc, Some, None, is_some}
+use Rattle.std.proofs.Common.{ap, sym, ◌∙◌, add-one, arith, append_assoc, Some, None, is_some}
 use Rattle.std.proofs.lemmas.Bool.{cond_both}
 use Rattle.std.proofs.lemmas.Bool.Decides.{nat_tests}
+use Rattle.std.proofs.lemmas.List.{map-append}
 use Rattle.std.proofs.lemmas.List.FromFn.{map-range_with_len_more}
 use Rattle.std.specs.List.{range_with_len}
 use Rattle.transyt_parts.specs.declared.link.Feed.{Feed}
@@ -11,11 +12,13 @@ use Rattle.transyt_parts.specs.Valid.{link_number}
 use Rattle.transyt_net.specs.Parts.{Network, link_in}
 use Rattle.transyt_net.specs.Valid.{is_among, link_numbers, feeds_at}
 use Rattle.transyt_net.specs.Faults.{with_feed}
+use Rattle.transyt_net.proofs.AfterLaws.{numbered_after}
+use Rattle.transyt_make.specs.Draws.{DrawsValue}
 use Rattle.transyt_make.specs.Made.{number_at, side_at, turning, neighbour, bare_link, made_link, with_links}
-use Rattle.transyt_make.specs.Made.{with_feeds, all_names, fed_before, feeds_from}
-use Rattle.transyt_make.proofs.PlaceLaws.{among, not_among, numbered_last}
+use Rattle.transyt_make.specs.Made.{with_feeds, fed_before, feeds_from, draws_by}
+use Rattle.transyt_make.proofs.PlaceLaws.{among, not_among}
 use Rattle.transyt_make.proofs.LinkLaws.{numbers_apart}
-use Rattle.transyt_make.proofs.FeedLaws.{three_middle, numbers_after}
+use Rattle.transyt_make.proofs.FeedLaws.{three_middle}
 
 -- at most as many links have a neighbour as there are
 pub fed_most : (n k : ℕ) → fed_before n k ≤ k
@@ -28,12 +31,6 @@ fed_most n (suc k) =
 -- the link that a turn comes from stands first or third
 pub turning_within : (side : ℕ) → (1 ≤ turning side) × (turning side ≤ 3)
 turning_within side = (grind (arith, nat_tests), grind (arith, nat_tests))
-
--- a link of a node is there
-pub link_there : (seed n j side k : ℕ) → 1 ≤ j → j ≤ n → 1 ≤ side → side ≤ 4 → k ≡ 10 * j + side
-    → is_among (all_names seed n) k ≡ true
-link_there seed n j side k some most first last is =
-    among link_number (bare_link seed n) (4 * n) (4 * (j - 1) + (side - 1)) k (omega arith) (grind (arith, is))
 
 -- the links from a place on, without their feeds
 abbrev bare_from : ℕ → ℕ → ℕ → List LinkValue
@@ -64,19 +61,20 @@ fresh seed n k = not_among link_number (made_link seed n) k (number_at k) (λ i 
 pub unfed_at : (seed n k : ℕ) → k < 4 * n → feeds_at (with_feeds seed n k).links (number_at k) ≡ []
 unfed_at seed n k inside =
     ap (λ ls. feeds_at ls (number_at k)) (links_at seed n k inside)
-    ∙ ap (λ o. (link_in o).feeds) (numbered_last link_number (map (made_link seed n) (range_with_len 0 k))
+    ∙ ap (λ o. (link_in o).feeds) (numbered_after link_number (map (made_link seed n) (range_with_len 0 k))
     (bare_from seed n (k + 1)) (bare_link seed n k) (fresh seed n k))
 
 -- the network with the feeds of one link more
-pub fed_draft : (seed n k from taken number : ℕ) (d e : Network) (f s t : Feed) → k < 4 * n → d ≡ with_feeds seed n k
-    → number ≡ number_at k → neighbour n k ≡ Some from → taken ≡ 6 * n + 4 * fed_before n k
-    → feeds_from seed taken (side_at k) from ≡ f ∷ s ∷ t ∷ [] → e ≡ with_feed (with_feed (with_feed d number f) number s) number t
-    → e ≡ with_feeds seed n (k + 1)
-fed_draft seed n k from taken number d e f s t inside before named beside drawn value more =
+pub fed_draft : (seed n k from number : ℕ) (draws : DrawsValue) (d e : Network) (f s t : Feed) → k < 4 * n
+    → d ≡ with_feeds seed n k → number ≡ number_at k → neighbour n k ≡ Some from → draws ≡ draws_by seed n k
+    → feeds_from draws.seed draws.taken (side_at k) from ≡ f ∷ s ∷ t ∷ []
+    → e ≡ with_feed (with_feed (with_feed d number f) number s) number t → e ≡ with_feeds seed n (k + 1)
+fed_draft seed n k from number draws d e f s t inside before named beside drawn value more =
     let us = map (made_link seed n) (range_with_len 0 k) in
     let vs = bare_from seed n (k + 1) in
     let net = with_feeds seed n k in
-    let made : record (bare_link seed n k) { feeds = f ∷ s ∷ t ∷ [] } ≡ made_link seed n k = rw (beside, ← drawn) (rw value) in
+    let made : record (bare_link seed n k) { feeds = f ∷ s ∷ t ∷ [] } ≡ made_link seed n k =
+    rw beside (rw (rw drawn at value)) in
     rw (more, before, named, three_middle net us vs (bare_link seed n k) f s t (fresh seed n k) (links_at seed n k inside))
     (ap (λ (l : LinkValue). record net { links = us ++ l ∷ vs }) made
     ∙ ap (λ (ls : List LinkValue). record net { links = ls }) (seam seed n k))
@@ -91,15 +89,31 @@ unfed_draft seed n k inside alone =
     ∙ seam seed n k
     )
 
--- three feeds keep the numbers
-pub three_names : (net : Network) (link : ℕ) (a b c : Feed)
-    → link_numbers (with_feed (with_feed (with_feed net link a) link b) link c).links ≡ link_numbers net.links
-three_names net link a b c =
-    numbers_after (with_feed (with_feed net link a) link b) link c ∙ numbers_after (with_feed net link a) link b
-    ∙ numbers_after net link a
-
 -- no feed is there yet
 pub feeds_begin : (seed n : ℕ) → with_links seed n (4 * n) ≡ with_feeds seed n 0
 feeds_begin seed n =
     let count : 4 * n ≡ 4 * n - 0 = omega arith in
     ap (λ m. record (with_feeds seed n 0) { links = map (bare_link seed n) (range_with_len 0 m) }) count
+
+-- feeds keep the numbers
+fed_names : (seed n k : ℕ) → k ≤ 4 * n
+    → link_numbers (with_feeds seed n k).links ≡ link_numbers (with_links seed n (4 * n)).links
+fed_names seed n zero inside = ap (λ (d : Network). link_numbers d.links) (sym (feeds_begin seed n))
+fed_names seed n (suc k) inside =
+    let us = map (made_link seed n) (range_with_len 0 k) in
+    let vs = bare_from seed n (k + 1) in
+    ap (λ m. link_numbers (with_feeds seed n m).links) (sym (add-one k)) ∙ ap link_numbers (sym (seam seed n k))
+    ∙ map-append link_number us (made_link seed n k ∷ vs) ∙ sym (map-append link_number us (bare_link seed n k ∷ vs))
+    ∙ ap link_numbers (sym (links_at seed n k (omega arith))) ∙ fed_names seed n k (omega arith)
+
+-- the link at a place is there
+pub place_there : (seed n k place number : ℕ) → k ≤ 4 * n → place < 4 * n → number_at place ≡ number
+    → is_among (link_numbers (with_feeds seed n k).links) number ≡ true
+place_there seed n k place number fed inside is =
+    rw (fed_names seed n k fed) (among link_number (bare_link seed n) (4 * n) place number inside is)
+
+-- a link of a node is there
+pub link_there : (seed n k j side number : ℕ) → k ≤ 4 * n → 1 ≤ j → j ≤ n → 1 ≤ side → side ≤ 4
+    → number ≡ 10 * j + side → is_among (link_numbers (with_feeds seed n k).links) number ≡ true
+link_there seed n k j side number fed some most first last is =
+    place_there seed n k (4 * (j - 1) + (side - 1)) number fed (omega arith) (grind (arith, is))

@@ -1,7 +1,7 @@
 -- One feed more has no fault.
 use Rattle.std.proofs.Common.{◌≡◌, ℕ, ◌<◌, true, false, List, [], ◌∷◌, ◌++◌, length, map, refl, ap, ◌∙◌}
 use Rattle.std.proofs.Common.{arith, nat_eq, nat_le, Option, Some, None, is_some, inl, inr}
-use Rattle.std.proofs.lemmas.Bool.{cases_Bool, and_from, or_from, or_parts}
+use Rattle.std.proofs.lemmas.Bool.{cases_Bool, and_from, or_from}
 use Rattle.std.proofs.lemmas.Bool.Decides.{nat_tests}
 use Rattle.std.specs.Option.{option_map}
 use Rattle.transyt_parts.specs.declared.link.Feed.{Feed}
@@ -11,8 +11,8 @@ use Rattle.transyt_parts.specs.Made.{add_feed}
 use Rattle.transyt_net.specs.Parts.{Network, link_in}
 use Rattle.transyt_net.specs.Valid.{is_among, link_numbers, numbered, on_numbered, feeds_at}
 use Rattle.transyt_net.specs.Faults.{feed_fault, with_feed, are_links}
+use Rattle.transyt_net.proofs.AfterLaws.{on_numbered_after}
 use Rattle.transyt_net.proofs.PlaceLaws.{keys_kept}
-use Rattle.transyt_make.proofs.PlaceLaws.{is_itself}
 
 -- a new feed has no fault
 pub feed_free : (net : Network) (link : ℕ) (f : Feed) (fs : List Feed) → feeds_at net.links link ≡ fs
@@ -85,14 +85,6 @@ third_free d0 d1 d2 link a b c made more unfed here there range apart other =
     (fed_once e link b still ∙ ap (λ (fs : List Feed). fs ++ b ∷ []) first) (or_from _ _ apart (or_from _ _ other refl))
     (ap (λ ns. is_among ns link) kept ∙ here) (ap (λ ns. is_among ns c.feeder) kept ∙ there) range (omega arith))
 
--- a write to one in the middle
-on_middle : {A : Type 0} (key : A → ℕ) (g : A → A) (xs ys : List A) (x : A) → is_among (map key xs) (key x) ≡ false
-    → on_numbered key g (xs ++ x ∷ ys) (key x) ≡ xs ++ g x ∷ ys
-on_middle key g [] ys x h = rw (is_itself (key x) (key x) refl)
-on_middle key g (y ∷ xs) ys x h =
-    let parts = or_parts (nat_eq (key x) (key y)) (is_among (map key xs) (key x)) h in
-    rw (parts.0, on_middle key g xs ys x parts.1)
-
 -- three feeds of a link in the middle
 pub three_middle : (net : Network) (us vs : List LinkValue) (l : LinkValue) (a b c : Feed)
     → is_among (link_numbers us) l.number ≡ false → net.links ≡ us ++ l ∷ vs
@@ -101,7 +93,7 @@ pub three_middle : (net : Network) (us vs : List LinkValue) (l : LinkValue) (a b
 three_middle net us vs l a b c fresh is =
     rw (
       is,
-      on_middle link_number (add_feed a) us vs l fresh,
-      on_middle link_number (add_feed b) us vs (add_feed a l) fresh,
-      on_middle link_number (add_feed c) us vs (add_feed b (add_feed a l)) fresh,
+      on_numbered_after link_number (add_feed a) us vs l fresh,
+      on_numbered_after link_number (add_feed b) us vs (add_feed a l) fresh,
+      on_numbered_after link_number (add_feed c) us vs (add_feed b (add_feed a l)) fresh,
     )

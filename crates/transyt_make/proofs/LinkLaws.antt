@@ -39,8 +39,8 @@ one_link seed n place entry d e drawn before more =
     rw (more, before, drawn, map-range_with_len_more (bare_link seed n) 0 place place (omega arith))
 
 -- the entry flow that was drawn
-pub entry_at : (d : DrawsValue) (seed n place v : ℕ) (fed : Bool) (o : Option ℕ) → d.seed ≡ seed
-    → d.taken ≡ 2 * n + place → o ≡ neighbour n place → fed ≡ is_some o → v ≡ entry_from d.seed d.taken fed
-    → v ≡ entry_from seed (2 * n + place) (is_some (neighbour n place))
-entry_at d seed n place v fed o same taken from some is =
-    rw (is, same, taken, some, from)
+pub entry_at : (d : DrawsValue) (seed n place v : ℕ) (fed : Bool) (o : Option ℕ)
+    → d ≡ record { seed = seed; taken = 2 * n + place } → o ≡ neighbour n place → fed ≡ is_some o
+    → v ≡ entry_from d.seed d.taken fed → v ≡ entry_from seed (2 * n + place) (is_some (neighbour n place))
+entry_at d seed n place v fed o start from some is =
+    rw (is, start, some, from)

@@ -1,7 +1,7 @@
 -- One node more has no fault.
-use Rattle.std.proofs.Common.{◌≡◌, ℕ, ◌+◌, ◌-◌, ◌*◌, ◌<◌, true, false, List, [], ◌∷◌, ◌++◌, length}
+use Rattle.std.proofs.Common.{◌≡◌, ℕ, ◌+◌, ◌*◌, ◌<◌, true, false, List, [], ◌∷◌, ◌++◌, length}
 use Rattle.std.proofs.Common.{Some, None, slice_get, nat_le, nat_eq, refl, ap, ◌∙◌}
-use Rattle.std.proofs.Common.{arith, length-append}
+use Rattle.std.proofs.Common.{arith}
 use Rattle.std.proofs.lemmas.Bool.Decides.{nat_tests}
 use Rattle.std.proofs.lemmas.List.FromFn.{map-range_with_len_more}
 use Rattle.transyt_parts.specs.declared.node.Stage.{Stage}
@@ -9,8 +9,9 @@ use Rattle.transyt_parts.specs.Parts.{NodeValue}
 use Rattle.transyt_parts.specs.Valid.{node_in_range, stage_in_range}
 use Rattle.transyt_parts.specs.Made.{new_node, new_stage, add_stage}
 use Rattle.transyt_net.specs.Parts.{Network}
-use Rattle.transyt_net.specs.Valid.{is_among, node_numbers, on_place}
+use Rattle.transyt_net.specs.Valid.{is_among, node_numbers}
 use Rattle.transyt_net.specs.Faults.{node_fault, with_node, stage_fault, with_stage, last_place}
+use Rattle.transyt_net.proofs.AfterLaws.{get_last, last_is, on_last}
 use Rattle.transyt_make.specs.Draws.{DrawsValue, draw, further}
 use Rattle.transyt_make.specs.Made.{node_with, made_node, unplanned}
 
@@ -22,21 +23,6 @@ node_free net place offset steps fresh few low at =
     let range : node_in_range net.frame.step_count (place + 1) offset ≡ true = grind (arith, nat_tests) in
     let room : nat_le 200 (length net.nodes) ≡ false = grind (arith, nat_tests) in
     rw (fresh, range, room)
-
--- the last of a list by its place
-on_last : {A : Type 0} (f : A → A) (done : List A) (x : A)
-    → on_place f (done ++ x ∷ []) (length done) ≡ done ++ f x ∷ []
-on_last f [] x = refl
-on_last f (y ∷ done) x = ap (λ l. y ∷ l) (on_last f done x)
-
--- it is found there
-pub get_last : {A : Type 0} (done : List A) (x : A) → slice_get (done ++ x ∷ []) (length done) ≡ Some x
-get_last [] x = refl
-get_last (y ∷ done) x = get_last done x
-
--- and its place
-pub last_is : {A : Type 0} (done : List A) (x : A) → length (done ++ x ∷ []) - 1 ≡ length done
-last_is done x = omega (arith, length-append done (x ∷ []))
 
 -- a new stage of the last node has no fault
 pub stage_free : (net : Network) (done : List NodeValue) (n : NodeValue) (change : ℕ)
@@ -93,8 +79,13 @@ pub drawn_at : (d : DrawsValue) (seed k a v : ℕ) → d.seed ≡ seed → d.tak
     → v ≡ draw seed k a
 drawn_at d seed k a v same taken is = rw (is, same, taken)
 
+-- one draw more
+pub one_more : (seed k m : ℕ) (e f : DrawsValue) → e ≡ record { seed = seed; taken = k } → f ≡ further e 1 → k + 1 ≡ m
+    → f ≡ record { seed = seed; taken = m }
+one_more seed k m e f before more is =
+    more ∙ ap (λ (d : DrawsValue). further d 1) before ∙ ap (λ t. record { seed = seed; taken = t }) is
+
 -- so many draws more, and then one
 pub one_further : (d e f : DrawsValue) (k m : ℕ) → e ≡ further d k → f ≡ further e 1 → k + 1 ≡ m → f ≡ further d m
 one_further d e f k m before more is =
-    more ∙ ap (λ (x : DrawsValue). further x 1) before
-    ∙ ap (λ t. record { seed = d.seed; taken = t }) (omega (arith, is))
+    one_more d.seed (d.taken + k) (d.taken + m) e f before more (omega (arith, is))

@@ -1,13 +1,13 @@
 -- Lists over the places below a limit, and the keys of what stands there.
 use Rattle.std.proofs.Common.{◌≡◌, ℕ, suc, zero, ◌<◌, true, false, List, [], ◌∷◌, ◌++◌, map, refl, sym, ap, ◌∙◌}
 use Rattle.std.proofs.Common.{arith, add-one, nat_eq, Some, inl, inr}
-use Rattle.std.proofs.lemmas.Bool.{cases_Bool, cases_eq, or_from, or_left, or_right, or_parts}
+use Rattle.std.proofs.lemmas.Bool.{cases_Bool, cases_eq, eq-eqb, or_from, or_left, or_right}
 use Rattle.std.proofs.lemmas.List.{map-append}
 use Rattle.std.proofs.lemmas.List.Folds.{list_any-append}
 use Rattle.std.proofs.lemmas.List.FromFn.{map-range_with_len_more}
-use Rattle.std.proofs.lemmas.Bool.Decides.{nat_tests}
 use Rattle.std.specs.List.{list_any, range_with_len}
 use Rattle.transyt_net.specs.Valid.{is_among, numbered}
+use Rattle.transyt_net.proofs.AfterLaws.{numbered_after}
 
 -- one place more
 places_more : {A : Type 0} (f : ℕ → A) (n : ℕ) → map f (range_with_len 0 (suc n)) ≡ map f (range_with_len 0 n) ++ f n ∷ []
@@ -30,10 +30,6 @@ not_among key f (suc n) k h =
     ∙ list_any-append (nat_eq k) (map key (map f (range_with_len 0 n))) (key (f n) ∷ [])
     ∙ or_from _ _ (not_among key f n k (λ i inside. h i (omega arith))) (or_from _ _ (h n (omega arith)) refl)
 
--- a number equals what it is
-pub is_itself : (k l : ℕ) → l ≡ k → nat_eq k l ≡ true
-is_itself k l same = grind (arith, nat_tests)
-
 -- the key of a place is among the keys
 pub among : {A : Type 0} (key : A → ℕ) (f : ℕ → A) (n i k : ℕ) → i < n → key (f i) ≡ k
     → is_among (map key (map f (range_with_len 0 n))) k ≡ true
@@ -41,7 +37,7 @@ among key f zero i k inside is = absurd (omega arith)
 among key f (suc n) i k inside is =
     rw (keys_more key f n k, list_any-append (nat_eq k) (map key (map f (range_with_len 0 n))) (key (f n) ∷ [])) (
     elim (cases_eq i n) [
-      | inl at ↦ or_right _ _ (or_left _ _ (is_itself k (key (f n)) (ap (λ p. key (f p)) (sym at) ∙ is)))
+      | inl at ↦ or_right _ _ (or_left _ _ (eq-eqb k (key (f n)) (sym is ∙ ap (λ p. key (f p)) at)))
       | inr apart ↦ or_left _ _ (among key f n i k (omega (arith, inside, apart)) is)
     ])
 
@@ -55,14 +51,6 @@ numbered_more key (y ∷ xs) ys k x h =
       | inr later ↦ rw later (numbered_more key xs ys k x (rw later at h))
     ]
 
--- the last, where none before has its number
-pub numbered_last : {A : Type 0} (key : A → ℕ) (xs ys : List A) (x : A) → is_among (map key xs) (key x) ≡ false
-    → numbered key (xs ++ x ∷ ys) (key x) ≡ Some x
-numbered_last key [] ys x h = rw (is_itself (key x) (key x) refl)
-numbered_last key (y ∷ xs) ys x h =
-    let parts = or_parts (nat_eq (key x) (key y)) (is_among (map key xs) (key x)) h in
-    rw parts.0 (numbered_last key xs ys x parts.1)
-
 -- the part at a place is the one that its number names, where numbers rise
 pub numbered_at : {A : Type 0} (key : A → ℕ) (f : ℕ → A) (n i : ℕ)
     → ((a b : ℕ) → a < b → nat_eq (key (f b)) (key (f a)) ≡ false) → i < n
@@ -73,7 +61,7 @@ numbered_at key f (suc n) i apart inside =
     ap (λ ys. numbered key ys (key (f i))) (places_more f n)
     ∙ elim (cases_eq i n) [
       | inl at ↦
-          rw at (numbered_last key xs [] (f n) (not_among key f n (key (f n)) (λ a before. apart a n before)))
+          rw at (numbered_after key xs [] (f n) (not_among key f n (key (f n)) (λ a before. apart a n before)))
       | inr other ↦
           numbered_more key xs (f n ∷ []) (key (f i)) (f i) (numbered_at key f n i apart (omega (arith, inside, other)))
     ]

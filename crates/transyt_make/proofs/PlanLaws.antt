@@ -43,18 +43,13 @@ no_fault seed a (suc n) =
     rw (plan_free (15 + second) (omega arith) (omega (arith, small))) (no_fault seed (a + 1) n)
 
 -- with its climb plan the network is the one that is made
-pub planned : (seed n s : ℕ) (d e : Network) → s ≡ seed → d ≡ with_feeds s n (4 * n) → e ≡ with_plan d made_plan
-    → e ≡ with_plan (with_feeds seed n (4 * n)) made_plan
-planned seed n s d e same fed plan =
-    rw (plan, fed, same)
-
--- all links have their feeds
-pub all_made : (seed n : ℕ) → with_plan (with_feeds seed n (4 * n)) made_plan ≡ made seed n
+pub planned : (seed n : ℕ) (d e : Network) → d ≡ with_feeds seed n (4 * n) → e ≡ with_plan d made_plan
+    → e ≡ made seed n
 unfolding made
-all_made seed n =
+planned seed n d e fed plan =
     let none : 4 * n - 4 * n ≡ 0 = omega arith in
     let links = map (made_link seed n) (range_with_len 0 (4 * n)) in
-    rw (none, append-nil links)
+    rw (plan, fed, none, append-nil links)
 
 -- so no plan of the network that is made has a fault
 pub made_planned : (seed n : ℕ) (d : Network) → d ≡ made seed n → first_fault d.frame.step_count d.nodes ≡ None

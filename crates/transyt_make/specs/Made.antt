@@ -8,7 +8,6 @@ use Rattle.transyt_parts.specs.declared.link.Feed.{Feed}
 use Rattle.transyt_parts.specs.Parts.{NodeValue, LinkValue, PlanValue}
 use Rattle.transyt_parts.specs.Made.{new_stage, new_feed, new_link, new_plan}
 use Rattle.transyt_net.specs.Parts.{Network}
-use Rattle.transyt_net.specs.Valid.{link_numbers}
 use Rattle.transyt_make.specs.Draws.{draw, DrawsValue}
 
 -- the frame
@@ -109,7 +108,3 @@ with_feeds seed n k =
 -- a seed and the draws that are taken when the feeds of so many links are made
 abbrev pub draws_by : ℕ → ℕ → ℕ → DrawsValue
 draws_by seed n k = record { seed = seed; taken = 6 * n + 4 * fed_before n k }
-
--- the numbers of all links
-abbrev pub all_names : ℕ → ℕ → List ℕ
-all_names seed n = link_numbers (map (bare_link seed n) (range_with_len 0 (4 * n)))

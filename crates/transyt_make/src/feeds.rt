@@ -6,11 +6,12 @@ ghost use Rattle.transyt_net.specs.Valid.{is_among, link_numbers, feeds_at};
 ghost use Rattle.transyt_net.specs.Faults.{with_feed};
 ghost use Rattle.transyt_make.specs.Draws.{further, draw};
 ghost use Rattle.transyt_make.specs.Made.{neighbour, side_at, number_at, turning, feeds_from, with_links};
-ghost use Rattle.transyt_make.specs.Made.{with_feeds, draws_by, fed_before, all_names};
+ghost use Rattle.transyt_make.specs.Made.{with_feeds, draws_by, fed_before};
 
 use crate::draws::Draws;
 use crate::granted::grant_feed;
 use crate::links::{neighbour, number_at};
+use crate::town::Town;
 use std::alloc::AllocError;
 use transyt_net::{Draft, Feed};
 
@@ -98,22 +99,19 @@ fn put_three(
 
 /// Adds the feeds of the link at a place that has this neighbour.
 fn put_from(
-    nodes: u32,
+    town: Town,
     place: u32,
     from: u32,
     draws: &mut Draws,
     draft: &mut Draft,
 ) -> Result<(), AllocError>
-    requires most { nodes ≤ 200 }
-    requires place { place < 4 * nodes }
-    requires from { (1 ≤ from) × (from ≤ nodes) }
-    requires neighbour { neighbour nodes place ≡ Some from }
-    requires draws { draws.old ≡ draws_by draws.old.seed nodes place }
-    requires names { link_numbers draft.old.links ≡ all_names draws.old.seed nodes }
-    requires draft { draft.old ≡ with_feeds draws.old.seed nodes place }
-    ensures names { OnOk result (link_numbers draft.new.links ≡ all_names draws.old.seed nodes) }
-    ensures draft { OnOk result (draft.new ≡ with_feeds draws.old.seed nodes (place + 1)) }
-    ensures draws { OnOk result (draws.new ≡ draws_by draws.old.seed nodes (place + 1)) }
+    requires place { place < 4 * town.nodes }
+    requires from { (1 ≤ from) × (from ≤ town.nodes) }
+    requires neighbour { neighbour town.nodes place ≡ Some from }
+    requires draws { draws.old ≡ draws_by town.seed town.nodes place }
+    requires draft { draft.old ≡ with_feeds town.seed town.nodes place }
+    ensures draft { OnOk result (draft.new ≡ with_feeds town.seed town.nodes (place + 1)) }
+    ensures draws { OnOk result (draws.new ≡ draws_by town.seed town.nodes (place + 1)) }
 {
     let feeds = draw_feeds(place % 4 + 1, from, draws);
     put_three(
@@ -128,35 +126,31 @@ fn put_from(
 /// Adds the feeds of the link at a place, if it has a neighbour.
 #[tactic(auto, using(crate::proofs::FedLaws::unfed_draft))]
 fn put_feeds_of(
-    nodes: u32,
+    town: Town,
     place: u32,
     draws: &mut Draws,
     draft: &mut Draft,
 ) -> Result<(), AllocError>
-    requires most { nodes ≤ 200 }
-    requires place { place < 4 * nodes }
-    requires draws { draws.old ≡ draws_by draws.old.seed nodes place }
-    requires names { link_numbers draft.old.links ≡ all_names draws.old.seed nodes }
-    requires draft { draft.old ≡ with_feeds draws.old.seed nodes place }
-    ensures names { OnOk result (link_numbers draft.new.links ≡ all_names draws.old.seed nodes) }
-    ensures draft { OnOk result (draft.new ≡ with_feeds draws.old.seed nodes (place + 1)) }
-    ensures draws { OnOk result (draws.new ≡ draws_by draws.old.seed nodes (place + 1)) }
+    requires place { place < 4 * town.nodes }
+    requires draws { draws.old ≡ draws_by town.seed town.nodes place }
+    requires draft { draft.old ≡ with_feeds town.seed town.nodes place }
+    ensures draft { OnOk result (draft.new ≡ with_feeds town.seed town.nodes (place + 1)) }
+    ensures draws { OnOk result (draws.new ≡ draws_by town.seed town.nodes (place + 1)) }
 {
-    match neighbour(nodes, place) {
+    match neighbour(town, place) {
         None => Ok(()),
-        Some(from) => put_from(nodes, place, from, draws, draft),
+        Some(from) => put_from(town, place, from, draws, draft),
     }
 }
 
 /// Adds the feeds of all links.
-pub(crate) fn put_feeds(nodes: u32, draws: &mut Draws, draft: &mut Draft) -> Result<(), AllocError>
-    requires most { nodes ≤ 200 }
-    requires draws { draws.old.taken ≡ 6 * nodes }
-    requires draft { draft.old ≡ with_links draws.old.seed nodes (4 * nodes) }
-    ensures { OnOk result (draft.new ≡ with_feeds draws.old.seed nodes (4 * nodes)) }
+pub(crate) fn put_feeds(town: Town, draws: &mut Draws, draft: &mut Draft) -> Result<(), AllocError>
+    requires draws { draws.old ≡ record { seed = town.seed; taken = 6 * town.nodes } }
+    requires draft { draft.old ≡ with_links town.seed town.nodes (4 * town.nodes) }
+    ensures { OnOk result (draft.new ≡ with_feeds town.seed town.nodes (4 * town.nodes)) }
 {
-    for place in 0..4 * nodes {
-        put_feeds_of(nodes, place, draws, draft)?;
+    for place in 0..4 * town.nodes {
+        put_feeds_of(town, place, draws, draft)?;
     }
     Ok(())
 }

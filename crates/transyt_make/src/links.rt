@@ -10,38 +10,37 @@ ghost use Rattle.transyt_make.specs.Made.{bare_link, unplanned, with_links};
 
 use crate::draws::Draws;
 use crate::granted::grant_link;
+use crate::town::Town;
 use std::alloc::AllocError;
 use transyt_net::Draft;
 
-/// The neighbour of a node on a side, 1 to 4, among so many nodes in rows of eight: the node before it, after it, above
-/// it or below it. Nodes count from 1.
-fn beside(nodes: u32, node: u32, side: u32) -> Option<u32>
+/// The neighbour of a node on a side, 1 to 4, in rows of eight: the node before it, after it, above it or below it.
+/// Nodes count from 1.
+fn beside(town: Town, node: u32, side: u32) -> Option<u32>
     requires some { 1 ≤ node }
-    requires few { node ≤ 200 }
-    requires there { node ≤ nodes }
-    ensures value { result ≡ beside nodes node side }
-    ensures within { IfSome result (λ j. (1 ≤ j) × (j ≤ nodes)) }
+    requires there { node ≤ town.nodes }
+    ensures value { result ≡ beside town.nodes node side }
+    ensures within { IfSome result (λ j. (1 ≤ j) × (j ≤ town.nodes)) }
 {
     match side {
         1 if 0 < (node - 1) % 8 => Some(node - 1),
         1 => None,
-        2 if (node - 1) % 8 < 7 && node < nodes => Some(node + 1),
+        2 if (node - 1) % 8 < 7 && node < town.nodes => Some(node + 1),
         2 => None,
         3 if 8 < node => Some(node - 8),
         3 => None,
-        _ if node + 8 <= nodes => Some(node + 8),
+        _ if node + 8 <= town.nodes => Some(node + 8),
         _ => None,
     }
 }
 
 /// The neighbour from which the link at a place comes, if there is one.
-pub(crate) fn neighbour(nodes: u32, place: u32) -> Option<u32>
-    requires most { nodes ≤ 200 }
-    requires place { place < 4 * nodes }
-    ensures value { result ≡ neighbour nodes place }
-    ensures within { IfSome result (λ j. (1 ≤ j) × (j ≤ nodes)) }
+pub(crate) fn neighbour(town: Town, place: u32) -> Option<u32>
+    requires { place < 4 * town.nodes }
+    ensures value { result ≡ neighbour town.nodes place }
+    ensures within { IfSome result (λ j. (1 ≤ j) × (j ≤ town.nodes)) }
 {
-    beside(nodes, place / 4 + 1, place % 4 + 1)
+    beside(town, place / 4 + 1, place % 4 + 1)
 }
 
 /// The number of the link at a place.
@@ -98,15 +97,16 @@ fn put_link(draft: &mut Draft, place: u32, entry: u32) -> Result<(), AllocError>
 }
 
 /// Adds the links.
-pub(crate) fn put_links(nodes: u32, draws: &mut Draws, draft: &mut Draft) -> Result<(), AllocError>
-    requires most { nodes ≤ 200 }
-    requires draws { draws.old.taken ≡ 2 * nodes }
-    requires draft { draft.old ≡ unplanned draws.old.seed nodes [] }
-    ensures draft { OnOk result (draft.new ≡ with_links draws.old.seed nodes (4 * nodes)) }
-    ensures draws { OnOk result (draws.new ≡ further draws.old (4 * nodes)) }
+pub(crate) fn put_links(town: Town, draws: &mut Draws, draft: &mut Draft) -> Result<(), AllocError>
+    requires draws { draws.old ≡ record { seed = town.seed; taken = 2 * town.nodes } }
+    requires draft { draft.old ≡ unplanned town.seed town.nodes [] }
+    ensures draft { OnOk result
+        (draft.new ≡ with_links town.seed town.nodes (4 * town.nodes)) }
+    ensures draws { OnOk result
+        (draws.new ≡ record { seed = town.seed; taken = 6 * town.nodes }) }
 {
-    for place in 0..4 * nodes {
-        let entry = draw_entry(neighbour(nodes, place).is_some(), draws);
+    for place in 0..4 * town.nodes {
+        let entry = draw_entry(neighbour(town, place).is_some(), draws);
         put_link(draft, place, entry)?;
     }
     Ok(())

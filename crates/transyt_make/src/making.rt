@@ -8,6 +8,7 @@ use crate::feeds::put_feeds;
 use crate::granted::grant_plan;
 use crate::links::put_links;
 use crate::nodes::put_nodes;
+use crate::town::Town;
 use std::alloc::{AllocError, Global};
 use transyt_net::{Draft, Frame, Net};
 
@@ -30,15 +31,14 @@ fn begin(alloc: Global) -> Draft
 }
 
 /// Fills an empty draft with the nodes, the links, their feeds and the climb plan.
-fn fill(nodes: u32, draws: &mut Draws, draft: &mut Draft) -> Result<(), AllocError>
-    requires most { nodes ≤ 200 }
-    requires draws { draws.old.taken ≡ 0 }
-    requires draft { draft.old ≡ empty made_frame }
-    ensures { OnOk result (draft.new ≡ made draws.old.seed nodes) }
+fn fill(town: Town, draft: &mut Draft) -> Result<(), AllocError>
+    requires { draft.old ≡ empty made_frame }
+    ensures { OnOk result (draft.new ≡ made town.seed town.nodes) }
 {
-    put_nodes(nodes, draws, draft)?;
-    put_links(nodes, draws, draft)?;
-    put_feeds(nodes, draws, draft)?;
+    let mut draws = Draws::new(town.seed);
+    put_nodes(town, &mut draws, draft)?;
+    put_links(town, &mut draws, draft)?;
+    put_feeds(town, &mut draws, draft)?;
     grant_plan(draft)?;
     Ok(())
 }
@@ -54,9 +54,8 @@ pub fn make_net(alloc: Global, seed: u32, nodes: u32) -> Result<Net, AllocError>
     requires most { nodes ≤ 200 }
     ensures { IfOk result (λ net. net ≡ made seed nodes) }
 {
-    let mut draws = Draws::new(seed);
     let mut draft = begin(alloc);
-    if let Err(e) = fill(nodes, &mut draws, &mut draft) {
+    if let Err(e) = fill(Town { seed, nodes }, &mut draft) {
         // dropped by a call, since a draft that falls out of scope is taken apart here
         drop(draft);
         return Err(e);

@@ -2,11 +2,11 @@
 ghost use Rattle.std.specs.Prelude.{◌≡◌, ◌<◌, ◌≤◌, ◌+◌, ◌*◌, ◌++◌, ◌∷◌, [], length, false, OnOk};
 ghost use Rattle.transyt_net.specs.Valid.{is_among, node_numbers};
 ghost use Rattle.transyt_net.specs.Faults.{empty};
-ghost use Rattle.transyt_make.specs.Draws.{further};
 ghost use Rattle.transyt_make.specs.Made.{made_frame, node_with, unplanned};
 
 use crate::draws::Draws;
 use crate::granted::{grant_node, grant_stage};
+use crate::town::Town;
 use std::alloc::AllocError;
 use transyt_net::Draft;
 
@@ -27,14 +27,14 @@ fn put_node(draft: &mut Draft, place: u32, offset: u32, change: u32) -> Result<(
 }
 
 /// Adds the nodes.
-pub(crate) fn put_nodes(nodes: u32, draws: &mut Draws, draft: &mut Draft) -> Result<(), AllocError>
-    requires most { nodes ≤ 200 }
-    requires draws { draws.old.taken ≡ 0 }
+pub(crate) fn put_nodes(town: Town, draws: &mut Draws, draft: &mut Draft) -> Result<(), AllocError>
+    requires draws { draws.old ≡ record { seed = town.seed; taken = 0 } }
     requires draft { draft.old ≡ empty made_frame }
-    ensures draft { OnOk result (draft.new ≡ unplanned draws.old.seed nodes []) }
-    ensures draws { OnOk result (draws.new ≡ further draws.old (2 * nodes)) }
+    ensures draft { OnOk result (draft.new ≡ unplanned town.seed town.nodes []) }
+    ensures draws { OnOk result
+        (draws.new ≡ record { seed = town.seed; taken = 2 * town.nodes }) }
 {
-    for place in 0..nodes {
+    for place in 0..town.nodes {
         let offset = draws.draw(50);
         let change = 15 + draws.draw(21);
         put_node(draft, place, offset, change)?;

@@ -1,3 +1,4 @@
+pub mod AfterLaws
 pub mod AllowedLaws
 pub mod ApplyLaws
 pub mod BackLaws

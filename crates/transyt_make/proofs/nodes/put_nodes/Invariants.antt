@@ -1,6 +1,5 @@
 -- The nodes before this one are there.
 use Rattle.std.proofs.Common.{◌≡◌, ◌*◌, ◌≤◌, []}
-use Rattle.transyt_make.specs.Draws.{further}
 use Rattle.transyt_make.specs.Made.{unplanned}
 use Rattle.transyt_make.proofs.nodes.put_nodes.Given as goal
 
@@ -8,6 +7,6 @@ use Rattle.transyt_make.proofs.nodes.put_nodes.Given as goal
 abbrev pub invariant-loop-place : goal.invariant-loop-place
 invariant-loop-place l = record {
   draft : l.draft ≡ unplanned l.initial.draws.seed l.place [];
-  draws : l.draws ≡ further l.initial.draws (2 * l.place);
-  within : l.place ≤ l.nodes;
+  draws : l.draws ≡ record { seed = l.initial.draws.seed; taken = 2 * l.place };
+  within : l.place ≤ l.place-end;
 }
