@@ -12,7 +12,7 @@ use Rattle.transyt_counts.specs.declared.key.Key.{Key}
 use Rattle.transyt_counts.specs.declared.row.Count.{Count}
 use Rattle.transyt_counts.specs.declared.tally.Totals.{Totals}
 use Rattle.transyt_counts.specs.Rows.{same_key}
-use Rattle.transyt_counts.specs.Counts.{keys_of, with_key, more_totals, totals_in, totals_of, tally_of}
+use Rattle.transyt_counts.specs.Counts.{keys_of, with_key, with_count, more_totals, totals_in, totals_of, tally_of}
 use Rattle.transyt_net.specs.Parts.{Network}
 use Rattle.transyt_counts.proofs.RowLaws.{IsGood}
 use Rattle.transyt_counts.proofs.KeyLaws.{key_same, key_self, key_swapped, keys_of_differ, insert_over, lookup_over, any_with, any_itself}
@@ -79,8 +79,7 @@ totals_new cs c =
     ]
 
 -- the tally with a row more
-pub tally_push : (cs : List Count) (c : Count)
-    → insert_entry same_key (tally_of cs) c.key (more_totals c (lookup (same_key c.key) (tally_of cs))) ≡ tally_of (cs ++ c ∷ [])
+pub tally_push : (cs : List Count) (c : Count) → with_count (tally_of cs) c ≡ tally_of (cs ++ c ∷ [])
 tally_push cs c =
     insert_over (totals_of cs) (totals_of (cs ++ c ∷ [])) c.key _ (keys_of cs) (keys_of_differ cs)
     (λ j other. sym (ap totals_in (rows_other cs c j (key_swapped c.key j other))))
@@ -129,7 +128,7 @@ totals_few net n c (Some t) good before = record {
 
 -- the entries with a row more
 pub entries_few : (net : Network) (n : ℕ) (c : Count) (es : List (Key × Totals)) → IsGood net c → All (λ e. AreFew n e.1) es
-    → All (λ e. AreFew (n + 1) e.1) (insert_entry same_key es c.key (more_totals c (lookup (same_key c.key) es)))
+    → All (λ e. AreFew (n + 1) e.1) (with_count es c)
 entries_few net n c es good few =
     insert_has (AreFew (n + 1)) es c.key (more_totals c (lookup (same_key c.key) es))
     (All-weaker (λ (e : Key × Totals). AreFew n e.1) (λ (e : Key × Totals). AreFew (n + 1) e.1)

@@ -20,7 +20,8 @@ abbrev pub count_five : ℕ → ℕ → Count
 count_five vehicles minutes =
     record { row = 6; key = record { link = 5; feeder = None }; vehicles = vehicles; minutes = minutes }
 
--- rows, and what each counts as the sixth of its table, or its code: links 5, 9 and 4 are there, and 4 is fed by 9 and 5
+-- rows, and what each counts as the sixth of its table, or its code: links 5, 9 and 4 are there, and 4 is fed by 9
+-- and 5
 abbrev pub worked_rows : List (List (List ℕ) × Result Count Code)
 worked_rows =
     (fields (codes "5") [] (codes "37") (codes "15"), Ok (count_five 37 15))
