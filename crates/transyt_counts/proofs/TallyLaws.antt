@@ -7,6 +7,7 @@ use Rattle.std.proofs.lemmas.Bool.{cases_Bool}
 use Rattle.std.proofs.lemmas.List.Sums.{fold_push, sum_by_push}
 use Rattle.std.proofs.lemmas.List.Elements.{All-nil, All-cons, All-head, All-tail, All-weaker, filter-append}
 use Rattle.std.proofs.lemmas.List.{append-nil}
+use Rattle.std.proofs.lemmas.Map.Entries.{All-lookup}
 use Rattle.indexmap.specs.IndexMap.{insert_entry}
 use Rattle.transyt_counts.specs.declared.key.Key.{Key}
 use Rattle.transyt_counts.specs.declared.row.Count.{Count}
@@ -102,12 +103,7 @@ insert_has P (e ∷ es) k v all here =
 -- and what is looked up among them has it
 pub lookup_has : (P : Totals → Type 0) (test : Key → Bool) (es : List (Key × Totals)) → All (λ e. P e.1) es
     → IfSome (lookup test es) P
-lookup_has P test [] all = tt
-lookup_has P test (e ∷ es) all =
-    elim (cases_Bool (test e.0)) [
-      | inl passes ↦ rw passes (All-head (λ (e : Key × Totals). P e.1) e es all)
-      | inr fails ↦ rw fails (lookup_has P test es (All-tail (λ (e : Key × Totals). P e.1) e es all))
-    ]
+lookup_has = All-lookup
 
 -- totals of a row or more, and of no more than so many
 pub record AreFew (n : ℕ) (t : Totals) : Type 0 where
