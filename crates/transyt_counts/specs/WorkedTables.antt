@@ -55,7 +55,8 @@ worked_tables = (
     ∷ (fields (codes "5") [] (codes "9999") (codes "60") ∷ [], Ok (record { rows = 1; edits = Entry 5 9999 ∷ [] }))
     ∷ (
       fields (codes "5") [] (codes "9008") (codes "53") ∷ fields (codes "4") (codes "9") (codes "9") (codes "5")
-          ∷ fields (codes "5") [] (codes "992") (codes "7") ∷ fields (codes "4") (codes "5") (codes "999") (codes "1") ∷ [],
+          ∷ fields (codes "5") [] (codes "992") (codes "7")
+          ∷ fields (codes "4") (codes "5") (codes "999") (codes "1") ∷ [],
       Err (stop.Refused 3 code.CountedFlow),
     )
     ∷ (
