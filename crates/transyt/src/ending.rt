@@ -5,8 +5,8 @@ ghost use Rattle.transyt_outcome.specs.Outcome.{exit_number};
 use std::io::ErrorKind;
 use transyt_outcome::Status;
 
-/// The exit number of the program: that of the status; where the words could not be had, 5 out of memory and 7 for another
-/// cause.
+/// The exit number of the program: that of the status; where the words could not be had, 5 out of memory and 7 for
+/// another cause.
 pub fn exit_of(ended: Result<Status, ErrorKind>) -> u8
     ensures status { IfOk ended (λ status. result ≡ exit_number status) }
     ensures out_of_memory { ended ≡ Err ErrorKind.OutOfMemory → result ≡ 5 }

@@ -26,19 +26,19 @@ pub fn given_words(args: io::Result<Args>, alloc: Global) -> io::Result<Vec<Stri
     Ok(words)
 }
 
-/// Runs the program over a reader and a writer of std, with the words that std's `env::args` answered, and gives its exit
-/// number, and the writer again.
+/// Runs the program over a reader and a writer of std, with the words that std's `env::args` answered, and gives its
+/// exit number, and the writer again.
 ///
-/// The contract speaks of a reader that tells what remains of its input and of a writer that tells what it holds, as that
-/// of `run_over` does.
+/// The contract speaks of a reader that tells what remains of its input and of a writer that tells what it holds, as
+/// that of `run_over` does.
 pub fn run_args<R: Threads + Sync + Eprint + AllocGlobal, I: Read + Drop, W: Write>(
     rt: &R,
     args: io::Result<Args>,
     reader: I,
     writer: W,
 ) -> (u8, W)
-    // with the words that std answered, after the first, the program's name: the number is that of a status, and where no
-    // call failed and there was memory the writer holds what it held and what the words ask for
+    // with the words that std answered, after the first, the program's name: the number is that of a status, and
+    // where no call failed and there was memory the writer holds what it held and what the words ask for
     ensures ran { IfOk args (λ given. ArgsRan
         (map string_bytes (after_name (into_iter_items given)))
         (I.remaining reader) (W.contents writer) (W.contents result.1) result.0) }

@@ -8,11 +8,11 @@ use std::io::{self, ErrorKind, Read, Write};
 use std::thread::Threads;
 use transyt_io::{StdSink, StdSource};
 
-/// Runs the program over a reader and a writer of std, with the words that it was given, its own name first, and gives its
-/// exit number, and the writer again.
+/// Runs the program over a reader and a writer of std, with the words that it was given, its own name first, and
+/// gives its exit number, and the writer again.
 ///
-/// The contract speaks of a reader that tells what remains of its input and of a writer that tells what it holds. Neither
-/// tells whether a call of it failed: the exit number does, 3 for a read and 4 for a write.
+/// The contract speaks of a reader that tells what remains of its input and of a writer that tells what it holds.
+/// Neither tells whether a call of it failed: the exit number does, 3 for a read and 4 for a write.
 pub fn run_over<R: Threads + Sync + Eprint + AllocGlobal, I: Read + Drop, W: Write>(
     rt: &R,
     given: io::Result<Vec<String>>,

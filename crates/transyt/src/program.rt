@@ -86,8 +86,8 @@ pub fn run_tallied<R: Threads + Sync + AllocGlobal, S: Source>(
     run_call(rt, words, source, sink)
 }
 
-/// Tells standard error why not all was done, in a sentence or with the lists of words that the program takes. Of a refused
-/// deck the sink has told it already. A fault of standard error changes nothing.
+/// Tells standard error why not all was done, in a sentence or with the lists of words that the program takes. Of a
+/// refused deck the sink has told it already. A fault of standard error changes nothing.
 fn tell<R: Eprint>(rt: &R, ended: Result<Status, ErrorKind>) {
     if let Ok(Status::DeckRefused) = ended {
         return;
@@ -127,9 +127,11 @@ fn run_without<R: Eprint>(rt: &R, cause: ErrorKind) -> u8
     exit_of(Err(cause))
 }
 
-/// Runs the program with the words that it was given, its own name first, and gives its exit number, and the sink again.
+/// Runs the program with the words that it was given, its own name first, and gives its exit number, and the sink
+/// again.
 ///
-/// Standard error is told of each refused line: its number, the code, and why; and of a run that didn't do all, why not.
+/// Standard error is told of each refused line: its number, the code, and why; and of a run that didn't do all, why
+/// not.
 pub fn run_program<R: Threads + Sync + Eprint + AllocGlobal, S: Source, K: Sink>(
     rt: &R,
     given: io::Result<Vec<String>>,

@@ -97,8 +97,8 @@ fn answer_word<R: Threads + Sync, S: Source, K: Sink, G: Gate, L: Ledger>(
 /// - `audit` tells whether the lines after a deck prove that no listed move lowers its index;
 /// - `scan w low high by` climbs on a deck at the cycle times low, low + by and so on up to high, with w workers;
 /// - `cycles w low high by` does so with steps as many seconds long as the deck's, and writes the deck of the best;
-/// - `starts w seed count` climbs on a deck from so many starts, whose offsets are drawn from the seed, with w workers, and
-///   writes the deck of the best.
+/// - `starts w seed count` climbs on a deck from so many starts, whose offsets are drawn from the seed, with w
+///   workers, and writes the deck of the best.
 ///
 /// The output is the same for every number of workers. `run` answers each line of the input before the next is
 /// read, and each step of a climb is written before the next look; the words after it that read an input take
@@ -138,8 +138,8 @@ pub fn transyt<R: Threads + Sync, S: Source, K: Sink, G: Gate, L: Ledger>(
         → (input held : List ℕ) → S.left source.old ≡ Some input → K.written sink.old ≡ Some held
         → length input ≤ 4194304
         → (K.written sink.new ≡ Some (held ++ report input)) × (result ≡ status input) }
-    // a climb of the report, on what any lines have come to: each step strictly lowers the index within every least green
-    // and intergreen; it ends LOCAL where no listed move lowers the index, or BUDGET where the budget is spent
+    // a climb of the report, on what any lines have come to: each step strictly lowers the index within every least
+    // green and intergreen; it ends LOCAL where no listed move lowers the index, or BUDGET where the budget is spent
     ensures climbs { (before : List (List ℕ)) → ClimbDescends (run_state before) }
     // with any words that the program takes: what they ask for
     ensures told { result ≢ Status.NoMemory

@@ -20,8 +20,8 @@ pub fn rule_of_yes()
         → (verdict net table line ≡ Yes places x) ↔ IsCertified net table line places x }
 {}
 
-/// With a climb plan the verdict on the certificate's own text is Yes exactly where no listed move that is allowed lowers
-/// the index.
+/// With a climb plan the verdict on the certificate's own text is Yes exactly where no listed move that is allowed
+/// lowers the index.
 #[tactic(auto, using(crate::proofs::OwnText::own_yes, crate::proofs::OwnText::own_local))]
 pub fn rule_of_own_text()
     ensures { (net : Network) (line : ℕ) → is_some net.plan ≡ true

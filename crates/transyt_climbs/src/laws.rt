@@ -9,8 +9,8 @@ ghost use Rattle.transyt_climbs.specs.Climbs.{climbed_row, end_of, row_of, table
 ghost use Rattle.transyt_climbs.specs.WorkedClimbs.{climbed_at, five_rows, four_plans, in_range, junction, listed, no_climbs};
 ghost use Rattle.transyt_climbs.specs.WorkedClimbs.{out_of_range, stayed};
 
-/// Worked cycle times: by a step that misses the highest and by one that meets it; and what may be asked for, each number
-/// at its limits, and one past them.
+/// Worked cycle times: by a step that misses the highest and by one that meets it; and what may be asked for, each
+/// number at its limits, and one past them.
 pub fn worked_times()
     ensures missed { listed (times_of 60 120 17) ≡ 60 ∷ 77 ∷ 94 ∷ 111 ∷ [] }
     ensures met { listed (times_of 44 51 7) ≡ 44 ∷ 51 ∷ [] }

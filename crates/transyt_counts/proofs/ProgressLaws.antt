@@ -4,8 +4,6 @@ use Rattle.std.proofs.Common.{refl, sym, ◌∙◌, ap, arith}
 use Rattle.std.proofs.lemmas.Bool.{cond_both}
 use Rattle.std.proofs.lemmas.List.{append-nil, append_assoc, length-append}
 use Rattle.std.proofs.lemmas.List.Elements.{All-nil, All-same, All-weaker}
-use Rattle.std.specs.Map.{lookup}
-use Rattle.indexmap.specs.IndexMap.{insert_entry}
 use Rattle.csv.specs.declared.reader.Reader.{Reader}
 use Rattle.csv.specs.declared.parser.State.TheVariants as st
 use Rattle.csv.specs.Reading.{ReadRecord, Reached, default_config, source_of, strip_bom, is_bom, reader_state}
@@ -16,8 +14,8 @@ use Rattle.transyt_counts.specs.declared.row.Count.{Count}
 use Rattle.transyt_counts.specs.declared.tally.Totals.{Totals}
 use Rattle.transyt_counts.specs.declared.counts.CountStop.{CountStop}
 use Rattle.transyt_counts.specs.declared.counts.CountStop.TheVariants as stop
-use Rattle.transyt_counts.specs.Rows.{same_key, records_of, read_row}
-use Rattle.transyt_counts.specs.Counts.{more_totals, tally_of, HasRoom, AreCounted, read_rows, counts_of, Refuses}
+use Rattle.transyt_counts.specs.Rows.{records_of, read_row}
+use Rattle.transyt_counts.specs.Counts.{with_count, tally_of, HasRoom, AreCounted, read_rows, counts_of, Refuses}
 use Rattle.transyt_counts.specs.Progress.{IsReading, RefusesRow}
 use Rattle.transyt_counts.proofs.TextLaws.{records_reached, reached_few}
 use Rattle.transyt_counts.proofs.TallyLaws.{AreFew, tally_push, entries_few}
@@ -66,8 +64,7 @@ module _ {R : Type 0} (rem : R → Option (List ℕ)) (net : Network) (table : L
   pub read_more : (a b : Reader R) (before after : List (Key × Totals))
       (row : ℕ) (fields : List (List ℕ)) (c : Count)
       → IsReading a → HasRead rem net table a before row → ReadRecord rem a b true fields → read_row net row fields ≡ Ok c
-      → after ≡ insert_entry same_key before c.key (more_totals c (lookup (same_key c.key) before))
-      → HasRead rem net table b after (row + 1)
+      → after ≡ with_count before c → HasRead rem net table b after (row + 1)
   read_more a b before after row fields c reading has read counts made =
       let (left, source, reached) = rows-more rem a b fields default_config st.StartRecord (strip_bom table) has.left has.rows
       reading.config has.source has.reached read in
@@ -80,10 +77,8 @@ module _ {R : Type 0} (rem : R → Option (List ℕ)) (net : Network) (table : L
         reached = reached;
         number = omega (arith, length-append has.rows (fields ∷ []), has.number);
         counted = push_ok net 1 has.rows has.counts fields c has.counted (ap (λ m. read_row net m fields) number ∙ counts);
-        tally = made ∙ ap (λ es. insert_entry same_key es c.key (more_totals c (lookup (same_key c.key) es))) has.tally
-            ∙ tally_push has.counts c;
-        few = All-same (λ (e : Key × Totals). AreFew (row + 1) e.1) after
-            (insert_entry same_key before c.key (more_totals c (lookup (same_key c.key) before))) made
+        tally = made ∙ ap (λ es. with_count es c) has.tally ∙ tally_push has.counts c;
+        few = All-same (λ (e : Key × Totals). AreFew (row + 1) e.1) after (with_count before c) made
             (entries_few net row c before (good_row net row fields c counts) has.few);
       }
 

@@ -7,12 +7,13 @@ use Rattle.std.proofs.lemmas.Bool.{cases_Bool}
 use Rattle.std.proofs.lemmas.List.Sums.{fold_push, sum_by_push}
 use Rattle.std.proofs.lemmas.List.Elements.{All-nil, All-cons, All-head, All-tail, All-weaker, filter-append}
 use Rattle.std.proofs.lemmas.List.{append-nil}
+use Rattle.std.proofs.lemmas.Map.Entries.{All-lookup}
 use Rattle.indexmap.specs.IndexMap.{insert_entry}
 use Rattle.transyt_counts.specs.declared.key.Key.{Key}
 use Rattle.transyt_counts.specs.declared.row.Count.{Count}
 use Rattle.transyt_counts.specs.declared.tally.Totals.{Totals}
 use Rattle.transyt_counts.specs.Rows.{same_key}
-use Rattle.transyt_counts.specs.Counts.{keys_of, with_key, more_totals, totals_in, totals_of, tally_of}
+use Rattle.transyt_counts.specs.Counts.{keys_of, with_key, with_count, more_totals, totals_in, totals_of, tally_of}
 use Rattle.transyt_net.specs.Parts.{Network}
 use Rattle.transyt_counts.proofs.RowLaws.{IsGood}
 use Rattle.transyt_counts.proofs.KeyLaws.{key_same, key_self, key_swapped, keys_of_differ, insert_over, lookup_over, any_with, any_itself}
@@ -79,8 +80,7 @@ totals_new cs c =
     ]
 
 -- the tally with a row more
-pub tally_push : (cs : List Count) (c : Count)
-    → insert_entry same_key (tally_of cs) c.key (more_totals c (lookup (same_key c.key) (tally_of cs))) ≡ tally_of (cs ++ c ∷ [])
+pub tally_push : (cs : List Count) (c : Count) → with_count (tally_of cs) c ≡ tally_of (cs ++ c ∷ [])
 tally_push cs c =
     insert_over (totals_of cs) (totals_of (cs ++ c ∷ [])) c.key _ (keys_of cs) (keys_of_differ cs)
     (λ j other. sym (ap totals_in (rows_other cs c j (key_swapped c.key j other))))
@@ -103,12 +103,7 @@ insert_has P (e ∷ es) k v all here =
 -- and what is looked up among them has it
 pub lookup_has : (P : Totals → Type 0) (test : Key → Bool) (es : List (Key × Totals)) → All (λ e. P e.1) es
     → IfSome (lookup test es) P
-lookup_has P test [] all = tt
-lookup_has P test (e ∷ es) all =
-    elim (cases_Bool (test e.0)) [
-      | inl passes ↦ rw passes (All-head (λ (e : Key × Totals). P e.1) e es all)
-      | inr fails ↦ rw fails (lookup_has P test es (All-tail (λ (e : Key × Totals). P e.1) e es all))
-    ]
+lookup_has = All-lookup
 
 -- totals of a row or more, and of no more than so many
 pub record AreFew (n : ℕ) (t : Totals) : Type 0 where
@@ -129,7 +124,7 @@ totals_few net n c (Some t) good before = record {
 
 -- the entries with a row more
 pub entries_few : (net : Network) (n : ℕ) (c : Count) (es : List (Key × Totals)) → IsGood net c → All (λ e. AreFew n e.1) es
-    → All (λ e. AreFew (n + 1) e.1) (insert_entry same_key es c.key (more_totals c (lookup (same_key c.key) es)))
+    → All (λ e. AreFew (n + 1) e.1) (with_count es c)
 entries_few net n c es good few =
     insert_has (AreFew (n + 1)) es c.key (more_totals c (lookup (same_key c.key) es))
     (All-weaker (λ (e : Key × Totals). AreFew n e.1) (λ (e : Key × Totals). AreFew (n + 1) e.1)

@@ -3,6 +3,8 @@ use Rattle.std.specs.Prelude.{ℕ, List, ◌+◌, ◌*◌, ◌/◌, ◌<◌, ◌
 use Rattle.std.specs.Prelude.{◌≡◌, nat_lt, length, Result, Ok, Err}
 use Rattle.transyt_net.specs.declared.edit.Edit.{Edit}
 use Rattle.std.specs.List.{filter, fold, list_any, sum_by, find}
+use Rattle.std.specs.Map.{lookup}
+use Rattle.indexmap.specs.IndexMap.{insert_entry}
 use Rattle.transyt_counts.specs.declared.key.Key.{Key}
 use Rattle.transyt_counts.specs.declared.row.Count.{Count}
 use Rattle.transyt_counts.specs.declared.tally.Totals.{Totals}
@@ -50,6 +52,10 @@ keys_of counts = fold (λ keys c. with_key keys c.key) [] counts
 abbrev pub more_totals : Count → Option Totals → Totals
 more_totals c None = record { vehicles = c.vehicles; minutes = c.minutes; last = c.row }
 more_totals c (Some t) = record { vehicles = t.vehicles + c.vehicles; minutes = t.minutes + c.minutes; last = c.row }
+
+-- the totals of each key with one row more. No public clause cites them.
+abbrev pub with_count : List (Key × Totals) → Count → List (Key × Totals)
+with_count tally c = insert_entry same_key tally c.key (more_totals c (lookup (same_key c.key) tally))
 
 -- each key with its totals
 abbrev pub tally_of : List Count → List (Key × Totals)

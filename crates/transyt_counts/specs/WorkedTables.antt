@@ -20,7 +20,8 @@ abbrev pub count_five : ℕ → ℕ → Count
 count_five vehicles minutes =
     record { row = 6; key = record { link = 5; feeder = None }; vehicles = vehicles; minutes = minutes }
 
--- rows, and what each counts as the sixth of its table, or its code: links 5, 9 and 4 are there, and 4 is fed by 9 and 5
+-- rows, and what each counts as the sixth of its table, or its code: links 5, 9 and 4 are there, and 4 is fed by 9
+-- and 5
 abbrev pub worked_rows : List (List (List ℕ) × Result Count Code)
 worked_rows =
     (fields (codes "5") [] (codes "37") (codes "15"), Ok (count_five 37 15))
@@ -54,7 +55,8 @@ worked_tables = (
     ∷ (fields (codes "5") [] (codes "9999") (codes "60") ∷ [], Ok (record { rows = 1; edits = Entry 5 9999 ∷ [] }))
     ∷ (
       fields (codes "5") [] (codes "9008") (codes "53") ∷ fields (codes "4") (codes "9") (codes "9") (codes "5")
-          ∷ fields (codes "5") [] (codes "992") (codes "7") ∷ fields (codes "4") (codes "5") (codes "999") (codes "1") ∷ [],
+          ∷ fields (codes "5") [] (codes "992") (codes "7")
+          ∷ fields (codes "4") (codes "5") (codes "999") (codes "1") ∷ [],
       Err (stop.Refused 3 code.CountedFlow),
     )
     ∷ (

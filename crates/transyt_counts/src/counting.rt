@@ -1,11 +1,10 @@
 //! A table of counts as edits.
 
 ghost use Rattle.std.specs.Prelude.{◌≡◌, ℕ, ◌+◌, ◌<◌, ◌≤◌, ◌^◌, [], length, All, IfOk, IfErr, OnOk, List, Some, Ok, Err};
-ghost use Rattle.indexmap.specs.IndexMap.{get, insert_entry};
 ghost use Rattle.csv.specs.Reading.{ReadRecord, source_of, strip_bom, reader_state};
 ghost use Rattle.csv.specs.declared.parser.State.TheVariants as st;
-ghost use Rattle.transyt_counts.specs.Rows.{records_of, same_key, read_row};
-ghost use Rattle.transyt_counts.specs.Counts.{read_rows, counts_of, tally_answer, Refuses, flow_by, more_totals};
+ghost use Rattle.transyt_counts.specs.Rows.{records_of, read_row};
+ghost use Rattle.transyt_counts.specs.Counts.{read_rows, counts_of, tally_answer, Refuses, flow_by, with_count};
 ghost use Rattle.transyt_counts.specs.Counts.{tally_of, HasRoom, AreCounted};
 ghost use Rattle.transyt_counts.specs.Exact.{AreExact};
 ghost use Rattle.csv.specs.Records.{fields_of};
@@ -53,8 +52,7 @@ fn take_row(
 ) -> Result<(), CountStop>
     requires { All (λ e. HasRoom e.1) tally.old.entries }
     ensures ok { OnOk result ((c : Count) × (read_row net.now row (fields_of fields.now) ≡ Ok c)
-        × (tally.new.entries ≡ insert_entry same_key tally.old.entries c.key
-        (more_totals c (get same_key tally.old c.key)))) }
+        × (tally.new.entries ≡ with_count tally.old.entries c)) }
     ensures err { IfErr result (RefusesRow net.now row (fields_of fields.now)) }
 {
     match read_row(net, row, fields) {

@@ -2,7 +2,8 @@
 //!
 //! A contract sees the answer as the record `CountsValue` of `specs/Counts`. Cite first: `records_of`
 //! of `specs/Rows` for the rows of a table, `read_row` there for a row with its code, and of
-//! `specs/Counts` `flow_of` for the flow of a key and `counts_of` for the whole answer. Everything here is this project's own.
+//! `specs/Counts` `flow_of` for the flow of a key and `counts_of` for the whole answer. Everything here is this
+//! project's own.
 #![tactic(auto)]
 
 mod counting;

@@ -40,8 +40,8 @@ fn read_feeder(field: &[u8]) -> Option<Option<u32>>
 
 /// The flow that a row of these four fields counts, if each is a number.
 fn read_count(row: u32, fields: &Fields) -> Option<Count>
-    ensures { result ≡ count_of row fields.now.link.now fields.now.feeder.now
-        fields.now.vehicles.now fields.now.minutes.now }
+    ensures { result ≡ count_of row
+        fields.now.link.now fields.now.feeder.now fields.now.vehicles.now fields.now.minutes.now }
 {
     let link = read_number(fields.link)?;
     let feeder = read_feeder(fields.feeder)?;
@@ -81,8 +81,8 @@ fn count_code(net: &Net, count: Count) -> Option<Code>
 
 /// The flow that a row of these four fields counts, or its code.
 fn judge(net: &Net, row: u32, fields: &Fields) -> Result<Count, Code>
-    ensures { result ≡ judged net.now (count_of row fields.now.link.now fields.now.feeder.now
-        fields.now.vehicles.now fields.now.minutes.now) }
+    ensures { result ≡ judged net.now (count_of row
+        fields.now.link.now fields.now.feeder.now fields.now.vehicles.now fields.now.minutes.now) }
 {
     let Some(count) = read_count(row, fields) else {
         return Err(Code::NoNumber);

@@ -1,9 +1,9 @@
 //! The sums of the rows, key by key.
 
 ghost use Rattle.std.specs.Prelude.{◌≡◌, OnOk, IfSome};
-ghost use Rattle.indexmap.specs.IndexMap.{get, insert_entry};
+ghost use Rattle.indexmap.specs.IndexMap.{get};
 ghost use Rattle.transyt_counts.specs.Rows.{same_key};
-ghost use Rattle.transyt_counts.specs.Counts.{more_totals, HasRoom};
+ghost use Rattle.transyt_counts.specs.Counts.{more_totals, with_count, HasRoom};
 
 use crate::key::Key;
 use crate::row::Count;
@@ -43,8 +43,7 @@ pub fn add(
     count: Count,
 ) -> Result<(), AllocFailed<(Key, Totals)>>
     requires { IfSome (get same_key tally.old count.key) HasRoom }
-    ensures { OnOk result (tally.new.entries ≡ insert_entry same_key tally.old.entries count.key
-        (more_totals count (get same_key tally.old count.key))) }
+    ensures { OnOk result (tally.new.entries ≡ with_count tally.old.entries count) }
 {
     let before = tally.get(&count.key).copied();
     tally.insert(count.key, more_totals(count, before))?;

@@ -39,7 +39,8 @@ three_rows = climbed_at 50 9 1 true 11 7 ∷ climbed_at 58 8 2 false 20 3 ∷ cl
 abbrev pub in_range : List ScanWord
 in_range = asking 1 30 30 1 ∷ asking 8 240 240 210 ∷ []
 
--- one number out of its range in each: no worker, nine, too low a cycle time, too high, none at all, no step, too long a one
+-- one number out of its range in each: no worker, nine, too low a cycle time, too high, none at all, no step, too
+-- long a one
 abbrev pub out_of_range : List ScanWord
 out_of_range =
     asking 0 60 120 17 ∷ asking 9 60 120 17 ∷ asking 2 29 120 17 ∷ asking 2 60 241 17 ∷ asking 2 61 60 17

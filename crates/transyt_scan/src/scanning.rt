@@ -55,11 +55,12 @@ fn scan_rows(alloc: Global, rows: &[PlanRow]) -> Result<Vec<ScanRow>, AllocError
     Ok(made)
 }
 
-/// The table of a network: a row for each cycle time from `low` to `high` by the step `by`, in their order, all in seconds.
+/// The table of a network: a row for each cycle time from `low` to `high` by the step `by`, in their order, all in
+/// seconds.
 ///
-/// The cycle times are parted among the workers, and each climb stands between entering and leaving the bench, which are
-/// told the cycle time. It is the table of one worker for every number of them. Out of memory in one climb is the answer
-/// for all.
+/// The cycle times are parted among the workers, and each climb stands between entering and leaving the bench, which
+/// are told the cycle time. It is the table of one worker for every number of them. Out of memory in one climb is the
+/// answer for all.
 pub fn scan<R: Threads + Sync, B: Bench>(
     rt: &R,
     alloc: Global,

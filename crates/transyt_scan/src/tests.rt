@@ -46,8 +46,8 @@ impl Bench for Meeting {
     fn leave(&self, _cycle: u32) {}
 }
 
-/// Climbs at cycle times 60 and 120 with two workers who wait for each other: the best row, the entries of both, and how
-/// often one had gone on alone.
+/// Climbs at cycle times 60 and 120 with two workers who wait for each other: the best row, the entries of both, and
+/// how often one had gone on alone.
 fn climb_together<R: Threads + Sync>(rt: &R, alloc: Global) -> Option<(ScanRow, (u64, u64, u64))> {
     let Ok(cut) = cut_deck(alloc, ONE.as_bytes()) else {
         return None;

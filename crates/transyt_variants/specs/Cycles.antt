@@ -1,7 +1,7 @@
 -- Other cycle times of a network, whose steps keep their length in seconds. Cycle times are in seconds, all else in
 -- steps.
-use Rattle.std.specs.Prelude.{ℕ, ◌+◌, ◌-◌, ◌*◌, ◌/◌, ◌%◌, ◌==◌, Bool, true, ◌&&◌, ◌||◌, not, nat_lt, List, map, length, sum_by}
-use Rattle.std.specs.Prelude.{Option, Some, None, option_map, find, if◌then◌else◌}
+use Rattle.std.specs.Prelude.{ℕ, ◌+◌, ◌-◌, ◌*◌, ◌/◌, ◌%◌, ◌==◌, Bool, true, ◌&&◌, ◌||◌, not, nat_lt, List, map, length}
+use Rattle.std.specs.Prelude.{sum_by, Option, option_map, find, if◌then◌else◌}
 use Rattle.std.specs.List.{list_all, range_with_len}
 use Rattle.std.specs.Option.{option_map_or}
 use Rattle.transyt_parts.specs.Plan.{stage_of}
@@ -27,8 +27,7 @@ has_short_lags steps l = nat_lt l.start_lag steps && nat_lt l.end_lag steps
 
 -- whether the sizes of a climb plan are, if there is one
 abbrev pub has_short_sizes : ℕ → Option PlanValue → Bool
-has_short_sizes steps None = true
-has_short_sizes steps (Some plan) = list_all (λ h. nat_lt h steps) plan.sizes
+has_short_sizes steps plan = option_map_or (λ p. list_all (λ h. nat_lt h steps) p.sizes) plan true
 
 -- whether the cycle may have so many steps
 abbrev pub may_have : ℕ → Network → Bool
@@ -58,7 +57,8 @@ filled_greens steps stages = first_more (steps - least_length stages) (map (λ s
 -- stages one after another from the change of the first on, each as long as its intergreen and this green
 abbrev pub laid : ℕ → List Stage → List ℕ → List Stage
 laid steps stages greens =
-    map (λ k. record (stage_of stages k) { change = change_at steps stages greens k }) (range_with_len 0 (length stages))
+    map (λ k. record (stage_of stages k) { change = change_at steps stages greens k })
+    (range_with_len 0 (length stages))
 
 -- the stages of the bare plan: as long as their intergreens and least greens, what is left of the cycle to the first
 abbrev pub bare_stages : ℕ → ℕ → List Stage → List Stage

@@ -73,10 +73,11 @@ pub record Case : Type 0 where
 abbrev pub case_of : Network → ℕ → AtCycle → Case
 case_of net cycle comes_to = record { net = net; cycle = cycle; comes_to = comes_to }
 
--- no whole number of steps; 9 steps; 144; a start lag, an end lag and a size of 10 in 10 steps; and each of 9, where the
--- 11 steps that the first node takes bar it; the first barred node is the second
+-- no whole number of steps; 9 steps; 144; a start lag, an end lag and a size of 10 in 10 steps; and each of 9, where
+-- the 11 steps that the first node takes bar it; the first barred node is the second
 abbrev pub unplanned : List Case
 unplanned =
-    case_of worked_town 92 NoPlan ∷ case_of worked_town 45 NoPlan ∷ case_of fast_town 240 NoPlan ∷ case_of (lagged 10 2) 50 NoPlan
-    ∷ case_of (lagged 1 10) 50 NoPlan ∷ case_of (sized 10) 50 NoPlan ∷ case_of (lagged 9 9) 50 (Barred 21) ∷ case_of (sized 9) 50 (Barred 21)
+    case_of worked_town 92 NoPlan ∷ case_of worked_town 45 NoPlan ∷ case_of fast_town 240 NoPlan
+    ∷ case_of (lagged 10 2) 50 NoPlan ∷ case_of (lagged 1 10) 50 NoPlan ∷ case_of (sized 10) 50 NoPlan
+    ∷ case_of (lagged 9 9) 50 (Barred 21) ∷ case_of (sized 9) 50 (Barred 21)
     ∷ case_of short_town 50 (Barred 7) ∷ []

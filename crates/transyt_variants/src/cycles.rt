@@ -389,9 +389,9 @@ fn cycle_made(alloc: Global, net: &Net, cycle: u32) -> Result<AtCycle, AllocErro
 /// and lags last as long.
 ///
 /// There is none where the cycle time isn't a whole number of steps, or its steps aren't 10 to 120, or a lag or a step
-/// size of the climb plan isn't shorter than it; or where the stages of a node don't fit into it. Else offsets and first
-/// changes keep their part of the cycle, rounded down, and the stages have the lengths of equal saturation. The cycle
-/// time is 30 to 240. It fails only when out of memory.
+/// size of the climb plan isn't shorter than it; or where the stages of a node don't fit into it. Else offsets and
+/// first changes keep their part of the cycle, rounded down, and the stages have the lengths of equal saturation. The
+/// cycle time is 30 to 240. It fails only when out of memory.
 pub fn cycle_net(alloc: Global, net: &Net, cycle: u32) -> Result<AtCycle, AllocError>
     requires low { 30 ≤ cycle }
     requires high { cycle ≤ 240 }

@@ -64,8 +64,8 @@ fn bytes_from(input: &[u8], rest: usize) -> &[u8]
 
 /// Answers an input: by the word where there is a deck at its front, and else by the line of the refused card.
 ///
-/// All memory for the answer is taken here, that of each climb too. The deck text of an answer, if it has one, reads back
-/// as its network.
+/// All memory for the answer is taken here, that of each climb too. The deck text of an answer, if it has one, reads
+/// back as its network.
 pub fn judge_deck<R: Threads + Sync, W: DeckWord, L: Ledger>(
     host: Host<'_, R>,
     word: &W,

@@ -90,8 +90,9 @@ pub fn worked_asked()
         ≡ map (λ _. None) starts_out_of_range }
 {}
 
-/// Worked answers of `starts` and `cycles`: of starts that are equal the first is the best; cycle times of each kind; cycle
-/// times of which none has a plan, without a deck; and a climb that betters its network, whose deck is that of its end.
+/// Worked answers of `starts` and `cycles`: of starts that are equal the first is the best; cycle times of each kind;
+/// cycle times of which none has a plan, without a deck; and a climb that betters its network, whose deck is that of
+/// its end.
 pub fn worked_table()
     ensures starts { plans_answer Starts (starts 5 3) idle ≡ with_deck three_starts (Some idle) }
     ensures cycles { plans_answer Cycles (cycles (times_of 60 66 3)) unlinked

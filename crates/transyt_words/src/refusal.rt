@@ -9,8 +9,8 @@ use transyt_syntax::Code;
 /// How many lines an input has at most.
 const MOST_LINES: u32 = 4194305;
 
-/// Why the card with this number is refused with this code. The cards before it are read again; where there is no memory
-/// for that, the sentence says less.
+/// Why the card with this number is refused with this code. The cards before it are read again; where there is no
+/// memory for that, the sentence says less.
 pub fn on_refused_card(alloc: Global, input: &[u8], card: u32, code: Code) -> Sentence {
     let mut reader = CardReader::new(alloc);
     let mut refused: &[u8] = b"";

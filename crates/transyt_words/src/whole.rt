@@ -54,8 +54,8 @@ pub fn say<K: Sink>(found: &Answer, line: &mut LineBuffer, sink: &mut K) -> Stat
     ended(found.is_refused())
 }
 
-/// Takes a source whole, and answers by a word what it gave. The memory for reading and writing is taken before the first
-/// read, and all other memory before the first line is written.
+/// Takes a source whole, and answers by a word what it gave. The memory for reading and writing is taken before the
+/// first read, and all other memory before the first line is written.
 pub fn answer_whole<R: Threads + Sync, W: DeckWord, S: Source, K: Sink, L: Ledger>(
     host: Host<'_, R>,
     word: &W,
