@@ -1,5 +1,5 @@
 -- The FEED cards of a valid network make the feeds of its links again.
-use Rattle.std.proofs.Common.{◌≡◌, ℕ, ◌+◌, ◌<◌, ◌≤◌, nat_le, List, [], ◌∷◌, ◌++◌, map, length, true, false}
+use Rattle.std.proofs.Common.{◌≡◌, ℕ, ◌<◌, ◌≤◌, nat_le, List, [], ◌∷◌, ◌++◌, map, length, true, false}
 use Rattle.std.proofs.Common.{cond, not, ◌&&◌, Some, None, Ok, refl, sym, ◌∙◌, ap, arith, flat_map}
 use Rattle.std.proofs.Common.{length-append}
 use Rattle.std.proofs.lemmas.List.{append-nil, map-append}
@@ -12,13 +12,14 @@ use Rattle.transyt_parts.specs.Valid.{all_differ, feeders, is_fed, link_number, 
 use Rattle.transyt_parts.specs.Made.{add_feed}
 use Rattle.transyt_net.specs.declared.draft.DraftFault.TheVariants.{Range, TooMany, Twice, Unknown}
 use Rattle.transyt_net.specs.Parts.{Network, link_in}
+use Rattle.transyt_net.proofs.AfterLaws.{numbered_after, on_numbered_after}
 use Rattle.transyt_net.proofs.FoundLaws.{fed_is}
 use Rattle.transyt_net.specs.Valid.{IsFeed, feeds_at, is_among, link_numbers}
 use Rattle.transyt_deck.specs.declared.card.Card.TheVariants as c
 use Rattle.transyt_deck.specs.declared.state.Part.TheVariants as p
 use Rattle.transyt_deck.specs.Cards.{feed_cards}
 use Rattle.transyt_deck.proofs.LinkBlocks.{bare, fed, middle, moved, state, with_feeds}
-use Rattle.transyt_deck.proofs.LinkNumbers.{key_apart, numbered_one, on_one}
+use Rattle.transyt_deck.proofs.LinkNumbers.{key_apart}
 use Rattle.transyt_deck.proofs.NodeBlocks.{is_added}
 use Rattle.transyt_deck.proofs.NumberTexts.{is_small}
 use Rattle.transyt_deck.proofs.Reading.{Reads, Upto, reads_each, reads_map, reads_more, reads_none, reads_to}
@@ -42,7 +43,8 @@ feed_read : (net : Network) (part : Upto p.Feeds) (us vs : List LinkValue) (l : 
 feed_read net part us vs l fs g of_link first low is =
     let links = us ++ with_feeds l fs ∷ vs in
     let names = map-append link_number us (with_feeds l fs ∷ vs) ∙ of_link.names in
-    let found : feeds_at links l.number ≡ fs = ap (λ o. (link_in o).feeds) (numbered_one us vs (with_feeds l fs) of_link.apart) in
+    let found : feeds_at links l.number ≡ fs =
+    ap (λ o. (link_in o).feeds) (numbered_after link_number us vs (with_feeds l fs) of_link.apart) in
     let new : is_fed (feeds_at links l.number) g.feeder ≡ false =
     ap (λ k. is_fed k g.feeder) found ∙ fed_is fs g.feeder ∙ first in
     let known : (is_among (link_numbers links) l.number && is_among (link_numbers links) g.feeder) ≡ true =
@@ -59,7 +61,7 @@ feed_read net part us vs l fs g of_link first low is =
     (λ j. cond (new j) (Some Twice) (cond (not (known j)) (Some Unknown)
     (cond (not (range j)) (Some Range) (cond (room j) (Some TooMany) None))))
     ∙ ap (λ (ls : List LinkValue). Ok (state net p.Feeds ls))
-    (on_one l.number (add_feed g) us vs (with_feeds l fs) refl of_link.apart))
+    (on_numbered_after link_number (add_feed g) us vs (with_feeds l fs) of_link.apart))
     (λ n. refl) (reads_none _)
 
 -- the FEED cards of one link

@@ -1,5 +1,5 @@
 -- The LINK cards of a valid network make its links again, without feeds and rules.
-use Rattle.std.proofs.Common.{◌≡◌, ℕ, suc, ◌+◌, ◌<◌, ◌≤◌, nat_le, List, [], ◌∷◌, ◌++◌, map, length, true, false}
+use Rattle.std.proofs.Common.{◌≡◌, ℕ, suc, ◌<◌, ◌≤◌, nat_le, List, [], ◌∷◌, ◌++◌, map, length, true, false}
 use Rattle.std.proofs.Common.{cond, not, ◌&&◌, Some, None, Ok, refl, sym, ◌∙◌, ap, arith, append_assoc}
 use Rattle.std.proofs.Common.{length-append, All}
 use Rattle.std.specs.List.{list_all}

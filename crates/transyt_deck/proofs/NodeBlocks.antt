@@ -1,5 +1,5 @@
 -- The NODE and STAGE cards of a valid network make its nodes again.
-use Rattle.std.proofs.Common.{◌≡◌, ℕ, ◌+◌, ◌-◌, ◌<◌, ◌≤◌, nat_le, List, [], ◌∷◌, ◌++◌, map, length, Bool, true, false}
+use Rattle.std.proofs.Common.{◌≡◌, ℕ, ◌<◌, ◌≤◌, nat_le, List, [], ◌∷◌, ◌++◌, map, length, Bool, true, false}
 use Rattle.std.proofs.Common.{cond, not, Option, Some, None, Ok, Err, refl, ◌∙◌, ap, arith}
 use Rattle.std.proofs.Common.{flat_map, length-append, slice_get, All, option_and_then}
 use Rattle.std.proofs.lemmas.Bool.{lt-leb}
@@ -16,6 +16,7 @@ use Rattle.transyt_net.specs.declared.draft.DraftFault.TheVariants.{Range, TooMa
 use Rattle.transyt_net.specs.Parts.{Network, network_of}
 use Rattle.transyt_net.specs.Valid.{is_among, node_numbers, on_place, stage_total}
 use Rattle.transyt_net.specs.Faults.{last_place}
+use Rattle.transyt_net.proofs.AfterLaws.{get_last, last_is, on_last}
 use Rattle.transyt_deck.specs.declared.card.Card.TheVariants as c
 use Rattle.transyt_deck.specs.declared.state.Part.{Part}
 use Rattle.transyt_deck.specs.declared.state.Part.TheVariants as p
@@ -31,19 +32,6 @@ pub is_added : (form : ℕ) (fits : Bool) (fault : Option DraftFault) (part : Pa
     → fault ≡ None → making form (placed fits fault part net) ≡ Ok (s.Making form part net)
 is_added form fits fault part net a b =
     λ j. making form (cond (a j) (unless (option_and_then fault_code (b j)) (part, net)) (Err code.OutOfPlace))
-
--- the last of a list by its place
-on_last : {A : Type 0} (f : A → A) (done : List A) (x : A)
-    → on_place f (done ++ x ∷ []) (length done) ≡ done ++ f x ∷ []
-on_last f [] x = refl
-on_last f (y ∷ done) x = ap (λ l. y ∷ l) (on_last f done x)
-
-get_last : {A : Type 0} (done : List A) (x : A) → slice_get (done ++ x ∷ []) (length done) ≡ Some x
-get_last [] x = refl
-get_last (y ∷ done) x = get_last done x
-
-last_is : {A : Type 0} (done : List A) (x : A) → length (done ++ x ∷ []) - 1 ≡ length done
-last_is done x = omega (arith, length-append done (x ∷ []))
 
 -- the state when these nodes are added
 abbrev pub nodes_state : Frame → Part → List NodeValue → State

@@ -11,11 +11,11 @@ use Rattle.transyt_parts.specs.Made.{set_rule}
 use Rattle.transyt_net.specs.declared.draft.DraftFault.TheVariants.{Range, Twice, Unknown}
 use Rattle.transyt_net.specs.Parts.{Network, link_in}
 use Rattle.transyt_net.specs.Valid.{IsRule, is_among, link_numbers, rule_at}
+use Rattle.transyt_net.proofs.AfterLaws.{numbered_after, on_numbered_after}
 use Rattle.transyt_deck.specs.declared.card.Card.TheVariants as c
 use Rattle.transyt_deck.specs.declared.state.Part.TheVariants as p
 use Rattle.transyt_deck.specs.Cards.{rule_cards}
 use Rattle.transyt_deck.proofs.LinkBlocks.{fed, middle, state}
-use Rattle.transyt_deck.proofs.LinkNumbers.{numbered_one, on_one}
 use Rattle.transyt_deck.proofs.NodeBlocks.{is_added}
 use Rattle.transyt_deck.proofs.NumberTexts.{is_small}
 use Rattle.transyt_deck.proofs.Reading.{Reads, Upto, reads_each, reads_more, reads_none, reads_to}
@@ -33,7 +33,8 @@ rule_one net part us vs l None valid small apart names there fine = (part, reads
 rule_one net part us vs l (Some g) valid small apart names there fine =
     let links = us ++ fed l ∷ vs in
     let named = map-append link_number us (fed l ∷ vs) ∙ names in
-    let new : is_some (rule_at links l.number) ≡ false = ap (λ o. is_some (link_in o).gives_way) (numbered_one us vs (fed l) apart) in
+    let new : is_some (rule_at links l.number) ≡ false =
+    ap (λ o. is_some (link_in o).gives_way) (numbered_after link_number us vs (fed l) apart) in
     let known : (is_among (link_numbers links) l.number && is_among (link_numbers links) g.other) ≡ true =
     λ j. (ap (λ ks. is_among ks l.number) named ∙ there) j && (ap (λ ks. is_among ks g.other) named ∙ fine.other) j in
     let range = le-leb g.percent 400 fine.percent in
@@ -49,7 +50,8 @@ rule_one net part us vs l (Some g) valid small apart names there fine =
       }
           (is_added 2 _ _ p.Feeds _ part.1
           (λ j. cond (new j) (Some Twice) (cond (not (known j)) (Some Unknown) (cond (not (range j)) (Some Range) None)))
-          ∙ ap (λ (ls : List LinkValue). Ok (state net p.Feeds ls)) (on_one l.number (set_rule g) us vs (fed l) refl apart))
+          ∙ ap (λ (ls : List LinkValue). Ok (state net p.Feeds ls))
+          (on_numbered_after link_number (set_rule g) us vs (fed l) apart))
           (λ n. refl) (reads_none _),
     )
 

@@ -1,13 +1,15 @@
 //! Cards and the deck that they make: a network, read line by line.
 //!
 //! The meaning of a list of lines is `deck` of `specs/Deck`: refused at the first line with a code, complete at
-//! an accepted END with the network of the cards before it, or open. It is the fold of one step, `next`, over what the
-//! cards have come to (`State` of `specs/State`, with each card's place, faults and effect in one table, `added`); what
-//! a line says is read by the table of cards (`specs/Cards`). `CardReader` is that step: a contract sees the deck of the
-//! lines that it has taken. `cut_deck` reads a deck from the front of bytes (`cut_of` of `specs/Deck`).
+//! an accepted END with the network of the cards before it, or open. It is the fold of one step, `next`, over the state
+//! that the cards have come to (`State` of `specs/State`, with each card's place, faults and effect in one table,
+//! `added`); the card of a line is read by the table of cards (`specs/Cards`). `CardReader` is that step: a contract
+//! sees the deck of the lines that it has taken. `cut_deck` reads a deck from the front of bytes (`cut_of` of
+//! `specs/Deck`).
 //!
-//! The other way round, `print_deck` writes a network as its deck text (`deck_text` of `specs/Cards`), which reads back as
-//! the same network (`text_reads_back`). That it wrote it is said by `Prints` of `transyt_text`, whose forms put its lines.
+//! The other way round, `print_deck` writes a network as its deck text (`deck_text` of `specs/Cards`), which reads back
+//! as the same network (`text_reads_back`). That it wrote it is said by `Prints` of `transyt_text`, whose forms put its
+//! lines.
 //!
 //! Cards, their places and all codes are this project's own.
 #![tactic(auto)]

@@ -1,5 +1,5 @@
 -- The reader takes line by line, so the deck of its lines and of the rest is the deck of all.
-use Rattle.std.proofs.Common.{◌≡◌, ◌≤◌, ◌-◌, length, true, Result, Ok, sym, ◌∙◌, ap, subst, IfOk, arith}
+use Rattle.std.proofs.Common.{◌≡◌, ◌≤◌, length, true, Result, Ok, sym, ◌∙◌, ap, subst, IfOk, arith}
 use Rattle.transyt_deck.specs.declared.reader.CardStop.{CardStop}
 use Rattle.transyt_deck.specs.declared.cut.Cut.{Cut}
 use Rattle.transyt_deck.specs.declared.reader.Progress.{Progress}
