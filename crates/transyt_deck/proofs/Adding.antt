@@ -1,58 +1,32 @@
--- A card by the outcome of its call, and the deck after a line.
+-- A card that the network refuses, and the deck after a line.
 use Rattle.std.proofs.Common.{◌≡◌, ℕ, zero, suc, ◌+◌, List, [], ◌∷◌, ◌++◌, true, Result, Ok, Err}
-use Rattle.std.proofs.Common.{refl, sym, ap, ◌∙◌, not, is_some, IsOk, Bool, None, Some, Option, OnErr, OnOk, option_and_then}
+use Rattle.std.proofs.Common.{refl, not, is_some, IsOk, Bool, Option, Some, OnErr, arith}
 use Rattle.std.specs.List.{fold}
-use Rattle.std.specs.Option.{option_map_or}
 use Rattle.std.proofs.lemmas.List.Sums.{fold-append}
 use Rattle.transyt_io.specs.Lines.{after_first_line}
 use Rattle.transyt_syntax.specs.declared.code.Code.{Code}
 use Rattle.transyt_deck.specs.declared.state.Part.TheVariants as p
 use Rattle.transyt_deck.specs.declared.state.State.{State}
 use Rattle.transyt_deck.specs.declared.state.State.TheVariants as s
-use Rattle.transyt_syntax.specs.Syntax.{unless}
+use Rattle.std.specs.Result.{IsErrAnd}
+use Rattle.std.proofs.lemmas.Grind.{common_steps}
 use Rattle.transyt_net.specs.Parts.{Network}
 use Rattle.transyt_net.specs.Faults.{Refuses}
 use Rattle.transyt_net.specs.declared.draft.DraftFault.{DraftFault}
+use Rattle.transyt_net.specs.declared.draft.DraftFault.TheVariants.{Memory}
 use Rattle.transyt_deck.specs.declared.state.Part.{Part}
 use Rattle.transyt_deck.specs.declared.state.Stop.{Stop}
-use Rattle.transyt_deck.specs.declared.state.Stop.TheVariants as stop
 use Rattle.transyt_deck.specs.Adds.{Adds, stopped}
 use Rattle.transyt_deck.specs.Deck.{after_lines, Complete, Deck, Open, Refused, deck, deck_at, deck_by, start, code_of}
 use Rattle.transyt_deck.specs.Deck.{is_complete, is_open, line_count, next}
-use Rattle.transyt_deck.specs.State.{fault_code, placed, state_after}
+use Rattle.transyt_deck.specs.State.{placed, state_after}
 
--- the outcome of a card that is not added, by its code
-abbrev as_stop : Option Code → Result (Unit {0}) Stop
-as_stop code = Err (option_map_or stop.Code code stop.Memory)
-
--- a card is refused with its code; one that has none is out of memory
-refused_by : (code : Option Code) (part to after : Part) (old new net : Network) (r : Result (Unit {0}) Stop)
-    → after ≡ part → new ≡ old → r ≡ as_stop code
-    → Adds (unless {A = Part × Network} code (to, net)) (part, old) (after, new) r
-refused_by None part to after old new net r stays same is = rw is (refl, λ j. (stays j, same j))
-refused_by (Some code) part to after old new net r stays same is = rw is (refl, λ j. (stays j, same j))
-
--- a card in its place is added, refused by the network, or out of memory, as the outcome of its call says
-pub adds_by : (fits : Bool) (first memory : Option DraftFault) (part to after : Part) (old new net : Network)
-    (call : Result (Unit {0}) DraftFault) (r : Result (Unit {0}) Stop)
-    → fits ≡ true → option_and_then fault_code memory ≡ None → Refuses call first memory → OnOk call (new ≡ net)
-    → OnErr call (new ≡ old) → r ≡ stopped call → OnOk call (after ≡ to) → OnErr call (after ≡ part)
-    → Adds (placed fits first to net) (part, old) (after, new) r
-adds_by fits first memory part to after old new net (Ok done) r fit none refuses ok err same comes stays =
-    let fine : first ≡ None = refuses in
-    let is : r ≡ Ok done = same in
-    let made : new ≡ net = ok in
-    let come : after ≡ to = comes in
-    rw (fit, fine, is, made, come) refl
-adds_by fits None memory part to after old new net (Err fault) r fit none refuses ok err same comes stays =
-    let is : memory ≡ Some fault = refuses in
-    let no_code : fault_code fault ≡ None = ap (option_and_then fault_code) (sym is) ∙ none in
-    rw fit (refused_by None part to after old new net r stays err (same ∙ ap as_stop no_code))
-adds_by fits (Some first) memory part to after old new net (Err fault) r fit none refuses ok err same comes stays =
-    let is : fault ≡ first = refuses in
-    rw fit
-    (refused_by (fault_code first) part to after old new net r stays err
-    (same ∙ ap (λ (f : DraftFault). as_stop (fault_code f)) is))
+-- a card in its place that the network refuses, or has no memory for
+pub adds_stopped : (fits : Bool) (first : Option DraftFault) (part to : Part) (old new net : Network)
+    (call : Result (Unit {0}) DraftFault) (made r : Result (Unit {0}) Stop) (stop : Stop)
+    → fits ≡ true → Refuses call first (Some Memory) → OnErr call (new ≡ old) → made ≡ stopped call
+    → made ≡ Err stop → IsErrAnd r (λ e. e ≡ stop) → Adds (placed fits first to net) (part, old) (part, new) r
+adds_stopped fits first part to old new net call made r stop fit refuses same is was told = grind (arith, common_steps)
 
 -- the count of a deck at a state
 pub count_at : (n : ℕ) (state : State) → line_count (deck_at n state) ≡ n

@@ -1,5 +1,5 @@
 -- The outcome of adding a card. Only private contracts cite these words.
-use Rattle.std.specs.Prelude.{◌≡◌, ◌<◌, ◌≤◌, ◌==◌, Bool, true, false, length, IsOk, None, Result, Ok, Err}
+use Rattle.std.specs.Prelude.{◌≡◌, ◌<◌, ◌≤◌, length, IsOk, None, Result, Ok, Err}
 use Rattle.std.specs.Option.{option_map_or}
 use Rattle.transyt_syntax.specs.declared.code.Code.{Code}
 use Rattle.transyt_net.specs.declared.draft.DraftFault.{DraftFault}
@@ -10,7 +10,7 @@ use Rattle.transyt_deck.specs.declared.state.Part.TheVariants as p
 use Rattle.transyt_deck.specs.declared.state.State.TheVariants as s
 use Rattle.transyt_deck.specs.declared.state.Stop.{Stop}
 use Rattle.transyt_deck.specs.declared.state.Stop.TheVariants as stop
-use Rattle.transyt_deck.specs.State.{Card, Part, State, fault_code, rank, up_to}
+use Rattle.transyt_deck.specs.State.{Card, Part, State, fault_code}
 
 -- an outcome with its fault as a stop: its code; a fault that has none is out of memory
 abbrev pub stopped : {T : Type 0} → Result T DraftFault → Result T Stop
@@ -28,18 +28,6 @@ abbrev pub CanAdd : Card → Type 0
 CanAdd (c.Link link stages) = (1 ≤ length stages) × (length stages ≤ 8)
 CanAdd (c.Steps budget sizes) = (1 ≤ length sizes) × (length sizes ≤ 16)
 CanAdd _ = Unit {0}
-
--- a card after the CYCLE card is in its place
-abbrev pub takes : Part → Card → Bool
-takes part (c.Form form) = false
-takes part (c.Cycle frame) = false
-takes part (c.Node number offset) = up_to p.Nodes part
-takes part (c.Stage stage) = rank part == rank p.Nodes
-takes part (c.Link link stages) = up_to p.Links part
-takes part (c.Feed link feed) = up_to p.Feeds part
-takes part (c.Yield link rule) = up_to p.Feeds part
-takes part (c.Steps budget sizes) = up_to p.Feeds part
-takes part c.End = true
 
 -- the network by the part of a deck: a STAGE card finds a node, a STEPS card no plan, and END judged the plans
 abbrev pub IsTied : Part → Network → Type 0

@@ -5,13 +5,13 @@ ghost use Rattle.transyt_deck.specs.declared.card.Card.TheVariants as card;
 ghost use Rattle.transyt_deck.specs.declared.state.State.TheVariants as state;
 ghost use Rattle.transyt_deck.specs.State.{rank, up_to, form_of, framed, added, state_with, state_after, plan_code};
 ghost use Rattle.transyt_deck.specs.declared.state.Stop.TheVariants as stop;
-ghost use Rattle.transyt_deck.specs.Adds.{Adds, CanAdd, IsTied, IsTiedState, stopped, takes};
+ghost use Rattle.transyt_deck.specs.Adds.{Adds, CanAdd, IsTied, IsTiedState, stopped};
 
 use crate::card::{Card, read_card};
 use std::alloc::Global;
 use std::mem;
-use transyt_net::{Draft, DraftFault, PlanFault};
-use transyt_syntax::Code;
+use transyt_net::{Draft, DraftFault, Feed, GiveWay, NewLink, PlanFault, Stage};
+use transyt_syntax::{Code, Numbers};
 
 /// How far a deck has come from its CYCLE card on; later parts come later.
 #[derive(Clone, Copy, Debug, PartialEq, Eq)]
@@ -50,21 +50,6 @@ impl Part {
         ensures { result ≡ up_to last self }
     {
         self.rank() <= last.rank()
-    }
-
-    /// Whether a card is in its place in a deck at this part.
-    fn takes(self, card: &Card) -> bool
-        ensures { result ≡ takes self card.now }
-    {
-        match card {
-            Card::Form(_) | Card::Cycle(_) => false,
-            Card::Node { .. } => self.is_up_to(Part::Nodes),
-            Card::Stage(_) => self.rank() == Part::Nodes.rank(),
-            Card::Link { .. } => self.is_up_to(Part::Links),
-            Card::Feed { .. } | Card::Yield { .. } => self.is_up_to(Part::Feeds),
-            Card::Steps { .. } => self.is_up_to(Part::Feeds),
-            Card::End => true,
-        }
     }
 }
 
@@ -211,47 +196,109 @@ fn add_to(part: &mut Part, draft: &mut Draft, card: &Card) -> Result<(), Stop>
         (part.old, draft.old) (part.new, draft.new) result }
     ensures stays_tied { IsTied part.new draft.new }
 {
-    if !part.takes(card) {
-        return Err(Stop::Code(Code::OutOfPlace));
-    }
     match card {
-        Card::Form(_) | Card::Cycle(_) => unreachable!(),
-        Card::Node { number, offset } => {
-            let outcome = draft.node(*number, *offset);
-            goes_to(part, Part::Nodes, outcome)
-        }
-        Card::Stage(stage) => {
-            let outcome = draft.stage(stage.change, stage.intergreen, stage.least);
-            goes_to(part, Part::Nodes, outcome)
-        }
-        Card::Link { link, stages } => {
-            let outcome = draft.link(*link, stages.as_slice());
-            goes_to(part, Part::Links, outcome)
-        }
-        Card::Feed { link, feed } => {
-            let outcome = draft.feed(*link, feed.feeder, feed.flow, feed.cruise);
-            goes_to(part, Part::Feeds, outcome)
-        }
-        Card::Yield { link, rule } => {
-            let outcome = draft.give_way(*link, rule.other, rule.percent);
-            goes_to(part, Part::Feeds, outcome)
-        }
-        Card::Steps { budget, sizes } => {
-            let outcome = draft.plan(*budget, sizes.as_slice());
-            goes_to(part, Part::Plan, outcome)
-        }
+        Card::Form(_) | Card::Cycle(_) => Err(Stop::Code(Code::OutOfPlace)),
+        Card::Node { number, offset } => add_node(part, draft, *number, *offset),
+        Card::Stage(stage) => add_stage(part, draft, *stage),
+        Card::Link { link, stages } => add_link(part, draft, *link, stages),
+        Card::Feed { link, feed } => add_feed(part, draft, *link, *feed),
+        Card::Yield { link, rule } => add_rule(part, draft, *link, *rule),
+        Card::Steps { budget, sizes } => add_plan(part, draft, *budget, sizes),
         Card::End => end(part, draft),
     }
 }
 
-/// The outcome of a card that is in its place; the deck has come to the card's part where the card was added.
-fn goes_to(part: &mut Part, to: Part, outcome: Result<(), DraftFault>) -> Result<(), Stop>
-    ensures value { result ≡ stopped outcome }
-    ensures added { OnOk outcome (part.new ≡ to) }
-    ensures refused { OnErr outcome (part.new ≡ part.old) }
+/// A NODE card.
+fn add_node(part: &mut Part, draft: &mut Draft, number: u32, offset: u32) -> Result<(), Stop>
+    requires tied { IsTied part.old draft.old }
+    ensures adds { Adds (added part.old draft.old (card.Node number offset))
+        (part.old, draft.old) (part.new, draft.new) result }
+    ensures stays_tied { IsTied part.new draft.new }
 {
-    stopped(outcome)?;
-    *part = to;
+    if !part.is_up_to(Part::Nodes) {
+        return Err(Stop::Code(Code::OutOfPlace));
+    }
+    stopped(draft.node(number, offset))?;
+    *part = Part::Nodes;
+    Ok(())
+}
+
+/// A STAGE card.
+fn add_stage(part: &mut Part, draft: &mut Draft, stage: Stage) -> Result<(), Stop>
+    requires tied { IsTied part.old draft.old }
+    ensures adds { Adds (added part.old draft.old (card.Stage stage))
+        (part.old, draft.old) (part.new, draft.new) result }
+    ensures stays_tied { IsTied part.new draft.new }
+{
+    if *part != Part::Nodes {
+        return Err(Stop::Code(Code::OutOfPlace));
+    }
+    stopped(draft.stage(stage.change, stage.intergreen, stage.least))?;
+    *part = Part::Nodes;
+    Ok(())
+}
+
+/// A LINK card.
+fn add_link(part: &mut Part, draft: &mut Draft, link: NewLink, stages: &Numbers) -> Result<(), Stop>
+    requires tied { IsTied part.old draft.old }
+    requires some { 1 ≤ length stages.now }
+    requires most { length stages.now ≤ 8 }
+    ensures adds { Adds (added part.old draft.old (card.Link link stages.now))
+        (part.old, draft.old) (part.new, draft.new) result }
+    ensures stays_tied { IsTied part.new draft.new }
+{
+    if !part.is_up_to(Part::Links) {
+        return Err(Stop::Code(Code::OutOfPlace));
+    }
+    stopped(draft.link(link, stages.as_slice()))?;
+    *part = Part::Links;
+    Ok(())
+}
+
+/// A FEED card.
+fn add_feed(part: &mut Part, draft: &mut Draft, link: u32, feed: Feed) -> Result<(), Stop>
+    requires tied { IsTied part.old draft.old }
+    ensures adds { Adds (added part.old draft.old (card.Feed link feed))
+        (part.old, draft.old) (part.new, draft.new) result }
+    ensures stays_tied { IsTied part.new draft.new }
+{
+    if !part.is_up_to(Part::Feeds) {
+        return Err(Stop::Code(Code::OutOfPlace));
+    }
+    stopped(draft.feed(link, feed.feeder, feed.flow, feed.cruise))?;
+    *part = Part::Feeds;
+    Ok(())
+}
+
+/// A YIELD card.
+fn add_rule(part: &mut Part, draft: &mut Draft, link: u32, rule: GiveWay) -> Result<(), Stop>
+    requires tied { IsTied part.old draft.old }
+    ensures adds { Adds (added part.old draft.old (card.Yield link rule))
+        (part.old, draft.old) (part.new, draft.new) result }
+    ensures stays_tied { IsTied part.new draft.new }
+{
+    if !part.is_up_to(Part::Feeds) {
+        return Err(Stop::Code(Code::OutOfPlace));
+    }
+    stopped(draft.give_way(link, rule.other, rule.percent))?;
+    *part = Part::Feeds;
+    Ok(())
+}
+
+/// A STEPS card.
+fn add_plan(part: &mut Part, draft: &mut Draft, budget: u32, sizes: &Numbers) -> Result<(), Stop>
+    requires tied { IsTied part.old draft.old }
+    requires some { 1 ≤ length sizes.now }
+    requires most { length sizes.now ≤ 16 }
+    ensures adds { Adds (added part.old draft.old (card.Steps budget sizes.now))
+        (part.old, draft.old) (part.new, draft.new) result }
+    ensures stays_tied { IsTied part.new draft.new }
+{
+    if !part.is_up_to(Part::Feeds) {
+        return Err(Stop::Code(Code::OutOfPlace));
+    }
+    stopped(draft.plan(budget, sizes.as_slice()))?;
+    *part = Part::Plan;
     Ok(())
 }
 
