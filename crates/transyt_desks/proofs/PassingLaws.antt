@@ -57,22 +57,14 @@ module _ (m : Machine) (n : ℕ) (passing : ArePassing m n) where
       ≡ lowers m.session.net (place_at m.counters.place m.counters.count n)
   next_lowers = λ i. lowers (passing.net i) ((passing.counters i).place)
 
--- so are turns at places whose moves don't lower the index
-are_passing : (m : Machine) (n : ℕ) → m.counters.place < m.counters.count → m.session.before ≡ None
-    → m.counters.since + n ≤ m.counters.count → m.counters.looked + n ≤ m.counters.budget
-    → ((k : ℕ) → k < n → lowers m.session.net (place_at m.counters.place m.counters.count k) ≡ false) → ArePassing m n
-are_passing m zero inside closed since looked all = record {
-  passed = λ k less. absurd (omega arith);
-  counters = noted_none m.counters inside;
-  net = refl;
-  closed = closed;
-  work = omega arith;
-}
-are_passing m (suc n) inside closed since looked all =
-    let so = are_passing m n inside closed (omega (arith, since)) (omega (arith, looked)) (λ k less. all k (omega arith)) in
+-- one turn more passes at a place whose move doesn't lower the index
+passing_more : (m : Machine) (n : ℕ) → ArePassing m n → m.counters.since + suc n ≤ m.counters.count
+    → m.counters.looked + suc n ≤ m.counters.budget
+    → lowers m.session.net (place_at m.counters.place m.counters.count n) ≡ false → ArePassing m (suc n)
+passing_more m n so since looked stays =
     let now : Machine = turns n m in
     let on = still_on m n so (omega (arith, since)) (omega (arith, looked)) in
-    let higher : lowers now.session.net now.counters.place ≡ false = next_lowers m n so ∙ all n (omega arith) in
+    let higher : lowers now.session.net now.counters.place ≡ false = next_lowers m n so ∙ stays in
     let passes : answer_of now ≡ Passed = answers_passed now on.0 on.1 higher in
     let more : suc n ≡ n + 1 = omega arith in
     let state = ap (λ k. turns k m) more ∙ turns_more n m ∙ turned_passed now passes higher in
@@ -90,6 +82,22 @@ are_passing m (suc n) inside closed since looked all =
       closed = ap (λ (x : Machine). x.session.before) state;
       work = omega (arith, all_work, worked, so.work);
     }
+
+-- turns pass at places whose moves don't lower the index
+are_passing : (m : Machine) (n : ℕ) → m.counters.place < m.counters.count → m.session.before ≡ None
+    → m.counters.since + n ≤ m.counters.count → m.counters.looked + n ≤ m.counters.budget
+    → ((k : ℕ) → k < n → lowers m.session.net (place_at m.counters.place m.counters.count k) ≡ false) → ArePassing m n
+are_passing m zero inside closed since looked all = record {
+  passed = λ k less. absurd (omega arith);
+  counters = noted_none m.counters inside;
+  net = refl;
+  closed = closed;
+  work = omega arith;
+}
+are_passing m (suc n) inside closed since looked all =
+    passing_more m n
+    (are_passing m n inside closed (omega (arith, since)) (omega (arith, looked)) (λ k less. all k (omega arith)))
+    since looked (all n (omega arith))
 
 module _ (m : Machine) (n : ℕ) (passing : ArePassing m n) where
   no_took : (k : ℕ) → k < n → is_took (answer_of (turns k m)) ≡ false

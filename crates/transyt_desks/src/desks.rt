@@ -6,6 +6,7 @@ ghost use Rattle.transyt_climb.specs.Turns.{machine};
 ghost use Rattle.transyt_desks.specs.Desks.{desk_zero, new_desk, opened_desks, AreAligned, AreAlike};
 ghost use Rattle.transyt_desks.specs.Lends.{LendsZero};
 ghost use Rattle.transyt_desks.specs.Stretches.{AreTriesOf, IsStretch};
+ghost use Rattle.transyt_desks.specs.Reaches.{CanReach};
 ghost use Rattle.transyt_moves.specs.Moves.{move_count};
 ghost use Rattle.transyt_session.specs.Session.{SessionValue};
 ghost use Rattle.transyt_desks.specs.Rounds.{places_of, CanRound, MakesRound};
@@ -180,10 +181,7 @@ impl Desks {
         crew: &Crew<'_, R, G>,
         reach: Reach,
     ) -> Stretch
-        requires desks { reach.desks ≡ length self.old }
-        requires aligned { AreAligned self.old }
-        requires moves { reach.count ≡ move_count (desk_zero self.old).net }
-        requires closed { (desk_zero self.old).before ≡ None }
+        requires { CanReach reach self.old }
         ensures same { self.new ≡ self.old }
         ensures tried { IsStretch (desk_zero self.old).net
             reach.place reach.count reach.room result }

@@ -6,8 +6,9 @@ ghost use Rattle.transyt_moves.specs.Moves.{move, move_count};
 ghost use Rattle.transyt_sweep.specs.Sweeps.{index};
 ghost use Rattle.transyt_track.specs.Due.{edit_work};
 ghost use Rattle.transyt_session.specs.Session.{try_of};
-ghost use Rattle.transyt_desks.specs.Desks.{AreAligned, OthersClosed, desk_zero, sessions_of};
+ghost use Rattle.transyt_desks.specs.Desks.{OthersClosed, desk_zero, sessions_of};
 ghost use Rattle.transyt_desks.specs.Stretches.{AreFinds, AreFound, AreTriesOf, HasFound, IsStretch, place_at};
+ghost use Rattle.transyt_desks.specs.Reaches.{CanFind, CanReach};
 ghost use Rattle.transyt_desks.specs.declared.desk.Desk.{Desk};
 
 use crate::crew::Crew;
@@ -40,8 +41,7 @@ fn find(session: &mut Session, reach: Reach, desk: u32) -> [Tried; 64]
 /// Tries a desk's moves of a reach, between entering and leaving the gate.
 fn find_at_gate<G: Gate>(gate: &G, desk: &mut Desk, number: usize, reach: Reach)
     requires number { number < 8 }
-    requires moves { move_count desk.old.session.net ≡ reach.count }
-    requires closed { desk.old.session.before ≡ None }
+    requires ready { CanFind reach desk.old }
     ensures { HasFound reach number desk.old desk.new }
 {
     gate.enter(number as u32);
@@ -52,8 +52,7 @@ fn find_at_gate<G: Gate>(gate: &G, desk: &mut Desk, number: usize, reach: Reach)
 /// Tries the moves of a reach that come in turn to the desks after desk 0, all at once.
 fn find_others<R: Threads + Sync, G: Gate>(crew: &Crew<'_, R, G>, others: &mut [Desk], reach: Reach)
     requires few { length others.old < 8 }
-    requires moves { All (λ d. move_count d.session.net ≡ reach.count) others.old }
-    requires closed { All (λ d. d.session.before ≡ None) others.old }
+    requires ready { All (λ d. CanFind reach d) others.old }
     ensures len { length others.new ≡ length others.old }
     ensures found { (k : ℕ) (d : Desk) → k < length others.old
         → HasFound reach (k + 1) (slice_index_or others.old k d) (slice_index_or others.new k d) }
@@ -64,8 +63,7 @@ fn find_others<R: Threads + Sync, G: Gate>(crew: &Crew<'_, R, G>, others: &mut [
         others,
         7,
         &|i: usize, desk: &mut Desk|
-            requires { (i < 7) × (move_count desk.old.session.net ≡ reach.count)
-                × (desk.old.session.before ≡ None) }
+            requires { (i < 7) × CanFind reach desk.old }
         { find_at_gate(gate, desk, i + 1, reach) },
     );
 }
@@ -78,10 +76,8 @@ fn find_apart<R: Threads + Sync, G: Gate>(
     reach: Reach,
 )
     requires few { length others.old < 8 }
-    requires moves { All (λ d. move_count d.session.net ≡ reach.count) others.old }
-    requires closed { All (λ d. d.session.before ≡ None) others.old }
-    requires zero_moves { move_count zero.old.session.net ≡ reach.count }
-    requires zero_closed { zero.old.session.before ≡ None }
+    requires ready { All (λ d. CanFind reach d) others.old }
+    requires zero_ready { CanFind reach zero.old }
     ensures zero { HasFound reach 0 zero.old zero.new }
     ensures len { length others.new ≡ length others.old }
     ensures found { (k : ℕ) (d : Desk) → k < length others.old
@@ -89,15 +85,13 @@ fn find_apart<R: Threads + Sync, G: Gate>(
 {
     let mut there = ||
         requires { IsSync R.row × IsSync G.row × (length others.now < 8)
-            × All (λ d. move_count d.session.net ≡ reach.count) others.now
-            × All (λ d. d.session.before ≡ None) others.now }
+            × All (λ d. CanFind reach d) others.now }
         ensures { (length others.exit.now ≡ length others.entry.now)
             × ((k : ℕ) (d : Desk) → k < length others.entry.now → HasFound reach (k + 1)
             (slice_index_or others.entry.now k d) (slice_index_or others.exit.now k d)) }
     { find_others(crew, others, reach) };
     let mut here = ||
-        requires { (move_count zero.now.session.net ≡ reach.count)
-            × (zero.now.session.before ≡ None) }
+        requires { CanFind reach zero.now }
         ensures { HasFound reach 0 zero.entry.now zero.exit.now }
     { find_at_gate(crew.gate, zero, 0, reach) };
     thread::join_mut(crew.rt, &mut there, &mut here);
@@ -110,8 +104,7 @@ fn find_apart<R: Threads + Sync, G: Gate>(
 /// turn; up to four desks take no two such threads.
 fn find_all<R: Threads + Sync, G: Gate>(crew: &Crew<'_, R, G>, desks: &mut [Desk], reach: Reach)
     requires few { length desks.old ≤ 8 }
-    requires moves { All (λ d. move_count d.session.net ≡ reach.count) desks.old }
-    requires closed { All (λ d. d.session.before ≡ None) desks.old }
+    requires ready { All (λ d. CanFind reach d) desks.old }
     ensures len { length desks.new ≡ length desks.old }
     ensures found { (k : ℕ) (d : Desk) → k < length desks.old
         → HasFound reach k (slice_index_or desks.old k d) (slice_index_or desks.new k d) }
@@ -133,12 +126,8 @@ pub(crate) fn find_reach<R: Threads + Sync, G: Gate>(
     desks: &mut [Desk],
     reach: Reach,
 )
-    requires few { length desks.old ≤ 8 }
-    requires desks { reach.desks ≡ length desks.old }
-    requires aligned { AreAligned (sessions_of desks.old) }
+    requires ready { CanReach reach (sessions_of desks.old) }
     requires others { OthersClosed (sessions_of desks.old) }
-    requires moves { reach.count ≡ move_count (desk_zero (sessions_of desks.old)).net }
-    requires closed { (desk_zero (sessions_of desks.old)).before ≡ None }
     ensures len { length desks.new ≡ length desks.old }
     ensures sessions { sessions_of desks.new ≡ sessions_of desks.old }
     ensures found { AreFound reach desks.new }
