@@ -30,7 +30,8 @@ nodes_bare steps size (n ∷ ns) =
 
 -- and by all sizes
 sizes_bare : (steps : ℕ) (nodes : List NodeValue) (sizes : List ℕ)
-    → length (flat_map (size_moves steps (map bare_node nodes)) sizes) ≡ length (flat_map (size_moves steps nodes) sizes)
+    → length (flat_map (size_moves steps (map bare_node nodes)) sizes)
+    ≡ length (flat_map (size_moves steps nodes) sizes)
 sizes_bare steps nodes [] = refl
 sizes_bare steps nodes (s ∷ ss) =
     length-append (size_moves steps (map bare_node nodes) s) (flat_map (size_moves steps (map bare_node nodes)) ss)

@@ -23,11 +23,12 @@ pub record IsCounted (budget : ℕ) (first : SessionValue) (m : Machine) (took :
   pub few : took ≤ m.counters.looked
 
 -- it has ended so
-pub record HasEnded (whole : Climb) (budget : ℕ) (first : SessionValue) (m : Machine) (took : ℕ) (local : Bool) : Type 0 where
-  pub took_is : took ≡ length whole.steps
-  pub local_is : local ≡ whole.local
-  pub state : m.session ≡ climbed budget first
-  pub looks : m.counters.looked ≡ length whole.looks
+pub record HasEnded (whole : Climb) (budget : ℕ) (first : SessionValue) (m : Machine) (took : ℕ) (local : Bool) : Type 0
+  where
+    pub took_is : took ≡ length whole.steps
+    pub local_is : local ≡ whole.local
+    pub state : m.session ≡ climbed budget first
+    pub looks : m.counters.looked ≡ length whole.looks
 
 -- no step is done at the start
 pub climb_starts : (budget : ℕ) (s : SessionValue) (counters : Counters)
@@ -67,7 +68,8 @@ module _ {budget : ℕ} {first : SessionValue} {m : Machine} {done : List Step} 
       }
 
   -- fewer places may still be looked at
-  pub fewer_left : is_end last ≡ false → after.counters.budget - after.counters.looked < m.counters.budget - m.counters.looked
+  pub fewer_left : is_end last ≡ false
+      → after.counters.budget - after.counters.looked < m.counters.budget - m.counters.looked
   fewer_left going =
       let looks = climb_looks going in
       let looked : after.counters.looked ≡ m.counters.looked + count = looks.looked in

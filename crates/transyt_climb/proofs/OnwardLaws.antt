@@ -50,7 +50,7 @@ no_look net k n (Some r) =
 pub onward_budget : (net : Network) (k n : ℕ) → onward net k (suc n) 0 ≡ ended false net k 0
 onward_budget net k n = no_look net k n (least (λ r. lowers net ((k + r) % move_count net)) (suc n))
 
--- a choice of what a function gives is what it gives of a choice
+-- a choice between two values of a function is its value of the choice
 choice : {A B : Type 0} (f : A → B) (b c : Bool) (x y : B) (u v : A) → b ≡ c → x ≡ f u → y ≡ f v
     → (if b then x else y) ≡ f (if c then u else v)
 choice f b true x y u v same one two = ap (λ t. if t then x else y) same ∙ one
@@ -61,8 +61,12 @@ ended_more : (local : Bool) (net : Network) (k n : ℕ)
     → ended local net k (suc n)
     ≡ looked (record { net = net; place = k % move_count net }) (ended local net ((k + 1) % move_count net) n)
 ended_more local net k n =
-    ap (λ ls. record { steps = []; local = local; looks = record { net = net; place = k % move_count net } ∷ ls; net = net })
-    (looks_mod net (k + 1) n)
+    ap (λ ls. record {
+      steps = [];
+      local = local;
+      looks = record { net = net; place = k % move_count net } ∷ ls;
+      net = net;
+    }) (looks_mod net (k + 1) n)
 
 -- and where one is
 stepped_more : (net : Network) (k n place : ℕ) (c : Climb)
@@ -83,15 +87,16 @@ search_on : (net : Network) (k n left : ℕ) (found : Option ℕ)
     ≡ looked (record { net = net; place = k % move_count net })
     (after_search climb net ((k + 1) % move_count net) n left found)
 search_on net k n left None =
-    choice (looked (record { net = net; place = k % move_count net })) (nat_le (suc n) (suc left)) (nat_le n left) _ _ _ _
-    (grind (arith, nat_tests)) (ended_more true net k n) (ended_more false net k left)
+    choice (looked (record { net = net; place = k % move_count net })) (nat_le (suc n) (suc left)) (nat_le n left)
+    _ _ _ _ (grind (arith, nat_tests)) (ended_more true net k n) (ended_more false net k left)
 search_on net k n left (Some r) =
     let place = place_on (move_count net) k r in
     let less : suc left - (r + 1 + 1) ≡ left - (r + 1) = omega arith in
     let more : r + 1 + 1 ≡ suc (r + 1) = omega arith in
-    choice (looked (record { net = net; place = k % move_count net })) (nat_lt (r + 1) (suc left)) (nat_lt r left) _ _ _ _
-    (grind (arith, nat_tests))
-    ((λ i. stepped net k (more i) (place i) (climb (moved net (place i)) (place i) (less i))) ∙ stepped_more net k (r + 1) _ _)
+    choice (looked (record { net = net; place = k % move_count net })) (nat_lt (r + 1) (suc left)) (nat_lt r left)
+    _ _ _ _ (grind (arith, nat_tests))
+    ((λ i. stepped net k (more i) (place i) (climb (moved net (place i)) (place i) (less i)))
+    ∙ stepped_more net k (r + 1) _ _)
     (ended_more false net k left)
 
 -- a place whose move doesn't lower is passed
@@ -105,7 +110,8 @@ onward_passes net k n left passed =
     let same : (λ r. lowers net ((k + (r + 1)) % move_count net))
     ≡ (λ r. lowers net (((k + 1) % move_count net + r) % move_count net)) =
     fun_ext (λ r. ap (lowers net) (place_on (move_count net) k r)) in
-    (λ i. after_search climb net k (suc n) (suc left) (if here i then Some 0 else option_map (λ r. r + 1) (least (same i) n)))
+    (λ i. after_search climb net k (suc n) (suc left)
+    (if here i then Some 0 else option_map (λ r. r + 1) (least (same i) n)))
     ∙ search_on net k n left (least (λ r. lowers net (((k + 1) % move_count net + r) % move_count net)) n)
 
 -- a place whose move lowers is a step

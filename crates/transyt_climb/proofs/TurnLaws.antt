@@ -1,4 +1,4 @@
--- A turn goes on with the climb that a state has before it, by its answer; and the climber still belongs to the network.
+-- A turn goes on with the climb that a state has before it, by its answer; and the climber still fits the network.
 use Rattle.std.proofs.Common.{◌≡◌, ℕ, suc, ◌+◌, ◌-◌, ◌%◌, ◌<◌, Bool, true, false, [], ◌∷◌, refl, ap, sym, ◌∙◌, arith}
 use Rattle.std.proofs.Common.{if◌then◌else◌, ◌==◌}
 use Rattle.std.proofs.Math.Nat.{mod-eq_of_lt, mod-lt}
@@ -46,8 +46,8 @@ pub by_answer : (m : Machine) (P : Turn → Type 0) → ((m.counters.since == m.
     → P (answer_of m)
 by_answer m P gone spent looks =
     let look = look_answer m.session.net m.counters.place in
-    cond_both (m.counters.since == m.counters.count) Local (if m.counters.looked == m.counters.budget then Budget else look)
-    P gone (λ some. cond_both (m.counters.looked == m.counters.budget) Budget look P (spent some) (looks some))
+    cond_both (m.counters.since == m.counters.count) Local
+    (if m.counters.looked == m.counters.budget then Budget else look) P gone (λ some. cond_both (m.counters.looked == m.counters.budget) Budget look P (spent some) (looks some))
 
 -- and of the answer of its look
 pub by_look : (m : Machine) (P : Turn → Type 0)
@@ -74,8 +74,8 @@ after_took m ready lower =
 
 -- the search after a place that was passed is that of the state after it
 after_passed : (m : Machine) → IsReady m → lowers m.session.net m.counters.place ≡ false
-    → onward m.session.net ((m.counters.place + 1) % move_count m.session.net) (m.counters.count - (m.counters.since + 1))
-    (m.counters.budget - (m.counters.looked + 1))
+    → onward m.session.net ((m.counters.place + 1) % move_count m.session.net)
+    (m.counters.count - (m.counters.since + 1)) (m.counters.budget - (m.counters.looked + 1))
     ≡ climb_left (after_look false m)
 unfolding climb_left lowers tried_at moved
 after_passed m ready higher =
@@ -133,7 +133,8 @@ left_budget m some spent =
     ∙ onward_budget m.session.net m.counters.place (m.counters.count - (m.counters.since + 1))
 
 -- the tests of a turn, as orders
-since_less : (m : Machine) → IsReady m → (m.counters.since == m.counters.count) ≡ false → m.counters.since < m.counters.count
+since_less : (m : Machine) → IsReady m → (m.counters.since == m.counters.count) ≡ false
+    → m.counters.since < m.counters.count
 since_less m ready some = grind (arith, nat_tests, some, ready.since)
 
 looked_less : (m : Machine) → IsReady m → (m.counters.looked == m.counters.budget) ≡ false

@@ -44,7 +44,8 @@ module _ (whole : Climb) (work : ℕ) where
       → HasCome whole work (done ++ step_then a []) (after_answer a m) (climb_left (after_answer a m))
   come_on done m (Took place edit index) so left ready = record {
     ready = ready;
-    steps = so.steps ∙ sym (append_assoc done (step_then (Took place edit index) []) (climb_left (after_look true m)).steps);
+    steps = so.steps
+        ∙ sym (append_assoc done (step_then (Took place edit index) []) (climb_left (after_look true m)).steps);
     local = so.local;
     net = so.net;
     looks = omega (arith, so.looks);
@@ -59,7 +60,8 @@ module _ (whole : Climb) (work : ℕ) where
     work_is = omega (arith, so.work_is);
   })
   come_on done m Local so left ready = come_same done m (climb_left m) (subst (HasCome whole work done m) (sym left) so)
-  come_on done m Budget so left ready = come_same done m (climb_left m) (subst (HasCome whole work done m) (sym left) so)
+  come_on done m Budget so left ready =
+      come_same done m (climb_left m) (subst (HasCome whole work done m) (sym left) so)
 
   -- a turn
   come_turn : (done : List Step) (m : Machine) → HasCome whole work done m (climb_left m)
@@ -74,7 +76,8 @@ module _ (whole : Climb) (work : ℕ) where
   come_turns zero done m so = come_same done m (climb_left m) so
   come_turns (suc n) done m so =
       let later = steps_in (answers n (turned m)) in
-      let steps = append_assoc done (step_then (answer_of m) []) later ∙ ap (λ s. done ++ s) (step_more (answer_of m) later) in
+      let steps =
+      append_assoc done (step_then (answer_of m) []) later ∙ ap (λ s. done ++ s) (step_more (answer_of m) later) in
       subst (λ d. HasCome whole work d (turns (suc n) m) (climb_left (turns (suc n) m))) steps
       (come_turns n (done ++ step_then (answer_of m) []) (turned m) (come_turn done m so))
 
@@ -147,7 +150,8 @@ round_rest n m after last round =
     }
 
 -- its steps are that of its last turn
-round_steps : (n : ℕ) (m after : Machine) (last : Turn) → IsRound m after n last → steps_in (answers n m) ≡ step_then last []
+round_steps : (n : ℕ) (m after : Machine) (last : Turn) → IsRound m after n last
+    → steps_in (answers n m) ≡ step_then last []
 round_steps zero m after last round = let some : 0 < 0 = round.some in absurd (omega arith)
 round_steps (suc zero) m after last round = ap (λ a. step_then a []) (sym round.last_is)
 round_steps (suc (suc n)) m after last round =
@@ -155,11 +159,13 @@ round_steps (suc (suc n)) m after last round =
     ∙ round_steps (suc n) (turned m) after last (round_rest n m after last round)
 
 -- after a round that ends the climb each turn is this end
-round_end : (n : ℕ) (m after : Machine) (last : Turn) → IsRound m after n last → is_end last ≡ true → answer_of after ≡ last
+round_end : (n : ℕ) (m after : Machine) (last : Turn) → IsRound m after n last → is_end last ≡ true
+    → answer_of after ≡ last
 round_end n m after last round end =
     let before = turns (n - 1) m in
     let n_is : n ≡ n - 1 + 1 = omega (arith, round.some) in
-    let same : turned before ≡ before = ap (λ a. after_answer a before) (sym round.last_is) ∙ (end_is last before end).0 in
+    let same : turned before ≡ before =
+    ap (λ a. after_answer a before) (sym round.last_is) ∙ (end_is last before end).0 in
     ap answer_of (round.after_is ∙ ap (λ k. turns k m) n_is ∙ turns_more (n - 1) m ∙ same) ∙ sym round.last_is
 
 -- a climb at its start is on its way
@@ -184,11 +190,13 @@ pub way_over : (whole : Climb) (work : ℕ) (done : List Step) (m after : Machin
     → IsOver whole work done (is_local last) after
 way_over whole work done m after count last way round end =
     let next = way_round whole work done m after count last way round in
-    let so = come_end whole work (done ++ step_then last []) after last next.come (round_end count m after last round end) end in
+    let ends = round_end count m after last round end in
+    let so = come_end whole work (done ++ step_then last []) after last next.come ends end in
     record {
       ready = so.ready;
       closed = next.closed;
-      steps = so.steps ∙ append-nil (done ++ step_then last []) ∙ ap (λ s. done ++ s) (end_is last m end).2 ∙ append-nil done;
+      steps = so.steps ∙ append-nil (done ++ step_then last []) ∙ ap (λ s. done ++ s) (end_is last m end).2
+          ∙ append-nil done;
       local_is = so.local;
       net = so.net;
       looks = omega (arith, so.looks);
@@ -211,7 +219,8 @@ pub round_looks : (m after : Machine) (count : ℕ) (last : Turn) → IsRound m 
     → HasLooked m after count
 round_looks m after zero last round going = let some : 0 < 0 = round.some in absurd (omega arith)
 round_looks m after (suc zero) last round going =
-    subst (λ t. HasLooked m t 1) (sym round.after_is) (looked_one m (answer_of m) (ap is_end (sym round.last_is) ∙ going))
+    subst (λ t. HasLooked m t 1) (sym round.after_is)
+    (looked_one m (answer_of m) (ap is_end (sym round.last_is) ∙ going))
 round_looks m after (suc (suc n)) last round going =
     let first : HasLooked m (turned m) 1 = looked_one m (answer_of m) (ap is_end (round.passed 0 (omega arith))) in
     let later : HasLooked (turned m) after (suc n) =

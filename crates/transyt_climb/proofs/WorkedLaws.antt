@@ -43,7 +43,7 @@ number_of None = 0
 number_of (Some n) = n
 
 -- the index after that move
-index_after : index after_move ≡ 554272112
+pub index_after : index after_move ≡ 554272112
 unfolding tried_at move
 index_after = ap number_of tried_first
 
@@ -75,7 +75,7 @@ local (suc (suc (suc (suc (suc zero))))) less = refl
 local (suc (suc (suc (suc (suc (suc k)))))) less = absurd (omega (arith, less))
 
 -- the terms of the other network's link, of these sums
-abbrev its_terms : ℕ → ℕ → ℕ → ℕ → Terms
+abbrev pub its_terms : ℕ → ℕ → ℕ → ℕ → Terms
 its_terms arrivals room queued stopped = record {
   arrivals = arrivals;
   room = room;
@@ -86,7 +86,7 @@ its_terms arrivals room queued stopped = record {
 }
 
 -- the network after its last move
-abbrev after_last : Network
+abbrev pub after_last : Network
 after_last = with_edit by_last (Change 21 3 8)
 
 -- the figures before that move and after it
@@ -99,10 +99,10 @@ unfolding sum_back greatest smoothed seen out_of evaluated
 figures_after = figures_by_root (its_terms 1016660 8664999 2846648 711662) 459166114 (lit≤ tt) (lit< tt)
 
 -- the indexes
-index_before : index by_last ≡ 1445237
+pub index_before : index by_last ≡ 1445237
 index_before = ap (λ (f : Figures). sum (f.index ∷ [])) figures_before
 
-index_last : index after_last ≡ 1077043
+pub index_last : index after_last ≡ 1077043
 index_last = ap (λ (f : Figures). sum (f.index ∷ [])) figures_after
 
 -- so it lowers the index

@@ -1,6 +1,6 @@
 -- A climber at its turns, over a session.
 use Rattle.std.specs.Prelude.{ℕ, zero, suc, ◌+◌, ◌%◌, ◌<◌, ◌≤◌, Bool, true, false, List, [], ◌∷◌}
-use Rattle.std.specs.Prelude.{Option, option_map, Some, None, if◌then◌else◌, ◌==◌}
+use Rattle.std.specs.Prelude.{Option, option_map, if◌then◌else◌, ◌==◌}
 use Rattle.transyt_parts.specs.Parts.{PlanValue}
 use Rattle.transyt_net.specs.Parts.{Network}
 use Rattle.transyt_moves.specs.Moves.{move, move_count}

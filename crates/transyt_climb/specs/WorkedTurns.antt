@@ -1,5 +1,5 @@
--- Worked turns: over a network without links, where no move lowers the index, and over two of which no number is neutral;
--- and a network of which the last move alone lowers it.
+-- Worked turns: over a network without links, where no move lowers the index, and over two of which no number is
+-- neutral; and a network of which the last move alone lowers it.
 use Rattle.std.specs.Prelude.{ℕ, [], ◌∷◌, None, Some}
 use Rattle.transyt_parts.specs.Made.{new_stage, new_link, new_plan}
 use Rattle.transyt_net.specs.Parts.{Network}

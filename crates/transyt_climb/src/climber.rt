@@ -121,7 +121,8 @@ impl Climber {
 
     /// One turn: an end, which changes nothing, or a look at the next place.
     ///
-    /// A look counts its work once, and makes as many steps, whether its move is kept or taken back. It takes no memory.
+    /// A look counts its work once, and makes as many steps, whether its move is kept or taken back. It takes no
+    /// memory.
     #[tactic(auto, unfolding(transyt_sweep::specs::Climb::lowers, transyt_sweep::specs::Climb::tried_at, transyt_sweep::specs::Climb::moved))]
     pub fn turn<L: Ledger>(&mut self, session: &mut Session, steps: &mut Steps<L>) -> Turn
         requires count { self.old.count ≡ move_count session.old.net }

@@ -41,8 +41,8 @@ pub fn rule_of_way()
         → IsOver whole work done (is_local last) after }
 {}
 
-/// Worked turns: the counters after a look, the two ends, turns that pass round the end of the list, one that takes a step,
-/// an equal index that none takes, and a certified place.
+/// Worked turns: the counters after a look, the two ends, turns that pass round the end of the list, one that takes a
+/// step, an equal index that none takes, and a certified place.
 #[tactic(auto, using(crate::proofs::WorkedLaws::three, crate::proofs::WorkedLaws::took, crate::proofs::WorkedLaws::tied, crate::proofs::WorkedLaws::certificate))]
 pub fn worked_turns()
     ensures noted { noted false (on_way 9)

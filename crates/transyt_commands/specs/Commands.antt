@@ -7,7 +7,7 @@ use Rattle.transyt_commands.specs.declared.command.Command.{Command}
 use Rattle.transyt_commands.specs.declared.command.Command.TheVariants as c
 use Rattle.transyt_commands.specs.declared.command.Request.TheVariants as r
 
--- the edits: the keyword of each, how many numbers stand after it, and what it says with them
+-- the edits: the keyword of each, how many numbers stand after it, and its command with them
 abbrev pub edits : List (Entry Command)
 edits =
     entry (codes "OFFSET") 2 (λ ns. c.Edit (e.Offset (at ns 0) (at ns 1)))

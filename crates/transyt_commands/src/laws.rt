@@ -3,7 +3,7 @@ ghost use Rattle.std.specs.Prelude.{◌≡◌, map};
 ghost use Rattle.transyt_commands.specs.Commands.{command_in};
 ghost use Rattle.transyt_commands.specs.WorkedLines.{worked};
 
-/// The worked lines say what is written beside the definitions.
+/// The worked lines have the commands and codes that are written beside the definitions.
 #[tactic(auto, using(crate::proofs::Worked::all_worked))]
 pub fn worked_lines()
     ensures { map (λ row. command_in row.0) worked ≡ map (λ row. row.1) worked }

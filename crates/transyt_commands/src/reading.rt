@@ -76,12 +76,12 @@ fn edit_named(keyword: &[u8], numbers: &Numbers) -> Option<((usize, usize), Comm
     let (a, b, c) = (numbers.at(0), numbers.at(1), numbers.at(2));
     match keyword {
         _ if is_word(keyword, b"OFFSET") => edit(2, Edit::Offset { node: a, offset: b }),
-        _ if is_word(keyword, b"CHANGE") => change_of(a, b, c),
+        _ if is_word(keyword, b"CHANGE") => edit(3, change_of(a, b, c)),
         _ if is_word(keyword, b"ENTRY") => edit(2, Edit::Entry { link: a, flow: b }),
-        _ if is_word(keyword, b"PART") => part_of(a, b, c),
-        _ if is_word(keyword, b"CRUISE") => cruise_of(a, b, c),
+        _ if is_word(keyword, b"PART") => edit(3, part_of(a, b, c)),
+        _ if is_word(keyword, b"CRUISE") => edit(3, cruise_of(a, b, c)),
         _ if is_word(keyword, b"SATURATION") => edit(2, Edit::Saturation { link: a, flow: b }),
-        _ if is_word(keyword, b"WEIGHT") => weight_of(a, b, c),
+        _ if is_word(keyword, b"WEIGHT") => edit(3, weight_of(a, b, c)),
         _ => None,
     }
 }
@@ -100,54 +100,39 @@ fn edit(count: usize, edit: Edit) -> Option<((usize, usize), Command)>
     Some(((count, count), Command::Edit(edit)))
 }
 
-/// The CHANGE command of these numbers.
-fn change_of(node: u32, stage: u32, change: u32) -> Option<((usize, usize), Command)>
-    ensures { result ≡ Some ((3, 3), command.Edit (edit.Change node stage change)) }
+/// The CHANGE of these numbers.
+fn change_of(node: u32, stage: u32, change: u32) -> Edit
+    ensures { result ≡ edit.Change node stage change }
 {
-    edit(
-        3,
-        Edit::Change {
-            node,
-            stage,
-            change,
-        },
-    )
+    Edit::Change {
+        node,
+        stage,
+        change,
+    }
 }
 
-/// The PART command of these numbers.
-fn part_of(link: u32, feeder: u32, flow: u32) -> Option<((usize, usize), Command)>
-    ensures { result ≡ Some ((3, 3), command.Edit (edit.Part link feeder flow)) }
+/// The PART of these numbers.
+fn part_of(link: u32, feeder: u32, flow: u32) -> Edit
+    ensures { result ≡ edit.Part link feeder flow }
 {
-    edit(3, Edit::Part { link, feeder, flow })
+    Edit::Part { link, feeder, flow }
 }
 
-/// The CRUISE command of these numbers.
-fn cruise_of(link: u32, feeder: u32, seconds: u32) -> Option<((usize, usize), Command)>
-    ensures { result ≡ Some ((3, 3), command.Edit (edit.Cruise link feeder seconds)) }
+/// The CRUISE of these numbers.
+fn cruise_of(link: u32, feeder: u32, seconds: u32) -> Edit
+    ensures { result ≡ edit.Cruise link feeder seconds }
 {
-    edit(
-        3,
-        Edit::Cruise {
-            link,
-            feeder,
-            seconds,
-        },
-    )
+    Edit::Cruise {
+        link,
+        feeder,
+        seconds,
+    }
 }
 
-/// The WEIGHT command of these numbers.
-fn weight_of(link: u32, delay: u32, stop: u32) -> Option<((usize, usize), Command)>
-    ensures { result ≡ Some (
-      (3, 3),
-      command.Edit
-          (edit.Weight link (record { delay = delay; stop = stop })),
-    ) }
+/// The WEIGHT of these numbers.
+fn weight_of(link: u32, delay: u32, stop: u32) -> Edit
+    ensures { result ≡ edit.Weight link (record { delay = delay; stop = stop }) }
 {
-    edit(
-        3,
-        Edit::Weight {
-            link,
-            weights: Weights { delay, stop },
-        },
-    )
+    let weights = Weights { delay, stop };
+    Edit::Weight { link, weights }
 }

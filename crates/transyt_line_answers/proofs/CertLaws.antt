@@ -36,7 +36,8 @@ one_more net i n less false is before =
 
 -- the work of a certificate only grows
 pub cert_more : (net : Network) (i n : ℕ) → i ≤ n → cert_work net i ≤ cert_work net n
-cert_more net i zero less = let none : i ≡ 0 = omega (arith, less) in subst (λ (k : ℕ). cert_work net k ≤ 0) (sym none) (omega arith)
+cert_more net i zero less =
+    let none : i ≡ 0 = omega (arith, less) in subst (λ (k : ℕ). cert_work net k ≤ 0) (sym none) (omega arith)
 cert_more net i (suc n) less = one_more net i n less (nat_le i n) refl (λ below. cert_more net i n below)
 
 -- a text that broke off is a front of a longer one

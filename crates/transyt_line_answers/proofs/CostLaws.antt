@@ -23,7 +23,8 @@ use Rattle.transyt_line_answers.proofs.ShapeLaws.{KeepsShape, keeps_said}
 use Rattle.transyt_line_answers.proofs.WorkLaws.{line_more}
 
 -- the state after lines and one more
-pub state_on : (before : List (List ℕ)) (line : List ℕ) → run_state (before ++ line ∷ []) ≡ run_after (run_state before) line
+pub state_on : (before : List (List ℕ)) (line : List ℕ)
+    → run_state (before ++ line ∷ []) ≡ run_after (run_state before) line
 state_on before line = fold-append run_after (InDeck start) before (line ∷ [])
 
 -- S times the links
@@ -93,8 +94,10 @@ join : (a c r u b now d all : ℕ) → a + c ≡ b → now ≡ b → now + r ≡
 join a c r u b now d all one two three four five = omega arith
 
 -- the steps with those of the lines to come
-steps_to : (before more : List (List ℕ)) → IsKept (run_state before) → ending_after deck_answering.ends before more ≡ None
-    → steps_in (run_state before) + costs_after deck_answering.cost deck_answering.ends before more ≡ steps_in (run_state (before ++ more))
+steps_to : (before more : List (List ℕ)) → IsKept (run_state before)
+    → ending_after deck_answering.ends before more ≡ None
+    → steps_in (run_state before) + costs_after deck_answering.cost deck_answering.ends before more
+    ≡ steps_in (run_state (before ++ more))
 steps_to before [] h none =
     let same = ap (λ (ls : List (List ℕ)). steps_in (run_state ls)) (append-nil before) in omega (arith, same)
 steps_to before (line ∷ more) h none =
@@ -102,7 +105,8 @@ steps_to before (line ∷ more) h none =
     let later = costs_after deck_answering.cost deck_answering.ends (before ++ line ∷ []) more in
     let cases : (e : Option Ending) → deck_answering.ends before line ≡ e
     → first_of e (ending_after deck_answering.ends (before ++ line ∷ []) more) ≡ None
-    → steps_in (run_state before) + (deck_answering.cost before line + unless_ended e 0 later) ≡ steps_in (run_state (before ++ line ∷ more)) =
+    → steps_in (run_state before) + (deck_answering.cost before line + unless_ended e 0 later)
+    ≡ steps_in (run_state (before ++ line ∷ more)) =
     elim [
       | None ↦ λ is goes.
           join (steps_in (run_state before)) (deck_answering.cost before line) later later _ _ _ _

@@ -1,4 +1,4 @@
--- The text of what was judged is over the session before.
+-- The text of an answer that was judged is over the session before.
 use Rattle.std.proofs.Common.{◌≡◌, ℕ, List, Option, None, Some, Result, Ok, is_some, if◌then◌else◌, Bool, true, false, refl}
 use Rattle.std.specs.Option.{option_map_or}
 use Rattle.transyt_syntax.specs.declared.code.Code.{Code}

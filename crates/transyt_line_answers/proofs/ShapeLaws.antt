@@ -50,7 +50,7 @@ keeps_command c.Back s h = record { net = keeps_back s.net s.before h; before = 
 keeps_command c.Keep s h = record { net = refl; before = tt }
 keeps_command (c.Request asked) s h = record { net = refl; before = h }
 
--- and so does what a line says
+-- and so does a line
 pub keeps_said : (said : Result (Option Command) Code) (s : SessionValue) → IfSome s.before (λ n. SameShape s.net n)
     → KeepsShape s (said_judged said s)
 keeps_said (Ok (Some command)) s h = keeps_command command s h

@@ -1,4 +1,4 @@
--- The work of a line: what it adds, so that the work so far never falls.
+-- A line adds its work, so that the work so far never falls.
 use Rattle.std.proofs.Common.{ℕ, ◌≤◌, List, Option, Some, Result, Ok, is_some, if◌then◌else◌, Bool, true, false, arith}
 use Rattle.transyt_syntax.specs.declared.code.Code.{Code}
 use Rattle.transyt_commands.specs.declared.command.Command.{Command}
@@ -10,7 +10,8 @@ use Rattle.transyt_line_answers.specs.declared.answer.Answer.TheVariants as a
 use Rattle.transyt_line_answers.specs.Commands.{judged, said_judged, after_answer, line_answer, line_judged, session_after}
 
 -- a trial keeps the work
-trial_work : (s : SessionValue) (is_open : Bool) → s.work ≤ (if is_open then s else record { net = s.net; before = Some s.net; work = s.work }).work
+trial_work : (s : SessionValue) (is_open : Bool)
+    → s.work ≤ (if is_open then s else record { net = s.net; before = Some s.net; work = s.work }).work
 trial_work s true = omega arith
 trial_work s false = omega arith
 

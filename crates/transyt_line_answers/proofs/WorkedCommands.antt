@@ -1,5 +1,5 @@
 -- The worked answers to commands, computed from the definitions.
-use Rattle.std.proofs.Common.{◌≡◌, ℕ, List, ◌++◌, Option, Some, None, false, refl, ap, ◌∙◌}
+use Rattle.std.proofs.Common.{◌≡◌, ℕ, List, ◌++◌, Option, false, refl, ap, ◌∙◌}
 use Rattle.std.specs.Fmt.{digits}
 use Rattle.transyt_platoon.specs.Platoon.{smoothed}
 use Rattle.transyt_stopline.specs.StopLine.{sum_back, greatest}
@@ -8,12 +8,11 @@ use Rattle.transyt_net.specs.Edits.{with_edit}
 use Rattle.transyt_moves.specs.Moves.{move, move_count}
 use Rattle.transyt_stage.specs.ThreeJunctions.{three_junctions}
 use Rattle.transyt_sweep.specs.Sweeps.{seen, out_of, index}
-use Rattle.transyt_sweep.specs.Climb.{tried_at}
-use Rattle.transyt_sweep.proofs.WorkedMove.{tried_first}
 use Rattle.transyt_track.specs.Due.{differs, due_in, due_through, due}
 use Rattle.transyt_net.specs.Parts.{Network}
 use Rattle.transyt_session.specs.Session.{SessionValue}
 use Rattle.transyt_session.specs.WorkedSessions.{begun}
+use Rattle.transyt_climb.proofs.WorkedLaws as turns
 use Rattle.transyt_text.specs.Forms.{filled, form_line}
 use Rattle.transyt_report.specs.Texts.{end_text}
 use Rattle.transyt_line_answers.specs.declared.answer.Answer.{Answer}
@@ -32,15 +31,9 @@ pub of_now : (s : SessionValue) (before : Option Network) (answer : Answer)
 of_now s before a.Climb = refl
 of_now s before _ = refl
 
--- the number that is there, if there is one
-abbrev number_of : Option ℕ → ℕ
-number_of None = 0
-number_of (Some n) = n
-
 -- the index of the three junctions after their first move
 pub index_after : index (with_edit three_junctions (Offset 21 8)) ≡ 554272112
-unfolding tried_at move
-index_after = ap number_of tried_first
+index_after = turns.index_after
 
 -- the lines with the index in its place
 abbrev lines_with : ℕ → List ℕ

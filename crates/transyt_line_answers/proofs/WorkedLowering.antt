@@ -8,21 +8,20 @@ use Rattle.transyt_parts.specs.Parts.{NodeValue}
 use Rattle.transyt_parts.specs.declared.stage_plan.PlanFault.TheVariants.{LeastGreen}
 use Rattle.transyt_parts.specs.Plan.{plan_fault, stage_of}
 use Rattle.transyt_net.specs.declared.edit.Edit.{Edit}
-use Rattle.transyt_net.specs.declared.edit.Edit.TheVariants.{Offset, Change}
+use Rattle.transyt_net.specs.declared.edit.Edit.TheVariants.{Offset}
 use Rattle.transyt_net.specs.Edits.{with_edit}
 use Rattle.transyt_net.specs.Parts.{Network}
 use Rattle.transyt_moves.specs.Moves.{move, move_count}
 use Rattle.transyt_stage.specs.ThreeJunctions.{three_junctions}
-use Rattle.transyt_sweep.specs.Cell.{terms_frame}
 use Rattle.transyt_sweep.specs.Climb.{Step}
 use Rattle.transyt_sweep.specs.Sweeps.{seen, out_of, evaluated, index}
 use Rattle.transyt_sweep.specs.WorkedLinks.{new_figures}
-use Rattle.transyt_sweep.proofs.WorkedFigures.{figures_by_root, its_terms, index_comes_out}
+use Rattle.transyt_sweep.proofs.WorkedFigures.{figures_by_root, index_comes_out}
 use Rattle.transyt_line_answers.specs.Steps.{ArePlanned, IsLowering, LeadDown}
-use Rattle.transyt_climb.specs.WorkedTurns.{idle}
+use Rattle.transyt_climb.specs.WorkedTurns.{idle, by_last}
+use Rattle.transyt_climb.proofs.WorkedLaws.{after_last, index_after, index_before, index_last, its_terms}
 use Rattle.transyt_line_answers.specs.WorkedLowering.{first_step, wrong_steps, idle_step, late_node, late_stage}
-use Rattle.transyt_line_answers.specs.WorkedLowering.{by_last, earlier, earlier_again, after_two, stays}
-use Rattle.transyt_line_answers.proofs.WorkedCommands.{index_after}
+use Rattle.transyt_line_answers.specs.WorkedLowering.{earlier, earlier_again, after_two, stays}
 
 -- nodes whose plans are allowed
 abbrev HasNoFault : NodeValue → Type 0
@@ -67,32 +66,10 @@ none_is_lowering =
 pub not_lower : IsLowering idle idle_step → ⊥
 not_lower step = let lower : 0 < 0 = step.lower in absurd (omega (arith, lower))
 
--- the network after the first of the two steps
-abbrev after_one : Network
-after_one = with_edit by_last (Change 21 3 8)
-
--- the figures before the two steps, after the first and after both
-figures_before : (evaluated by_last 0).figures ≡ new_figures 365997 106712 13555 1445237
-unfolding sum_back greatest smoothed seen out_of evaluated
-figures_before = figures_by_root
-    (record (its_terms 1016660 5776666 3659976 813328 3 2) { frame = terms_frame by_last.frame }) 286027208 (lit≤ tt) (lit< tt)
-
-figures_one : (evaluated after_one 0).figures ≡ new_figures 284664 66443 11861 1077043
-unfolding sum_back greatest smoothed seen out_of evaluated
-figures_one = figures_by_root
-    (record (its_terms 1016660 8664999 2846648 711662 3 2) { frame = terms_frame by_last.frame }) 459166114 (lit≤ tt) (lit< tt)
-
+-- the figures and the index after both of the two steps
 figures_two : (evaluated after_two 0).figures ≡ new_figures 213498 48236 10166 805534
 unfolding sum_back greatest smoothed seen out_of evaluated
-figures_two = figures_by_root
-    (record (its_terms 1016660 11553332 2134986 609996 3 2) { frame = terms_frame by_last.frame }) 632393266 (lit≤ tt) (lit< tt)
-
--- the indexes
-index_before : index by_last ≡ 1445237
-index_before = λ j. sum ((figures_before j).index ∷ [])
-
-index_one : index after_one ≡ 1077043
-index_one = λ j. sum ((figures_one j).index ∷ [])
+figures_two = figures_by_root (its_terms 1016660 11553332 2134986 609996) 632393266 (lit≤ tt) (lit< tt)
 
 index_two : index after_two ≡ 805534
 index_two = λ j. sum ((figures_two j).index ∷ [])
@@ -108,19 +85,19 @@ step_one = record {
   listed = lit< tt;
   edit_is = refl;
   allowed = refl;
-  index_is = sym index_one;
+  index_is = sym index_last;
   lower = subst (λ (x : ℕ). 1077043 < x) (sym index_before) (lit< tt);
-  planned = All-from_recursion HasNoFaultOfTen after_one.nodes (refl, tt);
+  planned = All-from_recursion HasNoFaultOfTen after_last.nodes (refl, tt);
 }
 
-step_two : IsLowering after_one earlier_again
+step_two : IsLowering after_last earlier_again
 unfolding move move_count
 step_two = record {
   listed = lit< tt;
   edit_is = refl;
   allowed = refl;
   index_is = sym index_two;
-  lower = subst (λ (x : ℕ). 805534 < x) (sym index_one) (lit< tt);
+  lower = subst (λ (x : ℕ). 805534 < x) (sym index_last) (lit< tt);
   planned = All-from_recursion HasNoFaultOfTen after_two.nodes (refl, tt);
 }
 
@@ -134,16 +111,16 @@ last_change [] = 0
 last_change (n ∷ ns) = (stage_of n.stages 2).change
 
 -- and to none of the networks before
-pub other_last : LeadDown by_last (earlier ∷ earlier_again ∷ []) after_one → ⊥
+pub other_last : LeadDown by_last (earlier ∷ earlier_again ∷ []) after_last → ⊥
 other_last led =
     let wrong : 8 ≡ 7 = ap (λ (net : Network). last_change net.nodes) led.1.1 in absurd (omega (arith, wrong))
 
-pub no_step : LeadDown by_last [] after_one → ⊥
+pub no_step : LeadDown by_last [] after_last → ⊥
 no_step led =
     let wrong : 8 ≡ 9 = ap (λ (net : Network). last_change net.nodes) led in absurd (omega (arith, wrong))
 
 -- with a step between them that leaves the index as it was they lead to none
 pub stays_between : (last : Network) → LeadDown by_last (earlier ∷ stays ∷ earlier_again ∷ []) last → ⊥
 stays_between last led =
-    let lower : 1077043 < 1077043 = subst (λ (x : ℕ). 1077043 < x) index_one led.1.0.lower in
+    let lower : 1077043 < 1077043 = subst (λ (x : ℕ). 1077043 < x) index_last led.1.0.lower in
     absurd (omega (arith, lower))

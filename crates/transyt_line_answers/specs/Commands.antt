@@ -133,7 +133,7 @@ said_answer s (Ok (Some command)) = answer_to s command
 abbrev pub line_answer : SessionValue → List ℕ → Answer
 line_answer s line = said_answer s (command_in line)
 
--- the session when what a line says was judged
+-- the session when the command of a line was judged, if there is one
 abbrev pub said_judged : Result (Option Command) Code → SessionValue → SessionValue
 said_judged (Ok (Some command)) s = judged command s
 said_judged _ s = s

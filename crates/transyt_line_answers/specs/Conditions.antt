@@ -7,7 +7,7 @@ use Rattle.transyt_report.specs.Texts.{IsOfPlace}
 use Rattle.transyt_line_answers.specs.declared.answer.Answer.{Answer}
 use Rattle.transyt_line_answers.specs.declared.answer.Answer.TheVariants as a
 
--- the network has what an answer speaks of: the link of a report or a plot, and for CLIMB and CERT a plan and no trial
+-- the session has the link of a report or a plot, and for CLIMB and CERT a plan and no open trial
 abbrev pub IsOf : SessionValue → Answer → Type 0
 IsOf s (a.Show what) = IsOfPlace s.net what
 IsOf s (a.Plot place) = place < length s.net.links

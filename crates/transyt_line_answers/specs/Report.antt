@@ -65,7 +65,7 @@ run_after (InSession s) line = InSession (session_after s line)
 abbrev pub run_state : List (List ℕ) → RunState
 run_state before = fold run_after (InDeck start) before
 
--- the text of a line over what the lines before it have come to
+-- the text of a line over the state after the lines before it
 abbrev pub line_text : RunState → List ℕ → List ℕ
 line_text (InDeck deck) line = deck_said (next deck line)
 line_text (InSession s) line = answer_text s (line_answer s line)
@@ -80,7 +80,7 @@ abbrev pub line_steps : RunState → List ℕ → ℕ
 line_steps (InDeck deck) line = deck_steps (next deck line)
 line_steps (InSession s) line = (session_after s line).work - s.work
 
--- the steps of lines by what they have come to: S times the links at END, and the work since
+-- the steps of lines by the state after them: S times the links at END, and the work since
 abbrev pub steps_in : RunState → ℕ
 steps_in (InDeck deck) = 0
 steps_in (InSession s) = s.net.frame.sweeps * length s.net.links + s.work

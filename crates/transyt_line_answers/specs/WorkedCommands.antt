@@ -1,4 +1,4 @@
--- Worked answers to commands over two junctions and three links, and what a climb is told by.
+-- Worked answers to commands over two junctions and three links, and a climb with its lines.
 use Rattle.std.specs.Prelude.{ℕ, List, [], ◌∷◌, map, codes, None, Some, false}
 use Rattle.transyt_syntax.specs.declared.code.Code.TheVariants as code
 use Rattle.transyt_net.specs.declared.edit.Edit.TheVariants.{Offset, Change}
@@ -24,8 +24,8 @@ without_plan = record begun { net = record begun.net { plan = None } }
 abbrev pub trial_without_plan : SessionValue
 trial_without_plan = record without_plan { before = Some begun.net }
 
--- a session, a command and its answer, in which a link is named by its place, from 0: with no trial, in a trial, without
--- a climb plan, and in a trial without one, which is refused as the trial
+-- a session, a command and its answer, in which a link is named by its place, from 0: with no trial, in a trial,
+-- without a climb plan, and in a trial without one, which is refused as the trial
 abbrev pub worked_answers : List (SessionValue × Command × Answer)
 worked_answers =
     (begun, c.Request r.Climb, a.Climb)
@@ -51,7 +51,7 @@ worked_answers =
     ∷ (trial_without_plan, c.Request r.Cert, a.Refused code.OpenTrial)
     ∷ []
 
--- two steps, five places looked at and a last network: what a climb is told by
+-- a climb of two steps and five places looked at
 abbrev pub some_climb : Climb
 some_climb = record {
   steps = record { place = 24; edit = Offset 21 17; index = 530008683 }

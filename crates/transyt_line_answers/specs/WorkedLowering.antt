@@ -1,12 +1,12 @@
--- The first step of a climb, such as is none for one thing alone, and a node whose plan isn't allowed; two steps one after
--- another, the network to which they lead, and such as lead to none.
-use Rattle.std.specs.Prelude.{List, [], ◌∷◌, Some}
-use Rattle.transyt_parts.specs.Made.{new_stage, new_link, new_plan}
+-- The first step of a climb, and steps with another edit or index, which are none; a node whose plan isn't allowed; two
+-- steps, one after another, the network to which they lead, and a step between them with which they lead to none.
+use Rattle.std.specs.Prelude.{List, [], ◌∷◌}
+use Rattle.transyt_parts.specs.Made.{new_stage}
 use Rattle.transyt_parts.specs.Parts.{NodeValue}
 use Rattle.transyt_net.specs.declared.edit.Edit.TheVariants.{Offset, Change}
 use Rattle.transyt_net.specs.Parts.{Network}
 use Rattle.transyt_sweep.specs.Climb.{Step}
-use Rattle.transyt_climb.specs.WorkedTurns.{idle}
+use Rattle.transyt_climb.specs.WorkedTurns.{idle, by_last}
 
 -- the first step of a climb of the three junctions
 abbrev pub first_step : Step
@@ -31,16 +31,7 @@ late_node = record { number = 21; offset = 4; stages = new_stage 2 1 3 ∷ new_s
 abbrev pub late_stage : Network
 late_stage = record idle { nodes = late_node ∷ [] }
 
--- one junction, and a link that runs in its third stage
-abbrev pub by_last : Network
-by_last = record {
-  frame = record { cycle = 60; step_count = 10; sweeps = 1; period = 60; stop_penalty = 100; dispersion = 35 };
-  nodes = record { number = 21; offset = 4; stages = new_stage 2 1 2 ∷ new_stage 5 1 1 ∷ new_stage 9 1 1 ∷ [] } ∷ [];
-  links = new_link 5 21 61 1733 3 2 0 0 (3 ∷ []) ∷ [];
-  plan = Some (new_plan 7 (1 ∷ []));
-}
-
--- two steps on it: by each of them the stage in which the link runs begins a step earlier
+-- two steps on one junction with a link that runs in its third stage: by each of them that stage begins a step earlier
 abbrev pub earlier : Step
 earlier = record { place = 7; edit = Change 21 3 8; index = 1077043 }
 

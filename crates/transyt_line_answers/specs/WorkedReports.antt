@@ -11,8 +11,8 @@ one_link =
     codes "CYCLE 90 15 2 45 37 40" ∷ codes "NODE 21 4" ∷ codes "* the second stage" ∷ codes "STAGE 2 1 3"
     ∷ codes "STAGE 6 2 4" ∷ codes "LINK 5 21 431 1733 3 2 1" ∷ codes "STEPS 7 2" ∷ codes "END" ∷ []
 
--- commands over it: a line with an odd byte, edits that are allowed and edits that aren't, a trial and what may not be done
--- in it, and reports; what stands behind STOP is not answered
+-- commands over it: a line with an odd byte, edits that are allowed and edits that aren't, a trial and commands that it
+-- bars, and reports; a line after STOP is not answered
 abbrev pub commands : List (List ℕ)
 commands =
     codes "queue 5" ∷ [] ∷ codes "OFFSET 21 9" ∷ codes "OFFSET 22 9" ∷ codes "CHANGE 21 2 5" ∷ codes "BACK"
@@ -45,7 +45,7 @@ no_link =
     codes "CYCLE 90 15 2 45 37 40" ∷ codes "NODE 21 4" ∷ codes "STAGE 2 1 3" ∷ codes "STAGE 6 2 4"
     ∷ codes "STEPS 7 2" ∷ codes "END" ∷ []
 
--- a climb over it, a certificate, a change, and what they come to
+-- a climb over it, a certificate, a change, the index and the work after them
 abbrev pub climb_commands : List (List ℕ)
 climb_commands =
     codes "CLIMB" ∷ codes "CERT" ∷ codes "CHANGE 21 2 8" ∷ codes "INDEX" ∷ codes "WORK" ∷ []

@@ -2,8 +2,8 @@
 -- lines were worked out apart.
 use Rattle.std.specs.Prelude.{ℕ, List, [], ◌∷◌, ◌++◌, codes}
 
--- a deck of two junctions with three links, in the order of a deck text, with an offset of the first: each link is fed, the
--- second and the first by one another, and the third gives way to the first
+-- a deck of two junctions with three links, in the order of a deck text, with an offset of the first: each link is fed,
+-- the second and the first by one another, and the third gives way to the first
 abbrev pub two_junctions : List ℕ → List (List ℕ)
 two_junctions offset =
     codes "FORM 2" ∷ codes "CYCLE 90 15 2 45 37 40"
@@ -13,7 +13,7 @@ two_junctions offset =
     ∷ codes "FEED 5 9 88 9" ∷ codes "FEED 9 5 311 23" ∷ codes "FEED 4 9 77 61" ∷ codes "YIELD 4 5 150"
     ∷ codes "STEPS 5 1" ∷ codes "END" ∷ []
 
--- commands over it: a trial with another offset, and what is asked for in it and after it
+-- commands over it: a trial with another offset, and requests in it and after it
 abbrev pub trial_commands : List (List ℕ)
 trial_commands =
     codes "TRIAL" ∷ codes "OFFSET 21 9" ∷ codes "DECK" ∷ codes "PLOT 4" ∷ codes "PROFILE 9" ∷ codes "BACK"

@@ -179,8 +179,8 @@ fn judge_command<L: Ledger>(session: &mut Session, command: Command, steps: &mut
     }
 }
 
-/// Judges a line after END into what is answered to it: edits and the commands of a trial are carried out, all else is
-/// left to be said. It takes no memory.
+/// Judges a line after END into its answer: edits and the commands of a trial are carried out, and the text of the
+/// answer isn't written yet. It takes no memory.
 pub fn judge<L: Ledger>(session: &mut Session, line: &[u8], steps: &mut Steps<L>) -> Answer
     requires room { session.old.work ≤ 2 ^ 62 }
     ensures answer { result ≡ line_answer session.old line.now }

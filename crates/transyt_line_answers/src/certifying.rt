@@ -27,8 +27,8 @@ fn index_of(tried: Tried) -> Option<u128>
     }
 }
 
-/// Writes the line of a place, by what the try of its move found. On Failed some first bytes of it were written. It takes
-/// no memory.
+/// Writes the line of a place, by the try of its move. On Failed some first bytes of it were written. It takes no
+/// memory.
 pub fn say_cert_place<K: Sink>(
     session: &Session,
     place: u32,
@@ -83,8 +83,8 @@ fn certify_place<K: Sink, L: Ledger>(
     say_cert_place(session, place, tried, line, sink)
 }
 
-/// Writes the certificate of the network now, whose work is added. On Failed some first bytes of it were written. It takes
-/// no memory.
+/// Writes the certificate of the network now, whose work is added. On Failed some first bytes of it were written. It
+/// takes no memory.
 pub fn certify_on<K: Sink, L: Ledger>(
     session: &mut Session,
     line: &mut LineBuffer,

@@ -14,7 +14,7 @@ ghost use Rattle.transyt_commands.specs.declared.command.Command.{Command};
 ghost use Rattle.transyt_session.specs.Session.{SessionValue};
 ghost use Rattle.transyt_session.specs.WorkedSessions.{begun, in_trial, kept, taken_back};
 ghost use Rattle.transyt_climb.specs.Way.{IsLocal};
-ghost use Rattle.transyt_climb.specs.WorkedTurns.{idle};
+ghost use Rattle.transyt_climb.specs.WorkedTurns.{idle, by_last};
 ghost use Rattle.transyt_line_answers.specs.declared.answer.Answer.{Answer};
 ghost use Rattle.transyt_line_answers.specs.Commands.{after_answer, answer_text, answer_to, budget_of, climb_text, edit_code};
 ghost use Rattle.transyt_line_answers.specs.Commands.{judged};
@@ -22,7 +22,7 @@ ghost use Rattle.transyt_line_answers.specs.Report.{deck_answering, report, run_
 ghost use Rattle.transyt_line_answers.specs.Steps.{ArePlanned, IsLowering, LeadDown};
 ghost use Rattle.transyt_line_answers.specs.WorkedCommands.{climb_lines, some_climb, worked_answers};
 ghost use Rattle.transyt_line_answers.specs.WorkedLowering.{after_two, earlier, earlier_again, first_step, late_stage, stays};
-ghost use Rattle.transyt_line_answers.specs.WorkedLowering.{by_last, idle_step, wrong_steps};
+ghost use Rattle.transyt_line_answers.specs.WorkedLowering.{idle_step, wrong_steps};
 ghost use Rattle.transyt_line_answers.specs.WorkedReports.{answers, climb_answers, climb_commands, commands, no_link, one_link};
 ghost use Rattle.transyt_line_answers.specs.WorkedReports.{taken_number, text_of, without_end};
 ghost use Rattle.transyt_line_answers.specs.WorkedTrial.{trial_answers, trial_commands, two_junctions};
@@ -37,8 +37,8 @@ pub fn steps_lower()
         → IsLocal (climb net place left).net }
 {}
 
-/// The steps of lines that don't end the run are S times the links of the deck, once its END is accepted, and the work of
-/// the session after them, which WORK prints.
+/// The steps of lines that don't end the run are S times the links of the deck, once its END is accepted, and the work
+/// of the session after them, which WORK prints.
 #[tactic(auto, using(crate::proofs::CostLaws::steps_are))]
 pub fn steps_are_work()
     ensures { (lines : List (List ℕ)) → ending_by deck_answering lines ≡ None
@@ -66,8 +66,8 @@ pub fn worked_trial()
 {}
 
 /// The answers to the worked requests, without a trial, in one and without a climb plan; the text of an answer, in a
-/// trial too, is of the network now; what BACK and KEEP leave of a trial; the codes of an edit's faults, the budget of a
-/// climb, the work of a certificate, and the lines of a climb.
+/// trial too, is of the network now; the session after BACK and after KEEP; the codes of an edit's faults, the budget
+/// of a climb, the work of a certificate, and the lines of a climb.
 #[tactic(auto, using(crate::proofs::WorkedCommands::certified, crate::proofs::WorkedCommands::of_now, crate::proofs::WorkedCommands::climb_told))]
 pub fn worked_commands()
     ensures answers { map (λ row. answer_to row.0 row.1) worked_answers
@@ -86,8 +86,9 @@ pub fn worked_commands()
 
 /// The first move of the three junctions is a step that lowers the index; with another edit or index it is none, and
 /// neither is one that leaves the index as it was.
-/// A node whose second stage begins after the cycle's last step isn't planned. Two steps of the network of one link lead
-/// down to the network after both: not to the one after the first, and to none with a step between them that doesn't lower.
+/// A node whose second stage begins after the cycle's last step isn't planned. Two steps of the network of one link
+/// lead down to the network after both: not to the one after the first, and to none with a step between them that
+/// doesn't lower.
 #[tactic(auto, using(crate::proofs::WorkedLowering::is_lowering, crate::proofs::WorkedLowering::none_is_lowering, crate::proofs::WorkedLowering::not_lower, crate::proofs::WorkedLowering::late, crate::proofs::WorkedLowering::two_lead, crate::proofs::WorkedLowering::other_last, crate::proofs::WorkedLowering::no_step, crate::proofs::WorkedLowering::stays_between))]
 pub fn worked_lowering()
     ensures step { IsLowering three_junctions first_step }

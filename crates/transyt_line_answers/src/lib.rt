@@ -1,9 +1,9 @@
 //! Answers to the lines of a run: those to commands over a session, their texts, and the report of a deck and its
 //! commands as a definition.
 //!
-//! `specs/Commands` has what is answered to a command, its text and the session after it, `specs/Report` the report of an
-//! input as a fold over its lines, `specs/Steps` what a step of a climb keeps to. [`judge`] makes a line into an
-//! [`Answer`]; [`say_text`] and [`certify_on`] write it. A climb is written by `transyt_reporter`, over desks.
+//! `specs/Commands` has the answer to a command, its text and the session after it, `specs/Report` the report of an
+//! input as a fold over its lines, `specs/Steps` the rules that a step of a climb keeps to. [`judge`] makes a line into
+//! an [`Answer`]; [`say_text`] and [`certify_on`] write it. A climb is written by `transyt_reporter`, over desks.
 #![tactic(auto)]
 
 mod answer;

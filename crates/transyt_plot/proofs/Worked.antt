@@ -9,8 +9,9 @@ use Rattle.transyt_plot.specs.WorkedPlots.{three_steps, one_step, open_step}
 pub three_digits_are : map three_digits (117 ∷ 99 ∷ 100 ∷ []) ≡ codes "117" ∷ codes "099" ∷ codes "100" ∷ []
 three_digits_are = refl
 
--- three steps, where most can go; a share is rounded down
-pub three_are : plot_of 8 (558201 ∷ 468920 ∷ 1563415 ∷ []) (2776388 ∷ 2776388 ∷ 0 ∷ []) (2776388 ∷ 2776379 ∷ 0 ∷ []) ≡ three_steps
+-- three steps, where GO is the greatest; a share is rounded down
+pub three_are : plot_of 8 (558201 ∷ 468920 ∷ 1563415 ∷ []) (2776388 ∷ 2776388 ∷ 0 ∷ []) (2776388 ∷ 2776379 ∷ 0 ∷ [])
+    ≡ three_steps
 unfolding field step_line scale_line form_line filled digits
 three_are = refl
 
@@ -19,7 +20,7 @@ pub one_is : plot_of 1 (0 ∷ []) (0 ∷ []) (0 ∷ []) ≡ one_step
 unfolding field step_line scale_line form_line filled digits
 one_is = refl
 
--- a step in which more can go than comes or leaves
+-- a step whose GO is above arrivals and departures
 pub open_is : plot_of 5 (2 ∷ []) (8 ∷ []) (5 ∷ []) ≡ open_step
 unfolding field step_line scale_line form_line filled digits
 open_is = refl

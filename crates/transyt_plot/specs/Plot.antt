@@ -27,7 +27,7 @@ field letter count = map (mark letter count) (range_with_len 0 20)
 abbrev pub three_digits : ℕ → List ℕ
 three_digits i = (48 + i / 100) ∷ (48 + i / 10 % 10) ∷ (48 + i % 10) ∷ []
 
--- the line of a step: the step, what comes, what can go, what leaves
+-- the line of a step: the step, arrivals, GO, departures
 unfoldable pub step_line : ℕ → ℕ → ℕ → ℕ → ℕ → List ℕ
 step_line scale i arrivals go out =
     three_digits i ++ 32 ∷ (field 73 (letters scale arrivals) ++ 124 ∷ (field 71 (letters scale go)

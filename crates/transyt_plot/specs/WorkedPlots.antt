@@ -5,7 +5,7 @@ use Rattle.std.specs.Prelude.{ℕ, List, [], ◌∷◌, ◌++◌, codes, flat_ma
 abbrev pub ended : List (List ℕ) → List ℕ
 ended lines = flat_map (λ line. line ++ 10 ∷ []) lines
 
--- three steps, where most can go; a share is rounded down
+-- three steps, where GO is the greatest; a share is rounded down
 abbrev pub three_steps : List ℕ
 three_steps =
     ended
@@ -23,7 +23,7 @@ one_step =
     ∷ codes "000 ....................|....................|...................."
     ∷ [])
 
--- a step in which more can go than comes or leaves
+-- a step whose GO is above arrivals and departures
 abbrev pub open_step : List ℕ
 open_step =
     ended

@@ -27,7 +27,7 @@ fn mark(letter: u8, count: u128, place: u32) -> u8
     }
 }
 
-/// Puts a field of 20 characters after what the line holds: so many of the letter, and dots after them.
+/// Puts a field of 20 characters at the end of the line: so many of the letter, and dots after them.
 #[tactic(auto, unfolding(crate::specs::Plot::field))]
 fn put_field(letter: u8, count: u128, line: &mut LineBuffer)
     requires { length line.old ≤ 4000 }
@@ -39,7 +39,7 @@ fn put_field(letter: u8, count: u128, line: &mut LineBuffer)
     }
 }
 
-/// Puts a step in three digits after what the line holds.
+/// Puts a step in three digits at the end of the line.
 fn put_step(step: u32, line: &mut LineBuffer)
     requires room { length line.old ≤ 4000 }
     requires step { step < 1000 }
@@ -53,7 +53,7 @@ fn put_step(step: u32, line: &mut LineBuffer)
     line.put(&digits);
 }
 
-/// The line becomes that of a step of three profiles: what comes, what can go and what leaves, as bars.
+/// The line becomes that of a step: arrivals, GO and departures, as bars.
 #[tactic(auto, unfolding(crate::specs::Plot::step_line))]
 pub(crate) fn set_step(scale: u64, step: usize, profiles: &Profiles, line: &mut LineBuffer)
     requires { step < length profiles.now.arrivals.now }

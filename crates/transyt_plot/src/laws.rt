@@ -17,8 +17,8 @@ pub fn worked_plots()
     ensures open { plot_of 5 (2 ∷ []) (8 ∷ []) (5 ∷ []) ≡ open_step }
 {}
 
-/// The plot of a link is that of what comes to it, what can go and what leaves: the link at place 3 of the three
-/// junctions has the number 4.
+/// The plot of a link is that of its arrivals, GO and departures: the link at place 3 of the three junctions has the
+/// number 4.
 #[tactic(auto, using(crate::proofs::WorkedLink::fourth_is))]
 pub fn worked_link()
     ensures { plot_text three_junctions 3 ≡ plot_of 4 (slice_index_or arrivals_of_three 3 [])

@@ -1,4 +1,4 @@
-//! The character plot of a link: what comes, what can go and what leaves, a line for each step.
+//! The character plot of a link: arrivals, GO and departures, a line for each step.
 //!
 //! `specs/Plot` has the text, `plot_text`, over a network: a first line with the greatest value of the link's three
 //! profiles, in millionths of a vehicle, and a line for each step of the cycle, whose three fields are bars of up to 20

@@ -6,7 +6,7 @@ ghost use Rattle.transyt_plot.specs.Plot.{scale_line, step_lines, plot_of, plot_
 use crate::field::set_step;
 use crate::profiles::Profiles;
 use transyt_io::{Failed, LineBuffer, Sink, write_line};
-use transyt_report::{arrivals, go, greatest, number_at, out};
+use transyt_report::{SessionLink, greatest};
 use transyt_session::Session;
 use transyt_text::{Parts, print_form, print_parts};
 
@@ -21,7 +21,8 @@ impl Parts for StepLines<'_> {
     ghost number = { λ self. length self.profiles.now.arrivals.now };
 
     ghost text = { λ self.
-        step_lines self.scale self.profiles.now.arrivals.now self.profiles.now.go.now self.profiles.now.out.now };
+        step_lines self.scale self.profiles.now.arrivals.now self.profiles.now.go.now
+        self.profiles.now.out.now };
 
     fn count(&self) -> usize {
         self.profiles.arrivals.len()
@@ -63,8 +64,8 @@ fn print_plot<K: Sink>(
     ensures { PrintsOn K.written K.faults sink.old sink.new result
         (plot_of number profiles.now.arrivals.now profiles.now.go.now profiles.now.out.now) }
 {
-    let comes = greatest(0, profiles.arrivals);
-    let scale = greatest(greatest(comes, profiles.go), profiles.out);
+    let most = greatest(0, profiles.arrivals);
+    let scale = greatest(greatest(most, profiles.go), profiles.out);
     print_scale(number, scale, line, sink)?;
     print_parts(&StepLines { scale, profiles }, line, sink)
 }
@@ -84,10 +85,14 @@ pub fn plot<K: Sink>(
     ensures { PrintsOn K.written K.faults sink.old sink.new result
         (plot_text session.now.net link) }
 {
-    let profiles = Profiles {
-        arrivals: arrivals(session, link),
-        go: go(session, link),
-        out: out(session, link),
+    let here = SessionLink {
+        session,
+        place: link,
     };
-    print_plot(number_at(session, link), &profiles, line, sink)
+    let profiles = Profiles {
+        arrivals: here.arrivals(),
+        go: here.go(),
+        out: here.out(),
+    };
+    print_plot(here.number(), &profiles, line, sink)
 }

@@ -17,6 +17,7 @@ use Rattle.transyt_report.specs.declared.showing.Report.TheVariants as r
 use Rattle.transyt_report.specs.Texts.{report_text}
 use Rattle.transyt_report.specs.WorkedMeasures.{worked_degrees, worked_delays, worked_stops, worked_worst, sent_of_three}
 use Rattle.transyt_report.specs.WorkedMeasures.{report_of_three}
+use Rattle.transyt_report.proofs.WorkedReports.{lines_by}
 
 -- degrees of saturation
 pub degrees_are : map (λ row. degree_of_saturation row.0.0 row.0.1) worked_degrees ≡ map (λ row. row.1) worked_degrees
@@ -50,13 +51,7 @@ link_by number flow sent arrivals go queue f = record {
   queue = queue;
 }
 
--- the lines of links by these and their figures
-abbrev lines_by : List (Figures → LinkFigures) → List Figures → List ℕ
-lines_by [] fs = []
-lines_by (link ∷ links) [] = []
-lines_by (link ∷ links) (f ∷ fs) = link_figures_line (link f) ++ lines_by links fs
-
--- the three junctions' links, without what their figures give
+-- the three junctions' links, without their figures
 abbrev links_of_three : List (Figures → LinkFigures)
 links_of_three =
     link_by 5 604 311 13599728 14441664 9004625 ∷ link_by 2 97 77 2424996 24734721 943054
@@ -64,10 +59,10 @@ links_of_three =
     ∷ link_by 8 850 173 14183665 13881940 8842101 ∷ link_by 3 877 279 21924990 6672220 5189492
     ∷ link_by 6 94 41 2349969 7372220 1705649 ∷ link_by 11 299 0 6252317 15116670 2953803 ∷ []
 
--- the lines of the links, and then the last
+-- FIGURES of these figures and index
 abbrev told_by : List Figures → ℕ → List ℕ
 told_by fs x =
-    lines_by links_of_three fs
+    lines_by (λ (link : Figures → LinkFigures) (f : Figures). link_figures_line (link f)) links_of_three fs
     ++ total_line (record {
       delay = sum (map (λ (f : Figures). f.uniform + f.random) fs);
       stops = sum (map (λ (f : Figures). f.stops) fs);
@@ -79,7 +74,7 @@ told_is : told_by figures_of_three 556223009 ≡ report_of_three
 unfolding link_figures_line total_line form_line filled digits
 told_is = refl
 
--- the lines are those of what each link comes to
+-- the lines are those of each link's figures
 lines_are : figures_report three_junctions
     ≡ told_by (map (λ l. (evaluated three_junctions l).figures) (range_with_len 0 8)) (index three_junctions)
 unfolding sum_back greatest smoothed seen out_of evaluated

@@ -21,21 +21,21 @@ use Rattle.transyt_report.proofs.Worked.{index_is}
 pub index_of_three : report_text three_junctions 1378 r.Index ≡ codes "INDEX 556223009" ++ 10 ∷ []
 index_of_three = ap index_line index_comes_out ∙ index_is
 
--- the lines of links by their numbers and figures
-abbrev lines_by : List ℕ → List Figures → List ℕ
-lines_by [] fs = []
-lines_by (n ∷ ns) [] = []
-lines_by (n ∷ ns) (f ∷ fs) = figures_line n f ++ lines_by ns fs
+-- the lines of links, each with its figures
+abbrev pub lines_by : {A : Type 0} (line : A → Figures → List ℕ) → List A → List Figures → List ℕ
+lines_by line [] fs = []
+lines_by line (link ∷ links) [] = []
+lines_by line (link ∷ links) (f ∷ fs) = line link f ++ lines_by line links fs
 
--- the lines of the links, and then the last
+-- LINKS of these figures and index
 abbrev told_by : List Figures → ℕ → List ℕ
-told_by fs x = lines_by (5 ∷ 2 ∷ 9 ∷ 4 ∷ 8 ∷ 3 ∷ 6 ∷ 11 ∷ []) fs ++ index_line x
+told_by fs x = lines_by figures_line (5 ∷ 2 ∷ 9 ∷ 4 ∷ 8 ∷ 3 ∷ 6 ∷ 11 ∷ []) fs ++ index_line x
 
 links_by : told_by figures_of_three 556223009 ≡ links_of_three
 unfolding figures_line index_line form_line filled digits
 links_by = refl
 
--- the lines are those of what each link comes to
+-- the lines are those of each link's figures
 lines_are : report_text three_junctions 1378 r.Links
     ≡ told_by (map (λ l. (evaluated three_junctions l).figures) (range_with_len 0 8)) (index three_junctions)
 lines_are = refl
@@ -45,7 +45,8 @@ pub links_are : report_text three_junctions 1378 r.Links ≡ links_of_three
 links_are = lines_are ∙ ((λ j. told_by (figures_come_out j) (index_comes_out j)) ∙ links_by)
 
 -- TIMING
-pub timing_is : report_text two_nodes 1378 r.Timing ≡ lines_of_three ++ (lines_of_two ++ (codes "END TIMING" ++ 10 ∷ []))
+pub timing_is : report_text two_nodes 1378 r.Timing
+    ≡ lines_of_three ++ (lines_of_two ++ (codes "END TIMING" ++ 10 ∷ []))
 unfolding node_line stage_line timing_end form_line filled digits
 timing_is = refl
 

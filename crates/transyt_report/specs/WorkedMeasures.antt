@@ -1,10 +1,10 @@
--- Figures in the units of an engineer that were worked out apart, and what they are of. No number of them is neutral.
+-- Figures in the units of an engineer that were worked out apart, with their links. No number of them is neutral.
 use Rattle.std.specs.Prelude.{ℕ, List, [], ◌∷◌, codes}
 use Rattle.transyt_report.specs.declared.measures.LinkFigures.{LinkFigures}
 use Rattle.transyt_report.specs.WorkedTexts.{ended}
 
--- arrivals and GO of a cycle, with the degree of saturation: below and above 1,000, without arrivals, without GO, and at
--- the greatest degree that is written
+-- arrivals and GO of a cycle, with the degree of saturation: below and above 1,000, without arrivals, without GO, and
+-- at the greatest degree that is written
 abbrev pub worked_degrees : List ((ℕ × ℕ) × ℕ)
 worked_degrees =
     ((13599728, 14441664), 941) ∷ ((21924990, 6672220), 3286)

@@ -1,4 +1,4 @@
--- Texts that were worked out apart, and what they are of. No number of them is neutral.
+-- Texts that were worked out apart, with their nodes and links. No number of them is neutral.
 use Rattle.std.specs.Prelude.{ℕ, List, [], ◌∷◌, ◌++◌, codes, flat_map}
 use Rattle.transyt_delay.specs.declared.figures.Figures.{Figures}
 use Rattle.transyt_parts.specs.Parts.{NodeValue}

@@ -3,14 +3,13 @@ ghost use Rattle.std.specs.Prelude.{◌≡◌, ◌≤◌, ◌<◌, ◌+◌, ◌+
 ghost use Rattle.transyt_text.specs.Prints.{PrintsOn};
 ghost use Rattle.transyt_report.specs.Chart.{step_mark, cycle_marks, chart_line, chart_line_at, chart_end, chart_text};
 
-use crate::measures::number_at;
-use crate::profiles::{go, queue};
+use crate::session_link::SessionLink;
 use transyt_io::{Failed, LineBuffer, Sink, write_line};
 use transyt_session::Session;
 use transyt_text::{Parts, print_form, print_parts, put_form};
 
-/// The character of a step, by its GO and the queue at its end: a queue that goes, a green without a queue, a queue that
-/// stands, or neither.
+/// The character of a step, by its GO and the queue at its end: a queue that goes, a green without a queue, a queue
+/// that stands, or neither.
 fn step_mark(go: u64, queue: u64) -> u8
     ensures { result ≡ step_mark go queue }
 {
@@ -22,7 +21,7 @@ fn step_mark(go: u64, queue: u64) -> u8
     }
 }
 
-/// Puts the characters of a cycle after what the line holds.
+/// Puts the characters of a cycle at the end of the line.
 fn put_cycle(go: &[u64], queue: &[u64], line: &mut LineBuffer)
     requires room { length line.old ≤ 1000 }
     requires few { length go.now ≤ 120 }
@@ -88,10 +87,9 @@ impl Parts for ChartLines<'_> {
         line: &mut LineBuffer,
         sink: &mut K,
     ) -> Result<(), Failed> {
-        let number = number_at(self.session, place);
-        let go = go(self.session, place);
-        let queue = queue(self.session, place);
-        print_cycle(number, go, queue, line, sink)
+        let session = self.session;
+        let link = SessionLink { session, place };
+        print_cycle(link.number(), link.go(), link.queue(), line, sink)
     }
 }
 

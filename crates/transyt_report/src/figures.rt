@@ -5,6 +5,7 @@ ghost use Rattle.transyt_report.specs.Measures.{network_figures, link_figures_li
 ghost use Rattle.transyt_report.specs.Measures.{figures_report};
 
 use crate::measures::{LinkFigures, link_figures};
+use crate::session_link::SessionLink;
 use crate::totals::{NetworkFigures, network_figures};
 use transyt_io::{Failed, LineBuffer, Sink};
 use transyt_session::Session;
@@ -54,7 +55,9 @@ impl Parts for FiguresLines<'_> {
         line: &mut LineBuffer,
         sink: &mut K,
     ) -> Result<(), Failed> {
-        print_link_figures(link_figures(self.session, place), line, sink)
+        let session = self.session;
+        let link = SessionLink { session, place };
+        print_link_figures(link_figures(&link), line, sink)
     }
 }
 

@@ -49,8 +49,8 @@ pub fn worked_reports()
         × (IsOfPlace three_junctions (Report.Queue 8) → ⊥) }
 {}
 
-/// Figures in the units of an engineer come out as they are written beside the definitions: the formulas in each of their
-/// cases, the first of the worst links, the flows sent on by the links of the three junctions, and FIGURES of them.
+/// Figures in the units of an engineer come out as they are written beside the definitions: the formulas in each of
+/// their cases, the first of the worst links, the flows sent on by the links of the three junctions, and FIGURES of them.
 #[tactic(auto, using(crate::proofs::WorkedMeasures::degrees_are, crate::proofs::WorkedMeasures::delays_are, crate::proofs::WorkedMeasures::stops_are, crate::proofs::WorkedMeasures::worst_are, crate::proofs::WorkedMeasures::sent_are, crate::proofs::WorkedMeasures::report_is))]
 pub fn worked_measures()
     ensures degrees { map (λ row. degree_of_saturation row.0.0 row.0.1) worked_degrees

@@ -4,7 +4,7 @@
 //! `specs/Texts` has the text of each report over the network and the work so far, `report_text net work what`, and
 //! the lines of a climb; those of a certificate are of `transyt_cert`. [`show`] writes a report of a
 //! session, and says so by `Prints` of `transyt_text`. The figures of FIGURES are values too, by `specs/Measures`:
-//! [`link_figures`] and [`network_figures`]. All texts are this project's own.
+//! [`link_figures`] of a [`SessionLink`] and [`network_figures`] of a session. All texts are this project's own.
 #![tactic(auto)]
 
 mod charting;
@@ -12,14 +12,14 @@ mod figures;
 mod laws;
 mod measures;
 mod moves;
-mod profiles;
+mod session_link;
 mod showing;
 mod timing;
 mod totals;
 
 pub use laws::{worked_charts, worked_measures, worked_reports, worked_texts};
-pub use measures::{LinkFigures, greatest, link_figures, number_at};
+pub use measures::{LinkFigures, greatest, link_figures};
 pub use moves::{cert_line, end_line, move_line, took_line};
-pub use profiles::{arrivals, go, out, queue};
+pub use session_link::SessionLink;
 pub use showing::{Report, show};
 pub use totals::{NetworkFigures, network_figures};

@@ -1,14 +1,12 @@
 //! The figures of a link in the units of an engineer.
 ghost use Rattle.std.specs.Prelude.{◌≡◌, ◌<◌, ◌≤◌, ◌*◌, ◌^◌, length, sum};
 ghost use Rattle.transyt_net.specs.Parts.{link_of};
-ghost use Rattle.transyt_sweep.specs.Sweeps.{evaluated};
 ghost use Rattle.transyt_report.specs.Measures.{greatest, feed_flow, flow_from, flow_sent, degree_of_saturation, mean_delay};
 ghost use Rattle.transyt_report.specs.Measures.{part_stopped, all_arrivals, all_go, saturation_at, waiting_at, stops_at};
 ghost use Rattle.transyt_report.specs.Measures.{link_figures};
 
-use crate::profiles::{arrivals, go, queue};
+use crate::session_link::SessionLink;
 use transyt_net::{Feed, Net};
-use transyt_session::Session;
 
 /// The figures of a link in the units of an engineer. Each is rounded down.
 #[derive(Clone, Copy, Debug, PartialEq, Eq)]
@@ -29,16 +27,6 @@ pub struct LinkFigures {
     pub stopped: u128,
     /// The greatest queue at the end of a step, in millionths of a vehicle.
     pub queue: u64,
-}
-
-/// The card number of the link at a place.
-pub fn number_at(session: &Session, link: usize) -> u32
-    requires { link < length session.now.net.links }
-    ensures { result ≡ (link_of session.now.net link).number }
-{
-    let net = session.net();
-    let link = &net.links()[link];
-    link.number
 }
 
 /// The greatest of a number and these values.
@@ -141,68 +129,62 @@ fn part_stopped(cycle: u32, stops: u64, arrivals: u128) -> u128
     }
 }
 
-/// The arrivals of a cycle at the link at a place.
-fn all_arrivals(session: &Session, link: usize) -> u128
-    requires { link < length session.now.net.links }
-    ensures value { result ≡ all_arrivals session.now.net link }
+/// The arrivals of a cycle at a link.
+fn all_arrivals(link: &SessionLink) -> u128
+    ensures value { result ≡ all_arrivals link.now.session.now.net link.now.place }
     ensures small { result < 2 ^ 71 }
 {
-    total(arrivals(session, link))
+    total(link.arrivals())
 }
 
-/// The GO of a cycle of the link at a place.
-fn all_go(session: &Session, link: usize) -> u128
-    requires { link < length session.now.net.links }
-    ensures value { result ≡ all_go session.now.net link }
+/// The GO of a cycle of a link.
+fn all_go(link: &SessionLink) -> u128
+    ensures value { result ≡ all_go link.now.session.now.net link.now.place }
     ensures small { result < 2 ^ 71 }
 {
-    total(go(session, link))
+    total(link.go())
 }
 
-/// The degree of saturation of the link at a place.
-pub(crate) fn saturation_at(session: &Session, link: usize) -> u32
-    requires { link < length session.now.net.links }
-    ensures { result ≡ saturation_at session.now.net link }
+/// The degree of saturation of a link.
+pub(crate) fn saturation_at(link: &SessionLink) -> u32
+    ensures { result ≡ saturation_at link.now.session.now.net link.now.place }
 {
-    degree_of_saturation(all_arrivals(session, link), all_go(session, link))
+    degree_of_saturation(all_arrivals(link), all_go(link))
 }
 
-/// The mean number of vehicles that wait at the link at a place, in millionths.
-pub(crate) fn waiting_at(session: &Session, link: usize) -> u128
-    requires { link < length session.now.net.links }
-    ensures value { result ≡ waiting_at session.now.net link }
+/// The mean number of vehicles that wait at a link, in millionths.
+pub(crate) fn waiting_at(link: &SessionLink) -> u128
+    ensures value { result ≡ waiting_at link.now.session.now.net link.now.place }
     ensures small { result < 2 ^ 65 }
 {
-    let figures = session.figures(link);
+    let figures = link.session.figures(link.place);
     u128::from(figures.uniform) + u128::from(figures.random)
 }
 
-/// The stops in a second at the link at a place, in millionths of a vehicle.
-pub(crate) fn stops_at(session: &Session, link: usize) -> u64
-    requires { link < length session.now.net.links }
-    ensures value { result ≡ stops_at session.now.net link }
+/// The stops in a second at a link, in millionths of a vehicle.
+pub(crate) fn stops_at(link: &SessionLink) -> u64
+    ensures value { result ≡ stops_at link.now.session.now.net link.now.place }
     ensures small { result < 2 ^ 64 }
 {
-    let figures = session.figures(link);
+    let figures = link.session.figures(link.place);
     figures.stops
 }
 
-/// The figures of the link at a place, in card order from 0.
-pub fn link_figures(session: &Session, link: usize) -> LinkFigures
-    requires { link < length session.now.net.links }
-    ensures { result ≡ link_figures session.now.net link }
+/// The figures of a link.
+pub fn link_figures(link: &SessionLink) -> LinkFigures
+    ensures { result ≡ link_figures link.now.session.now.net link.now.place }
 {
-    let net = session.net();
-    let number = number_at(session, link);
+    let net = link.session.net();
+    let number = link.number();
     let frame = net.frame();
-    let arrivals = all_arrivals(session, link);
+    let arrivals = all_arrivals(link);
     LinkFigures {
         link: number,
-        flow: net.total_flow(link),
+        flow: net.total_flow(link.place),
         sent: flow_sent(net, number),
-        saturation: saturation_at(session, link),
-        delay: mean_delay(frame.cycle, waiting_at(session, link), arrivals),
-        stopped: part_stopped(frame.cycle, stops_at(session, link), arrivals),
-        queue: greatest(0, queue(session, link)),
+        saturation: saturation_at(link),
+        delay: mean_delay(frame.cycle, waiting_at(link), arrivals),
+        stopped: part_stopped(frame.cycle, stops_at(link), arrivals),
+        queue: greatest(0, link.queue()),
     }
 }

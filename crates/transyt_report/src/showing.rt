@@ -7,8 +7,7 @@ ghost use Rattle.transyt_report.specs.Texts.{profile_text, work_line, report_tex
 
 use crate::charting::print_chart;
 use crate::figures::print_report;
-use crate::measures::number_at;
-use crate::profiles::{arrivals, go, out, queue};
+use crate::session_link::SessionLink;
 use crate::timing::print_timing;
 use transyt_io::{Failed, LineBuffer, Sink};
 use transyt_session::Session;
@@ -71,9 +70,11 @@ impl Parts for LinkLines<'_> {
         line: &mut LineBuffer,
         sink: &mut K,
     ) -> Result<(), Failed> {
-        let figures = self.session.figures(place);
+        let session = self.session;
+        let link = SessionLink { session, place };
+        let figures = session.figures(place);
         let numbers = [
-            u128::from(number_at(self.session, place)),
+            u128::from(link.number()),
             u128::from(figures.uniform),
             u128::from(figures.random),
             u128::from(figures.stops),
@@ -96,82 +97,63 @@ fn print_links<K: Sink>(
     print_index(session, line, sink)
 }
 
-/// Writes what comes to the link at a place.
+/// Writes the arrivals of a link.
 #[tactic(auto, unfolding(crate::specs::Texts::in_line))]
-fn print_in<K: Sink>(
-    session: &Session,
-    link: usize,
-    line: &mut LineBuffer,
-    sink: &mut K,
-) -> Result<(), Failed>
-    requires { link < length session.now.net.links }
-    ensures { PrintsOn K.written K.faults sink.old sink.new result (in_line session.now.net link) }
+fn print_in<K: Sink>(link: &SessionLink, line: &mut LineBuffer, sink: &mut K) -> Result<(), Failed>
+    ensures { PrintsOn K.written K.faults sink.old sink.new result
+        (in_line link.now.session.now.net link.now.place) }
 {
-    let number = [u128::from(number_at(session, link))];
-    print_values(b"IN #", &number, arrivals(session, link), line, sink)
+    let number = [u128::from(link.number())];
+    print_values(b"IN #", &number, link.arrivals(), line, sink)
 }
 
-/// Writes what can go of the link at a place.
+/// Writes the GO of a link.
 #[tactic(auto, unfolding(crate::specs::Texts::go_line))]
-fn print_go<K: Sink>(
-    session: &Session,
-    link: usize,
-    line: &mut LineBuffer,
-    sink: &mut K,
-) -> Result<(), Failed>
-    requires { link < length session.now.net.links }
-    ensures { PrintsOn K.written K.faults sink.old sink.new result (go_line session.now.net link) }
+fn print_go<K: Sink>(link: &SessionLink, line: &mut LineBuffer, sink: &mut K) -> Result<(), Failed>
+    ensures { PrintsOn K.written K.faults sink.old sink.new result
+        (go_line link.now.session.now.net link.now.place) }
 {
-    let number = [u128::from(number_at(session, link))];
-    print_values(b"GO #", &number, go(session, link), line, sink)
+    let number = [u128::from(link.number())];
+    print_values(b"GO #", &number, link.go(), line, sink)
 }
 
-/// Writes what leaves the link at a place.
+/// Writes the departures of a link.
 #[tactic(auto, unfolding(crate::specs::Texts::out_line))]
-fn print_out<K: Sink>(
-    session: &Session,
-    link: usize,
-    line: &mut LineBuffer,
-    sink: &mut K,
-) -> Result<(), Failed>
-    requires { link < length session.now.net.links }
-    ensures { PrintsOn K.written K.faults sink.old sink.new result (out_line session.now.net link) }
+fn print_out<K: Sink>(link: &SessionLink, line: &mut LineBuffer, sink: &mut K) -> Result<(), Failed>
+    ensures { PrintsOn K.written K.faults sink.old sink.new result
+        (out_line link.now.session.now.net link.now.place) }
 {
-    let number = [u128::from(number_at(session, link))];
-    print_values(b"OUT #", &number, out(session, link), line, sink)
+    let number = [u128::from(link.number())];
+    print_values(b"OUT #", &number, link.out(), line, sink)
 }
 
 /// Writes QUEUE.
 #[tactic(auto, unfolding(crate::specs::Texts::queue_line))]
 fn print_queue<K: Sink>(
-    session: &Session,
-    link: usize,
+    link: &SessionLink,
     line: &mut LineBuffer,
     sink: &mut K,
 ) -> Result<(), Failed>
-    requires { link < length session.now.net.links }
     ensures { PrintsOn K.written K.faults sink.old sink.new result
-        (queue_line session.now.net link) }
+        (queue_line link.now.session.now.net link.now.place) }
 {
-    let number = [u128::from(number_at(session, link))];
-    print_values(b"QUEUE #", &number, queue(session, link), line, sink)
+    let number = [u128::from(link.number())];
+    print_values(b"QUEUE #", &number, link.queue(), line, sink)
 }
 
 /// Writes PROFILE.
 #[tactic(auto, using(transyt_text::proofs::PrintLaws::prints_both, transyt_text::proofs::PrintLaws::prints_front))]
 fn print_profile<K: Sink>(
-    session: &Session,
-    link: usize,
+    link: &SessionLink,
     line: &mut LineBuffer,
     sink: &mut K,
 ) -> Result<(), Failed>
-    requires { link < length session.now.net.links }
     ensures { PrintsOn K.written K.faults sink.old sink.new result
-        (profile_text session.now.net link) }
+        (profile_text link.now.session.now.net link.now.place) }
 {
-    print_in(session, link, line, sink)?;
-    print_go(session, link, line, sink)?;
-    print_out(session, link, line, sink)
+    print_in(link, line, sink)?;
+    print_go(link, line, sink)?;
+    print_out(link, line, sink)
 }
 
 /// Writes WORK.
@@ -182,7 +164,7 @@ fn print_work<K: Sink>(session: &Session, line: &mut LineBuffer, sink: &mut K) -
     print_form(b"WORK #", &[u128::from(session.work())], line, sink)
 }
 
-/// Writes TIMING of what is session.
+/// Writes TIMING.
 fn print_plans<K: Sink>(
     session: &Session,
     line: &mut LineBuffer,
@@ -213,8 +195,12 @@ pub fn show<K: Sink>(
         Report::Links => print_links(session, line, sink),
         Report::Figures => print_report(session, line, sink),
         Report::Timing => print_plans(session, line, sink),
-        Report::Profile { link } => print_profile(session, link, line, sink),
-        Report::Queue { link } => print_queue(session, link, line, sink),
+        Report::Profile { link: place } => print_profile(
+            &SessionLink { session, place },
+            line,
+            sink,
+        ),
+        Report::Queue { link: place } => print_queue(&SessionLink { session, place }, line, sink),
         Report::Chart => print_chart(session, line, sink),
         Report::Work => print_work(session, line, sink),
     }

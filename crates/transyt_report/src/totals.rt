@@ -3,7 +3,8 @@ ghost use Rattle.std.specs.Prelude.{◌≡◌, ◌+◌, ◌<◌, length};
 ghost use Rattle.std.specs.List.{IsFirstMaxByKey};
 ghost use Rattle.transyt_report.specs.Measures.{degree, all_link_figures, worst_of, network_figures};
 
-use crate::measures::{number_at, saturation_at, stops_at, waiting_at};
+use crate::measures::{saturation_at, stops_at, waiting_at};
+use crate::session_link::SessionLink;
 use transyt_session::Session;
 
 /// The figures of a network in the units of an engineer.
@@ -27,7 +28,15 @@ fn worse_of(session: &Session, worst: usize, link: usize) -> usize
     requires worst { IsFirstMaxByKey degree (all_link_figures session.now.net) link worst }
     ensures { IsFirstMaxByKey degree (all_link_figures session.now.net) (link + 1) result }
 {
-    if saturation_at(session, link) > saturation_at(session, worst) {
+    let here = SessionLink {
+        session,
+        place: link,
+    };
+    let other = SessionLink {
+        session,
+        place: worst,
+    };
+    if saturation_at(&here) > saturation_at(&other) {
         link
     } else {
         worst
@@ -57,7 +66,8 @@ fn worst(session: &Session) -> u32
     if net.links().is_empty() {
         return 0;
     }
-    number_at(session, worst_place(session))
+    let place = worst_place(session);
+    SessionLink { session, place }.number()
 }
 
 /// The figures of the network now.
@@ -67,9 +77,10 @@ pub fn network_figures(session: &Session) -> NetworkFigures
     let net = session.net();
     let mut delay: u128 = 0;
     let mut stops: u128 = 0;
-    for link in 0..net.links().len() {
-        delay += waiting_at(session, link);
-        stops += u128::from(stops_at(session, link));
+    for place in 0..net.links().len() {
+        let link = SessionLink { session, place };
+        delay += waiting_at(&link);
+        stops += u128::from(stops_at(&link));
     }
     NetworkFigures {
         delay,

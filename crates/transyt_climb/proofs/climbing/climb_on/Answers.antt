@@ -8,7 +8,8 @@ use Rattle.transyt_climb.proofs.climbing.climb_on.Goals as goal
 -- no step is counted yet
 pub loop-turn-init : goal.loop-turn-init
 loop-turn-init g c = record {
-  counted = counted_start c.args.climber.now.budget c.args.session.now c.args.climber.now c.requires.start c.requires.closed;
+  counted = counted_start c.args.climber.now.budget c.args.session.now c.args.climber.now c.requires.start
+      c.requires.closed;
   steps = refl;
 }
 
@@ -40,7 +41,8 @@ returns-then-is_end g c =
     let so = c.loop-turn.invariant in
     let after : Machine = machine c.turn-turn.new.self c.turn-turn.new.session in
     let told = c.turn-turn.ensures in
-    let end = counted_over so.counted after 1 c.turn-turn.result (round_one _ after c.turn-turn.result told.answer told.state)
+    let turn = c.turn-turn.result in
+    let end = counted_over so.counted after 1 turn (round_one _ after turn told.answer told.state)
     (sym c.is_end.ensures ∙ c.if-is_end.true) in
     record {
       took = end.took_is;

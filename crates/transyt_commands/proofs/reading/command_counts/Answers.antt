@@ -7,11 +7,11 @@ use Rattle.transyt_commands.specs.declared.command.Command.{Command}
 use Rattle.transyt_commands.specs.Commands.{commands}
 use Rattle.transyt_commands.proofs.reading.command_counts.Goals as goal
 
--- the counts of what was found
+-- the counts of a row that was found
 abbrev counts_in : Option ((ℕ × ℕ) × Command) → Option (ℕ × ℕ)
 counts_in found = option_map (λ row. row.0) found
 
--- whatever the numbers are
+-- the numbers don't matter
 counts_with : (numbers : List ℕ) (row : Option (Entry Command))
     → counts_in (with_numbers numbers row) ≡ option_map (λ found. found.counts) row
 counts_with numbers None = refl

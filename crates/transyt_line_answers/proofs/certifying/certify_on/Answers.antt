@@ -20,7 +20,8 @@ pub loop-place-preserved : goal.loop-place-preserved
 loop-place-preserved g c =
     let net = c.args.session.now.net in
     let so = c.loop-place.invariant in
-    let inside : c.loop-place.place < move_count net = omega (arith, c.loop-place-test.true, c.move_count-places.ensures.count, ap move_count c.net.ensures) in
+    let inside : c.loop-place.place < move_count net =
+    omega (arith, c.loop-place-test.true, c.move_count-places.ensures.count, ap move_count c.net.ensures) in
     record {
       printed = place_printed (place_text net) (move_count net) c.loop-place.place _ _ _ inside so.printed
           (prints_same _ _ _ _ _ c.in_ok-certify_place.ensures.prints
@@ -37,12 +38,13 @@ pub returns-in_err-certify_place-clause-prints : goal.returns-in_err-certify_pla
 returns-in_err-certify_place-clause-prints g c =
     let net = c.args.session.now.net in
     let so = c.loop-place.invariant in
-    let inside : c.loop-place.place < move_count net = omega (arith, c.loop-place-test.true, c.move_count-places.ensures.count, ap move_count c.net.ensures) in
+    let inside : c.loop-place.place < move_count net =
+    omega (arith, c.loop-place-test.true, c.move_count-places.ensures.count, ap move_count c.net.ensures) in
     let last = last_text (move_count net) (index net) in
     prints_same _ _ _ _ _
     (breaks_longer _ (flat_map (place_text net) (range_with_len 0 (move_count net))) last c.from_residual.ensures.0
-    (place_broken _ (tt {0}) (place_text net) (move_count net) c.loop-place.place _ _ _ c.from_residual.ensures.0 inside so.printed
-    (prints_same _ _ _ _ _ c.in_err-certify_place.ensures.prints
+    (place_broken _ (tt {0}) (place_text net) (move_count net) c.loop-place.place _ _ _ c.from_residual.ensures.0 inside
+    so.printed (prints_same _ _ _ _ _ c.in_err-certify_place.ensures.prints
     (ap (λ (n : Network). place_text n c.loop-place.place) so.net))))
     (sym (text_by_place net))
 
@@ -51,8 +53,8 @@ pub returns-clause-prints : goal.returns-clause-prints
 returns-clause-prints g c =
     let net = c.args.session.now.net in
     let so = c.loop-place.invariant in
-    let past : move_count net ≤ c.loop-place.place = omega (arith, c.loop-place-test.false, c.move_count-places.ensures.count, ap move_count c.net.ensures) in
     let count = c.move_count-places.ensures.count ∙ ap move_count c.net.ensures in
+    let past : move_count net ≤ c.loop-place.place = omega (arith, c.loop-place-test.false, count) in
     let last = last_text (move_count net) (index net) in
     prints_same _ _ c.say_cert_end.result _ _
     (prints_both c.say_cert_end.result (flat_map (place_text net) (range_with_len 0 (move_count net))) last

@@ -19,5 +19,6 @@ returns g c =
     let found : c.index_of-found.result ≡ tried_at net place =
     c.index_of-found.ensures ∙ ap index_found c.requires.tried ∙ found_at_place net place in
     let told = c.write_line.ensures in
-    prints_same _ _ c.write_line.result c.move_line.new.line _ (record { ok = told.ok; err = told.err; cause = told.cause })
+    prints_same _ _ c.write_line.result c.move_line.new.line _
+    (record { ok = told.ok; err = told.err; cause = told.cause })
     (c.move_line.ensures.text ∙ (λ i. move_text place (edit i) (found i)))

@@ -1,4 +1,4 @@
--- The characters of the places passed stand behind what the line held.
+-- The characters of the places passed stand at the end of the line.
 use Rattle.std.proofs.Common.{◌≡◌, ◌+◌, ◌++◌, length, map}
 use Rattle.std.specs.List.{range_with_len}
 use Rattle.transyt_plot.specs.Plot.{mark}

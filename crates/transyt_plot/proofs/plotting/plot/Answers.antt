@@ -6,4 +6,4 @@ use Rattle.transyt_plot.proofs.plotting.plot.Goals as goal
 pub returns : goal.returns
 returns g c =
     prints_same _ _ _ _ _ c.print_plot.ensures
-    (λ j. plot_of (c.number_at.ensures j) (c.arrivals.ensures.value j) (c.go.ensures.value j) (c.out.ensures.value j))
+    (λ j. plot_of (c.number.ensures j) (c.arrivals.ensures.value j) (c.go.ensures.value j) (c.out.ensures.value j))

@@ -13,7 +13,7 @@ returns g c =
     let out = c.args.profiles.now.out.now in
     let scale =
     c.greatest-scale.ensures
-    ∙ ap (λ (s : ℕ). greatest s out) (c.greatest.ensures ∙ ap (λ (s : ℕ). greatest s go) c.greatest-comes.ensures) in
+    ∙ ap (λ (s : ℕ). greatest s out) (c.greatest.ensures ∙ ap (λ (s : ℕ). greatest s go) c.greatest-most.ensures) in
     prints_same _ _ _ _ _ (prints_both _ _ _ c.in_ok-print_scale.ensures c.print_parts.ensures)
     (λ j. scale_line c.args.number (scale j)
     ++ flat_map (step_lines (scale j) arrivals go out) (range_with_len 0 (length arrivals)))

@@ -5,14 +5,14 @@ use Rattle.transyt_report.specs.Measures.{stops_at, waiting_at}
 use Rattle.transyt_report.proofs.totals.network_figures.Goals as goal
 
 -- the sums have one link more
-pub loop-link-preserved : goal.loop-link-preserved
-loop-link-preserved c =
+pub loop-place-preserved : goal.loop-place-preserved
+loop-place-preserved c =
     let net = c.args.session.now.net in
-    let l : ℕ = c.loop-link.link in
+    let l : ℕ = c.loop-place.place in
     let same : 0 + l ≡ l = omega arith in
     let delays = sum_by-map-range_with_len_more (λ x. x) (waiting_at net) 0 l l same in
     let stops = sum_by-map-range_with_len_more (λ x. x) (stops_at net) 0 l l same in
-    let so = c.loop-link.invariant in
+    let so = c.loop-place.invariant in
     record {
       delay = omega (arith, delays, so.delay, c.waiting_at-delay.ensures.value);
       few_delays = omega (arith, so.few_delays, c.waiting_at-delay.ensures.small);

@@ -5,10 +5,10 @@ use Rattle.transyt_report.specs.Measures.{stops_at, waiting_at}
 use Rattle.transyt_report.proofs.totals.network_figures.Given as goal
 
 -- the sums over the links so far, and their bounds
-abbrev pub invariant-loop-link : goal.invariant-loop-link
-invariant-loop-link l = record {
-  delay : l.delay ≡ sum (map (waiting_at l.session.net) (range_with_len 0 l.link));
-  few_delays : l.delay ≤ l.link * 2 ^ 65;
-  stops : l.stops ≡ sum (map (stops_at l.session.net) (range_with_len 0 l.link));
-  few_stops : l.stops ≤ l.link * 2 ^ 64;
+abbrev pub invariant-loop-place : goal.invariant-loop-place
+invariant-loop-place l = record {
+  delay : l.delay ≡ sum (map (waiting_at l.session.net) (range_with_len 0 l.place));
+  few_delays : l.delay ≤ l.place * 2 ^ 65;
+  stops : l.stops ≡ sum (map (stops_at l.session.net) (range_with_len 0 l.place));
+  few_stops : l.stops ≤ l.place * 2 ^ 64;
 }
