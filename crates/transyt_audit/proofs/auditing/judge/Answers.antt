@@ -1,5 +1,5 @@
 -- Each line leaves as much to tell as was left before it.
-use Rattle.std.proofs.Common.{◌≡◌, ℕ, ◌+◌, sym, ap, ◌∙◌, arith}
+use Rattle.std.proofs.Common.{◌≡◌, ◌+◌, sym, ap, ◌∙◌, arith}
 use Rattle.transyt_io.specs.Lines.{lines}
 use Rattle.transyt_audit.specs.Findings.{finding_at, steps_from}
 use Rattle.transyt_audit.proofs.Onward.{onward, onward_start, onward_skipped, onward_end}
