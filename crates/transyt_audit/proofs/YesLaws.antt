@@ -2,8 +2,8 @@
 use Rattle.std.proofs.Common.{◌≡◌, ℕ, zero, suc, ◌+◌, ◌<◌, ◌≤◌, true, false, nat_le, nat_lt, List}
 use Rattle.std.proofs.Common.{[], ◌∷◌, map, length, get_or}
 use Rattle.std.proofs.Common.{Option, Some, None, refl, sym, ap, ◌∙◌, arith, cond, inl, inr}
-use Rattle.std.specs.Str.{bytes_eq}
-use Rattle.std.proofs.lemmas.Slice.Eq.{bytes_eq-Decides}
+use Rattle.std.specs.Bool.{Decides}
+use Rattle.std.proofs.lemmas.Slice.Eq.{bytes_eq-Decides, slice_eq-Decides}
 use Rattle.std.proofs.lemmas.Bool.{cases_Bool, leb-true, and_parts, and_from}
 use Rattle.std.proofs.lemmas.List.{length-map}
 use Rattle.std.proofs.lemmas.List.Elements.{All-nil, All-cons, All-head, All-tail}
@@ -39,13 +39,9 @@ planned_yes : (b : Bool) (line : ℕ) (v : Verdict) (places x : ℕ) → (if b t
 planned_yes true line v places x h = (refl, h)
 planned_yes false line v places x h = absurd (cc)
 
--- the same words are equal
-same_equal : (us vs : List (List ℕ)) → same_words us vs ≡ true → us ≡ vs
-same_equal [] [] h = refl
-same_equal (u ∷ us) (v ∷ vs) h =
-    let both = and_parts (bytes_eq u v) (same_words us vs) h in
-    λ j. (bytes_eq-Decides u v).0 both.0 j ∷ same_equal us vs both.1 j
-same_equal us vs h = absurd (cc)
+-- words are the same exactly where they are equal
+same_equal : (us vs : List (List ℕ)) → Decides (same_words us vs) (us ≡ vs)
+same_equal us vs = slice_eq-Decides bytes_eq-Decides us vs (same_words us vs) refl
 
 -- where no given line is wrong and no true one missing, they agree line by line, and none is too long
 all_right : (gs : List Given) (truths : List (List ℕ)) (next : ℕ) → first_wrong gs truths ≡ None
@@ -64,7 +60,7 @@ all_right (g ∷ gs) (t ∷ ts) next right there =
           let few : length g.line ≤ 4096 = leb-true (length g.line) 4096 same.0 in
           let shorter : nat_lt (length (g ∷ gs)) (length (t ∷ ts)) ≡ nat_lt (length gs) (length ts) = grind (arith, nat_tests) in
           let rest = all_right gs ts next (rw is at right) (rw shorter at there) in
-          ((λ j. same_equal (words g.line) (words t) same.1 j ∷ rest.0 j), All-cons IsShort g gs few rest.1)
+          ((λ j. (same_equal (words g.line) (words t)).0 same.1 j ∷ rest.0 j), All-cons IsShort g gs few rest.1)
     ]
 
 -- then there are as many given lines as true ones
@@ -115,17 +111,12 @@ yes_certifies net table line places x is =
       present = cc;
     }
 
--- words are the same as themselves
-same_self : (us : List (List ℕ)) → same_words us us ≡ true
-same_self [] = refl
-same_self (u ∷ us) = and_from (bytes_eq u u) (same_words us us) ((bytes_eq-Decides u u).1 refl) (same_self us)
-
 -- a short line with the words of the true one agrees with it
 agrees_from : (line truth : List ℕ) → length line ≤ 4096 → words line ≡ words truth → agrees line truth ≡ true
 agrees_from line truth few same =
     let short : nat_le (length line) 4096 ≡ true = grind (arith, nat_tests) in
     and_from (nat_le (length line) 4096) (same_words (words line) (words truth)) short
-    (ap (same_words (words line)) (sym same) ∙ same_self (words line))
+    ((same_equal (words line) (words truth)).1 same)
 
 -- lines that have the true words are not wrong
 right_from : (gs : List Given) (truths : List (List ℕ)) → All IsShort gs

@@ -1,6 +1,7 @@
--- The finding on a given line, and the verdict on lines of which none was wrong. No public clause cites this.
-use Rattle.std.specs.Prelude.{ℕ, Bool, true, false, ◌&&◌, nat_le, nat_lt, List, [], Option, Some, None}
-use Rattle.std.specs.Prelude.{slice_index_or, if◌then◌else◌}
+-- The finding on a given line, the verdict on lines of which none was wrong, and the steps of the moves to come.
+-- No public clause cites this.
+use Rattle.std.specs.Prelude.{ℕ, ◌-◌, ◌*◌, Bool, true, false, ◌&&◌, nat_le, nat_lt, List, [], length}
+use Rattle.std.specs.Prelude.{Option, Some, None, slice_index_or, if◌then◌else◌}
 use Rattle.transyt_syntax.specs.declared.code.Code.TheVariants as code
 use Rattle.transyt_net.specs.Parts.{Network}
 use Rattle.transyt_moves.specs.Moves.{move_count}
@@ -29,3 +30,7 @@ abbrev pub concluded : Network → ℕ → ℕ → Option ℕ → Verdict
 concluded net given next lower =
     no_or (if nat_le given (move_count net) then Some next else None) code.OtherLine
     (no_or lower code.LowerIndex (Yes (move_count net) (index net)))
+
+-- the steps of the moves from a place on: an evaluation each
+abbrev pub steps_from : Network → ℕ → ℕ
+steps_from net place = net.frame.sweeps * length net.links * (move_count net - place)

@@ -1,6 +1,7 @@
 -- An audit: the lines that are given to it, the verdict on them, and the meaning of a Yes.
 use Rattle.std.specs.Prelude.{ℕ, ◌+◌, Bool, true, false, ◌&&◌, nat_le, nat_lt, List, [], ◌∷◌, length, Option, Some}
 use Rattle.std.specs.Prelude.{None, if◌then◌else◌, bytes_eq, is_some, ◌≡◌, ◌<◌, ◌≤◌, map, All}
+use Rattle.std.specs.Cmp.Lexicographic.{pointwise}
 use Rattle.transyt_io.specs.Lines.{is_skipped, words, lines}
 use Rattle.transyt_sweep.specs.Climb.{is_below, lowers}
 use Rattle.transyt_cert.specs.Certificate.{CertLine, cert_lines, cert_text}
@@ -26,9 +27,7 @@ given_from number (line ∷ more) =
 
 -- whether two lists of words are the same
 abbrev pub same_words : List (List ℕ) → List (List ℕ) → Bool
-same_words [] [] = true
-same_words (u ∷ us) (v ∷ vs) = bytes_eq u v && same_words us vs
-same_words us vs = false
+same_words us vs = pointwise bytes_eq us vs
 
 -- whether a line has the words of a true one; a line longer than 4,096 bytes has not
 abbrev pub agrees : List ℕ → List ℕ → Bool

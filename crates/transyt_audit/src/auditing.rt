@@ -4,6 +4,7 @@ ghost use Rattle.std.specs.Prelude.{◌≡◌, ◌+◌, ◌*◌, ◌≤◌, leng
 ghost use Rattle.transyt_io.specs.Lines.{lines};
 ghost use Rattle.transyt_moves.specs.Moves.{move_count};
 ghost use Rattle.transyt_audit.specs.Verdict.{given_from, judged, verdict};
+ghost use Rattle.transyt_audit.specs.Findings.{steps_from};
 
 use crate::truth::{Finding, Truth};
 use crate::verdict::Verdict;
@@ -55,8 +56,7 @@ fn judge<L: Ledger>(
     ensures verdict { IfOk result
         (λ found. found ≡ judged truth.old (given_from first (lines table.now))
         (first + length (lines table.now))) }
-    ensures steps { steps.new
-        ≤ steps.old + truth.old.frame.sweeps * length truth.old.links * move_count truth.old }
+    ensures steps { steps.new ≤ steps.old + steps_from truth.old 0 }
     ensures more_steps { steps.old ≤ steps.new }
 {
     let mut rest = table;

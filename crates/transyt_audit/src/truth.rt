@@ -7,7 +7,7 @@ ghost use Rattle.transyt_sweep.specs.Sweeps.{index};
 ghost use Rattle.transyt_sweep.specs.Climb.{is_below, lowers, tried_at};
 ghost use Rattle.transyt_cert.specs.Certificate.{cert_texts};
 ghost use Rattle.transyt_audit.specs.Verdict.{agrees};
-ghost use Rattle.transyt_audit.specs.Findings.{finding_of, finding_at, concluded};
+ghost use Rattle.transyt_audit.specs.Findings.{finding_of, finding_at, concluded, steps_from};
 
 use crate::verdict::Verdict;
 use crate::words::agrees;
@@ -93,10 +93,9 @@ impl Truth {
     ) -> Result<Finding, AllocError>
         ensures finding { IfOk result (λ found. found ≡ finding_at self.old place line.now) }
         ensures same { self.new ≡ self.old }
-        // the rest of an evaluation for each place from this one on
-        ensures steps { steps.new + self.old.frame.sweeps * length self.old.links * (move_count self.old - (place + 1))
-            ≤ steps.old + self.old.frame.sweeps * length self.old.links * (move_count self.old -
-            place) }
+        // the steps so far and those of the moves to come are no more than before
+        ensures steps { steps.new + steps_from self.old (place + 1)
+            ≤ steps.old + steps_from self.old place }
         ensures more_steps { steps.old ≤ steps.new }
     {
         if place > self.places {

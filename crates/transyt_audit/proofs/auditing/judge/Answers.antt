@@ -1,8 +1,7 @@
 -- Each line leaves as much to tell as was left before it.
-use Rattle.std.proofs.Common.{◌≡◌, ℕ, ◌+◌, ◌-◌, ◌*◌, length, sym, ap, ◌∙◌, arith}
+use Rattle.std.proofs.Common.{◌≡◌, ◌+◌, sym, ap, ◌∙◌, arith}
 use Rattle.transyt_io.specs.Lines.{lines}
-use Rattle.transyt_moves.specs.Moves.{move_count}
-use Rattle.transyt_audit.specs.Findings.{finding_at}
+use Rattle.transyt_audit.specs.Findings.{finding_at, steps_from}
 use Rattle.transyt_audit.proofs.Onward.{onward, onward_start, onward_skipped, onward_end}
 use Rattle.transyt_audit.proofs.GivenLines.{after_line, onward_line, first_found}
 use Rattle.transyt_audit.proofs.auditing.judge.Goals.{then-not-is_skipped+in_ok-judge, in-Right, in-Lower}
@@ -29,7 +28,6 @@ loop-line-preserved g c =
     let rest = lines c.in-Some.after.now in
     let i = c.loop-line.invariant in
     let before = rw c.in-Some.ensures.line at i.same in
-    let spent = λ (p q : ℕ) (same : p ≡ q). ap (λ (p : ℕ). net.frame.sweeps * length net.links * (move_count net - p)) same in
     elim c.if-not-is_skipped.branch [
       | then-not-is_skipped+in_ok-judge w ↦
           let line = onward_line net place lower number c.in-Some.line.now rest
@@ -48,7 +46,7 @@ loop-line-preserved g c =
             truth = w.truth-is ∙ w.in_ok-judge.ensures.same ∙ i.truth;
             place = omega (arith, w.place-is, i.place);
             number = omega (arith, i.number, c.in-Some.ensures.less);
-            steps = omega (arith, rw i.truth at w.judge.ensures.steps, w.steps-is, i.steps, spent _ _ w.place-is);
+            steps = omega (arith, rw i.truth at w.judge.ensures.steps, w.steps-is, i.steps, ap (steps_from net) w.place-is);
             more_steps = omega (arith, w.steps-is, w.judge.ensures.more_steps, i.more_steps);
           }
       | else-not-is_skipped w ↦ record {
@@ -57,7 +55,7 @@ loop-line-preserved g c =
         truth = w.truth-is ∙ i.truth;
         place = omega (arith, w.place-is, i.place);
         number = omega (arith, i.number, c.in-Some.ensures.less);
-        steps = omega (arith, w.steps-is, i.steps, spent _ _ w.place-is);
+        steps = omega (arith, w.steps-is, i.steps, ap (steps_from net) w.place-is);
         more_steps = omega (arith, w.steps-is, i.more_steps);
       }
     ]

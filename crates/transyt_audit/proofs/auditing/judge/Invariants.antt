@@ -1,7 +1,7 @@
 -- The verdict from here on is the verdict from the first line on.
-use Rattle.std.proofs.Common.{◌≡◌, ◌+◌, ◌-◌, ◌*◌, ◌≤◌, length, None}
+use Rattle.std.proofs.Common.{◌≡◌, ◌+◌, ◌≤◌, length, None}
 use Rattle.transyt_io.specs.Lines.{lines}
-use Rattle.transyt_moves.specs.Moves.{move_count}
+use Rattle.transyt_audit.specs.Findings.{steps_from}
 use Rattle.transyt_audit.proofs.Onward.{onward}
 use Rattle.transyt_audit.proofs.auditing.judge.Given as goal
 
@@ -11,8 +11,7 @@ invariant-loop-line g l = record {
   truth : l.truth ≡ l.fn.truth;
   place : l.place ≤ l.number;
   number : l.number + length l.rest ≤ l.first + length l.table;
-  steps : l.steps + l.fn.truth.frame.sweeps * length l.fn.truth.links * (move_count l.fn.truth - l.place)
-      ≤ l.fn.steps + l.fn.truth.frame.sweeps * length l.fn.truth.links * move_count l.fn.truth;
+  steps : l.steps + steps_from l.fn.truth l.place ≤ l.fn.steps + steps_from l.fn.truth 0;
   more_steps : l.fn.steps ≤ l.steps;
 }
 
