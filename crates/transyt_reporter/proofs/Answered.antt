@@ -34,17 +34,6 @@ quiet_on before line quiet nothing goes more =
     ∙ ap (λ (xs : List ℕ). xs ++ unless_ended (deck_answering.ends before line) [] rest) nothing
     ∙ ap (λ (e : Option Ending). unless_ended e [] rest) goes
 
--- an open deck, of which nothing was said
-record IsStill (deck : Deck) : Type 0 where
-  said : deck_said deck ≡ []
-  awaited : is_open deck ≡ true
-
--- after a line that doesn't end the run a deck that isn't complete is open
-still : (deck other : Deck) → deck_ends deck ≡ None → InDeck other ≡ run_of deck → IsStill deck × (other ≡ deck)
-still (Open count state) other goes is = (record { said = refl; awaited = refl }, cc)
-still (Complete number net) other goes is = absurd (cc)
-still (Refused number code) other goes is = absurd (cc)
-
 module _ (r : ReporterValue) (before : List (List ℕ)) (h : HasAnswered r before) where
   -- after END the lines have come to the session of desk 0
   pub session_is : (desks : List SessionValue) → r.desks ≡ Some desks → InSession (desk_zero desks) ≡ run_state before
@@ -66,6 +55,18 @@ module _ (r : ReporterValue) (before : List (List ℕ)) (h : HasAnswered r befor
   pub answered_nothing : r.desks ≡ None → answers_by deck_answering before ≡ []
   answered_nothing none = ap (answers_by deck_answering) (sym (append-nil before)) ∙ quiet_is none []
 
+-- an open deck, of which nothing was said
+record IsStill (deck : Deck) : Type 0 where
+  said : deck_said deck ≡ []
+  awaited : is_open deck ≡ true
+
+-- after a line that doesn't end the run a deck that isn't complete is open
+still : (deck other : Deck) → deck_ends deck ≡ None → InDeck other ≡ run_of deck → IsStill deck × (other ≡ deck)
+still (Open count state) other goes is = (record { said = refl; awaited = refl }, cc)
+still (Complete number net) other goes is = absurd (cc)
+still (Refused number code) other goes is = absurd (cc)
+
+module _ (r : ReporterValue) (before : List (List ℕ)) (h : HasAnswered r before) where
   -- a command
   pub answered_command : (after : ReporterValue) (desks desks_after : List SessionValue) (line : List ℕ)
       → r.desks ≡ Some desks → after.desks ≡ Some desks_after
@@ -75,7 +76,7 @@ module _ (r : ReporterValue) (before : List (List ℕ)) (h : HasAnswered r befor
       let Q : Option (List SessionValue) → Type 0 = λ o. IfNone o P in subst Q (sym some_after) tt in
       record {
         is = ap (state_of after.cards) some_after ∙ ap InSession state
-            ∙ ap (λ (s : RunState). run_after s line) (session_is desks some) ∙ sym (state_on before line);
+            ∙ ap (λ (s : RunState). run_after s line) (session_is r before h desks some) ∙ sym (state_on before line);
         awaited = none _;
         live = none _;
         quiet = none _;
@@ -87,11 +88,11 @@ module _ (r : ReporterValue) (before : List (List ℕ)) (h : HasAnswered r befor
       → IfNone after.desks (after.cards.live ≡ true) → HasAnswered after (before ++ line ∷ [])
   answered_card after line none state goes live =
       let at : run_after (InDeck r.cards.deck) line ≡ run_state (before ++ line ∷ []) =
-      ap (λ (s : RunState). run_after s line) (deck_is none) ∙ sym (state_on before line) in
+      ap (λ (s : RunState). run_after s line) (deck_is r before h none) ∙ sym (state_on before line) in
       let said : deck_said (next r.cards.deck line) ≡ deck_answering.text before line =
-      ap (λ (s : RunState). line_text s line) (deck_is none) in
+      ap (λ (s : RunState). line_text s line) (deck_is r before h none) in
       let ends_is : deck_ends (next r.cards.deck line) ≡ deck_answering.ends before line =
-      ap (λ (s : RunState). line_ends s line) (deck_is none) in
+      ap (λ (s : RunState). line_ends s line) (deck_is r before h none) in
       let cases : (desks : Option (List SessionValue)) → after.desks ≡ desks
       → IfNone desks (is_open after.cards.deck ≡ true) × IfNone desks (AreQuiet (before ++ line ∷ [])) = elim [
         | None ↦ λ here.
@@ -99,7 +100,7 @@ module _ (r : ReporterValue) (before : List (List ℕ)) (h : HasAnswered r befor
             ap (state_of after.cards) (sym here) ∙ state in
             let s = still (next r.cards.deck line) after.cards.deck goes same in (
               ap is_open s.1 ∙ s.0.awaited,
-              quiet_on before line (quiet_is none) (sym said ∙ s.0.said) (sym ends_is ∙ goes),
+              quiet_on before line (quiet_is r before h none) (sym said ∙ s.0.said) (sym ends_is ∙ goes),
             )
         | Some desks ↦ λ here. (tt, tt)
       ] in

@@ -26,10 +26,6 @@ pub record ClimbWritten (budget : ℕ) (first : SessionValue) (m : Machine) (wri
   pub climb : IsClimbing budget first m done
   pub printed : Printed written written_new faults faults_new (steps_text done)
 
--- the lines of steps one after another
-steps_both : (xs ys : List Step) → steps_text (xs ++ ys) ≡ steps_text xs ++ steps_text ys
-steps_both xs ys = flat_map-append (λ (step : Step). took_text step.place step.edit step.index) xs ys
-
 -- a text that was written whole, as that of a call that went well
 pub whole : {T E : Type 0} (v : T) {a b : Option (List ℕ)} {f g : ℕ} (text : List ℕ) → Printed a b f g text
     → Prints {T = T} {E = E} a b f g (Ok v) text
@@ -64,6 +60,13 @@ module _ {budget : ℕ} {first : SessionValue} {m : Machine} {w v : Option (List
   climb_ended (Ok v) ends = climb_state so.climb after result.turns result.last made.round ends
   climb_ended (Err e) ends = tt
 
+-- the lines of steps one after another
+steps_both : (xs ys : List Step) → steps_text (xs ++ ys) ≡ steps_text xs ++ steps_text ys
+steps_both xs ys = flat_map-append (λ (step : Step). took_text step.place step.edit step.index) xs ys
+
+module _ {budget : ℕ} {first : SessionValue} {m : Machine} {w v : Option (List ℕ)} {f g : ℕ}
+    (so : ClimbWritten budget first m w v f g) {places : ℕ} {after : Machine} {result : Round}
+    (made : MakesRound places m after result) where
   -- the line of a step is written
   pub step_written : {T E : Type 0} (u : T) (x : Option (List ℕ)) (h : ℕ) → is_end result.last ≡ false
       → Prints {T = T} {E = E} v x g h (Ok u) (steps_text (step_then result.last [])) → ClimbWritten budget first after w x f h

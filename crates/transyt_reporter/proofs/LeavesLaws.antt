@@ -1,15 +1,14 @@
 -- The desks and the steps that answering leaves.
-use Rattle.std.proofs.Common.{◌≡◌, ℕ, ◌+◌, ◌*◌, ◌≤◌, true, List, length, set, None, Result, refl, ◌∙◌, ap, subst, arith}
+use Rattle.std.proofs.Common.{◌≡◌, ℕ, ◌+◌, ◌*◌, ◌≤◌, true, List, length, set, None, Result, refl, ◌∙◌, ap, arith}
 use Rattle.std.proofs.lemmas.List.{length-set}
 use Rattle.transyt_moves.specs.Moves.{move_count}
 use Rattle.transyt_track.specs.Due.{cert_work}
 use Rattle.transyt_session.specs.Session.{SessionValue}
 use Rattle.transyt_desks.specs.Desks.{desk_zero, AreAlike}
-use Rattle.transyt_climb.specs.Way.{climbed}
 use Rattle.transyt_line_answers.specs.declared.answer.Answer.{Answer}
 use Rattle.transyt_line_answers.specs.declared.answer.Answer.TheVariants as a
-use Rattle.transyt_line_answers.specs.Commands.{after_answer}
-use Rattle.transyt_reporter.specs.Conditions.{HasCertified, AreReady, Leaves}
+use Rattle.transyt_line_answers.specs.Commands.{after_answer, budget_of}
+use Rattle.transyt_reporter.specs.Conditions.{HasCertified, AreIdle, AreReady, Leaves}
 use Rattle.transyt_line_answers.specs.Conditions.{is_told}
 use Rattle.transyt_reporter.proofs.ReadyLaws.{ready_same, ready_closed}
 use Rattle.transyt_desks.proofs.DeskLaws.{zero_set}
@@ -57,33 +56,34 @@ cert_leaves desks old s steps steps_new ready is net closed few work made =
     }
 
 -- a certificate by several desks
-pub batches_leave : {T E : Type 0} (desks after : List SessionValue) (r : Result T E) (steps : ℕ) → AreReady desks
-    → (desk_zero desks).before ≡ None → HasCertified (desk_zero desks) (desk_zero after) 0 (move_count (desk_zero desks).net) r
+pub batches_leave : {T E : Type 0} (desks after : List SessionValue) (r : Result T E) (steps : ℕ) → AreIdle desks
+    → HasCertified (desk_zero desks) (desk_zero after) 0 (move_count (desk_zero desks).net) r
     → move_count (desk_zero desks).net ≤ 57600 → AreAlike after → length after ≡ length desks → (length desks ≡ 1 → ⊥)
     → Leaves 8000072000 (after_answer a.Cert (desk_zero desks)) desks after steps steps
-batches_leave desks after r steps ready closed so most alike len several =
+batches_leave desks after r steps idle so most alike len several =
     let end : cert_work (desk_zero desks).net (0 + move_count (desk_zero desks).net)
     ≡ cert_work (desk_zero desks).net (move_count (desk_zero desks).net) = ap (cert_work (desk_zero desks).net) (omega arith) in
     record {
-      ready = ready_closed desks after ready alike len (so.before ∙ closed);
+      ready = ready_closed desks after idle.ready alike len (so.before ∙ idle.closed);
       len = len;
       few = omega (arith, so.few, most);
       work = omega (arith, so.some, end);
       made = λ one. absurd (several one);
     }
 
--- a climb of this budget
-pub climb_leaves : (desks after : List SessionValue) (budget other steps steps_new : ℕ) → AreReady desks
-    → budget ≡ other → other ≤ 1000000 → AreAlike after → (desk_zero after).before ≡ None → length after ≡ length desks
-    → (desk_zero after).work ≤ (desk_zero desks).work + 8000 * budget + 72000
-    → (desk_zero after).work ≤ (climbed budget (desk_zero desks)).work
+-- a climb, where the desks have come to this
+pub climb_leaves : (desks after : List SessionValue) (steps steps_new : ℕ) → AreReady desks
+    → budget_of (desk_zero desks).net.plan ≤ 1000000 → AreAlike after → (desk_zero after).before ≡ None
+    → length after ≡ length desks
+    → (desk_zero after).work ≤ (desk_zero desks).work + 8000 * budget_of (desk_zero desks).net.plan + 72000
+    → (desk_zero after).work ≤ (after_answer a.Climb (desk_zero desks)).work
     → (length desks ≡ 1 → steps_new + (desk_zero desks).work ≡ steps + (desk_zero after).work)
-    → Leaves 8000072000 (climbed other (desk_zero desks)) desks after steps steps_new
-climb_leaves desks after budget other steps steps_new ready is small alike closed len few work made = record {
+    → Leaves 8000072000 (after_answer a.Climb (desk_zero desks)) desks after steps steps_new
+climb_leaves desks after steps steps_new ready small alike closed len few work made = record {
   ready = ready_closed desks after ready alike len closed;
   len = len;
-  few = omega (arith, is, small, few);
-  work = subst (λ (b : ℕ). (desk_zero after).work ≤ (climbed b (desk_zero desks)).work) is work;
+  few = omega (arith, small, few);
+  work = work;
   made = made;
 }
 

@@ -2,14 +2,14 @@
 use Rattle.std.proofs.Common.{◌≡◌, ℕ, zero, suc, ◌-◌, ◌<◌, List, length, None, IfSome, refl, sym, ap, subst, arith, set}
 use Rattle.std.proofs.lemmas.List.{length-set, length-replicate}
 use Rattle.std.proofs.lemmas.Option.{MatchOption-from_none}
-use Rattle.transyt_net.specs.Parts.{shape, SameShape}
+use Rattle.transyt_net.specs.Parts.{shape, Network, SameShape}
 use Rattle.transyt_session.specs.Session.{SessionValue, opened}
 use Rattle.transyt_desks.specs.Desks.{session_at, desk_zero, opened_desks, AreAlike}
 use Rattle.transyt_desks.proofs.DeskLaws.{alike_lent, opened_at, zero_set}
 use Rattle.transyt_commands.specs.Commands.{command_in}
 use Rattle.transyt_line_answers.specs.Commands.{line_judged}
 use Rattle.transyt_line_answers.proofs.ShapeLaws.{KeepsShape, keeps_said}
-use Rattle.transyt_reporter.specs.Conditions.{AreReady}
+use Rattle.transyt_reporter.specs.Conditions.{AreIdle, AreReady}
 
 -- desks with another session of one shape at desk 0
 ready_set : (desks : List SessionValue) (s : SessionValue) → AreReady desks → KeepsShape (desk_zero desks) s
@@ -58,3 +58,8 @@ ready_opened s workers closed = record {
         let count = length-replicate (workers - 1) (opened s.net) in
         ap (λ (z : SessionValue). shape z.net)
         (opened_at s workers (suc k) (omega arith) (omega (arith, inside, count)))
+
+-- and idle, where they are of a new session
+pub idle_opened : (net : Network) (workers : ℕ) → AreIdle (opened_desks (opened net) workers)
+idle_opened net workers =
+    record { ready = ready_opened (opened net) workers refl; closed = refl; room = omega arith }

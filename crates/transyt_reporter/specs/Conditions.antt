@@ -1,7 +1,7 @@
--- The invariant of the desks between two lines, and a certificate by several desks, which try a batch of places at once.
+-- The desks between two lines and before a climb, and a certificate by several desks, which try a batch of places at once.
 -- No clause of the top call cites it.
 use Rattle.std.specs.Prelude.{ℕ, ◌+◌, ◌≡◌, ◌<◌, ◌≤◌, true, length, Option, IfSome, List, Result, OnOk, OnErr, IfOk}
-use Rattle.std.specs.Prelude.{IsErrOf, ◌*◌, flat_map}
+use Rattle.std.specs.Prelude.{IsErrOf, ◌*◌, ◌^◌, None, flat_map}
 use Rattle.transyt_io.specs.Streams.{Adds, AddsFront, Rose}
 use Rattle.transyt_deck.specs.Deck.{Deck}
 use Rattle.transyt_outcome.specs.declared.ending.Ending.{Ending}
@@ -23,6 +23,12 @@ pub record AreReady (desks : List SessionValue) : Type 0 where
   pub some : 0 < length desks
   pub alike : AreAlike desks
   pub before : IfSome (desk_zero desks).before (λ net. SameShape (desk_zero desks).net net)
+
+-- desks that are ready for a climb or a certificate: no trial is open, and there is little work
+pub record AreIdle (desks : List SessionValue) : Type 0 where
+  pub ready : AreReady desks
+  pub closed : (desk_zero desks).before ≡ None
+  pub room : (desk_zero desks).work ≤ 2 ^ 60
 
 -- the edit of a step is one of an offset or a change
 abbrev pub IsStep : Turn → Type 0

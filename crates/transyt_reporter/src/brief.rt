@@ -1,5 +1,5 @@
 //! BRIEF: one climb on a network, told in one line.
-ghost use Rattle.std.specs.Prelude.{◌≡◌, ◌+◌, ◌*◌, ◌^◌, ◌≤◌, ◌∷◌, [], length, None, IsSome, IsErrOf, OnOk, OnErr};
+ghost use Rattle.std.specs.Prelude.{◌≡◌, ◌+◌, ◌*◌, ◌≤◌, ◌∷◌, [], length, IsSome, IsErrOf, OnOk, OnErr};
 ghost use Rattle.transyt_io.specs.Streams.{Adds, AddsFront, Rose};
 ghost use Rattle.transyt_sweep.specs.Sweeps.{index};
 ghost use Rattle.transyt_desks.specs.Desks.{desk_zero};
@@ -8,7 +8,7 @@ ghost use Rattle.transyt_text.specs.Forms.{form_line};
 ghost use Rattle.transyt_track.specs.Due.{work_of};
 ghost use Rattle.transyt_reporter.specs.Brief.{brief_form, brief_text, brief_steps};
 ghost use Rattle.transyt_line_answers.specs.Commands.{climb_of};
-ghost use Rattle.transyt_reporter.specs.Conditions.{AreReady};
+ghost use Rattle.transyt_reporter.specs.Conditions.{AreIdle};
 
 use crate::climbing::start_climber;
 use crate::opening::desks_of;
@@ -51,32 +51,6 @@ fn before_climb(session: &Session) -> Before
         nodes: net.nodes().len(),
         links: net.links().len(),
         index: session.index(),
-    }
-}
-
-/// Climbs by the network's plan.
-fn climb_counted<R: Threads + Sync, G: Gate, L: Ledger>(
-    workers: &Workers<'_, R, G>,
-    desks: &mut Desks,
-    steps: &mut Steps<L>,
-) -> Climbed
-    requires ready { AreReady desks.old }
-    requires plan { IsSome (desk_zero desks.old).net.plan }
-    requires closed { (desk_zero desks.old).before ≡ None }
-    requires room { (desk_zero desks.old).work ≤ 2 ^ 60 }
-    ensures took { result.took ≡ length (climb_of (desk_zero desks.old).net).steps }
-    ensures looked { result.looked ≡ length (climb_of (desk_zero desks.old).net).looks }
-    ensures local { result.local ≡ (climb_of (desk_zero desks.old).net).local }
-    ensures net { (desk_zero desks.new).net ≡ (climb_of (desk_zero desks.old).net).net }
-    ensures steps { length desks.old ≡ 1
-        → steps.new ≡ steps.old + work_of (climb_of (desk_zero desks.old).net).looks }
-{
-    let mut climber = start_climber(desks.session().net());
-    let ended = climb_by_rounds(workers.rt, &mut climber, desks, workers.gate, steps);
-    Climbed {
-        took: ended.took,
-        looked: climber.looked(),
-        local: ended.local,
     }
 }
 
@@ -125,17 +99,22 @@ fn tell_climb<R: Threads + Sync, G: Gate, K: Sink, L: Ledger>(
     sink: &mut K,
     steps: &mut Steps<L>,
 ) -> Result<(), Failed>
-    requires ready { AreReady desks.old }
+    requires idle { AreIdle desks.old }
     requires plan { IsSome (desk_zero desks.old).net.plan }
-    requires closed { (desk_zero desks.old).before ≡ None }
-    requires room { (desk_zero desks.old).work ≤ 2 ^ 60 }
     ensures prints { PrintsOn K.written K.faults sink.old sink.new result
         (brief_text (desk_zero desks.old).net) }
     ensures steps { length desks.old ≡ 1
         → steps.new ≡ steps.old + work_of (climb_of (desk_zero desks.old).net).looks }
 {
     let before = before_climb(desks.session());
-    let climbed = climb_counted(&clerk.workers, desks, steps);
+    let mut climber = start_climber(desks.session().net());
+    let workers = &clerk.workers;
+    let ended = climb_by_rounds(workers.rt, &mut climber, desks, workers.gate, steps);
+    let climbed = Climbed {
+        took: ended.took,
+        looked: climber.looked(),
+        local: ended.local,
+    };
     let to = desks.session().index();
     print_brief(before, climbed, to, &mut clerk.line, sink)
 }

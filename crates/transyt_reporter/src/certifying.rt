@@ -7,9 +7,9 @@ ghost use Rattle.transyt_text.specs.Prints.{PrintsOn};
 ghost use Rattle.transyt_cert.specs.Certificate.{cert_text};
 ghost use Rattle.transyt_line_answers.specs.Commands.{after_answer};
 ghost use Rattle.transyt_desks.specs.Stretches.{AreTriesOf, work_found};
-ghost use Rattle.transyt_reporter.specs.Conditions.{HasCertified, places_text, AreReady, Leaves};
+ghost use Rattle.transyt_reporter.specs.Conditions.{HasCertified, places_text, AreIdle, Leaves};
 
-use crate::workers::Clerk;
+use crate::workers::Workers;
 use std::sync::ledger::Ledger;
 use std::thread::Threads;
 use transyt_desks::{Desks, Gate};
@@ -18,6 +18,17 @@ use transyt_line_answers::{Answer, certify_on, say_cert_end, say_cert_place};
 use transyt_moves::move_count;
 use transyt_session::{Session, Tried};
 use transyt_steps::Steps;
+
+/// Consecutive places whose moves the desks try at once.
+#[derive(Clone, Copy, Drop)]
+struct Batch {
+    /// The first place.
+    from: u32,
+    /// How many they are.
+    count: u32,
+    ghost few: { from + count ≤ 57600 },
+    ghost each: { count ≤ 256 },
+}
 
 /// Adds the work of a try.
 fn credit_try(session: &mut Session, tried: Tried)
@@ -55,44 +66,41 @@ fn certify_tried<K: Sink>(
     Ok(())
 }
 
-/// Tries so many places at once, and then writes their lines.
+/// Tries the places of a batch at once, and then writes their lines.
 fn certify_batch<R: Threads + Sync, G: Gate, K: Sink>(
-    clerk: &mut Clerk<'_, R, G>,
+    workers: &Workers<'_, R, G>,
     desks: &mut Desks,
-    from: u32,
-    count: u32,
+    batch: Batch,
+    line: &mut LineBuffer,
     sink: &mut K,
 ) -> Result<(), Failed>
     requires alike { AreAlike desks.old }
     requires closed { (desk_zero desks.old).before ≡ None }
-    requires len { length desks.old ≡ clerk.old.workers.count }
-    requires places { from + count ≤ move_count (desk_zero desks.old).net }
-    requires few { from + count ≤ 57600 }
-    requires each { count ≤ 32 * clerk.old.workers.count }
+    requires places { batch.from + batch.count ≤ move_count (desk_zero desks.old).net }
+    requires each { batch.count ≤ 32 * length desks.old }
     requires room { (desk_zero desks.old).work ≤ 2 ^ 61 }
     ensures prints { PrintsOn K.written K.faults sink.old sink.new result
-        (places_text (desk_zero desks.old).net from count) }
-    ensures certified { HasCertified (desk_zero desks.old) (desk_zero desks.new) from count result }
+        (places_text (desk_zero desks.old).net batch.from batch.count) }
+    ensures certified { HasCertified (desk_zero desks.old) (desk_zero desks.new)
+        batch.from batch.count result }
     ensures alike { AreAlike desks.new }
     ensures len { length desks.new ≡ length desks.old }
-    ensures workers { clerk.new.workers.count ≡ clerk.old.workers.count }
 {
     let mut room = [Tried::Barred; 256];
-    let tries = &mut room[..count as usize];
-    desks.try_moves(clerk.workers.rt, clerk.workers.gate, from, tries);
-    certify_tried(desks.session_mut(), from, tries, &mut clerk.line, sink)
+    let tries = &mut room[..batch.count as usize];
+    desks.try_moves(workers.rt, workers.gate, batch.from, tries);
+    certify_tried(desks.session_mut(), batch.from, tries, line, sink)
 }
 
 /// Writes the certificate of the network now, a batch of places after another.
 fn certify_by_desks<R: Threads + Sync, G: Gate, K: Sink>(
-    clerk: &mut Clerk<'_, R, G>,
+    workers: &Workers<'_, R, G>,
     desks: &mut Desks,
+    line: &mut LineBuffer,
     sink: &mut K,
 ) -> Result<(), Failed>
-    requires alike { AreAlike desks.old }
-    requires closed { (desk_zero desks.old).before ≡ None }
-    requires len { length desks.old ≡ clerk.old.workers.count }
-    requires room { (desk_zero desks.old).work ≤ 2 ^ 60 }
+    requires idle { AreIdle desks.old }
+    requires len { length desks.old ≡ workers.now.count }
     ensures prints { PrintsOn K.written K.faults sink.old sink.new result
         (cert_text (desk_zero desks.old).net) }
     ensures certified { HasCertified (desk_zero desks.old) (desk_zero desks.new) 0
@@ -100,42 +108,39 @@ fn certify_by_desks<R: Threads + Sync, G: Gate, K: Sink>(
     ensures most { move_count (desk_zero desks.old).net ≤ 57600 }
     ensures alike { AreAlike desks.new }
     ensures len { length desks.new ≡ length desks.old }
-    ensures workers { clerk.new.workers.count ≡ clerk.old.workers.count }
 {
     let places = move_count(desks.session().net());
     let mut from = 0;
     while from < places {
-        let count = (places - from).min(32 * clerk.workers.count);
-        certify_batch(clerk, desks, from, count, sink)?;
+        let count = (places - from).min(32 * workers.count);
+        certify_batch(workers, desks, Batch { from, count }, line, sink)?;
         from += count;
     }
-    say_cert_end(places, desks.session(), &mut clerk.line, sink)
+    say_cert_end(places, desks.session(), line, sink)
 }
 
 /// Writes the certificate of the network now, whose work is added. One worker writes the line of each place before the
 /// next is tried; several try a batch of places at once. On Failed some first bytes of it were written. It takes no
 /// memory.
 pub(crate) fn certify<R: Threads + Sync, G: Gate, K: Sink, L: Ledger>(
-    clerk: &mut Clerk<'_, R, G>,
+    workers: &Workers<'_, R, G>,
     desks: &mut Desks,
+    line: &mut LineBuffer,
     sink: &mut K,
     steps: &mut Steps<L>,
 ) -> Result<(), Failed>
-    requires ready { AreReady desks.old }
-    requires len { length desks.old ≡ clerk.old.workers.count }
-    requires closed { (desk_zero desks.old).before ≡ None }
-    requires room { (desk_zero desks.old).work ≤ 2 ^ 60 }
+    requires idle { AreIdle desks.old }
+    requires len { length desks.old ≡ workers.now.count }
     ensures prints { PrintsOn K.written K.faults sink.old sink.new result
         (cert_text (desk_zero desks.old).net) }
     ensures state { OnOk result
         (desk_zero desks.new ≡ after_answer Answer.Cert (desk_zero desks.old)) }
-    ensures workers { clerk.new.workers.count ≡ clerk.old.workers.count }
     ensures leaves { Leaves 8000072000 (after_answer Answer.Cert (desk_zero desks.old)) desks.old
         desks.new
         steps.old steps.new }
 {
-    if clerk.workers.count == 1 {
-        return certify_on(desks.session_mut(), &mut clerk.line, sink, steps);
+    if workers.count == 1 {
+        return certify_on(desks.session_mut(), line, sink, steps);
     }
-    certify_by_desks(clerk, desks, sink)
+    certify_by_desks(workers, desks, line, sink)
 }

@@ -1,17 +1,15 @@
 //! CLIMB: each step is written before the next look.
-ghost use Rattle.std.specs.Prelude.{◌≡◌, ◌+◌, ◌*◌, ◌^◌, ◌≤◌, length, [], None, IsSome, OnOk};
+ghost use Rattle.std.specs.Prelude.{◌≡◌, ◌≤◌, [], IsSome, OnOk};
 ghost use Rattle.transyt_moves.specs.Moves.{move_count};
-ghost use Rattle.transyt_sweep.specs.Climb.{climb};
 ghost use Rattle.transyt_climb.specs.Turns.{start_at, step_then};
-ghost use Rattle.transyt_climb.specs.Way.{climbed};
-ghost use Rattle.transyt_desks.specs.Desks.{desk_zero, AreAlike};
+ghost use Rattle.transyt_desks.specs.Desks.{desk_zero};
 ghost use Rattle.transyt_text.specs.Prints.{PrintsOn};
 ghost use Rattle.transyt_report.specs.Texts.{end_text};
 ghost use Rattle.transyt_line_answers.specs.Commands.{after_answer, steps_text, climb_text, climb_of, budget_of};
-ghost use Rattle.transyt_reporter.specs.Conditions.{IsStep, AreReady, Leaves};
+ghost use Rattle.transyt_reporter.specs.Conditions.{AreIdle, IsStep, Leaves};
 
 use crate::remarks::remark_end;
-use crate::workers::Clerk;
+use crate::workers::Workers;
 use std::sync::ledger::Ledger;
 use std::thread::Threads;
 use transyt_climb::{Climber, Turn};
@@ -63,71 +61,31 @@ pub(crate) fn start_climber(net: &Net) -> Climber
     climber
 }
 
-/// Climbs by rounds of the desks, from a climber at its start to its end.
-fn climb_by_rounds<R: Threads + Sync, G: Gate, K: Sink, L: Ledger>(
-    clerk: &mut Clerk<'_, R, G>,
-    desks: &mut Desks,
-    climber: &mut Climber,
-    sink: &mut K,
-    steps: &mut Steps<L>,
-) -> Result<(), Failed>
-    requires start { climber.old
-        ≡ start_at climber.old.budget (move_count (desk_zero desks.old).net) }
-    requires budget { climber.old.budget ≤ 1000000 }
-    requires alike { AreAlike desks.old }
-    requires closed { (desk_zero desks.old).before ≡ None }
-    requires room { (desk_zero desks.old).work ≤ 2 ^ 60 }
-    ensures prints { PrintsOn K.written K.faults sink.old sink.new result
-        (climb_text (climb (desk_zero desks.old).net 0 climber.old.budget)) }
-    ensures state { OnOk result
-        (desk_zero desks.new ≡ climbed climber.old.budget (desk_zero desks.old)) }
-    ensures workers { clerk.new.workers.count ≡ clerk.old.workers.count }
-    ensures alike { AreAlike desks.new }
-    ensures closed { (desk_zero desks.new).before ≡ None }
-    ensures len { length desks.new ≡ length desks.old }
-    ensures few { (desk_zero desks.new).work
-        ≤ (desk_zero desks.old).work + 8000 * climber.old.budget + 72000 }
-    ensures work { (desk_zero desks.new).work
-        ≤ (climbed climber.old.budget (desk_zero desks.old)).work }
-    ensures steps { length desks.old ≡ 1
-        → steps.new + (desk_zero desks.old).work ≡ steps.old + (desk_zero desks.new).work }
-{
-    loop {
-        let round = desks.stretch_round(clerk.workers.rt, climber, clerk.workers.gate, steps);
-        if round.last.is_end() {
-            let index = desks.session().index();
-            return say_end(
-                round.last.is_local(),
-                climber.looked(),
-                index,
-                &mut clerk.line,
-                sink,
-            );
-        }
-        say_step(round.last, &mut clerk.line, sink)?;
-    }
-}
-
-/// Climbs by the network's plan.
+/// Climbs by the network's plan, by rounds of the desks.
 pub(crate) fn climb_on<R: Threads + Sync, G: Gate, K: Sink, L: Ledger>(
-    clerk: &mut Clerk<'_, R, G>,
+    workers: &Workers<'_, R, G>,
     desks: &mut Desks,
+    line: &mut LineBuffer,
     sink: &mut K,
     steps: &mut Steps<L>,
 ) -> Result<(), Failed>
-    requires ready { AreReady desks.old }
+    requires idle { AreIdle desks.old }
     requires plan { IsSome (desk_zero desks.old).net.plan }
-    requires closed { (desk_zero desks.old).before ≡ None }
-    requires room { (desk_zero desks.old).work ≤ 2 ^ 60 }
     ensures prints { PrintsOn K.written K.faults sink.old sink.new result
         (climb_text (climb_of (desk_zero desks.old).net)) }
     ensures state { OnOk result
         (desk_zero desks.new ≡ after_answer Answer.Climb (desk_zero desks.old)) }
-    ensures workers { clerk.new.workers.count ≡ clerk.old.workers.count }
     ensures leaves { Leaves 8000072000 (after_answer Answer.Climb (desk_zero desks.old)) desks.old
         desks.new
         steps.old steps.new }
 {
     let mut climber = start_climber(desks.session().net());
-    climb_by_rounds(clerk, desks, &mut climber, sink, steps)
+    loop {
+        let round = desks.stretch_round(workers.rt, &mut climber, workers.gate, steps);
+        if round.last.is_end() {
+            let index = desks.session().index();
+            return say_end(round.last.is_local(), climber.looked(), index, line, sink);
+        }
+        say_step(round.last, line, sink)?;
+    }
 }

@@ -39,8 +39,8 @@ pub(crate) fn say<R: Threads + Sync, G: Gate, K: Sink, L: Ledger>(
         steps.old steps.new }
 {
     match answer {
-        Answer::Climb => climb_on(clerk, desks, sink, steps),
-        Answer::Cert => certify(clerk, desks, sink, steps),
+        Answer::Climb => climb_on(&clerk.workers, desks, &mut clerk.line, sink, steps),
+        Answer::Cert => certify(&clerk.workers, desks, &mut clerk.line, sink, steps),
         _ => say_text(answer, desks.session(), &mut clerk.line, sink),
     }
 }

@@ -19,9 +19,8 @@ loop-from-init g c = record {
   printed = printed_nothing _ _;
   certified = certified_none (tt {0}) (desk_zero c.args.desks.now) 0;
   inside = omega arith;
-  alike = c.requires.alike;
+  alike = c.requires.idle.ready.alike;
   len = refl;
-  workers = refl;
 }
 
 -- the lines of a batch are written
@@ -40,7 +39,6 @@ loop-from-preserved g c =
       inside = omega arith;
       alike = told.alike;
       len = told.len ∙ so.len;
-      workers = told.workers ∙ so.workers;
     }
 
 -- the lines of a batch broke off

@@ -14,7 +14,6 @@ invariant-loop-from g l = record {
   inside : l.from ≤ l.places;
   alike : AreAlike l.desks;
   len : length l.desks ≡ length l.fn.desks;
-  workers : l.clerk.workers.count ≡ l.fn.clerk.workers.count;
 }
 
 -- fewer places are left

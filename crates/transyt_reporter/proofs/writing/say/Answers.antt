@@ -6,6 +6,15 @@ use Rattle.transyt_line_answers.specs.Commands.{answer_text}
 use Rattle.transyt_reporter.proofs.LeavesLaws.{told_by, told_leaves}
 use Rattle.transyt_reporter.proofs.writing.say.Goals as goal
 
+-- a certificate and a climb begin where no trial is open
+pub certify-requires-clause-idle : goal.certify-requires-clause-idle
+certify-requires-clause-idle g c κs within =
+    let of = rw c.in-Cert.is at c.requires.of in record { ready = c.requires.ready; closed = of.1; room = c.requires.room }
+
+pub climb_on-requires-clause-idle : goal.climb_on-requires-clause-idle
+climb_on-requires-clause-idle g c κs within =
+    let of = rw c.in-Climb.is at c.requires.of in record { ready = c.requires.ready; closed = of.1; room = c.requires.room }
+
 -- the desks and the steps of a certificate
 pub returns-in-Cert-clause-leaves : goal.returns-in-Cert-clause-leaves
 returns-in-Cert-clause-leaves g c = rw c.in-Cert.is c.certify.ensures.leaves
