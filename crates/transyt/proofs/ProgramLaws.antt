@@ -8,8 +8,8 @@ use Rattle.transyt_outcome.specs.declared.status.Status.{Status}
 use Rattle.transyt_line_answers.specs.Report.{report, status}
 use Rattle.transyt.specs.declared.word.Word.{Word}
 use Rattle.transyt.specs.Program.{Ends, TopCall, ProgramRan, ProgramHeadline, OverRan, OverHeadline}
-use Rattle.transyt.specs.Tasks.{Task, Reads, Writes, task, task_of, TaskOutcome, TaskHeadline, IsRun}
-use Rattle.transyt.specs.Words.{word_of}
+use Rattle.transyt.specs.Tasks.{Task, Reads, Writes, TaskOutcome, TaskHeadline}
+use Rattle.transyt.specs.Words.{task, task_of, IsRun, word_of}
 use Rattle.transyt.proofs.TaskLaws.{word_settled, task_headline, run_headline}
 
 -- the run of the program, where the words shown to the top call are those that it was given

@@ -15,8 +15,8 @@ use Rattle.transyt_deck.specs.declared.cut.Cut.{Cut}
 use Rattle.transyt_deck.specs.Deck.{cut_of}
 use Rattle.transyt.specs.declared.word.Word.{Word}
 use Rattle.transyt.specs.declared.word.Word.TheVariants as w
-use Rattle.transyt.specs.Tasks.{Task, Reads, Writes, task, TaskOutcome, TaskHeadline, TaskComplete}
-use Rattle.transyt.specs.Tasks.{TaskTooLong, IsRun}
+use Rattle.transyt.specs.Tasks.{Task, Reads, Writes, TaskOutcome, TaskHeadline, TaskComplete, TaskTooLong}
+use Rattle.transyt.specs.Words.{task, IsRun}
 
 -- the report of an input doesn't change with bytes after those that end the run
 abbrev pub IsSettledTask : Task → Type 0

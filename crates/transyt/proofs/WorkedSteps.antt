@@ -8,7 +8,8 @@ use Rattle.transyt_reporter.specs.Brief.{brief_steps}
 use Rattle.transyt_line_answers.specs.Report.{deck_answering}
 use Rattle.transyt.specs.declared.town.Town.{Town}
 use Rattle.transyt.specs.declared.word.Word.TheVariants as w
-use Rattle.transyt.specs.Tasks.{TextSteps, WordSteps}
+use Rattle.transyt.specs.Tasks.{TextSteps}
+use Rattle.transyt.specs.Words.{WordSteps}
 
 -- a text that was written took its own steps
 pub all_written : TextSteps 16 40 56 Done

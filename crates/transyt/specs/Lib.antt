@@ -1,4 +1,5 @@
 -- The definitions of the crate.
+pub mod Numbers
 pub mod Reports
 pub mod Program
 pub mod Tasks

@@ -5,8 +5,8 @@ use Rattle.transyt_outcome.specs.Outcome.{exit_number}
 use Rattle.transyt_outcome.specs.declared.status.Status.{Status}
 use Rattle.transyt_outcome.specs.declared.status.Status.TheVariants.{BadWords, ReadFault, WriteFault, NoMemory}
 use Rattle.transyt_line_answers.specs.Report.{report, status}
-use Rattle.transyt.specs.Tasks.{task_of, TaskOutcome, TaskHeadline, TaskComplete, TaskTooLong, IsRun}
-use Rattle.transyt.specs.Words.{word_of}
+use Rattle.transyt.specs.Tasks.{TaskOutcome, TaskHeadline, TaskComplete, TaskTooLong}
+use Rattle.transyt.specs.Words.{task_of, IsRun, word_of}
 
 -- the bytes that a source and a sink tell, with their counts of faults
 pub record Ends : Type 0 where
@@ -67,9 +67,10 @@ ProgramHeadline words old new number =
     → (new.written ≡ Some (held ++ report input)) × (number ≡ exit_number (status input))
 
 -- the program ran over a reader and a writer, of which what remains and what is held are told: the number is that of a
--- status, and where it is none of 3, 4 and 5 (a read failed, a write failed, no memory) the writer holds what it held and
--- the task of the words
-pub record OverRan (words : List (List ℕ)) (remaining contents contents_new : Option (List ℕ)) (number : ℕ) : Type 0 where
+-- status, and where it is none of 3, 4 and 5 (a read failed, a write failed, no memory) the writer holds what it held
+-- and the task of the words
+pub record OverRan (words : List (List ℕ)) (remaining contents contents_new : Option (List ℕ)) (number : ℕ)
+    : Type 0 where
   pub ended : Status
   pub number_is : number ≡ exit_number ended
   pub bad_words : (ended ≡ BadWords) ↔ (word_of words ≡ None)

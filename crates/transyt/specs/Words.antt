@@ -1,27 +1,27 @@
--- The words that the program takes, and what they ask for.
-use Rattle.std.specs.Prelude.{ℕ, ◌-◌, ◌≤◌, ◌<◌, ◌&&◌, nat_le, List, [], ◌∷◌, Option, None, Some, codes, if◌then◌else◌}
+-- The words that the program takes: the spelling of each, the ranges of its numbers, its task and its steps.
+use Rattle.std.specs.Prelude.{◌≡◌, ℕ, ◌≤◌, List, [], ◌∷◌, Option, None, Some, codes, if◌then◌else◌}
 use Rattle.std.specs.Option.{option_map, option_and_then}
 use Rattle.std.specs.Str.{bytes_eq}
 use Rattle.transyt_num.specs.Number.{number_of}
-use Rattle.transyt_scan.specs.Rows.{IsScan, scan_of}
-use Rattle.transyt_scan.specs.declared.word.ScanWord.{ScanWord}
-use Rattle.transyt_words.specs.Plans.{IsStarts, starts_of}
+use Rattle.transyt_deck.specs.Cards.{deck_text}
+use Rattle.transyt_make.specs.Made.{made}
+use Rattle.transyt_outcome.specs.declared.status.Status.{Status}
+use Rattle.transyt_outcome.specs.Runs.{StepsTaken}
+use Rattle.transyt_line_answers.specs.Report.{deck_answering, reporting_run}
+use Rattle.transyt_reporter.specs.Brief.{brief_text, brief_steps}
+use Rattle.transyt_scan.specs.Rows.{IsScan}
+use Rattle.transyt_words.specs.Answer.{of_whole}
+use Rattle.transyt_words.specs.Whole.{StepsWithin, answer_after, most_after}
+use Rattle.transyt_words.specs.Audit.{audit_answer, audit_most}
+use Rattle.transyt_words.specs.Counts.{counts_answer}
+use Rattle.transyt_words.specs.Equisat.{equisat_answer}
+use Rattle.transyt_words.specs.Scan.{scan_answer}
+use Rattle.transyt_words.specs.Plans.{IsStarts, starts_of, cycles_answer, starts_answer}
 use Rattle.transyt.specs.declared.town.Town.{Town}
 use Rattle.transyt.specs.declared.word.Word.{Word}
 use Rattle.transyt.specs.declared.word.Word.TheVariants as w
-
--- the number of workers of a word: one digit from 1 to 8
-abbrev pub workers_of : List ℕ → Option ℕ
-workers_of (digit ∷ []) = if nat_le 49 digit && nat_le digit 56 then Some (digit - 48) else None
-workers_of _ = None
-
--- the number of nodes of a word, 1 to 200
-abbrev pub nodes_of : List ℕ → Option ℕ
-nodes_of word = option_and_then (λ n. if nat_le 1 n && nat_le n 200 then Some n else None) (number_of word)
-
--- a town that may be asked for
-abbrev pub IsTown : Town → Type 0
-IsTown town = (town.seed < 1000000000) × (1 ≤ town.nodes) × (town.nodes ≤ 200)
+use Rattle.transyt.specs.Numbers.{workers_of, IsTown, town_of, times_of}
+use Rattle.transyt.specs.Tasks.{Task, Reads, Writes, TextSteps}
 
 -- the numbers of a word are in their ranges
 abbrev pub IsWord : Word → Type 0
@@ -44,11 +44,6 @@ run_word [] = Some (w.Run 1)
 run_word (workers ∷ []) = option_map w.Run (workers_of workers)
 run_word (workers ∷ next ∷ more) = None
 
--- the town of two words
-abbrev pub town_of : List ℕ → List ℕ → Option Town
-town_of seed nodes =
-    option_and_then (λ s. option_map (λ n. record { seed = s; nodes = n }) (nodes_of nodes)) (number_of seed)
-
 -- `make seed nodes`
 abbrev pub make_word : List (List ℕ) → Option Word
 make_word (seed ∷ nodes ∷ []) = option_map w.Make (town_of seed nodes)
@@ -64,17 +59,6 @@ brief_word (seed ∷ nodes ∷ []) = brief_by (town_of seed nodes) (Some 1)
 brief_word (seed ∷ nodes ∷ workers ∷ []) = brief_by (town_of seed nodes) (workers_of workers)
 brief_word _ = None
 
--- workers and cycle times by the numbers of four words
-abbrev pub times_by : Option ℕ → Option ℕ → Option ℕ → Option ℕ → Option ScanWord
-times_by (Some workers) (Some low) (Some high) (Some by) = scan_of workers low high by
-times_by _ _ _ _ = None
-
--- `w low high by`
-abbrev pub times_of : List (List ℕ) → Option ScanWord
-times_of (workers ∷ low ∷ high ∷ by ∷ []) =
-    times_by (workers_of workers) (number_of low) (number_of high) (number_of by)
-times_of _ = None
-
 -- the task of `starts` with these numbers
 abbrev pub starts_by : Option ℕ → Option ℕ → Option ℕ → Option Word
 starts_by (Some workers) (Some seed) (Some count) = option_map w.Starts (starts_of workers seed count)
@@ -85,7 +69,7 @@ abbrev pub starts_word : List (List ℕ) → Option Word
 starts_word (workers ∷ seed ∷ count ∷ []) = starts_by (workers_of workers) (number_of seed) (number_of count)
 starts_word _ = None
 
--- the task of words; none where the program doesn't take them
+-- the word that is spelled; none where the program doesn't take the words
 abbrev pub word_of : List (List ℕ) → Option Word
 word_of [] = None
 word_of (name ∷ rest) =
@@ -99,3 +83,35 @@ word_of (name ∷ rest) =
     else if bytes_eq name (codes "starts") then starts_word rest
     else if bytes_eq name (codes "audit") then alone w.Audit rest
     else None
+
+-- the words are `run` or `run w`
+abbrev pub IsRun : Option Word → Type 0
+IsRun (Some (w.Run workers)) = Unit {0}
+IsRun _ = ⊥
+
+-- the task of a word; the number of workers changes none of it
+abbrev pub task : Word → Task
+task (w.Run workers) = Reads reporting_run
+task (w.Make town) = Writes (deck_text (made town.seed town.nodes))
+task (w.Brief town workers) = Writes (brief_text (made town.seed town.nodes))
+task w.Counts = Reads (of_whole (answer_after counts_answer))
+task w.Equisat = Reads (of_whole (answer_after equisat_answer))
+task w.Audit = Reads (of_whole (answer_after audit_answer))
+task (w.Scan asked) = Reads (of_whole (answer_after (scan_answer asked.times)))
+task (w.Cycles asked) = Reads (of_whole (answer_after (cycles_answer asked.times)))
+task (w.Starts asked) = Reads (of_whole (answer_after (starts_answer asked.seed asked.count)))
+
+-- the task of words; none where the program doesn't take them
+abbrev pub task_of : List (List ℕ) → Option Task
+task_of words = option_map task (word_of words)
+
+-- the steps of a word, where all are counted: of `run` and `brief` with one worker, and of `audit` at most. Other words
+-- take none: each climb of `scan`, `cycles` and `starts` counts on a counter of its own
+abbrev pub WordSteps : Word → Option (List ℕ) → Option (List ℕ) → ℕ → ℕ → Status → Type 0
+WordSteps (w.Run workers) left left_new steps steps_new status =
+    workers ≡ 1 → StepsTaken deck_answering left left_new steps steps_new status
+WordSteps (w.Brief town workers) left left_new steps steps_new status =
+    workers ≡ 1 → TextSteps (brief_steps (made town.seed town.nodes)) steps steps_new status
+WordSteps w.Audit left left_new steps steps_new status =
+    StepsWithin (most_after audit_most) left left_new steps steps_new
+WordSteps _ left left_new steps steps_new status = steps_new ≡ steps

@@ -73,4 +73,5 @@ abbrev pub words_out_of_range : List Word
 words_out_of_range =
     w.Run 0 ∷ w.Run 9 ∷ w.Make (town 1000000000 64) ∷ w.Make (town 7 0) ∷ w.Make (town 7 201)
     ∷ w.Brief (town 1000000000 64) 3 ∷ w.Brief (town 7 0) 3 ∷ w.Brief (town 7 201) 3 ∷ w.Brief (town 7 64) 0
-    ∷ w.Brief (town 7 64) 9 ∷ w.Scan (asked 2 60 120 211) ∷ w.Cycles (asked 9 60 120 17) ∷ w.Starts (from_seed 2 7 0) ∷ w.Starts (from_seed 2 7 1001) ∷ []
+    ∷ w.Brief (town 7 64) 9 ∷ w.Scan (asked 2 60 120 211) ∷ w.Cycles (asked 9 60 120 17)
+    ∷ w.Starts (from_seed 2 7 0) ∷ w.Starts (from_seed 2 7 1001) ∷ []

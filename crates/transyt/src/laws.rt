@@ -11,8 +11,8 @@ ghost use Rattle.transyt.specs.declared.word.Word.{Word};
 ghost use Rattle.transyt_net.specs.Parts.{Network};
 ghost use Rattle.transyt_words.specs.Answer.{done, of_whole};
 ghost use Rattle.transyt.specs.Reports.{Descends};
-ghost use Rattle.transyt.specs.Tasks.{Reads, TaskComplete, TaskHeadline, TaskTooLong, TextSteps, WordSteps, Writes};
-ghost use Rattle.transyt.specs.Words.{IsWord, word_of};
+ghost use Rattle.transyt.specs.Tasks.{Reads, TaskComplete, TaskHeadline, TaskTooLong, TextSteps, Writes};
+ghost use Rattle.transyt.specs.Words.{WordSteps, IsWord, word_of};
 ghost use Rattle.transyt.specs.WorkedWords.{words_in_range, words_out_of_range, worked_words};
 
 /// The worked words ask for what is written beside the definitions.

@@ -4,7 +4,7 @@
 //! With the words `run` it reads a deck and commands line by line and writes the report. A contract sees the report
 //! as a function of the input's bytes: cite `report` and `status` of transyt_line_answers' `specs/Report` first, the
 //! answers to the lines one after another over what the lines before them have come to. `Descends` of `specs/Reports`
-//! says what a climb of the report is. What each word asks for is `task_of` of `specs/Tasks`: a report of an input,
+//! says what a climb of the report is. What each word asks for is `task_of` of `specs/Words`: a report of an input,
 //! or a text for which nothing is read. `Outcome` of transyt_outcome says what a run took, what it wrote and what
 //! each status says of both.
 #![tactic(auto)]

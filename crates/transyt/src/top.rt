@@ -3,9 +3,8 @@ ghost use Rattle.std.specs.Prelude.{◌≡◌, ◌≢◌, ◌≤◌, ◌++◌, �
 ghost use Rattle.transyt_io.specs.Streams.{Rose};
 ghost use Rattle.transyt_line_answers.specs.Report.{report, status, run_state};
 ghost use Rattle.transyt.specs.Reports.{ClimbDescends};
-ghost use Rattle.transyt.specs.Tasks.{task, task_of, TaskOutcome, TaskHeadline, TaskComplete, TaskTooLong, WordSteps};
-ghost use Rattle.transyt.specs.Tasks.{IsRun, IsWriting};
-ghost use Rattle.transyt.specs.Words.{word_of, IsWord};
+ghost use Rattle.transyt.specs.Tasks.{TaskOutcome, TaskHeadline, TaskComplete, TaskTooLong, IsWriting};
+ghost use Rattle.transyt.specs.Words.{task, task_of, WordSteps, IsRun, word_of, IsWord};
 
 use crate::town::{write_made, write_made_brief};
 use crate::word::{Word, word_of};
@@ -51,6 +50,7 @@ impl<'a, R, G> Crew<'a, R, G> {
 }
 
 /// Does what a word asks for.
+#[tactic(auto, using(crate::proofs::TaskLaws::no_steps))]
 fn answer_word<R: Threads + Sync, S: Source, K: Sink, G: Gate, L: Ledger>(
     crew: &Crew<'_, R, G>,
     word: Word,

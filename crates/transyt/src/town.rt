@@ -5,8 +5,8 @@ ghost use Rattle.transyt_deck.specs.Cards.{deck_text};
 ghost use Rattle.transyt_make.specs.Made.{made};
 ghost use Rattle.transyt_reporter.specs.Brief.{brief_text, brief_steps};
 ghost use Rattle.transyt_outcome.specs.Outcome.{TextOutcome};
+ghost use Rattle.transyt.specs.Numbers.{IsTown};
 ghost use Rattle.transyt.specs.Tasks.{TextSteps};
-ghost use Rattle.transyt.specs.Words.{IsTown};
 
 use std::alloc::Global;
 use std::sync::ledger::Ledger;

@@ -3,8 +3,8 @@ ghost use Rattle.std.specs.Prelude.{◌≡◌, ◌≤◌, ◌<◌, IfSome, map, 
 ghost use Rattle.transyt_num.specs.Number.{number_of};
 ghost use Rattle.std.specs.Option.{option_map};
 ghost use Rattle.transyt_scan.specs.Rows.{IsScan};
-ghost use Rattle.transyt.specs.Words.{workers_of, nodes_of, alone, run_word, town_of, make_word, brief_by, brief_word};
-ghost use Rattle.transyt.specs.Words.{times_of, starts_word, word_of, IsTown, IsWord};
+ghost use Rattle.transyt.specs.Numbers.{workers_of, nodes_of, town_of, times_of, IsTown};
+ghost use Rattle.transyt.specs.Words.{alone, run_word, make_word, brief_by, brief_word, starts_word, word_of, IsWord};
 
 use crate::town::Town;
 use transyt_num::read_number;

@@ -1,7 +1,8 @@
 -- Finds: a move's desk is the rest of its number by the number of desks, and its turn the quotient.
-use Rattle.std.proofs.Common.{◌≡◌, ℕ, ◌+◌, ◌*◌, ◌/◌, ◌%◌, ◌<◌, ◌≤◌, List, length, slice_index_or, slice_set}
+use Rattle.std.proofs.Common.{◌≡◌, ℕ, ◌+◌, ◌*◌, ◌/◌, ◌%◌, ◌<◌, ◌≤◌, List, length, slice_index_or, slice_set, [], ◌∷◌, ◌++◌}
 use Rattle.std.proofs.Common.{refl, ap, sym, ◌∙◌, subst, arith}
-use Rattle.std.proofs.lemmas.List.{get_or-set_other}
+use Rattle.std.proofs.lemmas.List.{get_or-set_other, get_or_append_left}
+use Rattle.std.proofs.Math.Seq.{get_or-append_seam}
 use Rattle.std.proofs.lemmas.Grind.{get_or-set_at}
 use Rattle.std.proofs.Math.Nat.{mod-eq_of_lt}
 use borrow.Author.Count.{below_more}
@@ -82,3 +83,22 @@ all_found reach olds news aligned same count desks has = record { count = desks 
 -- a place that isn't past the end of the list
 pub place_within : (place count number : ℕ) → place + number < count → place_at place count number ≡ place + number
 place_within place count number inside = mod-eq_of_lt inside
+
+-- a fact of each desk of a front and of the one desk after it, before and after, is one of each of all
+pub one_more : (P : ℕ → Desk → Desk → Type 0) (olds news back : List Desk) (x y : Desk) → length back ≡ 1
+    → length news ≡ length olds
+    → ((k : ℕ) (d : Desk) → k < length olds → P k (slice_index_or olds k d) (slice_index_or news k d))
+    → P (length olds) (slice_index_or back 0 x) y → (k : ℕ) (d : Desk) → k < length olds + 1
+    → P k (slice_index_or (olds ++ back) k d) (slice_index_or (news ++ slice_set back 0 y) k d)
+one_more P olds news [] x y one same each last = absurd (omega (arith, one))
+one_more P olds news (b ∷ c ∷ more) x y one same each last = absurd (omega (arith, one))
+one_more P olds news (b ∷ []) x y one same each last = λ k d less. below_more
+    (λ k. (d : Desk) → P k (slice_index_or (olds ++ b ∷ []) k d) (slice_index_or (news ++ y ∷ []) k d)) (length olds)
+    (λ k fewer d. subst (λ u. P k u (slice_index_or (news ++ y ∷ []) k d)) (sym (get_or_append_left olds (b ∷ []) d k fewer))
+    (subst (λ u. P k (slice_index_or olds k d) u)
+    (sym (get_or_append_left news (y ∷ []) d k (omega (arith, same, fewer)))) (each k d fewer)))
+    (λ d. subst (λ u. P (length olds) u (slice_index_or (news ++ y ∷ []) (length olds) d)) (sym (get_or-append_seam olds b [] d))
+    (subst (λ u. P (length olds) b u)
+    (sym (ap (λ n. slice_index_or (news ++ y ∷ []) n d) (sym same) ∙ get_or-append_seam news y [] d))
+    last))
+    k less d

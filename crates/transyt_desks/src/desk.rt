@@ -1,6 +1,7 @@
 //! One desk, and many that follow the first.
 
 ghost use Rattle.std.specs.Prelude.{◌≡◌, ℕ, ◌+◌, ◌<◌, ◌≤◌, length, List, All, None, slice_index_or, ◌↔◌, IsTrue};
+ghost use Rattle.std.specs.Thread.{IsSync};
 ghost use Rattle.transyt_net.specs.Parts.{SameShape};
 ghost use Rattle.transyt_desks.specs.Desks.{AreAlike, AreAligned, OthersClosed, sessions_of, desk_zero};
 
@@ -29,7 +30,9 @@ pub(crate) fn all_same(desks: &[Desk]) -> bool
     true
 }
 
-/// Lets every desk stand for the network of a session, all at once.
+/// Lets every desk stand for the network of a session, all at once: the first in this thread, each other in a new one,
+/// which this thread makes before it copies itself.
+#[cycle(followers)]
 fn stand_all<R: Threads + Sync>(rt: &R, desks: &mut [Desk], zero: &Session)
     requires shape { All (λ d. SameShape d.session.net zero.now.net) desks.old }
     requires closed { All (λ d. d.session.before ≡ None) desks.old }
@@ -37,15 +40,44 @@ fn stand_all<R: Threads + Sync>(rt: &R, desks: &mut [Desk], zero: &Session)
     ensures net { All (λ d. d.session.net ≡ zero.now.net) desks.new }
     ensures closed { All (λ d. d.session.before ≡ None) desks.new }
 {
-    thread::for_each_mut(
-        rt,
-        desks,
-        8,
-        &|_i: usize, desk: &mut Desk|
-            requires { SameShape desk.old.session.net zero.now.net
-                × (desk.old.session.before ≡ None) }
-        { desk.session.take_over(zero) },
-    );
+    if desks.is_empty() {
+        return;
+    }
+    let (front, last) = desks.split_at_mut(desks.len() - 1);
+    if front.is_empty() {
+        last[0].session.take_over(zero);
+    } else {
+        stand_both(rt, front, &mut last[0], zero);
+    }
+}
+
+/// Lets the last desk stand for the network of a session in a new thread, and those before it from this thread.
+#[cycle(followers)]
+fn stand_both<R: Threads + Sync>(rt: &R, front: &mut [Desk], last: &mut Desk, zero: &Session)
+    requires shape { All (λ d. SameShape d.session.net zero.now.net) front.old }
+    requires closed { All (λ d. d.session.before ≡ None) front.old }
+    requires last_shape { SameShape last.old.session.net zero.now.net }
+    requires last_closed { last.old.session.before ≡ None }
+    ensures len { length front.new ≡ length front.old }
+    ensures net { All (λ d. d.session.net ≡ zero.now.net) front.new }
+    ensures closed { All (λ d. d.session.before ≡ None) front.new }
+    ensures last_net { last.new.session.net ≡ zero.now.net }
+    ensures last_closed { last.new.session.before ≡ None }
+{
+    let mut there = ||
+        requires { SameShape last.now.session.net zero.now.net
+            × (last.now.session.before ≡ None) }
+        ensures { (last.exit.now.session.net ≡ zero.entry.now.net)
+            × (last.exit.now.session.before ≡ None) }
+    { last.session.take_over(zero) };
+    let mut here = ||
+        requires { IsSync R.row × All (λ d. SameShape d.session.net zero.now.net) front.now
+            × All (λ d. d.session.before ≡ None) front.now }
+        ensures { (length front.exit.now ≡ length front.entry.now)
+            × All (λ d. d.session.net ≡ zero.entry.now.net) front.exit.now
+            × All (λ d. d.session.before ≡ None) front.exit.now }
+    { stand_all(rt, front, zero) };
+    thread::join_mut(rt, &mut there, &mut here);
 }
 
 /// Lets every other desk stand for the network of desk 0, all at once. No thread is made where they do already.

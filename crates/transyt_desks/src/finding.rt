@@ -49,59 +49,12 @@ fn find_at_gate<G: Gate>(gate: &G, desk: &mut Desk, number: usize, reach: Reach)
     gate.leave(number as u32);
 }
 
-/// Tries the moves of a reach that come in turn to the desks after desk 0, all at once.
-fn find_others<R: Threads + Sync, G: Gate>(crew: &Crew<'_, R, G>, others: &mut [Desk], reach: Reach)
-    requires few { length others.old < 8 }
-    requires ready { All (λ d. CanFind reach d) others.old }
-    ensures len { length others.new ≡ length others.old }
-    ensures found { (k : ℕ) (d : Desk) → k < length others.old
-        → HasFound reach (k + 1) (slice_index_or others.old k d) (slice_index_or others.new k d) }
-{
-    let gate = crew.gate;
-    thread::for_each_mut(
-        crew.rt,
-        others,
-        7,
-        &|i: usize, desk: &mut Desk|
-            requires { (i < 7) × CanFind reach desk.old }
-        { find_at_gate(gate, desk, i + 1, reach) },
-    );
-}
-
-/// Tries the moves of a reach at desk 0 in this thread, and at the other desks in new ones, all at once.
-fn find_apart<R: Threads + Sync, G: Gate>(
-    crew: &Crew<'_, R, G>,
-    zero: &mut Desk,
-    others: &mut [Desk],
-    reach: Reach,
-)
-    requires few { length others.old < 8 }
-    requires ready { All (λ d. CanFind reach d) others.old }
-    requires zero_ready { CanFind reach zero.old }
-    ensures zero { HasFound reach 0 zero.old zero.new }
-    ensures len { length others.new ≡ length others.old }
-    ensures found { (k : ℕ) (d : Desk) → k < length others.old
-        → HasFound reach (k + 1) (slice_index_or others.old k d) (slice_index_or others.new k d) }
-{
-    let mut there = ||
-        requires { IsSync R.row × IsSync G.row × (length others.now < 8)
-            × All (λ d. CanFind reach d) others.now }
-        ensures { (length others.exit.now ≡ length others.entry.now)
-            × ((k : ℕ) (d : Desk) → k < length others.entry.now → HasFound reach (k + 1)
-            (slice_index_or others.entry.now k d) (slice_index_or others.exit.now k d)) }
-    { find_others(crew, others, reach) };
-    let mut here = ||
-        requires { CanFind reach zero.now }
-        ensures { HasFound reach 0 zero.entry.now zero.exit.now }
-    { find_at_gate(crew.gate, zero, 0, reach) };
-    thread::join_mut(crew.rt, &mut there, &mut here);
-}
-
-/// Tries the moves of a reach, which come to the desks in turn, all at once.
+/// Tries the moves of a reach, which come to the desks in turn, all at once: those of desk 0 in this thread, those of
+/// each other desk in a new one.
 ///
-/// Desk 0 tries its moves in this thread. One new thread is for the other desks, and makes the threads that they take. Two
-/// threads that two others make at the same moment mostly get the same idle processor, where one waits some 4 ms for its
-/// turn; up to four desks take no two such threads.
+/// This thread makes all the others before it tries a move itself: a thread that is made by one which then works on
+/// mostly gets the same processor, and waits there until the other is done.
+#[cycle(forks)]
 fn find_all<R: Threads + Sync, G: Gate>(crew: &Crew<'_, R, G>, desks: &mut [Desk], reach: Reach)
     requires few { length desks.old ≤ 8 }
     requires ready { All (λ d. CanFind reach d) desks.old }
@@ -112,12 +65,44 @@ fn find_all<R: Threads + Sync, G: Gate>(crew: &Crew<'_, R, G>, desks: &mut [Desk
     if desks.is_empty() {
         return;
     }
-    let (zero, others) = desks.split_at_mut(1);
-    if others.is_empty() {
-        find_at_gate(crew.gate, &mut zero[0], 0, reach);
+    let number = desks.len() - 1;
+    let (front, last) = desks.split_at_mut(number);
+    if front.is_empty() {
+        find_at_gate(crew.gate, &mut last[0], 0, reach);
     } else {
-        find_apart(crew, &mut zero[0], others, reach);
+        find_both(crew, front, &mut last[0], reach);
     }
+}
+
+/// Tries the moves of the last desk in a new thread, and those of the desks before it from this thread.
+#[cycle(forks)]
+fn find_both<R: Threads + Sync, G: Gate>(
+    crew: &Crew<'_, R, G>,
+    front: &mut [Desk],
+    last: &mut Desk,
+    reach: Reach,
+)
+    requires few { length front.old < 8 }
+    requires ready { All (λ d. CanFind reach d) front.old }
+    requires last_ready { CanFind reach last.old }
+    ensures len { length front.new ≡ length front.old }
+    ensures found { (k : ℕ) (d : Desk) → k < length front.old
+        → HasFound reach k (slice_index_or front.old k d) (slice_index_or front.new k d) }
+    ensures last { HasFound reach (length front.old) last.old last.new }
+{
+    let number = front.len();
+    let mut there = ||
+        requires { IsSync G.row × (number < 8) × CanFind reach last.now }
+        ensures { HasFound reach number last.entry.now last.exit.now }
+    { find_at_gate(crew.gate, last, number, reach) };
+    let mut here = ||
+        requires { IsSync R.row × IsSync G.row × (length front.now ≤ 8)
+            × All (λ d. CanFind reach d) front.now }
+        ensures { (length front.exit.now ≡ length front.entry.now)
+            × ((k : ℕ) (d : Desk) → k < length front.entry.now → HasFound reach k
+            (slice_index_or front.entry.now k d) (slice_index_or front.exit.now k d)) }
+    { find_all(crew, front, reach) };
+    thread::join_mut(crew.rt, &mut there, &mut here);
 }
 
 /// Tries the moves of a reach at desks that stand for one network, all at once.

@@ -1,22 +1,9 @@
 -- How many lines a deck is read from.
-use Rattle.std.proofs.Common.{◌≡◌, ℕ, ◌+◌, ◌<◌, ◌≤◌, List, Result, Ok, Err, refl, ap, arith}
-use Rattle.transyt_syntax.specs.declared.code.Code.{Code}
-use Rattle.transyt_deck.specs.declared.state.Part.TheVariants as p
-use Rattle.transyt_deck.specs.declared.state.State.{State}
-use Rattle.transyt_deck.specs.declared.state.State.TheVariants as s
+use Rattle.std.proofs.Common.{◌≡◌, ℕ, ◌+◌, ◌<◌, ◌≤◌, List, ap, arith}
 use Rattle.transyt_deck.specs.State.{state_after}
-use Rattle.transyt_deck.specs.Deck.{ReaderValue, Deck, Refused, Complete, Open, deck_at, deck_by, next, line_count}
+use Rattle.transyt_deck.specs.Deck.{ReaderValue, Deck, Refused, Complete, Open, next, line_count}
+use Rattle.transyt_deck.proofs.Adding.{count_by}
 use Rattle.transyt_reporter.specs.Reporter.{ReporterValue, IsReporter, reporter_of}
-
--- a deck at a line
-count_at : (n : ℕ) (state : State) → line_count (deck_at n state) ≡ n
-count_at n (s.Making form p.Frame net) = refl
-count_at n state = refl
-
--- by the state after it or its code
-count_by : (n : ℕ) (r : Result State Code) → line_count (deck_by n r) ≡ n
-count_by n (Ok state) = count_at n state
-count_by n (Err code) = refl
 
 -- one line more at most
 pub count_next : (deck : Deck) (line : List ℕ) → line_count (next deck line) ≤ line_count deck + 1

@@ -1,7 +1,8 @@
 -- All is said by what was done for the word.
 use Rattle.std.proofs.Common.{Option, sym, ◌∙◌, subst}
 use Rattle.transyt.specs.declared.word.Word.{Word}
-use Rattle.transyt.specs.Tasks.{task, TaskHeadline, TaskComplete, TaskTooLong, IsRun}
+use Rattle.transyt.specs.Tasks.{TaskHeadline, TaskComplete, TaskTooLong}
+use Rattle.transyt.specs.Words.{task, IsRun}
 use Rattle.transyt.proofs.TaskLaws.{word_settled, task_headline, task_complete, task_too_long, of_words, run_headline}
 use Rattle.transyt.proofs.ValidRuns.{climb_descends}
 use Rattle.transyt.proofs.top.transyt.Goals as goal
