@@ -1,6 +1,6 @@
 //! Cards and the deck that they make: a network, read line by line.
 //!
-//! The meaning of a list of lines is `deck` of `specs/Deck`: refused at the first line with a code, complete at
+//! A list of lines means `deck` (`specs/Deck`): refused at the first line with a code, complete at
 //! an accepted END with the network of the cards before it, or open. It is the fold of one step, `next`, over the state
 //! that the cards have come to (`State` of `specs/State`, with each card's place, faults and effect in one table,
 //! `added`); the card of a line is read by the table of cards (`specs/Cards`). `CardReader` is that step: a contract

@@ -84,7 +84,7 @@ all_found reach olds news aligned same count desks has = record { count = desks 
 pub place_within : (place count number : ℕ) → place + number < count → place_at place count number ≡ place + number
 place_within place count number inside = mod-eq_of_lt inside
 
--- a fact of each desk of a front and of the one desk after it, before and after, is one of each of all
+-- a fact about each desk in a front and about the one desk after it, before and after, holds for all
 pub one_more : (P : ℕ → Desk → Desk → Type 0) (olds news back : List Desk) (x y : Desk) → length back ≡ 1
     → length news ≡ length olds
     → ((k : ℕ) (d : Desk) → k < length olds → P k (slice_index_or olds k d) (slice_index_or news k d))

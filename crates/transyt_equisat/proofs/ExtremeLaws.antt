@@ -34,7 +34,7 @@ below = record {
 abbrev over_of : (Fraction → Fraction → Bool) → Fraction → Fraction → Fraction
 over_of over a d = if over d a then d else a
 
--- a fact of the first and of each other is one of the greatest
+-- a fact about the first number and each other one holds for the greatest
 pub extreme_has : (over : Fraction → Fraction → Bool) (P : Fraction → Type 0) (ds : List Fraction) (a : Fraction) → P a → All P ds
     → P (fold (over_of over) a ds)
 extreme_has over P [] a pa all = pa

@@ -35,7 +35,7 @@ pub others_more : (old lanes : List ℕ) (lane n r : ℕ) → lane < 4 → Other
     → OthersStay old (set lanes (4 * n + lane) r) lane
 others_more old lanes lane n r own before k m small other = grind (arith, common_steps, before k m small other)
 
--- a fact of each share is one of each value of the onward part
+-- a fact about each share holds for each value of the onward part
 pub all_shared : (part whole b : ℕ) (xs : List ℕ) → ((k : ℕ) → k < length xs → share_at part whole xs k < b)
     → All (λ v. v < b) (shared part whole xs)
 all_shared part whole b xs each =

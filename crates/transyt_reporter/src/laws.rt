@@ -11,8 +11,8 @@ ghost use Rattle.transyt_line_answers.specs.WorkedCommands.{some_climb};
 ghost use Rattle.transyt_reporter.specs.Brief.{brief_steps, brief_text, climbed_line};
 ghost use Rattle.transyt_reporter.specs.WorkedBrief.{climb_line};
 
-/// A brief of a network without links; the line of a climb of the three junctions; the steps of a brief are those of END
-/// and of CLIMB, which the report counts one by one.
+/// A brief on a network without links; the line for a climb on the three junctions; a brief takes the steps of END and
+/// CLIMB, which the report counts one by one.
 #[tactic(auto, using(crate::proofs::WorkedBrief::brief_is, crate::proofs::WorkedBrief::brief_told, crate::proofs::WorkedBrief::steps_of_brief))]
 pub fn worked_brief()
     ensures text { brief_text idle ≡ codes "BRIEF 1 0 FROM 0 TOOK 0 LOCAL 6 TO 0" ++ 10 ∷ [] }

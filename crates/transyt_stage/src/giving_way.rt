@@ -3,7 +3,7 @@
 ghost use Rattle.std.specs.Prelude.{◌≡◌, ◌^◌, ◌<◌, ◌≤◌, length, All};
 ghost use Rattle.transyt_stage.specs.Green.{yielded, yielding};
 
-/// Takes from GO of each step a part of the departures of the other link in it.
+/// Lowers each step's GO by a part of the other link's departures in that step.
 ///
 /// Both slices have one value for each step of the cycle, in millionths of a vehicle. `percent` is in per cent of
 /// `other_out`, and the part is rounded down. A GO above 0 stays at least one unit. This project's own.

@@ -15,7 +15,7 @@ use Rattle.transyt_track.specs.Front.{awaits, has_moved, own_differs}
 pub or_false : (x : Bool) → (x || false) ≡ x
 or_false x = grind arith
 
--- tests that say the same of these say the same of any of them
+-- tests that agree on the numbers below a count agree on a list that has no others
 pub any_same : (f g : ℕ → Bool) (count : ℕ) → ((m : ℕ) → m < count → f m ≡ g m) → (js : List ℕ)
     → All (λ j. j < count) js → list_any f js ≡ list_any g js
 any_same f g count same [] all = refl

@@ -60,7 +60,7 @@ pub node_at : (net : Network) (l : ℕ) (places : PlacesValue) → IsValid net �
 node_at net l places valid inside is =
     (node_here net l valid inside).1 ∙ ap (λ (q : PlacesValue). node_of net q.node) (sym is)
 
--- so a node of equal times is one of equal times of the link
+-- so the node's times are equal just where they are for the link
 pub times_here : (a b : Network) (l : ℕ) (places : PlacesValue) → IsValid a → IsValid b → l < length a.links
     → l < length b.links → places ≡ places_at a l → places ≡ places_at b l
     → (HaveNode a b places.node ↔ SameTimes (the_node a (link_of a l).node) (the_node b (link_of b l).node))

@@ -1,4 +1,4 @@
--- The rows while they go over from the evaluation of one network to that of another of its shape.
+-- The rows while they go over from the evaluation of one network to that of another network with its shape.
 use Rattle.std.specs.Prelude.{◌≡◌, ◌↔◌, ℕ, ◌<◌, ◌≤◌, ◌==◌, Bool, false, not, ◌&&◌, ◌||◌, nat_eq, nat_lt, List, length}
 use Rattle.std.specs.Prelude.{slice_index_or, if◌then◌else◌}
 use Rattle.std.specs.List.{list_any}

@@ -99,7 +99,7 @@ fn first_barred(steps: u32, nodes: &[Node]) -> Option<u32>
     None
 }
 
-/// A step of a cycle of `before` steps in one of `after` steps, rounded down.
+/// A step in a cycle with `before` steps as one in a cycle with `after` steps, rounded down.
 fn scaled(before: u32, after: u32, step: u32) -> u32
     requires before { before ≤ 120 }
     requires some { 0 < after }
