@@ -13,6 +13,7 @@ use Rattle.std.proofs.lemmas.List.{append-nil}
 use Rattle.std.proofs.lemmas.List.Folds.{list_all-append}
 use Rattle.std.proofs.lemmas.Bool.Decides.{nat_tests}
 use Rattle.std.proofs.lemmas.Bool.{and_parts, and_from, not_from_false}
+use Rattle.transyt_io.proofs.WordParts.{word_kept}
 use Rattle.transyt_num.proofs.NumberLaws.{number_of-decimal}
 use Rattle.transyt_io.specs.Lines.{is_blank, is_some_word, words}
 use Rattle.transyt_syntax.specs.Syntax.{all_numbers, is_plain}
@@ -86,16 +87,11 @@ split_numbers (n ∷ ns) h =
     ∙ prepend_onto (decimal n) [] (map decimal ns)
     ∙ ap (λ (l : List ℕ). l ∷ map decimal ns) (append-nil (decimal n)))
 
-keep : (word : List ℕ) (more : List (List ℕ)) → 0 < length word
-    → filter is_some_word (word ∷ more) ≡ word ∷ filter is_some_word more
-keep [] more some = absurd (omega arith)
-keep (b ∷ bs) more some = refl
-
 keep_numbers : (ns : List ℕ) → list_all is_small ns ≡ true → filter is_some_word (map decimal ns) ≡ map decimal ns
 keep_numbers [] h = refl
 keep_numbers (n ∷ ns) h =
     let both = and_parts (is_small n) (list_all is_small ns) h in
-    keep (decimal n) (map decimal ns) (numeral n both.0).0.0
+    word_kept (decimal n) (map decimal ns) (numeral n both.0).0.0
     ∙ ap (λ (l : List (List ℕ)). decimal n ∷ l) (keep_numbers ns both.1)
 
 -- the words of a keyword and numbers
@@ -107,7 +103,7 @@ words_text word ns plain some small =
     ∙ ap (prepend word) (split_numbers ns small)
     ∙ prepend_onto word [] (map decimal ns)
     ∙ ap (λ (l : List ℕ). l ∷ map decimal ns) (append-nil word))
-    ∙ keep word (map decimal ns) some
+    ∙ word_kept word (map decimal ns) some
     ∙ ap (λ (l : List (List ℕ)). word ∷ l) (keep_numbers ns small)
 
 -- numbers and those after them

@@ -54,6 +54,6 @@ out_elsewhere rows s l inside x t k there apart =
     get_or-set_other rows.outs (pair_place rows s l) (pair_place rows t k) x []
     (pairs_apart (length rows.figures) t k s l there inside apart)
 
--- the rest of the last sweep doesn't move what leaves
+-- the rest of the last sweep doesn't move the departures
 pub out_shown : (rows : RowsValue) (l : ℕ) (c : CellValue) (t k : ℕ) → out_at (with_rest rows l c) t k ≡ out_at rows t k
 out_shown rows l c t k = ap (λ n. row rows.outs (t * n + k)) (length-set rows.figures l c.figures)

@@ -22,7 +22,7 @@ use Rattle.std.specs.Prelude.{slice_index_or}
 use Rattle.transyt_desks.specs.Stretches.{AreTriesOf, work_found}
 use Rattle.transyt_desks.proofs.TriedLaws.{try_work}
 use Rattle.transyt_reporter.specs.Conditions.{HasCertified, places_text}
-use Rattle.transyt_reporter.proofs.ClimbTexts.{whole}
+use Rattle.transyt_text.proofs.LoopLaws.{whole}
 
 -- the work of a try is little
 pub try_few : (net : Network) (from count : ℕ) (tries : List Tried) (k : ℕ) (d : Tried) → AreTriesOf net from count tries

@@ -14,7 +14,7 @@ use Rattle.transyt_desks.specs.declared.turns.Round.{Round}
 use Rattle.transyt_desks.specs.Rounds.{MakesRound}
 use Rattle.transyt_text.specs.Prints.{Prints, Printed}
 use Rattle.transyt_text.proofs.PrintLaws.{prints_both, prints_front, prints_same, adds_same}
-use Rattle.transyt_text.proofs.LoopLaws.{printed_nothing}
+use Rattle.transyt_text.proofs.LoopLaws.{printed_nothing, whole}
 use Rattle.transyt_report.specs.Texts.{took_text, end_text}
 use Rattle.transyt_line_answers.specs.Commands.{steps_text, climb_text}
 use Rattle.transyt_reporter.proofs.MoveLaws.{turns_left}
@@ -25,15 +25,6 @@ pub record ClimbWritten (budget : ℕ) (first : SessionValue) (m : Machine) (wri
   pub done : List Step
   pub climb : IsClimbing budget first m done
   pub printed : Printed written written_new faults faults_new (steps_text done)
-
--- a text that was written whole, as that of a call that went well
-pub whole : {T E : Type 0} (v : T) {a b : Option (List ℕ)} {f g : ℕ} (text : List ℕ) → Printed a b f g text
-    → Prints {T = T} {E = E} a b f g (Ok v) text
-whole v text so_far = record {
-  ok = so_far.adds;
-  err = tt;
-  cause = record { later = so_far.later; failed = tt };
-}
 
 -- no line is written yet
 pub writes_nothing : {budget : ℕ} {first : SessionValue} {m : Machine} → IsClimbing budget first m []

@@ -69,7 +69,7 @@ module _ (net : Network) (f g : ℕ → ℕ → List ℕ) (s l : ℕ) (rows : Ro
       by t k within there (inl sweep) (inr other) = elsewhere t k within there (λ _ e. other e)
       by t k within there (inr other) _ = elsewhere t k within there (λ e _. other e)
 
-  -- with the rest of the last sweep written, what leaves is the same
+  -- with the rest of the last sweep written, the departures are the same
   pub mixed_shown : (m : ℕ) (c : CellValue) → AreMixed net f g s l (with_rest rows m c)
   mixed_shown m c = record {
     fits = record {

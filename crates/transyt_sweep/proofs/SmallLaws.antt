@@ -109,7 +109,7 @@ module _ (net : Network) (valid : IsValid net) (l : ℕ) (inside : l < length ne
       subst (λ v. v < 2 ^ 30)
       (sym (get_or-map-range_with_len (out_at reaching (go net read l)) 0 (length reaching) k k d below same)) less
 
-  -- at each sweep what leaves is small, and the total flow before the first
+  -- at each sweep the departures are small, and the total flow before the first
   pub out_small : (s : ℕ) → All (λ v. v < 2 ^ 30) (out_of net s l)
   out_small zero =
       subst (λ (xs : List ℕ). All (λ v. v < 2 ^ 30) xs) (sym (out_of_start net l))

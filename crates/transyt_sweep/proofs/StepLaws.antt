@@ -19,7 +19,7 @@ length-gathered net read (f ∷ fs) come =
     length-gathered net read fs (added come (brought net read f))
     ∙ length-map-range_with_len (added_at come (brought net read f)) 0 (length come)
 
--- a value of what comes for each step
+-- a value of the arrivals for each step
 pub length-inflow : (net : Network) (read : ℕ → List ℕ) (l : ℕ) → length (inflow net read l) ≡ net.frame.step_count
 length-inflow net read l =
     length-gathered net read (link_of net l).feeds
@@ -37,7 +37,7 @@ length-under_rule : (net : Network) (read : ℕ → List ℕ) (rule : Option Giv
 length-under_rule net read None green = refl
 length-under_rule net read (Some rule) green = length-map-range_with_len _ 0 (length green)
 
--- a value of what can go for each step
+-- a value of GO for each step
 pub length-go : (net : Network) (read : ℕ → List ℕ) (l : ℕ) → length (go net read l) ≡ net.frame.step_count
 length-go net read l = length-under_rule net read (link_of net l).gives_way (signal net l) ∙ length-signal net l
 

@@ -31,8 +31,8 @@ text_from F xs i d x inside is =
     ∙ sym (flat_map-append F (take (i + 1) xs) (drop (i + 1) xs))
     ∙ ap (flat_map F) (take-append-drop (i + 1) xs)
 
--- the bytes written, as a call that went well
-whole : {T E : Type 0} (v : T) {a b : Option (List ℕ)} {f g : ℕ} (text : List ℕ) → Printed a b f g text
+-- a text that was written whole, as that of a call that went well
+pub whole : {T E : Type 0} (v : T) {a b : Option (List ℕ)} {f g : ℕ} (text : List ℕ) → Printed a b f g text
     → Prints {T = T} {E = E} a b f g (Ok v) text
 whole v text so_far = record {
   ok = so_far.adds;

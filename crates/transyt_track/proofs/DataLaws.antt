@@ -57,7 +57,7 @@ module _ (a b : Network) (l : ℕ) (data_same : SameData a b l) where
       ∙ ap (λ q. green_by b.frame (the_node b (link_of b l).node) (link_of b l).stages (link_of b l).start_lag
       (link_of b l).end_lag q) data_same.saturation
 
-  -- with no rule what can go is the same, whatever is read
+  -- with no rule GO is the same, whatever is read
   pub green_same : (x y : ℕ → List ℕ) → (link_of b l).gives_way ≡ None → go a x l ≡ go b y l
   green_same x y none =
       ap (λ r. under_rule a x r (signal a l)) (data_same.rule ∙ none)

@@ -137,7 +137,7 @@ module _ (a b : Network) (s l : ℕ) (rows : RowsValue) (awaited : List Bool) (a
           flags = flags;
         }
 
-    -- whether what leaves it differs is told by its rows
+    -- whether its departures differ is told by its rows
     pub differs_told : (c : CellValue) → c ≡ cell_at b s l → (d : Bool) → d ≡ not (bytes_eq (out_at rows s l) c.out)
         → d ≡ differs a b s l
     differs_told c made d told =

@@ -80,7 +80,7 @@ total_told f range x y = by (cases_eq x y) (cases_lt x y)
         apart_tests (perstep f x) (perstep f y) x y (omega (arith, part)) other
 
 module _ (a b : Network) (same : SameShape a b) where
-  -- whether what leaves link l before the first sweep differs
+  -- whether the departures of link l before the first sweep differ
   pub start_differs : (l : ℕ) → 1 ≤ b.frame.step_count
       → not (nat_eq (perstep a.frame (total_flow (link_of a l))) (perstep b.frame (total_flow (link_of b l))))
       ≡ differs a b 0 l

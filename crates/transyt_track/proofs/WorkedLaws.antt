@@ -24,7 +24,7 @@ unfolding sum_back greatest smoothed seen out_of differs due_in due_through due 
 certificate = refl
 
 -- the third link of the loop is due at each sweep for itself, the second for the share that it has of it, and the first
--- at the last sweep, the first at which what leaves the second differs
+-- at the last sweep, the first at which the departures of the second differ
 pub loop_work : due (loop_of_three 360) (loop_of_three 3420) ≡ 7
 unfolding sum_back greatest smoothed seen out_of differs due_in due_through due
 loop_work = refl
