@@ -24,6 +24,11 @@ pub session_read : (desks : List Desk) (k : ℕ) (d : Desk) → k < length desks
 session_read desks k d less =
     ap (λ (x : Desk). x.session) (get_or_default desks k d no_desk less) ∙ sym (session_is desks k)
 
+-- and its network that of the session there
+pub net_read : (desks : List Desk) (k : ℕ) (d : Desk) → k < length desks
+    → (slice_index_or desks k d).session.net ≡ (session_at (sessions_of desks) k).net
+net_read desks k d less = ap (λ (s : SessionValue). s.net) (session_read desks k d less)
+
 -- there are as many
 pub sessions_count : (desks : List Desk) → length (sessions_of desks) ≡ length desks
 sessions_count desks = length-map desks (λ (d : Desk). d.session)
