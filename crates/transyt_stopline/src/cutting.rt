@@ -3,6 +3,7 @@
 ghost use Rattle.std.specs.Prelude.{◌≡◌, ℕ, ◌^◌, ◌*◌, ◌<◌, ◌≤◌, length, sum, slice_index, All};
 ghost use Rattle.transyt_stopline.specs.StopLine.{arrivals_of, scaled};
 
+use crate::ratio::Ratio;
 use crate::totals::Totals;
 use transyt_num::{divided_near, mul_div};
 use transyt_profile::total;
@@ -52,74 +53,63 @@ pub fn cut(x: &[u64], go: &[u64], out: &mut [u64]) -> Totals
         served: total(go),
     };
     if totals.more_comes() {
-        scale(x, totals.served, totals.come, out);
+        let ratio = Ratio {
+            served: totals.served,
+            come: totals.come,
+        };
+        scale(x, ratio, out);
     }
     totals
 }
 
-/// Scales each step down to `served` of `come`, the sum of all steps.
-fn scale(x: &[u64], served: u64, come: u64, out: &mut [u64])
+/// Scales each step down by a ratio, that of the sum of all steps.
+#[tactic(auto, using(crate::proofs::CutLaws::step_within))]
+fn scale(x: &[u64], ratio: Ratio, out: &mut [u64])
     requires lengths { length out.old ≡ length x.now }
-    requires whole { come ≡ sum x.now }
-    requires part { served < come }
+    requires whole { ratio.come ≡ sum x.now }
     ensures { (k : ℕ) → k < length x.now
-        → slice_index out.new k ≡ scaled come served (slice_index x.now k) }
+        → slice_index out.new k ≡ scaled ratio.come ratio.served (slice_index x.now k) }
 {
-    if come < 1 << 32 {
-        scale_near(x, served, come, out);
-    } else {
-        scale_each(x, served, come, out);
+    if ratio.come < 1 << 32 {
+        scale_near(x, ratio, out);
+        return;
+    }
+    for step in 0..x.len() {
+        out[step] = scale_one(x[step], ratio);
     }
 }
 
 /// The same with one division for all steps, where the sum has 32 bits.
 #[tactic(auto, using(crate::proofs::CutLaws::step_within))]
-fn scale_near(x: &[u64], served: u64, come: u64, out: &mut [u64])
+fn scale_near(x: &[u64], ratio: Ratio, out: &mut [u64])
     requires lengths { length out.old ≡ length x.now }
-    requires whole { come ≡ sum x.now }
-    requires part { served < come }
-    requires fits { come < 2 ^ 32 }
+    requires whole { ratio.come ≡ sum x.now }
+    requires fits { ratio.come < 2 ^ 32 }
     ensures { (k : ℕ) → k < length x.now
-        → slice_index out.new k ≡ scaled come served (slice_index x.now k) }
+        → slice_index out.new k ≡ scaled ratio.come ratio.served (slice_index x.now k) }
 {
-    let near = u64::MAX / come;
+    let near = u64::MAX / ratio.come;
     for step in 0..x.len() {
-        out[step] = scaled_near(x[step], served, come, near);
+        out[step] = scaled_near(x[step], ratio, near);
     }
 }
 
-/// One step scaled down, by a number near the reciprocal of `come`.
+/// One step scaled down, by a number near the reciprocal of the arrivals' sum.
 #[tactic(auto, using(crate::proofs::CutLaws::product_fits))]
-fn scaled_near(value: u64, served: u64, come: u64, near: u64) -> u64
-    requires value { value ≤ come }
-    requires part { served < come }
-    requires fits { come < 2 ^ 32 }
-    requires near { near * come < 2 ^ 64 }
-    ensures { result ≡ scaled come served value }
+fn scaled_near(value: u64, ratio: Ratio, near: u64) -> u64
+    requires value { value ≤ ratio.come }
+    requires fits { ratio.come < 2 ^ 32 }
+    requires near { near * ratio.come < 2 ^ 64 }
+    ensures { result ≡ scaled ratio.come ratio.served value }
 {
-    divided_near(value * served, come, near)
-}
-
-/// The same with a division at each step.
-#[tactic(auto, using(crate::proofs::CutLaws::step_within))]
-fn scale_each(x: &[u64], served: u64, come: u64, out: &mut [u64])
-    requires lengths { length out.old ≡ length x.now }
-    requires whole { come ≡ sum x.now }
-    requires part { served < come }
-    ensures { (k : ℕ) → k < length x.now
-        → slice_index out.new k ≡ scaled come served (slice_index x.now k) }
-{
-    for i in 0..x.len() {
-        out[i] = scale_one(x[i], served, come);
-    }
+    divided_near(value * ratio.served, ratio.come, near)
 }
 
 /// One step scaled down, by a division.
 #[tactic(auto, using(crate::proofs::CutLaws::scaled_part))]
-fn scale_one(value: u64, served: u64, come: u64) -> u64
-    requires value { value ≤ come }
-    requires part { served < come }
-    ensures { result ≡ scaled come served value }
+fn scale_one(value: u64, ratio: Ratio) -> u64
+    requires { value ≤ ratio.come }
+    ensures { result ≡ scaled ratio.come ratio.served value }
 {
-    mul_div(value, served, come) as u64
+    mul_div(value, ratio.served, ratio.come) as u64
 }

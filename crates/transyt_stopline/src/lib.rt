@@ -11,6 +11,7 @@
 mod cutting;
 mod laws;
 mod queueing;
+mod ratio;
 mod stops;
 mod totals;
 

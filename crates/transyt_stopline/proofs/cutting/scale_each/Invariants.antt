@@ -1,8 +1,0 @@
--- Arrivals are scaled step by step.
-use Rattle.std.proofs.Common.{◌≡◌, ℕ, ◌<◌, get_or}
-use Rattle.transyt_stopline.specs.StopLine.{scaled}
-use Rattle.transyt_stopline.proofs.cutting.scale_each.Given as goal
-
--- the steps passed are scaled
-abbrev pub invariant-loop-i : goal.invariant-loop-i
-invariant-loop-i l = (k : ℕ) → k < l.i → get_or l.out k 0 ≡ scaled l.come l.served (get_or l.x k 0)
