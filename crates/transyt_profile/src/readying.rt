@@ -53,7 +53,20 @@ pub fn share_ready(
             return total;
         }
     }
-    share_any(x, part, scale, lane, lanes)
+    // Any part: the greatest share is compared, since all bits together can reach the limit though no share does.
+    let mut total: u64 = 0;
+    let mut greatest: u64 = 0;
+    for i in 0..x.len() {
+        let share = share_step(x[i], part);
+        lanes[4 * i + lane] = times(share, scale.factor);
+        total += share;
+        greatest = greatest.max(share);
+    }
+    if greatest < scale.limit {
+        Some(total)
+    } else {
+        None
+    }
 }
 
 /// `share_ready` with one product and no division a step, where all bits of the shares together are below
@@ -88,40 +101,6 @@ fn share_below(x: &[u64], part: &Part, scale: Scale, lane: usize, lanes: &mut [u
         bits |= share;
     }
     if bits < scale.limit {
-        Some(total)
-    } else {
-        None
-    }
-}
-
-/// `share_ready` for any part and shares of any size.
-fn share_any(x: &[u64], part: &Part, scale: Scale, lane: usize, lanes: &mut [u64]) -> Option<u64>
-    requires most { length x.now ≤ 120 }
-    requires lane { lane < 4 }
-    requires lanes_len { length lanes.old ≡ 4 * length x.now }
-    requires fit { All (λ v. v < 2 ^ 30) x.now }
-    requires is { IsPart part.now }
-    ensures below { IfSome result (λ _.
-        All (λ v. v < scale.limit) (shared part.now.part part.now.whole x.now)) }
-    ensures ready { IfSome result (λ _. (k : ℕ) → k < length x.now
-        → slice_index lanes.new (4 * k + lane)
-        ≡ share_of part.now.part part.now.whole (slice_index x.now k) * scale.factor) }
-    ensures total { IfSome result
-        (λ total. total ≡ sum (shared part.now.part part.now.whole x.now)) }
-    ensures none { IfNone result (0 < length x.now
-        → Any (λ v. scale.limit ≤ v) (shared part.now.part part.now.whole x.now)) }
-    ensures others { (k : ℕ) → (m : ℕ) → m < 4 → (m ≡ lane → ⊥)
-        → slice_index lanes.new (4 * k + m) ≡ slice_index lanes.old (4 * k + m) }
-{
-    let mut total: u64 = 0;
-    let mut greatest: u64 = 0;
-    for i in 0..x.len() {
-        let share = share_step(x[i], part);
-        lanes[4 * i + lane] = times(share, scale.factor);
-        total += share;
-        greatest = greatest.max(share);
-    }
-    if greatest < scale.limit {
         Some(total)
     } else {
         None

@@ -3,7 +3,7 @@ use Rattle.std.proofs.Common.{rules, ◌*◌, ◌∙◌, ap, arith}
 use Rattle.std.proofs.lemmas.List.Sums.{sum_by_more}
 use Rattle.transyt_profile.specs.Profile.{share_of}
 use Rattle.transyt_profile.proofs.ReadyLaws.{lane_more, others_more, reached_more, all_shared, any_shared, sum_shared}
-use Rattle.transyt_profile.proofs.readying.share_any.Goals as goal
+use Rattle.transyt_profile.proofs.readying.share_ready.Goals as goal
 
 -- one step more
 pub loop-i-preserved : goal.loop-i-preserved

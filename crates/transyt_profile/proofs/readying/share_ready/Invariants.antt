@@ -2,7 +2,7 @@
 use Rattle.std.proofs.Common.{◌≡◌, ℕ, ◌*◌, ◌^◌, ◌<◌, ◌≤◌, take, sum_by}
 use Rattle.transyt_profile.specs.Profile.{share_of}
 use Rattle.transyt_profile.proofs.ReadyLaws.{share_at, InLane, OthersStay, Reached}
-use Rattle.transyt_profile.proofs.readying.share_any.Given as goal
+use Rattle.transyt_profile.proofs.readying.share_ready.Given as goal
 
 -- the steps passed are ready; they have this sum, and the greatest so far is that of one of them
 abbrev pub invariant-loop-i : goal.invariant-loop-i
