@@ -4,8 +4,8 @@ ghost use Rattle.std.specs.Prelude.{◌≡◌, ℕ, ◌+◌, ◌-◌, ◌<◌, �
 ghost use Rattle.std.specs.List.{range_with_len, find};
 ghost use Rattle.transyt_net.specs.Parts.{node_of, link_of};
 ghost use Rattle.transyt_equisat.specs.Degrees.{is_counted, degree};
-ghost use Rattle.transyt_equisat.specs.Peaks.{lost};
-ghost use Rattle.transyt_equisat.specs.Sharing.{asked_of, green_by, need_by, green_there, share_there, AreWithin};
+ghost use Rattle.transyt_equisat.specs.Peaks.{lost, green_of};
+ghost use Rattle.transyt_equisat.specs.Sharing.{asked_of, green_by, need_by, green_there, share_there};
 ghost use Rattle.transyt_equisat.specs.Sharing.{IsLeastPeak};
 ghost use Rattle.transyt_equisat.specs.Balance.{balance, balance_at, greens_at, is_same, first_more, reaches, reaching};
 ghost use Rattle.transyt_equisat.specs.Balance.{told_of, IsBalanced};
@@ -14,6 +14,7 @@ use crate::asked::Asked;
 use crate::demand::{Demand, degree_of, demands_of};
 use crate::fraction::{Fraction, is_above};
 use crate::greens::{Greens, Share};
+use crate::node_greens::NodeGreens;
 use crate::sharing::{least_peak, taken};
 use std::alloc::{AllocError, Global};
 use transyt_net::{Link, Net};
@@ -101,12 +102,12 @@ fn shares_for(
     alloc: Global,
     asked: &Asked,
     peak: Fraction,
-    greens: &[u32],
+    here: &NodeGreens<'_>,
 ) -> Result<Vec<Share>, AllocError>
-    requires count { length greens.now ≡ length asked.now.stages }
-    requires greens { All (λ e. e ≤ 120) greens.now }
-    ensures { IfOk result (λ shares. shares.items ≡
-        map (share_there asked.now peak greens.now) (range_with_len 0 (length asked.now.stages))) }
+    requires { length here.now.greens.now ≡ length asked.now.stages }
+    ensures { IfOk result (λ shares. shares.items
+        ≡ map (share_there asked.now peak here.now.greens.now)
+        (range_with_len 0 (length asked.now.stages))) }
 {
     let steps = asked.steps();
     let stages = asked.stages();
@@ -114,7 +115,7 @@ fn shares_for(
     let mut shares = Vec::with_capacity(alloc, stages.len())?;
     let mut change = stages[0].change;
     for place in 0..stages.len() {
-        let green = greens[place];
+        let green = here.greens[place];
         let need = need_by(steps, peak, stages[place].least, demands[place]);
         shares.push(Share {
             change,
@@ -141,35 +142,41 @@ fn filled(asked: &Asked, greens: Vec<u32>) -> Vec<u32>
     filled
 }
 
-/// Whether the link at a place counts at a node, and reaches the peak.
-fn reaches(net: &Net, place: usize, number: u32, peak: Fraction, greens: &[u32]) -> bool
-    requires place { place < length net.now.links }
-    requires within { AreWithin number (length greens.now) net.now.links }
-    requires greens { All (λ e. e ≤ 120) greens.now }
-    ensures { result ≡ reaches net.now number peak greens.now (link_of net.now place) }
+/// The degree of the link at a place, which counts at the node, at the green of its stage.
+fn degree_here(here: &NodeGreens<'_>, place: usize) -> Fraction
+    requires place { place < length here.now.net.now.links }
+    requires counted { is_counted here.now.number (link_of here.now.net.now place) ≡ true }
+    ensures value { result ≡ degree here.now.net.now.frame.step_count
+        (link_of here.now.net.now place)
+        (green_of here.now.greens.now (link_of here.now.net.now place)) }
+    ensures top { result.top ≤ 10798920 }
+    ensures base { result.base ≤ 1199880 }
 {
-    let link = &net.links()[place];
-    if !is_counted(link, number) {
-        return false;
-    }
-    is_same(
-        degree(net, place, greens[link.stages[0] as usize - 1]),
-        peak,
-    )
+    let link = &here.net.links()[place];
+    degree(here.net, place, here.greens[link.stages[0] as usize - 1])
+}
+
+/// Whether the link at a place counts at the node, and reaches the peak.
+fn reaches(here: &NodeGreens<'_>, place: usize, peak: Fraction) -> bool
+    requires { place < length here.now.net.now.links }
+    ensures { result ≡ reaches here.now.net.now here.now.number peak here.now.greens.now
+        (link_of here.now.net.now place) }
+{
+    let link = &here.net.links()[place];
+    is_counted(link, here.number) && is_same(degree_here(here, place), peak)
 }
 
 /// The place of the first counted link that reaches the peak.
 #[tactic(auto, using(crate::proofs::SearchLaws::find_skip))]
-fn reaching(net: &Net, number: u32, peak: Fraction, greens: &[u32]) -> Option<usize>
-    requires within { AreWithin number (length greens.now) net.now.links }
-    requires greens { All (λ e. e ≤ 120) greens.now }
-    ensures value { option_map (link_of net.now) result ≡
-        find (reaches net.now number peak greens.now) net.now.links }
-    ensures inside { IfSome result (λ p.
-        (p < length net.now.links) × (is_counted number (link_of net.now p) ≡ true)) }
+fn reaching(here: &NodeGreens<'_>, peak: Fraction) -> Option<usize>
+    ensures value { option_map (link_of here.now.net.now) result
+        ≡ find (reaches here.now.net.now here.now.number peak here.now.greens.now)
+        here.now.net.now.links }
+    ensures inside { IfSome result (λ p. (p < length here.now.net.now.links)
+        × (is_counted here.now.number (link_of here.now.net.now p) ≡ true)) }
 {
-    for place in 0..net.links().len() {
-        if reaches(net, place, number, peak, greens) {
+    for place in 0..here.net.links().len() {
+        if reaches(here, place, peak) {
             return Some(place);
         }
     }
@@ -184,15 +191,14 @@ struct Told {
 }
 
 /// The peak as the link at a place has it.
-fn told_by(net: &Net, place: usize, number: u32, greens: &[u32]) -> Told
-    requires place { place < length net.now.links }
-    requires counted { is_counted number (link_of net.now place) ≡ true }
-    requires within { AreWithin number (length greens.now) net.now.links }
-    requires greens { All (λ e. e ≤ 120) greens.now }
-    ensures { result ≡ told_of net.now.frame.step_count greens.now (Some (link_of net.now place)) }
+fn told_by(here: &NodeGreens<'_>, place: usize) -> Told
+    requires place { place < length here.now.net.now.links }
+    requires counted { is_counted here.now.number (link_of here.now.net.now place) ≡ true }
+    ensures { result ≡ told_of here.now.net.now.frame.step_count here.now.greens.now
+        (Some (link_of here.now.net.now place)) }
 {
-    let link = &net.links()[place];
-    let degree = degree(net, place, greens[link.stages[0] as usize - 1]);
+    let link = &here.net.links()[place];
+    let degree = degree_here(here, place);
     Told {
         top: degree.top as u32,
         base: degree.base as u32,
@@ -201,11 +207,9 @@ fn told_by(net: &Net, place: usize, number: u32, greens: &[u32]) -> Told
 }
 
 /// The peak as the first link has it that reaches it.
-fn peak_told(net: &Net, number: u32, peak: Fraction, greens: &[u32]) -> Told
-    requires within { AreWithin number (length greens.now) net.now.links }
-    requires greens { All (λ e. e ≤ 120) greens.now }
-    ensures { result ≡ told_of net.now.frame.step_count greens.now
-        (reaching net.now number peak greens.now) }
+fn peak_told(here: &NodeGreens<'_>, peak: Fraction) -> Told
+    ensures { result ≡ told_of here.now.net.now.frame.step_count here.now.greens.now
+        (reaching here.now.net.now here.now.number peak here.now.greens.now) }
 {
     if peak.top == 0 {
         return Told {
@@ -214,13 +218,13 @@ fn peak_told(net: &Net, number: u32, peak: Fraction, greens: &[u32]) -> Told
             link: 0,
         };
     }
-    match reaching(net, number, peak, greens) {
+    match reaching(here, peak) {
         None => Told {
             top: 0,
             base: 1,
             link: 0,
         },
-        Some(place) => told_by(net, place, number, greens),
+        Some(place) => told_by(here, place),
     }
 }
 
@@ -257,11 +261,15 @@ fn answer_for(
     requires least { IsLeastPeak asked.now peak }
     ensures { IfOk result (λ g. g ≡ balance_at net.now (node_of net.now node) peak) }
 {
-    let here = &net.nodes()[node];
     let filled = greens_at(alloc, net, node, asked, peak)?;
-    let greens: &[u32] = &filled;
-    let shares = shares_for(alloc, asked, peak, greens)?;
-    let Told { top, base, link } = peak_told(net, here.number, peak, greens);
+    let node = &net.nodes()[node];
+    let here = NodeGreens {
+        net,
+        number: node.number,
+        greens: &filled,
+    };
+    let shares = shares_for(alloc, asked, peak, &here)?;
+    let Told { top, base, link } = peak_told(&here, peak);
     Ok(Greens {
         top,
         base,

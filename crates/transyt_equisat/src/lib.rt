@@ -12,6 +12,7 @@ mod demand;
 mod fraction;
 mod greens;
 mod laws;
+mod node_greens;
 mod sharing;
 
 pub use balancing::balance;

@@ -6,5 +6,5 @@ use Rattle.transyt_equisat.proofs.balancing.reaching.Given as goal
 
 abbrev pub invariant-loop-place : goal.invariant-loop-place
 invariant-loop-place l =
-    find (reaches l.net l.number l.peak l.greens) (drop l.place l.net.links)
-    ≡ find (reaches l.net l.number l.peak l.greens) l.net.links
+    find (reaches l.here.net.now l.here.number l.peak l.here.greens.now) (drop l.place l.here.net.now.links)
+    ≡ find (reaches l.here.net.now l.here.number l.peak l.here.greens.now) l.here.net.now.links

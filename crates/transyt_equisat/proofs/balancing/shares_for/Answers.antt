@@ -16,7 +16,7 @@ loop-place-preserved c =
     let next : p + 1 ≡ suc p = omega arith in
     record {
       so_far = rw (c.in_ok-push.ensures.items, so_far.so_far, so_far.change, need)
-          (sym (map-range_with_len_more (share_there a c.args.peak c.args.greens.now) 0 p p (omega arith)));
+          (sym (map-range_with_len_more (share_there a c.args.peak c.args.here.now.greens.now) 0 p p (omega arith)));
       change = rw (next, so_far.change, c.stages-stages.ensures.value, c.steps-steps.ensures.value);
       small = omega (arith, so_far.small);
     }

@@ -7,7 +7,7 @@ use Rattle.transyt_equisat.proofs.balancing.shares_for.Given as goal
 
 abbrev pub invariant-loop-place : goal.invariant-loop-place
 invariant-loop-place l = record {
-  so_far : l.shares.items ≡ map (share_there l.asked l.peak l.greens) (range_with_len 0 l.place);
-  change : l.change ≡ change_at l.asked.steps l.asked.stages l.greens l.place;
+  so_far : l.shares.items ≡ map (share_there l.asked l.peak l.here.greens.now) (range_with_len 0 l.place);
+  change : l.change ≡ change_at l.asked.steps l.asked.stages l.here.greens.now l.place;
   small : l.change < l.steps;
 }
