@@ -65,8 +65,14 @@ flag_more flags l d test inside before is m within = by (cases_eq m l)
 
 module _ (a b : Network) (s l : ℕ) (rows : RowsValue) (awaited : List Bool) (at : AreAt a b s l rows awaited) where
   -- the flag at the front tells whether its link is due
-  pub flag_tells : l < length b.links → flag awaited l ≡ is_due a b s l
+  flag_tells : l < length b.links → flag awaited l ≡ is_due a b s l
   flag_tells inside = at.flags.flagged l inside ∙ awaits_here a b s l
+
+  -- so where it is read up, the link is due, and where it is read down, it isn't
+  pub flag_read : l < length b.links → {read : List Bool} → read ≡ awaited → {told up : Bool} → told ≡ flag read l
+      → told ≡ up → is_due a b s l ≡ up
+  flag_read inside read_is is here =
+      sym (flag_tells inside) ∙ ap (λ (fs : List Bool). flag fs l) (sym read_is) ∙ sym is ∙ here
 
   -- after a link's turn the flags are those of the next
   module _ (links : length a.links ≡ length b.links) (inside : l < length b.links) (own_changed : List Bool)
@@ -75,7 +81,8 @@ module _ (a b : Network) (s l : ℕ) (rows : RowsValue) (awaited : List Bool) (a
       (are : rs ≡ slice_index_or readers l []) (passed : List Bool) (count : length passed ≡ length awaited)
       (told : (m : ℕ) → flag passed m
       ≡ ((if nat_eq m l then flag own_changed l else flag awaited m) || (d && list_any (nat_eq m) rs))) where
-    read_is : (m : ℕ) → m < length b.links → (d && list_any (nat_eq m) rs) ≡ (differs a b s l && reads (places_at a m) l)
+    read_is : (m : ℕ) → m < length b.links
+        → (d && list_any (nat_eq m) rs) ≡ (differs a b s l && reads (places_at a m) l)
     read_is m there =
         ap (λ t. t && list_any (nat_eq m) rs) moved
         ∙ ap (λ t. differs a b s l && t)

@@ -1,6 +1,7 @@
 -- The node of a link stands at its place.
-use Rattle.std.proofs.Common.{◌≡◌, ◌↔◌, ℕ, ◌<◌, true, false, List, [], ◌∷◌, ◌++◌, ◌+◌, take, length, Option, Some, None}
-use Rattle.std.proofs.Common.{map, All, IfSome, refl, ap, sym, subst, ◌∙◌, get_or, nat_eq, ◌≤◌, arith}
+use Rattle.std.proofs.Common.{◌≡◌, ◌↔◌, ℕ, ◌<◌, Bool, true, false, List, [], ◌∷◌, ◌++◌, ◌+◌, take, length}
+use Rattle.std.proofs.Common.{Option, Some, None, map, All, IfSome, refl, ap, sym, subst, ◌∙◌, get_or, nat_eq}
+use Rattle.std.proofs.Common.{◌≤◌, arith}
 use Rattle.std.proofs.lemmas.List.FromFn.{length-map-range_with_len, get_or-map-range_with_len}
 use Rattle.std.specs.List.{position_or_len}
 use Rattle.std.proofs.lemmas.List.{get_or_default, map-append, take_more}
@@ -19,6 +20,7 @@ use Rattle.transyt_net.proofs.PlaceLaws.{place_is, numbered_here}
 use Rattle.transyt_net.specs.Valid.{found_or_first}
 use Rattle.transyt_track.specs.Own.{node_place, feeder_place, rule_place, places_at, PlacesValue}
 use Rattle.transyt_track.specs.Own.{all_places, ArePlaces, SameTimes, HaveNode}
+use Rattle.transyt_track.specs.Front.{flag, AreDownWhere}
 
 -- a number that is among these is found
 found_among : (ns : List ℕ) (number : ℕ) → is_among ns number ≡ true → place_of ns number ≡ None → ⊥
@@ -72,6 +74,16 @@ times_here a b l places valid_a valid_b inside_a inside_b is_a is_b =
       λ here. subst (λ n. SameTimes n y) (sym first) (subst (SameTimes (node_of a places.node)) (sym second) here),
       λ there. subst (λ n. SameTimes n (node_of b places.node)) first (subst (SameTimes x) second there),
     )
+
+-- and the flag of the link's node is down just there
+pub flag_here : (a b : Network) (l : ℕ) {places : PlacesValue} → IsValid a → IsValid b → l < length a.links
+    → l < length b.links → places ≡ places_at a l → places ≡ places_at b l → {flags : List Bool}
+    → AreDownWhere (HaveNode a b) (length b.nodes) flags
+    → (flag flags places.node ≡ false ↔ SameTimes (the_node a (link_of a l).node) (the_node b (link_of b l).node))
+flag_here a b l {places} valid_a valid_b inside_a inside_b is_a is_b all =
+    let here = times_here a b l places valid_a valid_b inside_a inside_b is_a is_b in
+    let node = all.down places.node (node_inside b l places valid_b inside_b is_b) in
+    (λ e. here.0 (node.0 e), λ same. node.1 (here.1 same))
 
 -- the table of all places
 pub all_places_are : (net : Network) → ArePlaces net (all_places net)

@@ -1,5 +1,6 @@
 -- Networks of one shape have equal counts, numbers, feeders and rules, so places are the same in both.
-use Rattle.std.proofs.Common.{◌≡◌, ℕ, ◌<◌, List, [], ◌∷◌, length, map, Option, Some, None, All, IfSome, refl, ap, subst, get_or, ◌∙◌, arith}
+use Rattle.std.proofs.Common.{◌≡◌, ℕ, ◌<◌, List, [], ◌∷◌, length, map, Option, Some, None, All, IfSome}
+use Rattle.std.proofs.Common.{refl, ap, sym, subst, get_or, ◌∙◌, arith}
 use Rattle.transyt_parts.specs.declared.link.Feed.{Feed}
 use Rattle.transyt_parts.specs.declared.link.GiveWay.{GiveWay}
 use Rattle.transyt_parts.specs.Parts.{NodeValue, LinkValue}
@@ -42,6 +43,15 @@ rule_place_same : (a b : Network) → ((number : ℕ) → link_place a number �
 rule_place_same a b place None = refl
 rule_place_same a b place (Some rule) = ap (λ p. Some p) (place rule.other)
 
+-- a link's places in two networks of one shape, whose feeders and rule are links
+pub record IsRead (a b : Network) (l count : ℕ) (places : PlacesValue) : Type 0 where
+  pub before_count : l < length a.links
+  pub after_count : l < length b.links
+  pub before : places ≡ places_at a l
+  pub after : places ≡ places_at b l
+  pub feeders : All (λ j. j < count) places.feeders
+  pub rule : IfSome places.rule (λ j. j < count)
+
 module _ (a b : Network) (same : SameShape a b) where
   pub shape_frame : a.frame ≡ b.frame
   shape_frame = ap (λ (n : Network). n.frame) same
@@ -76,7 +86,7 @@ module _ (a b : Network) (same : SameShape a b) where
       (λ j. record { node = node j; feeders = feeders j; rule = rule j })
 
   -- so the places of a link, read from the table, are its places in both
-  pub places_read : (places : List PlacesValue) → ArePlaces a places → (l : ℕ) → l < length b.links → (p : PlacesValue)
+  places_read : (places : List PlacesValue) → ArePlaces a places → (l : ℕ) → l < length b.links → (p : PlacesValue)
       → p ≡ get_or places l p → (p ≡ places_at a l) × (p ≡ places_at b l)
   places_read places all l inside p at =
       let there : l < length a.links = omega (arith, shape_count) in
@@ -92,6 +102,24 @@ module _ (a b : Network) (same : SameShape a b) where
         feeders_inside a l count (places_at a l) some same_count refl,
         rule_inside a l count (places_at a l) some same_count refl,
       )
+
+  -- so what is read from the table, at a link of the list that b's links are, is a link's in both
+  pub table_read : {places : List PlacesValue} → ArePlaces a places → {links : List LinkValue} → links ≡ b.links
+      → (l : ℕ) → l < length links → {p q : PlacesValue} → p ≡ get_or places l p → q ≡ p → (count : ℕ)
+      → length b.links ≡ count → IsRead a b l count q
+  table_read {places} all {links} are l test {p} {q} at view count is =
+      let below : l < length b.links = omega (arith, ap length are) in
+      let read = places_read places all l below p at in
+      let inside = reads_inside l count below is in
+      let before : q ≡ places_at a l = view ∙ read.0 in
+      record {
+        before_count = omega (arith, shape_count);
+        after_count = below;
+        before = before;
+        after = view ∙ read.1;
+        feeders = subst (λ (x : PlacesValue). All (λ j. j < count) x.feeders) (sym before) inside.0;
+        rule = subst (λ (x : PlacesValue). IfSome x.rule (λ j. j < count)) (sym before) inside.1;
+      }
 
   -- and a table of places serves both
   pub shape_table : (places : List PlacesValue) → ArePlaces a places → ArePlaces b places

@@ -11,9 +11,16 @@ use Rattle.transyt_track.specs.Own.{PlacesValue, ArePlaces, all_places}
 use Rattle.transyt_track.specs.Change.{HasRoom}
 use Rattle.transyt_track.specs.Readers.{AreReaders}
 use Rattle.transyt_track.specs.declared.change.Front.{Front}
-use Rattle.transyt_track.specs.Tracker.{AreOfMark, IsTracking}
+use Rattle.transyt_track.specs.Due.{due}
+use Rattle.transyt_track.specs.Tracker.{TrackerValue, AreOfMark, IsTracking}
 use Rattle.transyt_track.proofs.ShapeLaws.{shape_frame, shape_count, shape_table, shape_readers}
 use Rattle.transyt_track.proofs.PlaceLaws.{all_places_are}
+
+-- the networks of two trackers have one shape where those of their values have
+pub shape_inside : {was now other seen : TrackerValue} → was ≡ now → other ≡ seen → SameShape now.net seen.net
+    → SameShape was.net other.net
+shape_inside here there same =
+    ap (λ (t : TrackerValue). shape t.net) here ∙ same ∙ sym (ap (λ (t : TrackerValue). shape t.net) there)
 
 -- rows that fit one network fit each of its shape
 pub fits_shape : (a b : Network) → SameShape a b → (rows : RowsValue) → Fits a rows → Fits b rows
@@ -24,7 +31,7 @@ fits_shape a b same rows fits = record {
 }
 
 -- room for one network is room for each of its shape
-pub room_shape : (a b : Network) → SameShape a b → (front : Front) → HasRoom a front → HasRoom b front
+room_shape : (a b : Network) → SameShape a b → (front : Front) → HasRoom a front → HasRoom b front
 room_shape a b same front room = record {
   own_count = room.own_count ∙ shape_count a b same;
   count = room.count ∙ shape_count a b same;
@@ -60,7 +67,7 @@ opened_tracks net marked front places readers copied evaluation closed all readi
 module _ (net marked : Network) (front : Front) (places : List PlacesValue) (readers : List (List ℕ))
     (tracking : IsTracking net marked front places readers) where
   -- the rows have gone over to another network
-  pub followed_tracks : (after : Network) → SameShape net after → (new : Front) → AreEvaluation after new.kept.now
+  followed_tracks : (after : Network) → SameShape net after → (new : Front) → AreEvaluation after new.kept.now
       → new.kept.marked ≡ front.kept.marked → HasRoom after new → IsTracking after marked new places readers
   followed_tracks after same new evaluation stays room =
       let shapes : SameShape after marked = sym same ∙ tracking.shape in
@@ -100,3 +107,25 @@ module _ (net marked : Network) (front : Front) (places : List PlacesValue) (rea
         reading = shape_readers net after same readers tracking.reading;
         room = record { own_count = room.own_count; count = room.count; steps = room.steps };
       }
+
+-- a tracker goes over to another network with the shape of that of its value
+module _ {was now : TrackerValue} (view : was ≡ now) {marked : Network} {front : Front} {places : List PlacesValue}
+    {readers : List (List ℕ)} (tracking : IsTracking was.net marked front places readers) (after : Network)
+    (same : SameShape now.net after) where
+  -- its own has that shape too
+  pub follow_shape : SameShape was.net after
+  follow_shape = ap (λ (t : TrackerValue). shape t.net) view ∙ same
+
+  -- there is room for it
+  pub follow_room : HasRoom after front
+  follow_room = room_shape was.net after follow_shape front tracking.room
+
+  -- what is due is what its value tells
+  pub follow_due : due was.net after ≡ due now.net after
+  follow_due = ap (λ (t : TrackerValue). due t.net after) view
+
+  -- its rows are those of that network
+  pub follow_tracks : {new : Front} → AreEvaluation after new.kept.now → new.kept.marked ≡ front.kept.marked
+      → HasRoom after new → IsTracking after marked new places readers
+  follow_tracks {new} =
+      followed_tracks was.net marked front places readers tracking after follow_shape new

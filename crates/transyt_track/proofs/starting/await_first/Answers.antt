@@ -1,5 +1,5 @@
 -- One link more.
-use Rattle.std.proofs.Common.{◌≡◌, ◌≢◌, ◌<◌, ◌||◌, false, length, All, IfSome, refl, ap, sym, subst, ◌∙◌, arith}
+use Rattle.std.proofs.Common.{◌≡◌, ◌≢◌, ◌<◌, ◌||◌, false, length, All, refl, ap, sym, subst, ◌∙◌, arith}
 use Rattle.std.specs.List.{list_any}
 use Rattle.std.specs.Option.{option_map_or}
 use Rattle.std.proofs.lemmas.List.{length-set, get_or-set_other}
@@ -7,34 +7,22 @@ use Rattle.transyt_track.specs.Own.{PlacesValue, places_at}
 use Rattle.transyt_track.specs.Front.{flag, flag_from, awaits}
 use Rattle.transyt_track.proofs.AwaitLaws.{awaits_by, first_told}
 use Rattle.transyt_track.proofs.FrontLaws.{flag_more}
-use Rattle.transyt_track.proofs.ShapeLaws.{places_read, reads_inside}
+use Rattle.transyt_track.proofs.ShapeLaws.{table_read, reads_inside}
 use Rattle.transyt_track.proofs.starting.await_first.Goals as goal
 
 pub any_from-fed-requires : goal.any_from-fed-requires
 any_from-fed-requires c =
-    let a = c.args.before.now in
-    let b = c.args.after.now in
-    let l = c.loop-link.link in
-    let below : l < length b.links = omega (arith, c.loop-link-test.true, ap length c.links-link-end.ensures.value) in
-    let is = places_read a b c.requires.shape c.args.places.now c.requires.places l below c.index-places-link.result
-    c.index-places-link.is in
-    subst (All (λ j. j < length c.deref.result.now))
-    (sym (c.deref-in-loop-link.ensures.value ∙ ap (λ (p : PlacesValue). p.feeders) (c.at.view_is ∙ is.0)))
-    (reads_inside a b c.requires.shape l (length c.deref.result.now) below
-    (omega (arith, c.loop-link.invariant.count, ap length c.deref.ensures.value))).0
+    subst (All (λ j. j < length c.deref.result.now)) (sym c.deref-in-loop-link.ensures.value)
+    (table_read c.args.before.now c.args.after.now c.requires.shape c.requires.places c.links-link-end.ensures.value
+    c.loop-link.link c.loop-link-test.true c.index-places-link.is c.at.view_is (length c.deref.result.now)
+    (omega (arith, c.loop-link.invariant.count, ap length c.deref.ensures.value))).feeders
 
 pub is_up_from-barred-requires : goal.is_up_from-barred-requires
 is_up_from-barred-requires c =
-    let a = c.args.before.now in
-    let b = c.args.after.now in
-    let l = c.loop-link.link in
-    let below : l < length b.links = omega (arith, c.loop-link-test.true, ap length c.links-link-end.ensures.value) in
-    let is = places_read a b c.requires.shape c.args.places.now c.requires.places l below c.index-places-link.result
-    c.index-places-link.is in
-    subst (λ o. IfSome o (λ j. j < length c.deref-in-loop-link-2.result.now))
-    (sym (ap (λ (p : PlacesValue). p.rule) (c.at.view_is ∙ is.0)))
-    (reads_inside a b c.requires.shape l (length c.deref-in-loop-link-2.result.now) below
-    (omega (arith, c.loop-link.invariant.count, ap length c.deref-in-loop-link-2.ensures.value))).1
+    (table_read c.args.before.now c.args.after.now c.requires.shape c.requires.places c.links-link-end.ensures.value
+    c.loop-link.link c.loop-link-test.true c.index-places-link.is c.at.view_is
+    (length c.deref-in-loop-link-2.result.now)
+    (omega (arith, c.loop-link.invariant.count, ap length c.deref-in-loop-link-2.ensures.value))).rule
 
 pub loop-link-preserved : goal.loop-link-preserved
 loop-link-preserved c =
@@ -46,25 +34,24 @@ loop-link-preserved c =
     let flags = c.loop-link.awaited.items in
     let own = flag c.args.own_changed.now l in
     let d = own || c.any_from-fed.result || c.is_up_from-barred.result in
-    let below : l < n = omega (arith, c.loop-link-test.true, ap length c.links-link-end.ensures.value) in
-    let here : l < length flags = omega (arith, below, c.loop-link.invariant.count) in
+    let read = table_read a b r.shape r.places c.links-link-end.ensures.value l c.loop-link-test.true
+    c.index-places-link.is c.at.view_is n refl in
+    let here : l < length flags = omega (arith, read.after_count, c.loop-link.invariant.count) in
     let at : PlacesValue = places_at a l in
-    let inside = reads_inside a b r.shape l n below refl in
-    let is : c.index-places-link.result ≡ at =
-    (places_read a b r.shape c.args.places.now r.places l below c.index-places-link.result c.index-places-link.is).0 in
+    let inside = reads_inside a b r.shape l n read.after_count refl in
     let fed : c.any_from-fed.result ≡ list_any (flag_from flags l) at.feeders =
     c.any_from-fed.ensures
     ∙ ap (λ xs. list_any (flag_from xs l) c.deref-in-loop-link.result.now) c.deref.ensures.value
     ∙ ap (list_any (flag_from flags l))
-    (c.deref-in-loop-link.ensures.value ∙ ap (λ (p : PlacesValue). p.feeders) (c.at.view_is ∙ is)) in
+    (c.deref-in-loop-link.ensures.value ∙ ap (λ (p : PlacesValue). p.feeders) read.before) in
     let barred : c.is_up_from-barred.result ≡ option_map_or (flag_from flags l) at.rule false =
     c.is_up_from-barred.ensures
     ∙ ap (λ xs. option_map_or (flag_from xs l) c.at.inside.rule false) c.deref-in-loop-link-2.ensures.value
-    ∙ ap (λ (p : PlacesValue). option_map_or (flag_from flags l) p.rule false) (c.at.view_is ∙ is) in
+    ∙ ap (λ (p : PlacesValue). option_map_or (flag_from flags l) p.rule false) read.before in
     let told : d ≡ awaits a b 1 0 l =
     grind (
       arith,
-      r.own_changed.flagged l below,
+      r.own_changed.flagged l read.after_count,
       fed,
       barred,
       awaits_by a b l n inside.0 inside.1 1 0 (flag_from flags l)

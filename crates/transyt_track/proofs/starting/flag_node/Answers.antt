@@ -1,14 +1,13 @@
 -- One link more.
-use Rattle.std.proofs.Common.{◌≡◌, ◌↔◌, ◌<◌, ◌&&◌, IsTrue, not, nat_eq, length, get_or, ap, ◌∙◌, arith}
+use Rattle.std.proofs.Common.{◌≡◌, ◌↔◌, ◌&&◌, IsTrue, not, nat_eq, length, get_or, refl, ap, ◌∙◌, arith}
 use Rattle.std.proofs.lemmas.List.{length-set, get_or_default}
 use Rattle.transyt_net.specs.Parts.{node_of, no_node}
-use Rattle.transyt_track.specs.Own.{PlacesValue, HaveNode, places_at}
+use Rattle.transyt_track.specs.Own.{PlacesValue, HaveNode}
 use Rattle.transyt_track.specs.Front.{own_differs}
 use Rattle.transyt_track.proofs.ChangeLaws.{times_told}
 use Rattle.transyt_track.proofs.EditedLaws.{node_flag}
 use Rattle.transyt_track.proofs.FrontLaws.{flag_more}
-use Rattle.transyt_track.proofs.PlaceLaws.{place_read}
-use Rattle.transyt_track.proofs.ShapeLaws.{shape_count, shape_nodes}
+use Rattle.transyt_track.proofs.ShapeLaws.{table_read, shape_nodes}
 use Rattle.transyt_track.proofs.starting.flag_node.Goals as goal
 
 pub loop-link-preserved : goal.loop-link-preserved
@@ -20,8 +19,8 @@ loop-link-preserved c =
     let r = c.requires in
     let flags = c.loop-link.own_changed.items in
     let told = c.same_times-changed.result in
-    let below : l < length b.links = omega (arith, c.loop-link-test.true, ap length c.links-link-end.ensures.value) in
-    let inside : l < length a.links = omega (arith, below, shape_count a b r.shape) in
+    let read = table_read a b r.shape r.places c.links-link-end.ensures.value l c.loop-link-test.true
+    c.index-places-link.is c.at.view_is (length b.links) refl in
     let old = c.index-nodes-node.result in
     let new = c.index-nodes-node-2.result in
     let old_is : old ≡ node_of a p =
@@ -36,13 +35,10 @@ loop-link-preserved c =
     ∙ ap (λ ns. get_or ns p no_node) c.nodes-2.ensures.value in
     let is : IsTrue told ↔ HaveNode a b p =
     times_told told old new (node_of a p) (node_of b p) old_is new_is c.same_times-changed.ensures in
-    let at : c.at.inside.node ≡ (places_at a l).node =
-    ap (λ (q : PlacesValue). q.node) (c.at.view_is
-    ∙ place_read a c.args.places.now l c.index-places-link.result r.places inside c.index-places-link.is) in
     record {
       count = length-set flags l (not told && nat_eq c.at.inside.node p) ∙ c.loop-link.invariant.count;
       flagged = flag_more flags l (not told && nat_eq c.at.inside.node p) (own_differs a b)
-          (omega (arith, below, c.loop-link.invariant.count)) c.loop-link.invariant.flagged
-          (node_flag a b r.shape c.nodes.ensures.valid c.nodes-2.ensures.valid p r.node told is l inside below
-          c.at.inside.node at);
+          (omega (arith, read.after_count, c.loop-link.invariant.count)) c.loop-link.invariant.flagged
+          (node_flag a b r.shape c.nodes.ensures.valid c.nodes-2.ensures.valid p r.node told is l read.before_count
+          read.after_count c.at.inside.node (ap (λ (q : PlacesValue). q.node) read.before));
     }

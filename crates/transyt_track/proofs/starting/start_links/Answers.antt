@@ -5,14 +5,14 @@ use Rattle.transyt_kept.specs.Cell.{CellValue}
 use Rattle.transyt_track.specs.Own.{HaveData}
 use Rattle.transyt_track.specs.Front.{AreStarting}
 use Rattle.transyt_track.proofs.ChangeLaws.{down_more, not_down}
-use Rattle.transyt_track.proofs.ShapeLaws.{places_read}
+use Rattle.transyt_track.proofs.ShapeLaws.{table_read}
 use Rattle.transyt_track.proofs.StartLaws.{total_start, started_none}
 use Rattle.transyt_track.proofs.starting.start_links.Goals as goal
 
 pub loop-link-init : goal.loop-link-init
 loop-link-init c = record {
-  starting = started_none c.args.change.now.before.now c.args.change.now.after.now c.args.change.now.same_shape c.args.front.now.kept.now c.args.front.now.awaited.items
-      c.requires.rows c.requires.room.count;
+  starting = started_none c.args.change.now.before.now c.args.change.now.after.now c.args.change.now.same_shape
+      c.args.front.now.kept.now c.args.front.now.awaited.items c.requires.rows c.requires.room.count;
   room = c.requires.room;
   down = λ m none. absurd (omega arith);
   marked = refl;
@@ -21,31 +21,33 @@ loop-link-init c = record {
 pub start_link-requires-clause-moves : goal.start_link-requires-clause-moves
 start_link-requires-clause-moves c =
     c.other_total-moves.ensures
-    ∙ total_start c.args.change.now.before.now c.args.change.now.after.now c.args.change.now.same_shape c.frame.ensures.valid.sound.frame c.loop-link.link
+    ∙ total_start _ _ c.args.change.now.same_shape c.frame.ensures.valid.sound.frame c.loop-link.link
 
 pub loop-link-preserved : goal.loop-link-preserved
 loop-link-preserved c = record {
   starting = c.start_link.ensures.starting;
   room = record {
-    own_count = rw c.start_link.ensures.own_changed (length-set c.loop-link.front.own_changed.items c.loop-link.link (not c.same_data-same.result)
+    own_count = rw c.start_link.ensures.own_changed
+        (length-set c.loop-link.front.own_changed.items c.loop-link.link (not c.same_data-same.result)
         ∙ c.loop-link.invariant.room.own_count);
     count = c.start_link.ensures.starting.count;
     steps = ap (λ (s : CellValue). length s.arrivals) c.start_link.ensures.scratch ∙ c.loop-link.invariant.room.steps;
   };
-  down = rw c.start_link.ensures.own_changed (down_more c.loop-link.front.own_changed.items c.loop-link.link (not c.same_data-same.result)
+  down = let own = c.loop-link.invariant.room.own_count in rw c.start_link.ensures.own_changed
+      (down_more c.loop-link.front.own_changed.items c.loop-link.link (not c.same_data-same.result)
       (HaveData c.args.change.now.before.now c.args.change.now.after.now)
-      (omega (arith, c.loop-link.invariant.room.own_count, c.loop-link-test.true, ap length c.links-link-end.ensures.value))
-      c.loop-link.invariant.down
-      (not_down c.same_data-same.result (HaveData c.args.change.now.before.now c.args.change.now.after.now c.loop-link.link)
-      c.same_data-same.ensures));
+      (omega (arith, own, c.loop-link-test.true, ap length c.links-link-end.ensures.value))
+      c.loop-link.invariant.down (not_down c.same_data-same.result
+      (HaveData c.args.change.now.before.now c.args.change.now.after.now c.loop-link.link) c.same_data-same.ensures));
   marked = c.start_link.ensures.marked ∙ c.loop-link.invariant.marked;
 }
 
 pub returns-clause-starting : goal.returns-clause-starting
 returns-clause-starting c =
+    let a = c.args.change.now.before.now in
     let b = c.args.change.now.after.now in
     let all : c.loop-link.link ≡ length b.links = omega (arith, ap length c.links-link-end.ensures.value) in
-    subst (λ l. AreStarting c.args.change.now.before.now b l c.loop-link.front.kept.now c.loop-link.front.awaited.items) all
+    subst (λ l. AreStarting a b l c.loop-link.front.kept.now c.loop-link.front.awaited.items) all
     c.loop-link.invariant.starting
 
 pub returns-clause-totals : goal.returns-clause-totals
@@ -53,7 +55,7 @@ returns-clause-totals c = record {
   count = c.loop-link.invariant.starting.count;
   flagged = λ m inside.
       c.loop-link.invariant.starting.flagged m (omega (arith, inside, ap length c.links-link-end.ensures.value))
-      ∙ sym (total_start c.args.change.now.before.now c.args.change.now.after.now c.args.change.now.same_shape c.frame.ensures.valid.sound.frame m);
+      ∙ sym (total_start _ _ c.args.change.now.same_shape c.frame.ensures.valid.sound.frame m);
 }
 
 pub returns-clause-down : goal.returns-clause-down
@@ -65,14 +67,10 @@ returns-clause-down c = record {
 
 pub same_data-same-requires-clause-places : goal.same_data-same-requires-clause-places
 same_data-same-requires-clause-places c =
-    (places_read c.args.change.now.before.now c.args.change.now.after.now c.args.change.now.same_shape
-    c.args.change.now.places.now c.args.change.now.are_places c.loop-link.link
-    (omega (arith, c.loop-link-test.true, ap length c.links-link-end.ensures.value)) c.index-places-link.result
-    c.index-places-link.is).0
+    (table_read _ _ c.args.change.now.same_shape c.args.change.now.are_places c.links-link-end.ensures.value
+    c.loop-link.link c.loop-link-test.true c.index-places-link.is refl _ refl).before
 
 pub same_data-same-requires-clause-places_after : goal.same_data-same-requires-clause-places_after
 same_data-same-requires-clause-places_after c =
-    (places_read c.args.change.now.before.now c.args.change.now.after.now c.args.change.now.same_shape
-    c.args.change.now.places.now c.args.change.now.are_places c.loop-link.link
-    (omega (arith, c.loop-link-test.true, ap length c.links-link-end.ensures.value)) c.index-places-link.result
-    c.index-places-link.is).1
+    (table_read _ _ c.args.change.now.same_shape c.args.change.now.are_places c.links-link-end.ensures.value
+    c.loop-link.link c.loop-link-test.true c.index-places-link.is refl _ refl).after

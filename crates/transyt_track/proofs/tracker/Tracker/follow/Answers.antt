@@ -1,26 +1,18 @@
 -- The rows are those of the network after.
-use Rattle.std.proofs.Common.{ap, ◌∙◌}
-use Rattle.transyt_net.specs.Parts.{shape, SameShape}
-use Rattle.transyt_track.specs.Due.{due}
-use Rattle.transyt_track.specs.Tracker.{TrackerValue}
-use Rattle.transyt_track.proofs.TrackLaws.{room_shape, followed_tracks}
+use Rattle.std.proofs.Common.{◌∙◌}
+use Rattle.transyt_track.proofs.TrackLaws.{follow_room, follow_due, follow_tracks}
 use Rattle.transyt_track.proofs.tracker.Tracker.follow.Goals as goal
 
 pub invariant_of-self : goal.invariant_of-self
 invariant_of-self g c =
-    let i = c.self.inside in
     let say = c.follow_rows-due.ensures in
-    let same : SameShape i.net c.args.after.now = ap (λ (t : TrackerValue). shape t.net) c.self.view_is ∙ c.requires in
     rw c.take_numbers.ensures
-    (followed_tracks i.net i.marked i.front i.places.items i.readers.items c.self.invariant c.args.after.now same
-    c.follow_rows-due.new.front say.rows say.marked say.room)
+    (follow_tracks c.self.view_is c.self.invariant c.args.after.now c.requires say.rows say.marked say.room)
 
 pub returns-clause-due : goal.returns-clause-due
 returns-clause-due g c =
-    c.follow_rows-due.ensures.count ∙ ap (λ (t : TrackerValue). due t.net c.args.after.now) c.self.view_is
+    c.follow_rows-due.ensures.count ∙ follow_due c.self.view_is c.self.invariant c.args.after.now c.requires
 
 pub follow_rows-due-requires-clause-room : goal.follow_rows-due-requires-clause-room
 follow_rows-due-requires-clause-room g c =
-    let i = c.self.inside in
-    let same : SameShape i.net c.args.after.now = ap (λ (t : TrackerValue). shape t.net) c.self.view_is ∙ c.requires in
-    room_shape i.net c.args.after.now same i.front c.self.invariant.room
+    follow_room c.self.view_is c.self.invariant c.args.after.now c.requires

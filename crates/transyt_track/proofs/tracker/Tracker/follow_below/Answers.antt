@@ -1,14 +1,12 @@
 -- The rows are those of the network with the edit made, or those from before it.
-use Rattle.std.proofs.Common.{◌≡◌, IsSome, Some, refl, ap, sym, subst, if◌then◌else◌, nat_lt, ◌∙◌}
-use Rattle.transyt_net.specs.Parts.{shape, SameShape}
+use Rattle.std.proofs.Common.{◌≡◌, IsSome, refl, ap, sym, subst, if◌then◌else◌, nat_lt, ◌∙◌}
 use Rattle.transyt_kept.specs.Rows.{index_in}
 use Rattle.transyt_sweep.specs.Sweeps.{index}
 use Rattle.transyt_sweep.proofs.IndexLaws.{index_is}
 use Rattle.transyt_kept.specs.Saved.{KeptValue}
-use Rattle.transyt_track.specs.Due.{due}
-use Rattle.transyt_track.specs.declared.change.Front.{Front}
 use Rattle.transyt_track.specs.Tracker.{TrackerValue, AreOfMark}
-use Rattle.transyt_track.proofs.TrackLaws.{room_shape, begun_tracks, followed_tracks, closed_tracks}
+use Rattle.transyt_track.proofs.TrackLaws.{begun_tracks, closed_tracks, follow_shape, follow_room, follow_due}
+use Rattle.transyt_track.proofs.TrackLaws.{follow_tracks}
 use Rattle.transyt_track.proofs.tracker.Tracker.follow_below.Goals as goal
 
 -- the mark has the rows of the network from before the edit
@@ -29,18 +27,18 @@ invariant_of-self g c =
     let say = c.follow_rows-due.ensures in
     let end = c.settle_on.ensures in
     let was = c.self.invariant in
-    let same : SameShape i.net c.args.after.now =
-    ap (λ (t : TrackerValue). shape t.net) c.self.view_is ∙ c.requires.shape in
-    let begun : Front = record i.front { kept = record i.front.kept { marked = Some i.front.kept.now } } in
-    let followed = followed_tracks i.net i.net begun i.places.items i.readers.items
-    (begun_tracks i.net i.marked i.front i.places.items i.readers.items was) c.args.after.now same new.front say.rows
+    let same = follow_shape c.self.view_is was c.args.after.now c.requires.shape in
+    let followed = follow_tracks c.self.view_is
+    (begun_tracks i.net i.marked i.front i.places.items i.readers.items was) c.args.after.now c.requires.shape say.rows
     (say.marked ∙ ap (λ (k : KeptValue). k.marked) c.begin.ensures) say.room in
     closed_tracks c.args.after.now i.net new.front i.places.items i.readers.items followed c.settle_on.new.net i.marked
     end.shape (sym end.shape ∙ sym same ∙ was.shape) c.settle_on.new.kept end.rows end.closed
 
 pub returns-clause-index : goal.returns-clause-index
 returns-clause-index g c =
-    c.index-index.ensures.value ∙ ap index_in c.rows.ensures ∙ index_is c.args.after.now c.follow_rows-due.new.front.kept.now c.follow_rows-due.ensures.rows
+    c.index-index.ensures.value
+    ∙ ap index_in c.rows.ensures
+    ∙ index_is c.args.after.now c.follow_rows-due.new.front.kept.now c.follow_rows-due.ensures.rows
 
 pub returns-clause-net : goal.returns-clause-net
 returns-clause-net g c =
@@ -53,11 +51,9 @@ returns-clause-net g c =
 
 pub returns-clause-due : goal.returns-clause-due
 returns-clause-due g c =
-    c.follow_rows-due.ensures.count ∙ ap (λ (t : TrackerValue). due t.net c.args.after.now) c.self.view_is
+    c.follow_rows-due.ensures.count ∙ follow_due c.self.view_is c.self.invariant c.args.after.now c.requires.shape
 
 pub follow_rows-due-requires-clause-room : goal.follow_rows-due-requires-clause-room
 follow_rows-due-requires-clause-room g c =
-    let i = c.self.inside in
-    let same : SameShape i.net c.args.after.now = ap (λ (t : TrackerValue). shape t.net) c.self.view_is ∙ c.requires.shape in
-    let room = room_shape i.net c.args.after.now same i.front c.self.invariant.room in
+    let room = follow_room c.self.view_is c.self.invariant c.args.after.now c.requires.shape in
     record { own_count = room.own_count; count = room.count; steps = room.steps }

@@ -1,17 +1,14 @@
 -- The rows are those of the other tracker.
 use Rattle.std.proofs.Common.{ap, sym, ◌∙◌}
-use Rattle.transyt_net.specs.Parts.{shape, SameShape}
 use Rattle.transyt_track.specs.Tracker.{TrackerValue}
-use Rattle.transyt_track.proofs.TrackLaws.{fits_shape, no_mark, closed_tracks}
+use Rattle.transyt_track.proofs.TrackLaws.{shape_inside, fits_shape, no_mark, closed_tracks}
 use Rattle.transyt_track.proofs.tracker.Tracker.take_over.Goals as goal
 
 pub copy_rows-requires-clause-fits : goal.copy_rows-requires-clause-fits
 copy_rows-requires-clause-fits c =
     let i = c.self.inside in
-    let same : SameShape i.net c.from.inside.net =
-    ap (λ (t : TrackerValue). shape t.net) c.self.view_is ∙ c.requires.shape
-    ∙ sym (ap (λ (t : TrackerValue). shape t.net) c.from.view_is) in
-    fits_shape i.net c.from.inside.net same i.front.kept.now c.self.invariant.evaluation.fits
+    fits_shape i.net c.from.inside.net (shape_inside c.self.view_is c.from.view_is c.requires.shape) i.front.kept.now
+    c.self.invariant.evaluation.fits
 
 pub copy_rows-requires-clause-closed : goal.copy_rows-requires-clause-closed
 copy_rows-requires-clause-closed c =
@@ -21,9 +18,7 @@ copy_rows-requires-clause-closed c =
 pub invariant_of-self : goal.invariant_of-self
 invariant_of-self c =
     let i = c.self.inside in
-    let same : SameShape i.net c.from.inside.net =
-    ap (λ (t : TrackerValue). shape t.net) c.self.view_is ∙ c.requires.shape
-    ∙ sym (ap (λ (t : TrackerValue). shape t.net) c.from.view_is) in
+    let same = shape_inside c.self.view_is c.from.view_is c.requires.shape in
     rw c.take_numbers.ensures
-    (closed_tracks i.net i.marked i.front i.places.items i.readers.items c.self.invariant c.from.inside.net i.marked same
-    (sym same ∙ c.self.invariant.shape) c.copy_rows.new.kept c.copy_rows.ensures.rows c.copy_rows.ensures.closed)
+    (closed_tracks i.net i.marked i.front i.places.items i.readers.items c.self.invariant c.from.inside.net i.marked
+    same (sym same ∙ c.self.invariant.shape) c.copy_rows.new.kept c.copy_rows.ensures.rows c.copy_rows.ensures.closed)
