@@ -4,6 +4,7 @@ pub mod BriefLaws
 pub mod CardLaws
 pub mod CertifyLaws
 pub mod ClimbTexts
+pub mod ClimbWay
 pub mod CountLaws
 pub mod JudgedLaws
 pub mod LeavesLaws
