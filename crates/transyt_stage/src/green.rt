@@ -10,6 +10,7 @@ ghost use Rattle.transyt_stage.specs.Green.{since_change, runs_in, shows, is_sho
 ghost use Rattle.transyt_stage.specs.Green.{is_starting};
 ghost use Rattle.transyt_stage.specs.Green.{green_at, is_green, passed_at, signal, IsGreen};
 
+use crate::shown::Shown;
 use transyt_cycle::{minus_mod, step_before};
 use transyt_net::{Net, Node, Stage, stage_length};
 
@@ -40,10 +41,15 @@ fn test_green(net: &Net, link: usize, step: u32) -> bool
     let step_count = net.frame().step_count;
     let node = net.node_of(link);
     let link = net.link(link);
-    let mut shown = [false; MOST_STEPS];
-    let shown = &mut shown[..step_count as usize];
-    fill_shown(step_count, node, &link.stages, shown);
-    green_at(shown, link.start_lag, link.end_lag, step as usize)
+    let mut steps = [false; MOST_STEPS];
+    let steps = &mut steps[..step_count as usize];
+    fill_shown(step_count, node, &link.stages, steps);
+    let shown = Shown {
+        steps,
+        start_lag: link.start_lag,
+        end_lag: link.end_lag,
+    };
+    green_at(&shown, step as usize)
 }
 
 /// Fills `out` with the GO of the link at a place in each step by its green alone, in millionths of a vehicle.
@@ -78,65 +84,49 @@ fn fill_lagged(net: &Net, link: usize, out: &mut [u64])
     let step_count = net.frame().step_count;
     let node = net.node_of(link);
     let link = net.link(link);
-    let mut shown = [false; MOST_STEPS];
-    let shown = &mut shown[..step_count as usize];
-    fill_shown(step_count, node, &link.stages, shown);
+    let mut steps = [false; MOST_STEPS];
+    let steps = &mut steps[..step_count as usize];
+    fill_shown(step_count, node, &link.stages, steps);
+    let shown = Shown {
+        steps,
+        start_lag: link.start_lag,
+        end_lag: link.end_lag,
+    };
     let room = net.per_step(link.saturation);
-    fill_passed(shown, link.start_lag, link.end_lag, room, out);
+    fill_passed(&shown, room, out);
 }
 
 /// Gives each step its GO by the green: `room` in a step of green, else nothing.
 #[tactic(auto, using(std::proofs::lemmas::List::get_or_default))]
-fn fill_passed(shown: &[bool], start_lag: u32, end_lag: u32, room: u64, out: &mut [u64])
-    requires steps { length out.old ≡ length shown.now }
-    requires most { length shown.now ≤ 120 }
-    requires end_lag { end_lag < length shown.now }
+fn fill_passed(shown: &Shown<'_>, room: u64, out: &mut [u64])
+    requires steps { length out.old ≡ length shown.now.steps.now }
     requires room { room < 2 ^ 30 }
     ensures value { out.new
-        ≡ map (passed_at shown.now start_lag end_lag room) (range_with_len 0 (length out.old)) }
+        ≡ map (passed_at shown.now.steps.now shown.now.start_lag shown.now.end_lag room)
+        (range_with_len 0 (length out.old)) }
     ensures small { All (λ v. v < 2 ^ 30) out.new }
 {
     for i in 0..out.len() {
-        out[i] = passed_at(shown, start_lag, end_lag, room, i);
+        out[i] = if green_at(shown, i) { room } else { 0 };
     }
 }
 
-/// GO of a step.
-fn passed_at(shown: &[bool], start_lag: u32, end_lag: u32, room: u64, step: usize) -> u64
-    requires step { step < length shown.now }
-    requires most { length shown.now ≤ 120 }
-    requires end_lag { end_lag < length shown.now }
-    requires room { room < 2 ^ 30 }
-    ensures value { result ≡ passed_at shown.now start_lag end_lag room step }
-    ensures small { result < 2 ^ 30 }
+/// Whether a link is green at a step, by the steps at which it is shown and by its lags.
+fn green_at(shown: &Shown<'_>, step: usize) -> bool
+    requires { step < length shown.now.steps.now }
+    ensures { result ≡ green_at shown.now.steps.now shown.now.start_lag shown.now.end_lag step }
 {
-    if green_at(shown, start_lag, end_lag, step) {
-        room
-    } else {
-        0
-    }
-}
-
-/// Whether a link is green at a step, where `shown` tells at which steps it is shown.
-fn green_at(shown: &[bool], start_lag: u32, end_lag: u32, step: usize) -> bool
-    requires step { step < length shown.now }
-    requires most { length shown.now ≤ 120 }
-    requires end_lag { end_lag < length shown.now }
-    ensures { result ≡ green_at shown.now start_lag end_lag step }
-{
-    is_held(shown, end_lag, step) && !is_starting(shown, start_lag, step)
+    is_held(shown, step) && !is_starting(shown, step)
 }
 
 /// Whether the link is shown at a step or at one of the steps of its end lag before it.
 #[tactic(auto, using(transyt_parts::proofs::BelowLaws::none_below))]
-fn is_held(shown: &[bool], end_lag: u32, step: usize) -> bool
-    requires step { step < length shown.now }
-    requires most { length shown.now ≤ 120 }
-    requires end_lag { end_lag < length shown.now }
-    ensures { result ≡ is_held shown.now end_lag step }
+fn is_held(shown: &Shown<'_>, step: usize) -> bool
+    requires { step < length shown.now.steps.now }
+    ensures { result ≡ is_held shown.now.steps.now shown.now.end_lag step }
 {
-    for back in 0..end_lag + 1 {
-        if shown[step_back(shown.len(), step, back)] {
+    for back in 0..shown.end_lag + 1 {
+        if shown.steps[step_back(shown.steps.len(), step, back)] {
             return true;
         }
     }
@@ -145,13 +135,12 @@ fn is_held(shown: &[bool], end_lag: u32, step: usize) -> bool
 
 /// Whether one of the steps of the start lag, up to a step, opens the link.
 #[tactic(auto, using(transyt_parts::proofs::BelowLaws::none_below))]
-fn is_starting(shown: &[bool], start_lag: u32, step: usize) -> bool
-    requires step { step < length shown.now }
-    requires most { length shown.now ≤ 120 }
-    ensures { result ≡ is_starting shown.now start_lag step }
+fn is_starting(shown: &Shown<'_>, step: usize) -> bool
+    requires { step < length shown.now.steps.now }
+    ensures { result ≡ is_starting shown.now.steps.now shown.now.start_lag step }
 {
-    for back in 0..start_lag {
-        if opens(shown, step_back(shown.len(), step, back)) {
+    for back in 0..shown.start_lag {
+        if opens(shown, step_back(shown.steps.len(), step, back)) {
             return true;
         }
     }
@@ -159,12 +148,12 @@ fn is_starting(shown: &[bool], start_lag: u32, step: usize) -> bool
 }
 
 /// Whether a step opens the link: it is shown at it, and not at the step before.
-fn opens(shown: &[bool], step: usize) -> bool
-    requires { step < length shown.now }
-    ensures { result ≡ opens shown.now step }
+fn opens(shown: &Shown<'_>, step: usize) -> bool
+    requires { step < length shown.now.steps.now }
+    ensures { result ≡ opens shown.now.steps.now step }
 {
-    let before = step_before(shown.len() as u64, step as u64) as usize;
-    shown[step] && !shown[before]
+    let before = step_before(shown.steps.len() as u64, step as u64) as usize;
+    shown.steps[step] && !shown.steps[before]
 }
 
 /// The step that lies a number of steps before a step, round the cycle.

@@ -7,5 +7,5 @@ use Rattle.transyt_stage.proofs.green.fill_passed.Goals as goal
 -- with every step passed, the profile is the definition's
 pub returns-clause-value : goal.returns-clause-value
 returns-clause-value c =
-    fill_by_all (passed_at c.args.shown.now c.args.start_lag c.args.end_lag c.args.room) c.loop-i.out
-    (length c.args.out.now) 0 (omega arith) (λ k h. c.loop-i.invariant.passed k (omega arith))
+    fill_by_all (passed_at c.args.shown.now.steps.now c.args.shown.now.start_lag c.args.shown.now.end_lag c.args.room)
+    c.loop-i.out (length c.args.out.now) 0 (omega arith) (λ k h. c.loop-i.invariant.passed k (omega arith))

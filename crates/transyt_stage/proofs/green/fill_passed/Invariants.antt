@@ -6,6 +6,7 @@ use Rattle.transyt_stage.proofs.green.fill_passed.Given as goal
 -- the steps so far have their GO
 abbrev pub invariant-loop-i : goal.invariant-loop-i
 invariant-loop-i l = record {
-  passed : (k : ℕ) → k < l.i → get_or l.out k 0 ≡ passed_at l.shown l.start_lag l.end_lag l.room k;
+  passed : (k : ℕ) → k < l.i → get_or l.out k 0
+      ≡ passed_at l.shown.steps.now l.shown.start_lag l.shown.end_lag l.room k;
   small : (k : ℕ) → k < l.i → get_or l.out k 0 < 2 ^ 30;
 }

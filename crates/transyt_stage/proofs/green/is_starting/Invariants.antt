@@ -6,4 +6,5 @@ use Rattle.transyt_stage.proofs.green.is_starting.Given as goal
 
 -- so far none opens it
 abbrev pub invariant-loop-back : goal.invariant-loop-back
-invariant-loop-back l = (k : ℕ) → k < l.back → opens l.shown (minus_mod (length l.shown) l.step k) ≡ false
+invariant-loop-back l = (k : ℕ) → k < l.back
+    → opens l.shown.steps.now (minus_mod (length l.shown.steps.now) l.step k) ≡ false
