@@ -4,7 +4,7 @@ ghost use Rattle.std.specs.Prelude.{◌≡◌, ◌+◌, ◌*◌, ◌<◌, false,
 ghost use Rattle.transyt_kept.specs.Cell.{no_figures, AreSmall};
 ghost use Rattle.transyt_kept.specs.Rows.{row, empty_rows};
 ghost use Rattle.transyt_kept.specs.Saved.{out_kept, arrivals_kept, go_kept, old_rows};
-ghost use Rattle.transyt_kept.specs.Saved.{begun, FitsRows, GivesBack, AreDownTo};
+ghost use Rattle.transyt_kept.specs.Saved.{begun, FitsRows, GivesBack};
 
 use crate::flags::{clear, no_flags};
 use crate::narrow::NarrowTable;
@@ -192,18 +192,12 @@ impl Saved {
         ensures fits { FitsRows rows.new self.new }
         ensures rows { rows.new ≡ old_rows self.old rows.old }
     {
-        self.give_outs(rows);
-        self.give_shown(rows);
-    }
-
-    /// All saved departures are given back.
-    fn give_outs(&mut self, rows: &mut Rows)
-        requires { FitsRows rows.old self.old }
-        ensures back { GivesBack rows.old self.old rows.new self.new }
-        ensures down { AreDownTo (length self.new.out_flags) self.new.out_flags }
-    {
         for place in 0..self.out_flags.len() {
             self.give_out(place, rows);
+        }
+        for link in 0..self.arrivals_flags.len() {
+            self.give_arrivals(link, rows);
+            self.give_go(link, rows);
         }
     }
 
@@ -217,20 +211,6 @@ impl Saved {
         if self.out_flags[place] {
             rows.outs.take_narrow(place, &self.outs);
             self.out_flags[place] = false;
-        }
-    }
-
-    /// All saved arrivals, queues, figures and GO of the last sweep are given back.
-    fn give_shown(&mut self, rows: &mut Rows)
-        requires { FitsRows rows.old self.old }
-        ensures back { GivesBack rows.old self.old rows.new self.new }
-        ensures outs { self.new.out_flags ≡ self.old.out_flags }
-        ensures arrivals { AreDownTo (length self.new.arrivals_flags) self.new.arrivals_flags }
-        ensures go { AreDownTo (length self.new.arrivals_flags) self.new.go_flags }
-    {
-        for link in 0..self.arrivals_flags.len() {
-            self.give_arrivals(link, rows);
-            self.give_go(link, rows);
         }
     }
 
