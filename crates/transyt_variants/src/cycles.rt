@@ -1,21 +1,18 @@
 //! Other cycle times of a network.
-ghost use Rattle.std.specs.Prelude.{◌≡◌, ◌<◌, ◌≤◌, ◌+◌, ◌*◌, ◌/◌, ◌-◌, length, map, sum_by, All, IfOk, OnOk, [], IfSome, IfNone, None, true, nat_lt};
+ghost use Rattle.std.specs.Prelude.{◌≡◌, ◌<◌, ◌≤◌, length, All, IfOk, OnOk, [], nat_lt};
 ghost use Rattle.std.specs.List.{list_all};
 ghost use Rattle.std.specs.Option.{option_map};
-ghost use Rattle.transyt_parts.specs.Plan.{stage_of};
-ghost use Rattle.transyt_parts.specs.Valid.{IsNode, IsStage};
-ghost use Rattle.transyt_net.specs.Valid.{IsValid};
-ghost use Rattle.transyt_equisat.specs.Balance.{timed, balance, first_more};
-ghost use Rattle.transyt_variants.specs.Cycles.{is_whole, steps_of, has_short_lags, has_short_sizes, may_have};
-ghost use Rattle.transyt_variants.specs.Cycles.{least_length, first_barred, scaled, scaled_stage, filled_greens, laid};
-ghost use Rattle.transyt_variants.specs.Cycles.{bare_stages, bare_plan, bare_net, balanced_node, balanced};
-ghost use Rattle.transyt_variants.specs.Cycles.{at_cycle};
+ghost use Rattle.transyt_parts.specs.Valid.{IsNode};
+ghost use Rattle.transyt_equisat.specs.Balance.{timed};
+ghost use Rattle.transyt_variants.specs.Cycles.{is_whole, has_short_lags, has_short_sizes, may_have, first_barred};
+ghost use Rattle.transyt_variants.specs.Cycles.{bare_net, balanced_node, balanced, at_cycle};
 ghost use Rattle.transyt_variants.specs.Kept.{KeepsSecondsAt};
-ghost use Rattle.transyt_variants.specs.Needs.{HasBarePlan, CanHave};
+ghost use Rattle.transyt_variants.specs.Needs.{CanHave};
 
+use crate::bare::{bare_net, least_length, steps_of};
 use std::alloc::{AllocError, Global};
-use transyt_equisat::{Greens, Share, balance};
-use transyt_net::{ClimbPlan, Frame, Link, Net, Node, Stage};
+use transyt_equisat::{Share, balance};
+use transyt_net::{ClimbPlan, Link, Net, Node, Stage};
 
 /// A network at another cycle time, or the reason why there is none.
 #[derive(Drop)]
@@ -73,19 +70,6 @@ fn may_have(steps: u32, net: &Net) -> bool
         && has_short_sizes(steps, net.plan())
 }
 
-/// How many steps stages take at least.
-fn least_length(stages: &[Stage]) -> u32
-    requires few { length stages.now ≤ 8 }
-    requires stages { All (λ s. (s.intergreen ≤ 120) × (s.least ≤ 120)) stages.now }
-    ensures { result ≡ least_length stages.now }
-{
-    let mut all = 0;
-    for stage in stages {
-        all += stage.intergreen + stage.least;
-    }
-    all
-}
-
 /// The card number of the first node whose stages take more than so many steps.
 fn first_barred(steps: u32, nodes: &[Node]) -> Option<u32>
     requires { All (IsNode 120) nodes.now }
@@ -99,203 +83,12 @@ fn first_barred(steps: u32, nodes: &[Node]) -> Option<u32>
     None
 }
 
-/// A step in a cycle with `before` steps as one in a cycle with `after` steps, rounded down.
-fn scaled(before: u32, after: u32, step: u32) -> u32
-    requires before { before ≤ 120 }
-    requires some { 0 < after }
-    requires after { after ≤ 120 }
-    requires step { step < before }
-    ensures value { result ≡ scaled before after step }
-    ensures below { result < after }
-{
-    step * after / before
-}
-
-/// These stages, with their changes in a cycle of `after` steps.
-fn scaled_stages(
-    alloc: Global,
-    before: u32,
-    after: u32,
-    stages: &[Stage],
-) -> Result<Vec<Stage>, AllocError>
-    requires before { before ≤ 120 }
-    requires some { 0 < after }
-    requires after { after ≤ 120 }
-    requires stages { All (IsStage before) stages.now }
-    ensures { IfOk result (λ made. made.items ≡ map (scaled_stage before after) stages.now) }
-{
-    let mut made = Vec::with_capacity(alloc, stages.len())?;
-    for stage in stages {
-        made.push(Stage {
-            change: scaled(before, after, stage.change),
-            intergreen: stage.intergreen,
-            least: stage.least,
-        })?;
-    }
-    Ok(made)
-}
-
-/// Adds steps to the first of these greens.
-fn add_first(greens: &mut [u32], left: u32)
-    requires some { 0 < length greens.old }
-    requires small { All (λ e. e ≤ 120) greens.old }
-    requires left { left ≤ 120 }
-    ensures value { greens.new ≡ first_more left greens.old }
-    ensures small { All (λ e. e ≤ 240) greens.new }
-{
-    greens[0] += left;
-}
-
-/// The least greens of these stages.
-fn least_greens(alloc: Global, stages: &[Stage]) -> Result<Vec<u32>, AllocError>
-    ensures { IfOk result (λ greens. greens.items ≡ map (λ s. s.least) stages.now) }
-{
-    let mut greens = Vec::with_capacity(alloc, stages.len())?;
-    for stage in stages {
-        greens.push(stage.least)?;
-    }
-    Ok(greens)
-}
-
-/// The least greens of these stages, with what is left of the cycle added to the first.
-#[tactic(auto, using(crate::proofs::BareLaws::least_small))]
-fn filled_greens(alloc: Global, steps: u32, stages: &[Stage]) -> Result<Vec<u32>, AllocError>
-    requires steps { steps ≤ 120 }
-    requires some { 0 < length stages.now }
-    requires few { length stages.now ≤ 8 }
-    requires stages { All (IsStage 120) stages.now }
-    requires room { least_length stages.now ≤ steps }
-    ensures value { IfOk result (λ greens. greens.items ≡ filled_greens steps stages.now) }
-    ensures small { IfOk result (λ greens. All (λ e. e ≤ 240) greens.items) }
-{
-    let mut greens = least_greens(alloc, stages)?;
-    add_first(&mut greens, steps - least_length(stages));
-    Ok(greens)
-}
-
-/// These stages one after another, each as long as its intergreen and its green.
-fn laid(
-    alloc: Global,
-    steps: u32,
-    stages: &[Stage],
-    greens: &[u32],
-) -> Result<Vec<Stage>, AllocError>
-    requires steps { (0 < steps) × (steps ≤ 120) }
-    requires some { 0 < length stages.now }
-    requires change { (stage_of stages.now 0).change < steps }
-    requires count { length greens.now ≡ length stages.now }
-    requires stages { All (λ s. s.intergreen ≤ 120) stages.now }
-    requires greens { All (λ e. e ≤ 240) greens.now }
-    ensures { IfOk result (λ made. made.items ≡ laid steps stages.now greens.now) }
-{
-    let mut made = Vec::with_capacity(alloc, stages.len())?;
-    let mut change = stages[0].change;
-    for place in 0..stages.len() {
-        let intergreen = stages[place].intergreen;
-        made.push(Stage {
-            change,
-            intergreen,
-            least: stages[place].least,
-        })?;
-        change = (change + greens[place] + intergreen) % steps;
-    }
-    Ok(made)
-}
-
-/// The bare plan of these stages in a cycle of `after` steps.
-#[tactic(auto, using(crate::proofs::BareLaws::scaled_first, crate::proofs::BareLaws::scaled_gaps))]
-fn bare_stages(
-    alloc: Global,
-    before: u32,
-    after: u32,
-    stages: &[Stage],
-) -> Result<Vec<Stage>, AllocError>
-    requires before { before ≤ 120 }
-    requires after { (0 < after) × (after ≤ 120) }
-    requires some { 0 < length stages.now }
-    requires few { length stages.now ≤ 8 }
-    requires stages { All (IsStage before) stages.now }
-    requires room { least_length stages.now ≤ after }
-    ensures { IfOk result (λ made. made.items ≡ bare_stages before after stages.now) }
-{
-    let greens = filled_greens(alloc, after, stages)?;
-    let scaled = scaled_stages(alloc, before, after, stages)?;
-    laid(alloc, after, &scaled, &greens)
-}
-
-/// A node with its bare plan in a cycle of `after` steps.
-fn bare_node(alloc: Global, before: u32, after: u32, node: &Node) -> Result<Node, AllocError>
-    requires before { before ≤ 120 }
-    requires after { (0 < after) × (after ≤ 120) }
-    requires node { IsNode before node.now }
-    requires some { 0 < length node.now.stages }
-    requires room { least_length node.now.stages ≤ after }
-    ensures { IfOk result (λ made. made ≡ bare_plan before after node.now) }
-{
-    Ok(Node {
-        number: node.number,
-        offset: scaled(before, after, node.offset),
-        stages: bare_stages(alloc, before, after, &node.stages)?,
-    })
-}
-
-/// Adds the nodes with their bare plans.
-fn add_bare(
-    alloc: Global,
-    before: u32,
-    after: u32,
-    from: &[Node],
-    nodes: &mut Vec<Node>,
-) -> Result<(), AllocError>
-    requires before { before ≤ 120 }
-    requires after { (0 < after) × (after ≤ 120) }
-    requires from { All (HasBarePlan before after) from.now }
-    requires none { nodes.old.items ≡ [] }
-    ensures { OnOk result (nodes.new.items ≡ map (bare_plan before after) from.now) }
-{
-    for node in from {
-        nodes.push(bare_node(alloc, before, after, node)?)?;
-    }
-    Ok(())
-}
-
-/// The number of steps of a cycle time.
-fn steps_of(net: &Net, cycle: u32) -> u32
-    requires { cycle ≤ 240 }
-    ensures { result ≡ steps_of net.now cycle }
-{
-    net.frame().step_count * cycle / net.frame().cycle
-}
-
 /// Whether a cycle time is a whole number of steps.
 fn is_whole(net: &Net, cycle: u32) -> bool
     requires { cycle ≤ 240 }
     ensures { result ≡ is_whole net.now cycle }
 {
     net.frame().step_count * cycle % net.frame().cycle == 0
-}
-
-/// The bare network of a cycle time.
-#[tactic(auto, using(crate::proofs::BareLaws::bare_from, crate::proofs::BareLaws::bare_numbers))]
-fn bare_net(alloc: Global, net: &Net, cycle: u32) -> Result<Net, AllocError>
-    requires cycle { CanHave net.now cycle }
-    ensures { IfOk result (λ made. made ≡ bare_net net.now cycle) }
-{
-    let before = net.frame().step_count;
-    let after = steps_of(net, cycle);
-    let mut nodes = Vec::new(alloc);
-    if let Err(e) = add_bare(alloc, before, after, net.nodes(), &mut nodes) {
-        drop(nodes);
-        return Err(e);
-    }
-    let frame = Frame {
-        cycle,
-        step_count: after,
-        ..net.frame()
-    };
-    let made = net.with_signals(alloc, frame, &nodes);
-    drop(nodes);
-    made
 }
 
 /// These stages at the changes of these shares.

@@ -6,8 +6,10 @@
 //! is this project's own.
 #![tactic(auto)]
 
+mod bare;
 mod cycles;
 mod laws;
+mod lengths;
 mod starts;
 
 pub use cycles::{AtCycle, cycle_net};

@@ -1,7 +1,7 @@
 -- The stages before this one are made.
 use Rattle.std.proofs.Common.{◌≡◌, map, take}
 use Rattle.transyt_variants.specs.Cycles.{scaled_stage}
-use Rattle.transyt_variants.proofs.cycles.scaled_stages.Given as goal
+use Rattle.transyt_variants.proofs.bare.scaled_stages.Given as goal
 
 abbrev pub invariant-loop-stage : goal.invariant-loop-stage
-invariant-loop-stage l = l.made.items ≡ map (scaled_stage l.before l.after) (take l.stage-index l.stages)
+invariant-loop-stage l = l.made.items ≡ map (scaled_stage l.lengths.before l.lengths.after) (take l.stage-index l.stages)

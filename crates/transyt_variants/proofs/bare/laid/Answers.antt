@@ -7,7 +7,7 @@ use Rattle.transyt_parts.specs.declared.node.Stage.{Stage}
 use Rattle.transyt_parts.specs.Plan.{stage_of}
 use Rattle.transyt_equisat.specs.Balance.{change_at}
 use Rattle.transyt_variants.proofs.BareLaws.{laid_stage}
-use Rattle.transyt_variants.proofs.cycles.laid.Goals as goal
+use Rattle.transyt_variants.proofs.bare.laid.Goals as goal
 
 pub loop-place-preserved : goal.loop-place-preserved
 loop-place-preserved c =

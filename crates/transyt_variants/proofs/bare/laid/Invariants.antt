@@ -3,7 +3,7 @@ use Rattle.std.proofs.Common.{◌≡◌, ◌<◌, map}
 use Rattle.std.specs.List.{range_with_len}
 use Rattle.transyt_equisat.specs.Balance.{change_at}
 use Rattle.transyt_variants.proofs.BareLaws.{laid_stage}
-use Rattle.transyt_variants.proofs.cycles.laid.Given as goal
+use Rattle.transyt_variants.proofs.bare.laid.Given as goal
 
 abbrev pub invariant-loop-place : goal.invariant-loop-place
 invariant-loop-place l = record {

@@ -1,7 +1,7 @@
 -- The stages before this one are counted, each with at most 240 steps.
 use Rattle.std.proofs.Common.{◌≡◌, ◌≤◌, ◌*◌, take}
 use Rattle.transyt_variants.specs.Cycles.{least_length}
-use Rattle.transyt_variants.proofs.cycles.least_length.Given as goal
+use Rattle.transyt_variants.proofs.bare.least_length.Given as goal
 
 abbrev pub invariant-loop-stage : goal.invariant-loop-stage
 invariant-loop-stage l = record {
