@@ -10,7 +10,7 @@ use Rattle.transyt_kept.specs.Cell.{CellValue, no_figures}
 use Rattle.transyt_kept.specs.Rows.{RowsValue, row, with_out, with_arrivals, with_go, with_rest, placed}
 use Rattle.transyt_kept.specs.Rows.{empty_rows, empty_table, with_figures, AreRows, SameSize}
 use Rattle.transyt_kept.specs.Saved.{SavedValue, FitsRows, old_rows, marked_by, kept_of, is_up}
-use Rattle.transyt_kept.specs.Saved.{out_kept, arrivals_kept, go_kept, begun, all_down, AreDownTo}
+use Rattle.transyt_kept.specs.Saved.{out_kept, arrivals_kept, go_kept, begun, all_down}
 use Rattle.transyt_kept.proofs.OldLaws.{old_put, old_none, length-old_of, places_put}
 
 -- rows with a mark, where those of an open mark stay
@@ -77,6 +77,10 @@ none_old rows saved no_out no_arrivals no_go =
     let queue = old_none saved.arrivals_flags saved.rows.queue rows.queue no_arrivals in
     let figures = old_none saved.arrivals_flags saved.rows.figures rows.figures no_arrivals in
     (λ j. record rows { outs = outs j; arrivals = arrivals j; go = go j; queue = queue j; figures = figures j })
+
+-- no flag before a place is up
+abbrev pub AreDownTo : ℕ → List Bool → Type 0
+AreDownTo end flags = (place : ℕ) → place < end → is_up flags place ≡ false
 
 -- flags of which none is up before their end
 pub all_are_down : (flags : List Bool) → AreDownTo (length flags) flags → (p : ℕ) → is_up flags p ≡ false

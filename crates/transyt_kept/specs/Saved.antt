@@ -115,10 +115,6 @@ begun saved = record saved {
   go_flags = all_down saved.go_flags;
 }
 
--- no flag before a place is up
-abbrev pub AreDownTo : ℕ → List Bool → Type 0
-AreDownTo end flags = (place : ℕ) → place < end → is_up flags place ≡ false
-
 -- rows were given back: those of the mark stay, and each has its place
 pub record GivesBack (rows : RowsValue) (saved : SavedValue) (new_rows : RowsValue) (new_saved : SavedValue) : Type 0
   where

@@ -1,8 +1,8 @@
 -- One place more is given back, and one link. At the end no row is saved, so the rows are those of the mark.
 use Rattle.std.proofs.Common.{◌<◌, ◌≤◌, ◌+◌, false, length, set, sym, subst, ap, ◌∙◌, arith}
 use Rattle.std.proofs.lemmas.List.{length-set}
-use Rattle.transyt_kept.specs.Saved.{SavedValue, AreDownTo}
-use Rattle.transyt_kept.proofs.KeptLaws.{down_more, none_old, all_are_down}
+use Rattle.transyt_kept.specs.Saved.{SavedValue}
+use Rattle.transyt_kept.proofs.KeptLaws.{AreDownTo, down_more, none_old, all_are_down}
 use Rattle.transyt_kept.proofs.saved.Saved.restore.Goals as goal
 
 pub loop-place-preserved : goal.loop-place-preserved

@@ -1,6 +1,7 @@
 -- The places so far were given back, and then the links so far.
 use Rattle.std.proofs.Common.{◌≡◌, length}
-use Rattle.transyt_kept.specs.Saved.{GivesBack, AreDownTo}
+use Rattle.transyt_kept.specs.Saved.{GivesBack}
+use Rattle.transyt_kept.proofs.KeptLaws.{AreDownTo}
 use Rattle.transyt_kept.proofs.saved.Saved.restore.Given as goal
 
 abbrev pub invariant-loop-place : goal.invariant-loop-place
