@@ -120,7 +120,7 @@ module _ {was now : TrackerValue} (view : was ≡ now) {marked : Network} {front
   pub follow_room : HasRoom after front
   follow_room = room_shape was.net after follow_shape front tracking.room
 
-  -- what is due is what its value tells
+  -- the pairs that are due are those from the network that its value tells
   pub follow_due : due was.net after ≡ due now.net after
   follow_due = ap (λ (t : TrackerValue). due t.net after) view
 
