@@ -3,7 +3,7 @@
 use transyt_syntax::Code;
 
 /// The verdict of an audit.
-#[derive(Clone, Copy, Debug, PartialEq, Eq)]
+#[derive(Clone, Copy, PartialEq, Eq)]
 pub enum Verdict {
     /// Each line is the true one, all are there, and no listed move that is allowed lowers the index: how many places
     /// the list of moves has, and the index of the network.

@@ -21,7 +21,7 @@ use transyt_steps::Steps;
 use transyt_sweep::full;
 
 /// The result of evaluations: the cells worked out, and the index of the last.
-#[derive(Clone, Copy, Debug, PartialEq, Eq)]
+#[derive(Clone, Copy)]
 struct Evaluated {
     cells: u64,
     index: u128,

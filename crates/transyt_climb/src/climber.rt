@@ -15,7 +15,7 @@ use transyt_session::Session;
 use transyt_steps::Steps;
 
 /// How far a climb has come, by five counters. Places in the list of moves count from 0.
-#[derive(Debug, Drop)]
+#[derive(Drop)]
 pub struct Climber {
     place: u32,
     since: u32,

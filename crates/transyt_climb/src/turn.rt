@@ -6,7 +6,7 @@ ghost use Rattle.transyt_climb.specs.Turns.{is_end, is_local, step_then};
 use transyt_net::Edit;
 
 /// The answer of a turn.
-#[derive(Clone, Copy, Debug, PartialEq, Eq)]
+#[derive(Clone, Copy, PartialEq, Eq)]
 pub enum Turn {
     /// The move at this place was made, as this edit, and lowered the index to this one.
     Took { place: u32, edit: Edit, index: u128 },

@@ -12,7 +12,7 @@ pub trait Bench: Sync {
 }
 
 /// A bench that does nothing.
-#[derive(Clone, Copy, Debug, PartialEq, Eq)]
+#[derive(Clone, Copy, PartialEq, Eq)]
 pub struct IdleBench;
 
 impl Bench for IdleBench {

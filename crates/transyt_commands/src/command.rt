@@ -2,7 +2,7 @@
 use transyt_net::Edit;
 
 /// A command of a run, with the card numbers of the links, nodes and feeders that it names.
-#[derive(Clone, Copy, Debug, PartialEq, Eq)]
+#[derive(Clone, Copy, PartialEq, Eq)]
 pub enum Command {
     /// One number of the network, or the two weights of a link, is set: OFFSET, CHANGE, ENTRY, PART, CRUISE,
     /// SATURATION and WEIGHT.
@@ -18,7 +18,7 @@ pub enum Command {
 }
 
 /// A command that asks for a climb, a certificate, a text or the end, with the card number of the link that it names.
-#[derive(Clone, Copy, Debug, PartialEq, Eq)]
+#[derive(Clone, Copy, PartialEq, Eq)]
 pub enum Request {
     /// Climbs by the deck's plan.
     Climb,

@@ -5,7 +5,7 @@ use transyt_net::Edit;
 use transyt_syntax::Code;
 
 /// The answer to a table of counts.
-#[derive(Debug, Drop)]
+#[derive(Drop)]
 pub struct Counts {
     /// How many rows the table has.
     pub rows: u32,
@@ -22,7 +22,7 @@ impl Model for Counts {
 }
 
 /// Why a table of counts is refused.
-#[derive(Clone, Copy, Debug, PartialEq, Eq)]
+#[derive(Clone, Copy, PartialEq, Eq)]
 pub enum CountStop {
     /// The first row with a code, from 1, or the last row of a key whose flow is too great.
     Refused { row: u32, code: Code },

@@ -13,7 +13,7 @@ use transyt_net::{Draft, Net};
 use transyt_syntax::Code;
 
 /// Why a line isn't taken.
-#[derive(Clone, Copy, Debug, PartialEq, Eq)]
+#[derive(Clone, Copy, PartialEq, Eq)]
 pub enum CardStop {
     /// The line with this number, from 1, is refused with this code.
     Refused {
@@ -27,7 +27,7 @@ pub enum CardStop {
 }
 
 /// How a line was taken.
-#[derive(Clone, Copy, Debug, PartialEq, Eq)]
+#[derive(Clone, Copy, PartialEq, Eq)]
 pub enum Progress {
     /// More lines are awaited.
     More,

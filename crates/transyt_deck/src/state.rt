@@ -14,7 +14,7 @@ use transyt_net::{Draft, DraftFault, Feed, GiveWay, NewLink, PlanFault, Stage};
 use transyt_syntax::{Code, Numbers};
 
 /// How far a deck has come from its CYCLE card on; later parts come later.
-#[derive(Clone, Copy, Debug, PartialEq, Eq)]
+#[derive(Clone, Copy, PartialEq, Eq)]
 pub enum Part {
     /// Only the CYCLE card.
     Frame,
@@ -75,7 +75,7 @@ pub enum State {
 }
 
 /// Why a card isn't taken.
-#[derive(Clone, Copy, Debug, PartialEq, Eq)]
+#[derive(Clone, Copy)]
 pub(crate) enum Stop {
     /// The card's first code.
     Code(Code),

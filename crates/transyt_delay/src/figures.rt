@@ -13,7 +13,7 @@ use transyt_num::mul_div;
 ///
 /// That uniform delay is the mean queue is from LR 253. The random delay is after the sheared form of later
 /// versions; it, the count of stops and each rounding are this project's own.
-#[derive(Clone, Copy, PartialEq, Eq, Debug)]
+#[derive(Clone, Copy, PartialEq, Eq)]
 pub struct Figures {
     /// The mean queue over the steps of a cycle, in millionths of a vehicle, rounded down.
     pub uniform: u64,

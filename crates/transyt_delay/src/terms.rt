@@ -3,7 +3,7 @@
 use transyt_parts::Weights;
 
 /// The numbers of a network's frame that the figures of a link take, all of them whole.
-#[derive(Clone, Copy, PartialEq, Eq, Debug)]
+#[derive(Clone, Copy, PartialEq, Eq)]
 pub struct TermsFrame {
     /// The cycle in seconds.
     pub cycle: u32,
@@ -16,7 +16,7 @@ pub struct TermsFrame {
 }
 
 /// The terms of a link's figures; the four sums are over one cycle.
-#[derive(Clone, Copy, PartialEq, Eq, Debug)]
+#[derive(Clone, Copy, PartialEq, Eq)]
 pub struct Terms {
     /// The arrivals at the stop line, before any cut, in millionths of a vehicle.
     pub arrivals: u64,

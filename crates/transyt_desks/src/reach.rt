@@ -5,7 +5,7 @@ ghost use Rattle.std.specs.Prelude.{◌*◌, ◌<◌, ◌≤◌};
 /// The moves that the desks of a round try: from a place on, round the list. They are numbered from 0.
 ///
 /// The list has that place, and at most 64 moves come to each of one to eight desks.
-#[derive(Clone, Copy, Debug, PartialEq, Eq)]
+#[derive(Clone, Copy)]
 pub(crate) struct Reach {
     /// The place of the first.
     pub(crate) place: u32,

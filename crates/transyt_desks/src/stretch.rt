@@ -15,7 +15,7 @@ use transyt_session::{Session, Tried};
 use transyt_steps::Steps;
 
 /// Moves that the desks have tried, up to the first that lowers the index.
-#[derive(Clone, Copy, Debug, PartialEq, Eq)]
+#[derive(Clone, Copy)]
 pub(crate) struct Stretch {
     /// How many don't lower the index.
     pub(crate) passed: u32,

@@ -158,6 +158,6 @@ const TOOK: Round = Round {
 fn two_desks_are_at_work_at_once(rt: HostRuntime) -> Result<(), Fail> {
     let net = town(rt.alloc(), 1, CLIMBS[0].1)?;
     let found = two_rounds_of_two::<HostRuntime, Brand>(&rt, rt.alloc(), net, Blank::new(1))?;
-    assert_eq!(rt; found, Some((PASSED, [1, 1, 0], TOOK)));
+    assert!(rt; found == Some((PASSED, [1, 1, 0], TOOK)));
     Ok(())
 }

@@ -12,7 +12,7 @@ use transyt_session::Session;
 use transyt_steps::Steps;
 
 /// A round: so many turns, and what the last of them answers. All before it pass.
-#[derive(Clone, Copy, Debug, PartialEq, Eq)]
+#[derive(Clone, Copy, PartialEq, Eq)]
 pub struct Round {
     pub turns: u32,
     pub last: Turn,

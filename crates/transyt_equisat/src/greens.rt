@@ -3,7 +3,7 @@
 use std::marker::Model;
 
 /// The green of a stage, in steps.
-#[derive(Clone, Copy, Debug, PartialEq, Eq)]
+#[derive(Clone, Copy, PartialEq, Eq)]
 pub struct Share {
     /// The step of the node's clock at which the stage begins.
     pub change: u32,
@@ -14,7 +14,7 @@ pub struct Share {
 }
 
 /// The stage lengths of equal saturation of a node. This project's own.
-#[derive(Debug, Drop)]
+#[derive(Drop)]
 pub struct Greens {
     /// The peak is `top` over `base`: the degree of the link that reaches it.
     pub top: u32,

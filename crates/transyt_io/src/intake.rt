@@ -11,7 +11,7 @@ use std::marker::Model;
 /// The bytes of an input that is taken whole, for a word that answers nothing before the input ends.
 ///
 /// Contracts see it as the list of its bytes. All memory is taken in `open`, before the first read.
-#[derive(Debug, Drop)]
+#[derive(Drop)]
 pub struct Intake {
     bytes: Vec<u8>,
     block: Vec<u8>,

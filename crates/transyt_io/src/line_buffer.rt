@@ -13,7 +13,7 @@ const ROOM: usize = 4096;
 /// A line of at most 4,096 bytes that is put together piece by piece.
 ///
 /// Contracts see it as the list of its bytes. Its memory is taken once, in `open`.
-#[derive(Debug, Drop)]
+#[derive(Drop)]
 pub struct LineBuffer {
     bytes: Vec<u8>,
 }

@@ -18,7 +18,7 @@ use std::marker::Model;
 ///
 /// Contracts see it as a `Store`: the bytes written, the room left, the size of a piece, the numbers that fail, how
 /// many calls there were and how many failed.
-#[derive(Debug, Drop)]
+#[derive(Drop)]
 pub struct MemorySink {
     bytes: Vec<u8>,
     room: usize,

@@ -17,7 +17,7 @@ use std::marker::Model;
 ///
 /// Contracts see it as a `Supply`: the bytes left, the size of a piece, the numbers that fail, how many calls there
 /// were and how many failed, and how many bytes the last one gave. For tests and for callers that have their input.
-#[derive(Debug, Drop)]
+#[derive(Drop)]
 pub struct MemorySource {
     bytes: Vec<u8>,
     at: usize,

@@ -26,7 +26,7 @@ use std::alloc::{AllocError, Global};
 use std::marker::Model;
 
 /// The answer of `LineReader::next`.
-#[derive(Debug, Clone, Copy, PartialEq, Eq)]
+#[derive(Clone, Copy, Debug, PartialEq, Eq)]
 pub enum Line {
     /// A line, which `LineReader::line` gives.
     Text,
@@ -35,7 +35,7 @@ pub enum Line {
 }
 
 /// Why a call of `LineReader::next` stopped.
-#[derive(Debug, Clone, Copy, PartialEq, Eq)]
+#[derive(Clone, Copy, Debug, PartialEq, Eq)]
 pub enum ReadStop {
     /// The source failed: only where its count of faults rose in this call.
     Fault,
@@ -50,7 +50,7 @@ pub enum ReadStop {
 /// ties a reader to all bytes taken and all lines handed out; `ReadsLine` says what a call of `next` did to both. Its
 /// memory is taken in `open` alone: a block for what a read brings, and room for the 4,098 first bytes of a line, which
 /// tell what the line is.
-#[derive(Debug, Drop)]
+#[derive(Drop)]
 pub struct LineReader {
     line: Vec<u8>,
     block: Vec<u8>,

@@ -9,7 +9,7 @@ use std::marker::Model;
 /// Bytes in memory, of which each call gives as many as fit.
 ///
 /// Contracts see it as a `Stock`: the bytes left, and how many the last call gave. Its count of faults is 0.
-#[derive(Debug, Drop)]
+#[derive(Drop)]
 pub struct SteadySource {
     bytes: Vec<u8>,
     at: usize,

@@ -3,7 +3,7 @@ ghost use Rattle.std.specs.Prelude.{◌≡◌, ◌<◌, ◌≤◌, ℕ, List, Op
 ghost use Rattle.transyt_io.specs.Streams.{Reads, TellsLast, Writes, CountsFault, last_count};
 
 /// A read or write that did not happen: no byte was taken or given.
-#[derive(Debug, Clone, Copy, PartialEq, Eq)]
+#[derive(Clone, Copy, PartialEq, Eq)]
 pub struct Failed;
 
 /// Gives bytes in pieces.

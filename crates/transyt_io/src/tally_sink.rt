@@ -8,7 +8,7 @@ use std::marker::Model;
 /// A sink that takes every piece whole, never fails, and keeps only the number of bytes.
 ///
 /// Contracts see it as that number. It tells no bytes, and its count of faults is 0.
-#[derive(Debug, Drop)]
+#[derive(Drop)]
 pub struct TallySink {
     taken: u128,
 }

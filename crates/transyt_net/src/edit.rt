@@ -14,7 +14,7 @@ use transyt_parts::{Feed, Link, Node, Weights};
 ///
 /// All names in it are card numbers, stages are numbered from 1, flows are in vehicles per hour,
 /// offsets and changes in steps.
-#[derive(Clone, Copy, Debug, PartialEq, Eq)]
+#[derive(Clone, Copy, PartialEq, Eq)]
 pub enum Edit {
     /// The offset of a node.
     Offset {
@@ -57,7 +57,7 @@ pub enum Edit {
 }
 
 /// Why an edit isn't allowed, in the order in which the faults are asked for.
-#[derive(Clone, Copy, Debug, PartialEq, Eq)]
+#[derive(Clone, Copy, PartialEq, Eq)]
 pub enum EditFault {
     /// The node, its stage or a link is unknown (17).
     Unknown,

@@ -3,7 +3,7 @@ ghost use Rattle.std.specs.Prelude.{◌≡◌};
 ghost use Rattle.transyt_outcome.specs.Outcome.{exit_number};
 
 /// How a run ended.
-#[derive(Debug, Clone, Copy, PartialEq, Eq, Drop)]
+#[derive(Clone, Copy, PartialEq, Eq, Drop)]
 pub enum Status {
     /// The input was read to its end, or a line ended the run, or the text of the words was written.
     Done,

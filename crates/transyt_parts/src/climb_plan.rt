@@ -3,7 +3,7 @@
 use std::marker::Model;
 
 /// The sizes that a climb tries, and how often it may look.
-#[derive(Debug, Drop)]
+#[derive(Drop)]
 pub struct ClimbPlan {
     /// How many moves a climb looks at, at most: 1 to 1,000,000.
     pub budget: u32,

@@ -4,7 +4,7 @@
 ///
 /// Times are in whole seconds, minutes or steps as each field says. LR 253 has the cycle, the steps
 /// and the dispersion; the sweeps, the period and the limits are this project's own.
-#[derive(Clone, Copy, Debug, PartialEq, Eq)]
+#[derive(Clone, Copy, PartialEq, Eq)]
 pub struct Frame {
     /// The length of the cycle in seconds, 30 to 240.
     pub cycle: u32,

@@ -9,7 +9,7 @@ use std::alloc::AllocFailed;
 use std::marker::Model;
 
 /// The part of a link's traffic that comes from another link.
-#[derive(Clone, Copy, Debug, PartialEq, Eq)]
+#[derive(Clone, Copy, PartialEq, Eq)]
 pub struct Feed {
     /// The card number of the link that the vehicles come from.
     pub feeder: u32,
@@ -20,7 +20,7 @@ pub struct Feed {
 }
 
 /// The rule by which a link gives way to another. This project's own.
-#[derive(Clone, Copy, Debug, PartialEq, Eq)]
+#[derive(Clone, Copy, PartialEq, Eq)]
 pub struct GiveWay {
     /// The card number of the link that goes first.
     pub other: u32,
@@ -29,7 +29,7 @@ pub struct GiveWay {
 }
 
 /// The weights of a link's delay and stops in the performance index. LR 253.
-#[derive(Clone, Copy, Debug, PartialEq, Eq)]
+#[derive(Clone, Copy, PartialEq, Eq)]
 pub struct Weights {
     /// The weight of its delay, a whole number, at most 999.
     pub delay: u32,
@@ -38,7 +38,7 @@ pub struct Weights {
 }
 
 /// The numbers of a new link: all of it but its stages, its feeds and its rule.
-#[derive(Clone, Copy, Debug, PartialEq, Eq)]
+#[derive(Clone, Copy, PartialEq, Eq)]
 pub struct NewLink {
     /// The link's card number, 1 to 99,999.
     pub number: u32,
@@ -57,7 +57,7 @@ pub struct NewLink {
 }
 
 /// A link: one stream of traffic up to the stop line of a node.
-#[derive(Debug, Drop)]
+#[derive(Drop)]
 pub struct Link {
     /// The link's card number, 1 to 99,999.
     pub number: u32,

@@ -7,7 +7,7 @@ use std::alloc::AllocFailed;
 use std::marker::Model;
 
 /// A stage of a node. All of it is in steps.
-#[derive(Clone, Copy, Debug, PartialEq, Eq)]
+#[derive(Clone, Copy, PartialEq, Eq)]
 pub struct Stage {
     /// The step of the cycle at which the stage begins, before the node's offset is added.
     pub change: u32,
@@ -19,7 +19,7 @@ pub struct Stage {
 }
 
 /// A node: a junction with signals, its stages in order.
-#[derive(Debug, Drop)]
+#[derive(Drop)]
 pub struct Node {
     /// The node's card number, 1 to 99,999.
     pub number: u32,

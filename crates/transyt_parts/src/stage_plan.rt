@@ -8,7 +8,7 @@ use crate::node::{Node, Stage};
 use transyt_cycle::minus_mod;
 
 /// Why a node's plan isn't allowed, in the order in which the faults are asked for.
-#[derive(Clone, Copy, Debug, PartialEq, Eq)]
+#[derive(Clone, Copy, PartialEq, Eq)]
 pub enum PlanFault {
     /// The node has fewer than two stages (22).
     FewStages,

@@ -14,7 +14,7 @@ use transyt_session::Session;
 use transyt_text::{Parts, print_form, print_parts, print_values};
 
 /// A report of the session. A link is named by its place in card order, from 0.
-#[derive(Clone, Copy, Debug, PartialEq, Eq)]
+#[derive(Clone, Copy, PartialEq, Eq)]
 pub enum Report {
     /// The index of the network.
     Index,

@@ -3,7 +3,7 @@
 use transyt_net::EditFault;
 
 /// The answer to an edit.
-#[derive(Clone, Copy, Debug, PartialEq, Eq)]
+#[derive(Clone, Copy, PartialEq, Eq)]
 pub enum Reply {
     /// It was made, in this work: pairs of a sweep and a link that were worked out anew.
     Done { work: u64 },
@@ -12,7 +12,7 @@ pub enum Reply {
 }
 
 /// The answer to a try of an edit.
-#[derive(Clone, Copy, Debug, PartialEq, Eq)]
+#[derive(Clone, Copy, PartialEq, Eq)]
 pub enum Tried {
     /// It isn't allowed.
     Barred,
@@ -21,9 +21,9 @@ pub enum Tried {
 }
 
 /// A trial is open already.
-#[derive(Clone, Copy, Debug, PartialEq, Eq)]
+#[derive(Clone, Copy, PartialEq, Eq)]
 pub struct TrialOpen;
 
 /// No trial is open.
-#[derive(Clone, Copy, Debug, PartialEq, Eq)]
+#[derive(Clone, Copy, PartialEq, Eq)]
 pub struct NoTrial;

@@ -3,7 +3,7 @@
 ghost use Rattle.std.specs.Prelude.{◌<◌, ◌↔◌, IsTrue};
 
 /// The arrivals at a stop line in a cycle and its GO, in millionths of a vehicle.
-#[derive(Clone, Copy, Debug, PartialEq, Eq)]
+#[derive(Clone, Copy, PartialEq, Eq)]
 pub struct Totals {
     /// The arrivals, before any cut.
     pub come: u64,

@@ -4,7 +4,7 @@ ghost use Rattle.transyt_syntax.specs.Codes.{number};
 
 /// Why a card, a command, a row of counts or a line of a certificate is refused. The codes, their numbers and the
 /// order in which they are asked for are this project's own.
-#[derive(Clone, Copy, Debug, PartialEq, Eq)]
+#[derive(Clone, Copy, PartialEq, Eq)]
 pub enum Code {
     /// A byte that is neither printable ASCII nor a blank nor a tab, or a keyword that is none of this part's (10).
     OddByte,

@@ -15,7 +15,7 @@ use transyt_sentences::on_audit;
 use transyt_steps::Steps;
 
 /// Tells whether the lines after a deck prove that no listed move lowers the index.
-#[derive(Clone, Copy, Debug, Drop)]
+#[derive(Clone, Copy, Drop)]
 pub struct AuditWord;
 
 /// The line of a verdict.

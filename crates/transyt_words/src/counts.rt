@@ -17,7 +17,7 @@ use transyt_steps::Steps;
 use transyt_syntax::Code;
 
 /// Turns a table of counts after a deck into commands.
-#[derive(Clone, Copy, Debug, Drop)]
+#[derive(Clone, Copy, Drop)]
 pub struct CountsWord;
 
 /// The line of a refused row: its number and the code.

@@ -17,7 +17,7 @@ use transyt_steps::Steps;
 use transyt_variants::{AtCycle, cycle_net};
 
 /// Climbs over cycle times as `scan` does, but at steps that keep their length in seconds.
-#[derive(Clone, Copy, Debug, PartialEq, Eq, Drop)]
+#[derive(Clone, Copy, PartialEq, Eq, Drop)]
 pub struct CyclesWord {
     /// The cycle times, and how many workers climb.
     pub asked: ScanWord,

@@ -16,7 +16,7 @@ use transyt_net::Net;
 use transyt_steps::Steps;
 
 /// Tells stage lengths of equal saturation for each node.
-#[derive(Clone, Copy, Debug, Drop)]
+#[derive(Clone, Copy, Drop)]
 pub struct EquisatWord;
 
 /// The line of a stage with this number.
