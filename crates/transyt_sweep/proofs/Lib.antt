@@ -4,6 +4,7 @@ pub mod FeederLaws
 pub mod InflowLaws
 pub mod SendingLaws
 pub mod SlotLaws
+pub mod GroupLaws
 pub mod IndexLaws
 pub mod ReadLaws
 pub mod FrontLaws

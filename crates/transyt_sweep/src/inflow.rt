@@ -80,7 +80,8 @@ fn renew_feeds(net: &Net, feeds: &[Feed], slots: &mut [Factors])
 }
 
 /// Adds the arrivals by the factors of three slots or of four to the two turns, side by side in the lanes, and says so;
-/// adds nothing where one of them can't be sent.
+/// adds nothing where one of them can't be sent. Where there are three, the fourth platoon is the third once more, and
+/// stays behind.
 fn send_group(inputs: &Inputs<'_>, slots: &[Factors], lanes: &mut [u64], turns: &mut [u64]) -> bool
     requires lanes_len { length lanes.old ≡ 4 * inputs.now.step_count }
     requires len { IsGroup (length slots.now) }
@@ -93,16 +94,14 @@ fn send_group(inputs: &Inputs<'_>, slots: &[Factors], lanes: &mut [u64], turns: 
         → All (λ v. v < limit + 4 * 2 ^ 22) (folded inputs.now.step_count turns.new) }
     ensures stays { (IsTrue result → ⊥) → turns.new ≡ turns.old }
 {
-    let steps = inputs.step_count;
-    let first = platoon(inputs, &slots[0]);
-    let second = platoon(inputs, &slots[1]);
-    let third = platoon(inputs, &slots[2]);
-    if slots.len() == 4 {
-        let fourth = platoon(inputs, &slots[3]);
-        disperse_together(steps, &[first, second, third, fourth], lanes, turns)
-    } else {
-        disperse_together(steps, &[first, second, third], lanes, turns)
-    }
+    let last = slots.len() - 1;
+    let platoons = [
+        platoon(inputs, &slots[0]),
+        platoon(inputs, &slots[1]),
+        platoon(inputs, &slots[2]),
+        platoon(inputs, &slots[last]),
+    ];
+    disperse_together(inputs.step_count, &platoons[..slots.len()], lanes, turns)
 }
 
 /// Adds the arrivals of three or four feeds to the two turns of arrivals: side by side, by the factors that are kept in
