@@ -161,16 +161,34 @@ impl Desks {
         ensures workers { length self.new ≡ length self.old }
     {
         self.follow(rt);
-        if tries.is_empty() {
-            return;
+        if !tries.is_empty() {
+            self.try_some(&Crew { rt, gate }, from, tries);
         }
+    }
+
+    /// Tries consecutive moves from a place on, at least one, at desks that stand for one network.
+    fn try_some<R: Threads + Sync, G: Gate>(
+        &mut self,
+        crew: &Crew<'_, R, G>,
+        from: u32,
+        tries: &mut [Tried],
+    )
+        requires some { 0 < length tries.old }
+        requires aligned { AreAligned self.old }
+        requires closed { (desk_zero self.old).before ≡ None }
+        requires places { from + length tries.old ≤ move_count (desk_zero self.old).net }
+        requires few { length tries.old ≤ 32 * length self.old }
+        ensures tried { AreTriesOf (desk_zero self.old).net from (length tries.old) tries.new }
+        ensures len { length tries.new ≡ length tries.old }
+        ensures same { self.new ≡ self.old }
+    {
         let reach = Reach {
             place: from,
             count: move_count(self.session().net()),
             room: tries.len() as u32,
             desks: self.desks.len() as u32,
         };
-        find_reach(&Crew { rt, gate }, self.desks.as_mut_slice(), reach);
+        find_reach(crew, self.desks.as_mut_slice(), reach);
         hand_on(&self.desks, reach, tries);
     }
 
