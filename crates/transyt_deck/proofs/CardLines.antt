@@ -1,5 +1,5 @@
 -- The lines of cards, one card or a list of them at a time.
-use Rattle.std.proofs.Common.{◌≡◌, List, [], ◌∷◌, ◌++◌, map, Option, Result, Ok, ℕ, refl, sym, ap, ◌∙◌}
+use Rattle.std.proofs.Common.{◌≡◌, List, [], ◌∷◌, ◌++◌, map, Option, Result, ℕ, refl, sym, ap, ◌∙◌}
 use Rattle.std.specs.List.{flat_map}
 use Rattle.std.proofs.lemmas.List.{append-nil}
 use Rattle.std.proofs.lemmas.Grind.{flat_map-append}
@@ -8,7 +8,7 @@ use Rattle.transyt_parts.specs.declared.frame.Frame.{Frame}
 use Rattle.transyt_parts.specs.Parts.{NodeValue, LinkValue, PlanValue}
 use Rattle.transyt_net.specs.Parts.{Network}
 use Rattle.transyt_text.specs.Prints.{Prints}
-use Rattle.transyt_text.proofs.PrintLaws.{prints_both, prints_same}
+use Rattle.transyt_text.proofs.PrintLaws.{prints_same}
 use Rattle.transyt_deck.specs.declared.card.Card.{Card}
 use Rattle.transyt_deck.specs.declared.card.Card.TheVariants.{Form, Cycle, End}
 use Rattle.transyt_deck.specs.Cards.{card_line, cards_text, node_cards, link_card, feed_cards, rule_cards, plan_cards}
@@ -32,18 +32,13 @@ pub one_printed : {T E : Type 0} {a b : Option (List ℕ)} {f g : ℕ} (r : Resu
     → Prints {T = T} {E = E} a b f g r (card_line card) → Prints {T = T} {E = E} a b f g r (cards_text (card ∷ []))
 one_printed r card h = prints_same _ _ r _ _ h (sym (append-nil (card_line card)))
 
--- the parts of a deck's text after the links: their feeds, their rules, the climb plan and END
-abbrev pub rest_text : List LinkValue → Option PlanValue → List ℕ
-rest_text links plan =
-    flat_map (λ l. cards_text (feed_cards l)) links ++ (flat_map (λ l. cards_text (rule_cards l)) links
-    ++ (cards_text (plan_cards plan) ++ cards_text (End ∷ [])))
-
 -- the parts of a deck's text, each after the other
 abbrev pub parts_text : Frame → List NodeValue → List LinkValue → Option PlanValue → List ℕ
 parts_text frame nodes links plan =
     cards_text (Form 2 ∷ Cycle frame ∷ [])
     ++ (flat_map (λ n. cards_text (node_cards n)) nodes ++ (flat_map (λ l. card_line (link_card l)) links
-    ++ rest_text links plan))
+    ++ (flat_map (λ l. cards_text (feed_cards l)) links ++ (flat_map (λ l. cards_text (rule_cards l)) links
+    ++ (cards_text (plan_cards plan) ++ card_line End)))))
 
 texts : (a b c d e f g : List Card)
     → cards_text a ++ (cards_text b ++ (cards_text c ++ (cards_text d ++ (cards_text e ++ (cards_text f ++ cards_text g)))))
@@ -59,18 +54,6 @@ parts_are net f n l p =
     ∙ (λ j. cards_text (Form 2 ∷ Cycle net.frame ∷ [])
     ++ (lines_of_each node_cards net.nodes j ++ (lines_of_map link_card net.links j
     ++ (lines_of_each feed_cards net.links j ++ (lines_of_each rule_cards net.links j
-    ++ (cards_text (plan_cards net.plan) ++ cards_text (End ∷ [])))))))
+    ++ (cards_text (plan_cards net.plan) ++ sym (append-nil (card_line End)) j))))))
     ∙ texts (Form 2 ∷ Cycle net.frame ∷ []) (flat_map node_cards net.nodes) (map link_card net.links)
     (flat_map feed_cards net.links) (flat_map rule_cards net.links) (plan_cards net.plan) (End ∷ [])
-
--- the frame, the nodes and the links were written, and then the rest as far as it goes
-pub rest_printed : {T E : Type 0} {u v w : T} {a b c d e : Option (List ℕ)} {i j k m n : ℕ} {frame : Frame}
-    {nodes : List NodeValue} {links : List LinkValue} {plan : Option PlanValue} (net : Network) (r : Result T E)
-    → frame ≡ net.frame → nodes ≡ net.nodes → links ≡ net.links → plan ≡ net.plan
-    → Prints {T = T} {E = E} a b i j (Ok u) (cards_text (Form 2 ∷ Cycle frame ∷ []))
-    → Prints {T = T} {E = E} b c j k (Ok v) (flat_map (λ n. cards_text (node_cards n)) nodes)
-    → Prints {T = T} {E = E} c d k m (Ok w) (flat_map (λ l. card_line (link_card l)) links)
-    → Prints {T = T} {E = E} d e m n r (rest_text links plan) → Prints {T = T} {E = E} a e i n r (deck_text net)
-rest_printed net r f n l p framed noded linked rest =
-    prints_same _ _ r _ _ (prints_both r _ _ framed (prints_both r _ _ noded (prints_both r _ _ linked rest)))
-    (parts_are net f n l p)

@@ -1,5 +1,5 @@
 //! The deck text of a network.
-ghost use Rattle.std.specs.Prelude.{◌≡◌, ◌≤◌, ◌∷◌, [], length, map, flat_map, All, IfSome};
+ghost use Rattle.std.specs.Prelude.{◌≡◌, ◌≤◌, ◌∷◌, [], ◌++◌, length, map, flat_map, All, IfSome};
 ghost use Rattle.std.specs.Option.{option_map};
 ghost use Rattle.transyt_io.specs.Lines.{lines};
 ghost use Rattle.transyt_text.specs.Prints.{PrintsOn};
@@ -19,20 +19,14 @@ use transyt_net::{ClimbPlan, Feed, Frame, Link, Net, Node, Stage};
 /// All numbers are those of the network as it stands. The text is this project's own. What `line` held is lost,
 /// and what it holds afterwards is unspecified. The lines of the text, taken by a `CardReader`, are accepted to the
 /// last, which is END, and give an equal network.
-#[tactic(auto, using(crate::proofs::ReadBack::deck_read_back))]
 pub fn print_deck<K: Sink>(net: &Net, line: &mut LineBuffer, sink: &mut K) -> Result<(), Failed>
     ensures prints { PrintsOn K.written K.faults sink.old sink.new result (deck_text net.now) }
     ensures reads_back { deck (lines (deck_text net.now))
         ≡ Complete (length (deck_cards net.now)) net.now }
 {
-    let links = net.links();
     print_frame(net.frame(), line, sink)?;
     print_nodes(net.nodes(), line, sink)?;
-    print_links(links, line, sink)?;
-    print_feeds(links, line, sink)?;
-    print_rules(links, line, sink)?;
-    print_plan(net.plan(), line, sink)?;
-    print_card(b"END", &[], &[], line, sink)
+    print_linked(net.links(), net.plan(), line, sink)
 }
 
 /// Writes the FORM card, of form 2, and the CYCLE card.
@@ -113,6 +107,29 @@ fn print_stage<K: Sink>(stage: Stage, line: &mut LineBuffer, sink: &mut K) -> Re
 {
     let numbers = [stage.change, stage.intergreen, stage.least];
     print_card(b"STAGE", &numbers, &[], line, sink)
+}
+
+/// Writes the LINK card of each link, then their FEED cards, their YIELD cards, the STEPS card of a climb plan, if
+/// there is one, and END.
+fn print_linked<K: Sink>(
+    links: &[Link],
+    plan: Option<&ClimbPlan>,
+    line: &mut LineBuffer,
+    sink: &mut K,
+) -> Result<(), Failed>
+    requires stages { All (λ (l : LinkValue). length l.stages ≤ 8) links.now }
+    requires sizes { IfSome plan (λ p. length p.now.sizes ≤ 16) }
+    ensures { PrintsOn K.written K.faults sink.old sink.new result
+        (flat_map (λ l. card_line (link_card l)) links.now
+        ++ (flat_map (λ l. cards_text (feed_cards l)) links.now
+        ++ (flat_map (λ l. cards_text (rule_cards l)) links.now
+        ++ (cards_text (plan_cards (option_map (λ p. p.now) plan.entry)) ++ card_line card.End)))) }
+{
+    print_links(links, line, sink)?;
+    print_feeds(links, line, sink)?;
+    print_rules(links, line, sink)?;
+    print_plan(plan, line, sink)?;
+    print_card(b"END", &[], &[], line, sink)
 }
 
 /// Writes the LINK card of each link.
