@@ -1,17 +1,19 @@
 -- The steps at which a link is shown.
 use Rattle.std.proofs.Common.{◌≡◌, ◌≢◌, ℕ, ◌+◌, ◌%◌, ◌<◌, ◌≤◌, Bool, true, false, ◌&&◌, ◌||◌, List, length, get_or, set}
 use Rattle.std.proofs.Common.{nat_lt, nat_le, ap, sym, ◌∙◌, arith, ◌⊎◌, inl, inr, map, replicate, if◌then◌else◌}
-use Rattle.std.specs.List.{range_with_len}
+use Rattle.std.specs.List.{list_any, range_with_len}
 use Rattle.std.proofs.lemmas.List.FromFn.{fill_by_all, get_or-map-range_with_len, length-map-range_with_len}
 use Rattle.std.proofs.lemmas.Bool.{cases_eq}
 use Rattle.std.proofs.lemmas.Bool.Decides.{nat_tests}
 use Rattle.std.proofs.lemmas.List.{get_or-set_other, get_or-replicate}
 use Rattle.std.proofs.lemmas.Grind.{get_or-set_at}
 use Rattle.std.proofs.Math.Nat.{mod-eq_of_lt}
-use Rattle.transyt_cycle.specs.Cycle.{minus_mod}
+use Rattle.transyt_cycle.specs.Cycle.{minus_mod, step_before}
 use Rattle.transyt_cycle.proofs.CycleLaws.{minus_mod-of_add, minus_mod-add}
 use Rattle.transyt_parts.specs.Parts.{NodeValue}
-use Rattle.transyt_stage.specs.Green.{is_shown, shown_of, passed_at}
+use Rattle.transyt_parts.specs.Plan.{stage_of, length_at}
+use Rattle.transyt_parts.proofs.BelowLaws.{any_more}
+use Rattle.transyt_stage.specs.Green.{runs_in, shows, is_shown, shown_of, passed_at}
 use Rattle.transyt_stage.proofs.StepLaws.{green_without_lags}
 
 -- whether a step comes at least `from` and fewer than `to` steps after the change
@@ -48,9 +50,12 @@ added_step {X} value out first n change from s place len within start at so_far 
         ∙ ap (λ m. (m + change) % n) e ∙ sym there) in
         grind (arith, nat_tests, get_or-set_other out place i value d, so_far i d below)
 
--- a value that two tests give, one after the other
-pub cond_or : {X : Type 0} (a b : Bool) (x y : X) → (if b then x else (if a then x else y)) ≡ (if a || b then x else y)
-cond_or a b x y = grind (arith, nat_tests)
+-- a value that some test so far gives, and then one more
+pub one_more : {X : Type 0} (p : ℕ → Bool) (n : ℕ) (value first before after : X)
+    → before ≡ (if list_any p (range_with_len 0 n) then value else first)
+    → after ≡ (if p n then value else before)
+    → after ≡ (if list_any p (range_with_len 0 (n + 1)) then value else first)
+one_more p n value first before after so_far here = grind (arith, nat_tests, any_more p n)
 
 -- a list of false, with true at each step at which the link is shown, is the definition's
 pub shown_is : (steps : ℕ) (node : NodeValue) (stages : List ℕ) (clear shown : List Bool)
@@ -85,3 +90,14 @@ module _ (steps : ℕ) (node : NodeValue) (stages : List ℕ) (room : ℕ) (clea
   -- each number is below a limit of `room`
   pub passed_below : (limit : ℕ) → room < limit → (i : ℕ) (d : ℕ) → i < length out → get_or out i d < limit
   passed_below limit small i d below = grind (arith, nat_tests, passes i d)
+
+-- a stage shows a link that runs in it from the step `from` after its change to the step `to`
+pub shows_between : (steps : ℕ) (node : NodeValue) (stages : List ℕ) (i k n change from to : ℕ)
+    → n ≡ steps → runs_in stages k ≡ true → change ≡ node.offset + (stage_of node.stages k).change
+    → from ≡ (if runs_in stages (step_before (length node.stages) k) then 0 else (stage_of node.stages k).intergreen)
+    → to ≡ length_at steps node.stages k → between from to (minus_mod n i change) ≡ shows steps node stages i k
+shows_between steps node stages i k n change from to long runs at starts ends =
+    rw (long, runs, at, starts, ends) (by (runs_in stages (step_before (length node.stages) k)) _ _ _)
+  where
+    by : (b : Bool) (m l ig : ℕ) → between (if b then 0 else ig) l m ≡ (nat_lt m l && true && (nat_le ig m || b))
+    by b m l ig = grind (arith, nat_tests)

@@ -56,7 +56,6 @@ fn test_green(net: &Net, link: usize, step: u32) -> bool
 ///
 /// `out` has one value for each step of the cycle, and is overwritten. It is the saturation flow of a
 /// step, rounded down, in each step of green, and 0 in the others.
-#[tactic(auto, using(crate::proofs::ShownLaws::passed_below))]
 pub fn fill_go(net: &Net, link: usize, out: &mut [u64])
     requires link { link < length net.now.links }
     requires steps { length out.old ≡ net.now.frame.step_count }
@@ -188,7 +187,6 @@ fn fill_shown(step_count: u32, node: &Node, stages: &[u32], shown: &mut [bool])
 }
 
 /// Gives `value` to the steps at which a link that runs in these stages is shown.
-#[tactic(auto, using(transyt_parts::proofs::BelowLaws::any_more, crate::proofs::ShownLaws::cond_or))]
 fn show_stages<T: Copy>(step_count: u32, node: &Node, stages: &[u32], value: T, out: &mut [T])
     requires node { IsNode step_count node.now }
     requires steps { length out.old ≡ step_count }
