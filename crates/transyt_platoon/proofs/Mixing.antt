@@ -5,7 +5,7 @@ use Rattle.std.specs.List.{All, range_with_len}
 use Rattle.std.proofs.lemmas.List.{length-replicate, get_or-replicate}
 use Rattle.std.proofs.lemmas.List.Elements.{All-map}
 use Rattle.std.proofs.lemmas.List.Folds.{sum_by-replicate}
-use Rattle.std.proofs.lemmas.List.Sums.{sum_by-le}
+use Rattle.std.proofs.lemmas.List.Sums.{sum_by-le, get_or-le-sum_by}
 use Rattle.std.proofs.lemmas.List.FromFn.{fill_by_all}
 use Rattle.std.proofs.Math.Nat.{mod-lt, mod-eq_of_lt, mod-add-mod, add-mod_left, mul-div_cancel_left, mul-le-mul_left}
 use Rattle.std.proofs.Math.Nat.{div-le_of_le-mul}
@@ -31,6 +31,14 @@ mean_below xs b some fit =
     let mean : sum xs / length xs ≤ b - 1 =
     div-le_of_le-mul (length xs) (sum_by-le (λ x. x) (b - 1) xs (λ k d h. omega (arith, fit k d h))) in omega arith
 
+-- the weight of a dispersion in its range
+pub weight_within : (k t : ℕ) → k ≤ 100 → t ≤ 960 → k * t ≤ 96000
+weight_within k t percent time = omega (arith, mul-le-mul_left k time)
+
+-- a value of a profile is within its sum
+pub value_within : (xs : List ℕ) (i : ℕ) → i < length xs → get_or xs i 0 ≤ sum xs
+value_within xs i below = get_or-le-sum_by (λ x. x) xs i 0 below
+
 -- the smoothed profile begins with the mean
 pub smoothed_none : (xs : List ℕ) (w : ℕ) → smoothed xs w 0 ≡ sum xs / length xs
 unfolding smoothed
@@ -50,6 +58,13 @@ unfolding smoothed
 second_next xs w i below =
     let one : length xs + 1 + i ≡ suc (length xs + i) = omega arith in
     let place : (length xs + i) % length xs ≡ i = add-mod_left (length xs) i ∙ mod-eq_of_lt below in rw (one, place)
+
+-- one step more of the first turn: its mix is the smoothed profile after it
+pub step_first : (xs : List ℕ) (k t w i z r : ℕ) → w ≡ k * t → i < length xs → z ≡ smoothed xs (k * t) i
+    → r ≡ mixed w (get_or xs i 0) z → r ≡ smoothed xs (k * t) (i + 1)
+step_first xs k t w i z r weight below before mix =
+    mix ∙ ap (λ v. mixed v (get_or xs i 0) z) weight ∙ ap (mixed (k * t) (get_or xs i 0)) before
+    ∙ sym (first_next xs (k * t) i below)
 
 -- values below a bound stay below it
 smoothed_below : (xs : List ℕ) (w j b : ℕ) → 0 < length xs → All (λ v. v < b) xs → smoothed xs w j < b

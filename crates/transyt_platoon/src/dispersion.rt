@@ -73,7 +73,6 @@ fn go_round(journey: &Journey<'_>, whole: u64, out: &mut [u64])
 }
 
 /// Twice round the cycle with a division in each step: the second turn is written.
-#[tactic(auto, using(crate::proofs::Mixing::first_next, crate::proofs::Mixing::smoothed_none))]
 fn travel(journey: &Journey<'_>, out: &mut [u64])
     requires lengths { length journey.now.profile.now ≡ length out.old }
     ensures { Placed journey.now.profile.now out.new journey.now.time journey.now.percent

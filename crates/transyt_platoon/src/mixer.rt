@@ -77,7 +77,6 @@ impl Mixer {
 }
 
 /// Twice round the cycle by products, where the sum of the profile is below `most`: the second turn is written.
-#[tactic(auto, using(crate::proofs::Mixing::first_next, crate::proofs::Mixing::smoothed_none))]
 pub(crate) fn travel_by(journey: &Journey<'_>, most: u64, out: &mut [u64])
     requires lengths { length journey.now.profile.now ≡ length out.old }
     requires fit { sum journey.now.profile.now < most }
