@@ -4,4 +4,5 @@ pub mod Onward
 pub mod GivenLines
 pub mod YesLaws
 pub mod OwnText
+pub mod Planned
 pub mod Worked

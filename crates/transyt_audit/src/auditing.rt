@@ -40,7 +40,9 @@ pub fn audit<L: Ledger>(
         });
     };
     let mut truth = Truth::open(alloc, net, steps)?;
-    judge(alloc, &mut truth, table, line + 1, steps)
+    let found = judge(alloc, &mut truth, table, line + 1, steps);
+    drop(truth);
+    found
 }
 
 /// Judges the lines of a table, the first of which has the number `first`.

@@ -72,8 +72,15 @@ impl Truth {
         ensures err { OnErr result (steps.new ≡ steps.old) }
     {
         let text = LineBuffer::open(alloc)?;
-        let net = net.copy(alloc)?;
-        let present = full(alloc, &net, steps)?.index();
+        let Ok(net) = net.copy(alloc) else {
+            drop(text);
+            return Err(AllocError);
+        };
+        let Ok(present) = whole_index(alloc, &net, steps) else {
+            drop(net);
+            drop(text);
+            return Err(AllocError);
+        };
         Ok(Truth {
             places: move_count(&net),
             net,
@@ -156,7 +163,6 @@ impl Truth {
 
 /// The index with the move at a place made, or None where it is barred. The move is taken back, also where memory is
 /// wanting.
-#[tactic(auto, using(crate::proofs::TrueLines::tried_made))]
 fn try_move<L: Ledger>(
     alloc: Global,
     net: &mut Net,
@@ -172,11 +178,26 @@ fn try_move<L: Ledger>(
     let Ok(back) = net.apply(move_at(net, place)) else {
         return Ok(None);
     };
-    let rows = full(alloc, net, steps);
-    if net.apply(back).is_err() {
-        unreachable!();
-    }
-    Ok(Some(rows?.index()))
+    let found = whole_index(alloc, net, steps);
+    let _ = net.apply(back);
+    Ok(Some(found?))
+}
+
+/// The index of a network, worked out from nothing: each sweep of each link once.
+fn whole_index<L: Ledger>(
+    alloc: Global,
+    net: &Net,
+    steps: &mut Steps<L>,
+) -> Result<u128, AllocError>
+    ensures value { IfOk result (λ found. found ≡ index net.now) }
+    ensures ok { OnOk result (steps.new
+        ≡ steps.old + net.now.frame.sweeps * length net.now.links) }
+    ensures err { OnErr result (steps.new ≡ steps.old) }
+{
+    let rows = full(alloc, net, steps)?;
+    let found = rows.index();
+    drop(rows);
+    Ok(found)
 }
 
 /// Whether there is an index, and it is below another.
