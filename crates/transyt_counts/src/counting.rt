@@ -148,9 +148,17 @@ pub fn read_counts(alloc: Global, table: &[u8], net: &Net) -> Result<Counts, Cou
         .from_reader(alloc, table);
     let mut fields = ByteRecord::new(alloc);
     let mut tally = IndexMap::new(alloc);
-    let rows = match tally_rows(table, net, &mut reader, &mut fields, &mut tally) {
+    let read = tally_rows(table, net, &mut reader, &mut fields, &mut tally);
+    drop(fields);
+    drop(reader);
+    let rows = match read {
         Ok(rows) => rows,
-        Err(stop) => return Err(stop),
+        Err(stop) => {
+            drop(tally);
+            return Err(stop);
+        }
     };
-    edits_by(alloc, rows, &tally)
+    let found = edits_by(alloc, rows, &tally);
+    drop(tally);
+    found
 }

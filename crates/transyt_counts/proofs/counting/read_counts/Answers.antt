@@ -21,14 +21,14 @@ one_answer net table counts rows entries read count tally = rw (← count, tally
 pub returns-clause-counts : goal.returns-clause-counts
 returns-clause-counts c =
     let (counts, read, count, tally) = c.in-Ok.ensures.ok in
-    rw (one_answer c.args.net.now c.args.table.now counts c.in-Ok.rows c.tally_rows.new.tally.entries read count tally)
-    at c.edits_by.ensures.counts
+    rw (one_answer c.args.net.now c.args.table.now counts c.in-Ok.rows c.tally_rows-read.new.tally.entries read count tally)
+    at c.edits_by-found.ensures.counts
 
 pub returns-clause-refused : goal.returns-clause-refused
 returns-clause-refused c =
     let (counts, read, count, tally) = c.in-Ok.ensures.ok in
-    rw (one_answer c.args.net.now c.args.table.now counts c.in-Ok.rows c.tally_rows.new.tally.entries read count tally)
-    at c.edits_by.ensures.refused
+    rw (one_answer c.args.net.now c.args.table.now counts c.in-Ok.rows c.tally_rows-read.new.tally.entries read count tally)
+    at c.edits_by-found.ensures.refused
 
 -- an answer is exact
 pub returns-clause-exact : goal.returns-clause-exact
@@ -36,7 +36,7 @@ returns-clause-exact c =
     let net : Network = c.args.net.now in
     let table : List ℕ = c.args.table.now in
     let (counts, read, count, tally) = c.in-Ok.ensures.ok in
-    IfOk-weaker c.edits_by.result (λ v. counts_of net table ≡ Ok v)
+    IfOk-weaker c.edits_by-found.result (λ v. counts_of net table ≡ Ok v)
     (λ v. (cs : List Count) × (read_rows net 1 (records_of table) ≡ Ok cs) × (length cs ≡ v.rows) × AreExact net cs v.edits)
     (λ v answer. table_exact net table counts v c.frame.ensures.valid read (rows_good net 1 (records_of table) counts read).0 answer)
     (returns-clause-counts c)
