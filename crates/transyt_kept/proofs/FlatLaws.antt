@@ -102,14 +102,22 @@ module _ (count n : ℕ) (values : List ℕ) (long : length values ≡ count * n
   pub cut_read : row table p ≡ piece n values p
   cut_read = ap (λ t. row t p) (sym is) ∙ cut_row count n values p there
 
+  -- it is within the values
+  pub cut_within : p * n + n ≤ length values
+  cut_within = cut_room count n values long p there
+
+  -- and has n of them
+  pub cut_wide : length (row table p) ≡ n
+  cut_wide = ap (λ t. length (row t p)) (sym is) ∙ cut_steps count n values long p there
+
   -- with a row written in the vector of its values
   pub cut_written : (x : List ℕ) → length x ≡ length (row table p) → (len : ℕ) → len ≡ length values
       → cut_rows count n (take len (put_mid (p * n) (p * n + n - p * n) values x
       ++ drop (length (put_mid (p * n) (p * n + n - p * n) values x)) values)) ≡ set table p x
   cut_written x as_long len all =
-      let steps : length x ≡ n = as_long ∙ ap (λ t. length (row t p)) (sym is) ∙ cut_steps count n values long p there in
+      let steps : length x ≡ n = as_long ∙ cut_wide in
       let width : p * n + n - p * n ≡ n = omega arith in
-      let room = cut_room count n values long p there in
+      let room = cut_within in
       let same : length (put_mid (p * n) (p * n + n - p * n) values x) ≡ len =
       length-put (p * n) (p * n + n - p * n) values x (omega (arith, steps)) (omega (arith, room)) ∙ sym all in
       let written : List ℕ = put_mid (p * n) (p * n + n - p * n) values x in

@@ -1,10 +1,16 @@
 -- Saved rows are given back: those of the mark stay, since each takes the place of the one that was written over.
-use Rattle.std.proofs.Common.{◌≡◌, ℕ, Bool, true, false, List, [], set, get_or, rules, ap, sym, ◌∙◌}
+use Rattle.std.proofs.Common.{◌≡◌, ℕ, Bool, true, false, List, [], set, get_or, rules, ap, sym, subst, ◌∙◌}
 use Rattle.std.proofs.lemmas.List.{length-set, set-get_or}
 use Rattle.transyt_kept.specs.Cell.{no_figures}
 use Rattle.transyt_kept.specs.Rows.{RowsValue, row, shown_at, with_arrivals, with_go}
 use Rattle.transyt_kept.specs.Saved.{SavedValue, FitsRows, GivesBack, old_rows, old_of, is_up}
 use Rattle.transyt_kept.proofs.OldLaws.{old_give, places_put}
+
+-- values that are these fit as these do
+pub fits_at : {rows now : RowsValue} {saved kept : SavedValue} → rows ≡ now → saved ≡ kept → FitsRows now kept
+    → FitsRows rows saved
+fits_at {saved = saved} is is_saved fits =
+    subst (λ r. FitsRows r saved) (sym is) (subst (FitsRows _) (sym is_saved) fits)
 
 module _ (rows : RowsValue) (saved : SavedValue) (fits : FitsRows rows saved) where
   -- saved departures are given back, and aren't saved then

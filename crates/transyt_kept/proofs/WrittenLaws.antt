@@ -4,6 +4,7 @@ use Rattle.std.proofs.Common.{rules, ap, sym, ◌∙◌, arith, sum_by}
 use Rattle.std.proofs.lemmas.List.{length-set, length-replicate}
 use Rattle.std.proofs.lemmas.List.Elements.{All-set, All-replicate}
 use Rattle.std.proofs.lemmas.List.Folds.{sum_by-replicate}
+use Rattle.std.proofs.Math.Nat.{mul-le-mul_right}
 use Rattle.transyt_delay.specs.declared.figures.Figures.{Figures}
 use Rattle.transyt_kept.specs.Cell.{no_figures, AreSmall}
 use Rattle.transyt_kept.specs.Rows.{RowsValue, empty_rows, with_go, with_figures, AreRows}
@@ -52,6 +53,13 @@ empty_are n sweeps links steps swept few =
     let none = All-replicate AreSmall links no_figures
     (record { uniform = omega arith; random = omega arith; index = omega arith }) in
     grind (arith, same, ap (λ k. (sweeps + 1) * k) same, sized_empty links n, sized_empty ((sweeps + 1) * links) n, small, none)
+
+-- their departures are few enough for one piece of memory
+pub empty_fit : (n sweeps links : ℕ) → n ≤ 120 → sweeps ≤ 8 → links ≤ 1000 → (sweeps + 1) * links * n < 2 ^ 32
+empty_fit n sweeps links steps swept few =
+    let pairs : (sweeps + 1) * links ≤ 9000 =
+    omega (arith, mul-le-mul_right {m = sweeps + 1} {n = 9} links (omega arith)) in
+    omega (arith, mul-le-mul_right {m = (sweeps + 1) * links} {n = 9000} n pairs)
 
 -- and their index is 0
 pub empty_index : (links : ℕ) → sum_by (λ (f : Figures). f.index) (replicate links no_figures) ≡ 0

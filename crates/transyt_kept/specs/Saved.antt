@@ -1,5 +1,5 @@
 -- The rows that are saved while a mark is open.
-use Rattle.std.specs.Prelude.{◌≡◌, ℕ, ◌<◌, Bool, true, false, not, ◌&&◌, List, [], ◌∷◌, length}
+use Rattle.std.specs.Prelude.{◌≡◌, ℕ, Bool, true, false, not, ◌&&◌, List, [], ◌∷◌, length}
 use Rattle.std.specs.Prelude.{if◌then◌else◌, slice_index_or, slice_set, replicate, Option, Some, None}
 use Rattle.transyt_delay.specs.declared.figures.Figures.{Figures}
 use Rattle.transyt_kept.specs.Rows.{RowsValue, row}

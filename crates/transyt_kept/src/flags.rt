@@ -6,10 +6,25 @@ ghost use Rattle.transyt_kept.specs.Saved.{all_down};
 use std::alloc::{AllocError, Global};
 
 /// As many flags, all down.
-pub(crate) fn no_flags(alloc: Global, count: usize) -> Result<Vec<bool>, AllocError>
+fn no_flags(alloc: Global, count: usize) -> Result<Vec<bool>, AllocError>
     ensures { IfOk result (λ flags. flags.items ≡ replicate count false) }
 {
     Ok(vec![in alloc; false; count]?)
+}
+
+/// Flags for pairs of a sweep and a link, and twice flags for links, all down.
+pub(crate) fn no_saved_flags(
+    alloc: Global,
+    pair_count: usize,
+    link_count: usize,
+) -> Result<(Vec<bool>, Vec<bool>, Vec<bool>), AllocError>
+    ensures pairs { IfOk result (λ flags. flags.0.items ≡ replicate pair_count false) }
+    ensures links { IfOk result (λ flags. flags.1.items ≡ replicate link_count false) }
+    ensures again { IfOk result (λ flags. flags.2.items ≡ replicate link_count false) }
+{
+    let pairs = no_flags(alloc, pair_count)?;
+    let links = no_flags(alloc, link_count)?;
+    Ok((pairs, links, no_flags(alloc, link_count)?))
 }
 
 /// All flags go down.

@@ -9,7 +9,7 @@ ghost use Rattle.transyt_kept.specs.Rows.{SameSize, AreRows};
 
 use crate::flat::FlatTable;
 use crate::size::Size;
-use crate::table::Table;
+use crate::table::{Table, three_tables};
 use std::alloc::{AllocError, Global};
 use std::marker::Model;
 use transyt_delay::Figures;
@@ -138,14 +138,17 @@ impl Rows {
             stops: 0,
             index: 0,
         };
+        let figures = vec![in alloc; none; link_count]?;
+        let outs = FlatTable::empty(alloc, (size.sweeps as usize + 1) * link_count, step_count)?;
+        let (arrivals, go, queue) = three_tables(alloc, link_count, step_count)?;
         Ok(Rows {
             step_count,
             sweeps: size.sweeps,
-            outs: FlatTable::empty(alloc, (size.sweeps as usize + 1) * link_count, step_count)?,
-            arrivals: Table::empty(alloc, link_count, step_count)?,
-            go: Table::empty(alloc, link_count, step_count)?,
-            queue: Table::empty(alloc, link_count, step_count)?,
-            figures: vec![in alloc; none; link_count]?,
+            outs,
+            arrivals,
+            go,
+            queue,
+            figures,
             index: 0,
         })
     }

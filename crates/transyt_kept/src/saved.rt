@@ -6,11 +6,11 @@ ghost use Rattle.transyt_kept.specs.Rows.{row, empty_rows};
 ghost use Rattle.transyt_kept.specs.Saved.{out_kept, arrivals_kept, go_kept, old_rows};
 ghost use Rattle.transyt_kept.specs.Saved.{begun, FitsRows, GivesBack};
 
-use crate::flags::{clear, no_flags};
+use crate::flags::{clear, no_saved_flags};
 use crate::narrow::NarrowTable;
 use crate::rows::Rows;
 use crate::size::Size;
-use crate::table::Table;
+use crate::table::{Table, three_tables};
 use std::alloc::{AllocError, Global};
 use std::marker::Model;
 use transyt_delay::Figures;
@@ -75,18 +75,22 @@ impl Saved {
             stops: 0,
             index: 0,
         };
+        let figures = vec![in alloc; none; link_count]?;
+        let flags = no_saved_flags(alloc, pair_count, link_count)?;
+        let outs = NarrowTable::empty(alloc, pair_count, step_count)?;
+        let (arrivals, go, queue) = three_tables(alloc, link_count, step_count)?;
         Ok(Saved {
             live: false,
-            out_flags: no_flags(alloc, pair_count)?,
-            arrivals_flags: no_flags(alloc, link_count)?,
-            go_flags: no_flags(alloc, link_count)?,
+            out_flags: flags.0,
+            arrivals_flags: flags.1,
+            go_flags: flags.2,
             step_count,
             sweeps: size.sweeps,
-            outs: NarrowTable::empty(alloc, pair_count, step_count)?,
-            arrivals: Table::empty(alloc, link_count, step_count)?,
-            go: Table::empty(alloc, link_count, step_count)?,
-            queue: Table::empty(alloc, link_count, step_count)?,
-            figures: vec![in alloc; none; link_count]?,
+            outs,
+            arrivals,
+            go,
+            queue,
+            figures,
         })
     }
 

@@ -34,9 +34,24 @@ fn empty_rows(alloc: Global, count: usize, step_count: usize) -> Result<Vec<Vec<
     Ok(rows)
 }
 
+/// Three tables of `count` rows of `step_count` values, all 0. All their memory is taken here.
+pub(crate) fn three_tables(
+    alloc: Global,
+    count: usize,
+    step_count: usize,
+) -> Result<(Table, Table, Table), AllocError>
+    ensures one { IfOk result (λ tables. tables.0 ≡ empty_table count step_count) }
+    ensures two { IfOk result (λ tables. tables.1 ≡ empty_table count step_count) }
+    ensures three { IfOk result (λ tables. tables.2 ≡ empty_table count step_count) }
+{
+    let one = Table::empty(alloc, count, step_count)?;
+    let two = Table::empty(alloc, count, step_count)?;
+    Ok((one, two, Table::empty(alloc, count, step_count)?))
+}
+
 impl Table {
     /// A table of `count` rows of `step_count` values, all 0. All its memory is taken here.
-    pub(crate) fn empty(alloc: Global, count: usize, step_count: usize) -> Result<Table, AllocError>
+    fn empty(alloc: Global, count: usize, step_count: usize) -> Result<Table, AllocError>
         ensures { IfOk result (λ table. table ≡ empty_table count step_count) }
     {
         let rows = empty_rows(alloc, count, step_count)?;

@@ -1,16 +1,14 @@
 -- The saved row changes places with that now, and isn't saved then.
-use Rattle.std.proofs.Common.{◌≡◌, ◌<◌, true, false, length, ap, sym, subst, ◌∙◌, arith}
+use Rattle.std.proofs.Common.{◌≡◌, ◌<◌, true, false, length, ap, sym, ◌∙◌, arith}
 use Rattle.std.proofs.lemmas.List.{get_or_read}
-use Rattle.transyt_kept.specs.Rows.{RowsValue}
-use Rattle.transyt_kept.specs.Saved.{SavedValue, FitsRows, is_up}
-use Rattle.transyt_kept.proofs.GivenLaws.{given_go}
+use Rattle.transyt_kept.specs.Saved.{SavedValue, is_up}
+use Rattle.transyt_kept.proofs.GivenLaws.{given_go, fits_at}
 use Rattle.transyt_kept.proofs.saved.Saved.give_go.Goals as goal
 
 pub returns-then-index-clause-back : goal.returns-then-index-clause-back
 returns-then-index-clause-back c =
     let flags = c.self.inside.go_flags.items in
-    let fits = subst (FitsRows _) (sym c.self.view_is)
-    (subst (λ (r : RowsValue). FitsRows r c.args.self.now) (sym c.rows.view_is) c.requires.fits) in
+    let fits = fits_at c.rows.view_is c.self.view_is c.requires.fits in
     let inside : c.args.link < length flags =
     omega (arith, c.requires.link, c.requires.fits.links, ap (λ (s : SavedValue). length s.go_flags) c.self.view_is) in
     let up : is_up flags c.args.link ≡ true =
