@@ -21,7 +21,7 @@ use Rattle.transyt_parts.specs.Made.{new_node, add_stage, add_feed, set_rule}
 use Rattle.transyt_net.specs.Faults.{node_fault, with_node, last_place, stage_fault, with_stage, link_fault, with_link}
 use Rattle.transyt_net.specs.Faults.{feed_fault, with_feed, rule_fault, with_rule, climb_fault, with_plan, empty}
 use Rattle.transyt_net.specs.There.{HasLink}
-use Rattle.transyt_net.proofs.PlaceLaws.{all_differ-push, on_place_here, keys_kept}
+use Rattle.transyt_net.proofs.PlaceLaws.{all_differ_push, on_place_here, keys_kept}
 use Rattle.transyt_net.proofs.FoundLaws.{written_is, fed_is}
 use Rattle.transyt_net.proofs.WriteLaws.{all_in_range}
 use Rattle.transyt_parts.proofs.KeptLaws.{plan_kept}
@@ -59,7 +59,7 @@ node_free net number offset s =
     map-append node_number net.nodes (new ∷ []) in
     let good = all_last (IsNode net.frame.step_count) net.nodes new s.nodes in
     let longer = length-append net.nodes (new ∷ []) in
-    grind (arith, nat_tests, all_differ-push (node_numbers net.nodes) number)
+    grind (arith, nat_tests, all_differ_push (node_numbers net.nodes) number)
 
 -- a new node
 pub node_exactly : (net : Network) (number offset : ℕ) → IsSound net
@@ -96,7 +96,7 @@ link_free net l s =
     let good = all_last (IsLink net.frame.step_count net.nodes after) net.links l s.links in
     let staged = all_within_true 1 (stages_at net.nodes l.node) l.stages good.stages in
     let longer = length-append net.links (l ∷ []) in
-    grind (arith, nat_tests, all_differ-push numbers l.number)
+    grind (arith, nat_tests, all_differ_push numbers l.number)
 
 -- a new link
 pub link_exactly : (net : Network) (l : LinkValue) → IsSound net → (1 ≤ length l.stages) × (length l.stages ≤ 8)
@@ -115,7 +115,7 @@ feed_free net link f there s =
     let names = map-append (λ x. x.feeder) feeds (f ∷ []) in
     let feed = all_last (IsFeed (link_numbers links)) feeds f is.2.feeds in
     let longer = length-append feeds (f ∷ []) in
-    grind (arith, nat_tests, all_differ-push (feeders feeds) f.feeder, fed_is feeds f.feeder)
+    grind (arith, nat_tests, all_differ_push (feeders feeds) f.feeder, fed_is feeds f.feeder)
 
 -- a new feed
 pub feed_exactly : (net : Network) (link : ℕ) (f : Feed) → IsSound net

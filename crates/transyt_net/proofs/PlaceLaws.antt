@@ -2,7 +2,8 @@
 use Rattle.std.proofs.lemmas.List.Elements.{All-nil, All-cons, All-head, All-tail}
 use Rattle.std.proofs.Common.{IfSome, All, slice_get, ◌≡◌, ℕ, suc, zero, ◌<◌, Bool, true, false, not, cond, ◌||◌, List}
 use Rattle.std.proofs.Common.{[], ◌∷◌, ◌++◌, length, map, get_or, set, Option, Some, None, refl, sym, ap, subst, ◌∙◌}
-use Rattle.std.proofs.Common.{arith, nat_eq, ◌&&◌}
+use Rattle.std.proofs.Common.{arith, nat_eq, nat_lt, ◌&&◌, is_some, if◌then◌else◌}
+use Rattle.std.specs.List.{position_or_len}
 use Rattle.std.specs.List.{list_any}
 use Rattle.std.proofs.lemmas.Bool.{or_left, eqb-true}
 use Rattle.std.proofs.lemmas.Bool.Decides.{nat_tests}
@@ -24,9 +25,22 @@ pub eq_swapped : (a b : ℕ) → nat_eq a b ≡ false → nat_eq b a ≡ false
 eq_swapped a b h = grind (arith, nat_tests)
 
 -- where one number more stands last
-pub all_differ-push : (xs : List ℕ) (y : ℕ) → all_differ (xs ++ y ∷ []) ≡ (all_differ xs && not (is_among xs y))
-all_differ-push [] y = refl
-all_differ-push (x ∷ xs) y = grind (arith, nat_tests, list_any-append (nat_eq x) xs (y ∷ []), all_differ-push xs y)
+pub all_differ_push : (xs : List ℕ) (y : ℕ) → all_differ (xs ++ y ∷ []) ≡ (all_differ xs && not (is_among xs y))
+all_differ_push [] y = refl
+all_differ_push (x ∷ xs) y = grind (arith, nat_tests, list_any-append (nat_eq x) xs (y ∷ []), all_differ_push xs y)
+
+-- a search finds a number exactly where it is among these
+pub place_found : (xs : List ℕ) (k : ℕ) → is_some (place_of xs k) ≡ is_among xs k
+place_found xs k =
+    ap (λ b. is_some (if b then Some (position_or_len (nat_eq k) xs) else None)) (by xs) ∙ some_if (is_among xs k) _
+  where
+    some_if : (b : Bool) (n : ℕ) → is_some (if b then Some n else None) ≡ b
+    some_if true n = refl
+    some_if false n = refl
+
+    by : (xs : List ℕ) → nat_lt (position_or_len (nat_eq k) xs) (length xs) ≡ is_among xs k
+    by [] = refl
+    by (x ∷ xs) = grind (arith, nat_tests, by xs)
 
 -- the place that is found is the place of the number
 pub place_is : {A : Type 0} (key : A → ℕ) (xs : List A) (k p : ℕ) → place_of (map key xs) k ≡ Some p

@@ -16,7 +16,7 @@ use Rattle.transyt_net.specs.Faults.{link_fault, with_link}
 use Rattle.transyt_net.specs.Faults.{feed_fault, with_feed, rule_fault, with_rule}
 use Rattle.transyt_parts.specs.Made.{add_feed, set_rule}
 use Rattle.std.proofs.lemmas.Bool.Decides.{nat_tests}
-use Rattle.transyt_net.proofs.PlaceLaws.{among_more, all_differ-push}
+use Rattle.transyt_net.proofs.PlaceLaws.{among_more, all_differ_push}
 use Rattle.transyt_net.proofs.PlaceLaws.{list_any_map}
 use Rattle.transyt_net.proofs.WriteLaws.{all_in_range}
 use Rattle.transyt_net.proofs.WriteLaws.{link_with_more_numbers, links_written}
@@ -51,7 +51,7 @@ sound_link net l h count no_feeds no_rule none =
     let names = and_parts known runs facts.1 in
     let stages_differ = not-false (all_differ l.stages) apart.1 in
     let differ : all_differ after ≡ true =
-    ap all_differ keys ∙ all_differ-push numbers l.number ∙ and_from _ _ h.links_differ (ap not apart.0) in
+    ap all_differ keys ∙ all_differ_push numbers l.number ∙ and_from _ _ h.links_differ (ap not apart.0) in
     let many : length (net.links ++ l ∷ []) ≤ 1000 = omega (arith, leb-false 1000 (length net.links) facts.3) in
     let staged = all_in_range 1 (stages_at net.nodes l.node) l.stages names.1 in
     let fed : All (IsFeed after) l.feeds = subst (All (IsFeed after)) (sym no_feeds) (All-nil (IsFeed after)) in
@@ -80,7 +80,7 @@ sound_feed net link f h none =
     let absent : is_fed l.feeds f.feeder ≡ false = grind (arith, nat_tests) in
     let keys = map-append (λ x. x.feeder) l.feeds (f ∷ []) in
     let same = list_any_map (λ x. x.feeder) (nat_eq f.feeder) l.feeds in
-    let apart = all_differ-push (feeders l.feeds) f.feeder in
+    let apart = all_differ_push (feeders l.feeds) f.feeder in
     let differ : all_differ (feeders (l.feeds ++ f ∷ [])) ≡ true = grind (arith, nat_tests) in
     let fed : All (IsFeed numbers) (l.feeds ++ f ∷ []) = All-push (IsFeed numbers) l.feeds f old.feeds good in
     grind (arith, nat_tests))

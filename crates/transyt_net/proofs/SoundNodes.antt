@@ -11,7 +11,7 @@ use Rattle.transyt_net.specs.Valid.{is_among, on_place, node_numbers, link_numbe
 use Rattle.transyt_net.specs.Valid.{node_number, IsNode, IsStage}
 use Rattle.transyt_net.specs.Faults.{node_fault, with_node, last_place, stage_fault, with_stage}
 use Rattle.transyt_parts.specs.Made.{new_node, add_stage}
-use Rattle.transyt_net.proofs.PlaceLaws.{among_more, all_differ-push, map_kept_at, length_kept_at, all_on_place}
+use Rattle.transyt_net.proofs.PlaceLaws.{among_more, all_differ_push, map_kept_at, length_kept_at, all_on_place}
 use Rattle.transyt_net.proofs.WriteLaws.{stages_more, stages_more_at}
 use Rattle.transyt_net.proofs.WriteLaws.{link_with_more_nodes}
 
@@ -27,7 +27,7 @@ sound_node net number offset h none =
     let after = net.nodes ++ new ∷ [] in
     let longer = length-append net.nodes (new ∷ []) in
     let keys : node_numbers after ≡ node_numbers net.nodes ++ number ∷ [] = map-append node_number net.nodes (new ∷ []) in
-    let apart = all_differ-push (node_numbers net.nodes) number in
+    let apart = all_differ_push (node_numbers net.nodes) number in
     let differ : all_differ (node_numbers after) ≡ true = grind (arith, nat_tests) in
     let count : length after ≤ 200 = grind (arith, nat_tests) in
     let no_stages = All-nil (IsStage steps) in

@@ -12,8 +12,7 @@ ghost use Rattle.transyt_parts.specs.Made.{new_stage, link_from, new_feed, new_r
 mod fault;
 
 use crate::net::Net;
-use crate::places::add_number;
-use indexmap::IndexSet;
+use crate::places::Numbers;
 use std::alloc::{AllocError, AllocFailed, Global};
 use std::marker::Model;
 use transyt_parts::{
@@ -73,8 +72,8 @@ pub struct Draft {
     /// The total flow of each link, in card order, in vehicles per hour.
     totals: Vec<u32>,
     plan: Option<ClimbPlan>,
-    node_places: IndexSet<u32>,
-    link_places: IndexSet<u32>,
+    node_places: Numbers,
+    link_places: Numbers,
 }
 
 impl Model for Draft {
@@ -90,8 +89,8 @@ impl Model for Draft {
 
     ghost invariant = { λ n.
         IsSound (network_of n.frame n.nodes.items n.links.items n.plan)
-        × (n.node_places.keys ≡ node_numbers n.nodes.items)
-        × (n.link_places.keys ≡ link_numbers n.links.items)
+        × (n.node_places ≡ node_numbers n.nodes.items)
+        × (n.link_places ≡ link_numbers n.links.items)
         × (n.totals.items ≡ map total_flow n.links.items) };
 }
 
@@ -113,8 +112,8 @@ impl Draft {
             links: Vec::new(alloc),
             totals: Vec::new(alloc),
             plan: None,
-            node_places: IndexSet::new(alloc),
-            link_places: IndexSet::new(alloc),
+            node_places: Numbers::new(alloc),
+            link_places: Numbers::new(alloc),
         })
     }
 
@@ -132,7 +131,7 @@ impl Draft {
             return Err(fault);
         }
         self.nodes.reserve(1)?;
-        self.node_places.reserve(1)?;
+        self.node_places.push(number)?;
         let node = Node {
             number,
             offset,
@@ -141,7 +140,6 @@ impl Draft {
         if self.nodes.push(node).is_err() {
             unreachable!();
         }
-        add_number(&mut self.node_places, number);
         Ok(())
     }
 
@@ -192,8 +190,11 @@ impl Draft {
         }
         let stages = Vec::from_slice(self.alloc, stages)?;
         self.links.reserve(1)?;
-        self.link_places.reserve(1)?;
-        self.totals.push(link.entry)?;
+        self.totals.reserve(1)?;
+        self.link_places.push(link.number)?;
+        if self.totals.push(link.entry).is_err() {
+            unreachable!();
+        }
         let added = Link {
             number: link.number,
             node: link.node,
@@ -209,7 +210,6 @@ impl Draft {
         if self.links.push(added).is_err() {
             unreachable!();
         }
-        add_number(&mut self.link_places, link.number);
         Ok(())
     }
 
@@ -234,7 +234,7 @@ impl Draft {
         if let Some(fault) = self.feed_fault(link, feed) {
             return Err(fault);
         }
-        let Some(place) = self.link_places.get_index_of(&link) else {
+        let Some(place) = self.link_places.place(link) else {
             unreachable!();
         };
         let owner = &mut self.links[place];
@@ -257,7 +257,7 @@ impl Draft {
         if let Some(fault) = self.rule_fault(link, rule) {
             return Err(fault);
         }
-        let Some(place) = self.link_places.get_index_of(&link) else {
+        let Some(place) = self.link_places.place(link) else {
             unreachable!();
         };
         let owner = &mut self.links[place];

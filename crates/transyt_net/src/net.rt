@@ -11,8 +11,7 @@ ghost use Rattle.transyt_parts.specs.Valid.{IsNode};
 mod apply;
 mod judge;
 
-use crate::places::{copy_numbers, in_order, node_at};
-use indexmap::IndexSet;
+use crate::places::{Numbers, node_at};
 use std::alloc::{AllocError, Global};
 use std::marker::Model;
 use transyt_parts::{
@@ -32,8 +31,8 @@ pub struct Net {
     /// The total flow of each link, in card order, in vehicles per hour.
     pub(crate) totals: Vec<u32>,
     pub(crate) plan: Option<ClimbPlan>,
-    pub(crate) node_places: IndexSet<u32>,
-    pub(crate) link_places: IndexSet<u32>,
+    pub(crate) node_places: Numbers,
+    pub(crate) link_places: Numbers,
 }
 
 impl Model for Net {
@@ -49,8 +48,8 @@ impl Model for Net {
 
     ghost invariant = { λ n.
         IsValid (network_of n.frame n.nodes.items n.links.items n.plan)
-        × (n.node_places.keys ≡ node_numbers n.nodes.items)
-        × (n.link_places.keys ≡ link_numbers n.links.items)
+        × (n.node_places ≡ node_numbers n.nodes.items)
+        × (n.link_places ≡ link_numbers n.links.items)
         × (n.totals.items ≡ map total_flow n.links.items) };
 }
 
@@ -90,18 +89,12 @@ impl Net {
     }
 
     /// The node at whose stop line the link at a place ends.
-    ///
-    /// Nodes that are numbered from 1 in card order are found without the map.
-    #[tactic(auto, using(crate::proofs::OrderLaws::node_found))]
     pub fn node_of(&self, link: usize) -> &Node
         requires { link < length self.now.links }
         ensures value { result.now ≡ the_node self.now (link_of self.now link).node }
         ensures kept { IsNode self.now.frame.step_count result.now }
     {
         let number = self.link(link).node;
-        if let Some(node) = in_order(self.nodes(), number) {
-            return node;
-        }
         match node_at(&self.node_places, &self.nodes, number) {
             Some(node) => node,
             None => unreachable!(),
@@ -123,7 +116,7 @@ impl Net {
             (p < length self.now.nodes) × ((node_of self.now p).number ≡ number)) }
         ensures absent { IfNone result (is_among (node_numbers self.now.nodes) number ≡ false) }
     {
-        self.node_places.get_index_of(&number)
+        self.node_places.place(number)
     }
 
     /// The place of a link's number, from 0 in card order.
@@ -133,7 +126,7 @@ impl Net {
             (p < length self.now.links) × ((link_of self.now p).number ≡ number)) }
         ensures absent { IfNone result (is_among (link_numbers self.now.links) number ≡ false) }
     {
-        self.link_places.get_index_of(&number)
+        self.link_places.place(number)
     }
 
     /// A flow in vehicles per hour as units per step, rounded down. A unit is a millionth of a
@@ -200,8 +193,8 @@ impl Net {
         ensures { IfOk result (λ net. net ≡ with_signals self.now frame nodes.now) }
     {
         // The deepest parts come last: without memory each part before is taken apart at each `?` after it.
-        let node_places = copy_numbers(&self.node_places)?;
-        let link_places = copy_numbers(&self.link_places)?;
+        let node_places = self.node_places.copy(alloc)?;
+        let link_places = self.link_places.copy(alloc)?;
         let totals = Vec::from_slice(alloc, &self.totals)?;
         let plan = copy_plan(alloc, &self.plan)?;
         let nodes = copy_nodes(alloc, nodes)?;

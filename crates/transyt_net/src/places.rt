@@ -1,61 +1,98 @@
 //! Numbers and the places at which they stand.
-//!
-//! A set in the order of insertion is the map from a number to its place: its keys are the numbers
-//! of the nodes or links in order.
 
-ghost use Rattle.std.specs.Prelude.{◌≡◌, IfOk, IfSome, ℕ, ◌<◌, ◌-◌, ◌++◌, ◌∷◌, [], false, length, slice_index_or};
+ghost use Rattle.std.specs.Prelude.{◌≡◌, IfOk, OnOk, OnErr, ◌++◌, ◌∷◌, [], false, is_some};
 ghost use Rattle.std.specs.Option.{option_map};
-ghost use Rattle.indexmap.specs.IndexSet.{spare};
 ghost use Rattle.transyt_parts.specs.Valid.{is_fed, node_number, link_number};
-ghost use Rattle.transyt_net.specs.Parts.{no_node};
-ghost use Rattle.transyt_net.specs.Valid.{is_among, numbered, node_numbers, link_numbers, stages_at, feeds_at};
+ghost use Rattle.transyt_net.specs.Valid.{is_among, place_of, numbered, node_numbers, link_numbers, stages_at, feeds_at};
 
-use indexmap::IndexSet;
-use std::alloc::AllocError;
+use std::alloc::{AllocError, Global};
+use std::marker::Model;
 use transyt_parts::{Link, Node, has_feeder};
 
-/// Adds a number that isn't there yet, where there is room for it.
-pub(crate) fn add_number(places: &mut IndexSet<u32>, number: u32)
-    requires room { 0 < spare places.old }
-    requires new { is_among places.old.keys number ≡ false }
-    ensures { places.new.keys ≡ places.old.keys ++ number ∷ [] }
-{
-    if places.insert(number).is_err() {
-        unreachable!();
+/// The card numbers of nodes or links, in card order. No two are equal.
+#[derive(Drop)]
+pub(crate) struct Numbers {
+    numbers: Vec<u32>,
+}
+
+impl Model for Numbers {
+    ghost use Rattle.std.specs.Prelude.{◌≡◌, ℕ, List, true};
+    ghost use Rattle.transyt_net.specs.Valid.{all_differ};
+
+    ghost Value = { List ℕ };
+
+    ghost view = { λ n. n.numbers.items };
+
+    ghost invariant = { λ n. all_differ n.numbers.items ≡ true };
+}
+
+impl Numbers {
+    /// No numbers. It takes no memory; `alloc` serves the later calls.
+    pub(crate) fn new(alloc: Global) -> Numbers
+        ensures { result ≡ [] }
+    {
+        Numbers {
+            numbers: Vec::new(alloc),
+        }
     }
-}
 
-/// An equal set, with memory of its own.
-pub(crate) fn copy_numbers(places: &IndexSet<u32>) -> Result<IndexSet<u32>, AllocError>
-    ensures { IfOk result (λ copy. copy.keys ≡ places.now.keys) }
-{
-    places.clone()
-}
+    /// Adds a number that isn't there yet. It fails only when out of memory, and changes nothing then.
+    #[tactic(auto, using(crate::proofs::PlaceLaws::all_differ_push))]
+    pub(crate) fn push(&mut self, number: u32) -> Result<(), AllocError>
+        requires new { is_among self.old number ≡ false }
+        ensures ok { OnOk result (self.new ≡ self.old ++ number ∷ []) }
+        ensures err { OnErr result (self.new ≡ self.old) }
+    {
+        self.numbers.push(number)?;
+        Ok(())
+    }
 
-/// The node of a number where nodes are numbered from 1 in order up to it.
-pub(crate) fn in_order(nodes: &[Node], number: u32) -> Option<&Node>
-    ensures { IfSome result (λ n. (n.now.number ≡ number) × (number - 1 < length nodes.now)
-        × (n.now ≡ slice_index_or nodes.now (number - 1) no_node)) }
-{
-    let node = nodes.get(number.saturating_sub(1) as usize)?;
-    if node.number == number {
-        Some(node)
-    } else {
-        None
+    /// The same numbers, with memory of their own.
+    pub(crate) fn copy(&self, alloc: Global) -> Result<Numbers, AllocError>
+        ensures { IfOk result (λ copy. copy ≡ self.now) }
+    {
+        let numbers = Vec::from_slice(alloc, &self.numbers)?;
+        Ok(Numbers { numbers })
+    }
+
+    /// The place of a number, from 0.
+    ///
+    /// It is found at once where the numbers are those from 1 on in order, and else by a search from the first.
+    pub(crate) fn place(&self, number: u32) -> Option<usize>
+        ensures place { result ≡ place_of self.now number }
+        ensures found { is_some result ≡ is_among self.now number }
+    {
+        let in_order = number.saturating_sub(1) as usize;
+        if let Some(there) = self.numbers.get(in_order) {
+            if *there == number {
+                return Some(in_order);
+            }
+        }
+        self.search(number)
+    }
+
+    /// The place of a number, by a search from the first on.
+    fn search(&self, number: u32) -> Option<usize>
+        ensures { result ≡ place_of self.now number }
+    {
+        self.numbers.iter().position(|there| *there == number)
+    }
+
+    /// Whether a number is there.
+    pub(crate) fn contains(&self, number: u32) -> bool
+        ensures { result ≡ is_among self.now number }
+    {
+        self.place(number).is_some()
     }
 }
 
 /// The node of a number.
 #[tactic(auto, using(crate::proofs::PlaceLaws::found_at, crate::proofs::PlaceLaws::place_inside, crate::proofs::PlaceLaws::numbered_none))]
-pub(crate) fn node_at<'a>(
-    places: &IndexSet<u32>,
-    nodes: &'a [Node],
-    number: u32,
-) -> Option<&'a Node>
-    requires { places.now.keys ≡ node_numbers nodes.now }
+pub(crate) fn node_at<'a>(places: &Numbers, nodes: &'a [Node], number: u32) -> Option<&'a Node>
+    requires { places.now ≡ node_numbers nodes.now }
     ensures { option_map (λ n. n.now) result ≡ numbered node_number nodes.now number }
 {
-    match places.get_index_of(&number) {
+    match places.place(number) {
         Some(place) => Some(&nodes[place]),
         None => None,
     }
@@ -63,23 +100,19 @@ pub(crate) fn node_at<'a>(
 
 /// The link of a number.
 #[tactic(auto, using(crate::proofs::PlaceLaws::found_at, crate::proofs::PlaceLaws::place_inside, crate::proofs::PlaceLaws::numbered_none))]
-pub(crate) fn link_at<'a>(
-    places: &IndexSet<u32>,
-    links: &'a [Link],
-    number: u32,
-) -> Option<&'a Link>
-    requires { places.now.keys ≡ link_numbers links.now }
+pub(crate) fn link_at<'a>(places: &Numbers, links: &'a [Link], number: u32) -> Option<&'a Link>
+    requires { places.now ≡ link_numbers links.now }
     ensures { option_map (λ l. l.now) result ≡ numbered link_number links.now number }
 {
-    match places.get_index_of(&number) {
+    match places.place(number) {
         Some(place) => Some(&links[place]),
         None => None,
     }
 }
 
 /// How many stages the node of a number has; 0 where there is no such node.
-pub(crate) fn stages_at(places: &IndexSet<u32>, nodes: &[Node], number: u32) -> usize
-    requires { places.now.keys ≡ node_numbers nodes.now }
+pub(crate) fn stages_at(places: &Numbers, nodes: &[Node], number: u32) -> usize
+    requires { places.now ≡ node_numbers nodes.now }
     ensures { result ≡ stages_at nodes.now number }
 {
     match node_at(places, nodes, number) {
@@ -89,8 +122,8 @@ pub(crate) fn stages_at(places: &IndexSet<u32>, nodes: &[Node], number: u32) -> 
 }
 
 /// Whether the link of a number has a feed with this feeder.
-pub(crate) fn is_fed(places: &IndexSet<u32>, links: &[Link], number: u32, feeder: u32) -> bool
-    requires { places.now.keys ≡ link_numbers links.now }
+pub(crate) fn is_fed(places: &Numbers, links: &[Link], number: u32, feeder: u32) -> bool
+    requires { places.now ≡ link_numbers links.now }
     ensures { result ≡ is_fed (feeds_at links.now number) feeder }
 {
     match link_at(places, links, number) {

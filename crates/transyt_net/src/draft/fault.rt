@@ -17,7 +17,7 @@ impl Draft {
     pub(super) fn node_fault(&self, number: u32, offset: u32) -> Option<DraftFault>
         ensures { result ≡ node_fault self.now number offset }
     {
-        if self.node_places.contains(&number) {
+        if self.node_places.contains(number) {
             return Some(DraftFault::Twice);
         }
         if !is_node_in_range(self.frame.step_count, number, offset) {
@@ -77,18 +77,18 @@ impl Draft {
     fn are_links(&self, a: u32, b: u32) -> bool
         ensures { result ≡ are_links self.now a b }
     {
-        self.link_places.contains(&a) && self.link_places.contains(&b)
+        self.link_places.contains(a) && self.link_places.contains(b)
     }
 
     /// The first fault of a new link.
     pub(super) fn link_fault(&self, link: NewLink, stages: &[u32]) -> Option<DraftFault>
         ensures { result ≡ link_fault self.now (link_from link stages.now) }
     {
-        if self.link_places.contains(&link.number) || !all_differ(stages) {
+        if self.link_places.contains(link.number) || !all_differ(stages) {
             return Some(DraftFault::Twice);
         }
         let count = stages_at(&self.node_places, &self.nodes, link.node);
-        if !(self.node_places.contains(&link.node) && all_within(1, count, stages)) {
+        if !(self.node_places.contains(link.node) && all_within(1, count, stages)) {
             return Some(DraftFault::Unknown);
         }
         if !is_link_in_range(self.frame.step_count, link) {

@@ -59,7 +59,7 @@ impl Net {
         ensures value { self.new ≡ with_edit self.old e.now }
         ensures back { result ≡ inverse self.old e.now }
     {
-        let Some(place) = self.node_places.get_index_of(&number) else {
+        let Some(place) = self.node_places.place(number) else {
             unreachable!();
         };
         let node = &mut self.nodes[place];
@@ -74,7 +74,7 @@ impl Net {
         ensures value { self.new ≡ with_edit self.old e.now }
         ensures back { result ≡ inverse self.old e.now }
     {
-        let Some(place) = self.link_places.get_index_of(&number) else {
+        let Some(place) = self.link_places.place(number) else {
             unreachable!();
         };
         let link = &mut self.links[place];

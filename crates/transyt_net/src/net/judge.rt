@@ -83,7 +83,7 @@ impl Net {
         let steps = self.frame.step_count;
         match *e {
             Edit::Offset { node, offset } => {
-                range_fault(self.node_places.contains(&node), offset < steps)
+                range_fault(self.node_places.contains(node), offset < steps)
             }
             Edit::Change {
                 node,
@@ -153,13 +153,13 @@ impl Net {
         ensures { result ≡ has_stage self.now node stage }
     {
         let count = stages_at(&self.node_places, &self.nodes, node);
-        self.node_places.contains(&node) && 1 <= stage && stage as usize <= count
+        self.node_places.contains(node) && 1 <= stage && stage as usize <= count
     }
 
     /// Whether this is the number of a link.
     fn is_link(&self, link: u32) -> bool
         ensures { result ≡ is_link self.now link }
     {
-        self.link_places.contains(&link)
+        self.link_places.contains(link)
     }
 }

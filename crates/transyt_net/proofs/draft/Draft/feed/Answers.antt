@@ -9,10 +9,10 @@ use Rattle.transyt_net.proofs.draft.Draft.feed.Goals as goal
 
 -- the link is written at the place of its number
 put : (c : goal.After-self-3-1) → IsPut link_number (add_feed (new_feed c.args.feeder c.args.flow c.args.cruise))
-    c.self.inside.links.items c.args.link c.in-Some-get_index_of.place c.index_mut-owner.result.now c.add_feed.new.link
+    c.self.inside.links.items c.args.link c.in-Some-place.place c.index_mut-owner.result.now c.add_feed.new.link
 put c =
     put_there link_number (add_feed (new_feed c.args.feeder c.args.flow c.args.cruise)) (λ l. refl)
-    c.self.inside.links.items c.args.link c.in-Some-get_index_of.place c.index_mut-owner.result.now c.add_feed.new.link
+    c.self.inside.links.items c.args.link c.in-Some-place.place c.index_mut-owner.result.now c.add_feed.new.link
     (search rules) c.index_mut-owner.ensures.value c.in_ok-add_feed.ensures.ok
 
 -- the network with the feed
@@ -25,12 +25,12 @@ pub all_flow-requires : goal.all_flow-requires
 all_flow-requires c =
     let feed = new_feed c.args.feeder c.args.flow c.args.cruise in
     let is = put_there link_number (add_feed feed) (λ l. refl) c.self.inside.links.items c.args.link
-    c.in-Some-get_index_of.place c.index_mut-owner.result.now c.add_feed.new.link (search rules)
+    c.in-Some-place.place c.index_mut-owner.result.now c.add_feed.new.link (search rules)
     c.index_mut-owner.ensures.value c.in_ok-add_feed.ensures.ok in
     let sound = subst IsSound (sym (links_put _ _ _ c.args.link (add_feed feed) c.self.view_is is.put))
     (sound_feed c.args.self.now c.args.link feed (subst IsSound c.self.view_is c.self.invariant.0) (search rules)) in
-    let is_link = link_set _ c.in-Some-get_index_of.place c.add_feed.new.link sound
-    (place_inside link_number c.self.inside.links.items c.args.link c.in-Some-get_index_of.place (search rules)) in
+    let is_link = link_set _ c.in-Some-place.place c.add_feed.new.link sound
+    (place_inside link_number c.self.inside.links.items c.args.link c.in-Some-place.place (search rules)) in
     record { entry = is_link.entry; flows = λ k d inside. (is_link.feeds k d inside).flow; few = is_link.feed_count }
 
 -- the new feed keeps the draft sound
@@ -41,6 +41,6 @@ invariant_of-self-2 c =
           (sound_feed c.args.self.now c.args.link feed (subst IsSound c.self.view_is c.self.invariant.0) (search rules)),
       c.self.invariant.1,
       c.self.invariant.2 ∙ (put c).keys,
-      total_set c.self.inside.totals.items c.self.inside.links.items c.in-Some-get_index_of.place c.all_flow.result
+      total_set c.self.inside.totals.items c.self.inside.links.items c.in-Some-place.place c.all_flow.result
           c.add_feed.new.link c.self.invariant.3 c.all_flow.ensures.value,
     )

@@ -7,4 +7,4 @@ use Rattle.transyt_net.proofs.net.Net.link_place.Goals as goal
 
 pub returns-clause-found : goal.returns-clause-found
 returns-clause-found c =
-    found_place link_number c.args.self.now.links c.args.number no_link c.get_index_of.result (search rules)
+    found_place link_number c.args.self.now.links c.args.number no_link c.place.result (search rules)

@@ -5,5 +5,5 @@ use Rattle.transyt_net.proofs.net.Net.node_of.Goals as goal
 
 pub returns-clause-kept : goal.returns-clause-kept
 returns-clause-kept c =
-    let kept = node_good _ _ c.behind-self.inside.node c.in-Some-node_at.node.now c.self.invariant.0.sound.nodes (search rules) in
+    let kept = node_good _ _ c.behind-self.inside.node c.in-Some.node.now c.self.invariant.0.sound.nodes (search rules) in
     search rules

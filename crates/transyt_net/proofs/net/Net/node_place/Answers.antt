@@ -7,4 +7,4 @@ use Rattle.transyt_net.proofs.net.Net.node_place.Goals as goal
 
 pub returns-clause-found : goal.returns-clause-found
 returns-clause-found c =
-    found_place node_number c.args.self.now.nodes c.args.number no_node c.get_index_of.result (search rules)
+    found_place node_number c.args.self.now.nodes c.args.number no_node c.place.result (search rules)
