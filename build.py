@@ -1,13 +1,16 @@
 #!/usr/bin/env python3
 """build.py TOP: proves and builds the program TOP of this repository and all crates that it stands on.
 
-./transyt calls it where a file has changed since the program was built. It has the prover's own command do each step, so
-what it leaves in out/ is what `rt lib` and `rt run` leave. Crates are built side by side, each as soon as those below it
-are there, and first the one above which most is left to prove. `rt lib` can't do that: it holds all crates below its own,
-so that several wait for one another.
+./transyt calls it where a file has changed since the program was built. Crates are proved side by side, each as soon as
+those below it are, and first the one above which most is left to prove. `rt lib` can't do that: it holds all crates below
+its own, so that several wait for one another.
+
+A library is written with its statements alone, as `rt ci` writes it: a crate above loads what the crate states, and not
+how that was proved. The libraries stand in out/statements of each crate, so that they and what `rt check` keeps are apart.
+A crate is proved again as a whole where it or a crate below it has changed.
 
 For that it uses modules which the command rt is made of, and which the kit doesn't promise to keep. Where they aren't
-there, the crates are built by `rt all check`, which takes some minutes longer.
+there, the crates are built by `rt all check` and `rt run`, which takes some minutes longer.
 """
 
 import fcntl
@@ -27,7 +30,7 @@ sys.dont_write_bytecode = True
 HERE = os.path.dirname(os.path.realpath(__file__))
 # A check takes up to 2 GB.
 BYTES_A_CHECK = 2 << 30
-# Crates of so many lines get a second job: it takes a third off them, and a short one spends it on loading what it uses.
+# Crates of so many lines get a second job: it takes a third off them, and a short one spends its time on loading.
 LONG = 2000
 # Each crate loads those below it, and the program loads all: what that costs beside its lines, in lines.
 LOADING, PROGRAM = 600, 9000
@@ -94,27 +97,39 @@ def processors():
 
 
 def load_rt():
-    """The rt that is on the path, as a module; none where it isn't made as expected."""
+    """The library of the rt that is on the path, as a module; none where it isn't made as expected."""
     try:
         loader = importlib.machinery.SourceFileLoader("rt", os.path.realpath(shutil.which("rt")))
         made = importlib.util.module_from_spec(importlib.util.spec_from_loader("rt", loader))
         sys.modules["rt"] = made
         loader.exec_module(made)
-        made.share_work, made.rtlib.guarded, made.rtlib.lock, made.rtlib.Crate.build_rlib
-        return made
+        lib = made.rtlib
+        lib.guarded, lib.lock, lib.stop_on_links, lib.KIT, lib.RATTLE
+        lib.Crate.below, lib.Crate.words, lib.Crate.stamp, lib.Crate.call
+        return lib if "--statements" in lib.help_of("build") else None
     except Exception:
         return None
 
 
+def text_of(file):
+    """What a file has; none where there is none."""
+    if not os.path.isfile(file):
+        return None
+    with open(file, encoding="utf-8") as it:
+        return it.read()
+
+
 class Crates:
-    """The libraries below a program, with what is done of them."""
+    """A program's crate and the libraries below it, with what is done of them."""
 
     def __init__(self, rt, top, jobs, logs):
-        self.jobs, self.logs = jobs, logs
-        self.all = rt.rtlib.Crate(f"{HERE}/crates/{top}", HERE, {}).below()
-        self.held = rt.rtlib.lock(self.all)
+        self.rt, self.jobs, self.logs = rt, jobs, logs
+        self.program = rt.Crate(f"{HERE}/crates/{top}", HERE, {})
+        self.all = self.program.below()
+        self.held = rt.lock(self.all)
         for it in self.all:
-            rt.rtlib.stop_on_links(it.folder)
+            rt.stop_on_links(it.folder)
+            it.rlib = f"{it.folder}/out/statements/{it.name}.rlib"
         self.lines = {it: sum(open(file, "rb").read().count(b"\n") for file in files_of(it.name)) for it in self.all}
         self.left = {it: self.lines[it] + LOADING for it in self.all}
         self.chain = {}
@@ -122,7 +137,7 @@ class Crates:
             above = [self.chain[other] for other in self.all if it in other.deps]
             self.chain[it] = self.left[it] + max(above, default=PROGRAM)
         self.turn, self.begun = threading.Condition(), time.time()
-        self.done, self.going, self.failed, self.spent = set(), {}, [], []
+        self.done, self.going, self.failed, self.spent, self.fresh = set(), {}, [], [], set()
 
     def minutes_left(self):
         """Roughly how many minutes are left, by what the crates took that are done."""
@@ -137,11 +152,28 @@ class Crates:
         rest = f"; about {self.minutes_left()} minutes left" if len(self.done) > 3 and self.spent else ""
         say(f"{len(self.done)} of {len(self.all) + 1} crates: {crate.name}, {seconds:.0f} s{rest}")
 
+    def prove(self, crate, jobs):
+        """Proves a crate and writes its library, where that isn't done; the exit number of the prover."""
+        folder, stamp = os.path.dirname(crate.rlib), crate.stamp()
+        # Statements fit only the libraries over which they were written.
+        is_kept = self.fresh.isdisjoint(crate.below()) and text_of(f"{folder}/stamp") == stamp
+        if is_kept and os.path.isdir(crate.rlib):
+            return 0
+        self.fresh.add(crate)
+        shutil.rmtree(folder, ignore_errors=True)
+        os.makedirs(folder)
+        words = crate.words(["--jobs", str(jobs)], keeps=False)
+        status = crate.call(self.rt.RATTLE, "build", *words, "--statements", "-o", crate.rlib)
+        if status == 0 and stamp == crate.stamp():
+            with open(f"{folder}/stamp", "w", encoding="utf-8") as it:
+                it.write(stamp)
+        return status
+
     def build(self, crate, jobs):
         """Builds one crate, with so many jobs."""
         begun = time.time()
         with open(f"{self.logs}/{crate.name}.log", "a+", encoding="utf-8", errors="replace") as crate.out:
-            status = crate.build_rlib(["--jobs", str(jobs)], anew=False)
+            status = self.prove(crate, jobs)
         seconds = time.time() - begun
         with self.turn:
             del self.going[crate]
@@ -168,36 +200,56 @@ class Crates:
             threading.Thread(target=self.build, args=(crate, jobs)).start()
 
     def build_all(self):
-        """Builds all, and returns the name of a crate that failed, or none."""
+        """Builds all libraries, and returns the name of a crate that failed, or none."""
         with self.turn:
             while len(self.done) < len(self.all) and not self.failed:
                 self.start_ready()
                 self.turn.wait()
             while self.going:
                 self.turn.wait()
-        for it in self.held:
-            os.close(it)
         return self.failed[0] if self.failed else None
 
+    def link(self):
+        """Proves the program and links it; the exit number of the step that failed, or 0."""
+        crate, kit = self.program, self.rt.KIT
+        made, toolchain = f"out/{crate.name}", ["--toolchain", f"{kit}/toolchain"]
+        with open(f"{self.logs}/{crate.name}.log", "a+", encoding="utf-8", errors="replace") as crate.out:
+            words = crate.words(["--jobs", "1"], keeps=False)
+            status = crate.call(self.rt.RATTLE, "build", *words, *toolchain, "--backend", "llvm", "-o", f"{made}.o")
+            if status:
+                return status
+            words = ["--target", "x86_64-unknown-linux-gnu", *toolchain, "-o", made, f"{made}.o"]
+            return crate.call(f"{kit}/bin/rattle-link", *words, f"{kit}/c/libos_c.a", f"{kit}/c/liblibc_c.a")
 
-def build_libraries(top, jobs, logs):
-    """Proves and builds the libraries below the program."""
-    rt = load_rt()
-    if rt is None:
-        say("this kit's rt is made otherwise than build.py knows it, so the crates are built by rt all check")
-        with open(f"{logs}/{top}.log", "wb") as log:
-            words = ["rt", "all", "check", "--jobs", str(jobs)]
-            if subprocess.run(words, cwd=f"{HERE}/crates/{top}", stdin=subprocess.DEVNULL, stdout=log, stderr=log).returncode:
-                fail(f"{logs}/{top}.log")
-        return
+    def let_go(self):
+        """Lets other commands have the crates."""
+        for it in self.held:
+            os.close(it)
+
+
+def build_by_rt(top, jobs, log):
+    """Proves and builds all by the commands of rt alone."""
+    say("this kit's rt is made otherwise than build.py knows it, so the crates are built by rt all check and rt run")
+    with open(log, "wb") as out:
+        how = {"cwd": f"{HERE}/crates/{top}", "stdin": subprocess.DEVNULL, "stdout": out, "stderr": out}
+        if subprocess.run(["rt", "all", "check", "--jobs", str(jobs)], **how).returncode:
+            fail(log)
+        subprocess.run(["rt", "run", "--jobs", "1", "--", "no", "words"], **how)
+
+
+def build_by_graph(rt, top, jobs, logs):
+    """Proves and builds all, each crate once those below it are there, the program last."""
     signal.signal(signal.SIGINT, signal.SIG_DFL)
-    rt.rtlib.guarded()
-    rt.share_work(True)
+    rt.guarded()
     crates = Crates(rt, top, jobs, logs)
     say(f"proving and building {len(crates.all) + 1} crates with {jobs} processors; the first time this takes long")
     failed = crates.build_all()
     if failed:
         fail(f"{logs}/{failed}.log")
+    say("the program, which is compiled last")
+    if crates.link():
+        fail(f"{logs}/{top}.log")
+    crates.let_go()
 
 
 def build(top, out):
@@ -208,12 +260,11 @@ def build(top, out):
     logs = f"{out}/logs"
     shutil.rmtree(logs, ignore_errors=True)
     os.makedirs(logs)
-    begun = time.time()
-    build_libraries(top, processors(), logs)
-    say("the program, which is compiled last")
-    with open(f"{logs}/{top}.log", "wb") as log:
-        words = ["rt", "run", "--jobs", "1", "--", "no", "words"]
-        subprocess.run(words, cwd=f"{HERE}/crates/{top}", stdin=subprocess.DEVNULL, stdout=log, stderr=log)
+    begun, rt = time.time(), load_rt()
+    if rt is None:
+        build_by_rt(top, processors(), f"{logs}/{top}.log")
+    else:
+        build_by_graph(rt, top, processors(), logs)
     if not os.access(f"{out}/{top}", os.X_OK):
         fail(f"{logs}/{top}.log")
     say(f"proved and built in {(time.time() - begun) / 60:.1f} minutes")
