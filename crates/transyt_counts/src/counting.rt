@@ -18,7 +18,7 @@ use crate::tally::{Totals, add};
 use csv::{ByteRecord, ErrorKind, Reader, ReaderBuilder};
 use indexmap::IndexMap;
 use std::alloc::Global;
-use transyt_net::Net;
+use transyt_net::{Edit, Net};
 use transyt_syntax::Code;
 
 /// Whether a reader has one more record, which is then in `fields`.
@@ -102,13 +102,18 @@ fn flow_by(totals: &Totals) -> u64
     60 * totals.vehicles / totals.minutes
 }
 
-/// An edit for each entry of a tally of so many rows, or the first whose flow is too great.
-fn edits_by(alloc: Global, rows: u32, tally: &IndexMap<Key, Totals>) -> Result<Counts, CountStop>
-    requires { All (λ e. AreCounted e.1) tally.now.entries }
-    ensures counts { IfOk result (λ c. tally_answer rows tally.now.entries ≡ Ok c) }
+/// Writes an edit for each entry of a tally of so many rows into an empty list, up to the first whose flow is too great.
+fn push_edits(
+    rows: u32,
+    tally: &IndexMap<Key, Totals>,
+    edits: &mut Vec<Edit>,
+) -> Result<(), CountStop>
+    requires counted { All (λ e. AreCounted e.1) tally.now.entries }
+    requires empty { edits.old.items ≡ [] }
+    ensures counts { OnOk result (tally_answer rows tally.now.entries
+        ≡ Ok (record { rows = rows; edits = edits.new.items })) }
     ensures refused { IfErr result (Refuses (tally_answer rows tally.now.entries)) }
 {
-    let mut edits = Vec::new(alloc);
     for place in 0..tally.len() {
         let Some((key, totals)) = tally.get_index(place) else {
             unreachable!();
@@ -124,7 +129,23 @@ fn edits_by(alloc: Global, rows: u32, tally: &IndexMap<Key, Totals>) -> Result<C
             return Err(CountStop::Memory);
         }
     }
-    Ok(Counts { rows, edits })
+    Ok(())
+}
+
+/// An edit for each entry of a tally of so many rows, or the first whose flow is too great.
+fn edits_by(alloc: Global, rows: u32, tally: &IndexMap<Key, Totals>) -> Result<Counts, CountStop>
+    requires { All (λ e. AreCounted e.1) tally.now.entries }
+    ensures counts { IfOk result (λ c. tally_answer rows tally.now.entries ≡ Ok c) }
+    ensures refused { IfErr result (Refuses (tally_answer rows tally.now.entries)) }
+{
+    let mut edits = Vec::new(alloc);
+    match push_edits(rows, tally, &mut edits) {
+        Ok(()) => Ok(Counts { rows, edits }),
+        Err(stop) => {
+            drop(edits);
+            Err(stop)
+        }
+    }
 }
 
 /// The edits that a table of counts comes to on a network.

@@ -2,7 +2,7 @@
 use Rattle.std.proofs.Common.{◌≡◌, map, take, drop}
 use Rattle.std.specs.List.{find}
 use Rattle.transyt_counts.proofs.EntryLaws.{edit_by, is_too_great}
-use Rattle.transyt_counts.proofs.counting.edits_by.Given as goal
+use Rattle.transyt_counts.proofs.counting.push_edits.Given as goal
 
 abbrev pub invariant-loop-place : goal.invariant-loop-place
 invariant-loop-place l = record {

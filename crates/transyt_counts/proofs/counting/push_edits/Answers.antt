@@ -1,11 +1,11 @@
 -- One entry more, and the first whose flow is too great.
-use Rattle.std.proofs.Common.{◌≡◌, ◌∙◌, ℕ, true, false, Some, sym, ap, rules, slice_get, List}
+use Rattle.std.proofs.Common.{◌≡◌, ◌∙◌, ℕ, true, false, Some, sym, ap, rules, slice_get, List, arith}
 use Rattle.std.specs.Result.{is_ok}
 use Rattle.transyt_counts.specs.declared.key.Key.{Key}
 use Rattle.transyt_counts.specs.declared.tally.Totals.{Totals}
-use Rattle.transyt_counts.specs.Counts.{answer_for}
-use Rattle.transyt_counts.proofs.EntryLaws.{is_too_great, edit_by, find_skip, find_hit, map_take}
-use Rattle.transyt_counts.proofs.counting.edits_by.Goals as goal
+use Rattle.transyt_counts.specs.Counts.{answer_for, AreCounted}
+use Rattle.transyt_counts.proofs.EntryLaws.{is_too_great, edit_by, find_skip, find_hit, map_take, one_of, all_passed}
+use Rattle.transyt_counts.proofs.counting.push_edits.Goals as goal
 
 pub returns-then-flow-gt9999-clause-refused : goal.returns-then-flow-gt9999-clause-refused
 returns-then-flow-gt9999-clause-refused c =
@@ -28,3 +28,14 @@ loop-place-preserved c =
           (sym (map_take es p e at edit_by));
       passed = find_skip es p e at is_too_great small ∙ c.loop-place.invariant.passed;
     }
+
+pub flow_by-flow-requires : goal.flow_by-flow-requires
+flow_by-flow-requires c =
+    one_of _ _ (c.in-Some.key.now, c.in-Some.totals.now) (sym c.in-Some.ensures.entry) (λ e. AreCounted e.1) c.requires.counted
+
+pub overflow_cast-flow : goal.overflow_cast-flow
+overflow_cast-flow c = omega (arith, c.if-flow-gt9999.false)
+
+pub returns-clause-counts : goal.returns-clause-counts
+returns-clause-counts c =
+    all_passed _ _ _ _ (omega (arith, c.loop-place-test.false)) c.loop-place.invariant.edits c.loop-place.invariant.passed
