@@ -1,10 +1,10 @@
 -- The greens and needs of the definition are those by what the stages ask.
 use Rattle.std.proofs.Common.{◌≡◌, ℕ, ◌+◌, ◌-◌, ◌<◌, ◌≤◌, Bool, true, not, nat_eq, List, map, length, arith}
-use Rattle.std.proofs.Common.{sym, ◌∙◌, ap, get_or, inl, inr}
+use Rattle.std.proofs.Common.{sym, ◌∙◌, ap, get_or, inl, inr, [], ◌∷◌, ◌++◌}
 use Rattle.std.specs.List.{list_all, filter, range_with_len}
 use Rattle.std.proofs.lemmas.Bool.{cases_Bool}
 use Rattle.std.proofs.lemmas.Bool.Decides.{nat_tests}
-use Rattle.std.proofs.lemmas.List.FromFn.{fill_by_all, length-map-range_with_len, get_or-map-range_with_len}
+use Rattle.std.proofs.lemmas.List.FromFn.{fill_by_all, length-map-range_with_len, get_or-map-range_with_len, map-range_with_len_more}
 use Rattle.transyt_parts.specs.Parts.{NodeValue}
 use Rattle.transyt_parts.specs.Plan.{stage_of}
 use Rattle.transyt_net.specs.Parts.{Network}
@@ -17,6 +17,11 @@ use Rattle.transyt_equisat.proofs.SettingLaws.{IsSetting}
 use Rattle.transyt_equisat.proofs.DemandLaws.{IsLower, stage_tested, not_above_lower, below_lower}
 use Rattle.transyt_equisat.proofs.SearchLaws.{first_same, first_least}
 use Rattle.transyt_equisat.proofs.PeakLaws.{demand_there}
+
+-- a list of one place more
+pub range_more : {A : Type 0} (f : ℕ → A) (xs ys : List A) (n : ℕ) (x : A) → xs ≡ map f (range_with_len 0 n)
+    → ys ≡ xs ++ x ∷ [] → x ≡ f n → ys ≡ map f (range_with_len 0 (n + 1))
+range_more f xs ys n x is more here = rw (more, is, here) (sym (map-range_with_len_more f 0 n n (omega arith)))
 
 -- functions that agree at each place make one list
 pub range_same : {A : Type 0} (d : A) (f g : ℕ → A) (n : ℕ) → ((k : ℕ) → k < n → f k ≡ g k)

@@ -1,18 +1,17 @@
 -- A bound on the degree of a stage's greatest demand bounds each of its counted links, since none asks for more.
-use Rattle.std.proofs.Common.{◌≡◌, ℕ, ◌*◌, ◌<◌, ◌≤◌, Bool, true, false, not, ◌&&◌, List, [], ◌∷◌, ◌++◌, ◌+◌, All, arith}
+use Rattle.std.proofs.Common.{◌≡◌, ℕ, ◌*◌, ◌<◌, ◌≤◌, Bool, true, false, not, ◌&&◌, List, [], ◌∷◌, All, arith}
 use Rattle.std.proofs.Common.{sym, ◌∙◌, ap, refl, inl, inr}
 use Rattle.std.specs.List.{list_all, filter, fold}
 use Rattle.std.proofs.Math.Nat.{mul-le-mul_left, mul-pos}
 use Rattle.std.proofs.lemmas.Bool.{cases_Bool, ltb-false, not-true}
 use Rattle.std.proofs.lemmas.Bool.Decides.{nat_tests}
 use Rattle.std.proofs.lemmas.List.Elements.{All-head, All-tail}
-use Rattle.std.proofs.lemmas.List.FromFn.{map-range_with_len_more}
 use Rattle.transyt_parts.specs.Parts.{LinkValue, total_flow}
 use Rattle.transyt_net.specs.Parts.{Network}
 use Rattle.transyt_equisat.specs.declared.fraction.Fraction.{Fraction}
 use Rattle.transyt_equisat.specs.declared.demand.Demand.{Demand}
 use Rattle.transyt_equisat.specs.Degrees.{is_above, counts_in, degree}
-use Rattle.transyt_equisat.specs.Sharing.{demand_of, degree_of, heavier, heavier_of, demand_in, demands_of, no_demand}
+use Rattle.transyt_equisat.specs.Sharing.{demand_of, degree_of, heavier, heavier_of, demand_in, no_demand}
 use Rattle.transyt_equisat.proofs.FractionLaws.{not_above, not_above-trans}
 
 -- a test that lesser fractions pass too, and what nothing asks of a green
@@ -100,7 +99,3 @@ below_lower v above = record {
         )
   ];
 }
-
--- the demands of one stage more
-pub demands_more : (net : Network) (number n : ℕ) → demands_of net number (n + 1) ≡ demands_of net number n ++ demand_in net number (n + 1) ∷ []
-demands_more net number n = map-range_with_len_more (λ k. demand_in net number (k + 1)) 0 n n (omega arith)

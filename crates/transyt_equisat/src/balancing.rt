@@ -8,6 +8,7 @@ ghost use Rattle.transyt_equisat.specs.Peaks.{lost, green_of};
 ghost use Rattle.transyt_equisat.specs.Sharing.{asked_of, green_by, need_by, green_there, share_there};
 ghost use Rattle.transyt_equisat.specs.Sharing.{IsLeastPeak};
 ghost use Rattle.transyt_equisat.specs.Balance.{balance, balance_at, greens_at, is_same, first_more, reaches, reaching};
+ghost use Rattle.transyt_equisat.specs.Balance.{change_at};
 ghost use Rattle.transyt_equisat.specs.Balance.{told_of, IsBalanced};
 
 use crate::asked::Asked;
@@ -81,20 +82,63 @@ fn need_by(steps: u32, peak: Fraction, least: u32, demand: Demand) -> u32
     steps
 }
 
+/// The least green of the stage at a place for a peak.
+fn green_there(asked: &Asked, peak: Fraction, place: usize) -> u32
+    requires { place < length asked.now.stages }
+    ensures { result ≡ green_there asked.now peak place }
+{
+    green_by(
+        asked.steps(),
+        peak,
+        asked.stages()[place].least,
+        asked.demands()[place],
+    )
+}
+
 /// The least greens of the stages for a peak.
 fn greens_for(alloc: Global, asked: &Asked, peak: Fraction) -> Result<Vec<u32>, AllocError>
-    ensures value { IfOk result (λ greens. greens.items ≡
+    ensures { IfOk result (λ greens. greens.items ≡
         map (green_there asked.now peak) (range_with_len 0 (length asked.now.stages))) }
-    ensures small { IfOk result (λ greens. All (λ e. e ≤ 120) greens.items) }
+{
+    let count = asked.stages().len();
+    let mut greens = Vec::with_capacity(alloc, count)?;
+    for place in 0..count {
+        greens.push(green_there(asked, peak, place))?;
+    }
+    Ok(greens)
+}
+
+/// The step at which the stage at a place begins.
+fn change_at(asked: &Asked, here: &NodeGreens<'_>, place: usize) -> u32
+    requires place { place < length asked.now.stages }
+    requires count { length here.now.greens.now ≡ length asked.now.stages }
+    ensures { result ≡ change_at asked.now.steps asked.now.stages here.now.greens.now place }
 {
     let steps = asked.steps();
     let stages = asked.stages();
-    let demands = asked.demands();
-    let mut greens = Vec::with_capacity(alloc, stages.len())?;
-    for place in 0..stages.len() {
-        greens.push(green_by(steps, peak, stages[place].least, demands[place]))?;
+    let mut change = stages[0].change;
+    for before in 0..place {
+        change = (change + here.greens[before] + stages[before].intergreen) % steps;
     }
-    Ok(greens)
+    change
+}
+
+/// The share of the stage at a place for a peak and greens.
+fn share_there(asked: &Asked, peak: Fraction, here: &NodeGreens<'_>, place: usize) -> Share
+    requires place { place < length asked.now.stages }
+    requires count { length here.now.greens.now ≡ length asked.now.stages }
+    ensures { result ≡ share_there asked.now peak here.now.greens.now place }
+{
+    Share {
+        change: change_at(asked, here, place),
+        green: here.greens[place],
+        need: need_by(
+            asked.steps(),
+            peak,
+            asked.stages()[place].least,
+            asked.demands()[place],
+        ),
+    }
 }
 
 /// The shares of the stages for a peak and greens.
@@ -109,20 +153,10 @@ fn shares_for(
         ≡ map (share_there asked.now peak here.now.greens.now)
         (range_with_len 0 (length asked.now.stages))) }
 {
-    let steps = asked.steps();
-    let stages = asked.stages();
-    let demands = asked.demands();
-    let mut shares = Vec::with_capacity(alloc, stages.len())?;
-    let mut change = stages[0].change;
-    for place in 0..stages.len() {
-        let green = here.greens[place];
-        let need = need_by(steps, peak, stages[place].least, demands[place]);
-        shares.push(Share {
-            change,
-            green,
-            need,
-        })?;
-        change = (change + green + stages[place].intergreen) % steps;
+    let count = asked.stages().len();
+    let mut shares = Vec::with_capacity(alloc, count)?;
+    for place in 0..count {
+        shares.push(share_there(asked, peak, here, place))?;
     }
     Ok(shares)
 }
@@ -167,7 +201,6 @@ fn reaches(here: &NodeGreens<'_>, place: usize, peak: Fraction) -> bool
 }
 
 /// The place of the first counted link that reaches the peak.
-#[tactic(auto, using(crate::proofs::SearchLaws::find_skip))]
 fn reaching(here: &NodeGreens<'_>, peak: Fraction) -> Option<usize>
     ensures value { option_map (link_of here.now.net.now) result
         ≡ find (reaches here.now.net.now here.now.number peak here.now.greens.now)

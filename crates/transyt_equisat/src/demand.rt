@@ -73,7 +73,6 @@ fn demand_in(net: &Net, number: u32, stage: u32) -> Demand
 }
 
 /// The demands of the first `count` stages of a node.
-#[tactic(auto, using(crate::proofs::DemandLaws::demands_more))]
 pub fn demands_of(
     alloc: Global,
     net: &Net,

@@ -39,7 +39,6 @@ fn busier(asked: &Asked, greens: &[u32], a: usize, b: usize) -> usize
 }
 
 /// The place of the stage with the greatest degree.
-#[tactic(auto, using(crate::proofs::SharingLaws::over_more))]
 fn busiest(asked: &Asked, greens: &[u32]) -> usize
     requires enough { AreEnough asked.now greens.now }
     ensures inside { result < length asked.now.stages }
@@ -70,11 +69,7 @@ pub fn taken(asked: &Asked, greens: &[u32]) -> u32
 fn least_greens(alloc: Global, stages: &[Stage]) -> Result<Vec<u32>, AllocError>
     ensures { IfOk result (λ greens. greens.items ≡ map (λ s. s.least) stages.now) }
 {
-    let mut greens = Vec::with_capacity(alloc, stages.len())?;
-    for stage in stages {
-        greens.push(stage.least)?;
-    }
-    Ok(greens)
+    stages.iter().map(|s| s.least).collect(alloc)
 }
 
 /// Gives the steps that are left one by one, each to the stage with the greatest degree.

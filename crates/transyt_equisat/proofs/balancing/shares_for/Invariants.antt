@@ -1,13 +1,8 @@
--- The shares of the stages before the place, and the change of the stage there.
-use Rattle.std.proofs.Common.{◌≡◌, ◌<◌, map}
+-- The shares of the stages before the place.
+use Rattle.std.proofs.Common.{◌≡◌, map}
 use Rattle.std.specs.List.{range_with_len}
-use Rattle.transyt_equisat.specs.Balance.{change_at}
 use Rattle.transyt_equisat.specs.Sharing.{share_there}
 use Rattle.transyt_equisat.proofs.balancing.shares_for.Given as goal
 
 abbrev pub invariant-loop-place : goal.invariant-loop-place
-invariant-loop-place l = record {
-  so_far : l.shares.items ≡ map (share_there l.asked l.peak l.here.greens.now) (range_with_len 0 l.place);
-  change : l.change ≡ change_at l.asked.steps l.asked.stages l.here.greens.now l.place;
-  small : l.change < l.steps;
-}
+invariant-loop-place l = l.shares.items ≡ map (share_there l.asked l.peak l.here.greens.now) (range_with_len 0 l.place)
