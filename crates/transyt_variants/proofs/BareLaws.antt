@@ -26,7 +26,7 @@ use Rattle.transyt_equisat.proofs.PlanFits.{plan_parts}
 use Rattle.transyt_equisat.proofs.TimedPlans.{AreTimed, timed_allowed}
 use Rattle.transyt_variants.specs.Cycles.{steps_of, has_short_lags, has_short_sizes, may_have, least_length, first_barred}
 use Rattle.transyt_variants.specs.Cycles.{scaled, scaled_stage, filled_greens, laid, bare_stages, bare_plan, bare_net}
-use Rattle.transyt_variants.specs.Needs.{HasBarePlan, CanHave}
+use Rattle.transyt_variants.specs.Needs.{AreShort, HasBarePlan, CanHave}
 use Rattle.transyt_variants.proofs.ValidLaws.{valid_signals}
 use Rattle.transyt_variants.proofs.StartLaws.{map_places, all_places}
 
@@ -85,7 +85,7 @@ scaled_at before after ss k inside =
     get_or-map (scaled_stage before after) ss k no_stage no_stage inside
 
 -- the greens of the bare plan fill the cycle
-bare_fits : (before after : ℕ) (ss : List Stage) → 0 < length ss → least_length ss ≤ after
+pub bare_fits : (before after : ℕ) (ss : List Stage) → 0 < length ss → least_length ss ≤ after
     → Fits after (map (scaled_stage before after) ss) (filled_greens after ss)
 bare_fits before after ss some room =
     let scaled_ss : List Stage = map (scaled_stage before after) ss in
@@ -222,9 +222,15 @@ bare_valid net cycle valid can =
     })
 
 -- no least green is above 120
-pub least_small : (ss : List Stage) → All (IsStage 120) ss → All (λ e. e ≤ 120) (map (λ (s : Stage). s.least) ss)
+pub least_small : (ss : List Stage) → AreShort ss → All (λ e. e ≤ 120) (map (λ (s : Stage). s.least) ss)
 least_small ss each =
-    All-map (λ e. e ≤ 120) (λ (s : Stage). s.least) ss (All-weaker (IsStage 120) (λ s. s.least ≤ 120) (λ s is. is.least.1) ss each)
+    All-map (λ e. e ≤ 120) (λ (s : Stage). s.least) ss
+    (All-weaker (λ s. (s.intergreen ≤ 120) × (s.least ≤ 120)) (λ s. s.least ≤ 120) (λ s is. is.1) ss each)
+
+-- the stages of a cycle of at most 120 steps are short
+pub are_short : (steps : ℕ) (ss : List Stage) → steps ≤ 120 → All (IsStage steps) ss → AreShort ss
+are_short steps ss few each k d inside =
+    let is = each k d inside in (omega (arith, is.intergreen), omega (arith, is.least.1))
 
 -- no intergreen is above 120
 pub scaled_gaps : (before after : ℕ) (ss : List Stage) → before ≤ 120 → All (IsStage before) ss

@@ -6,7 +6,7 @@ ghost use Rattle.transyt_parts.specs.Valid.{IsNode, IsStage};
 ghost use Rattle.transyt_equisat.specs.Balance.{first_more};
 ghost use Rattle.transyt_variants.specs.Cycles.{steps_of, least_length, scaled, scaled_stage, filled_greens, laid};
 ghost use Rattle.transyt_variants.specs.Cycles.{bare_stages, bare_plan, bare_net};
-ghost use Rattle.transyt_variants.specs.Needs.{HasBarePlan, CanHave};
+ghost use Rattle.transyt_variants.specs.Needs.{AreShort, HasBarePlan, CanHave};
 
 use crate::lengths::Lengths;
 use std::alloc::{AllocError, Global};
@@ -15,7 +15,7 @@ use transyt_net::{Frame, Net, Node, Stage};
 /// How many steps stages take at least.
 pub(crate) fn least_length(stages: &[Stage]) -> u32
     requires few { length stages.now ≤ 8 }
-    requires stages { All (λ s. (s.intergreen ≤ 120) × (s.least ≤ 120)) stages.now }
+    requires stages { AreShort stages.now }
     ensures { result ≡ least_length stages.now }
 {
     let mut all = 0;
@@ -63,42 +63,39 @@ fn scaled_stages(
     Ok(made)
 }
 
-/// Adds steps to the first of these greens.
-fn add_first(greens: &mut [u32], left: u32)
-    requires some { 0 < length greens.old }
-    requires small { All (λ e. e ≤ 120) greens.old }
+/// These least greens, with steps added to the first.
+fn add_first(least: Vec<u32>, left: u32) -> Vec<u32>
+    requires some { 0 < length least.items }
+    requires small { All (λ e. e ≤ 120) least.items }
     requires left { left ≤ 120 }
-    ensures value { greens.new ≡ first_more left greens.old }
-    ensures small { All (λ e. e ≤ 240) greens.new }
+    ensures value { result.items ≡ first_more left least.items }
+    ensures small { All (λ e. e ≤ 240) result.items }
 {
+    let mut greens = least;
     greens[0] += left;
+    greens
 }
 
 /// The least greens of these stages.
 fn least_greens(alloc: Global, stages: &[Stage]) -> Result<Vec<u32>, AllocError>
     ensures { IfOk result (λ greens. greens.items ≡ map (λ s. s.least) stages.now) }
 {
-    let mut greens = Vec::with_capacity(alloc, stages.len())?;
-    for stage in stages {
-        greens.push(stage.least)?;
-    }
-    Ok(greens)
+    stages.iter().map(|s| s.least).collect(alloc)
 }
 
 /// The least greens of these stages, with what is left of the cycle added to the first.
-#[tactic(auto, using(crate::proofs::BareLaws::least_small))]
 fn filled_greens(alloc: Global, steps: u32, stages: &[Stage]) -> Result<Vec<u32>, AllocError>
     requires steps { steps ≤ 120 }
     requires some { 0 < length stages.now }
     requires few { length stages.now ≤ 8 }
-    requires stages { All (IsStage 120) stages.now }
+    requires stages { AreShort stages.now }
     requires room { least_length stages.now ≤ steps }
     ensures value { IfOk result (λ greens. greens.items ≡ filled_greens steps stages.now) }
     ensures small { IfOk result (λ greens. All (λ e. e ≤ 240) greens.items) }
 {
-    let mut greens = least_greens(alloc, stages)?;
-    add_first(&mut greens, steps - least_length(stages));
-    Ok(greens)
+    let left = steps - least_length(stages);
+    let least = least_greens(alloc, stages)?;
+    Ok(add_first(least, left))
 }
 
 /// These stages one after another, each as long as its intergreen and its green.
@@ -119,19 +116,14 @@ fn laid(
     let mut made = Vec::with_capacity(alloc, stages.len())?;
     let mut change = stages[0].change;
     for place in 0..stages.len() {
-        let intergreen = stages[place].intergreen;
-        made.push(Stage {
-            change,
-            intergreen,
-            least: stages[place].least,
-        })?;
-        change = (change + greens[place] + intergreen) % steps;
+        let stage = stages[place];
+        made.push(Stage { change, ..stage })?;
+        change = (change + greens[place] + stage.intergreen) % steps;
     }
     Ok(made)
 }
 
 /// The bare plan of these stages in the new cycle.
-#[tactic(auto, using(crate::proofs::BareLaws::scaled_first, crate::proofs::BareLaws::scaled_gaps))]
 fn bare_stages(alloc: Global, lengths: Lengths, stages: &[Stage]) -> Result<Vec<Stage>, AllocError>
     requires some { 0 < length stages.now }
     requires few { length stages.now ≤ 8 }
@@ -178,7 +170,6 @@ fn add_bare(
 }
 
 /// The bare network of a cycle time.
-#[tactic(auto, using(crate::proofs::BareLaws::bare_from, crate::proofs::BareLaws::bare_numbers))]
 pub(crate) fn bare_net(alloc: Global, net: &Net, cycle: u32) -> Result<Net, AllocError>
     requires cycle { CanHave net.now cycle }
     ensures { IfOk result (λ made. made ≡ bare_net net.now cycle) }

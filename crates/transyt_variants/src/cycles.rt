@@ -107,19 +107,28 @@ fn timed(alloc: Global, stages: &[Stage], shares: &[Share]) -> Result<Vec<Stage>
     Ok(made)
 }
 
+/// A node with its stages at the changes of these shares.
+fn timed_node(alloc: Global, node: &Node, shares: &[Share]) -> Result<Node, AllocError>
+    requires { length shares.now ≡ length node.now.stages }
+    ensures { IfOk result (λ made. made
+        ≡ record node.now { stages = timed node.now.stages shares.now }) }
+{
+    Ok(Node {
+        number: node.number,
+        offset: node.offset,
+        stages: timed(alloc, &node.stages, shares)?,
+    })
+}
+
 /// The node at a place with the changes of its balance.
-#[tactic(auto, using(crate::proofs::BalancedLaws::balance_count))]
 fn balanced_node(alloc: Global, net: &Net, place: usize) -> Result<Node, AllocError>
     requires { place < length net.now.nodes }
     ensures { IfOk result (λ made. made ≡ balanced_node net.now place) }
 {
     let greens = balance(alloc, net, place)?;
-    let node = &net.nodes()[place];
-    Ok(Node {
-        number: node.number,
-        offset: node.offset,
-        stages: timed(alloc, &node.stages, &greens.stages)?,
-    })
+    let made = timed_node(alloc, &net.nodes()[place], &greens.stages);
+    drop(greens);
+    made
 }
 
 /// Adds the nodes with the changes of their balances.
