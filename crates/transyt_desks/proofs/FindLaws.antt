@@ -1,7 +1,7 @@
 -- Finds: a move's desk is the rest of its number by the number of desks, and its turn the quotient.
 use Rattle.std.proofs.Common.{◌≡◌, ℕ, ◌+◌, ◌*◌, ◌/◌, ◌%◌, ◌<◌, ◌≤◌, List, length, slice_index_or, slice_set, [], ◌∷◌, ◌++◌}
-use Rattle.std.proofs.Common.{refl, ap, sym, ◌∙◌, subst, arith}
-use Rattle.std.proofs.lemmas.List.{get_or-set_other, get_or_append_left}
+use Rattle.std.proofs.Common.{length-append, refl, ap, sym, ◌∙◌, subst, arith}
+use Rattle.std.proofs.lemmas.List.{get_or-set_other, get_or_append_left, length-set}
 use Rattle.std.proofs.Math.Seq.{get_or-append_seam}
 use Rattle.std.proofs.lemmas.Grind.{get_or-set_at}
 use Rattle.std.proofs.Math.Nat.{mod-eq_of_lt}
@@ -14,7 +14,7 @@ use Rattle.transyt_session.specs.declared.answers.Tried.{Tried}
 use Rattle.transyt_session.specs.Session.{SessionValue, try_of}
 use Rattle.transyt_desks.specs.declared.desk.Desk.{Desk}
 use Rattle.transyt_desks.specs.declared.reach.Reach.{Reach}
-use Rattle.transyt_desks.specs.Stretches.{place_at, AreFinds, AreFound, AreTriesAt, HasFound}
+use Rattle.transyt_desks.specs.Stretches.{place_at, AreFinds, AreFound, AreTriesAt, HasFound, HaveFound}
 use Rattle.transyt_desks.specs.Desks.{desk_zero, no_desk, sessions_of, AreAligned}
 use Rattle.transyt_desks.proofs.DeskLaws.{session_is, sessions_count}
 
@@ -102,3 +102,11 @@ one_more P olds news (b ∷ []) x y one same each last = λ k d less. below_more
     (sym (ap (λ n. slice_index_or (news ++ y ∷ []) n d) (sym same) ∙ get_or-append_seam news y [] d))
     last))
     k less d
+
+pub found_more : (reach : Reach) (olds news back : List Desk) (x y : Desk) → length back ≡ 1 → HaveFound reach olds news
+    → HasFound reach (length olds) (slice_index_or back 0 x) y → HaveFound reach (olds ++ back) (news ++ slice_set back 0 y)
+found_more reach olds news back x y one found last = record {
+  len = omega (arith, found.len, length-append news (slice_set back 0 y), length-append olds back, length-set back 0 y);
+  each = λ k d less. one_more (HasFound reach) olds news back x y one found.len found.each last k d
+      (omega (arith, less, length-append olds back, one));
+}

@@ -2,7 +2,7 @@
 use Rattle.std.specs.Prelude.{◌≡◌, ℕ, ◌-◌, ◌<◌, ◌≤◌, List, [], ◌∷◌, map, length, None, replicate, Bool, true}
 use Rattle.std.specs.Prelude.{slice_index_or, slice_set}
 use Rattle.transyt_parts.specs.declared.frame.Frame.{Frame}
-use Rattle.transyt_net.specs.Parts.{network_of, SameShape}
+use Rattle.transyt_net.specs.Parts.{Network, network_of, SameShape}
 use Rattle.transyt_session.specs.declared.answers.Tried.TheVariants.{Barred}
 use Rattle.transyt_session.specs.Session.{SessionValue, opened}
 use Rattle.transyt_desks.specs.declared.desk.Desk.{Desk}
@@ -52,6 +52,16 @@ pub record AreDesks (sessions : List SessionValue) (following : Bool) : Type 0 w
 -- the sessions of desks
 abbrev pub sessions_of : List Desk → List SessionValue
 sessions_of desks = map (λ d. d.session) desks
+
+-- a session that can stand for a network: its own has the same shape, and it has no trial
+pub record CanStand (zero : Network) (session : SessionValue) : Type 0 where
+  pub shape : SameShape session.net zero
+  pub closed : session.before ≡ None
+
+-- a session that stands for a network, without a trial
+pub record Stands (zero : Network) (session : SessionValue) : Type 0 where
+  pub net : session.net ≡ zero
+  pub closed : session.before ≡ None
 
 -- a new desk with a session
 abbrev pub new_desk : SessionValue → Desk

@@ -1,5 +1,5 @@
 -- Desks that can try the moves of a reach. No public clause cites it.
-use Rattle.std.specs.Prelude.{◌≡◌, List, length, None}
+use Rattle.std.specs.Prelude.{◌≡◌, ℕ, ◌+◌, ◌*◌, ◌<◌, ◌≤◌, List, length, None}
 use Rattle.transyt_moves.specs.Moves.{move_count}
 use Rattle.transyt_session.specs.Session.{SessionValue}
 use Rattle.transyt_desks.specs.declared.desk.Desk.{Desk}
@@ -16,4 +16,13 @@ pub record CanReach (reach : Reach) (sessions : List SessionValue) : Type 0 wher
   pub desks : reach.desks ≡ length sessions
   pub aligned : AreAligned sessions
   pub moves : reach.count ≡ move_count (desk_zero sessions).net
+  pub closed : (desk_zero sessions).before ≡ None
+
+-- desks that can try so many moves from a place on together: one to eight on one network, and desk 0 has no trial
+pub record CanTry (from room : ℕ) (sessions : List SessionValue) : Type 0 where
+  pub some : 0 < room
+  pub many : length sessions ≤ 8
+  pub few : room ≤ 32 * length sessions
+  pub aligned : AreAligned sessions
+  pub places : from + room ≤ move_count (desk_zero sessions).net
   pub closed : (desk_zero sessions).before ≡ None

@@ -75,6 +75,11 @@ pub record HasFound (reach : Reach) (desk : ℕ) (before after : Desk) : Type 0 
   pub session : after.session ≡ before.session
   pub finds : AreFinds before.session.net reach desk after.finds
 
+-- desks that have each tried their moves of a reach, before and after
+pub record HaveFound (reach : Reach) (olds news : List Desk) : Type 0 where
+  pub len : length news ≡ length olds
+  pub each : (k : ℕ) (d : Desk) → k < length olds → HasFound reach k (slice_index_or olds k d) (slice_index_or news k d)
+
 -- desks that have each tried their moves of a reach on the network of desk 0
 pub record AreFound (reach : Reach) (desks : List Desk) : Type 0 where
   pub count : reach.desks ≡ length desks

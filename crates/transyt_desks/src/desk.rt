@@ -1,9 +1,8 @@
 //! One desk, and many that follow the first.
 
-ghost use Rattle.std.specs.Prelude.{◌≡◌, ℕ, ◌+◌, ◌<◌, ◌≤◌, length, List, All, None, slice_index_or, ◌↔◌, IsTrue};
+ghost use Rattle.std.specs.Prelude.{◌≡◌, ℕ, ◌+◌, ◌<◌, ◌≤◌, length, All, ◌↔◌, IsTrue};
 ghost use Rattle.std.specs.Thread.{IsSync};
-ghost use Rattle.transyt_net.specs.Parts.{SameShape};
-ghost use Rattle.transyt_desks.specs.Desks.{AreAlike, AreAligned, OthersClosed, sessions_of, desk_zero};
+ghost use Rattle.transyt_desks.specs.Desks.{AreAlike, AreAligned, CanStand, OthersClosed, Stands, sessions_of, desk_zero};
 
 use crate::equal::same_net;
 use std::thread::{self, Threads};
@@ -34,11 +33,9 @@ pub(crate) fn all_same(desks: &[Desk]) -> bool
 /// which this thread makes before it copies itself.
 #[cycle(followers)]
 fn stand_all<R: Threads + Sync>(rt: &R, desks: &mut [Desk], zero: &Session)
-    requires shape { All (λ d. SameShape d.session.net zero.now.net) desks.old }
-    requires closed { All (λ d. d.session.before ≡ None) desks.old }
+    requires ready { All (λ d. CanStand zero.now.net d.session) desks.old }
     ensures len { length desks.new ≡ length desks.old }
-    ensures net { All (λ d. d.session.net ≡ zero.now.net) desks.new }
-    ensures closed { All (λ d. d.session.before ≡ None) desks.new }
+    ensures stand { All (λ d. Stands zero.now.net d.session) desks.new }
 {
     if desks.is_empty() {
         return;
@@ -54,28 +51,20 @@ fn stand_all<R: Threads + Sync>(rt: &R, desks: &mut [Desk], zero: &Session)
 /// Lets the last desk stand for the network of a session in a new thread, and those before it from this thread.
 #[cycle(followers)]
 fn stand_both<R: Threads + Sync>(rt: &R, front: &mut [Desk], last: &mut Desk, zero: &Session)
-    requires shape { All (λ d. SameShape d.session.net zero.now.net) front.old }
-    requires closed { All (λ d. d.session.before ≡ None) front.old }
-    requires last_shape { SameShape last.old.session.net zero.now.net }
-    requires last_closed { last.old.session.before ≡ None }
+    requires front { All (λ d. CanStand zero.now.net d.session) front.old }
+    requires last { CanStand zero.now.net last.old.session }
     ensures len { length front.new ≡ length front.old }
-    ensures net { All (λ d. d.session.net ≡ zero.now.net) front.new }
-    ensures closed { All (λ d. d.session.before ≡ None) front.new }
-    ensures last_net { last.new.session.net ≡ zero.now.net }
-    ensures last_closed { last.new.session.before ≡ None }
+    ensures front { All (λ d. Stands zero.now.net d.session) front.new }
+    ensures last { Stands zero.now.net last.new.session }
 {
     let mut there = ||
-        requires { SameShape last.now.session.net zero.now.net
-            × (last.now.session.before ≡ None) }
-        ensures { (last.exit.now.session.net ≡ zero.entry.now.net)
-            × (last.exit.now.session.before ≡ None) }
+        requires { CanStand zero.now.net last.now.session }
+        ensures { Stands zero.entry.now.net last.exit.now.session }
     { last.session.take_over(zero) };
     let mut here = ||
-        requires { IsSync R.row × All (λ d. SameShape d.session.net zero.now.net) front.now
-            × All (λ d. d.session.before ≡ None) front.now }
+        requires { IsSync R.row × All (λ d. CanStand zero.now.net d.session) front.now }
         ensures { (length front.exit.now ≡ length front.entry.now)
-            × All (λ d. d.session.net ≡ zero.entry.now.net) front.exit.now
-            × All (λ d. d.session.before ≡ None) front.exit.now }
+            × All (λ d. Stands zero.entry.now.net d.session) front.exit.now }
     { stand_all(rt, front, zero) };
     thread::join_mut(rt, &mut there, &mut here);
 }

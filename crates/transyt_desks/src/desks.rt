@@ -13,7 +13,7 @@ ghost use Rattle.transyt_desks.specs.Rounds.{places_of, CanRound, MakesRound};
 
 use crate::crew::Crew;
 use crate::desk::{Desk, all_same, follow_zero};
-use crate::finding::{find_reach, first_lower, hand_on};
+use crate::finding::{find_some, find_stretch};
 use crate::gate::Gate;
 use crate::policy::{each, goes_alone};
 use crate::reach::Reach;
@@ -25,7 +25,6 @@ use std::marker::Model;
 use std::sync::ledger::Ledger;
 use std::thread::Threads;
 use transyt_climb::Climber;
-use transyt_moves::move_count;
 use transyt_session::{Session, Tried};
 use transyt_steps::Steps;
 
@@ -182,14 +181,7 @@ impl Desks {
         ensures len { length tries.new ≡ length tries.old }
         ensures same { self.new ≡ self.old }
     {
-        let reach = Reach {
-            place: from,
-            count: move_count(self.session().net()),
-            room: tries.len() as u32,
-            desks: self.desks.len() as u32,
-        };
-        find_reach(crew, self.desks.as_mut_slice(), reach);
-        hand_on(&self.desks, reach, tries);
+        find_some(crew, self.desks.as_mut_slice(), from, tries);
     }
 
     /// Tries the moves of a reach at desks that stand for one network, all at once, and gives them as a stretch, up to
@@ -204,9 +196,7 @@ impl Desks {
         ensures tried { IsStretch (desk_zero self.old).net
             reach.place reach.count reach.room result }
     {
-        find_reach(crew, self.desks.as_mut_slice(), reach);
-        let limit = self.desks[0].session.index();
-        first_lower(&self.desks, reach, limit)
+        find_stretch(crew, self.desks.as_mut_slice(), reach)
     }
 
     /// A round: the next moves of the list are tried at once, one at each desk, and the first of them that lowers the

@@ -1,15 +1,14 @@
 //! Moves of the list, all tried at once.
 
 ghost use Rattle.std.specs.Thread.{IsSync};
-ghost use Rattle.std.specs.Prelude.{◌≡◌, ℕ, ◌+◌, ◌*◌, ◌^◌, ◌<◌, ◌≤◌, length, None, All, slice_index_or};
+ghost use Rattle.std.specs.Prelude.{◌≡◌, ℕ, ◌+◌, ◌*◌, ◌^◌, ◌<◌, ◌≤◌, length, None, All};
 ghost use Rattle.transyt_moves.specs.Moves.{move, move_count};
 ghost use Rattle.transyt_sweep.specs.Sweeps.{index};
 ghost use Rattle.transyt_track.specs.Due.{edit_work};
 ghost use Rattle.transyt_session.specs.Session.{try_of};
 ghost use Rattle.transyt_desks.specs.Desks.{OthersClosed, desk_zero, sessions_of};
-ghost use Rattle.transyt_desks.specs.Stretches.{AreFinds, AreFound, AreTriesOf, HasFound, IsStretch, place_at};
-ghost use Rattle.transyt_desks.specs.Reaches.{CanFind, CanReach};
-ghost use Rattle.transyt_desks.specs.declared.desk.Desk.{Desk};
+ghost use Rattle.transyt_desks.specs.Stretches.{AreFinds, AreFound, AreTriesOf, HasFound, HaveFound, IsStretch, place_at};
+ghost use Rattle.transyt_desks.specs.Reaches.{CanFind, CanReach, CanTry};
 
 use crate::crew::Crew;
 use crate::desk::Desk;
@@ -17,6 +16,7 @@ use crate::gate::Gate;
 use crate::reach::Reach;
 use crate::stretch::{Stretch, after_find, place_of, try_at};
 use std::thread::{self, Threads};
+use transyt_moves::move_count;
 use transyt_session::{Session, Tried};
 
 /// Tries the moves of a reach that come to a desk in turn.
@@ -58,9 +58,7 @@ fn find_at_gate<G: Gate>(gate: &G, desk: &mut Desk, number: usize, reach: Reach)
 fn find_all<R: Threads + Sync, G: Gate>(crew: &Crew<'_, R, G>, desks: &mut [Desk], reach: Reach)
     requires few { length desks.old ≤ 8 }
     requires ready { All (λ d. CanFind reach d) desks.old }
-    ensures len { length desks.new ≡ length desks.old }
-    ensures found { (k : ℕ) (d : Desk) → k < length desks.old
-        → HasFound reach k (slice_index_or desks.old k d) (slice_index_or desks.new k d) }
+    ensures { HaveFound reach desks.old desks.new }
 {
     if desks.is_empty() {
         return;
@@ -85,9 +83,7 @@ fn find_both<R: Threads + Sync, G: Gate>(
     requires few { length front.old < 8 }
     requires ready { All (λ d. CanFind reach d) front.old }
     requires last_ready { CanFind reach last.old }
-    ensures len { length front.new ≡ length front.old }
-    ensures found { (k : ℕ) (d : Desk) → k < length front.old
-        → HasFound reach k (slice_index_or front.old k d) (slice_index_or front.new k d) }
+    ensures front { HaveFound reach front.old front.new }
     ensures last { HasFound reach (length front.old) last.old last.new }
 {
     let number = front.len();
@@ -98,19 +94,13 @@ fn find_both<R: Threads + Sync, G: Gate>(
     let mut here = ||
         requires { IsSync R.row × IsSync G.row × (length front.now ≤ 8)
             × All (λ d. CanFind reach d) front.now }
-        ensures { (length front.exit.now ≡ length front.entry.now)
-            × ((k : ℕ) (d : Desk) → k < length front.entry.now → HasFound reach k
-            (slice_index_or front.entry.now k d) (slice_index_or front.exit.now k d)) }
+        ensures { HaveFound reach front.entry.now front.exit.now }
     { find_all(crew, front, reach) };
     thread::join_mut(crew.rt, &mut there, &mut here);
 }
 
 /// Tries the moves of a reach at desks that stand for one network, all at once.
-pub(crate) fn find_reach<R: Threads + Sync, G: Gate>(
-    crew: &Crew<'_, R, G>,
-    desks: &mut [Desk],
-    reach: Reach,
-)
+fn find_reach<R: Threads + Sync, G: Gate>(crew: &Crew<'_, R, G>, desks: &mut [Desk], reach: Reach)
     requires ready { CanReach reach (sessions_of desks.old) }
     requires others { OthersClosed (sessions_of desks.old) }
     ensures len { length desks.new ≡ length desks.old }
@@ -137,7 +127,7 @@ fn find_at(desks: &[Desk], reach: Reach, number: u32) -> Tried
 
 /// The moves of a reach as a stretch, up to the first in the list's order that lowers the index; `limit` is the index of
 /// the network.
-pub(crate) fn first_lower(desks: &[Desk], reach: Reach, limit: u128) -> Stretch
+fn first_lower(desks: &[Desk], reach: Reach, limit: u128) -> Stretch
     requires limit { limit ≡ index (desk_zero (sessions_of desks.now)).net }
     requires found { AreFound reach desks.now }
     ensures { IsStretch (desk_zero (sessions_of desks.now)).net
@@ -159,7 +149,7 @@ pub(crate) fn first_lower(desks: &[Desk], reach: Reach, limit: u128) -> Stretch
 }
 
 /// Hands on the finds in the list's order.
-pub(crate) fn hand_on(desks: &[Desk], reach: Reach, tries: &mut [Tried])
+fn hand_on(desks: &[Desk], reach: Reach, tries: &mut [Tried])
     requires inside { reach.place + reach.room ≤ reach.count }
     requires room { reach.room ≡ length tries.old }
     requires found { AreFound reach desks.now }
@@ -170,4 +160,58 @@ pub(crate) fn hand_on(desks: &[Desk], reach: Reach, tries: &mut [Tried])
     for number in 0..tries.len() {
         tries[number] = find_at(desks, reach, number as u32);
     }
+}
+
+/// The reach of so many moves from a place on, at desks that stand for one network.
+fn reach_from(desks: &[Desk], from: u32, room: usize) -> Reach
+    requires can { CanTry from room (sessions_of desks.now) }
+    ensures can { CanReach result (sessions_of desks.now) }
+    ensures place { result.place ≡ from }
+    ensures room { result.room ≡ room }
+    ensures inside { from + room ≤ result.count }
+{
+    Reach {
+        place: from,
+        count: move_count(desks[0].session.net()),
+        room: room as u32,
+        desks: desks.len() as u32,
+    }
+}
+
+/// Tries consecutive moves from a place on, at least one, all at once, and hands on the finds.
+pub(crate) fn find_some<R: Threads + Sync, G: Gate>(
+    crew: &Crew<'_, R, G>,
+    desks: &mut [Desk],
+    from: u32,
+    tries: &mut [Tried],
+)
+    requires can { CanTry from (length tries.old) (sessions_of desks.old) }
+    requires others { OthersClosed (sessions_of desks.old) }
+    ensures len { length desks.new ≡ length desks.old }
+    ensures sessions { sessions_of desks.new ≡ sessions_of desks.old }
+    ensures tries { length tries.new ≡ length tries.old }
+    ensures tried { AreTriesOf (desk_zero (sessions_of desks.old)).net
+        from (length tries.old) tries.new }
+{
+    let reach = reach_from(desks, from, tries.len());
+    find_reach(crew, desks, reach);
+    hand_on(desks, reach, tries);
+}
+
+/// Tries the moves of a reach, all at once, and gives them as a stretch, up to the first that lowers the index.
+pub(crate) fn find_stretch<R: Threads + Sync, G: Gate>(
+    crew: &Crew<'_, R, G>,
+    desks: &mut [Desk],
+    reach: Reach,
+) -> Stretch
+    requires ready { CanReach reach (sessions_of desks.old) }
+    requires others { OthersClosed (sessions_of desks.old) }
+    ensures len { length desks.new ≡ length desks.old }
+    ensures sessions { sessions_of desks.new ≡ sessions_of desks.old }
+    ensures tried { IsStretch (desk_zero (sessions_of desks.old)).net
+        reach.place reach.count reach.room result }
+{
+    find_reach(crew, desks, reach);
+    let limit = desks[0].session.index();
+    first_lower(desks, reach, limit)
 }

@@ -7,8 +7,8 @@ use Rattle.transyt_desks.specs.Desks.{desk_zero, no_desk, sessions_of, AreAligne
 use Rattle.transyt_desks.proofs.DeskLaws.{first_desk, session_is, other_read, joined_aligned, joined_closed}
 use Rattle.transyt_desks.proofs.desk.follow_zero.Goals as goal
 
-pub stand_all-requires-clause-shape : goal.stand_all-requires-clause-shape
-stand_all-requires-clause-shape g c κs within =
+pub stand_all-requires-clause-ready : goal.stand_all-requires-clause-ready
+stand_all-requires-clause-ready g c κs within =
     let desks = c.args.desks.now in
     let split = c.split_at_mut-zero.ensures in
     let z : Desk = c.index-zero-0.result in
@@ -18,13 +18,11 @@ stand_all-requires-clause-shape g c κs within =
     ap (λ (ds : List Desk). (slice_index_or ds 0 z).session) first ∙ sym (session_is desks 0) in
     λ k d less.
     (let other = other_read desks _ k d split.back less in
-    ap (λ (s : SessionValue). shape s.net) other.session ∙ c.requires.shape.shape (k + 1) other.inside
-    ∙ sym (ap (λ (s : SessionValue). shape s.net) zero))
-
-pub stand_all-requires-clause-closed : goal.stand_all-requires-clause-closed
-stand_all-requires-clause-closed g c κs within = λ k d less.
-    (let other = other_read c.args.desks.now _ k d c.split_at_mut-zero.ensures.back less in
-    ap (λ (s : SessionValue). s.before) other.session ∙ c.requires.closed.closed (k + 1) (omega arith) other.inside)
+    record {
+      shape = ap (λ (s : SessionValue). shape s.net) other.session ∙ c.requires.shape.shape (k + 1) other.inside
+          ∙ sym (ap (λ (s : SessionValue). shape s.net) zero);
+      closed = ap (λ (s : SessionValue). s.before) other.session ∙ c.requires.closed.closed (k + 1) (omega arith) other.inside;
+    })
 
 pub returns-clause-aligned : goal.returns-clause-aligned
 returns-clause-aligned g c =
@@ -33,11 +31,11 @@ returns-clause-aligned g c =
     let first = c.split_at_mut-zero.ensures.front ∙ first_desk desks c.requires.some in
     let zero = ap (λ (ds : List Desk). (slice_index_or ds 0 z).session.net) first in
     subst (λ (ds : List Desk). AreAligned (sessions_of (ds ++ c.stand_all.new.desks))) (sym first)
-    (joined_aligned (slice_index_or desks 0 no_desk) c.stand_all.new.desks (λ k d less. c.stand_all.ensures.net k d less ∙ zero))
+    (joined_aligned (slice_index_or desks 0 no_desk) c.stand_all.new.desks (λ k d less. (c.stand_all.ensures.stand k d less).net ∙ zero))
 
 pub returns-clause-closed : goal.returns-clause-closed
 returns-clause-closed g c =
     let desks = c.args.desks.now in
     subst (λ (ds : List Desk). OthersClosed (sessions_of (ds ++ c.stand_all.new.desks)))
     (sym (c.split_at_mut-zero.ensures.front ∙ first_desk desks c.requires.some))
-    (joined_closed (slice_index_or desks 0 no_desk) c.stand_all.new.desks c.stand_all.ensures.closed)
+    (joined_closed (slice_index_or desks 0 no_desk) c.stand_all.new.desks (λ k d less. (c.stand_all.ensures.stand k d less).closed))

@@ -15,11 +15,11 @@ find_all-requires-clause-ready g c κs within = λ k d less.
 pub returns-clause-sessions : goal.returns-clause-sessions
 returns-clause-sessions g c =
     same_sessions c.args.desks.now c.find_all.new.desks c.find_all.ensures.len
-    (λ k d less. (c.find_all.ensures.found k d less).session)
+    (λ k d less. (c.find_all.ensures.each k d less).session)
 
 pub returns-clause-found : goal.returns-clause-found
 returns-clause-found g c =
     all_found c.args.reach c.args.desks.now c.find_all.new.desks c.requires.ready.aligned
     (same_sessions c.args.desks.now c.find_all.new.desks c.find_all.ensures.len
-    (λ k d less. (c.find_all.ensures.found k d less).session))
-    c.find_all.ensures.len (c.requires.ready.desks ∙ sessions_count c.args.desks.now) c.find_all.ensures.found
+    (λ k d less. (c.find_all.ensures.each k d less).session))
+    c.find_all.ensures.len (c.requires.ready.desks ∙ sessions_count c.args.desks.now) c.find_all.ensures.each
