@@ -1,6 +1,6 @@
 //! The dispersion of a platoon.
 
-ghost use Rattle.std.specs.Prelude.{◌≡◌, ℕ, ◌+◌, ◌-◌, ◌*◌, ◌/◌, ◌%◌, ◌^◌, ◌<◌, ◌≤◌, length, replicate, slice_index, sum, All};
+ghost use Rattle.std.specs.Prelude.{◌≡◌, ℕ, ◌+◌, ◌-◌, ◌*◌, ◌/◌, ◌%◌, ◌^◌, ◌<◌, ◌≤◌, length, replicate, slice_index, sum, true, All};
 ghost use Rattle.transyt_platoon.specs.Platoon.{mixed, smoothed, dispersed};
 ghost use Rattle.transyt_platoon.specs.Passing.{Placed};
 
@@ -65,11 +65,20 @@ fn go_round(journey: &Journey<'_>, whole: u64, out: &mut [u64])
         (length journey.now.profile.now) }
 {
     let most = most_of(u64::from(journey.percent) * u64::from(journey.time));
-    if whole < most && 0 < journey.percent && 0 < journey.time {
+    if leaves_room(journey, whole, most) {
         travel_by(journey, most, out);
     } else {
         travel(journey, out);
     }
+}
+
+/// Whether a sum leaves room for products of values below `most`, and the journey takes time and disperses.
+fn leaves_room(journey: &Journey<'_>, whole: u64, most: u64) -> bool
+    ensures whole { result ≡ true → whole < most }
+    ensures percent { result ≡ true → 0 < journey.now.percent }
+    ensures time { result ≡ true → 0 < journey.now.time }
+{
+    whole < most && 0 < journey.percent && 0 < journey.time
 }
 
 /// Twice round the cycle with a division in each step: the second turn is written.
