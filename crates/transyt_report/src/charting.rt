@@ -102,7 +102,6 @@ fn print_end<K: Sink>(line: &mut LineBuffer, sink: &mut K) -> Result<(), Failed>
 }
 
 /// Writes CHART.
-#[tactic(auto, using(transyt_text::proofs::PrintLaws::prints_both, transyt_text::proofs::PrintLaws::prints_front))]
 pub(crate) fn print_chart<K: Sink>(
     session: &Session,
     line: &mut LineBuffer,

@@ -93,7 +93,6 @@ fn print_network<K: Sink>(
 }
 
 /// Writes FIGURES.
-#[tactic(auto, using(transyt_text::proofs::PrintLaws::prints_both, transyt_text::proofs::PrintLaws::prints_front))]
 pub(crate) fn print_report<K: Sink>(
     session: &Session,
     line: &mut LineBuffer,

@@ -142,7 +142,6 @@ fn print_queue<K: Sink>(
 }
 
 /// Writes PROFILE.
-#[tactic(auto, using(transyt_text::proofs::PrintLaws::prints_both, transyt_text::proofs::PrintLaws::prints_front))]
 fn print_profile<K: Sink>(
     link: &SessionLink,
     line: &mut LineBuffer,

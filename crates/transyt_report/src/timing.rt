@@ -82,7 +82,6 @@ fn print_number<K: Sink>(node: &Node, line: &mut LineBuffer, sink: &mut K) -> Re
 }
 
 /// Writes the lines of a node and its stages.
-#[tactic(auto, using(transyt_text::proofs::PrintLaws::prints_both, transyt_text::proofs::PrintLaws::prints_front))]
 fn print_node<K: Sink>(
     steps: u32,
     node: &Node,
