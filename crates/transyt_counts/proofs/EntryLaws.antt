@@ -1,7 +1,8 @@
 -- Entries passed one by one.
 use Rattle.std.proofs.Common.{◌≡◌, ℕ, ◌+◌, Bool, true, false, List, [], ◌∷◌, ◌++◌, map, take, drop, Some, slice_get, nat_lt}
 use Rattle.std.specs.List.{find}
-use Rattle.std.proofs.Common.{All, Ok, length, ◌≤◌, refl, subst}
+use Rattle.std.proofs.Common.{All, Ok, length, ◌≤◌, ◌<◌, refl, subst, arith}
+use Rattle.std.proofs.lemmas.Bool.Decides.{nat_tests}
 use Rattle.std.proofs.lemmas.List.{drop_more, map_more, drop_all, take_all}
 use Rattle.std.proofs.lemmas.List.Elements.{All-get_or}
 use Rattle.std.proofs.lemmas.Option.{slice_get_within, get_or_from_slice_get}
@@ -17,6 +18,13 @@ is_too_great e = nat_lt 9999 (flow_by e.1)
 
 abbrev pub edit_by : Key × Totals → Edit
 edit_by e = edit_of e.0 (flow_by e.1)
+
+-- a flow is too great, or not, as its number tells
+pub great_by : (flow : ℕ) (e : Key × Totals) → flow ≡ flow_by e.1 → 9999 < flow → is_too_great e ≡ true
+great_by flow e same above = grind (arith, nat_tests, same, above)
+
+pub small_by : (flow : ℕ) (e : Key × Totals) → flow ≡ flow_by e.1 → flow ≤ 9999 → is_too_great e ≡ false
+small_by flow e same within = grind (arith, nat_tests, same, within)
 
 module _ {A : Type 0} (xs : List A) (p : ℕ) (x : A) (at : slice_get xs p ≡ Some x) where
   -- the search goes on behind what fails

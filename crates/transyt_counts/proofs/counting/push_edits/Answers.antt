@@ -4,14 +4,14 @@ use Rattle.std.specs.Result.{is_ok}
 use Rattle.transyt_counts.specs.declared.key.Key.{Key}
 use Rattle.transyt_counts.specs.declared.tally.Totals.{Totals}
 use Rattle.transyt_counts.specs.Counts.{answer_for, AreCounted}
-use Rattle.transyt_counts.proofs.EntryLaws.{is_too_great, edit_by, find_skip, find_hit, map_take, one_of, all_passed}
+use Rattle.transyt_counts.proofs.EntryLaws.{is_too_great, edit_by, find_skip, find_hit, map_take, one_of, all_passed, great_by, small_by}
 use Rattle.transyt_counts.proofs.counting.push_edits.Goals as goal
 
 pub returns-then-flow-gt9999-clause-refused : goal.returns-then-flow-gt9999-clause-refused
 returns-then-flow-gt9999-clause-refused c =
     let es : List (Key × Totals) = c.args.tally.now.entries in
     let e : Key × Totals = (c.in-Some.key.now, c.in-Some.totals.now) in
-    let great : is_too_great e ≡ true = search rules in
+    let great : is_too_great e ≡ true = great_by _ e c.flow_by-flow.ensures c.if-flow-gt9999.true in
     ap (answer_for c.args.rows es)
     (sym c.loop-place.invariant.passed ∙ find_hit es c.loop-place.place e (sym c.in-Some.ensures.entry) is_too_great great)
 
@@ -22,7 +22,7 @@ loop-place-preserved c =
     let e : Key × Totals = (c.in-Some.key.now, c.in-Some.totals.now) in
     let at : slice_get es p ≡ Some e = sym c.in-Some.ensures.entry in
     let good : is_ok c.push.result ≡ true = search rules in
-    let small : is_too_great e ≡ false = search rules in
+    let small : is_too_great e ≡ false = small_by _ e c.flow_by-flow.ensures c.if-flow-gt9999.false in
     record {
       edits = rw (rw good at c.push.ensures.items, c.loop-place.invariant.edits, c.edit.ensures, c.flow_by-flow.ensures)
           (sym (map_take es p e at edit_by));
