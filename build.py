@@ -33,7 +33,7 @@ BYTES_A_CHECK = 2 << 30
 # Crates of so many lines get a second job: it takes a third off them, and a short one spends its time on loading.
 LONG = 2000
 # Each crate loads those below it, and the program loads all: what that costs beside its lines, in lines.
-LOADING, PROGRAM = 600, 9000
+LOADING, PROGRAM = 600, 2500
 
 
 def say(text):
