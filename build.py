@@ -137,7 +137,7 @@ class Crates:
             above = [self.chain[other] for other in self.all if it in other.deps]
             self.chain[it] = self.left[it] + max(above, default=PROGRAM)
         self.turn, self.begun = threading.Condition(), time.time()
-        self.done, self.going, self.failed, self.spent, self.fresh = set(), {}, [], [], set()
+        self.done, self.going, self.failed, self.spent = set(), {}, [], []
 
     def minutes_left(self):
         """Roughly how many minutes are left, by what the crates took that are done."""
@@ -155,12 +155,11 @@ class Crates:
     def prove(self, crate, jobs):
         """Proves a crate and writes its library, where that isn't done; the exit number of the prover."""
         folder, stamp = os.path.dirname(crate.rlib), crate.stamp()
-        # Statements fit only the libraries over which they were written.
-        is_kept = self.fresh.isdisjoint(crate.below()) and text_of(f"{folder}/stamp") == stamp
-        if is_kept and os.path.isdir(crate.rlib):
+        if text_of(f"{folder}/stamp") == stamp and os.path.isdir(crate.rlib):
             return 0
-        self.fresh.add(crate)
-        shutil.rmtree(folder, ignore_errors=True)
+        # Statements fit only the libraries over which they were written, so those above are written again.
+        for it in [crate, *(it for it in self.all if crate in it.below())]:
+            shutil.rmtree(os.path.dirname(it.rlib), ignore_errors=True)
         os.makedirs(folder)
         words = crate.words(["--jobs", str(jobs)], keeps=False)
         status = crate.call(self.rt.RATTLE, "build", *words, "--statements", "-o", crate.rlib)
