@@ -53,12 +53,12 @@ pub record AreDesks (sessions : List SessionValue) (following : Bool) : Type 0 w
 abbrev pub sessions_of : List Desk → List SessionValue
 sessions_of desks = map (λ d. d.session) desks
 
--- a session that can stand for a network: its own has the same shape, and it has no trial
+-- a session that can stand for a network: its own has the same shape, and it has no trial. No public clause cites it.
 pub record CanStand (zero : Network) (session : SessionValue) : Type 0 where
   pub shape : SameShape session.net zero
   pub closed : session.before ≡ None
 
--- a session that stands for a network, without a trial
+-- a session that stands for a network, without a trial. No public clause cites it.
 pub record Stands (zero : Network) (session : SessionValue) : Type 0 where
   pub net : session.net ≡ zero
   pub closed : session.before ≡ None

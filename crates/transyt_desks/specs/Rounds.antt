@@ -8,7 +8,7 @@ use Rattle.transyt_climb.specs.declared.turn.Turn.{Turn}
 use Rattle.transyt_climb.specs.declared.turn.Turn.TheVariants.{Took, Passed, Local, Budget}
 use Rattle.transyt_climb.specs.Turns.{Counters, Machine, machine, answer_of, turns, is_end}
 use Rattle.transyt_climb.specs.Way.{IsRound}
-use Rattle.transyt_desks.specs.declared.policy.TheConstants.{PLACES_ALONE, PLACES_FOR_ONE, MOST_PLACES}
+use Rattle.transyt_desks.specs.declared.policy.TheConstants.{LISTS_EARLY, PLACES_ALONE, PLACES_LATE, PLACES_FOR_ONE, MOST_PLACES}
 use Rattle.transyt_desks.specs.declared.turns.Round.{Round}
 use Rattle.transyt_desks.specs.Desks.{desk_zero, with_zero}
 
@@ -36,17 +36,29 @@ room_of workers c = min workers (min (c.budget - c.looked) (c.count - c.since))
 abbrev pub turns_of : ℕ → Machine → ℕ
 turns_of workers m = if is_end (answer_of m) then 1 else turns_up_to (room_of workers m.counters) m
 
+-- whether a climb is early: it has looked at fewer places than its list has so many times over
+abbrev pub is_early : Counters → Bool
+is_early c = nat_lt (c.looked / LISTS_EARLY) c.count
+
+-- up to how many places after a step desk 0 goes on alone: later only at the first
+abbrev pub alone_of : Counters → ℕ
+alone_of c = if is_early c then PLACES_ALONE else 1
+
 -- whether desk 0 of so many goes on alone: where there is no other, or up to some places after a step
 abbrev pub goes_alone : ℕ → Counters → Bool
-goes_alone desks c = (desks == 1) || (nat_lt 0 c.looked && nat_lt c.since PLACES_ALONE)
+goes_alone desks c = (desks == 1) || (nat_lt 0 c.looked && nat_lt c.since (alone_of c))
 
--- how many places each desk tries: a fraction of the places since the last step, but at least one and not too many
-abbrev pub each_of : Counters → ℕ
-each_of c = min MOST_PLACES (max 1 (c.since / PLACES_FOR_ONE))
+-- how many places each of so many desks tries at least: later so many that all desks together try some
+abbrev pub least_of : ℕ → Counters → ℕ
+least_of desks c = if is_early c then 1 else (PLACES_LATE + desks - 1) / desks
+
+-- how many places each of so many desks tries: a fraction of the places since the last step, but not too few or too many
+abbrev pub each_of : ℕ → Counters → ℕ
+each_of desks c = min MOST_PLACES (max (least_of desks c) (c.since / PLACES_FOR_ONE))
 
 -- how many places so many desks try in a round of stretches
 abbrev pub places_of : ℕ → Counters → ℕ
-places_of desks c = if goes_alone desks c then 1 else desks * each_of c
+places_of desks c = if goes_alone desks c then 1 else desks * each_of desks c
 
 -- a climber and a session on which a round can be made
 pub record CanRound (c : Counters) (s : SessionValue) : Type 0 where

@@ -70,12 +70,12 @@ pub record AreFinds (net : Network) (reach : Reach) (desk : ℕ) (finds : List T
       → slice_index_or finds turn d ≡ try_of net (move net (turn_place reach desk turn))
   pub few : (turn : ℕ) → desk + turn * reach.desks < reach.room → edit_work net (move net (turn_place reach desk turn)) ≤ 8000
 
--- a desk that has tried its moves of a reach, before and after
+-- a desk that has tried its moves of a reach, before and after. No public clause cites it.
 pub record HasFound (reach : Reach) (desk : ℕ) (before after : Desk) : Type 0 where
   pub session : after.session ≡ before.session
   pub finds : AreFinds before.session.net reach desk after.finds
 
--- desks that have each tried their moves of a reach, before and after
+-- desks that have each tried their moves of a reach, before and after. No public clause cites it.
 pub record HaveFound (reach : Reach) (olds news : List Desk) : Type 0 where
   pub len : length news ≡ length olds
   pub each : (k : ℕ) (d : Desk) → k < length olds → HasFound reach k (slice_index_or olds k d) (slice_index_or news k d)

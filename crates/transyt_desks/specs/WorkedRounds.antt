@@ -21,10 +21,10 @@ worked_rooms =
 
 -- a climber so many places after its last step, or its start, after so many looks
 abbrev pub has_passed : ℕ → ℕ → Counters
-has_passed since looked = record { place = 4; since = since; looked = looked; budget = 2500; count = 1152 }
+has_passed since looked = record { place = 4; since = since; looked = looked; budget = 9258; count = 1152 }
 
 -- numbers of desks and a climber, with how many places they try in a round of stretches: before any step, right after
--- one, and when 15, 16 and more places have passed since
+-- one, and when 15, 16 and more places have passed since; then the same once it has looked at three times the list
 abbrev pub worked_places : List (ℕ × Counters × ℕ)
 worked_places =
     (1, has_passed 0 0, 1)
@@ -40,6 +40,14 @@ worked_places =
     ∷ (2, has_passed 127 300, 62)
     ∷ (2, has_passed 128 300, 64)
     ∷ (8, has_passed 1000 1100, 256)
+    ∷ (3, has_passed 15 3455, 1)
+    ∷ (1, has_passed 70 3456, 1)
+    ∷ (3, has_passed 0 3456, 1)
+    ∷ (3, has_passed 1 3456, 12)
+    ∷ (8, has_passed 1 3456, 16)
+    ∷ (2, has_passed 27 5000, 12)
+    ∷ (2, has_passed 28 5000, 14)
+    ∷ (8, has_passed 1000 5000, 256)
     ∷ []
 
 -- numbers of workers and a climber, with how many turns its round is where no move lowers the index

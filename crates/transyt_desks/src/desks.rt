@@ -257,7 +257,8 @@ impl Desks {
             return alone(gate, self, climber, steps);
         }
         self.follow(rt);
-        together(&Crew { rt, gate }, self, each(climber), climber, steps)
+        let each = each(self.count(), climber);
+        together(&Crew { rt, gate }, self, each, climber, steps)
     }
 }
 
