@@ -139,13 +139,15 @@ class Crates:
         self.turn, self.begun = threading.Condition(), time.time()
         self.done, self.going, self.failed, self.spent = set(), {}, [], []
 
+    def share(self):
+        """A processor's share of what is left to prove, in lines."""
+        return (sum(self.left[it] for it in self.all if it not in self.done) + PROGRAM) / self.jobs
+
     def minutes_left(self):
         """Roughly how many minutes are left, by what the crates took that are done."""
         pace = sum(seconds for _, seconds in self.spent) / sum(lines for lines, _ in self.spent)
-        open_crates = [it for it in self.all if it not in self.done]
-        lanes = (sum(self.left[it] for it in open_crates) + PROGRAM) / self.jobs
-        longest = max([self.chain[it] for it in open_crates], default=PROGRAM)
-        return round(max(lanes, longest) * pace / 60) + 1
+        longest = max([self.chain[it] for it in self.all if it not in self.done], default=PROGRAM)
+        return round(max(self.share(), longest) * pace / 60) + 1
 
     def tell(self, crate, seconds):
         """Says that a crate is done, and how long the rest will take."""
@@ -186,14 +188,19 @@ class Crates:
             self.turn.notify_all()
 
     def start_ready(self):
-        """Starts the crates whose turn it is. The one with the longest chain above it has a second job if it is long."""
+        """Starts the crates whose turn it is.
+
+        A second job takes a third off a long crate and costs a third more of processors. The crate with the longest chain
+        above it has one where that chain is longer than a processor's share of all that is left, and any crate where a
+        processor would have nothing to do.
+        """
         ready = [it for it in self.all if it not in self.done and it not in self.going and self.done.issuperset(it.deps)]
         for at, crate in enumerate(sorted(ready, key=lambda it: -self.chain[it])):
             idle = self.jobs - sum(self.going.values())
             if idle <= 0:
                 return
-            is_first = at == 0 and self.chain[crate] >= max(self.chain[it] for it in [*ready, *self.going])
-            wants_two = is_first or idle // (len(ready) - at) >= 2
+            longest = max([self.share(), *(self.chain[it] for it in [*ready, *self.going])])
+            wants_two = (at == 0 and self.chain[crate] >= longest) or idle // (len(ready) - at) >= 2
             jobs = 2 if wants_two and self.jobs > 1 and self.lines[crate] >= LONG else 1
             self.going[crate] = jobs
             threading.Thread(target=self.build, args=(crate, jobs)).start()
