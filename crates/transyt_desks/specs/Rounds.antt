@@ -1,6 +1,6 @@
 -- A round: the turns that several desks make together.
 use Rattle.std.specs.Prelude.{◌≡◌, ℕ, ◌+◌, ◌-◌, ◌*◌, ◌/◌, ◌%◌, ◌^◌, ◌≤◌, min, max, Bool, true, false, List, Option, Some, None}
-use Rattle.std.specs.Prelude.{if◌then◌else◌, ◌==◌, ◌&&◌, ◌||◌, nat_lt}
+use Rattle.std.specs.Prelude.{if◌then◌else◌, ◌==◌, ◌&&◌, ◌||◌, nat_le, nat_lt}
 use Rattle.transyt_moves.specs.Moves.{move_count}
 use Rattle.transyt_session.specs.Session.{SessionValue}
 use Rattle.transyt_sweep.specs.Climb.{least}
@@ -8,7 +8,7 @@ use Rattle.transyt_climb.specs.declared.turn.Turn.{Turn}
 use Rattle.transyt_climb.specs.declared.turn.Turn.TheVariants.{Took, Passed, Local, Budget}
 use Rattle.transyt_climb.specs.Turns.{Counters, Machine, machine, answer_of, turns, is_end}
 use Rattle.transyt_climb.specs.Way.{IsRound}
-use Rattle.transyt_desks.specs.declared.policy.TheConstants.{LISTS_EARLY, PLACES_ALONE, PLACES_LATE, PLACES_FOR_ONE, MOST_PLACES}
+use Rattle.transyt_desks.specs.declared.policy.TheConstants.{FEW_DESKS, LISTS_EARLY, PLACES_ALONE, PLACES_LATE, PLACES_FOR_ONE, MOST_PLACES}
 use Rattle.transyt_desks.specs.declared.turns.Round.{Round}
 use Rattle.transyt_desks.specs.Desks.{desk_zero, with_zero}
 
@@ -36,25 +36,23 @@ room_of workers c = min workers (min (c.budget - c.looked) (c.count - c.since))
 abbrev pub turns_of : ℕ → Machine → ℕ
 turns_of workers m = if is_end (answer_of m) then 1 else turns_up_to (room_of workers m.counters) m
 
--- whether a climb is early: it has looked at fewer places than its list has so many times over
-abbrev pub is_early : Counters → Bool
-is_early c = nat_lt (c.looked / LISTS_EARLY) c.count
+-- whether a climb by so many desks is early: there are few, or it has looked at fewer than some times as many places as
+-- its list has
+abbrev pub is_early : ℕ → Counters → Bool
+is_early desks c = nat_le desks FEW_DESKS || nat_lt c.looked (LISTS_EARLY * c.count)
 
--- up to how many places after a step desk 0 goes on alone: later only at the first
-abbrev pub alone_of : Counters → ℕ
-alone_of c = if is_early c then PLACES_ALONE else 1
-
--- whether desk 0 of so many goes on alone: where there is no other, or up to some places after a step
+-- whether desk 0 of so many goes on alone: where there is no other, and early in a climb up to some places after a step
 abbrev pub goes_alone : ℕ → Counters → Bool
-goes_alone desks c = (desks == 1) || (nat_lt 0 c.looked && nat_lt c.since (alone_of c))
+goes_alone desks c = (desks == 1) || (nat_lt 0 c.looked && is_early desks c && nat_lt c.since PLACES_ALONE)
 
 -- how many places each of so many desks tries at least: later so many that all desks together try some
 abbrev pub least_of : ℕ → Counters → ℕ
-least_of desks c = if is_early c then 1 else (PLACES_LATE + desks - 1) / desks
+least_of desks c = if is_early desks c then 1 else (PLACES_LATE + desks - 1) / desks
 
--- how many places each of so many desks tries: a fraction of the places since the last step, but not too few or too many
+-- how many places each of so many desks tries: its part of a fraction of the places since the last step, but not too few
+-- or too many
 abbrev pub each_of : ℕ → Counters → ℕ
-each_of desks c = min MOST_PLACES (max (least_of desks c) (c.since / PLACES_FOR_ONE))
+each_of desks c = min MOST_PLACES (max (least_of desks c) (c.since / (PLACES_FOR_ONE * desks)))
 
 -- how many places so many desks try in a round of stretches
 abbrev pub places_of : ℕ → Counters → ℕ

@@ -24,7 +24,8 @@ abbrev pub has_passed : ℕ → ℕ → Counters
 has_passed since looked = record { place = 4; since = since; looked = looked; budget = 9258; count = 1152 }
 
 -- numbers of desks and a climber, with how many places they try in a round of stretches: before any step, right after
--- one, and when 15, 16 and more places have passed since; then the same once it has looked at three times the list
+-- one, and when 15, 16 and more places have passed since; then the same once it has looked at three times the list, where
+-- two desks go on as before
 abbrev pub worked_places : List (ℕ × Counters × ℕ)
 worked_places =
     (1, has_passed 0 0, 1)
@@ -34,19 +35,22 @@ worked_places =
     ∷ (8, has_passed 15 30, 1)
     ∷ (8, has_passed 15 15, 1)
     ∷ (2, has_passed 16 40, 8)
-    ∷ (8, has_passed 19 40, 32)
-    ∷ (3, has_passed 20 40, 15)
-    ∷ (3, has_passed 71 90, 51)
+    ∷ (8, has_passed 31 40, 8)
+    ∷ (8, has_passed 32 40, 16)
+    ∷ (3, has_passed 71 90, 33)
+    ∷ (3, has_passed 72 90, 36)
     ∷ (2, has_passed 127 300, 62)
     ∷ (2, has_passed 128 300, 64)
     ∷ (8, has_passed 1000 1100, 256)
     ∷ (3, has_passed 15 3455, 1)
     ∷ (1, has_passed 70 3456, 1)
-    ∷ (3, has_passed 0 3456, 1)
-    ∷ (3, has_passed 1 3456, 12)
-    ∷ (8, has_passed 1 3456, 16)
-    ∷ (2, has_passed 27 5000, 12)
-    ∷ (2, has_passed 28 5000, 14)
+    ∷ (2, has_passed 15 3456, 1)
+    ∷ (2, has_passed 19 5000, 8)
+    ∷ (3, has_passed 0 3456, 9)
+    ∷ (5, has_passed 0 3456, 10)
+    ∷ (8, has_passed 1 3456, 8)
+    ∷ (4, has_passed 23 5000, 8)
+    ∷ (4, has_passed 24 5000, 12)
     ∷ (8, has_passed 1000 5000, 256)
     ∷ []
 

@@ -229,13 +229,13 @@ impl Desks {
         round
     }
 
-    /// A round in which desk 0 goes on alone for a while after a step, and then the desks try the next moves in turn, the
-    /// more the longer no move lowers the index: as many in all as `places_of` says. The first of them that lowers the
-    /// index is made at desk 0.
+    /// A round in which desk 0 goes on alone, early in a climb and for a while after a step, or else the desks try the next
+    /// moves in turn, the more the longer no move lowers the index: as many in all as `places_of` says. The first of them
+    /// that lowers the index is made at desk 0.
     ///
-    /// Right after a step the same move mostly lowers the index again, so that one desk goes on alone, with nothing to
-    /// copy. The other desks are left behind, and stand for the network of desk 0 again once they try. A desk tries its
-    /// moves between entering and leaving the gate. All else is as in `round`.
+    /// Early in a climb the same move mostly lowers the index again right after a step, so that one desk goes on alone,
+    /// with nothing to copy. The other desks are left behind, and stand for the network of desk 0 again once they try. A
+    /// desk tries its moves between entering and leaving the gate. All else is as in `round`.
     pub fn stretch_round<R: Threads + Sync, G: Gate, L: Ledger>(
         &mut self,
         rt: &R,
