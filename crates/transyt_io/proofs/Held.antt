@@ -1,16 +1,16 @@
 -- The find of a call of `next` in the bytes that it held: a line that ends there, or the begin of one.
-use Rattle.std.proofs.Common.{◌≡◌, ◌<◌, ◌≤◌, inl, ℕ, ◌+◌, ◌-◌, ◌++◌, Bool, true, false, List, [], ◌∷◌, Option, None}
+use Rattle.std.proofs.Common.{◌≡◌, ◌<◌, ◌≤◌, ◌⊎◌, inl, inr, ℕ, ◌+◌, ◌-◌, ◌++◌, Bool, true, false, List, [], ◌∷◌, Option, None}
 use Rattle.std.proofs.Common.{Some, Ok, length, take, drop, refl, sym, ◌∙◌, ap, subst, arith}
 use Rattle.std.proofs.lemmas.List.{append-nil, drop-drop}
 use Rattle.std.proofs.lemmas.List.Edits.{between_none, length-between}
 use Rattle.std.proofs.lemmas.Slice.{between_is}
 use Rattle.std.specs.List.{between}
 use Rattle.transyt_io.specs.declared.reader.Line.TheVariants.{Text, End}
-use Rattle.transyt_io.specs.Lines.{lines_by, lines}
+use Rattle.transyt_io.specs.Lines.{lines_by, lines, has_end}
 use Rattle.transyt_io.specs.Pull.{Gathers, Gathered}
 use Rattle.transyt_io.specs.Reading.{Reading, ReadsLine, most_lines_left}
 use Rattle.transyt_io.proofs.Told.{takes_nothing}
-use Rattle.transyt_io.proofs.Reading.{reads_line, less_lines}
+use Rattle.transyt_io.proofs.Reading.{not_both, reads_line, less_lines}
 
 -- a reader as its fields tell it
 abbrev pub read_as : ℕ → ℕ → ℕ → List ℕ → Bool → Bool → Option (List ℕ) → Reading
@@ -22,6 +22,12 @@ pub record Begun (old : Reading) (line : List ℕ) (taken : ℕ) : Type 0 where
   pub going : old.ended ≡ false
   pub first : Gathers line old.held
   pub had : taken ≡ old.taken
+
+-- a reader whose line was begun holds no line end, and its source hasn't ended
+pub no_line_held : {A : Type 0} {old : Reading} {line : List ℕ} {taken : ℕ} → Begun old line taken
+    → (has_end old.held ≡ true) ⊎ (old.ended ≡ true) → A
+no_line_held b (inl ends) = not_both ends b.first.open_yet
+no_line_held b (inr over) = not_both over b.going
 
 -- of no bytes none are kept
 nothing_gathered : Gathers [] []

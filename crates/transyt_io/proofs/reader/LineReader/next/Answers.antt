@@ -2,8 +2,9 @@
 -- readers.
 use Rattle.std.proofs.Common.{◌∙◌, None, refl, arith, sym, true}
 use Rattle.std.proofs.lemmas.List.{with_items_is}
-use Rattle.transyt_io.proofs.Held.{begun, reads_over, reads_held}
+use Rattle.transyt_io.proofs.Held.{begun, no_line_held, reads_over, reads_held}
 use Rattle.transyt_io.proofs.Pulled.{reads_pulled_line, reads_pulled_last, reads_pulled_end, reads_stop}
+use Rattle.transyt_io.proofs.Reading.{not_both}
 use Rattle.transyt_io.proofs.reader.LineReader.next.Goals as goal
 
 -- the source had ended before this call
@@ -74,3 +75,34 @@ pub returns-in-Err-clause-reads : goal.returns-in-Err-clause-reads
 returns-in-Err-clause-reads g c =
     let b = begun _ _ _ _ _ _ _ _ c.self.view_is _ _ c.if-self.false c.deref.ensures.value c.in_default.ensures.begun in
     reads_stop _ _ _ _ _ _ _ _ _ _ _ b c.in-Err.stop c.in-Err.ensures.pulled
+
+-- no other answer is a line
+pub returns-then-self-clause-less : goal.returns-then-self-clause-less
+returns-then-self-clause-less g c text = not_both text refl
+
+pub returns-else-close_last-clause-less : goal.returns-else-close_last-clause-less
+returns-else-close_last-clause-less g c text = not_both text refl
+
+pub returns-in-Err-clause-less : goal.returns-in-Err-clause-less
+returns-in-Err-clause-less g c text = not_both text refl
+
+-- the source is read only where no line end was held
+pub returns-in-Ok-Some-clause-unread : goal.returns-in-Ok-Some-clause-unread
+returns-in-Ok-Some-clause-unread g c held =
+    no_line_held
+    (begun _ _ _ _ _ _ _ _ c.self.view_is _ _ c.if-self.false c.deref.ensures.value c.in_default.ensures.begun) held
+
+pub returns-then-close_last-clause-unread : goal.returns-then-close_last-clause-unread
+returns-then-close_last-clause-unread g c held =
+    no_line_held
+    (begun _ _ _ _ _ _ _ _ c.self.view_is _ _ c.if-self.false c.deref.ensures.value c.in_default.ensures.begun) held
+
+pub returns-else-close_last-clause-unread : goal.returns-else-close_last-clause-unread
+returns-else-close_last-clause-unread g c held =
+    no_line_held
+    (begun _ _ _ _ _ _ _ _ c.self.view_is _ _ c.if-self.false c.deref.ensures.value c.in_default.ensures.begun) held
+
+pub returns-in-Err-clause-unread : goal.returns-in-Err-clause-unread
+returns-in-Err-clause-unread g c held =
+    no_line_held
+    (begun _ _ _ _ _ _ _ _ c.self.view_is _ _ c.if-self.false c.deref.ensures.value c.in_default.ensures.begun) held
