@@ -11,23 +11,28 @@ use transyt_syntax::Code;
 pub fn on_card(number: u32, code: Code, line: &[u8], site: Site<'_>) -> Sentence {
     let mut sentence = Sentence::on("line", number, code);
     let words = Words::of(line);
+    say_why(&mut sentence, code, line, &words, site);
+    sentence
+}
+
+/// Says the reason that a code has for a line of these words.
+fn say_why(sentence: &mut Sentence, code: Code, line: &[u8], words: &Words<'_>, site: Site<'_>) {
     match code {
         Code::LongLine => sentence.say("the line has more than 4096 bytes"),
-        Code::OddByte => say_odd(&mut sentence, line, Part::Card, words.keyword),
+        Code::OddByte => say_odd(sentence, line, Part::Card, words.keyword),
         Code::WrongCount => {
             let counts = card_counts(words.keyword, site.form).unwrap_or((0, 0));
-            say_counts(&mut sentence, &words, counts);
+            say_counts(sentence, words, counts);
         }
-        Code::NoNumber => say_no_number(&mut sentence, &words),
+        Code::NoNumber => say_no_number(sentence, words),
         Code::OutOfPlace => sentence.say(place_of(words.keyword)),
-        Code::Twice => say_twice(&mut sentence, &words, site),
-        Code::Unknown => say_unknown(&mut sentence, &words, site),
-        Code::Range => say_ranges(&mut sentence, &words, site),
+        Code::Twice => say_twice(sentence, words, site),
+        Code::Unknown => say_unknown(sentence, words, site),
+        Code::Range => say_ranges(sentence, words, site),
         Code::TooMany => sentence.say(most_of(words.keyword)),
         Code::NoEnd => sentence.say("the input ends before the card END"),
-        _ => say_plans(&mut sentence, site),
+        _ => say_plans(sentence, site),
     }
-    sentence
 }
 
 /// Code 15: where a card with this keyword may stand.
@@ -64,24 +69,11 @@ fn before_stages(form: u32) -> usize {
 fn say_twice(sentence: &mut Sentence, words: &Words<'_>, site: Site<'_>) {
     let (first, second) = (words.number(0), words.number(1));
     match words.keyword {
-        "NODE" => {
-            sentence.say_with("there is a node ", first);
-            sentence.say(" already");
-        }
-        "LINK" if site.has_link(first) => {
-            sentence.say_with("there is a link ", first);
-            sentence.say(" already");
-        }
+        "NODE" => sentence.say_form("there is a node # already", &[first]),
+        "LINK" if site.has_link(first) => sentence.say_form("there is a link # already", &[first]),
         "LINK" => say_stage_twice(sentence, words, site),
-        "FEED" => {
-            sentence.say_with("link ", first);
-            sentence.say_with(" has a feed from link ", second);
-            sentence.say(" already");
-        }
-        _ => {
-            sentence.say_with("link ", first);
-            sentence.say(" has a give-way rule already");
-        }
+        "FEED" => sentence.say_form("link # has a feed from link # already", &[first, second]),
+        _ => sentence.say_form("link # has a give-way rule already", &[first]),
     }
 }
 
@@ -93,8 +85,8 @@ fn say_stage_twice(sentence: &mut Sentence, words: &Words<'_>, site: Site<'_>) {
     for number in numbers {
         place = place.saturating_add(1);
         if numbers.iter().skip(place).any(|later| later == number) {
-            sentence.say_with("stage ", *number);
-            sentence.say_with(" stands twice in link ", words.number(0));
+            let link = words.number(0);
+            sentence.say_form("stage # stands twice in link #", &[*number, link]);
             return;
         }
     }
@@ -121,8 +113,7 @@ fn say_unknown_stage(sentence: &mut Sentence, words: &Words<'_>, site: Site<'_>)
     let stages = words.further.numbers.after(before_stages(site.form));
     for stage in stages.as_slice() {
         if *stage == 0 || *stage as usize > count {
-            sentence.say_with("node ", number);
-            sentence.say_with(" has no stage ", *stage);
+            sentence.say_form("node # has no stage #", &[number, *stage]);
             return;
         }
     }

@@ -12,36 +12,38 @@ use transyt_syntax::Code;
 pub fn on_command(number: u32, code: Code, line: &[u8], site: Site<'_>) -> Sentence {
     let mut sentence = Sentence::on("line", number, code);
     let words = Words::of(line);
+    say_why(&mut sentence, code, line, &words, site);
+    sentence
+}
+
+/// Says the reason that a code has for a line of these words.
+fn say_why(sentence: &mut Sentence, code: Code, line: &[u8], words: &Words<'_>, site: Site<'_>) {
     match code {
         Code::LongLine => sentence.say("the line has more than 4096 bytes"),
-        Code::OddByte => say_odd(&mut sentence, line, Part::Command, words.keyword),
+        Code::OddByte => say_odd(sentence, line, Part::Command, words.keyword),
         Code::WrongCount => {
             let counts = command_counts(line).unwrap_or((0, 0));
-            say_counts(&mut sentence, &words, counts);
+            say_counts(sentence, words, counts);
         }
-        Code::NoNumber => say_no_number(&mut sentence, &words),
-        Code::Unknown => say_unknown(&mut sentence, &words, site),
+        Code::NoNumber => say_no_number(sentence, words),
+        Code::Unknown => say_unknown(sentence, words, site),
         Code::NoFeeder => {
-            sentence.say_with("link ", words.number(0));
-            sentence.say_with(" is not fed by link ", words.number(1));
+            let numbers = [words.number(0), words.number(1)];
+            sentence.say_form("link # is not fed by link #", &numbers);
         }
-        Code::Range => say_ranges(&mut sentence, &words, site),
+        Code::Range => say_ranges(sentence, words, site),
         Code::NoTrial => sentence.say("no trial is open; TRIAL opens one"),
         Code::OpenTrial => sentence.say("a trial is open; BACK takes it back, KEEP keeps it"),
         Code::NoPlan => sentence.say("the deck has no STEPS card"),
-        _ => say_change(&mut sentence, &words, site),
+        _ => say_change(sentence, words, site),
     }
-    sentence
 }
 
 /// Code 17: the node, link or feeder that isn't there.
 fn say_unknown(sentence: &mut Sentence, words: &Words<'_>, site: Site<'_>) {
     let (first, second) = (words.number(0), words.number(1));
     match (words.keyword, site.node(first)) {
-        ("CHANGE", Some(_)) => {
-            sentence.say_with("node ", first);
-            sentence.say_with(" has no stage ", second);
-        }
+        ("CHANGE", Some(_)) => sentence.say_form("node # has no stage #", &[first, second]),
         ("OFFSET" | "CHANGE", _) => sentence.say_with("there is no node ", first),
         _ => {
             let missing = if site.has_link(first) { second } else { first };

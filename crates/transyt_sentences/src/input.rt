@@ -70,9 +70,10 @@ fn odd_byte(line: &[u8]) -> Option<(u32, u8)> {
 /// Code 10: the byte that may not stand there, or the keyword that is none.
 pub(crate) fn say_odd(sentence: &mut Sentence, line: &[u8], part: Part, keyword: &str) {
     if let Some((place, byte)) = odd_byte(line) {
-        sentence.say_with("byte ", place);
-        sentence.say_with(" of the line is ", u32::from(byte));
-        sentence.say(", which is no printable ASCII, blank or tab");
+        sentence.say_form(
+            "byte # of the line is #, which is no printable ASCII, blank or tab",
+            &[place, u32::from(byte)],
+        );
         return;
     }
     sentence.say(match part {
@@ -135,8 +136,6 @@ pub(crate) fn say_range(
     }
     sentence.say("the ");
     sentence.say(field.name);
-    sentence.say_with(" ", number);
-    sentence.say_with(" is not from ", least);
-    sentence.say_with(" to ", most);
+    sentence.say_form(" # is not from # to #", &[number, least, most]);
     true
 }

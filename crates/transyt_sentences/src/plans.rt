@@ -62,14 +62,15 @@ impl<'a> Plan<'a> {
 /// Names the fault of a plan, if it has one, and answers whether it has.
 pub(crate) fn say_plan(sentence: &mut Sentence, plan: &Plan<'_>) -> bool {
     if plan.stages.len() < 2 {
-        sentence.say_with("node ", plan.number);
-        sentence.say(" has fewer than two stages");
+        sentence.say_form("node # has fewer than two stages", &[plan.number]);
         return true;
     }
-    if plan.sum() != plan.step_count {
-        sentence.say_with("node ", plan.number);
-        sentence.say_with(": its stages have ", plan.sum());
-        sentence.say_with(" steps in all, and the cycle has ", plan.step_count);
+    let sum = plan.sum();
+    if sum != plan.step_count {
+        sentence.say_form(
+            "node #: its stages have # steps in all, and the cycle has #",
+            &[plan.number, sum, plan.step_count],
+        );
         return true;
     }
     say_short_stage(sentence, plan)
@@ -82,12 +83,10 @@ fn say_short_stage(sentence: &mut Sentence, plan: &Plan<'_>) -> bool {
         number = number.saturating_add(1);
         let length = plan.length(place);
         if length < stage.intergreen.saturating_add(stage.least) {
-            sentence.say_with("node ", plan.number);
-            sentence.say_with(", stage ", number);
-            sentence.say_with(": ", length);
-            sentence.say_with(" steps, needs ", stage.intergreen);
-            sentence.say_with(" intergreen and ", stage.least);
-            sentence.say(" green");
+            sentence.say_form(
+                "node #, stage #: # steps, needs # intergreen and # green",
+                &[plan.number, number, length, stage.intergreen, stage.least],
+            );
             return true;
         }
     }

@@ -26,11 +26,7 @@ impl Sentence {
     pub(crate) fn on(kind: &str, number: u32, code: Code) -> Sentence {
         let mut sentence = Sentence::new();
         sentence.say(kind);
-        sentence.say(" ");
-        sentence.say_number(number);
-        sentence.say(": code ");
-        sentence.say_number(code.number());
-        sentence.say(": ");
+        sentence.say_form(" #: code #: ", &[number, code.number()]);
         sentence
     }
 
@@ -42,10 +38,15 @@ impl Sentence {
     /// Adds bytes.
     pub(crate) fn say_bytes(&mut self, bytes: &[u8]) {
         for byte in bytes {
-            if let Some(place) = self.bytes.get_mut(self.length) {
-                *place = *byte;
-                self.length += 1;
-            }
+            self.say_byte(*byte);
+        }
+    }
+
+    /// Adds a byte.
+    fn say_byte(&mut self, byte: u8) {
+        if let Some(place) = self.bytes.get_mut(self.length) {
+            *place = byte;
+            self.length += 1;
         }
     }
 
@@ -60,6 +61,19 @@ impl Sentence {
     pub(crate) fn say_with(&mut self, text: &str, number: u32) {
         self.say(text);
         self.say_number(number);
+    }
+
+    /// Adds a text with a number in place of each `#`.
+    pub(crate) fn say_form(&mut self, form: &str, numbers: &[u32]) {
+        let mut count: usize = 0;
+        for byte in form.as_bytes() {
+            if *byte != b'#' {
+                self.say_byte(*byte);
+            } else if let Some(number) = numbers.get(count) {
+                self.say_number(*number);
+                count = count.saturating_add(1);
+            }
+        }
     }
 
     /// The bytes of the sentence.
