@@ -6,7 +6,10 @@ use Rattle.transyt_text.specs.Prints.{Prints}
 use Rattle.transyt_text.proofs.PrintLaws.{prints_same}
 use Rattle.transyt_line_answers.specs.declared.answer.Answer.{Answer}
 use Rattle.transyt_line_answers.specs.Commands.{after_answer, answer_text, line_answer, line_judged, session_after}
+use Rattle.transyt_line_answers.specs.Conditions.{IsOf}
+use Rattle.transyt_line_answers.specs.Report.{answer_ends}
 use Rattle.transyt_line_answers.proofs.JudgedTexts.{line_said}
+use Rattle.transyt_outcome.specs.declared.ending.Ending.{Ending}
 use Rattle.transyt_reporter.specs.Conditions.{AreReady, Leaves}
 use Rattle.transyt_reporter.proofs.ReadyLaws.{ready_judged}
 use Rattle.transyt_reporter.proofs.LeavesLaws.{command_leaves}
@@ -38,6 +41,20 @@ module _ {desks : List SessionValue} {lent s : SessionValue} {answer : Answer} (
   text_said written faults said =
       let same = rw (written, faults) at said in
       prints_same _ _ _ _ _ same ((λ i. answer_text (zero_is i) (answer_is i)) ∙ line_said (desk_zero desks) line)
+
+  -- desk 0 after it was said
+  pub state_said : {after : SessionValue} → after ≡ after_answer answer (desk_zero (set desks 0 s))
+      → after ≡ session_after (desk_zero desks) line
+  state_said is = is ∙ (λ i. after_answer (answer_is i) (zero_is i))
+
+  -- how it ends the run
+  pub ends_said : {end : Option Ending} → end ≡ answer_ends answer
+      → end ≡ answer_ends (line_answer (desk_zero desks) line)
+  ends_said is = is ∙ ap answer_ends answer_is
+
+  -- what is said is of desk 0
+  pub of_said : IsOf s answer → IsOf (desk_zero (set desks 0 s)) answer
+  of_said of = subst (λ (t : SessionValue). IsOf t answer) (sym (zero_set desks s ready.some)) of
 
   -- the desks and the steps that saying it leaves are those after the line
   pub leaves_said : (after : List SessionValue) (steps judged steps_new : ℕ) → s.work ≤ lent.work + 8000

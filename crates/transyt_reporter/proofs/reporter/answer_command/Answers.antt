@@ -1,5 +1,5 @@
 -- A command is judged, and then said.
-use Rattle.transyt_reporter.proofs.JudgedLaws.{ready_said, text_said, leaves_said}
+use Rattle.transyt_reporter.proofs.JudgedLaws.{ends_said, leaves_said, of_said, ready_said, state_said, text_said}
 use Rattle.transyt_reporter.proofs.reporter.answer_command.Goals as goal
 
 -- the desks are ready when desk 0 has judged the line
@@ -37,3 +37,21 @@ returns-in-Err-clause-leaves g c =
     let judged = c.judge-answer.ensures in
     leaves_said c.args.command.now c.requires.ready c.session_mut.ensures.value judged.state judged.answer
     _ _ c.judge-answer.new.steps _ judged.few judged.steps c.in-Err.ensures.leaves
+
+-- desk 0 is the session that judged the line
+pub say-requires-clause-of : goal.say-requires-clause-of
+say-requires-clause-of g c κs within =
+    let judged = c.judge-answer.ensures in
+    of_said c.args.command.now c.requires.ready c.session_mut.ensures.value judged.state judged.answer judged.ready
+
+-- how the line ends the run
+pub returns-in-Ok-clause-ends : goal.returns-in-Ok-clause-ends
+returns-in-Ok-clause-ends g c =
+    let judged = c.judge-answer.ensures in
+    ends_said c.args.command.now c.requires.ready c.session_mut.ensures.value judged.state judged.answer c.ending.ensures
+
+-- desk 0 after it
+pub returns-in-Ok-clause-state : goal.returns-in-Ok-clause-state
+returns-in-Ok-clause-state g c =
+    let judged = c.judge-answer.ensures in
+    state_said c.args.command.now c.requires.ready c.session_mut.ensures.value judged.state judged.answer c.in-Ok.ensures.state

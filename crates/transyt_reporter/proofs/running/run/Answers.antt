@@ -4,6 +4,9 @@ use Rattle.std.proofs.lemmas.Bool.{eqb-true}
 use Rattle.transyt_line_answers.specs.Report.{deck_answering}
 use Rattle.transyt_reporter.specs.Reporter.{HasAnswered, ReporterValue}
 use Rattle.transyt_reporter.proofs.Answered.{answered_none}
+use Rattle.transyt_reporter.proofs.FaultLaws.{no_read_fault, no_write_fault, read_faulted, read_no_write, rose_since}
+use Rattle.transyt_reporter.proofs.FaultLaws.{stopped_no_read, stopped_write}
+use Rattle.transyt_outcome.specs.Runs.{is_refusal}
 use Rattle.transyt_outcome.proofs.RunLaws.{run_new, goes_on, line_ends, line_stops, end_closes, end_stops}
 use Rattle.transyt_outcome.proofs.RunLaws.{read_stops}
 use Rattle.transyt_reporter.proofs.running.run.Goals as goal
@@ -78,3 +81,53 @@ returns-in-Err-answer_line-clause-ran g c =
     (λ all. told.some_steps way.before way.answered (c.loop-found.invariant.workers ∙ eqb-true _ 1 all))
     (λ e. let silent = told.silent way.before way.answered (ap Err e) in (silent.0, ap g.K.Sink.written silent.1))
     stopped.write stopped.memory
+
+-- a fault of the source ends the run with a status of its own
+pub returns-in-Err-clause-read_fault : goal.returns-in-Err-clause-read_fault
+returns-in-Err-clause-read_fault g c is =
+    let why = c.stopped_reading.ensures in
+    let faults = g.S.Source.faults in
+    rose_since (faults c.args.source.now) (faults c.loop-found.source) (faults c.next.new.source)
+    c.loop-found.invariant.source_later (c.in-Err.ensures.fault (ap Err (read_faulted c.in-Err.stop why.fault why.long is)))
+
+pub returns-in-Err-clause-write_fault : goal.returns-in-Err-clause-write_fault
+returns-in-Err-clause-write_fault g c is =
+    read_no_write c.in-Err.stop c.stopped_reading.ensures.fault c.stopped_reading.ensures.long is
+
+-- and so does one of the sink
+pub returns-in-Err-finish-clause-read_fault : goal.returns-in-Err-finish-clause-read_fault
+returns-in-Err-finish-clause-read_fault g c is =
+    stopped_no_read c.in-Err-finish.stop c.stopped.ensures.write c.stopped.ensures.memory is
+
+pub returns-in-Err-finish-clause-write_fault : goal.returns-in-Err-finish-clause-write_fault
+returns-in-Err-finish-clause-write_fault g c is =
+    let why = c.stopped.ensures in
+    let faults = g.K.Sink.faults in
+    rose_since (faults c.args.sink.now) (faults c.loop-found.sink) (faults c.finish.new.sink) c.loop-found.invariant.sink_later
+    (c.in-Err-finish.ensures.fault (ap Err (stopped_write c.in-Err-finish.stop why.write why.memory is)))
+
+pub returns-in-Err-answer_line-clause-read_fault : goal.returns-in-Err-answer_line-clause-read_fault
+returns-in-Err-answer_line-clause-read_fault g c is =
+    let why = c.stopped-in-Err-answer_line.ensures in
+    stopped_no_read c.in-Err-answer_line.stop why.write why.memory is
+
+pub returns-in-Err-answer_line-clause-write_fault : goal.returns-in-Err-answer_line-clause-write_fault
+returns-in-Err-answer_line-clause-write_fault g c is =
+    let why = c.stopped-in-Err-answer_line.ensures in
+    let faults = g.K.Sink.faults in
+    rose_since (faults c.args.sink.now) (faults c.loop-found.sink) (faults c.answer_line.new.sink)
+    c.loop-found.invariant.sink_later
+    (c.in-Err-answer_line.ensures.fault (ap Err (stopped_write c.in-Err-answer_line.stop why.write why.memory is)))
+
+-- a run that its lines end has no fault
+pub returns-in-Ok-finish-clause-read_fault : goal.returns-in-Ok-finish-clause-read_fault
+returns-in-Ok-finish-clause-read_fault g c is = no_read_fault c.in-Ok-finish.refused c.ended.ensures is
+
+pub returns-in-Ok-finish-clause-write_fault : goal.returns-in-Ok-finish-clause-write_fault
+returns-in-Ok-finish-clause-write_fault g c is = no_write_fault c.in-Ok-finish.refused c.ended.ensures is
+
+pub returns-in-Ok-Some-clause-read_fault : goal.returns-in-Ok-Some-clause-read_fault
+returns-in-Ok-Some-clause-read_fault g c is = no_read_fault (is_refusal c.in-Ok-Some.ending) c.status.ensures is
+
+pub returns-in-Ok-Some-clause-write_fault : goal.returns-in-Ok-Some-clause-write_fault
+returns-in-Ok-Some-clause-write_fault g c is = no_write_fault (is_refusal c.in-Ok-Some.ending) c.status.ensures is
