@@ -1,7 +1,7 @@
 -- A draft stays sound with a new node and a new stage.
 use Rattle.std.proofs.Common.{[], ◌≡◌, ℕ, true, ◌∷◌, ◌++◌, length, None, refl}
 use Rattle.std.proofs.Common.{ap, ◌∙◌, arith, length-append}
-use Rattle.std.proofs.Common.{◌≤◌, All}
+use Rattle.std.proofs.Common.{◌≤◌, All, List, map, sym}
 use Rattle.std.proofs.lemmas.Bool.Decides.{nat_tests}
 use Rattle.std.proofs.lemmas.List.{map-append}
 use Rattle.std.proofs.lemmas.List.Elements.{All-push, All-weaker, All-nil}
@@ -15,8 +15,10 @@ use Rattle.transyt_net.proofs.PlaceLaws.{among_more, all_differ_push, map_kept_a
 use Rattle.transyt_net.proofs.WriteLaws.{stages_more, stages_more_at}
 use Rattle.transyt_net.proofs.WriteLaws.{link_with_more_nodes}
 
--- lists with one more at their end
-pub ruleset one_more = (map-append)
+-- one more at the end of a list that is kept by another
+pub one_more : {A B : Type 0} (key : A → B) (xs : List A) (kept : List B) (x : A)
+    → kept ≡ map key xs → kept ++ key x ∷ [] ≡ map key (xs ++ x ∷ [])
+one_more key xs kept x at = ap (λ ks. ks ++ key x ∷ []) at ∙ sym (map-append key xs (x ∷ []))
 
 -- a draft with a new node is sound
 pub sound_node : (net : Network) (number offset : ℕ) → IsSound net → node_fault net number offset ≡ None

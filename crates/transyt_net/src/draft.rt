@@ -120,7 +120,6 @@ impl Draft {
     /// Adds a node, which has no stage yet. `offset` is in steps.
     ///
     /// Twice where a node has this number, Range, TooMany where there are 200 nodes, in this order.
-    #[tactic(auto, using(crate::proofs::SoundNodes::sound_node, crate::proofs::SoundNodes::one_more))]
     pub fn node(&mut self, number: u32, offset: u32) -> Result<(), DraftFault>
         ensures refuses { Refuses result (node_fault self.old number offset)
             (Some DraftFault.Memory) }
@@ -132,21 +131,17 @@ impl Draft {
         }
         self.nodes.reserve(1)?;
         self.node_places.push(number)?;
-        let node = Node {
+        self.nodes.push_reserved(Node {
             number,
             offset,
             stages: Vec::new(self.alloc),
-        };
-        if self.nodes.push(node).is_err() {
-            unreachable!();
-        }
+        });
         Ok(())
     }
 
     /// Adds a stage to the last node. All three are in steps.
     ///
     /// Range, or else TooMany where the node has 8 stages.
-    #[tactic(auto, using(crate::proofs::PlaceLaws::put_again))]
     pub fn stage(&mut self, change: u32, intergreen: u32, least: u32) -> Result<(), DraftFault>
         requires { 0 < length self.old.nodes }
         ensures refuses { Refuses result (stage_fault self.old (new_stage change intergreen least))
@@ -176,7 +171,6 @@ impl Draft {
     /// which it runs, each from 1. Twice where a link has this number or a stage stands twice;
     /// Unknown where there is no such node, or it hasn't one of the stages; Range; TooMany where
     /// there are 1,000 links; in this order.
-    #[tactic(auto, using(crate::proofs::SoundLinks::sound_link, crate::proofs::SoundNodes::one_more))]
     pub fn link(&mut self, link: NewLink, stages: &[u32]) -> Result<(), DraftFault>
         requires some { 1 ≤ length stages.now }
         requires most { length stages.now ≤ 8 }
@@ -188,14 +182,12 @@ impl Draft {
         if let Some(fault) = self.link_fault(link, stages) {
             return Err(fault);
         }
-        let stages = Vec::from_slice(self.alloc, stages)?;
         self.links.reserve(1)?;
         self.totals.reserve(1)?;
+        let stages = Vec::from_slice(self.alloc, stages)?;
         self.link_places.push(link.number)?;
-        if self.totals.push(link.entry).is_err() {
-            unreachable!();
-        }
-        let added = Link {
+        self.totals.push_reserved(link.entry);
+        self.links.push_reserved(Link {
             number: link.number,
             node: link.node,
             entry: link.entry,
@@ -206,10 +198,7 @@ impl Draft {
             stages,
             feeds: Vec::new(self.alloc),
             gives_way: None,
-        };
-        if self.links.push(added).is_err() {
-            unreachable!();
-        }
+        });
         Ok(())
     }
 
@@ -218,7 +207,6 @@ impl Draft {
     ///
     /// Twice where this feeder feeds the link already, Unknown where one of the two is no link,
     /// Range, TooMany where the link has 8 feeds, in this order.
-    #[tactic(auto, using(crate::proofs::PlaceLaws::put_again, crate::proofs::PlaceLaws::place_inside))]
     pub fn feed(&mut self, link: u32, feeder: u32, flow: u32, cruise: u32) -> Result<(), DraftFault>
         ensures refuses { Refuses result (feed_fault self.old link (new_feed feeder flow cruise))
             (Some DraftFault.Memory) }
@@ -247,7 +235,6 @@ impl Draft {
     ///
     /// Twice where the link has a rule already, Unknown where one of the two is no link, Range
     /// where `percent` is above 400, in this order.
-    #[tactic(auto, using(crate::proofs::PlaceLaws::place_inside))]
     pub fn give_way(&mut self, link: u32, other: u32, percent: u32) -> Result<(), DraftFault>
         ensures refuses { Refuses result (rule_fault self.old link (new_rule other percent)) None }
         ensures ok { OnOk result (self.new ≡ with_rule self.old link (new_rule other percent)) }
@@ -268,7 +255,6 @@ impl Draft {
     /// Sets the climb plan. `sizes` are in steps, each from 1 and below the number of steps.
     ///
     /// Range where the budget or a size isn't in its range.
-    #[tactic(auto, using(crate::proofs::DraftLaws::plan_exactly))]
     pub fn plan(&mut self, budget: u32, sizes: &[u32]) -> Result<(), DraftFault>
         requires unset { self.old.plan ≡ None }
         requires some { 1 ≤ length sizes.now }

@@ -14,7 +14,6 @@ impl Net {
     /// Makes an edit, and gives its inverse, which is allowed then and gives the network before.
     ///
     /// It refuses exactly as `judge` does, and a refusal changes nothing. It takes no memory.
-    #[tactic(auto, using(crate::proofs::UndoLaws::undone, crate::proofs::BackLaws::back_allowed, crate::proofs::KeptLaws::shape_kept, crate::proofs::ApplyLaws::valid_edit))]
     pub fn apply(&mut self, e: Edit) -> Result<Edit, EditFault>
         ensures fault { IfSome (edit_fault self.old e) (λ fault. IsErrOf result fault) }
         ensures none { IfNone (edit_fault self.old e) (IsOk result) }
@@ -52,7 +51,6 @@ impl Net {
     }
 
     /// Makes an allowed edit of this node, and gives its inverse.
-    #[tactic(auto, using(crate::proofs::PlaceLaws::place_inside, crate::proofs::PlaceLaws::found_at, crate::proofs::NamedLaws::takes, crate::proofs::NamedLaws::node_back_done))]
     fn change_node(&mut self, number: u32, e: &Edit) -> Edit
         requires names { named e.now ≡ NamesNode number }
         requires allowed { edit_fault self.old e.now ≡ None }
@@ -67,7 +65,6 @@ impl Net {
     }
 
     /// Makes an allowed edit of this link, and gives its inverse.
-    #[tactic(auto, using(crate::proofs::PlaceLaws::place_inside, crate::proofs::PlaceLaws::found_at, crate::proofs::NamedLaws::takes, crate::proofs::NamedLaws::link_back_done))]
     fn change_link(&mut self, number: u32, e: &Edit) -> Edit
         requires names { named e.now ≡ NamesLink number }
         requires allowed { edit_fault self.old e.now ≡ None }

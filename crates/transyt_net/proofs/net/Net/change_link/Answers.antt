@@ -7,7 +7,7 @@ use Rattle.transyt_net.specs.There.{LinkTakes}
 use Rattle.transyt_net.proofs.PlaceLaws.{place_inside, found_at, IsPut, put_there}
 use Rattle.transyt_net.proofs.ApplyLaws.{valid_edit}
 use Rattle.transyt_net.proofs.TotalLaws.{total_set, link_set}
-use Rattle.transyt_net.proofs.NamedLaws.{takes, link_done, link_numbers_kept}
+use Rattle.transyt_net.proofs.NamedLaws.{takes, link_done, link_back_done, link_numbers_kept}
 use Rattle.transyt_net.proofs.net.Net.change_link.Goals as goal
 
 -- the link is written at the place of its number
@@ -53,3 +53,10 @@ edit_link-back-requires c =
     subst (λ o. LinkTakes c.args.e.now (link_in o))
     (found_at link_number c.self.inside.links.items c.args.number c.in-Some.place c.index_mut-link.result.now (search rules)
     c.index_mut-link.ensures.value) (takes _ _ c.args.e.now _ c.self.view_is c.requires.names c.requires.allowed).1
+
+-- the inverse
+pub returns-clause-back : goal.returns-clause-back
+returns-clause-back c =
+    c.edit_link-back.ensures.back ∙ link_back_done _ _ c.args.e.now c.args.number _ c.self.view_is c.requires.names
+    (found_at link_number c.self.inside.links.items c.args.number c.in-Some.place c.index_mut-link.result.now (search rules)
+    c.index_mut-link.ensures.value)
