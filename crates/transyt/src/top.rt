@@ -19,7 +19,7 @@ use transyt_steps::Steps;
 use transyt_words::{AuditWord, CountsWord, CyclesWord, EquisatWord, Host, answer_whole};
 
 /// The runtime, whose threads the workers of a word use, the allocator, and the gate that the workers pass.
-#[derive(Clone, Copy)]
+#[derive(Drop)]
 struct Crew<'a, R, G> {
     rt: &'a R,
     alloc: Global,

@@ -1,14 +1,15 @@
 //! The words that the program takes.
-ghost use Rattle.std.specs.Prelude.{◌≡◌, ◌≤◌, ◌<◌, IfSome, map, string_bytes};
+ghost use Rattle.std.specs.Prelude.{◌≡◌, ◌≤◌, ◌<◌, ◌∷◌, IfSome, map, string_bytes};
 ghost use Rattle.transyt_num.specs.Number.{number_of};
 ghost use Rattle.std.specs.Option.{option_map};
 ghost use Rattle.transyt_scan.specs.Rows.{IsScan};
-ghost use Rattle.transyt.specs.Numbers.{workers_of, nodes_of, town_of, times_of, IsTown};
-ghost use Rattle.transyt.specs.Words.{alone, run_word, make_word, brief_by, brief_word, starts_word, word_of, IsWord};
+ghost use Rattle.transyt.specs.Numbers.{workers_of, nodes_of, town_of, times_by, times_of, IsTown};
+ghost use Rattle.transyt.specs.Words.{alone, run_word, make_word, brief_by, brief_word, starts_by, starts_word, word_of, IsWord};
 
 use crate::town::Town;
 use transyt_num::read_number;
 use transyt_scan::ScanWord;
+use transyt_syntax::is_word;
 use transyt_words::StartsWord;
 
 /// The task that words ask for.
@@ -152,6 +153,19 @@ fn brief_word(rest: &[String]) -> Option<Word>
     }
 }
 
+/// The cycle times of these numbers, with so many workers.
+fn times_by(
+    workers: Option<u32>,
+    low: Option<u32>,
+    high: Option<u32>,
+    by: Option<u32>,
+) -> Option<ScanWord>
+    ensures value { result ≡ times_by workers low high by }
+    ensures within { IfSome result IsScan }
+{
+    ScanWord::new(workers?, low?, high?, by?)
+}
+
 /// `w low high by`.
 fn times_of(rest: &[String]) -> Option<ScanWord>
     ensures value { result ≡ times_of (map string_bytes rest.now) }
@@ -160,11 +174,11 @@ fn times_of(rest: &[String]) -> Option<ScanWord>
     let [workers, low, high, by] = rest else {
         return None;
     };
-    let workers = workers_of(workers.as_bytes())?;
-    let low = read_number(low.as_bytes())?;
-    let high = read_number(high.as_bytes())?;
-    let by = read_number(by.as_bytes())?;
-    ScanWord::new(workers, low, high, by)
+    let workers = workers_of(workers.as_bytes());
+    let low = read_number(low.as_bytes());
+    let high = read_number(high.as_bytes());
+    let by = read_number(by.as_bytes());
+    times_by(workers, low, high, by)
 }
 
 /// `scan w low high by`.
@@ -185,6 +199,15 @@ fn cycles_word(rest: &[String]) -> Option<Word>
     Some(Word::Cycles { asked })
 }
 
+/// The starts of these numbers, with so many workers.
+fn starts_by(workers: Option<u32>, seed: Option<u32>, count: Option<u32>) -> Option<Word>
+    ensures word { result ≡ starts_by workers seed count }
+    ensures within { IfSome result IsWord }
+{
+    let asked = StartsWord::new(workers?, seed?, count?)?;
+    Some(Word::Starts { asked })
+}
+
 /// `starts w seed count`.
 fn starts_word(rest: &[String]) -> Option<Word>
     ensures word { result ≡ starts_word (map string_bytes rest.now) }
@@ -193,11 +216,29 @@ fn starts_word(rest: &[String]) -> Option<Word>
     let [workers, seed, count] = rest else {
         return None;
     };
-    let workers = workers_of(workers.as_bytes())?;
-    let seed = read_number(seed.as_bytes())?;
-    let count = read_number(count.as_bytes())?;
-    let asked = StartsWord::new(workers, seed, count)?;
-    Some(Word::Starts { asked })
+    let workers = workers_of(workers.as_bytes());
+    let seed = read_number(seed.as_bytes());
+    let count = read_number(count.as_bytes());
+    starts_by(workers, seed, count)
+}
+
+/// The task of a word, by what stands after it.
+fn named(name: &[u8], rest: &[String]) -> Option<Word>
+    ensures word { result ≡ word_of (name.now ∷ map string_bytes rest.now) }
+    ensures within { IfSome result IsWord }
+{
+    match name {
+        _ if is_word(name, b"run") => run_word(rest),
+        _ if is_word(name, b"make") => make_word(rest),
+        _ if is_word(name, b"brief") => brief_word(rest),
+        _ if is_word(name, b"counts") => alone(Word::Counts, rest),
+        _ if is_word(name, b"equisat") => alone(Word::Equisat, rest),
+        _ if is_word(name, b"scan") => scan_word(rest),
+        _ if is_word(name, b"cycles") => cycles_word(rest),
+        _ if is_word(name, b"starts") => starts_word(rest),
+        _ if is_word(name, b"audit") => alone(Word::Audit, rest),
+        _ => None,
+    }
 }
 
 /// The task that words ask for; none where the program doesn't take them. It takes no memory.
@@ -208,16 +249,5 @@ pub(crate) fn word_of(words: &[String]) -> Option<Word>
     let [name, rest @ ..] = words else {
         return None;
     };
-    match name.as_bytes() {
-        b"run" => run_word(rest),
-        b"make" => make_word(rest),
-        b"brief" => brief_word(rest),
-        b"counts" => alone(Word::Counts, rest),
-        b"equisat" => alone(Word::Equisat, rest),
-        b"scan" => scan_word(rest),
-        b"cycles" => cycles_word(rest),
-        b"starts" => starts_word(rest),
-        b"audit" => alone(Word::Audit, rest),
-        _ => None,
-    }
+    named(name.as_bytes(), rest)
 }
