@@ -1,7 +1,7 @@
 //! Flags, up where a row is saved.
 
-ghost use Rattle.std.specs.Prelude.{◌≡◌, false, replicate, IfOk};
-ghost use Rattle.transyt_kept.specs.Saved.{all_down};
+ghost use Rattle.std.specs.Prelude.{◌≡◌, ◌<◌, ◌&&◌, not, false, true, length, replicate, IfOk};
+ghost use Rattle.transyt_kept.specs.Saved.{all_down, is_up, put_if};
 
 use std::alloc::{AllocError, Global};
 
@@ -32,4 +32,17 @@ pub(crate) fn clear(flags: &mut Vec<bool>)
     ensures { flags.new.items ≡ all_down flags.old.items }
 {
     flags.fill(false);
+}
+
+/// Puts the flag of a place up, if a mark is open. Returns whether it was down.
+pub(crate) fn put_up(live: bool, flags: &mut Vec<bool>, place: usize) -> bool
+    requires { place < length flags.old.items }
+    ensures first { result ≡ (live && not (is_up flags.old.items place)) }
+    ensures flags { flags.new.items ≡ put_if result flags.old.items place true }
+{
+    if live && !flags[place] {
+        flags[place] = true;
+        return true;
+    }
+    false
 }

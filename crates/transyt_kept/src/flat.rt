@@ -47,7 +47,6 @@ impl FlatTable {
     }
 
     /// The row at a place.
-    #[tactic(auto, using(crate::proofs::FlatLaws::cut_length, crate::proofs::FlatLaws::cut_row))]
     pub(crate) fn row(&self, place: usize) -> &[u64]
         requires { place < length self.now }
         ensures { result.now ≡ row self.now place }
@@ -57,7 +56,6 @@ impl FlatTable {
     }
 
     /// Puts a row in its place.
-    #[tactic(auto, using(crate::proofs::FlatLaws::cut_length, crate::proofs::FlatLaws::cut_steps))]
     pub(crate) fn put(&mut self, place: usize, values: &[u64])
         requires place { place < length self.old }
         requires steps { length values.now ≡ length (row self.old place) }
@@ -68,7 +66,6 @@ impl FlatTable {
     }
 
     /// Puts a row of one value at each step in its place.
-    #[tactic(auto, using(crate::proofs::FlatLaws::cut_length, crate::proofs::FlatLaws::cut_steps))]
     pub(crate) fn fill(&mut self, place: usize, value: u64)
         requires { place < length self.old }
         ensures { self.new ≡ slice_set self.old place
@@ -79,7 +76,6 @@ impl FlatTable {
     }
 
     /// The row at a place becomes that of a narrow table, which is as long.
-    #[tactic(auto, using(crate::proofs::FlatLaws::cut_length, crate::proofs::FlatLaws::cut_steps))]
     pub(crate) fn take_narrow(&mut self, place: usize, from: &NarrowTable)
         requires place { place < length self.old }
         requires there { place < length from.now }

@@ -66,7 +66,6 @@ impl NarrowTable {
     }
 
     /// Puts a row in its place.
-    #[tactic(auto, using(crate::proofs::FlatLaws::cut_length, crate::proofs::FlatLaws::cut_steps))]
     pub(crate) fn put(&mut self, place: usize, values: &[u64])
         requires place { place < length self.old }
         requires steps { length values.now ≡ length (row self.old place) }
@@ -78,7 +77,6 @@ impl NarrowTable {
     }
 
     /// Writes the row at a place to `out`.
-    #[tactic(auto, using(crate::proofs::FlatLaws::cut_length, crate::proofs::FlatLaws::cut_row, crate::proofs::FlatLaws::cut_steps))]
     pub(crate) fn copy_row(&self, place: usize, out: &mut [u64])
         requires place { place < length self.now }
         requires steps { length out.old ≡ length (row self.now place) }

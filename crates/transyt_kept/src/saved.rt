@@ -6,7 +6,7 @@ ghost use Rattle.transyt_kept.specs.Rows.{row, empty_rows};
 ghost use Rattle.transyt_kept.specs.Saved.{out_kept, arrivals_kept, go_kept, old_rows};
 ghost use Rattle.transyt_kept.specs.Saved.{begun, FitsRows, GivesBack};
 
-use crate::flags::{clear, no_saved_flags};
+use crate::flags::{clear, no_saved_flags, put_up};
 use crate::narrow::NarrowTable;
 use crate::rows::Rows;
 use crate::size::Size;
@@ -124,8 +124,7 @@ impl Saved {
         requires place { place < length rows.now.outs }
         ensures { self.new ≡ out_kept self.old rows.now place }
     {
-        if self.live && !self.out_flags[place] {
-            self.out_flags[place] = true;
+        if put_up(self.live, &mut self.out_flags, place) {
             self.outs.put(place, rows.outs.row(place));
         }
     }
@@ -138,8 +137,7 @@ impl Saved {
             (row rows.now.queue link)
             (slice_index_or rows.now.figures link no_figures) }
     {
-        if self.live && !self.arrivals_flags[link] {
-            self.arrivals_flags[link] = true;
+        if put_up(self.live, &mut self.arrivals_flags, link) {
             self.arrivals.put(link, rows.arrivals(link));
             self.queue.put(link, rows.queue(link));
             self.figures[link] = rows.figures(link);
@@ -166,8 +164,7 @@ impl Saved {
         ensures queue { length queue.new.items ≡ self.old.rows.step_count }
         ensures figures { AreSmall figures.new }
     {
-        if self.live && !self.arrivals_flags[link] {
-            self.arrivals_flags[link] = true;
+        if put_up(self.live, &mut self.arrivals_flags, link) {
             let before = self.figures[link];
             self.arrivals.exchange(link, arrivals);
             self.queue.exchange(link, queue);
@@ -184,8 +181,7 @@ impl Saved {
         ensures value { self.new ≡ go_kept self.old link go.old.items }
         ensures steps { length go.new.items ≡ self.old.rows.step_count }
     {
-        if self.live && !self.go_flags[link] {
-            self.go_flags[link] = true;
+        if put_up(self.live, &mut self.go_flags, link) {
             self.go.exchange(link, go);
         }
     }

@@ -8,6 +8,6 @@ pub invariant_of-self : goal.invariant_of-self
 invariant_of-self c =
     let l = c.args.link in
     let same = sym c.requires.fits.step_count ∙ sym (ap (λ (s : SavedValue). s.rows.step_count) c.self.view_is) in
-    rw (c.put.ensures, c.put-then-not-index.ensures)
+    rw (c.put.ensures, c.put-then-put_up.ensures)
     (arrivals_written (figures_written c.self.invariant l c.figures.result c.figures.ensures.small) l
     c.arrivals.result.now c.queue.result.now (c.arrivals.ensures.steps ∙ same) (c.queue.ensures.steps ∙ same))
