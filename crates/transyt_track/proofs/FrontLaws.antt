@@ -38,7 +38,7 @@ use Rattle.transyt_track.proofs.ShapeLaws.{shape_count, shape_frame}
 pub same_test : (s sweeps : ℕ) → sweeps ≡ s → (s == sweeps) ≡ true
 same_test s sweeps same = grind (arith, nat_tests)
 
-other_test : (s sweeps : ℕ) → (sweeps ≡ s → ⊥) → (s == sweeps) ≡ false
+pub other_test : (s sweeps : ℕ) → (sweeps ≡ s → ⊥) → (s == sweeps) ≡ false
 other_test s sweeps other = let apart : sweeps ≢ s = other in grind (arith, nat_tests)
 
 same_number_eq : (x y : ℕ) → x ≡ y → nat_eq x y ≡ true
@@ -51,6 +51,20 @@ other_number_eq x y other = grind (arith, nat_tests)
 own_down : (o f r : Bool) → (o || f || r) ≡ false → o ≡ false
 own_down true f r none = absurd (cc)
 own_down false f r none = refl
+
+-- a flag that is set
+pub flag_set : (flags : List Bool) (l : ℕ) (d : Bool) → l < length flags → (m : ℕ)
+    → flag (set flags l d) m ≡ (if nat_eq m l then d else flag flags m)
+flag_set flags l d inside m = by (cases_eq m l)
+  where
+    by : (m ≡ l) ⊎ (m ≡ l → ⊥) → flag (set flags l d) m ≡ (if nat_eq m l then d else flag flags m)
+    by (inl here) =
+        get_or-set_at flags l m d false here inside
+        ∙ sym (ap (λ t. if t then d else flag flags m) (same_number_eq m l here))
+    by (inr other) =
+        let apart : m ≢ l = other in
+        get_or-set_other flags l m d false other
+        ∙ sym (ap (λ t. if t then d else flag flags m) (other_number_eq m l apart))
 
 -- one flag more is set
 pub flag_more : (flags : List Bool) (l : ℕ) (d : Bool) (test : ℕ → Bool) → l < length flags

@@ -121,6 +121,11 @@ module _ (a b : Network) (same : SameShape a b) where
         rule = subst (λ (x : PlacesValue). IfSome x.rule (λ j. j < count)) (sym before) inside.1;
       }
 
+  -- and it stands in the table
+  pub table_inside : {places : List PlacesValue} → ArePlaces a places → {links : List LinkValue} → links ≡ b.links
+      → (l : ℕ) → l < length links → l < length places
+  table_inside all are l test = omega (arith, all.count, shape_count, ap length are)
+
   -- and a table of places serves both
   pub shape_table : (places : List PlacesValue) → ArePlaces a places → ArePlaces b places
   shape_table places all = record {

@@ -113,7 +113,10 @@ impl Tracker {
         ensures second { IfOk result (λ nets. nets.1 ≡ net.now) }
     {
         let first = net.copy(alloc)?;
-        let second = net.copy(alloc)?;
+        let Ok(second) = net.copy(alloc) else {
+            drop(first);
+            return Err(AllocError);
+        };
         Ok((first, second))
     }
 
@@ -202,7 +205,6 @@ impl Tracker {
     /// Follows edits: stands for `after` then, and returns how many pairs of a link and a sweep were due.
     ///
     /// Each of them is worked out once, in one step, and no other is. The mark stays. It takes no memory.
-    #[tactic(auto, using(crate::proofs::DueBounds::due_most))]
     pub fn follow<L: Ledger>(&mut self, after: &Net, steps: &mut Steps<L>) -> u64
         requires { SameShape self.old.net after.now }
         ensures net { self.new.net ≡ after.now }
@@ -228,7 +230,6 @@ impl Tracker {
     ///
     /// As `follow`, but it copies no more of the network than the edit sets, and compares no links where the edit
     /// leaves them.
-    #[tactic(auto, using(crate::proofs::DueBounds::due_most))]
     pub fn follow_edit<L: Ledger>(&mut self, after: &Net, e: Edit, steps: &mut Steps<L>) -> u64
         requires shape { SameShape self.old.net after.now }
         requires allowed { edit_fault self.old.net e ≡ None }
@@ -256,7 +257,6 @@ impl Tracker {
     ///
     /// Each pair that is due is worked out once, in one step, and no other is. No network is copied. It takes no
     /// memory.
-    #[tactic(auto, using(crate::proofs::DueBounds::due_most))]
     pub fn follow_below<L: Ledger>(
         &mut self,
         after: &Net,

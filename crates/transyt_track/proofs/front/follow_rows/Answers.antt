@@ -17,6 +17,24 @@ loop-sweep-init g c = record {
   steps = omega arith;
 }
 
+pub sweep_links-count-requires : goal.sweep_links-count-requires
+sweep_links-count-requires g c = record {
+  first = c.loop-sweep.auto.sweep;
+  last = omega (arith, c.loop-sweep-test.true, ap (λ (f : Frame). f.sweeps) c.frame-sweep-end.ensures.value);
+  front = c.loop-sweep.invariant.front;
+}
+
+pub overflow_add-count : goal.overflow_add-count
+overflow_add-count g c =
+    omega (
+      arith,
+      c.loop-sweep.invariant.few,
+      c.sweep_links-count.ensures.few,
+      c.loop-sweep-test.true,
+      ap (λ (f : Frame). f.sweeps) c.frame-sweep-end.ensures.value,
+      c.frame-sweep-end.ensures.valid.sound.frame.sweeps,
+    )
+
 pub loop-sweep-preserved : goal.loop-sweep-preserved
 loop-sweep-preserved g c =
     let a = c.args.change.now.before.now in

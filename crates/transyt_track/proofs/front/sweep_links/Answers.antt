@@ -1,7 +1,9 @@
 -- One turn more.
-use Rattle.std.proofs.Common.{◌+◌, length, refl, ap, ◌∙◌, arith}
+use Rattle.std.proofs.Common.{◌≡◌, ◌+◌, length, refl, ap, subst, ◌∙◌, arith}
+use Rattle.transyt_track.specs.Due.{due_in}
 use Rattle.transyt_track.proofs.DueLaws.{due_in_none, due_in_more, due_in_few}
 use Rattle.transyt_track.proofs.FrontLaws.{turned_sweep}
+use Rattle.transyt_track.proofs.ShapeLaws.{shape_count}
 use Rattle.transyt_track.proofs.front.sweep_links.Goals as goal
 
 pub loop-link-init : goal.loop-link-init
@@ -10,6 +12,14 @@ loop-link-init g c = record {
   marked = refl;
   count = omega (arith, due_in_none c.args.change.now.before.now c.args.change.now.after.now c.args.sweep);
   steps = omega arith;
+}
+
+pub turn-count-requires : goal.turn-count-requires
+turn-count-requires g c = record {
+  first = c.requires.first;
+  last = c.requires.last;
+  link = omega (arith, c.loop-link-test.true, ap length c.links-link-end.ensures.value);
+  front = c.loop-link.invariant.front;
 }
 
 pub overflow_add-count : goal.overflow_add-count
@@ -58,3 +68,11 @@ returns-clause-few g c =
       ap length c.links-link-end.ensures.value,
       c.links-link-end.ensures.valid.sound.link_count,
     )
+
+pub returns-clause-count : goal.returns-clause-count
+returns-clause-count g c =
+    let a = c.args.change.now.before.now in
+    let b = c.args.change.now.after.now in
+    let all : c.loop-link.link ≡ length a.links =
+    omega (arith, ap length c.links-link-end.ensures.value, shape_count a b c.args.change.now.same_shape) in
+    subst (λ n. c.loop-link.count ≡ due_in a b c.args.sweep n) all c.loop-link.invariant.count

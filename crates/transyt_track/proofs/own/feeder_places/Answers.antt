@@ -1,8 +1,12 @@
 -- One feed more.
-use Rattle.std.proofs.Common.{◌≡◌, [], ◌∷◌, ◌++◌, ap, ◌∙◌, rules}
+use Rattle.std.proofs.Common.{◌≡◌, [], ◌∷◌, ◌++◌, map, ap, ◌∙◌, rules}
+use Rattle.std.proofs.lemmas.List.{take_all}
 use Rattle.transyt_track.specs.Own.{feeder_place}
 use Rattle.transyt_track.proofs.PlaceLaws.{map_more}
 use Rattle.transyt_track.proofs.own.feeder_places.Goals as goal
+
+pub loop-feed-init : goal.loop-feed-init
+loop-feed-init c = c.in_ok-places.ensures.items
 
 pub loop-feed-preserved : goal.loop-feed-preserved
 loop-feed-preserved c =
@@ -11,3 +15,8 @@ loop-feed-preserved c =
     ∙ ap (λ xs. xs ++ c.link_place.result ∷ []) c.loop-feed.invariant
     ∙ map_more (feeder_place c.args.net.now) c.args.feeds.now c.loop-feed.feed-index _ c.link_place.result
     c.loop-feed-test.true c.link_place.ensures
+
+pub returns : goal.returns
+returns c =
+    c.loop-feed.invariant
+    ∙ ap (map (feeder_place c.args.net.now)) (take_all c.loop-feed.feed-index c.args.feeds.now c.loop-feed-test.false)

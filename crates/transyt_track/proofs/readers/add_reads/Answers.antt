@@ -4,13 +4,13 @@ use Rattle.std.proofs.Common.{◌∙◌, arith}
 use Rattle.std.proofs.lemmas.List.Folds.{list_any_more}
 use Rattle.transyt_track.specs.Own.{PlacesValue}
 use Rattle.transyt_track.specs.Readers.{is_reader}
-use Rattle.transyt_track.proofs.ReaderLaws.{added_none, added_rule, on_ok}
+use Rattle.transyt_track.proofs.ReaderLaws.{fed_none, fed_more, added_none, added_rule, on_ok}
 use Rattle.transyt_track.proofs.readers.add_reads.Goals as goal
 
 pub loop-feeder-init : goal.loop-feeder-init
 loop-feeder-init c = record {
   count = refl;
-  added = λ o k. grind arith;
+  added = λ o k. fed_none (is_reader c.args.readers.now.items o k) (nat_eq k c.args.link);
 }
 
 pub add_reader-requires : goal.add_reader-requires
@@ -34,12 +34,8 @@ loop-feeder-preserved c =
     record {
       count = c.in_ok-add_reader.ensures.count ∙ c.loop-feeder.invariant.count;
       added = λ o k.
-          grind (
-            arith,
-            c.in_ok-add_reader.ensures.added o k,
-            c.loop-feeder.invariant.added o k,
-            list_any_more (nat_eq o) items i 0 c.loop-feeder-test.true,
-          );
+          fed_more _ _ _ _ _ _ _ (c.loop-feeder.invariant.added o k) (c.in_ok-add_reader.ensures.added o k)
+          (list_any_more (nat_eq o) items i 0 c.loop-feeder-test.true);
     }
 
 pub add_reader-requires-in-Some : goal.add_reader-requires-in-Some

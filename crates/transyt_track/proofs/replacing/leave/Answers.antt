@@ -2,11 +2,30 @@
 use Rattle.std.proofs.Common.{◌≡◌, IsTrue, sym, ap, ◌∙◌, arith, rules, if◌then◌else◌}
 use Rattle.transyt_parts.specs.declared.frame.Frame.{Frame}
 use Rattle.transyt_kept.specs.Cell.{CellValue}
-use Rattle.transyt_kept.specs.Rows.{RowsValue}
-use Rattle.transyt_sweep.specs.Reading.{with_weights}
+use Rattle.transyt_kept.specs.Rows.{RowsValue, shown_at, with_figures}
+use Rattle.transyt_sweep.specs.Reading.{with_weights, reweighed}
 use Rattle.transyt_track.proofs.FrontLaws.{same_test}
 use Rattle.transyt_track.proofs.LeftLaws.{weights_stay}
+use Rattle.transyt_track.proofs.ShapeLaws.{shape_count}
 use Rattle.transyt_track.proofs.replacing.leave.Goals as goal
+
+pub same_weights-requires-clause-link : goal.same_weights-requires-clause-link
+same_weights-requires-clause-link c = omega (arith, c.requires.link, shape_count _ _ c.args.change.now.same_shape)
+
+pub returns-then-not-same_weights : goal.returns-then-not-same_weights
+returns-then-not-same_weights c =
+    let b = c.args.change.now.after.now in
+    let l = c.args.link in
+    let rows = c.args.kept.now.now in
+    let sweeps : c.frame.result.sweeps ≡ b.frame.sweeps = ap (λ (f : Frame). f.sweeps) c.frame.ensures.value in
+    let last : c.args.sweep ≡ b.frame.sweeps = omega (arith, c.if-sweep-frame.false, sweeps) in
+    let figures : c.figures-figures.result ≡ (shown_at rows l).figures =
+    c.figures-figures.ensures.value ∙ ap (λ r. (shown_at r l).figures) c.rows.ensures in
+    c.put_figures.ensures
+    ∙ ap (λ f. record c.args.kept.now { now = with_figures rows l f })
+    (c.reweigh.ensures.value ∙ ap (reweighed b l) figures)
+    ∙ ap (λ w. record c.args.kept.now { now = if w then with_weights rows b l else rows })
+    (sym (same_test c.args.sweep b.frame.sweeps (sym last)))
 
 pub returns-else-not-same_weights : goal.returns-else-not-same_weights
 returns-else-not-same_weights c =

@@ -7,8 +7,15 @@ use Rattle.transyt_track.specs.Own.{PlacesValue, places_at}
 use Rattle.transyt_track.specs.Front.{flag, flag_from, awaits}
 use Rattle.transyt_track.proofs.AwaitLaws.{awaits_by, first_told}
 use Rattle.transyt_track.proofs.FrontLaws.{flag_more}
-use Rattle.transyt_track.proofs.ShapeLaws.{table_read, reads_inside}
+use Rattle.transyt_track.proofs.ShapeLaws.{table_read, table_inside, reads_inside}
 use Rattle.transyt_track.proofs.starting.await_first.Goals as goal
+
+pub loop-link-init : goal.loop-link-init
+loop-link-init c = record {
+  count = c.requires.started.count;
+  flagged = λ m none. absurd (omega arith);
+  others = λ m from. refl;
+}
 
 pub any_from-fed-requires : goal.any_from-fed-requires
 any_from-fed-requires c =
@@ -23,6 +30,20 @@ is_up_from-barred-requires c =
     c.loop-link.link c.loop-link-test.true c.index-places-link.is c.at.view_is
     (length c.deref-in-loop-link-2.result.now)
     (omega (arith, c.loop-link.invariant.count, ap length c.deref-in-loop-link-2.ensures.value))).rule
+
+pub bounds-places-link : goal.bounds-places-link
+bounds-places-link c =
+    table_inside _ _ c.requires.shape c.requires.places c.links-link-end.ensures.value c.loop-link.link
+    c.loop-link-test.true
+
+pub offset_bounds-places-link : goal.offset_bounds-places-link
+offset_bounds-places-link c =
+    omega (
+      arith,
+      c.loop-link-test.true,
+      ap length c.links-link-end.ensures.value,
+      c.links-link-end.ensures.valid.sound.link_count,
+    )
 
 pub loop-link-preserved : goal.loop-link-preserved
 loop-link-preserved c =
@@ -65,3 +86,10 @@ loop-link-preserved c =
           let apart : m ≢ l = omega arith in
           get_or-set_other flags l m d false apart ∙ c.loop-link.invariant.others m (omega arith);
     }
+
+pub returns : goal.returns
+returns c = record {
+  count = c.loop-link.invariant.count;
+  flagged = λ m inside.
+      c.loop-link.invariant.flagged m (omega (arith, inside, ap length c.links-link-end.ensures.value));
+}

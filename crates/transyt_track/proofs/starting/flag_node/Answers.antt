@@ -7,8 +7,27 @@ use Rattle.transyt_track.specs.Front.{own_differs}
 use Rattle.transyt_track.proofs.ChangeLaws.{times_told}
 use Rattle.transyt_track.proofs.EditedLaws.{node_flag}
 use Rattle.transyt_track.proofs.FrontLaws.{flag_more}
-use Rattle.transyt_track.proofs.ShapeLaws.{table_read, shape_nodes}
+use Rattle.transyt_track.proofs.ShapeLaws.{table_read, table_inside, shape_nodes}
 use Rattle.transyt_track.proofs.starting.flag_node.Goals as goal
+
+pub bounds-nodes-node : goal.bounds-nodes-node
+bounds-nodes-node c =
+    let nodes = shape_nodes _ _ c.requires.shape in
+    omega (arith, c.requires.node.inside, nodes, ap length c.nodes.ensures.value)
+
+pub bounds-places-link : goal.bounds-places-link
+bounds-places-link c =
+    table_inside _ _ c.requires.shape c.requires.places c.links-link-end.ensures.value c.loop-link.link
+    c.loop-link-test.true
+
+pub offset_bounds-places-link : goal.offset_bounds-places-link
+offset_bounds-places-link c =
+    omega (
+      arith,
+      c.loop-link-test.true,
+      ap length c.links-link-end.ensures.value,
+      c.links-link-end.ensures.valid.sound.link_count,
+    )
 
 pub loop-link-preserved : goal.loop-link-preserved
 loop-link-preserved c =

@@ -7,14 +7,35 @@ use Rattle.transyt_track.specs.Front.{flag, own_differs, total_differs}
 use Rattle.transyt_track.proofs.ChangeLaws.{own_flag}
 use Rattle.transyt_track.proofs.AwaitLaws.{any_same}
 use Rattle.transyt_track.proofs.FrontLaws.{flag_more}
-use Rattle.transyt_track.proofs.ShapeLaws.{table_read, shape_places}
+use Rattle.transyt_track.proofs.ShapeLaws.{table_read, table_inside, shape_places}
 use Rattle.transyt_track.proofs.starting.flag_own.Goals as goal
+
+pub loop-link-init : goal.loop-link-init
+loop-link-init c = record {
+  count = c.requires.count;
+  flagged = λ m none. absurd (omega arith);
+  others = λ m from. refl;
+}
 
 pub is_fed_anew-requires-clause-inside : goal.is_fed_anew-requires-clause-inside
 is_fed_anew-requires-clause-inside c =
     (table_read c.args.before.now c.args.after.now c.requires.shape c.requires.places c.links-link-end.ensures.value
     c.loop-link.link c.loop-link-test.true c.index-places-link.is refl (length c.args.total_changed.now)
     (sym c.requires.totals.count)).feeders
+
+pub bounds-places-link : goal.bounds-places-link
+bounds-places-link c =
+    table_inside _ _ c.requires.shape c.requires.places c.links-link-end.ensures.value c.loop-link.link
+    c.loop-link-test.true
+
+pub offset_bounds-places-link : goal.offset_bounds-places-link
+offset_bounds-places-link c =
+    omega (
+      arith,
+      c.loop-link-test.true,
+      ap length c.links-link-end.ensures.value,
+      c.links-link-end.ensures.valid.sound.link_count,
+    )
 
 pub loop-link-preserved : goal.loop-link-preserved
 loop-link-preserved c =
@@ -45,3 +66,10 @@ loop-link-preserved c =
           let apart : m ≢ l = omega arith in
           get_or-set_other flags l m (up || any) false apart ∙ c.loop-link.invariant.others m (omega arith);
     }
+
+pub returns : goal.returns
+returns c = record {
+  count = c.loop-link.invariant.count;
+  flagged = λ m inside.
+      c.loop-link.invariant.flagged m (omega (arith, inside, ap length c.links-link-end.ensures.value));
+}

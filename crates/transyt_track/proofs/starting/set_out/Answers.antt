@@ -1,9 +1,45 @@
 -- The first sweep begins.
-use Rattle.std.proofs.Common.{refl, sym, subst, ◌∙◌, arith}
+use Rattle.std.proofs.Common.{length, refl, sym, subst, ◌∙◌, arith}
 use Rattle.transyt_track.specs.Own.{DifferAt}
-use Rattle.transyt_track.specs.Front.{AreAt}
+use Rattle.transyt_track.specs.Front.{AreAt, AreFlags, own_differs, total_differs}
 use Rattle.transyt_track.proofs.StartLaws.{set_out_at, started_end}
 use Rattle.transyt_track.proofs.starting.set_out.Goals as goal
+
+pub flag_node-requires : goal.flag_node-requires
+flag_node-requires c = record {
+  shape = c.args.change.now.same_shape;
+  places = c.args.change.now.are_places;
+  node = c.args.change.now.one_node c.in-Some.node c.in-Some.is;
+  count = c.requires.room.own_count;
+}
+
+pub flag_own-requires : goal.flag_own-requires
+flag_own-requires c =
+    let a = c.args.change.now.before.now in
+    let b = c.args.change.now.after.now in
+    record {
+      shape = c.args.change.now.same_shape;
+      places = c.args.change.now.are_places;
+      totals = subst (AreFlags (total_differs a b) (length b.links)) (sym c.deref-in-None.ensures.value)
+          c.start_links.ensures.totals;
+      count = c.start_links.ensures.room.own_count;
+      down = c.start_links.ensures.down;
+    }
+
+pub await_first-requires : goal.await_first-requires
+await_first-requires c =
+    let a = c.args.change.now.before.now in
+    let b = c.args.change.now.after.now in
+    record {
+      shape = c.args.change.now.same_shape;
+      places = c.args.change.now.are_places;
+      own_changed = subst (AreFlags (own_differs a b) (length b.links)) (sym c.deref-in-None-2.ensures.value)
+          c.flag_own.ensures;
+      started = record {
+        count = c.start_links.ensures.starting.count;
+        flagged = c.start_links.ensures.starting.flagged;
+      };
+    }
 
 pub returns-in-Some-clause-front : goal.returns-in-Some-clause-front
 returns-in-Some-clause-front c =

@@ -5,7 +5,7 @@ use Rattle.transyt_kept.specs.Cell.{CellValue}
 use Rattle.transyt_track.specs.Own.{HaveData}
 use Rattle.transyt_track.specs.Front.{AreStarting}
 use Rattle.transyt_track.proofs.ChangeLaws.{down_more, not_down}
-use Rattle.transyt_track.proofs.ShapeLaws.{table_read}
+use Rattle.transyt_track.proofs.ShapeLaws.{table_read, table_inside, shape_nodes}
 use Rattle.transyt_track.proofs.StartLaws.{total_start, started_none}
 use Rattle.transyt_track.proofs.starting.start_links.Goals as goal
 
@@ -18,10 +18,14 @@ loop-link-init c = record {
   marked = refl;
 }
 
-pub start_link-requires-clause-moves : goal.start_link-requires-clause-moves
-start_link-requires-clause-moves c =
-    c.other_total-moves.ensures
-    ∙ total_start _ _ c.args.change.now.same_shape c.frame.ensures.valid.sound.frame c.loop-link.link
+pub start_link-requires : goal.start_link-requires
+start_link-requires c = record {
+  link = omega (arith, c.loop-link-test.true, ap length c.links-link-end.ensures.value);
+  moves = c.other_total-moves.ensures
+      ∙ total_start _ _ c.args.change.now.same_shape c.frame.ensures.valid.sound.frame c.loop-link.link;
+  some = omega (arith, c.frame.ensures.valid.sound.frame.sweeps);
+  starting = c.loop-link.invariant.starting;
+}
 
 pub loop-link-preserved : goal.loop-link-preserved
 loop-link-preserved c = record {
@@ -65,12 +69,46 @@ returns-clause-down c = record {
       c.loop-link.invariant.down m (omega (arith, inside, ap length c.links-link-end.ensures.value));
 }
 
-pub same_data-same-requires-clause-places : goal.same_data-same-requires-clause-places
-same_data-same-requires-clause-places c =
-    (table_read _ _ c.args.change.now.same_shape c.args.change.now.are_places c.links-link-end.ensures.value
-    c.loop-link.link c.loop-link-test.true c.index-places-link.is refl _ refl).before
+pub flag_nodes-requires-clause-nodes : goal.flag_nodes-requires-clause-nodes
+flag_nodes-requires-clause-nodes c = shape_nodes _ _ c.args.change.now.same_shape
 
-pub same_data-same-requires-clause-places_after : goal.same_data-same-requires-clause-places_after
-same_data-same-requires-clause-places_after c =
-    (table_read _ _ c.args.change.now.same_shape c.args.change.now.are_places c.links-link-end.ensures.value
-    c.loop-link.link c.loop-link-test.true c.index-places-link.is refl _ refl).after
+pub bounds-places-link : goal.bounds-places-link
+bounds-places-link c =
+    table_inside _ _ c.args.change.now.same_shape c.args.change.now.are_places c.links-link-end.ensures.value
+    c.loop-link.link c.loop-link-test.true
+
+pub offset_bounds-places-link : goal.offset_bounds-places-link
+offset_bounds-places-link c =
+    omega (
+      arith,
+      c.loop-link-test.true,
+      ap length c.links-link-end.ensures.value,
+      c.links-link-end.ensures.valid.sound.link_count,
+    )
+
+pub index_mut-requires : goal.index_mut-requires
+index_mut-requires c =
+    omega (
+      arith,
+      c.loop-link-test.true,
+      ap length c.links-link-end.ensures.value,
+      c.loop-link.invariant.room.own_count,
+    )
+
+pub same_data-same-requires : goal.same_data-same-requires
+same_data-same-requires c =
+    let read = table_read _ _ c.args.change.now.same_shape c.args.change.now.are_places c.links-link-end.ensures.value
+    c.loop-link.link c.loop-link-test.true c.index-places-link.is refl _ refl in
+    record {
+      link = read.before_count;
+      link_after = read.after_count;
+      places = read.before;
+      places_after = read.after;
+      nodes = c.flag_nodes.ensures;
+    }
+
+pub other_total-moves-requires : goal.other_total-moves-requires
+other_total-moves-requires c =
+    let read = table_read _ _ c.args.change.now.same_shape c.args.change.now.are_places c.links-link-end.ensures.value
+    c.loop-link.link c.loop-link-test.true c.index-places-link.is refl _ refl in
+    record { link = read.before_count; link_after = read.after_count; same = c.same_data-same.ensures }

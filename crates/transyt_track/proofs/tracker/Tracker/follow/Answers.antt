@@ -1,5 +1,6 @@
 -- The rows are those of the network after.
-use Rattle.std.proofs.Common.{◌∙◌}
+use Rattle.std.proofs.Common.{◌∙◌, arith}
+use Rattle.transyt_track.proofs.DueBounds.{due_most}
 use Rattle.transyt_track.proofs.TrackLaws.{follow_room, follow_due, follow_tracks}
 use Rattle.transyt_track.proofs.tracker.Tracker.follow.Goals as goal
 
@@ -16,3 +17,7 @@ returns-clause-due g c =
 pub follow_rows-due-requires-clause-room : goal.follow_rows-due-requires-clause-room
 follow_rows-due-requires-clause-room g c =
     follow_room c.self.view_is c.self.invariant c.args.after.now c.requires
+
+pub returns-clause-most : goal.returns-clause-most
+returns-clause-most g c =
+    omega (arith, returns-clause-due g c, due_most c.args.self.now.net c.args.after.now)
