@@ -1,6 +1,7 @@
 -- Platoons of a group: the first three or four of four.
-use Rattle.std.proofs.Common.{◌≡◌, ℕ, ◌-◌, List, [], ◌∷◌, length, take, get_or, ap, ◌∙◌, arith}
+use Rattle.std.proofs.Common.{◌≡◌, ℕ, ◌-◌, ◌<◌, ◌≤◌, List, [], ◌∷◌, length, take, get_or, ap, ◌∙◌, arith}
 use Rattle.std.specs.List.{All}
+use Rattle.std.proofs.lemmas.List.{length-take-le}
 use Rattle.std.proofs.lemmas.List.Elements.{All-nil, All-cons, All-take}
 use Rattle.transyt_platoon.specs.declared.platoon.Platoon.{Platoon}
 use Rattle.transyt_platoon.specs.Arriving.{arriving, with_arriving}
@@ -17,6 +18,15 @@ are_as_long n count a b c d first second third fourth =
     All-take Long count (a ∷ b ∷ c ∷ d ∷ [])
     (All-cons Long a (b ∷ c ∷ d ∷ []) first (All-cons Long b (c ∷ d ∷ []) second
     (All-cons Long c (d ∷ []) third (All-cons Long d [] fourth (All-nil Long)))))
+
+-- there are some, and at most four
+pub some_taken : (count : ℕ) (a b c d : Platoon) → IsGroup count → 0 < length (take count (a ∷ b ∷ c ∷ d ∷ []))
+some_taken count a b c d group =
+    omega (arith, group, length-take-le count (a ∷ b ∷ c ∷ d ∷ []) group.few)
+
+pub few_taken : (count : ℕ) (a b c d : Platoon) → IsGroup count → length (take count (a ∷ b ∷ c ∷ d ∷ [])) ≤ 4
+few_taken count a b c d group =
+    omega (arith, group, length-take-le count (a ∷ b ∷ c ∷ d ∷ []) group.few)
 
 -- what they bring is what the factors of the slots bring, whose last has the fourth
 pub group_carried : (read : ℕ → List ℕ) (come : List ℕ) (slots : List Factors) (none : Factors) (a b c d : Platoon)

@@ -59,7 +59,6 @@ pub(crate) fn factors_of(net: &Net, feed: Feed, feeder: usize, whole: u32) -> Fa
 }
 
 /// Whether the numbers that factors name are a feed's, and the place its feeder's.
-#[tactic(auto, using(crate::proofs::FactorLaws::serves))]
 fn serve(factors: &Factors, frame: Frame, feed: Feed, feeder: usize, whole: u32) -> bool
     requires { AreFactors frame.step_count factors.now }
     ensures { IsTrue result → Serve frame feed feeder whole factors.now }

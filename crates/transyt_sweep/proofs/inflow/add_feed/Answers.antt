@@ -1,5 +1,5 @@
 -- The arrivals of one feed are added.
-use Rattle.std.proofs.Common.{◌≡◌, ℕ, ◌+◌, ◌^◌, ◌<◌, List, All, length, ap, sym, subst, ◌∙◌, arith}
+use Rattle.std.proofs.Common.{◌≡◌, ℕ, ◌+◌, ◌-◌, ◌^◌, ◌<◌, List, All, length, ap, sym, subst, ◌∙◌, arith}
 use Rattle.transyt_profile.specs.Profile.{added, folded}
 use Rattle.transyt_platoon.specs.Platoon.{travel_steps}
 use Rattle.transyt_parts.specs.declared.frame.Frame.{Frame}
@@ -35,3 +35,13 @@ returns-clause-grows c = λ limit within.
     let same : length c.disperse.new.out ≡ n = omega (arith, c.split_at_mut-shared.ensures.front_len) in
     subst (λ k. All (λ v. v < limit + 2 ^ 44) (folded k c.add_to_first.new.turns)) same
     (c.add_to_first.ensures.grows limit (subst (λ k. All (λ v. v < limit) (folded k c.args.turns.now)) (sym same) within))
+
+-- the room for one feed has a value for each step
+pub disperse-requires-clause-lengths : goal.disperse-requires-clause-lengths
+disperse-requires-clause-lengths c =
+    c.share_feed.auto.shared ∙ c.split_at_mut-shared.ensures.front_len ∙ sym c.split_at_mut-brought.ensures.front_len
+
+pub add_to_first-requires-clause-turns_fit : goal.add_to_first-requires-clause-turns_fit
+add_to_first-requires-clause-turns_fit c =
+    subst (λ k. All (λ v. v < 2 ^ 48 - 2 ^ 44) (folded k c.args.turns.now))
+    (sym (c.disperse.auto.out ∙ c.split_at_mut-brought.ensures.front_len)) c.requires.turns_small

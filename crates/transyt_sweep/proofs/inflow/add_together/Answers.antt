@@ -1,7 +1,8 @@
 -- The arrivals by the slots' factors are those of the feeds.
-use Rattle.std.proofs.Common.{◌≡◌, ℕ, ◌<◌, List, All, sym, subst, ◌∙◌, arith, rules}
+use Rattle.std.proofs.Common.{◌≡◌, ℕ, ◌<◌, List, All, ap, length, sym, subst, ◌∙◌, arith, rules}
 use Rattle.transyt_profile.specs.Profile.{folded}
-use Rattle.transyt_sweep.specs.Inflow.{HaveRoom, read_by, with_carried}
+use Rattle.transyt_net.specs.Parts.{Network}
+use Rattle.transyt_sweep.specs.Inflow.{HaveRoom, read_by, with_carried, with_feeds}
 use Rattle.transyt_sweep.proofs.SlotLaws.{sendable}
 use Rattle.transyt_sweep.proofs.SendingLaws.{with_served}
 use Rattle.transyt_sweep.proofs.inflow.add_together.Goals as goal
@@ -37,3 +38,16 @@ returns-clause-grows c = λ limit within.
     let n : ℕ = c.args.inputs.now.step_count in
     let stays : c.send_group.new.turns ≡ c.args.turns.now = c.if-send_group.ensures.stays (search rules) in
     c.add_each.ensures.grows limit (subst (λ (t : List ℕ). All (λ v. v < limit) (folded n t)) (sym stays) within)
+
+pub add_each-requires-clause-turns : goal.add_each-requires-clause-turns
+add_each-requires-clause-turns c =
+    subst (HaveRoom c.args.inputs.now.step_count (length c.args.feeds.now))
+    (sym (c.if-send_group.ensures.stays (search rules))) c.requires.turns
+
+pub returns-clause-value : goal.returns-clause-value
+returns-clause-value c =
+    let n : ℕ = c.args.inputs.now.step_count in
+    let net : Network = c.args.inputs.now.net.now in
+    let stays : c.send_group.new.turns ≡ c.args.turns.now = c.if-send_group.ensures.stays (search rules) in
+    c.add_each.ensures.value
+    ∙ ap (λ (t : List ℕ). with_feeds net (read_by c.args.inputs.now) (folded n t) c.args.feeds.now) stays

@@ -1,9 +1,9 @@
 -- Three or four of the four platoons are sent, which bring what the slots' factors bring.
-use Rattle.std.proofs.Common.{[], ◌∷◌, length, ◌∙◌, arith}
+use Rattle.std.proofs.Common.{[], ◌∷◌, length, sym, ◌∙◌, arith}
 use Rattle.std.proofs.lemmas.List.{length-take-le}
 use Rattle.transyt_profile.specs.Profile.{folded}
 use Rattle.transyt_sweep.specs.Inflow.{read_by}
-use Rattle.transyt_sweep.proofs.GroupLaws.{are_as_long, group_carried}
+use Rattle.transyt_sweep.proofs.GroupLaws.{are_as_long, few_taken, group_carried, some_taken}
 use Rattle.transyt_sweep.proofs.inflow.send_group.Goals as goal
 
 pub disperse_together-requires-clause-same : goal.disperse_together-requires-clause-same
@@ -50,3 +50,30 @@ disperse_together-requires-clause-turns_len c = c.requires.turns.len
 
 pub disperse_together-requires-clause-fit : goal.disperse_together-requires-clause-fit
 disperse_together-requires-clause-fit c = λ j d h. omega (arith, c.requires.len.some, c.requires.turns.small j d h)
+
+pub slice_bounds-platoons-end : goal.slice_bounds-platoons-end
+slice_bounds-platoons-end c = c.requires.len.few
+
+pub disperse_together-requires-clause-steps : goal.disperse_together-requires-clause-steps
+disperse_together-requires-clause-steps c = c.args.inputs.now.some
+
+pub disperse_together-requires-clause-most : goal.disperse_together-requires-clause-most
+disperse_together-requires-clause-most c = c.args.inputs.now.most
+
+pub disperse_together-requires-clause-some : goal.disperse_together-requires-clause-some
+disperse_together-requires-clause-some c =
+    some_taken (length c.args.slots.now) c.platoon.result c.platoon-2.result c.platoon-3.result c.platoon-4.result
+    c.requires.len
+
+pub disperse_together-requires-clause-few : goal.disperse_together-requires-clause-few
+disperse_together-requires-clause-few c =
+    few_taken (length c.args.slots.now) c.platoon.result c.platoon-2.result c.platoon-3.result c.platoon-4.result
+    c.requires.len
+
+pub returns-clause-stays : goal.returns-clause-stays
+returns-clause-stays c = c.disperse_together.ensures.stays
+
+pub slice_bounds-disperse_together-end : goal.slice_bounds-disperse_together-end
+slice_bounds-disperse_together-end c =
+    sym (length-take-le (length c.args.slots.now)
+    (c.platoon.result ∷ c.platoon-2.result ∷ c.platoon-3.result ∷ c.platoon-4.result ∷ []) c.requires.len.few)

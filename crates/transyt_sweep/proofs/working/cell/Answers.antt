@@ -1,12 +1,127 @@
 -- Each vector holds the values that its slice was filled with.
-use Rattle.std.proofs.Common.{◌≡◌, ◌<◌, ◌^◌, ℕ, List, length, sum, All, subst, sym, ap, ◌∙◌, arith}
+use Rattle.std.proofs.Common.{◌≡◌, ◌*◌, ◌<◌, ◌≤◌, ◌^◌, ℕ, List, length, sum, All, subst, sym, ap, ◌∙◌, arith}
 use Rattle.std.proofs.lemmas.List.{with_items_is}
+use Rattle.transyt_parts.specs.declared.frame.Frame.{Frame}
+use Rattle.transyt_parts.specs.Valid.{IsFrame}
 use Rattle.transyt_stopline.specs.StopLine.{arrivals_of}
 use Rattle.transyt_sweep.specs.Cell.{CellValue, go, inflow}
 use Rattle.transyt_sweep.specs.Inflow.{AreFactors}
 use Rattle.transyt_sweep.specs.Reading.{read_in}
 use Rattle.transyt_sweep.proofs.ScratchLaws.{seen_is}
 use Rattle.transyt_sweep.proofs.working.cell.Goals as goal
+
+-- a profile of a valid frame has a value at least, and at most 120
+some_steps : (frame : Frame) (n : ℕ) → IsFrame frame → n ≡ frame.step_count → 0 < n
+some_steps frame n limits same = omega (arith, same, limits.step_count)
+
+most_steps : (frame : Frame) (n : ℕ) → IsFrame frame → n ≡ frame.step_count → n ≤ 120
+most_steps frame n limits same = omega (arith, same, limits.step_count)
+
+-- a vector that was filled has as many values as before
+as_before : (now was items : List ℕ) (len : ℕ) → length now ≡ len → length was ≡ len → was ≡ items
+    → length now ≡ length items
+as_before now was items len filled before same = filled ∙ sym before ∙ ap length same
+
+-- the rows have the network's steps, sweeps and links
+pub invariant_of-inputs : goal.invariant_of-inputs
+invariant_of-inputs g c =
+    let steps = ap (λ (f : Frame). f.step_count) c.frame.ensures.value in
+    let limits = c.frame.ensures.valid.sound.frame in
+    record {
+      link_within = c.requires.link;
+      sweep_within = c.requires.last;
+      steps = steps;
+      some = some_steps c.args.net.now.frame c.frame.result.step_count limits steps;
+      most = most_steps c.args.net.now.frame c.frame.result.step_count limits steps;
+      rows_steps = c.requires.fits.step_count ∙ sym steps;
+      rows_sweeps = c.requires.fits.sweeps;
+      rows_links = c.requires.fits.link_count;
+    }
+
+-- the room has values for the steps, and the factors are right for them
+pub fill_inflow-requires-clause-kept : goal.fill_inflow-requires-clause-kept
+fill_inflow-requires-clause-kept g c =
+    subst (λ (n : ℕ). All (AreFactors n) c.deref_mut.result.now)
+    (ap (λ (v : CellValue). length v.arrivals) c.scratch.view_is ∙ c.requires.step_count)
+    (subst (All (AreFactors (length c.scratch.inside.arrivals.items))) (sym c.deref_mut.ensures.value)
+    c.scratch.invariant.right)
+
+pub fill_inflow-requires-clause-room_len : goal.fill_inflow-requires-clause-room_len
+fill_inflow-requires-clause-room_len g c =
+    ap length c.deref_mut-2.ensures.value
+    ∙ c.scratch.invariant.room_len
+    ∙ ap (λ (v : CellValue). 8 * length v.arrivals) c.scratch.view_is
+    ∙ ap (λ n. 8 * n) c.requires.step_count
+    ∙ ap (λ (f : Frame). 8 * f.step_count) (sym c.frame.ensures.value)
+
+pub fill_inflow-requires-clause-arrivals_len : goal.fill_inflow-requires-clause-arrivals_len
+fill_inflow-requires-clause-arrivals_len g c =
+    ap length c.deref_mut-3.ensures.value
+    ∙ ap (λ (v : CellValue). length v.arrivals) c.scratch.view_is
+    ∙ c.requires.step_count
+    ∙ ap (λ (f : Frame). f.step_count) (sym c.frame.ensures.value)
+
+pub fill_go_under_rule-requires : goal.fill_go_under_rule-requires
+fill_go_under_rule-requires g c = record {
+  out_len = ap length c.deref_mut-4.ensures.value
+      ∙ c.scratch.invariant.go_len
+      ∙ ap (λ (v : CellValue). length v.arrivals) c.scratch.view_is
+      ∙ c.requires.step_count
+      ∙ ap (λ (f : Frame). f.step_count) (sym c.frame.ensures.value);
+}
+
+-- each profile has a value for each step, and those that were filled are small
+pub stand-totals-requires-clause-some : goal.stand-totals-requires-clause-some
+stand-totals-requires-clause-some g c =
+    some_steps c.args.net.now.frame (length c.deref.result.now) c.frame.ensures.valid.sound.frame
+    (as_before c.deref.result.now _ _ _ c.deref.ensures.len c.deref_mut-3.ensures.len c.deref_mut-3.ensures.value
+    ∙ ap (λ (v : CellValue). length v.arrivals) c.scratch.view_is ∙ c.requires.step_count)
+
+pub stand-totals-requires-clause-most : goal.stand-totals-requires-clause-most
+stand-totals-requires-clause-most g c =
+    most_steps c.args.net.now.frame (length c.deref.result.now) c.frame.ensures.valid.sound.frame
+    (as_before c.deref.result.now _ _ _ c.deref.ensures.len c.deref_mut-3.ensures.len c.deref_mut-3.ensures.value
+    ∙ ap (λ (v : CellValue). length v.arrivals) c.scratch.view_is ∙ c.requires.step_count)
+
+pub stand-totals-requires-clause-go_len : goal.stand-totals-requires-clause-go_len
+stand-totals-requires-clause-go_len g c =
+    as_before c.deref-2.result.now _ _ _ c.deref-2.ensures.len c.deref_mut-4.ensures.len c.deref_mut-4.ensures.value
+    ∙ c.scratch.invariant.go_len
+    ∙ sym (as_before c.deref.result.now _ _ _ c.deref.ensures.len c.deref_mut-3.ensures.len c.deref_mut-3.ensures.value)
+
+pub stand-totals-requires-clause-cut_len : goal.stand-totals-requires-clause-cut_len
+stand-totals-requires-clause-cut_len g c =
+    ap length c.deref_mut-5.ensures.value
+    ∙ c.scratch.invariant.reaching_len
+    ∙ sym (as_before c.deref.result.now _ _ _ c.deref.ensures.len c.deref_mut-3.ensures.len c.deref_mut-3.ensures.value)
+
+pub stand-totals-requires-clause-queued_len : goal.stand-totals-requires-clause-queued_len
+stand-totals-requires-clause-queued_len g c =
+    ap length c.deref_mut-6.ensures.value
+    ∙ c.scratch.invariant.queue_len
+    ∙ sym (as_before c.deref.result.now _ _ _ c.deref.ensures.len c.deref_mut-3.ensures.len c.deref_mut-3.ensures.value)
+
+pub stand-totals-requires-clause-departures_len : goal.stand-totals-requires-clause-departures_len
+stand-totals-requires-clause-departures_len g c =
+    ap length c.deref_mut-7.ensures.value
+    ∙ c.scratch.invariant.out_len
+    ∙ sym (as_before c.deref.result.now _ _ _ c.deref.ensures.len c.deref_mut-3.ensures.len c.deref_mut-3.ensures.value)
+
+pub stand-totals-requires-clause-arrivals_small : goal.stand-totals-requires-clause-arrivals_small
+stand-totals-requires-clause-arrivals_small g c =
+    let filled = c.fill_inflow in
+    subst (λ (xs : List ℕ). All (λ v. v < 2 ^ 48) xs)
+    (sym (c.deref.ensures.value
+    ∙ with_items_is c.scratch.inside.arrivals filled.new.arrivals (filled.auto.arrivals ∙ c.deref_mut-3.ensures.len)))
+    filled.ensures.small
+
+pub stand-totals-requires-clause-go_small : goal.stand-totals-requires-clause-go_small
+stand-totals-requires-clause-go_small g c =
+    let green = c.fill_go_under_rule in
+    subst (λ (xs : List ℕ). All (λ v. v < 2 ^ 30) xs)
+    (sym (c.deref-2.ensures.value
+    ∙ with_items_is c.scratch.inside.go green.new.out (green.auto.out ∙ c.deref_mut-4.ensures.len)))
+    green.ensures.small
 
 -- so all of them have as many values as before
 pub invariant_of-scratch : goal.invariant_of-scratch

@@ -1,17 +1,39 @@
 -- Rows of 0 are room for one link's work, and known figures of 0 are small.
-use Rattle.std.proofs.Common.{◌*◌, length, ap, subst, sym, rules, arith}
+use Rattle.std.proofs.Common.{◌*◌, ◌≤◌, ℕ, Fits, w64, length, ap, subst, sym, ◌∙◌, arith}
+use Rattle.std.proofs.lemmas.List.{length-replicate}
 use Rattle.transyt_parts.specs.declared.frame.Frame.{Frame}
 use Rattle.transyt_sweep.specs.Inflow.{AreFactors}
 use Rattle.transyt_kept.specs.Cell.{no_figures}
 use Rattle.transyt_sweep.proofs.ScratchLaws.{empty_scratch}
 use Rattle.transyt_sweep.proofs.scratch.Scratch.open.Goals as goal
 
+-- eight places for each of at most 1,000 links
+fits_eight : (n : ℕ) → n ≤ 1000 → Fits w64 (8 * n)
+fits_eight n few = record { fits = omega (arith, few) }
+
+pub overflow_mul-links : goal.overflow_mul-links
+overflow_mul-links c =
+    fits_eight (length c.links.result.now)
+    (subst (λ (k : ℕ). k ≤ 1000) (sym (ap length c.links.ensures.value)) c.links.ensures.valid.sound.link_count)
+
+pub returns : goal.returns
+returns c =
+    ap length (c.in_ok-vec.ensures.items_if_clones_equal (λ y same. same))
+    ∙ length-replicate c.frame.result.step_count 0
+    ∙ ap (λ (f : Frame). f.step_count) c.frame.ensures.value
+
 pub invariant_of-result : goal.invariant_of-result
 invariant_of-result c =
     empty_scratch c.frame.result.step_count (8 * length c.links.result.now) c.in_ok-vec.field-0.items
     c.in_ok-vec-2.field-0.items c.in_ok-vec-3.field-0.items c.in_ok-vec-4.field-0.items c.in_ok-vec-5.field-0.items
-    c.in_ok-vec-6.field-0.items c.in_ok-vec-7.field-0.items c.factors_of.result no_figures (search rules) (search rules)
-    (search rules) (search rules) (search rules) (search rules) (search rules)
+    c.in_ok-vec-6.field-0.items c.in_ok-vec-7.field-0.items c.factors_of.result no_figures
+    (c.in_ok-vec.ensures.items_if_clones_equal (λ y same. same))
+    (c.in_ok-vec-2.ensures.items_if_clones_equal (λ y same. same))
+    (c.in_ok-vec-3.ensures.items_if_clones_equal (λ y same. same))
+    (c.in_ok-vec-4.ensures.items_if_clones_equal (λ y same. same))
+    (c.in_ok-vec-5.ensures.items_if_clones_equal (λ y same. same))
+    (c.in_ok-vec-6.ensures.items_if_clones_equal (λ y same. same))
+    (c.in_ok-vec-7.ensures.items_if_clones_equal (λ y same. same))
     (subst (λ n. AreFactors n c.factors_of.result)
     (ap (λ (f : Frame). f.step_count) (sym c.frame.ensures.value)) c.factors_of.ensures.are)
     (record { uniform = omega arith; random = omega arith; index = omega arith })
