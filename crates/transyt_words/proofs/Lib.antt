@@ -1,5 +1,6 @@
 -- The lemmas of the crate.
 mod OutcomeLaws
+mod LineLaws
 mod Places
 pub mod Worked
 pub mod WorkedEnd

@@ -1,11 +1,17 @@
 -- The outcome of a run that has taken its input whole and told its answer.
-use Rattle.std.proofs.Common.{◌≡◌, ℕ, ◌≤◌, List, Option, Some, None, length, refl, ap, subst, ◌∙◌, inr, inl}
-use Rattle.transyt_io.specs.Streams.{Takes, IsAtEnd}
-use Rattle.transyt_outcome.specs.Outcome.{Outcome, IsWritten, Row, TextRow}
+use Rattle.std.proofs.Common.{◌≡◌, ℕ, ◌≤◌, ◌+◌, List, [], Option, Some, None, length, refl, ap, subst, sym, ◌∙◌, inr, inl}
+use Rattle.std.proofs.Common.{Err, arith}
+use Rattle.std.specs.Result.{IsErrOf}
+use Rattle.transyt_io.specs.declared.reader.ReadStop.{ReadStop}
+use Rattle.transyt_io.specs.declared.reader.ReadStop.TheVariants.{Fault, TooLong as Long}
+use Rattle.transyt_io.specs.Streams.{Takes, IsAtEnd, StopTakes}
+use Rattle.transyt_io.proofs.Told.{adds_nothing}
+use Rattle.transyt_outcome.specs.Outcome.{Outcome, IsWritten, Reporting, Row, TextRow}
 use Rattle.transyt_outcome.specs.declared.status.Status.{Status}
-use Rattle.transyt_outcome.specs.declared.status.Status.TheVariants.{Done, DeckRefused, WriteFault, NoMemory}
+use Rattle.transyt_outcome.specs.declared.status.Status.TheVariants.{Done, DeckRefused, ReadFault, WriteFault, NoMemory}
+use Rattle.transyt_outcome.specs.declared.status.Status.TheVariants.{TooLong}
 use Rattle.transyt_words.specs.Answer.{AnswerValue, answer_text, of_whole}
-use Rattle.transyt_words.specs.Whole.{Told}
+use Rattle.transyt_words.specs.Whole.{Told, IsSilent, StepsWithin}
 
 -- nothing was to be written before the last read
 none_before : (answer : List ℕ → AnswerValue) (last : Option ℕ) (taken out : List ℕ)
@@ -41,3 +47,67 @@ told_outcome answer found bytes taken left left_new last written written_new sta
       adds = here.adds;
       row = row_of_told answer left_new last taken here.out status end few here.row;
     }
+
+-- nothing is written where there is no memory
+pub no_memory : (by : Reporting) (left left_new : Option (List ℕ)) (last : Option ℕ) (written : Option (List ℕ))
+    (taken : List ℕ) → Takes left left_new taken → Outcome by left left_new last written written NoMemory
+no_memory by left left_new last written taken takes =
+    record { taken = taken; out = []; takes = takes; adds = adds_nothing written; row = refl }
+
+-- nor where a read stopped
+stopped_row : (answer : List ℕ → AnswerValue) (left : Option (List ℕ)) (last : Option ℕ) (taken : List ℕ)
+    (stop : ReadStop) (status : Status) → StopTakes taken stop → (stop ≡ Fault → status ≡ ReadFault)
+    → (stop ≡ Long → status ≡ TooLong) → Row (of_whole answer) left last taken [] status
+stopped_row answer left last taken Fault status says fault long =
+    subst (Row (of_whole answer) left last taken []) (sym (fault refl)) (record { out_is = refl; open_yet = refl })
+stopped_row answer left last taken Long status says fault long =
+    subst (Row (of_whole answer) left last taken []) (sym (long refl))
+    (record { many = says; cut_off = record { out_is = refl; open_yet = refl } })
+
+pub stopped_outcome : (answer : List ℕ → AnswerValue) (left left_new : Option (List ℕ)) (last : Option ℕ)
+    (written : Option (List ℕ)) (taken : List ℕ) (stop : ReadStop) (status : Status) → Takes left left_new taken
+    → StopTakes taken stop → (stop ≡ Fault → status ≡ ReadFault) → (stop ≡ Long → status ≡ TooLong)
+    → Outcome (of_whole answer) left left_new last written written status
+stopped_outcome answer left left_new last written taken stop status takes says fault long = record {
+  taken = taken;
+  out = [];
+  takes = takes;
+  adds = adds_nothing written;
+  row = stopped_row answer left_new last taken stop status says fault long;
+}
+
+-- the source failed where the status says so
+pub stopped_read : (stop : ReadStop) (status : Status) → (stop ≡ Long → status ≡ TooLong) → status ≡ ReadFault
+    → IsErrOf {T = Unit {0}} (Err stop) Fault
+stopped_read Fault status long is = refl
+stopped_read Long status long is = let told : TooLong ≡ ReadFault = sym (long refl) ∙ is in cc
+
+-- and the sink did not
+pub stopped_write : (stop : ReadStop) (status : Status) → (stop ≡ Fault → status ≡ ReadFault)
+    → (stop ≡ Long → status ≡ TooLong) → status ≡ WriteFault → ⊥
+stopped_write Fault status fault long is = let told : ReadFault ≡ WriteFault = sym (fault refl) ∙ is in cc
+stopped_write Long status fault long is = let told : TooLong ≡ WriteFault = sym (long refl) ∙ is in cc
+
+-- the steps are those of the bytes taken, or none
+pub steps_of : (most : List ℕ → ℕ) (left left_new : Option (List ℕ)) (taken bytes : List ℕ) (steps steps_new : ℕ)
+    → Takes left left_new taken → bytes ≡ taken → steps_new ≤ steps + most bytes
+    → StepsWithin most left left_new steps steps_new
+steps_of most left left_new taken bytes steps steps_new takes same within =
+    record { taken = taken; takes = takes; within = subst (λ b. steps_new ≤ steps + most b) same within }
+
+pub no_steps : (most : List ℕ → ℕ) (left left_new : Option (List ℕ)) (taken : List ℕ) (steps : ℕ)
+    → Takes left left_new taken → StepsWithin most left left_new steps steps
+no_steps most left left_new taken steps takes = record { taken = taken; takes = takes; within = omega arith }
+
+-- an answer that is told was read, and something was written of it
+pub told_read : (answer : AnswerValue) (written written_new : Option (List ℕ)) (status : Status)
+    → Told answer written written_new status → status ≡ ReadFault → ⊥
+told_read answer written written_new status told is =
+    subst (λ s. TextRow (answer_text answer) answer.refused told.out s) is told.row
+
+pub told_spoken : (answer : AnswerValue) (written written_new : Option (List ℕ)) (status : Status)
+    → Told answer written written_new status → (status ≡ NoMemory → ⊥) → IsSilent status → ⊥
+told_spoken answer written written_new ReadFault told said silent = told.row
+told_spoken answer written written_new TooLong told said silent = told.row
+told_spoken answer written written_new NoMemory told said silent = said refl
+told_spoken answer written written_new _ told said silent = silent

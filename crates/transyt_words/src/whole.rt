@@ -38,6 +38,16 @@ fn print_answer<K: Sink>(found: &Answer, line: &mut LineBuffer, sink: &mut K) ->
     print_net(found.deck(), line, sink)
 }
 
+/// Tells the sink the remark of an answer, if it has one.
+fn tell_remark<K: Sink>(found: &Answer, sink: &mut K)
+    ensures written { K.written sink.new ≡ K.written sink.old }
+    ensures faults { K.faults sink.new ≡ K.faults sink.old }
+{
+    if let Some(sentence) = found.remark() {
+        sink.remark(sentence.bytes());
+    }
+}
+
 /// Tells the sink the remark of an answer, and writes the answer: its lines, one after another, and then its deck text.
 pub fn say<K: Sink>(found: &Answer, line: &mut LineBuffer, sink: &mut K) -> Status
     ensures told { Told found.now (K.written sink.old) (K.written sink.new) result }
@@ -45,9 +55,7 @@ pub fn say<K: Sink>(found: &Answer, line: &mut LineBuffer, sink: &mut K) -> Stat
     ensures fault { result ≡ Status.WriteFault → Rose (K.faults sink.old) (K.faults sink.new) }
     ensures said { result ≢ Status.NoMemory }
 {
-    if let Some(sentence) = found.remark() {
-        sink.remark(sentence.bytes());
-    }
+    tell_remark(found, sink);
     if let Err(Failed) = print_answer(found, line, sink) {
         return Status::WriteFault;
     }
