@@ -87,7 +87,6 @@ fn reach_of(climber: &Climber, places: u32, desks: usize) -> Reach
 }
 
 /// A round in which every desk tries so many moves, or the end of the climb.
-#[tactic(auto, using(crate::proofs::DeskLaws::aligned_lent))]
 pub(crate) fn together<R: Threads + Sync, G: Gate, L: Ledger>(
     crew: &Crew<'_, R, G>,
     desks: &mut Desks,
