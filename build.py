@@ -191,7 +191,7 @@ class Crates:
         """Starts the crates whose turn it is.
 
         A second job takes a third off a long crate and costs a third more of processors. The crate with the longest chain
-        above it has one where that chain is longer than a processor's share of all that is left, and any crate where a
+        above it has one where that chain is longer than a processor's share of all that is left, and any long crate where a
         processor would have nothing to do.
         """
         ready = [it for it in self.all if it not in self.done and it not in self.going and self.done.issuperset(it.deps)]
