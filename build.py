@@ -190,9 +190,9 @@ class Crates:
     def start_ready(self):
         """Starts the crates whose turn it is.
 
-        A second job takes a third off a long crate and costs a third more of processors. The crate with the longest chain
-        above it has one where that chain is longer than a processor's share of all that is left, and any long crate where a
-        processor would have nothing to do.
+        A second job takes a third off a long crate and costs a third more of processors. Any long crate has one where a
+        processor would have nothing to do. With three processors and more, so has the crate with the longest chain above it,
+        where that chain is longer than a processor's share of all that is left; two processors are better off with two crates.
         """
         ready = [it for it in self.all if it not in self.done and it not in self.going and self.done.issuperset(it.deps)]
         for at, crate in enumerate(sorted(ready, key=lambda it: -self.chain[it])):
@@ -200,8 +200,9 @@ class Crates:
             if idle <= 0:
                 return
             longest = max([self.share(), *(self.chain[it] for it in [*ready, *self.going])])
-            wants_two = (at == 0 and self.chain[crate] >= longest) or idle // (len(ready) - at) >= 2
-            jobs = 2 if wants_two and self.jobs > 1 and self.lines[crate] >= LONG else 1
+            leads = self.jobs > 2 and at == 0 and self.chain[crate] >= longest
+            wants_two = leads or idle // (len(ready) - at) >= 2
+            jobs = 2 if wants_two and self.lines[crate] >= LONG else 1
             self.going[crate] = jobs
             threading.Thread(target=self.build, args=(crate, jobs)).start()
 
