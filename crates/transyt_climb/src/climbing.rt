@@ -12,7 +12,7 @@ use transyt_session::Session;
 use transyt_steps::Steps;
 
 /// How a climb ended: how many steps it took, and whether it ended since no move lowers the index.
-#[derive(Clone, Copy, PartialEq, Eq, Drop)]
+#[derive(Clone, Copy, Drop)]
 pub struct Ended {
     /// How many steps it took.
     pub took: u32,

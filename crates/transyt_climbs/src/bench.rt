@@ -12,7 +12,7 @@ pub trait Bench: Sync {
 }
 
 /// A bench that does nothing.
-#[derive(Clone, Copy, PartialEq, Eq)]
+#[derive(Clone, Copy)]
 pub struct IdleBench;
 
 impl Bench for IdleBench {

@@ -6,7 +6,7 @@ ghost use Rattle.transyt_climbs.specs.Climbs.{AreBest, best, better, first_lower
 use crate::row::PlanRow;
 
 /// The best row of a table.
-#[derive(Clone, Copy, PartialEq, Eq, Drop)]
+#[derive(Clone, Copy, Drop)]
 pub struct BestRow {
     /// Its place, from 0.
     pub place: usize,

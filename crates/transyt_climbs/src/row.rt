@@ -1,7 +1,7 @@
 //! The rows of a table of climbs.
 
 /// A climb of a network.
-#[derive(Clone, Copy, PartialEq, Eq, Drop)]
+#[derive(Clone, Copy, Drop)]
 pub struct Climbed {
     /// The number of the row.
     pub number: u32,
@@ -18,7 +18,7 @@ pub struct Climbed {
 }
 
 /// A row: a climb, or why there is no network to climb on.
-#[derive(Clone, Copy, PartialEq, Eq, Drop)]
+#[derive(Clone, Copy, Drop)]
 pub enum PlanRow {
     /// There is no such network: the number of the row.
     NoPlan { number: u32 },

@@ -4,7 +4,7 @@ ghost use Rattle.std.specs.Prelude.{◌≡◌, ◌<◌, ◌≤◌, IfSome};
 ghost use Rattle.transyt_climbs.specs.Times.{AreTimes, cycle_at, cycle_count, times_within};
 
 /// Cycle times from `low` to `high` by the step `by`, all in seconds.
-#[derive(Clone, Copy, PartialEq, Eq, Drop)]
+#[derive(Clone, Copy, Drop)]
 pub struct CycleTimes {
     /// The lowest, at least 30.
     pub low: u32,

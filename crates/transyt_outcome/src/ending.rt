@@ -6,7 +6,7 @@ use crate::status::Status;
 use transyt_io::ReadStop;
 
 /// How a line ends a run.
-#[derive(Clone, Copy, PartialEq, Eq, Drop)]
+#[derive(Clone, Copy, Drop)]
 pub enum Ending {
     /// All that was asked for is done: STOP.
     Stopped,

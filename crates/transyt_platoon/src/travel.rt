@@ -22,7 +22,7 @@ pub fn travel_steps(cruise: u32, step_count: u32, cycle: u32) -> u32
 
 /// A travel time and a dispersion, with the factors that follow from both. `IsTravel` says how its numbers hang
 /// together.
-#[derive(Clone, Copy, PartialEq, Eq)]
+#[derive(Clone, Copy)]
 pub struct Travel {
     /// The travel time in steps.
     pub time: u32,

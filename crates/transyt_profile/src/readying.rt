@@ -7,7 +7,7 @@ ghost use Rattle.transyt_profile.specs.Profile.{IsPart, IsQuick, share_of, share
 use crate::sharing::{Part, product, share_step};
 
 /// The factor of each share, and the limit below which all shares have to be.
-#[derive(Clone, Copy, PartialEq, Eq)]
+#[derive(Clone, Copy)]
 pub struct Scale {
     /// The factor of each share.
     pub factor: u64,

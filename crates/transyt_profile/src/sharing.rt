@@ -21,7 +21,7 @@ pub fn share_into(x: &[u64], part: u32, whole: u32, out: &mut [u64])
 }
 
 /// A part of a whole, with what is worked out of both once. `IsPart` says how its numbers hang together.
-#[derive(Clone, Copy, PartialEq, Eq)]
+#[derive(Clone, Copy)]
 pub struct Part {
     /// The part, in vehicles per hour.
     pub part: u32,

@@ -8,7 +8,7 @@ use transyt_climbs::{CycleTimes, Planned, Plans};
 use transyt_net::Net;
 
 /// Climbs over cycle times, with so many workers.
-#[derive(Clone, Copy, PartialEq, Eq, Drop)]
+#[derive(Clone, Copy, Drop)]
 pub struct ScanWord {
     /// How many workers climb, 1 to 8.
     pub workers: u32,

@@ -3,7 +3,7 @@
 ghost use Rattle.std.specs.Prelude.{◌<◌, ◌↔◌, IsTrue};
 
 /// The arrivals at a stop line in a cycle and its GO, in millionths of a vehicle.
-#[derive(Clone, Copy, PartialEq, Eq)]
+#[derive(Clone, Copy)]
 pub struct Totals {
     /// The arrivals, before any cut.
     pub come: u64,
