@@ -1,7 +1,7 @@
 -- Lists that are made equal place by place.
-use Rattle.std.proofs.Common.{◌≡◌, ℕ, suc, ◌+◌, ◌<◌, List, [], ◌∷◌, map, length, get_or, set, refl, sym, ap, ◌∙◌, arith}
+use Rattle.std.proofs.Common.{◌≡◌, ℕ, suc, ◌+◌, ◌<◌, List, [], ◌∷◌, ◌++◌, map, length, get_or, set, take, refl, sym, ap, ◌∙◌, arith}
 use Rattle.std.proofs.lemmas.Bool.Decides.{nat_tests}
-use Rattle.std.proofs.lemmas.List.{map-set, set-get_or, get_or-map, length-map, get_or-set_other, get_or_default}
+use Rattle.std.proofs.lemmas.List.{map-set, set-get_or, get_or-map, length-map, get_or-set_other, get_or_default, take_more}
 use Rattle.std.proofs.lemmas.Grind.{get_or-set_at}
 
 -- lists that agree at each place are equal
@@ -48,3 +48,9 @@ agree_more f xs ys i v y same there before is at k d less =
       get_or-set_other xs i k v d,
       get_or_default ys i y d there,
     )
+
+-- a copy of one element more
+pub copied_more : {A : Type 0} (xs before after : List A) (i : ℕ) (x y : A) → i < length xs → before ≡ take i xs
+    → after ≡ before ++ y ∷ [] → y ≡ x → x ≡ get_or xs i x → after ≡ take (i + 1) xs
+copied_more xs before after i x y inside so_far more same at =
+    more ∙ (λ j. so_far j ++ (same ∙ at) j ∷ []) ∙ sym (take_more xs i x inside)

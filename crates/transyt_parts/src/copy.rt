@@ -1,6 +1,6 @@
 //! Copies of the parts of a network.
 
-ghost use Rattle.std.specs.Prelude.{◌≡◌, IfOk};
+ghost use Rattle.std.specs.Prelude.{◌≡◌, IfOk, OnOk, []};
 
 use crate::climb_plan::ClimbPlan;
 use crate::link::Link;
@@ -11,10 +11,11 @@ use std::alloc::{AllocError, Global};
 fn copy_node(alloc: Global, node: &Node) -> Result<Node, AllocError>
     ensures { IfOk result (λ copy. copy ≡ node.now) }
 {
+    let stages = Vec::from_slice(alloc, &node.stages)?;
     Ok(Node {
         number: node.number,
         offset: node.offset,
-        stages: Vec::from_slice(alloc, &node.stages)?,
+        stages,
     })
 }
 
@@ -22,6 +23,8 @@ fn copy_node(alloc: Global, node: &Node) -> Result<Node, AllocError>
 fn copy_link(alloc: Global, link: &Link) -> Result<Link, AllocError>
     ensures { IfOk result (λ copy. copy ≡ link.now) }
 {
+    let stages = Vec::from_slice(alloc, &link.stages)?;
+    let feeds = Vec::from_slice(alloc, &link.feeds)?;
     Ok(Link {
         number: link.number,
         node: link.node,
@@ -30,10 +33,21 @@ fn copy_link(alloc: Global, link: &Link) -> Result<Link, AllocError>
         weights: link.weights,
         start_lag: link.start_lag,
         end_lag: link.end_lag,
-        stages: Vec::from_slice(alloc, &link.stages)?,
-        feeds: Vec::from_slice(alloc, &link.feeds)?,
+        stages,
+        feeds,
         gives_way: link.gives_way,
     })
+}
+
+/// Adds equal nodes in the same order.
+fn add_nodes(alloc: Global, nodes: &[Node], copy: &mut Vec<Node>) -> Result<(), AllocError>
+    requires { copy.old.items ≡ [] }
+    ensures { OnOk result (copy.new.items ≡ nodes.now) }
+{
+    for node in nodes {
+        copy.push(copy_node(alloc, node)?)?;
+    }
+    Ok(())
 }
 
 /// Equal nodes in the same order, with memory of their own.
@@ -41,10 +55,19 @@ pub fn copy_nodes(alloc: Global, nodes: &[Node]) -> Result<Vec<Node>, AllocError
     ensures { IfOk result (λ copy. copy.items ≡ nodes.now) }
 {
     let mut copy = Vec::with_capacity(alloc, nodes.len())?;
-    for node in nodes {
-        copy.push(copy_node(alloc, node)?)?;
-    }
+    add_nodes(alloc, nodes, &mut copy)?;
     Ok(copy)
+}
+
+/// Adds equal links in the same order.
+fn add_links(alloc: Global, links: &[Link], copy: &mut Vec<Link>) -> Result<(), AllocError>
+    requires { copy.old.items ≡ [] }
+    ensures { OnOk result (copy.new.items ≡ links.now) }
+{
+    for link in links {
+        copy.push(copy_link(alloc, link)?)?;
+    }
+    Ok(())
 }
 
 /// Equal links in the same order, with memory of their own.
@@ -52,9 +75,7 @@ pub fn copy_links(alloc: Global, links: &[Link]) -> Result<Vec<Link>, AllocError
     ensures { IfOk result (λ copy. copy.items ≡ links.now) }
 {
     let mut copy = Vec::with_capacity(alloc, links.len())?;
-    for link in links {
-        copy.push(copy_link(alloc, link)?)?;
-    }
+    add_links(alloc, links, &mut copy)?;
     Ok(copy)
 }
 

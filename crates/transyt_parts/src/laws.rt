@@ -13,7 +13,6 @@ ghost use Rattle.transyt_parts.specs.declared.stage_plan.PlanFault.TheVariants.{
 
 /// Each test of ranges says what the part keeps to. A node and a climb plan keep to their ranges
 /// exactly where the tests of their numbers pass and their lists are as long as they may be.
-#[tactic(auto, using(crate::proofs::KeptLaws::node_kept, crate::proofs::KeptLaws::plan_kept))]
 pub fn tests_tell()
     ensures range { (low high n : ℕ) → IsTrue (within low high n) ↔ IsWithin low high n }
     ensures frame { (f : Frame) → IsTrue (is_frame f) ↔ IsFrame f }
@@ -34,7 +33,6 @@ pub fn tests_tell()
 
 /// A plan has no fault exactly where it is as it must be, and else the first of the three that
 /// holds, in the order of `PlanFault`.
-#[tactic(auto, using(crate::proofs::PlanFacts::planned, crate::proofs::PlanFacts::few, crate::proofs::PlanFacts::unordered, crate::proofs::PlanFacts::short))]
 pub fn plans_are_judged()
     ensures none { (steps : ℕ) (stages : List Stage) → plan_fault steps stages ≡ None
         ↔ IsPlanned steps stages }

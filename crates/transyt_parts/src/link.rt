@@ -57,7 +57,6 @@ pub struct NewLink {
 }
 
 /// A link: one stream of traffic up to the stop line of a node.
-#[derive(Drop)]
 pub struct Link {
     /// The link's card number, 1 to 99,999.
     pub number: u32,
@@ -79,6 +78,24 @@ pub struct Link {
     pub feeds: Vec<Feed>,
     /// To whom it gives way, if to anyone.
     pub gives_way: Option<GiveWay>,
+}
+
+impl Drop for Link {
+    // Written out: a derived one is proved again in each crate that lets a value go.
+    fn drop(self) {
+        let Link {
+            number: _,
+            node: _,
+            entry: _,
+            saturation: _,
+            weights: _,
+            start_lag: _,
+            end_lag: _,
+            stages: _,
+            feeds: _,
+            gives_way: _,
+        } = self;
+    }
 }
 
 impl Model for Link {

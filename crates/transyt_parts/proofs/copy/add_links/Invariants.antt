@@ -1,6 +1,6 @@
 -- The links so far are copied.
 use Rattle.std.proofs.Common.{◌≡◌, take}
-use Rattle.transyt_parts.proofs.copy.copy_links.Given as goal
+use Rattle.transyt_parts.proofs.copy.add_links.Given as goal
 
 abbrev pub invariant-loop-link : goal.invariant-loop-link
 invariant-loop-link l = l.copy.items ≡ take l.link-index l.links
