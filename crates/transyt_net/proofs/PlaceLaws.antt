@@ -9,7 +9,7 @@ use Rattle.std.proofs.lemmas.Bool.{or_left, eqb-true}
 use Rattle.std.proofs.lemmas.Bool.Decides.{nat_tests}
 use Rattle.std.proofs.lemmas.List.Folds.{list_any-append}
 use Rattle.std.proofs.lemmas.List.Quantifiers.{position-Some}
-use Rattle.std.proofs.lemmas.List.{length-map, get_or-map}
+use Rattle.std.proofs.lemmas.List.{length-map, get_or-map, set-get_or}
 use Rattle.transyt_net.specs.Parts.{Network}
 use Rattle.transyt_net.specs.Valid.{is_among, numbered, on_numbered, on_place, place_of, link_numbers, found_or_first}
 use Rattle.transyt_net.specs.Valid.{link_place, all_differ, link_number}
@@ -53,6 +53,10 @@ place_is key xs k p h =
       here = λ d. ap (nat_eq k) (sym (get_or-map key xs p d 0 inside)) ∙ at.1;
       first = λ d i less. ap (nat_eq k) (sym (get_or-map key xs i d 0 (omega arith))) ∙ at.2 i less;
     }
+
+-- a list with what stands at a place put there again
+pub put_again : {A : Type 0} (xs : List A) (p : ℕ) (old new : A) → new ≡ old → old ≡ get_or xs p old → set xs p new ≡ xs
+put_again xs p old new kept read = ap (set xs p) (kept ∙ read) ∙ set-get_or xs p old
 
 -- it is inside the list
 pub place_inside : {A : Type 0} (key : A → ℕ) (xs : List A) (k p : ℕ) → place_of (map key xs) k ≡ Some p → p < length xs

@@ -63,7 +63,6 @@ impl From<AllocError> for DraftFault {
 /// Each call refuses with the first fault that holds, in the order of `DraftFault`, and a refusal
 /// changes nothing, out of memory included. The calls may come in any order that their conditions
 /// leave.
-#[derive(Drop)]
 pub struct Draft {
     alloc: Global,
     frame: Frame,
@@ -74,6 +73,22 @@ pub struct Draft {
     plan: Option<ClimbPlan>,
     node_places: Numbers,
     link_places: Numbers,
+}
+
+impl Drop for Draft {
+    // Written out: a derived one is proved again in each crate that lets a value go.
+    fn drop(self) {
+        let Draft {
+            alloc: _,
+            frame: _,
+            nodes: _,
+            links: _,
+            totals: _,
+            plan: _,
+            node_places: _,
+            link_places: _,
+        } = self;
+    }
 }
 
 impl Model for Draft {

@@ -13,6 +13,7 @@
 //! are this project's own.
 #![tactic(auto)]
 
+mod both;
 mod draft;
 mod edit;
 mod laws;

@@ -11,6 +11,7 @@ ghost use Rattle.transyt_parts.specs.Valid.{IsNode};
 mod apply;
 mod judge;
 
+use crate::both::both;
 use crate::places::{Numbers, node_at};
 use std::alloc::{AllocError, Global};
 use std::marker::Model;
@@ -23,7 +24,6 @@ use transyt_parts::{
 ///
 /// A contract sees its frame, its nodes, its links and its climb plan or none, in card order. That
 /// it is valid is told by the clause `valid` of the accessors.
-#[derive(Drop)]
 pub struct Net {
     pub(crate) frame: Frame,
     pub(crate) nodes: Vec<Node>,
@@ -33,6 +33,21 @@ pub struct Net {
     pub(crate) plan: Option<ClimbPlan>,
     pub(crate) node_places: Numbers,
     pub(crate) link_places: Numbers,
+}
+
+impl Drop for Net {
+    // Written out: a derived one is proved again in each crate that lets a value go.
+    fn drop(self) {
+        let Net {
+            frame: _,
+            nodes: _,
+            links: _,
+            totals: _,
+            plan: _,
+            node_places: _,
+            link_places: _,
+        } = self;
+    }
 }
 
 impl Model for Net {
@@ -192,13 +207,15 @@ impl Net {
         requires valid { IsValid (with_signals self.now frame nodes.now) }
         ensures { IfOk result (λ net. net ≡ with_signals self.now frame nodes.now) }
     {
-        // The deepest parts come last: without memory each part before is taken apart at each `?` after it.
-        let node_places = self.node_places.copy(alloc)?;
-        let link_places = self.link_places.copy(alloc)?;
-        let totals = Vec::from_slice(alloc, &self.totals)?;
-        let plan = copy_plan(alloc, &self.plan)?;
-        let nodes = copy_nodes(alloc, nodes)?;
-        let links = copy_links(alloc, &self.links)?;
+        let places = both(self.node_places.copy(alloc), self.link_places.copy(alloc));
+        let counts = both(
+            Vec::from_slice(alloc, &self.totals),
+            copy_plan(alloc, &self.plan),
+        );
+        let parts = both(copy_nodes(alloc, nodes), copy_links(alloc, &self.links));
+        let ((places, counts), (nodes, links)) = both(both(places, counts), parts)?;
+        let (node_places, link_places) = places;
+        let (totals, plan) = counts;
         Ok(Net {
             frame,
             nodes,

@@ -1,8 +1,10 @@
 -- The draft with the new feed is sound, has no new number, and has the new total.
-use Rattle.std.proofs.Common.{rules, refl, sym, ◌∙◌, subst}
-use Rattle.transyt_net.specs.Valid.{IsSound, link_number}
+use Rattle.std.proofs.Common.{rules, ◌≡◌, refl, sym, ap, map, set, ◌∙◌, subst}
+use Rattle.transyt_parts.specs.Parts.{total_flow}
+use Rattle.transyt_net.specs.Parts.{network_of}
+use Rattle.transyt_net.specs.Valid.{IsSound, link_number, link_numbers}
 use Rattle.transyt_parts.specs.Made.{new_feed, add_feed}
-use Rattle.transyt_net.proofs.PlaceLaws.{IsPut, put_there, place_inside}
+use Rattle.transyt_net.proofs.PlaceLaws.{IsPut, put_there, put_again, place_inside}
 use Rattle.transyt_net.proofs.SoundLinks.{sound_feed}
 use Rattle.transyt_net.proofs.TotalLaws.{total_set, link_set, links_put}
 use Rattle.transyt_net.proofs.draft.Draft.feed.Goals as goal
@@ -44,3 +46,20 @@ invariant_of-self-2 c =
       total_set c.self.inside.totals.items c.self.inside.links.items c.in-Some-place.place c.all_flow.result
           c.add_feed.new.link c.self.invariant.3 c.all_flow.ensures.value,
     )
+
+-- out of memory, the links are those from before
+kept : (c : goal.After-from_residual) → set c.self.inside.links.items c.in-Some-place.place c.add_feed.new.link
+    ≡ c.self.inside.links.items
+kept c =
+    put_again c.self.inside.links.items c.in-Some-place.place c.index_mut-owner.result.now c.add_feed.new.link
+    c.in_err-add_feed.ensures.err c.index_mut-owner.ensures.value
+
+-- so the draft stays sound
+pub invariant_of-self : goal.invariant_of-self
+invariant_of-self c = (
+  subst (λ ls. IsSound (network_of c.self.inside.frame c.self.inside.nodes.items ls c.self.inside.plan)) (sym (kept c))
+      c.self.invariant.0,
+  c.self.invariant.1,
+  c.self.invariant.2 ∙ ap link_numbers (sym (kept c)),
+  c.self.invariant.3 ∙ ap (map total_flow) (sym (kept c)),
+)
