@@ -1,6 +1,6 @@
 -- The steps at which a link is shown.
 use Rattle.std.proofs.Common.{◌≡◌, ◌≢◌, ℕ, ◌+◌, ◌%◌, ◌<◌, ◌≤◌, Bool, true, false, ◌&&◌, ◌||◌, List, length, get_or, set}
-use Rattle.std.proofs.Common.{nat_lt, nat_le, ap, sym, ◌∙◌, arith, ◌⊎◌, inl, inr, map, replicate, if◌then◌else◌}
+use Rattle.std.proofs.Common.{nat_lt, nat_le, refl, ap, sym, ◌∙◌, arith, ◌⊎◌, inl, inr, map, replicate, if◌then◌else◌}
 use Rattle.std.specs.List.{list_any, range_with_len}
 use Rattle.std.proofs.lemmas.List.FromFn.{fill_by_all, get_or-map-range_with_len, length-map-range_with_len}
 use Rattle.std.proofs.lemmas.Bool.{cases_eq}
@@ -101,3 +101,17 @@ shows_between steps node stages i k n change from to long runs at starts ends =
   where
     by : (b : Bool) (m l ig : ℕ) → between (if b then 0 else ig) l m ≡ (nat_lt m l && true && (nat_le ig m || b))
     by b m l ig = grind (arith, nat_tests)
+
+-- and none that doesn't run in it
+pub not_shown : (steps : ℕ) (node : NodeValue) (stages : List ℕ) (i k : ℕ) → runs_in stages k ≡ false
+    → shows steps node stages i k ≡ false
+not_shown steps node stages i k none = rw none (by _ _)
+  where
+    by : (b c : Bool) → (b && false && c) ≡ false
+    by true c = refl
+    by false c = refl
+
+-- what has a value by one test has it by an equal one
+pub shown_by : {X : Type 0} (value first x : X) (a b : Bool) → x ≡ (if a then value else first) → a ≡ b
+    → x ≡ (if b then value else first)
+shown_by value first x a b is same = is ∙ ap (λ t. if t then value else first) same

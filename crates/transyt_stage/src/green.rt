@@ -119,7 +119,6 @@ fn green_at(shown: &Shown<'_>, step: usize) -> bool
 }
 
 /// Whether the link is shown at a step or at one of the steps of its end lag before it.
-#[tactic(auto, using(transyt_parts::proofs::BelowLaws::none_below))]
 fn is_held(shown: &Shown<'_>, step: usize) -> bool
     requires { step < length shown.now.steps.now }
     ensures { result ≡ is_held shown.now.steps.now shown.now.end_lag step }
@@ -133,7 +132,6 @@ fn is_held(shown: &Shown<'_>, step: usize) -> bool
 }
 
 /// Whether one of the steps of the start lag, up to a step, opens the link.
-#[tactic(auto, using(transyt_parts::proofs::BelowLaws::none_below))]
 fn is_starting(shown: &Shown<'_>, step: usize) -> bool
     requires { step < length shown.now.steps.now }
     ensures { result ≡ is_starting shown.now.steps.now shown.now.start_lag step }
@@ -156,7 +154,6 @@ fn opens(shown: &Shown<'_>, step: usize) -> bool
 }
 
 /// The step that lies a number of steps before a step, round the cycle.
-#[tactic(auto, using(crate::proofs::StepLaws::back_within, crate::proofs::StepLaws::back_round))]
 fn step_back(step_count: usize, step: usize, back: u32) -> usize
     requires { step < step_count }
     ensures value { result ≡ minus_mod step_count step back }
