@@ -11,7 +11,7 @@ use Rattle.transyt_kept.specs.Rows.{RowsValue, row, with_out, with_arrivals, wit
 use Rattle.transyt_kept.specs.Rows.{empty_rows, empty_table, with_figures, AreRows, SameSize}
 use Rattle.transyt_kept.specs.Saved.{SavedValue, FitsRows, old_rows, marked_by, kept_of, is_up}
 use Rattle.transyt_kept.specs.Saved.{out_kept, arrivals_kept, go_kept, begun, all_down}
-use Rattle.transyt_kept.proofs.OldLaws.{old_put, old_none, length-old_of, places_put}
+use Rattle.transyt_kept.proofs.OldLaws.{old_put, old_none, length-old_of, places_put, length-put_if}
 
 -- rows with a mark, where those of an open mark stay
 kept_same : (rows new : RowsValue) (saved new_saved : SavedValue) → new_saved.live ≡ saved.live
@@ -33,6 +33,10 @@ module _ (rows : RowsValue) (saved : SavedValue) (fits : FitsRows rows saved) wh
       let outs = old_put saved.out_flags saved.rows.outs rows.outs fits.outs saved.live live p x [] in
       (λ j. record (old_rows saved rows) { outs = outs j }))
 
+  -- and each still has its place
+  pub out_fits : (p : ℕ) (x : List ℕ) → FitsRows (record rows { outs = set rows.outs p x }) (out_kept saved rows p)
+  out_fits p x = search (rules, fits, places_put, length-put_if)
+
   -- the saved rows with the arrivals, queue and figures that a link has
   abbrev saved_arrivals : ℕ → SavedValue
   saved_arrivals l =
@@ -49,12 +53,21 @@ module _ (rows : RowsValue) (saved : SavedValue) (fits : FitsRows rows saved) wh
       let figures = old_put flags saved.rows.figures rows.figures fits.figures saved.live live l f no_figures in
       (λ j. record (old_rows saved rows) { arrivals = arrivals j; queue = queue j; figures = figures j }))
 
+  -- and each still has its place
+  pub arrivals_fit : (l : ℕ) (a q : List ℕ) (f : Figures) (b r : List ℕ) (g : Figures)
+      → FitsRows (with_arrivals rows l a q f) (arrivals_kept saved l b r g)
+  arrivals_fit l a q f b r g = search (rules, fits, places_put, length-put_if)
+
   -- and GO
   pub marked_go : (l : ℕ) (g : List ℕ) → kept_of (with_go rows l g) (go_kept saved l (row rows.go l))
       ≡ record (kept_of rows saved) { now = with_go rows l g }
   marked_go l g = kept_same rows _ saved (go_kept saved l (row rows.go l)) refl (λ live.
       let go = old_put saved.go_flags saved.rows.go rows.go fits.go saved.live live l g [] in
       (λ j. record (old_rows saved rows) { go = go j }))
+
+  -- and each still has its place
+  pub go_fits : (l : ℕ) (g h : List ℕ) → FitsRows (with_go rows l g) (go_kept saved l h)
+  go_fits l g h = search (rules, fits, places_put, length-put_if)
 
   -- so they are where a link is weighed anew
   pub marked_figures : (l : ℕ) (f : Figures) → kept_of (with_figures rows l f) (saved_arrivals l)

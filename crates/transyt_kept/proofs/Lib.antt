@@ -1,4 +1,5 @@
 pub mod RowLaws
+pub mod SavedLaws
 pub mod PairLaws
 pub mod ShownLaws
 pub mod TableLaws

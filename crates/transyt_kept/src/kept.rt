@@ -17,10 +17,16 @@ use transyt_delay::Figures;
 /// Rows with a mark: the rows now, and while a mark is open those that were there when it was set.
 ///
 /// A write changes the rows now. While a mark is open, the first write of a row saves the one before it.
-#[derive(Drop)]
 pub struct KeptRows {
     rows: Rows,
     saved: Saved,
+}
+
+impl Drop for KeptRows {
+    // Written out: a derived one is proved again in each crate that lets a value go.
+    fn drop(self) {
+        let KeptRows { rows: _, saved: _ } = self;
+    }
 }
 
 impl Model for KeptRows {

@@ -19,7 +19,6 @@ use transyt_delay::Figures;
 /// Sweeps count from 0, which is the uniform start, and links in card order from 0. A profile has one value for each
 /// step of the cycle. That a link has profiles which repeat each cycle is from LR 253; the sweeps are this project's
 /// own.
-#[derive(Drop)]
 pub struct Rows {
     step_count: usize,
     sweeps: u32,
@@ -29,6 +28,22 @@ pub struct Rows {
     pub(crate) queue: Table,
     figures: Vec<Figures>,
     index: u128,
+}
+
+impl Drop for Rows {
+    // Written out: a derived one is proved again in each crate that lets a value go.
+    fn drop(self) {
+        let Rows {
+            step_count: _,
+            sweeps: _,
+            outs: _,
+            arrivals: _,
+            go: _,
+            queue: _,
+            figures: _,
+            index: _,
+        } = self;
+    }
 }
 
 impl Model for Rows {

@@ -77,8 +77,17 @@ impl Saved {
         };
         let figures = vec![in alloc; none; link_count]?;
         let flags = no_saved_flags(alloc, pair_count, link_count)?;
-        let outs = NarrowTable::empty(alloc, pair_count, step_count)?;
-        let (arrivals, go, queue) = three_tables(alloc, link_count, step_count)?;
+        let Ok(outs) = NarrowTable::empty(alloc, pair_count, step_count) else {
+            drop(flags);
+            drop(figures);
+            return Err(AllocError);
+        };
+        let Ok((arrivals, go, queue)) = three_tables(alloc, link_count, step_count) else {
+            drop(outs);
+            drop(flags);
+            drop(figures);
+            return Err(AllocError);
+        };
         Ok(Saved {
             live: false,
             out_flags: flags.0,

@@ -45,8 +45,16 @@ pub(crate) fn three_tables(
     ensures three { IfOk result (λ tables. tables.2 ≡ empty_table count step_count) }
 {
     let one = Table::empty(alloc, count, step_count)?;
-    let two = Table::empty(alloc, count, step_count)?;
-    Ok((one, two, Table::empty(alloc, count, step_count)?))
+    let Ok(two) = Table::empty(alloc, count, step_count) else {
+        drop(one);
+        return Err(AllocError);
+    };
+    let Ok(three) = Table::empty(alloc, count, step_count) else {
+        drop(one);
+        drop(two);
+        return Err(AllocError);
+    };
+    Ok((one, two, three))
 }
 
 impl Table {
@@ -67,7 +75,7 @@ impl Table {
     }
 
     /// Puts a row in its place.
-    #[tactic(auto, using(crate::proofs::TableLaws::row_read, crate::proofs::TableLaws::row_written))]
+    #[tactic(auto, using(crate::proofs::TableLaws::row_read))]
     pub(crate) fn put(&mut self, place: usize, values: &[u64])
         requires place { place < length self.old }
         requires steps { length values.now ≡ length (row self.old place) }
@@ -77,7 +85,7 @@ impl Table {
     }
 
     /// A row of values and the one at a place change places. Nothing is copied.
-    #[tactic(auto, using(crate::proofs::TableLaws::row_read, crate::proofs::TableLaws::row_written))]
+    #[tactic(auto, using(crate::proofs::TableLaws::row_read))]
     pub(crate) fn exchange(&mut self, place: usize, values: &mut Vec<u64>)
         requires { place < length self.old }
         ensures put { self.new ≡ slice_set self.old place values.old.items }
@@ -87,7 +95,6 @@ impl Table {
     }
 
     /// The rows of two tables at a place change places. Nothing is copied.
-    #[tactic(auto, using(crate::proofs::TableLaws::row_read, crate::proofs::TableLaws::row_written))]
     pub(crate) fn exchange_with(&mut self, place: usize, other: &mut Table)
         requires here { place < length self.old }
         requires there { place < length other.old }

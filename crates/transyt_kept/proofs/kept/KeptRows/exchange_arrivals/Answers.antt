@@ -1,13 +1,13 @@
 -- The rows are written over, and those that were there saved.
-use Rattle.std.proofs.Common.{rules}
-use Rattle.transyt_kept.proofs.OldLaws.{places_put, length-put_if}
-use Rattle.transyt_kept.proofs.KeptLaws.{marked_arrivals}
+use Rattle.transyt_kept.proofs.KeptLaws.{marked_arrivals, arrivals_fit}
 use Rattle.transyt_kept.proofs.kept.KeptRows.exchange_arrivals.Goals as goal
 
 pub invariant_of-self : goal.invariant_of-self
 invariant_of-self c =
+    let i = c.self.inside in
     rw (c.keep_arrivals.ensures.value, c.exchange_arrivals.ensures.value)
-    (search (rules, c.self.invariant, places_put, length-put_if))
+    (arrivals_fit i.rows i.saved c.self.invariant c.args.link c.args.arrivals.now.items c.args.queue.now.items
+    c.args.figures.now _ _ _)
 
 pub returns-clause-value : goal.returns-clause-value
 returns-clause-value c =

@@ -14,10 +14,10 @@ empty-requires c =
 pub returns-clause-rows : goal.returns-clause-rows
 returns-clause-rows c =
     let size = c.args.size in
-    let tables = c.in_ok-arrivals.ensures in
+    let tables = c.in-Ok-three_tables.ensures in
     let unweighed : c.in_ok-figures.figures.items ≡ replicate size.link_count no_figures = search rules in
     (λ j. record (empty_rows size.step_count size.sweeps size.link_count) {
-      outs = c.in_ok-outs.ensures j;
+      outs = c.in-Ok.ensures j;
       arrivals = tables.one j;
       go = tables.two j;
       queue = tables.three j;
@@ -27,9 +27,9 @@ returns-clause-rows c =
 pub invariant_of-result : goal.invariant_of-result
 invariant_of-result c =
     let size = c.args.size in
-    let tables = c.in_ok-arrivals.ensures in
+    let tables = c.in-Ok-three_tables.ensures in
     let unweighed : c.in_ok-figures.figures.items ≡ replicate size.link_count no_figures = search rules in
-    rw (c.in_ok-outs.ensures, tables.one, tables.two, tables.three, unweighed)
+    rw (c.in-Ok.ensures, tables.one, tables.two, tables.three, unweighed)
     (empty_are size.step_count size.sweeps size.link_count size.steps_most size.sweeps_most size.links_most)
 
 pub returns-clause-outs : goal.returns-clause-outs
