@@ -1,6 +1,6 @@
 //! Room for the work on one link.
 
-ghost use Rattle.std.specs.Prelude.{◌≡◌, ◌^◌, ◌<◌, ◌≤◌, length, All, IfOk};
+ghost use Rattle.std.specs.Prelude.{◌≡◌, ◌^◌, ◌<◌, ◌≤◌, length, replicate, All, IfOk};
 ghost use Rattle.transyt_delay.specs.Figures.{figures};
 ghost use Rattle.transyt_kept.specs.Cell.{AreSmall};
 ghost use Rattle.transyt_kept.specs.Rows.{with_arrivals, with_go};
@@ -23,7 +23,6 @@ pub const FACTOR_BYTES: usize = 8 * size_of::<Factors>();
 /// Room to work out one link at one sweep, and the cell that was worked out last.
 ///
 /// Figures are worked out only when they are asked for, since all sweeps but the last need none.
-#[derive(Drop)]
 pub struct Scratch {
     pub(crate) arrivals: Vec<u64>,
     pub(crate) go: Vec<u64>,
@@ -37,6 +36,22 @@ pub struct Scratch {
     pub(crate) reaching: Vec<u64>,
     // the factors that were worked out last of each feed, eight places a link
     pub(crate) factors: Vec<Factors>,
+}
+
+impl Drop for Scratch {
+    // Written out: a derived one is proved again in each crate that lets a value go.
+    fn drop(self) {
+        let Scratch {
+            arrivals: _,
+            go: _,
+            queue: _,
+            out: _,
+            asked: _,
+            room: _,
+            reaching: _,
+            factors: _,
+        } = self;
+    }
 }
 
 impl Model for Scratch {
@@ -70,20 +85,30 @@ impl Scratch {
             flow: 0,
             cruise: 0,
         };
+        let factors = vec![in alloc; factors_of(net, none, 0, 0); 8 * net.links().len()]?;
+        let Ok(shown) = zero_rows(alloc, step_count, step_count) else {
+            drop(factors);
+            return Err(AllocError);
+        };
+        let Ok(rest) = zero_rows(alloc, step_count, 8 * step_count) else {
+            drop(factors);
+            drop(shown);
+            return Err(AllocError);
+        };
         Ok(Scratch {
-            arrivals: vec![in alloc; 0; step_count]?,
-            go: vec![in alloc; 0; step_count]?,
-            queue: vec![in alloc; 0; step_count]?,
-            out: vec![in alloc; 0; step_count]?,
+            arrivals: shown.0,
+            go: shown.1,
+            queue: shown.2,
+            out: rest.0,
             asked: LazyFigures::Known(Figures {
                 uniform: 0,
                 random: 0,
                 stops: 0,
                 index: 0,
             }),
-            room: vec![in alloc; 0; 8 * step_count]?,
-            reaching: vec![in alloc; 0; step_count]?,
-            factors: vec![in alloc; factors_of(net, none, 0, 0); 8 * net.links().len()]?,
+            room: rest.2,
+            reaching: rest.1,
+            factors,
         })
     }
 
@@ -164,6 +189,21 @@ impl Scratch {
         self.asked = LazyFigures::Known(self.figures());
         kept.exchange_go(link, &mut self.go);
     }
+}
+
+/// Two rows of `step_count` values and one of `last`, all 0.
+fn zero_rows(
+    alloc: Global,
+    step_count: usize,
+    last: usize,
+) -> Result<(Vec<u64>, Vec<u64>, Vec<u64>), AllocError>
+    ensures one { IfOk result (λ rows. rows.0.items ≡ replicate step_count 0) }
+    ensures two { IfOk result (λ rows. rows.1.items ≡ replicate step_count 0) }
+    ensures last { IfOk result (λ rows. rows.2.items ≡ replicate last 0) }
+{
+    let one = vec![in alloc; 0; step_count]?;
+    let two = vec![in alloc; 0; step_count]?;
+    Ok((one, two, vec![in alloc; 0; last]?))
 }
 
 /// The figures of a link from the sums of arrivals and of GO over a cycle, from the arrivals after the cut and from the

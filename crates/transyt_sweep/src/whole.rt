@@ -18,7 +18,6 @@ use transyt_steps::Steps;
 /// The whole evaluation of a network: each link at each sweep, one after another.
 ///
 /// All memory is taken before the first cell is worked out, so an error costs no step.
-#[tactic(auto, using(crate::proofs::IndexLaws::index_is))]
 pub fn full<L: Ledger>(alloc: Global, net: &Net, steps: &mut Steps<L>) -> Result<Rows, AllocError>
     ensures rows { IfOk result (λ rows. AreEvaluation net.now rows) }
     ensures index { IfOk result (λ rows. index_in rows ≡ index net.now) }

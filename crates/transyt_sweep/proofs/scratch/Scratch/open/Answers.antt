@@ -18,22 +18,17 @@ overflow_mul-links c =
 
 pub returns : goal.returns
 returns c =
-    ap length (c.in_ok-vec.ensures.items_if_clones_equal (λ y same. same))
-    ∙ length-replicate c.frame.result.step_count 0
-    ∙ ap (λ (f : Frame). f.step_count) c.frame.ensures.value
+    ap length c.in-Ok.ensures.one
+    ∙ length-replicate c.frame-step_count.result.step_count 0
+    ∙ ap (λ (f : Frame). f.step_count) c.frame-step_count.ensures.value
 
 pub invariant_of-result : goal.invariant_of-result
 invariant_of-result c =
-    empty_scratch c.frame.result.step_count (8 * length c.links.result.now) c.in_ok-vec.field-0.items
-    c.in_ok-vec-2.field-0.items c.in_ok-vec-3.field-0.items c.in_ok-vec-4.field-0.items c.in_ok-vec-5.field-0.items
-    c.in_ok-vec-6.field-0.items c.in_ok-vec-7.field-0.items c.factors_of.result no_figures
-    (c.in_ok-vec.ensures.items_if_clones_equal (λ y same. same))
-    (c.in_ok-vec-2.ensures.items_if_clones_equal (λ y same. same))
-    (c.in_ok-vec-3.ensures.items_if_clones_equal (λ y same. same))
-    (c.in_ok-vec-4.ensures.items_if_clones_equal (λ y same. same))
-    (c.in_ok-vec-5.ensures.items_if_clones_equal (λ y same. same))
-    (c.in_ok-vec-6.ensures.items_if_clones_equal (λ y same. same))
-    (c.in_ok-vec-7.ensures.items_if_clones_equal (λ y same. same))
+    let shown = c.in-Ok.ensures in
+    let rest = c.in-Ok-zero_rows.ensures in
+    empty_scratch c.frame-step_count.result.step_count (8 * length c.links.result.now) _ _ _ _ _ _ _ c.factors_of.result no_figures
+    shown.one shown.two shown.last rest.one rest.last rest.two
+    (c.in_ok-factors.ensures.items_if_clones_equal (λ y same. same))
     (subst (λ n. AreFactors n c.factors_of.result)
-    (ap (λ (f : Frame). f.step_count) (sym c.frame.ensures.value)) c.factors_of.ensures.are)
+    (ap (λ (f : Frame). f.step_count) (sym c.frame-step_count.ensures.value)) c.factors_of.ensures.are)
     (record { uniform = omega arith; random = omega arith; index = omega arith })
