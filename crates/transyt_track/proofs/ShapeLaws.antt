@@ -8,12 +8,16 @@ use Rattle.transyt_parts.specs.Made.{bare_node, bare_feed, bare_link}
 use Rattle.transyt_parts.specs.Valid.{node_number}
 use Rattle.transyt_parts.proofs.CopyLaws.{same_length}
 use Rattle.transyt_net.specs.Parts.{Network, link_of, SameShape}
-use Rattle.transyt_net.specs.Valid.{place_of}
-use Rattle.transyt_net.specs.Valid.{found_or_first, link_place}
+use Rattle.transyt_net.specs.Valid.{IsValid, place_of, found_or_first, link_place}
 use Rattle.transyt_track.specs.Own.{feeder_place, rule_place, node_place, places_at, ArePlaces, PlacesValue}
 use Rattle.transyt_track.specs.Readers.{AreReaders, reads}
 use Rattle.transyt_track.proofs.OwnLaws.{numbers_same, bare_at}
 use Rattle.transyt_track.proofs.PlaceLaws.{place_read, feeders_inside, rule_inside}
+
+-- a link of these, which a network has, is one of at most a thousand
+pub link_few : {net : Network} {links : List LinkValue} → links ≡ net.links → IsValid net → (l : ℕ) → l < length links
+    → l < 1000
+link_few are valid l test = omega (arith, ap length are, valid.sound.link_count)
 
 node_numbers_same : (xs ys : List NodeValue) → map bare_node xs ≡ map bare_node ys
     → map node_number xs ≡ map node_number ys

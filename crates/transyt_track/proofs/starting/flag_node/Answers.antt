@@ -7,7 +7,7 @@ use Rattle.transyt_track.specs.Front.{own_differs}
 use Rattle.transyt_track.proofs.ChangeLaws.{times_told}
 use Rattle.transyt_track.proofs.EditedLaws.{node_flag}
 use Rattle.transyt_track.proofs.FrontLaws.{flag_more}
-use Rattle.transyt_track.proofs.ShapeLaws.{table_read, table_inside, shape_nodes}
+use Rattle.transyt_track.proofs.ShapeLaws.{link_few, table_read, table_inside, shape_nodes}
 use Rattle.transyt_track.proofs.starting.flag_node.Goals as goal
 
 pub bounds-nodes-node : goal.bounds-nodes-node
@@ -22,12 +22,8 @@ bounds-places-link c =
 
 pub offset_bounds-places-link : goal.offset_bounds-places-link
 offset_bounds-places-link c =
-    omega (
-      arith,
-      c.loop-link-test.true,
-      ap length c.links-link-end.ensures.value,
-      c.links-link-end.ensures.valid.sound.link_count,
-    )
+    let all = c.links-link-end.ensures in
+    omega (arith, link_few all.value all.valid c.loop-link.link c.loop-link-test.true)
 
 pub loop-link-preserved : goal.loop-link-preserved
 loop-link-preserved c =

@@ -7,7 +7,7 @@ use Rattle.transyt_track.specs.Front.{flag, own_differs, total_differs}
 use Rattle.transyt_track.proofs.ChangeLaws.{own_flag}
 use Rattle.transyt_track.proofs.AwaitLaws.{any_same}
 use Rattle.transyt_track.proofs.FrontLaws.{flag_more}
-use Rattle.transyt_track.proofs.ShapeLaws.{table_read, table_inside, shape_places}
+use Rattle.transyt_track.proofs.ShapeLaws.{link_few, table_read, table_inside, shape_places}
 use Rattle.transyt_track.proofs.starting.flag_own.Goals as goal
 
 pub loop-link-init : goal.loop-link-init
@@ -30,12 +30,8 @@ bounds-places-link c =
 
 pub offset_bounds-places-link : goal.offset_bounds-places-link
 offset_bounds-places-link c =
-    omega (
-      arith,
-      c.loop-link-test.true,
-      ap length c.links-link-end.ensures.value,
-      c.links-link-end.ensures.valid.sound.link_count,
-    )
+    let all = c.links-link-end.ensures in
+    omega (arith, link_few all.value all.valid c.loop-link.link c.loop-link-test.true)
 
 pub loop-link-preserved : goal.loop-link-preserved
 loop-link-preserved c =

@@ -5,7 +5,7 @@ use Rattle.transyt_kept.specs.Cell.{CellValue}
 use Rattle.transyt_track.specs.Own.{HaveData}
 use Rattle.transyt_track.specs.Front.{AreStarting}
 use Rattle.transyt_track.proofs.ChangeLaws.{down_more, not_down}
-use Rattle.transyt_track.proofs.ShapeLaws.{table_read, table_inside, shape_nodes}
+use Rattle.transyt_track.proofs.ShapeLaws.{link_few, table_read, table_inside, shape_nodes}
 use Rattle.transyt_track.proofs.StartLaws.{total_start, started_none}
 use Rattle.transyt_track.proofs.starting.start_links.Goals as goal
 
@@ -79,12 +79,8 @@ bounds-places-link c =
 
 pub offset_bounds-places-link : goal.offset_bounds-places-link
 offset_bounds-places-link c =
-    omega (
-      arith,
-      c.loop-link-test.true,
-      ap length c.links-link-end.ensures.value,
-      c.links-link-end.ensures.valid.sound.link_count,
-    )
+    let all = c.links-link-end.ensures in
+    omega (arith, link_few all.value all.valid c.loop-link.link c.loop-link-test.true)
 
 pub index_mut-requires : goal.index_mut-requires
 index_mut-requires c =
