@@ -18,11 +18,21 @@ use transyt_steps::Steps;
 use transyt_track::Tracker;
 
 /// A network with its evaluation, at most one open trial, and the work so far.
-#[derive(Drop)]
 pub struct Session {
     net: Net,
     tracker: Tracker,
     work: u64,
+}
+
+impl Drop for Session {
+    // Written out: a derived one is proved again in each crate that lets a value go.
+    fn drop(self) {
+        let Session {
+            net: _,
+            tracker: _,
+            work: _,
+        } = self;
+    }
 }
 
 impl Model for Session {
