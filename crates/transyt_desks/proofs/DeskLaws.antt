@@ -7,12 +7,12 @@ use Rattle.std.proofs.lemmas.List.{length-replicate, get_or-replicate, replicate
 use Rattle.std.proofs.lemmas.List.{length-set, length-drop}
 use Rattle.std.proofs.lemmas.List.{get_or-map as get_or-map-at}
 use Rattle.std.proofs.lemmas.Grind.{get_or_after_one}
-use Rattle.transyt_net.specs.Parts.{SameShape, shape as shape_word}
+use Rattle.transyt_net.specs.Parts.{Network, SameShape, shape as shape_word}
 use Rattle.transyt_moves.specs.Moves.{move_count}
-use Rattle.transyt_session.specs.Session.{SessionValue, opened}
+use Rattle.transyt_session.specs.Session.{SessionValue, opened, standing_for}
 use Rattle.transyt_desks.specs.declared.desk.Desk.{Desk}
 use Rattle.transyt_desks.specs.Desks.{no_session, no_desk, new_desk, session_at, desk_zero, sessions_of, opened_desks}
-use Rattle.transyt_desks.specs.Desks.{AreAligned, AreAlike, AreDesks, OthersClosed}
+use Rattle.transyt_desks.specs.Desks.{AreAligned, AreAlike, AreDesks, OthersClosed, Stands}
 
 -- the session at a place is that of the desk there
 pub session_is : (desks : List Desk) (k : ℕ) → session_at (sessions_of desks) k ≡ (slice_index_or desks k no_desk).session
@@ -215,3 +215,10 @@ all_closed desks zero d others zero_closed less =
 all_closed desks (suc k) d others zero_closed less =
     ap (λ (s : SessionValue). s.before) (session_read desks (suc k) d less)
     ∙ others.closed (suc k) (omega arith) (omega (arith, sessions_count desks))
+
+-- a session that took over stands for the network
+pub stands : (net : Network) (old new : SessionValue) → new ≡ standing_for net old → Stands net new
+stands net old new is = record {
+  net = ap (λ (s : SessionValue). s.net) is;
+  closed = ap (λ (s : SessionValue). s.before) is;
+}

@@ -1,6 +1,7 @@
 -- A round: a turn that is no end is a look, so the round is the turns of a stretch, and one more where a move lowers.
-use Rattle.std.proofs.Common.{◌≡◌, ℕ, ◌+◌, ◌<◌, ◌≤◌, true, false, None, List, length, refl, ap, sym, ◌∙◌, subst, arith}
+use Rattle.std.proofs.Common.{◌≡◌, ℕ, ◌+◌, ◌*◌, ◌<◌, ◌≤◌, Bool, true, false, None, List, length, slice_set, refl, ap, sym, ◌∙◌, subst, arith}
 use Rattle.std.proofs.Common.{if◌then◌else◌}
+use Rattle.std.proofs.lemmas.List.{length-set}
 use Rattle.transyt_moves.specs.Moves.{move_count}
 use Rattle.transyt_session.specs.Session.{SessionValue, credited}
 use Rattle.transyt_climb.specs.declared.turn.Turn.{Turn}
@@ -12,12 +13,12 @@ use Rattle.transyt_desks.specs.declared.turns.Round.{Round}
 use Rattle.transyt_desks.specs.declared.stretch.Stretch.{Stretch}
 use Rattle.transyt_desks.specs.Stretches.{IsStretch}
 use Rattle.transyt_desks.specs.Desks.{desk_zero, AreAlike}
-use Rattle.transyt_desks.specs.Rounds.{is_took, passed_by, room_of, turns_of, turns_up_to, CanRound, MakesRound, RoundsDesks}
+use Rattle.transyt_desks.specs.Rounds.{each_of, goes_alone, is_took, passed_by, places_of, room_of, turns_of, turns_up_to, CanRound, MakesRound, RoundsDesks}
 use Rattle.transyt_desks.proofs.TriedLaws.{answers_look, answers_took}
 use Rattle.transyt_desks.proofs.LeastLaws.{up_to_one}
 use Rattle.transyt_desks.proofs.PassingLaws.{ArePassing, still_on, next_lowers, stretch_passing, stretch_passed}
 use Rattle.transyt_desks.proofs.PassingLaws.{number_passed, number_took, round_passed, round_took}
-use Rattle.transyt_desks.proofs.DeskLaws.{alike_lent}
+use Rattle.transyt_desks.proofs.DeskLaws.{alike_lent, zero_set}
 use Rattle.transyt_desks.proofs.ShapeLaws.{shape_round}
 
 -- a look is no end
@@ -95,3 +96,44 @@ pub alike_rounds : (places : ℕ) (before after : Counters) (olds news : List Se
 alike_rounds places before after olds news result some alike rounds =
     subst AreAlike (sym rounds.others) (alike_lent olds (desk_zero news) some alike
     (shape_round (machine before (desk_zero olds)) (machine after (desk_zero news)) result.turns result.last rounds.made.round))
+
+-- a round at the session that desks lend is a round of the desks
+pub rounds_lent : (told places : ℕ) (before after : Counters) (olds lent : List SessionValue) (s t : SessionValue) (result : Round)
+    → told ≡ places → 0 < length olds → lent ≡ olds → s ≡ desk_zero lent
+    → MakesRound told (machine before s) (machine after t) result
+    → RoundsDesks places before olds after (slice_set lent 0 t) result
+rounds_lent told places before after olds lent s t result number some same is made =
+    let zero : desk_zero (slice_set lent 0 t) ≡ t = zero_set lent t (omega (arith, some, ap length same)) in
+    record {
+      made = subst (λ n. MakesRound n (machine before (desk_zero olds)) (machine after (desk_zero (slice_set lent 0 t))) result)
+          number
+          (subst (λ u. MakesRound told (machine before u) (machine after (desk_zero (slice_set lent 0 t))) result)
+          (is ∙ ap desk_zero same)
+          (subst (λ u. MakesRound told (machine before s) (machine after u) result) (sym zero) made));
+      others = ap (λ ss. slice_set ss 0 t) same ∙ ap (λ u. slice_set olds 0 u) (sym zero);
+    }
+
+-- it has as many desks
+pub rounds_workers : (places : ℕ) (before after : Counters) (olds news : List SessionValue) (result : Round)
+    → RoundsDesks places before olds after news result → length news ≡ length olds
+rounds_workers places before after olds news result rounds = ap length rounds.others ∙ length-set olds 0 (desk_zero news)
+
+-- what so many desks are told of whether desk 0 goes on alone
+module _ (desks count : ℕ) (c : Counters) (told : Bool) (is : count ≡ desks) (by : told ≡ goes_alone count c) where
+  answer : goes_alone desks c ≡ told
+  answer = ap (λ n. goes_alone n c) (sym is) ∙ sym by
+
+  -- it has one place then
+  pub places_alone : told ≡ true → 1 ≡ places_of desks c
+  places_alone alone = sym (ap (λ b. if b then 1 else desks * each_of desks c) (answer ∙ alone))
+
+  -- otherwise each desk has its part
+  pub places_together : (followed tried each : ℕ) → told ≡ false → followed ≡ desks → tried ≡ followed → each ≡ each_of tried c
+      → followed * each ≡ places_of desks c
+  places_together followed tried each others same these part =
+      (λ i. same i * (part ∙ ap (λ n. each_of n c) (these ∙ same)) i)
+      ∙ sym (ap (λ b. if b then 1 else desks * each_of desks c) (answer ∙ others))
+
+  -- and there are several
+  pub never_one : told ≡ false → desks ≡ 1 → ⊥
+  never_one others one = (let never : true ≡ false = ap (λ n. goes_alone n c) (sym one) ∙ answer ∙ others in cc)

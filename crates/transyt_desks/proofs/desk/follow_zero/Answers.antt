@@ -1,5 +1,5 @@
 -- The desks after the first stand for its network.
-use Rattle.std.proofs.Common.{◌≡◌, ◌+◌, ◌++◌, List, slice_index_or, sym, ap, ◌∙◌, subst, arith}
+use Rattle.std.proofs.Common.{◌≡◌, ◌+◌, ◌++◌, List, slice_index_or, length-append, sym, ap, ◌∙◌, subst, arith}
 use Rattle.transyt_net.specs.Parts.{shape}
 use Rattle.transyt_session.specs.Session.{SessionValue}
 use Rattle.transyt_desks.specs.declared.desk.Desk.{Desk}
@@ -39,3 +39,26 @@ returns-clause-closed g c =
     subst (λ (ds : List Desk). OthersClosed (sessions_of (ds ++ c.stand_all.new.desks)))
     (sym (c.split_at_mut-zero.ensures.front ∙ first_desk desks c.requires.some))
     (joined_closed (slice_index_or desks 0 no_desk) c.stand_all.new.desks (λ k d less. (c.stand_all.ensures.stand k d less).closed))
+
+pub returns-clause-zero : goal.returns-clause-zero
+returns-clause-zero g c =
+    let desks = c.args.desks.now in
+    ap (λ (ds : List Desk). desk_zero (sessions_of (ds ++ c.stand_all.new.desks)))
+    (c.split_at_mut-zero.ensures.front ∙ first_desk desks c.requires.some)
+    ∙ sym (session_is desks 0)
+
+pub returns-clause-len : goal.returns-clause-len
+returns-clause-len g c =
+    omega (
+      arith,
+      length-append c.split_at_mut-zero.result.0.now c.stand_all.new.desks,
+      c.stand_all.ensures.len,
+      c.split_at_mut-zero.ensures.front_len,
+      c.split_at_mut-zero.ensures.back_len,
+    )
+
+pub returns-then-all_same-clause-aligned : goal.returns-then-all_same-clause-aligned
+returns-then-all_same-clause-aligned g c = c.all_same.ensures.0 c.if-all_same.true
+
+pub returns-then-all_same-clause-closed : goal.returns-then-all_same-clause-closed
+returns-then-all_same-clause-closed g c = c.requires.closed

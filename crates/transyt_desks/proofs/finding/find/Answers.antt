@@ -1,7 +1,7 @@
 -- One move more is tried, or none is left.
-use Rattle.std.proofs.Common.{◌≡◌, ◌≤◌, ap, ◌∙◌, subst, arith}
+use Rattle.std.proofs.Common.{◌≡◌, ◌<◌, ◌≤◌, refl, ap, sym, ◌∙◌, subst, arith}
 use Rattle.std.proofs.lemmas.List.{length-set}
-use Rattle.transyt_moves.specs.Moves.{move}
+use Rattle.transyt_moves.specs.Moves.{move, move_count}
 use Rattle.transyt_track.specs.Due.{edit_work}
 use Rattle.transyt_session.specs.Session.{SessionValue, try_of}
 use Rattle.transyt_desks.specs.Stretches.{turn_place}
@@ -25,3 +25,15 @@ loop-turn-preserved c =
       len = length-set c.loop-turn.finds c.loop-turn.turn c.try_at.result ∙ so.len;
       same = c.try_at.ensures.same ∙ so.same;
     }
+
+pub loop-turn-init : goal.loop-turn-init
+loop-turn-init c = record {
+  tries = record { each = λ k d less. absurd (omega (arith, less)); few = λ k less. absurd (omega (arith, less)) };
+  len = refl;
+  same = refl;
+}
+
+pub try_at-requires-clause-place : goal.try_at-requires-clause-place
+try_at-requires-clause-place c =
+    subst (λ (s : SessionValue). c.place_of.result < move_count s.net) (sym c.loop-turn.invariant.same)
+    (subst (λ n. c.place_of.result < n) c.requires.count c.place_of.ensures.below)

@@ -38,3 +38,13 @@ returns-clause-zero g c =
     let written = with_items_is c.self.inside.desks c.follow_zero.new.desks (c.follow_zero.auto.desks ∙ c.as_mut_slice.ensures.len) in
     ap (λ ds. desk_zero (sessions_of ds)) written ∙ c.follow_zero.ensures.zero
     ∙ ap (λ ds. desk_zero (sessions_of ds)) c.as_mut_slice.ensures.value ∙ ap desk_zero c.self.view_is
+
+pub returns-clause-workers : goal.returns-clause-workers
+returns-clause-workers g c =
+    let written = with_items_is c.self.inside.desks c.follow_zero.new.desks (c.follow_zero.auto.desks ∙ c.as_mut_slice.ensures.len) in
+    ap (λ ds. length (sessions_of ds)) written ∙ sessions_count c.follow_zero.new.desks ∙ c.follow_zero.ensures.len
+    ∙ sym (sessions_count c.as_mut_slice.result.now) ∙ ap (λ ds. length (sessions_of ds)) c.as_mut_slice.ensures.value
+    ∙ ap length c.self.view_is
+
+pub returns-then-self-clause-aligned : goal.returns-then-self-clause-aligned
+returns-then-self-clause-aligned g c = subst AreAligned c.self.view_is (c.self.invariant.aligned c.if-self.true)

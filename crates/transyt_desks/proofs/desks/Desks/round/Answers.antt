@@ -1,7 +1,11 @@
 -- Desks that stand for one network are alike after the turns at desk 0.
-use Rattle.std.proofs.Common.{◌<◌, length, arith}
+use Rattle.std.proofs.Common.{◌≡◌, ◌<◌, ◌*◌, length, sym, ◌∙◌, subst, arith}
+use Rattle.transyt_climb.specs.Turns.{machine}
+use Rattle.transyt_session.specs.Session.{SessionValue}
+use Rattle.transyt_desks.specs.Desks.{desk_zero}
+use Rattle.transyt_desks.specs.Rounds.{MakesRound}
 use Rattle.transyt_desks.proofs.DeskLaws.{aligned_alike}
-use Rattle.transyt_desks.proofs.RoundLaws.{alike_rounds}
+use Rattle.transyt_desks.proofs.RoundLaws.{alike_rounds, rounds_workers}
 use Rattle.transyt_desks.proofs.desks.Desks.round.Goals as goal
 
 pub follow-requires-clause-shape : goal.follow-requires-clause-shape
@@ -9,3 +13,20 @@ follow-requires-clause-shape g c κs within =
     let some : 0 < length c.args.self.now = omega (arith, c.count.ensures.value, c.count.ensures.some) in
     alike_rounds _ _ _ c.args.self.now c.together-round.new.desks c.together-round.result some
     (aligned_alike c.args.self.now c.requires.aligned) c.together-round.ensures
+
+pub returns-then-count-eq1-clause-made : goal.returns-then-count-eq1-clause-made
+returns-then-count-eq1-clause-made g c =
+    subst (λ n. MakesRound n (machine c.args.climber.now (desk_zero c.args.self.now))
+    (machine c.alone.new.climber (desk_zero c.alone.new.desks)) c.alone.result)
+    (sym c.if-count-eq1.true ∙ c.count.ensures.value) c.alone.ensures.made.made
+
+pub returns-clause-made : goal.returns-clause-made
+returns-clause-made g c =
+    let one : length c.args.self.now * 1 ≡ length c.args.self.now = omega arith in
+    subst (λ n. MakesRound n (machine c.args.climber.now (desk_zero c.args.self.now))
+    (machine c.together-round.new.climber (desk_zero c.follow.new.self)) c.together-round.result) one
+    (subst (λ (s : SessionValue). MakesRound (length c.args.self.now * 1) (machine c.args.climber.now (desk_zero c.args.self.now))
+    (machine c.together-round.new.climber s) c.together-round.result) (sym c.follow.ensures.zero) c.together-round.ensures.made)
+
+pub returns-clause-workers : goal.returns-clause-workers
+returns-clause-workers g c = c.follow.ensures.workers ∙ rounds_workers _ _ _ _ _ _ c.together-round.ensures

@@ -1,7 +1,11 @@
 -- Desk 0 goes on alone, or all follow it before they try.
-use Rattle.std.proofs.Common.{◌<◌, length, arith}
+use Rattle.std.proofs.Common.{◌<◌, ◌*◌, length, sym, ◌∙◌, subst, arith}
+use Rattle.transyt_climb.specs.Turns.{machine}
+use Rattle.transyt_session.specs.Session.{SessionValue}
+use Rattle.transyt_desks.specs.Desks.{desk_zero}
+use Rattle.transyt_desks.specs.Rounds.{CanRound, MakesRound}
 use Rattle.transyt_desks.proofs.DeskLaws.{aligned_alike}
-use Rattle.transyt_desks.proofs.RoundLaws.{alike_rounds}
+use Rattle.transyt_desks.proofs.RoundLaws.{alike_rounds, never_one, places_alone, places_together, rounds_workers}
 use Rattle.transyt_desks.proofs.desks.Desks.stretch_round.Goals as goal
 
 pub returns-then-goes_alone-clause-alike : goal.returns-then-goes_alone-clause-alike
@@ -15,3 +19,37 @@ returns-clause-alike g c =
     let some : 0 < length followed = omega (arith, c.follow.ensures.workers, c.count.ensures.value, c.count.ensures.some) in
     alike_rounds _ _ _ followed c.together.new.desks c.together.result some
     (aligned_alike followed c.follow.ensures.aligned) c.together.ensures
+
+pub returns-then-goes_alone-clause-made : goal.returns-then-goes_alone-clause-made
+returns-then-goes_alone-clause-made g c =
+    subst (λ n. MakesRound n (machine c.args.climber.now (desk_zero c.args.self.now))
+    (machine c.alone.new.climber (desk_zero c.alone.new.desks)) c.alone.result)
+    (places_alone (length c.args.self.now) c.count.result c.args.climber.now c.goes_alone.result c.count.ensures.value
+    c.goes_alone.ensures c.if-goes_alone.true) c.alone.ensures.made.made
+
+pub returns-then-goes_alone-clause-workers : goal.returns-then-goes_alone-clause-workers
+returns-then-goes_alone-clause-workers g c = rounds_workers _ _ _ _ _ _ c.alone.ensures.made
+
+pub together-requires-clause-ready : goal.together-requires-clause-ready
+together-requires-clause-ready g c κs within =
+    subst (CanRound c.args.climber.now) (sym c.follow.ensures.zero) c.requires.ready
+
+pub returns-clause-made : goal.returns-clause-made
+returns-clause-made g c =
+    subst (λ n. MakesRound n (machine c.args.climber.now (desk_zero c.args.self.now))
+    (machine c.together.new.climber (desk_zero c.together.new.desks)) c.together.result)
+    (places_together (length c.args.self.now) c.count.result c.args.climber.now c.goes_alone.result c.count.ensures.value
+    c.goes_alone.ensures (length c.follow.new.self) c.count-2.result c.each-each.result c.if-goes_alone.false
+    c.follow.ensures.workers c.count-2.ensures.value c.each-each.ensures.value)
+    (subst (λ (s : SessionValue). MakesRound (length c.follow.new.self * c.each-each.result) (machine c.args.climber.now s)
+    (machine c.together.new.climber (desk_zero c.together.new.desks)) c.together.result) c.follow.ensures.zero
+    c.together.ensures.made)
+
+pub returns-clause-workers : goal.returns-clause-workers
+returns-clause-workers g c =
+    rounds_workers _ _ _ c.follow.new.self c.together.new.desks _ c.together.ensures ∙ c.follow.ensures.workers
+
+pub returns-clause-steps : goal.returns-clause-steps
+returns-clause-steps g c one =
+    absurd (never_one (length c.args.self.now) c.count.result c.args.climber.now c.goes_alone.result c.count.ensures.value
+    c.goes_alone.ensures c.if-goes_alone.false one)
