@@ -5,6 +5,7 @@ pub mod Cutting
 pub mod FeedBlocks
 pub mod LinkBlocks
 pub mod LinkNumbers
+pub mod NamedCards
 pub mod NodeBlocks
 pub mod NumberTexts
 pub mod ReadBack

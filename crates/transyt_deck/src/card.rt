@@ -79,6 +79,13 @@ fn card_named(form: u32, keyword: &[u8], ns: &Numbers) -> Option<((usize, usize)
     ensures counts { IfSome result
         (λ found. is_count found.0 (length ns.now) ≡ true → CanAdd found.1) }
 {
+    entry_named(form, keyword, ns)
+}
+
+/// The same, by the table of cards alone.
+fn entry_named(form: u32, keyword: &[u8], ns: &Numbers) -> Option<((usize, usize), Card)>
+    ensures { result ≡ with_numbers ns.now (named (cards form) keyword.now) }
+{
     let (number, offset) = (ns.at(0), ns.at(1));
     match keyword {
         _ if is_word(keyword, b"FORM") => Some(((1, 1), Card::Form(ns.at(0)))),

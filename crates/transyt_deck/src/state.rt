@@ -14,7 +14,7 @@ use transyt_net::{Draft, DraftFault, Feed, GiveWay, NewLink, PlanFault, Stage};
 use transyt_syntax::{Code, Numbers};
 
 /// How far a deck has come from its CYCLE card on; later parts come later.
-#[derive(Clone, Copy, PartialEq, Eq)]
+#[derive(Clone, Copy)]
 pub enum Part {
     /// Only the CYCLE card.
     Frame,
