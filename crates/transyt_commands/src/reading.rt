@@ -1,5 +1,5 @@
 //! The command of a line.
-ghost use Rattle.std.specs.Prelude.{◌≡◌, ◌≤◌, ◌↔◌, IsTrue, IfErr, IfSome, None, Some, Ok};
+ghost use Rattle.std.specs.Prelude.{◌≡◌, ◌≤◌, ◌↔◌, IsTrue, IfErr, IfSome, None, Some, Ok, drop};
 ghost use Rattle.transyt_io.specs.Lines.{is_skipped};
 ghost use Rattle.transyt_syntax.specs.Syntax.{named, with_numbers, counts_of, syntax_code};
 ghost use Rattle.transyt_commands.specs.Commands.{commands, edits, command_in};
@@ -46,7 +46,6 @@ fn command_named(keyword: &[u8], numbers: &Numbers) -> Option<((usize, usize), C
     ensures command { result ≡ with_numbers numbers.now (named commands keyword.now) }
     ensures most { IfSome result (λ found. found.0.1 ≤ 17) }
 {
-    let link = numbers.at(0);
     match keyword {
         _ if is_word(keyword, b"TRIAL") => Some(((0, 0), Command::Trial)),
         _ if is_word(keyword, b"BACK") => Some(((0, 0), Command::Back)),
@@ -56,6 +55,17 @@ fn command_named(keyword: &[u8], numbers: &Numbers) -> Option<((usize, usize), C
         _ if is_word(keyword, b"INDEX") => request(0, Request::Index),
         _ if is_word(keyword, b"LINKS") => request(0, Request::Links),
         _ if is_word(keyword, b"FIGURES") => request(0, Request::Figures),
+        _ => late_named(keyword, numbers),
+    }
+}
+
+/// The same of the keywords from TIMING on, the ninth row of the table.
+fn late_named(keyword: &[u8], numbers: &Numbers) -> Option<((usize, usize), Command)>
+    ensures command { result ≡ with_numbers numbers.now (named (drop 8 commands) keyword.now) }
+    ensures most { IfSome result (λ found. found.0.1 ≤ 17) }
+{
+    let link = numbers.at(0);
+    match keyword {
         _ if is_word(keyword, b"TIMING") => request(0, Request::Timing),
         _ if is_word(keyword, b"PROFILE") => request(1, Request::Profile { link }),
         _ if is_word(keyword, b"PLOT") => request(1, Request::Plot { link }),
