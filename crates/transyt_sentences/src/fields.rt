@@ -32,119 +32,114 @@ pub(crate) struct Field {
     pub(crate) range: Range,
 }
 
-/// A number that names something.
-fn named(name: &'static str) -> Option<Field> {
-    Some(Field {
-        name,
-        range: Range::Name,
-    })
-}
-
-/// A number of a fixed range.
-fn fixed(name: &'static str, least: u32, most: u32) -> Option<Field> {
-    Some(Field {
-        name,
-        range: Range::Fixed(least, most),
-    })
-}
-
-/// A number of steps, up to the last step of the cycle.
-fn in_cycle(name: &'static str, least: u32) -> Option<Field> {
-    Some(Field {
-        name,
-        range: Range::LastStep(least),
-    })
-}
-
-/// Number `place` from 0 of a CYCLE card.
-fn cycle_field(place: usize) -> Option<Field> {
-    match place {
-        0 => fixed("cycle time", 30, 240),
-        1 => fixed("number of steps", 10, 120),
-        2 => fixed("number of sweeps", 1, 8),
-        3 => fixed("period", 15, 120),
-        4 => fixed("stop penalty", 0, 9999),
-        5 => fixed("dispersion", 0, 100),
-        _ => None,
+/// The value of a keyword in a table.
+pub(crate) fn value_of<T: Copy>(table: &[(&str, T)], keyword: &str) -> Option<T> {
+    for (name, value) in table {
+        if *name == keyword {
+            return Some(*value);
+        }
     }
+    None
 }
 
-/// Number `place` from 0 of a STAGE card.
-fn stage_field(place: usize) -> Option<Field> {
-    match place {
-        0 => in_cycle("change", 0),
-        1 => in_cycle("intergreen", 0),
-        2 => Some(Field {
-            name: "least green",
-            range: Range::Steps(1),
-        }),
-        _ => None,
+/// A number of a card or command: its keyword, its place from 0, its name and its range.
+type Row = (&'static str, usize, &'static str, Range);
+
+/// The numbers of cards, but for those of a LINK after its weights and those of a STEPS after its budget.
+const CARD_FIELDS: [Row; 26] = [
+    ("FORM", 0, "form", Range::Fixed(1, 2)),
+    ("CYCLE", 0, "cycle time", Range::Fixed(30, 240)),
+    ("CYCLE", 1, "number of steps", Range::Fixed(10, 120)),
+    ("CYCLE", 2, "number of sweeps", Range::Fixed(1, 8)),
+    ("CYCLE", 3, "period", Range::Fixed(15, 120)),
+    ("CYCLE", 4, "stop penalty", Range::Fixed(0, 9999)),
+    ("CYCLE", 5, "dispersion", Range::Fixed(0, 100)),
+    ("NODE", 0, "node number", Range::Fixed(1, 99999)),
+    ("NODE", 1, "offset", Range::LastStep(0)),
+    ("STAGE", 0, "change", Range::LastStep(0)),
+    ("STAGE", 1, "intergreen", Range::LastStep(0)),
+    ("STAGE", 2, "least green", Range::Steps(1)),
+    ("LINK", 0, "link number", Range::Fixed(1, 99999)),
+    ("LINK", 1, "node", Range::Name),
+    ("LINK", 2, "entry flow", Range::Fixed(0, 9999)),
+    ("LINK", 3, "saturation flow", Range::Fixed(100, 9999)),
+    ("LINK", 4, "delay weight", Range::Fixed(0, 999)),
+    ("LINK", 5, "stop weight", Range::Fixed(0, 999)),
+    ("FEED", 0, "link", Range::Name),
+    ("FEED", 1, "feeder", Range::Name),
+    ("FEED", 2, "feed flow", Range::Fixed(0, 9999)),
+    ("FEED", 3, "cruise time", Range::Fixed(1, 300)),
+    ("YIELD", 0, "link", Range::Name),
+    ("YIELD", 1, "link with priority", Range::Name),
+    ("YIELD", 2, "percentage", Range::Fixed(0, 400)),
+    ("STEPS", 0, "budget", Range::Fixed(1, 1000000)),
+];
+
+/// The numbers of commands that have a range.
+const COMMAND_FIELDS: [Row; 8] = [
+    ("OFFSET", 1, "offset", Range::LastStep(0)),
+    ("CHANGE", 2, "change", Range::LastStep(0)),
+    ("ENTRY", 1, "entry flow", Range::Fixed(0, 9999)),
+    ("PART", 2, "feed flow", Range::Fixed(0, 9999)),
+    ("CRUISE", 2, "cruise time", Range::Fixed(1, 300)),
+    ("SATURATION", 1, "saturation flow", Range::Fixed(100, 9999)),
+    ("WEIGHT", 1, "delay weight", Range::Fixed(0, 999)),
+    ("WEIGHT", 2, "stop weight", Range::Fixed(0, 999)),
+];
+
+/// The number of a keyword at a place, from 0, in a table.
+fn field_in(table: &[Row], keyword: &str, place: usize) -> Option<Field> {
+    for (of, at, name, range) in table {
+        if *of == keyword && *at == place {
+            return Some(Field {
+                name: *name,
+                range: *range,
+            });
+        }
     }
+    None
 }
 
-/// Number `place` from 0 of a LINK card of this form.
-fn link_field(form: u32, place: usize) -> Option<Field> {
-    match place {
-        0 => fixed("link number", 1, 99999),
-        1 => named("node"),
-        2 => fixed("entry flow", 0, 9999),
-        3 => fixed("saturation flow", 100, 9999),
-        4 => fixed("delay weight", 0, 999),
-        5 => fixed("stop weight", 0, 999),
-        6 if form == 2 => in_cycle("start lag", 0),
-        7 if form == 2 => in_cycle("end lag", 0),
-        _ => named("stage"),
-    }
+/// Number `place` from 0 of a LINK card of this form, after the weights.
+fn late_field(form: u32, place: usize) -> Field {
+    let (name, range) = match (form, place) {
+        (2, 6) => ("start lag", Range::LastStep(0)),
+        (2, 7) => ("end lag", Range::LastStep(0)),
+        _ => ("stage", Range::Name),
+    };
+    Field { name, range }
 }
 
 /// Number `place` from 0 of a card with this keyword, in a deck of this form.
 pub(crate) fn card_field(keyword: &str, form: u32, place: usize) -> Option<Field> {
-    match (keyword, place) {
-        ("FORM", 0) => fixed("form", 1, 2),
-        ("CYCLE", _) => cycle_field(place),
-        ("NODE", 0) => fixed("node number", 1, 99999),
-        ("NODE", 1) => in_cycle("offset", 0),
-        ("STAGE", _) => stage_field(place),
-        ("LINK", _) => link_field(form, place),
-        ("FEED", 0) | ("YIELD", 0) => named("link"),
-        ("FEED", 1) => named("feeder"),
-        ("FEED", 2) => fixed("feed flow", 0, 9999),
-        ("FEED", 3) => fixed("cruise time", 1, 300),
-        ("YIELD", 1) => named("link with priority"),
-        ("YIELD", 2) => fixed("percentage", 0, 400),
-        ("STEPS", 0) => fixed("budget", 1, 1000000),
-        ("STEPS", _) => in_cycle("step size", 1),
-        _ => None,
+    match keyword {
+        "LINK" if place > 5 => Some(late_field(form, place)),
+        "STEPS" if place > 0 => Some(Field {
+            name: "step size",
+            range: Range::LastStep(1),
+        }),
+        _ => field_in(&CARD_FIELDS, keyword, place),
     }
 }
 
 /// Number `place` from 0 of a command with this keyword.
 pub(crate) fn command_field(keyword: &str, place: usize) -> Option<Field> {
-    match (keyword, place) {
-        ("OFFSET", 1) => in_cycle("offset", 0),
-        ("CHANGE", 2) => in_cycle("change", 0),
-        ("ENTRY", 1) => fixed("entry flow", 0, 9999),
-        ("PART", 2) => fixed("feed flow", 0, 9999),
-        ("CRUISE", 2) => fixed("cruise time", 1, 300),
-        ("SATURATION", 1) => fixed("saturation flow", 100, 9999),
-        ("WEIGHT", 1) => fixed("delay weight", 0, 999),
-        ("WEIGHT", 2) => fixed("stop weight", 0, 999),
-        _ => None,
-    }
+    field_in(&COMMAND_FIELDS, keyword, place)
 }
 
 /// How many numbers a card with this keyword takes, at least and at most; none where no card is called so.
 pub(crate) fn card_counts(keyword: &str, form: u32) -> Option<(usize, usize)> {
-    match keyword {
-        "FORM" => Some((1, 1)),
-        "CYCLE" => Some((5, 6)),
-        "NODE" => Some((2, 2)),
-        "STAGE" | "YIELD" => Some((3, 3)),
-        "LINK" if form == 2 => Some((9, 16)),
-        "LINK" => Some((7, 14)),
-        "FEED" => Some((4, 4)),
-        "STEPS" => Some((2, 17)),
-        "END" => Some((0, 0)),
-        _ => None,
-    }
+    let lags = if form == 2 { 2 } else { 0 };
+    let counts = [
+        ("FORM", (1, 1)),
+        ("CYCLE", (5, 6)),
+        ("NODE", (2, 2)),
+        ("STAGE", (3, 3)),
+        ("LINK", (7 + lags, 14 + lags)),
+        ("FEED", (4, 4)),
+        ("YIELD", (3, 3)),
+        ("STEPS", (2, 17)),
+        ("END", (0, 0)),
+    ];
+    value_of(&counts, keyword)
 }

@@ -67,6 +67,14 @@ fn odd_byte(line: &[u8]) -> Option<(u32, u8)> {
     None
 }
 
+/// The first 20 bytes of a word, or all where it is shorter.
+fn front_of(word: &[u8]) -> &[u8] {
+    match word.get(..20) {
+        Some(front) => front,
+        None => word,
+    }
+}
+
 /// Code 10: the byte that may not stand there, or the keyword that is none.
 pub(crate) fn say_odd(sentence: &mut Sentence, line: &[u8], part: Part, keyword: &str) {
     if let Some((place, byte)) = odd_byte(line) {
@@ -80,10 +88,7 @@ pub(crate) fn say_odd(sentence: &mut Sentence, line: &[u8], part: Part, keyword:
         Part::Card => "no card is called '",
         Part::Command => "no command is called '",
     });
-    match keyword.as_bytes().get(..20) {
-        Some(front) => sentence.say_bytes(front),
-        None => sentence.say(keyword),
-    }
+    sentence.say_bytes(front_of(keyword.as_bytes()));
     sentence.say("' (keywords are capitals)");
 }
 
@@ -104,38 +109,62 @@ pub(crate) fn say_counts(sentence: &mut Sentence, words: &Words<'_>, counts: (us
     sentence.say_with(", and here are ", said_count(word_count(words.rest)));
 }
 
-/// Code 13: the first word that is no number.
-pub(crate) fn say_no_number(sentence: &mut Sentence, words: &Words<'_>) {
-    let mut rest = words.rest;
+/// The first word that is no number.
+fn odd_word(words: &[u8]) -> Option<&[u8]> {
+    let mut rest = words;
     while let Some((word, after)) = next_word(rest) {
         if read_number(word).is_none() {
-            sentence.say("'");
-            match word.get(..20) {
-                Some(front) => sentence.say_bytes(front),
-                None => sentence.say_bytes(word),
-            }
-            break;
+            return Some(word);
         }
         rest = after;
+    }
+    None
+}
+
+/// Code 13: the first word that is no number.
+pub(crate) fn say_no_number(sentence: &mut Sentence, words: &Words<'_>) {
+    if let Some(word) = odd_word(words.rest) {
+        sentence.say("'");
+        sentence.say_bytes(front_of(word));
     }
     sentence.say("' is no number of 1 to 9 digits");
 }
 
-/// Code 14: whether this number is out of its range; if so that is said.
-pub(crate) fn say_range(
-    sentence: &mut Sentence,
-    field: Field,
+/// A number that is out of its range: its name, and the least and the most that it may be.
+#[derive(Clone, Copy)]
+pub(crate) struct OutOfRange {
+    name: &'static str,
+    number: u32,
+    least: u32,
+    most: u32,
+}
+
+/// A number of a field, in a cycle of this many steps, if it is out of its range.
+pub(crate) fn out_of_range(
+    field: Option<Field>,
     number: u32,
     step_count: u32,
-) -> bool {
-    let Some((least, most)) = field.range.bounds(step_count) else {
-        return false;
-    };
+) -> Option<OutOfRange> {
+    let field = field?;
+    let (least, most) = field.range.bounds(step_count)?;
     if least <= number && number <= most {
-        return false;
+        return None;
     }
+    Some(OutOfRange {
+        name: field.name,
+        number,
+        least,
+        most,
+    })
+}
+
+/// Code 14: the number that is out of its range, if it was found.
+pub(crate) fn say_range(sentence: &mut Sentence, found: Option<OutOfRange>) {
+    let Some(wrong) = found else {
+        return sentence.say("a number is out of its range");
+    };
     sentence.say("the ");
-    sentence.say(field.name);
-    sentence.say_form(" # is not from # to #", &[number, least, most]);
-    true
+    sentence.say(wrong.name);
+    let numbers = [wrong.number, wrong.least, wrong.most];
+    sentence.say_form(" # is not from # to #", &numbers);
 }

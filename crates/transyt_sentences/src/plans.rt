@@ -26,10 +26,14 @@ impl<'a> Plan<'a> {
 
     /// The change of the stage at a place, from 0.
     fn change(&self, place: usize) -> u32 {
-        match (self.changed, self.stages.get(place)) {
-            (Some((at, change)), _) if at == place => change,
-            (_, Some(stage)) => stage.change,
-            _ => 0,
+        if let Some((at, change)) = self.changed {
+            if at == place {
+                return change;
+            }
+        }
+        match self.stages.get(place) {
+            Some(stage) => stage.change,
+            None => 0,
         }
     }
 

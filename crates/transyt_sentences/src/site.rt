@@ -54,11 +54,34 @@ impl<'a> Site<'a> {
 
     /// The node with this number.
     pub(crate) fn node(&self, number: u32) -> Option<&'a Node> {
-        self.nodes.iter().find(|node| node.number == number)
+        for node in self.nodes {
+            if node.number == number {
+                return Some(node);
+            }
+        }
+        None
+    }
+
+    /// How many stages the node with this number has.
+    pub(crate) fn stage_count(&self, number: u32) -> Option<usize> {
+        match self.node(number) {
+            Some(node) => Some(node.stages.len()),
+            None => None,
+        }
+    }
+
+    /// The first of two numbers that is no link's, where one of them is none.
+    pub(crate) fn unknown_link(&self, first: u32, second: u32) -> u32 {
+        if self.has_link(first) { second } else { first }
     }
 
     /// Whether there is a link with this number.
     pub(crate) fn has_link(&self, number: u32) -> bool {
-        self.links.iter().any(|link| link.number == number)
+        for link in self.links {
+            if link.number == number {
+                return true;
+            }
+        }
+        false
     }
 }
