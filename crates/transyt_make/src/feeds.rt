@@ -70,7 +70,6 @@ fn draw_feeds(side: u32, from: u32, draws: &mut Draws) -> Three
 }
 
 /// Adds three feeds to a link that has none.
-#[tactic(auto, using(crate::proofs::FeedLaws::second_free, crate::proofs::FeedLaws::third_free))]
 fn put_three(
     draft: &mut Draft,
     link: u32,
@@ -124,7 +123,6 @@ fn put_from(
 }
 
 /// Adds the feeds of the link at a place, if it has a neighbour.
-#[tactic(auto, using(crate::proofs::FedLaws::unfed_draft))]
 fn put_feeds_of(
     town: Town,
     place: u32,

@@ -169,7 +169,6 @@ fn plan_at(alloc: Global, net: &Net, cycle: u32) -> Result<Net, AllocError>
 }
 
 /// A network at another cycle time, or the reason why there is none.
-#[tactic(auto, using(crate::proofs::CycleLaws::not_had))]
 fn cycle_made(alloc: Global, net: &Net, cycle: u32) -> Result<AtCycle, AllocError>
     requires low { 30 ≤ cycle }
     requires high { cycle ≤ 240 }
