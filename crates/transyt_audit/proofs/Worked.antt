@@ -1,7 +1,6 @@
 -- The worked verdicts: each move's network evaluated by the root that its random delay takes, and then the lines.
-use Rattle.std.proofs.Common.{◌≡◌, ℕ, ◌+◌, List, [], ◌∷◌, ◌++◌, map, sum, length, codes, Option, Some, None}
+use Rattle.std.proofs.Common.{◌≡◌, ℕ, ◌+◌, List, [], ◌∷◌, ◌++◌, map, sum, length, Option, Some, None}
 use Rattle.std.proofs.Common.{refl, ap, ◌∙◌, lit<, lit≤, is_some, if◌then◌else◌}
-use Rattle.std.specs.Fmt.{digits}
 use Rattle.transyt_io.specs.Lines.{lines}
 use Rattle.transyt_syntax.specs.declared.code.Code.TheVariants as code
 use Rattle.transyt_parts.specs.Parts.{PlanValue}
@@ -14,13 +13,12 @@ use Rattle.transyt_sweep.specs.Sweeps.{seen, out_of, evaluated, index}
 use Rattle.transyt_sweep.specs.Climb.{tried_at}
 use Rattle.transyt_sweep.specs.WorkedLinks.{new_figures}
 use Rattle.transyt_sweep.proofs.WorkedFigures.{figures_by_root, its_terms}
-use Rattle.transyt_cert.specs.Certificate.{joined, lines_text, CertLine, new_line, cert_lines, move_words, end_words}
+use Rattle.transyt_cert.specs.Certificate.{joined, CertLine, new_line, cert_lines, move_words, end_words}
 use Rattle.transyt_cert.proofs.CertificateLaws.{lines_certificate}
 use Rattle.transyt_audit.specs.declared.verdict.Verdict.{Verdict}
 use Rattle.transyt_audit.specs.declared.verdict.Verdict.TheVariants.{Yes, No}
-use Rattle.transyt_audit.specs.Verdict.{given_from, agrees, first_wrong, first_missing, first_lower, no_or, verdict}
-use Rattle.transyt_audit.specs.WorkedVerdicts.{junction, bare, other, bare_lines, other_moves, agreements}
-use Rattle.transyt_audit.specs.WorkedVerdicts.{first_line, spaced_line, changed_line, note}
+use Rattle.transyt_audit.specs.Verdict.{given_from, first_wrong, first_missing, first_lower, no_or, verdict}
+use Rattle.transyt_audit.specs.WorkedVerdicts.{junction, bare, other}
 
 -- the figures of the link by the steps that its green has: 9, 7 and 5
 abbrev green_9 : Figures
@@ -108,44 +106,10 @@ verdict_by net ls count x table line ls_is count_is x_is =
     (Yes (move_count net) (index net)))) else No line code.NoPlan) (lines_certificate net)
     ∙ (λ j. verdict_from net.plan (ls_is j) (count_is j) (x_is j) table line)
 
-on_bare : (table : List ℕ) → verdict bare table 8 ≡ verdict_from bare.plan bare_cert 6 0 table 8
+pub on_bare : (table : List ℕ) → verdict bare table 8 ≡ verdict_from bare.plan bare_cert 6 0 table 8
 unfolding move_count
 on_bare table = verdict_by bare bare_cert 6 0 table 8 lines_bare refl refl
 
-on_other : (table : List ℕ) → verdict other table 8 ≡ verdict_from other.plan other_cert 6 10773335 table 8
+pub on_other : (table : List ℕ) → verdict other table 8 ≡ verdict_from other.plan other_cert 6 10773335 table 8
 unfolding move_count
 on_other table = verdict_by other other_cert 6 10773335 table 8 lines_other refl (ap of_link other_is)
-
-pub skipped : verdict bare (lines_text (note ∷ [] ∷ spaced_line ∷ bare_lines)) 8 ≡ Yes 6 0
-unfolding move digits
-skipped = on_bare (lines_text (note ∷ [] ∷ spaced_line ∷ bare_lines))
-
-pub wrong : verdict bare (lines_text (note ∷ [] ∷ changed_line ∷ bare_lines)) 8 ≡ No 11 code.OtherLine
-unfolding move digits
-wrong = on_bare (lines_text (note ∷ [] ∷ changed_line ∷ bare_lines))
-
-pub surplus : verdict bare (lines_text (first_line ∷ bare_lines ++ first_line ∷ [])) 8 ≡ No 16 code.OtherLine
-unfolding move digits
-surplus = on_bare (lines_text (first_line ∷ bare_lines ++ first_line ∷ []))
-
-pub no_plan : verdict (record bare { plan = None }) [] 8 ≡ No 8 code.NoPlan
-no_plan = refl
-
-pub lower : verdict other (lines_text (note ∷ other_moves ++ codes "CERT 6 INDEX 10773335" ∷ [])) 8
-    ≡ No 13 code.LowerIndex
-unfolding move digits
-lower = on_other (lines_text (note ∷ other_moves ++ codes "CERT 6 INDEX 10773335" ∷ []))
-
--- a wrong line, and a missing one, come before a lower index
-pub wrong_first : verdict other (lines_text (other_moves ++ codes "CERT 6 INDEX 10773336" ∷ [])) 8
-    ≡ No 15 code.OtherLine
-unfolding move digits
-wrong_first = on_other (lines_text (other_moves ++ codes "CERT 6 INDEX 10773336" ∷ []))
-
-pub missing_first : verdict other (lines_text (other_moves ++ note ∷ [])) 8 ≡ No 16 code.OtherLine
-unfolding move digits
-missing_first = on_other (lines_text (other_moves ++ note ∷ []))
-
--- lines agree with a true one as it is written
-pub they_agree : map (λ row. agrees row.0 (codes "CERT 6")) agreements ≡ map (λ row. row.1) agreements
-they_agree = refl

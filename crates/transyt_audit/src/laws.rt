@@ -31,7 +31,6 @@ pub fn rule_of_own_text()
 
 /// The verdicts on certificates that were worked out apart; END stands on line 8. Lines agree with a true one as it is
 /// written beside the definitions.
-#[tactic(auto, using(crate::proofs::Worked::skipped, crate::proofs::Worked::wrong, crate::proofs::Worked::surplus, crate::proofs::Worked::lower, crate::proofs::Worked::wrong_first, crate::proofs::Worked::missing_first, crate::proofs::Worked::no_plan, crate::proofs::Worked::they_agree))]
 pub fn worked_verdicts()
     ensures skipped { verdict bare (lines_text (note ∷ [] ∷ spaced_line ∷ bare_lines)) 8 ≡ Yes 6 0 }
     ensures wrong { verdict bare (lines_text (note ∷ [] ∷ changed_line ∷ bare_lines)) 8

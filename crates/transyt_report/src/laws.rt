@@ -15,7 +15,6 @@ ghost use Rattle.transyt_report.specs.WorkedTexts.{lines_of_three, two_nodes, li
 ghost use Rattle.transyt_report.specs.WorkedTexts.{queue_of_fourth};
 
 /// The texts that are written beside the definitions, worked out apart, come out of them.
-#[tactic(auto, using(crate::proofs::Worked::figures_are, crate::proofs::Worked::two_stages, crate::proofs::Worked::three_stages, crate::proofs::Worked::timing_ends, crate::proofs::Worked::index_is, crate::proofs::Worked::work_is, crate::proofs::Worked::offset_taken, crate::proofs::Worked::change_taken, crate::proofs::Worked::local_end, crate::proofs::Worked::budget_end))]
 pub fn worked_texts()
     ensures figures { figures_line 9 some_figures ≡ figures_text }
     ensures two { node_text 18 node_of_two ≡ lines_of_two }
@@ -33,7 +32,6 @@ pub fn worked_texts()
 
 /// Reports of the three junctions, whose places count from 0 and whose links are eight, come out as they are written
 /// beside the definitions.
-#[tactic(auto, using(crate::proofs::WorkedReports::index_of_three, crate::proofs::WorkedReports::links_are, crate::proofs::WorkedReports::timing_is, crate::proofs::WorkedReports::profile_is, crate::proofs::WorkedReports::queue_is, crate::proofs::Worked::work_is, crate::proofs::WorkedReports::last_place, crate::proofs::WorkedReports::no_place))]
 pub fn worked_reports()
     ensures index { report_text three_junctions 1378 Report.Index
         ≡ codes "INDEX 556223009" ++ 10 ∷ [] }
@@ -51,7 +49,6 @@ pub fn worked_reports()
 
 /// Figures in the units of an engineer come out as they are written beside the definitions: the formulas in each of
 /// their cases, the first of the worst links, the flows sent on by the links of the three junctions, and FIGURES of them.
-#[tactic(auto, using(crate::proofs::WorkedMeasures::degrees_are, crate::proofs::WorkedMeasures::delays_are, crate::proofs::WorkedMeasures::stops_are, crate::proofs::WorkedMeasures::worst_are, crate::proofs::WorkedMeasures::sent_are, crate::proofs::WorkedMeasures::report_is))]
 pub fn worked_measures()
     ensures degrees { map (λ row. degree_of_saturation row.0.0 row.0.1) worked_degrees
         ≡ map (λ row. row.1) worked_degrees }
@@ -66,7 +63,6 @@ pub fn worked_measures()
 {}
 
 /// Charts come out as they are written beside the definitions: each case of a step, and CHART of the three junctions.
-#[tactic(auto, using(crate::proofs::WorkedCharts::six_are, crate::proofs::WorkedCharts::three_are))]
 pub fn worked_charts()
     ensures six { chart_line 17 six_steps.0 six_steps.1 ≡ six_marks }
     ensures three { report_text three_junctions 1378 Report.Chart ≡ chart_of_three }

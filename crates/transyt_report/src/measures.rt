@@ -9,7 +9,7 @@ use crate::session_link::SessionLink;
 use transyt_net::{Feed, Net};
 
 /// The figures of a link in the units of an engineer. Each is rounded down.
-#[derive(Clone, Copy, PartialEq, Eq)]
+#[derive(Clone, Copy)]
 pub struct LinkFigures {
     /// The card number of the link.
     pub link: u32,

@@ -8,7 +8,7 @@ use crate::session_link::SessionLink;
 use transyt_session::Session;
 
 /// The figures of a network in the units of an engineer.
-#[derive(Clone, Copy, PartialEq, Eq)]
+#[derive(Clone, Copy)]
 pub struct NetworkFigures {
     /// The uniform and random delay of all links without weights, in millionths: vehicle-hours of delay in an hour.
     pub delay: u128,

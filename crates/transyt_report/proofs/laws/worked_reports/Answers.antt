@@ -1,5 +1,5 @@
 -- The worked reports, computed from the definitions.
-use Rattle.std.proofs.Common.{◌≡◌, ℕ, List, [], ◌∷◌, ◌++◌, map, codes, refl, ap, ◌∙◌, lit<, arith}
+use Rattle.std.proofs.Common.{◌≡◌, ℕ, List, [], ◌∷◌, ◌++◌, map, refl, ap, ◌∙◌, lit<, arith}
 use Rattle.std.specs.List.{range_with_len}
 use Rattle.std.specs.Fmt.{digits}
 use Rattle.transyt_delay.specs.declared.figures.Figures.{Figures}
@@ -13,19 +13,13 @@ use Rattle.transyt_text.specs.Forms.{filled, form_line, values_line, values_text
 use Rattle.transyt_report.specs.declared.showing.Report.TheVariants as r
 use Rattle.transyt_report.specs.Texts.{figures_line, in_line, index_line, go_line, node_line, out_line, queue_line}
 use Rattle.transyt_report.specs.Texts.{report_text, stage_line, timing_end, IsOfPlace}
-use Rattle.transyt_report.specs.WorkedTexts.{lines_of_two, lines_of_three, two_nodes, links_of_three, profile_of_fourth}
-use Rattle.transyt_report.specs.WorkedTexts.{queue_of_fourth}
-use Rattle.transyt_report.proofs.Worked.{index_is}
+use Rattle.transyt_report.specs.WorkedTexts.{links_of_three}
+use Rattle.transyt_report.proofs.Worked.{index_is, work_is, lines_by}
+use Rattle.transyt_report.proofs.laws.worked_reports.Goals as goal
 
 -- INDEX
-pub index_of_three : report_text three_junctions 1378 r.Index ≡ codes "INDEX 556223009" ++ 10 ∷ []
-index_of_three = ap index_line index_comes_out ∙ index_is
-
--- the lines of links, each with its figures
-abbrev pub lines_by : {A : Type 0} (line : A → Figures → List ℕ) → List A → List Figures → List ℕ
-lines_by line [] fs = []
-lines_by line (link ∷ links) [] = []
-lines_by line (link ∷ links) (f ∷ fs) = line link f ++ lines_by line links fs
+pub returns-clause-index : goal.returns-clause-index
+returns-clause-index c = ap index_line index_comes_out ∙ index_is
 
 -- LINKS of these figures and index
 abbrev told_by : List Figures → ℕ → List ℕ
@@ -41,31 +35,34 @@ lines_are : report_text three_junctions 1378 r.Links
 lines_are = refl
 
 -- LINKS
-pub links_are : report_text three_junctions 1378 r.Links ≡ links_of_three
-links_are = lines_are ∙ ((λ j. told_by (figures_come_out j) (index_comes_out j)) ∙ links_by)
+pub returns-clause-links : goal.returns-clause-links
+returns-clause-links c = lines_are ∙ ((λ j. told_by (figures_come_out j) (index_comes_out j)) ∙ links_by)
 
 -- TIMING
-pub timing_is : report_text two_nodes 1378 r.Timing
-    ≡ lines_of_three ++ (lines_of_two ++ (codes "END TIMING" ++ 10 ∷ []))
+pub returns-clause-timing : goal.returns-clause-timing
 unfolding node_line stage_line timing_end form_line filled digits
-timing_is = refl
+returns-clause-timing c = refl
 
 -- PROFILE
-pub profile_is : report_text three_junctions 1378 (r.Profile 3) ≡ profile_of_fourth
+pub returns-clause-profile : goal.returns-clause-profile
 unfolding in_line go_line out_line values_line values_text filled digits sum_back greatest smoothed seen out_of evaluated
-profile_is = refl
+returns-clause-profile c = refl
 
 -- QUEUE
-pub queue_is : report_text three_junctions 1378 (r.Queue 3) ≡ queue_of_fourth
+pub returns-clause-queue : goal.returns-clause-queue
 unfolding queue_line values_line values_text filled digits sum_back greatest smoothed seen out_of evaluated
-queue_is = refl
+returns-clause-queue c = refl
 
 -- the last place, and one past it
-pub last_place : IsOfPlace three_junctions (r.Profile 7) × IsOfPlace three_junctions (r.Queue 7)
-last_place = (lit< tt, lit< tt)
+pub returns-clause-last_place : goal.returns-clause-last_place
+returns-clause-last_place c = (lit< tt, lit< tt)
 
-pub no_place : (IsOfPlace three_junctions (r.Profile 8) → ⊥) × (IsOfPlace three_junctions (r.Queue 8) → ⊥)
-no_place = (
+pub returns-clause-no_place : goal.returns-clause-no_place
+returns-clause-no_place c = (
   λ (p : IsOfPlace three_junctions (r.Profile 8)). absurd (omega (arith, p)),
   λ (p : IsOfPlace three_junctions (r.Queue 8)). absurd (omega (arith, p)),
 )
+
+-- WORK
+pub returns-clause-work : goal.returns-clause-work
+returns-clause-work c = work_is

@@ -11,33 +11,31 @@ use Rattle.transyt_sweep.specs.WorkedLinks.{figures_of_three}
 use Rattle.transyt_sweep.proofs.WorkedFigures.{figures_come_out, index_comes_out}
 use Rattle.transyt_text.specs.Forms.{filled, form_line}
 use Rattle.transyt_report.specs.declared.measures.LinkFigures.{LinkFigures}
-use Rattle.transyt_report.specs.Measures.{flow_sent, degree_of_saturation, mean_delay, part_stopped, worst_of}
+use Rattle.transyt_report.specs.Measures.{degree_of_saturation, mean_delay, part_stopped}
 use Rattle.transyt_report.specs.Measures.{figures_report, link_figures_line, total_line}
-use Rattle.transyt_report.specs.declared.showing.Report.TheVariants as r
-use Rattle.transyt_report.specs.Texts.{report_text}
-use Rattle.transyt_report.specs.WorkedMeasures.{worked_degrees, worked_delays, worked_stops, worked_worst, sent_of_three}
 use Rattle.transyt_report.specs.WorkedMeasures.{report_of_three}
-use Rattle.transyt_report.proofs.WorkedReports.{lines_by}
+use Rattle.transyt_report.proofs.Worked.{lines_by}
+use Rattle.transyt_report.proofs.laws.worked_measures.Goals as goal
 
 -- degrees of saturation
-pub degrees_are : map (λ row. degree_of_saturation row.0.0 row.0.1) worked_degrees ≡ map (λ row. row.1) worked_degrees
-degrees_are = refl
+pub returns-clause-degrees : goal.returns-clause-degrees
+returns-clause-degrees c = refl
 
 -- mean delays
-pub delays_are : map (λ row. mean_delay row.0.0 row.0.1 row.0.2) worked_delays ≡ map (λ row. row.1) worked_delays
-delays_are = refl
+pub returns-clause-delays : goal.returns-clause-delays
+returns-clause-delays c = refl
 
 -- vehicles that stop
-pub stops_are : map (λ row. part_stopped row.0.0 row.0.1 row.0.2) worked_stops ≡ map (λ row. row.1) worked_stops
-stops_are = refl
+pub returns-clause-stops : goal.returns-clause-stops
+returns-clause-stops c = refl
 
 -- the worst of links
-pub worst_are : map (λ row. worst_of row.0) worked_worst ≡ map (λ row. row.1) worked_worst
-worst_are = refl
+pub returns-clause-worst : goal.returns-clause-worst
+returns-clause-worst c = refl
 
 -- flows that are sent on
-pub sent_are : map (λ row. flow_sent three_junctions.links row.0) sent_of_three ≡ map (λ row. row.1) sent_of_three
-sent_are = refl
+pub returns-clause-sent : goal.returns-clause-sent
+returns-clause-sent c = refl
 
 -- a link by its number, total flow, flow sent on, arrivals, GO, greatest queue and figures
 abbrev link_by : ℕ → ℕ → ℕ → ℕ → ℕ → ℕ → Figures → LinkFigures
@@ -81,5 +79,5 @@ unfolding sum_back greatest smoothed seen out_of evaluated
 lines_are = refl
 
 -- FIGURES
-pub report_is : report_text three_junctions 1378 r.Figures ≡ report_of_three
-report_is = lines_are ∙ ((λ j. told_by (figures_come_out j) (index_comes_out j)) ∙ told_is)
+pub returns-clause-report : goal.returns-clause-report
+returns-clause-report c = lines_are ∙ ((λ j. told_by (figures_come_out j) (index_comes_out j)) ∙ told_is)
