@@ -7,7 +7,7 @@ use transyt_report::Report;
 use transyt_syntax::Code;
 
 /// The answer to a line after END.
-#[derive(Clone, Copy, PartialEq, Eq, Drop)]
+#[derive(Clone, Copy, Drop)]
 pub enum Answer {
     /// A comment or a blank line: nothing is written.
     Nothing,

@@ -42,7 +42,6 @@ fn credit_try(session: &mut Session, tried: Tried)
 }
 
 /// Writes the lines of consecutive places whose moves were tried, and adds the work of each.
-#[tactic(auto, using(crate::proofs::CertifyLaws::try_few))]
 fn certify_tried<K: Sink>(
     session: &mut Session,
     from: u32,

@@ -1,5 +1,5 @@
 -- The line of one place more is written, or broke off; and then the last line.
-use Rattle.std.proofs.Common.{◌≡◌, ◌<◌, ◌+◌, ◌≤◌, suc, flat_map, sym, ◌∙◌, ap, arith, rules}
+use Rattle.std.proofs.Common.{◌≡◌, ◌<◌, ◌+◌, ◌≤◌, suc, Ok, flat_map, sym, ◌∙◌, ap, arith}
 use Rattle.std.specs.List.{range_with_len}
 use Rattle.transyt_text.proofs.LoopLaws.{place_printed, place_broken, places_printed}
 use Rattle.transyt_text.proofs.PrintLaws.{prints_both, prints_same}
@@ -20,17 +20,28 @@ pub loop-place-preserved : goal.loop-place-preserved
 loop-place-preserved g c =
     let net = c.args.session.now.net in
     let so = c.loop-place.invariant in
+    let told = c.in_ok-certify_place.ensures in
     let inside : c.loop-place.place < move_count net =
     omega (arith, c.loop-place-test.true, c.move_count-places.ensures.count, ap move_count c.net.ensures) in
+    let one : c.certify_place.new.session.work
+    ≡ c.args.session.now.work + cert_work net c.loop-place.place + edit_work net (move net c.loop-place.place) =
+    ap (λ (t : SessionValue). t.work) told.state
+    ∙ (λ i. so.work i + edit_work (so.net i) (move (so.net i) c.loop-place.place)) in
+    let next : c.loop-place.place + 1 ≡ suc c.loop-place.place = omega arith in
+    let more : cert_work net (c.loop-place.place + 1)
+    ≡ cert_work net c.loop-place.place + edit_work net (move net c.loop-place.place) = ap (cert_work net) next in
+    let written = g.K.Sink.written in
     record {
-      printed = place_printed (place_text net) (move_count net) c.loop-place.place _ _ _ inside so.printed
-          (prints_same _ _ _ _ _ c.in_ok-certify_place.ensures.prints
+      printed = place_printed (place_text net) (move_count net) c.loop-place.place (written c.args.sink.now)
+          (written c.loop-place.sink) (written c.certify_place.new.sink) inside so.printed
+          (prints_same (written c.loop-place.sink) (written c.certify_place.new.sink) (Ok (tt {0}))
+          (place_text c.loop-place.session.net c.loop-place.place) (place_text net c.loop-place.place) told.prints
           (ap (λ (n : Network). place_text n c.loop-place.place) so.net));
-      net = search rules;
-      closed = search rules;
-      work = search rules;
-      room = search rules;
-      steps = search rules;
+      net = rw told.state so.net;
+      closed = rw told.state so.closed;
+      work = omega (arith, one, more);
+      room = omega (arith, told.few, so.room);
+      steps = omega (arith, told.steps, so.steps);
     }
 
 -- the line of a place broke off

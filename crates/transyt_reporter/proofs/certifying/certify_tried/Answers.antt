@@ -10,6 +10,7 @@ use Rattle.transyt_text.proofs.LoopLaws.{printed_nothing, item_printed, item_bro
 use Rattle.transyt_text.proofs.PrintLaws.{prints_same}
 use Rattle.transyt_cert.specs.Certificate.{place_text}
 use Rattle.transyt_reporter.proofs.CertifyLaws.{certified_none, certified_one, certified_both, certified_any, certified_front}
+use Rattle.transyt_reporter.proofs.CertifyLaws.{try_few}
 use Rattle.transyt_reporter.proofs.certifying.certify_tried.Goals as goal
 
 -- no line is written yet
@@ -25,6 +26,11 @@ say_cert_place-requires-clause-tried g c =
     let k = c.loop-number.number in
     c.requires.tried.each k _ (omega arith)
     ∙ ap (λ (n : Network). try_of n (move n (c.args.from + k))) (sym c.loop-number.invariant.certified.net)
+
+-- and its work, which is little
+pub credit_try-requires-clause-few : goal.credit_try-requires-clause-few
+credit_try-requires-clause-few g c =
+    try_few _ c.args.from _ c.args.tries.now c.loop-number.number _ c.requires.tried (omega arith)
 
 -- the line of a place is written
 pub loop-number-preserved : goal.loop-number-preserved
