@@ -17,7 +17,7 @@ use transyt_steps::Steps;
 use transyt_variants::{AtCycle, cycle_net};
 
 /// Climbs over cycle times as `scan` does, but at steps that keep their length in seconds.
-#[derive(Clone, Copy, PartialEq, Eq, Drop)]
+#[derive(Clone, Copy, Drop)]
 pub struct CyclesWord {
     /// The cycle times, and how many workers climb.
     pub asked: ScanWord,

@@ -16,7 +16,7 @@ use transyt_steps::Steps;
 use transyt_variants::start_net;
 
 /// Climbs from a deck's own offsets and from drawn ones, with so many workers.
-#[derive(Clone, Copy, PartialEq, Eq, Drop)]
+#[derive(Clone, Copy, Drop)]
 pub struct StartsWord {
     /// How many workers climb, 1 to 8.
     pub workers: u32,

@@ -14,7 +14,7 @@ use transyt_climbs::{BestRow, Climbed, IdleBench, PlanRow, Plans, best, climb_pl
 use transyt_net::Net;
 
 /// The numbers of a table's rows.
-#[derive(Clone, Copy, PartialEq, Eq, Drop)]
+#[derive(Clone, Copy, Drop)]
 pub enum Numbered {
     /// Starts, from 0.
     Starts,

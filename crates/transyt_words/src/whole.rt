@@ -1,6 +1,6 @@
 //! The run over an input that is taken whole: it is judged, and then the lines of its answer are written.
 
-ghost use Rattle.std.specs.Prelude.{◌≡◌, ◌≢◌, ◌≤◌, length};
+ghost use Rattle.std.specs.Prelude.{◌≡◌, ◌≢◌, ◌≤◌, [], length, IfOk};
 ghost use Rattle.std.specs.Option.{option_map};
 ghost use Rattle.transyt_io.specs.Streams.{Rose};
 ghost use Rattle.transyt_outcome.specs.Outcome.{Outcome};
@@ -11,6 +11,7 @@ ghost use Rattle.transyt_words.specs.Answer.{answer_text, deck_after, of_whole};
 use crate::answer::Answer;
 use crate::deck_word::{DeckWord, Host, judge_deck};
 use crate::line::print_lines;
+use std::alloc::{AllocError, Global};
 use std::sync::ledger::Ledger;
 use std::thread::Threads;
 use transyt_deck::print_deck;
@@ -62,6 +63,25 @@ pub fn say<K: Sink>(found: &Answer, line: &mut LineBuffer, sink: &mut K) -> Stat
     ended(found.is_refused())
 }
 
+/// The memory for reading a source and for writing an answer.
+#[derive(Drop)]
+struct Buffers {
+    intake: Intake,
+    line: LineBuffer,
+}
+
+impl Buffers {
+    /// Nothing is read or written yet.
+    fn open(alloc: Global) -> Result<Buffers, AllocError>
+        ensures { IfOk result (λ buffers. buffers.intake ≡ []) }
+    {
+        Ok(Buffers {
+            intake: Intake::open(alloc)?,
+            line: LineBuffer::open(alloc)?,
+        })
+    }
+}
+
 /// Takes a source whole, and answers by a word what it gave. The memory for reading and writing is taken before the
 /// first read, and all other memory before the first line is written.
 pub fn answer_whole<R: Threads + Sync, W: DeckWord, S: Source, K: Sink, L: Ledger>(
@@ -87,19 +107,19 @@ pub fn answer_whole<R: Threads + Sync, W: DeckWord, S: Source, K: Sink, L: Ledge
         (S.left source.old) (S.left source.new) steps.old steps.new }
     ensures more_steps { steps.old ≤ steps.new }
 {
-    let Ok(mut intake) = Intake::open(host.alloc) else {
+    let Ok(mut buffers) = Buffers::open(host.alloc) else {
         return Status::NoMemory;
     };
-    let Ok(mut line) = LineBuffer::open(host.alloc) else {
-        return Status::NoMemory;
-    };
-    if let Err(stop) = intake.take_all(source) {
+    if let Err(stop) = buffers.intake.take_all(source) {
+        drop(buffers);
         return stopped_reading(stop);
     }
-    let Ok(found) = judge_deck(host, word, intake.bytes(), steps) else {
+    let Ok(found) = judge_deck(host, word, buffers.intake.bytes(), steps) else {
+        drop(buffers);
         return Status::NoMemory;
     };
-    let status = say(&found, &mut line, sink);
+    let status = say(&found, &mut buffers.line, sink);
     drop(found);
+    drop(buffers);
     status
 }

@@ -19,12 +19,6 @@ returns-in_default-clause-outcome g c = no_memory _ _ _ _ _ [] (takes_nothing (g
 pub returns-in_default-clause-steps : goal.returns-in_default-clause-steps
 returns-in_default-clause-steps g c = no_steps _ _ _ [] _ (takes_nothing (g.S.Source.left c.args.source.now))
 
-pub returns-in_default-open-clause-outcome : goal.returns-in_default-open-clause-outcome
-returns-in_default-open-clause-outcome g c = no_memory _ _ _ _ _ [] (takes_nothing (g.S.Source.left c.args.source.now))
-
-pub returns-in_default-open-clause-steps : goal.returns-in_default-open-clause-steps
-returns-in_default-open-clause-steps g c = no_steps _ _ _ [] _ (takes_nothing (g.S.Source.left c.args.source.now))
-
 -- a read stopped
 pub returns-in-Err-clause-outcome : goal.returns-in-Err-clause-outcome
 returns-in-Err-clause-outcome g c =
