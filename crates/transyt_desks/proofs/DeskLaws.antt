@@ -1,6 +1,6 @@
 -- Desks as a list: each session is that of its desk, so facts of all desks are facts of their sessions.
 use Rattle.std.proofs.Common.{◌≡◌, ℕ, zero, suc, ◌+◌, ◌-◌, ◌<◌, ◌≤◌, List, [], ◌∷◌, ◌++◌, length, take, drop}
-use Rattle.std.proofs.Common.{slice_index_or, slice_set, replicate, refl, ap, sym, ◌∙◌, arith, None, Bool, true, false}
+use Rattle.std.proofs.Common.{slice_index_or, slice_set, replicate, refl, ap, sym, ◌∙◌, arith, None}
 use Rattle.std.proofs.Math.ListN.{get_or-map}
 use Rattle.std.proofs.lemmas.List.{length-map, map-append, same_lists, get_or_default, get_or-set_other}
 use Rattle.std.proofs.lemmas.List.{length-replicate, get_or-replicate, replicate-append-replicate}
@@ -38,9 +38,13 @@ pub others_kept : (sessions : List SessionValue) (s : SessionValue) (k : ℕ) �
     → session_at (slice_set sessions 0 s) k ≡ session_at sessions k
 others_kept sessions s k other = get_or-set_other sessions 0 k s no_session (λ same. absurd (omega (arith, same)))
 
+-- none of them stands for another network where there is none
+none_aligned : AreAligned []
+none_aligned = record { same = λ k less. absurd (omega (arith, less)) }
+
 -- and what desks keep to
-pub desks_lent : (sessions : List SessionValue) (following : Bool) (s : SessionValue) → AreDesks sessions following
-    → AreDesks (slice_set sessions 0 s) false
+pub desks_lent : (sessions : List SessionValue) (following : ℕ) (s : SessionValue) → AreDesks sessions following
+    → AreDesks (slice_set sessions 0 s) 0
 desks_lent sessions following s are =
     let count : length (slice_set sessions 0 s) ≡ length sessions = length-set sessions 0 s in
     record {
@@ -50,14 +54,14 @@ desks_lent sessions following s are =
         closed = λ k other less. ap (λ (x : SessionValue). x.before) (others_kept sessions s k other)
             ∙ are.others.closed k other (omega (arith, count));
       };
-      aligned = λ yes. absurd (cc);
+      aligned = none_aligned;
     }
 
--- and where all stand for one network they may be known to
-pub desks_known : (sessions : List SessionValue) (following : Bool) → AreDesks sessions following → AreAligned sessions
-    → AreDesks sessions true
-desks_known sessions following are aligned =
-    record { some = are.some; few = are.few; others = are.others; aligned = λ yes. aligned }
+-- and where the first stand for one network they may be known to
+pub desks_known : (sessions : List SessionValue) (following count : ℕ) → AreDesks sessions following
+    → AreAligned (take count sessions) → AreDesks sessions count
+desks_known sessions following count are aligned =
+    record { some = are.some; few = are.few; others = are.others; aligned = aligned }
 
 -- a new session is at desk 0
 pub zero_set : (sessions : List SessionValue) (s : SessionValue) → 0 < length sessions → desk_zero (slice_set sessions 0 s) ≡ s
@@ -126,7 +130,7 @@ opened_at s n zero some less = absurd (omega arith)
 opened_at s n (suc k) some less = get_or-replicate (n - 1) k (opened s.net) no_session (omega arith)
 
 -- desks that were opened keep to what desks keep to
-pub opened_are : (s : SessionValue) (n : ℕ) → 0 < n → n ≤ 8 → AreDesks (opened_desks s n) false
+pub opened_are : (s : SessionValue) (n : ℕ) → 0 < n → n ≤ 8 → AreDesks (opened_desks s n) 0
 opened_are s n some few =
     let count : length (opened_desks s n) ≡ n = omega (arith, length-replicate (n - 1) (opened s.net)) in
     record {
@@ -135,7 +139,7 @@ opened_are s n some few =
       others = record {
         closed = λ k other less. ap (λ (x : SessionValue). x.before) (opened_at s n k other (omega (arith, count)));
       };
-      aligned = λ yes. absurd (cc);
+      aligned = none_aligned;
     }
 
 -- the first desk alone

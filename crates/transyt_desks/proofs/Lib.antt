@@ -2,6 +2,7 @@ pub mod TriedLaws
 pub mod PassingLaws
 pub mod LeastLaws
 pub mod DeskLaws
+pub mod FirstLaws
 pub mod SplitLaws
 pub mod FindLaws
 pub mod ShapeLaws

@@ -13,7 +13,8 @@ use Rattle.transyt_desks.specs.declared.turns.Round.{Round}
 use Rattle.transyt_desks.specs.declared.stretch.Stretch.{Stretch}
 use Rattle.transyt_desks.specs.Stretches.{IsStretch}
 use Rattle.transyt_desks.specs.Desks.{desk_zero, AreAlike}
-use Rattle.transyt_desks.specs.Rounds.{each_of, goes_alone, is_took, passed_by, places_of, room_of, turns_of, turns_up_to, CanRound, MakesRound, RoundsDesks}
+use Rattle.transyt_desks.specs.Rounds.{each_of, goes_alone, is_took, passed_by, places_of, room_of, trying_of, turns_of, turns_up_to}
+use Rattle.transyt_desks.specs.Rounds.{CanRound, MakesRound, RoundsDesks}
 use Rattle.transyt_desks.proofs.TriedLaws.{answers_look, answers_took}
 use Rattle.transyt_desks.proofs.LeastLaws.{up_to_one}
 use Rattle.transyt_desks.proofs.PassingLaws.{ArePassing, still_on, next_lowers, stretch_passing, stretch_passed}
@@ -125,14 +126,14 @@ module _ (desks count : ℕ) (c : Counters) (told : Bool) (is : count ≡ desks)
 
   -- it has one place then
   pub places_alone : told ≡ true → 1 ≡ places_of desks c
-  places_alone alone = sym (ap (λ b. if b then 1 else desks * each_of desks c) (answer ∙ alone))
+  places_alone alone = sym (ap (λ b. if b then 1 else trying_of desks c * each_of (trying_of desks c) c) (answer ∙ alone))
 
-  -- otherwise each desk has its part
-  pub places_together : (followed tried each : ℕ) → told ≡ false → followed ≡ desks → tried ≡ followed → each ≡ each_of tried c
-      → followed * each ≡ places_of desks c
-  places_together followed tried each others same these part =
-      (λ i. same i * (part ∙ ap (λ n. each_of n c) (these ∙ same)) i)
-      ∙ sym (ap (λ b. if b then 1 else desks * each_of desks c) (answer ∙ others))
+  -- otherwise each desk that tries has its part
+  pub places_together : (again trying each : ℕ) → told ≡ false → again ≡ desks → trying ≡ trying_of again c
+      → each ≡ each_of (trying_of again c) c → trying * each ≡ places_of desks c
+  places_together again trying each others same these part =
+      (λ i. (these ∙ ap (λ n. trying_of n c) same) i * (part ∙ ap (λ n. each_of (trying_of n c) c) same) i)
+      ∙ sym (ap (λ b. if b then 1 else trying_of desks c * each_of (trying_of desks c) c) (answer ∙ others))
 
   -- and there are several
   pub never_one : told ≡ false → desks ≡ 1 → ⊥

@@ -1,5 +1,5 @@
 -- Desks: sessions that try candidates for one climb, desk 0 first.
-use Rattle.std.specs.Prelude.{◌≡◌, ℕ, ◌-◌, ◌<◌, ◌≤◌, List, [], ◌∷◌, map, length, None, replicate, Bool, true}
+use Rattle.std.specs.Prelude.{◌≡◌, ℕ, ◌-◌, ◌<◌, ◌≤◌, List, [], ◌∷◌, map, length, take, None, replicate}
 use Rattle.std.specs.Prelude.{slice_index_or, slice_set}
 use Rattle.transyt_parts.specs.declared.frame.Frame.{Frame}
 use Rattle.transyt_net.specs.Parts.{Network, network_of, SameShape}
@@ -41,13 +41,13 @@ pub record AreAlike (sessions : List SessionValue) : Type 0 where
 pub record OthersClosed (sessions : List SessionValue) : Type 0 where
   pub closed : (k : ℕ) → 0 < k → k < length sessions → (session_at sessions k).before ≡ None
 
--- the invariant of desks: one to eight of them, no trial at any but desk 0, and one network for all where the others are
--- known to follow. No public clause cites it.
-pub record AreDesks (sessions : List SessionValue) (following : Bool) : Type 0 where
+-- the invariant of desks: one to eight of them, no trial at any but desk 0, and one network for the first of them, as many
+-- as are known to follow. No public clause cites it.
+pub record AreDesks (sessions : List SessionValue) (following : ℕ) : Type 0 where
   pub some : 0 < length sessions
   pub few : length sessions ≤ 8
   pub others : OthersClosed sessions
-  pub aligned : following ≡ true → AreAligned sessions
+  pub aligned : AreAligned (take following sessions)
 
 -- the sessions of desks
 abbrev pub sessions_of : List Desk → List SessionValue

@@ -8,7 +8,8 @@ use Rattle.transyt_climb.specs.declared.turn.Turn.{Turn}
 use Rattle.transyt_climb.specs.declared.turn.Turn.TheVariants.{Took, Passed, Local, Budget}
 use Rattle.transyt_climb.specs.Turns.{Counters, Machine, machine, answer_of, turns, is_end}
 use Rattle.transyt_climb.specs.Way.{IsRound}
-use Rattle.transyt_desks.specs.declared.policy.TheConstants.{FEW_DESKS, LISTS_EARLY, PLACES_ALONE, PLACES_LATE, PLACES_FOR_ONE, MOST_PLACES}
+use Rattle.transyt_desks.specs.declared.policy.TheConstants.{FEW_DESKS, LISTS_EARLY, PLACES_ALONE, PLACES_SOON, DESKS_SOON}
+use Rattle.transyt_desks.specs.declared.policy.TheConstants.{PLACES_LATE, PLACES_FOR_ONE, MOST_PLACES}
 use Rattle.transyt_desks.specs.declared.turns.Round.{Round}
 use Rattle.transyt_desks.specs.Desks.{desk_zero, with_zero}
 
@@ -45,6 +46,10 @@ is_early desks c = nat_le desks FEW_DESKS || nat_lt c.looked (LISTS_EARLY * c.co
 abbrev pub goes_alone : ℕ → Counters → Bool
 goes_alone desks c = (desks == 1) || (nat_lt 0 c.looked && is_early desks c && nat_lt c.since PLACES_ALONE)
 
+-- how many of so many desks try: up to some places after a step no more than a few, and then all
+abbrev pub trying_of : ℕ → Counters → ℕ
+trying_of desks c = if nat_lt c.since PLACES_SOON then min desks DESKS_SOON else desks
+
 -- how many places each of so many desks tries at least: later so many that all desks together try some
 abbrev pub least_of : ℕ → Counters → ℕ
 least_of desks c = if is_early desks c then 1 else (PLACES_LATE + desks - 1) / desks
@@ -56,7 +61,7 @@ each_of desks c = min MOST_PLACES (max (least_of desks c) (c.since / (PLACES_FOR
 
 -- how many places so many desks try in a round of stretches
 abbrev pub places_of : ℕ → Counters → ℕ
-places_of desks c = if goes_alone desks c then 1 else desks * each_of desks c
+places_of desks c = if goes_alone desks c then 1 else trying_of desks c * each_of (trying_of desks c) c
 
 -- a climber and a session on which a round can be made
 pub record CanRound (c : Counters) (s : SessionValue) : Type 0 where

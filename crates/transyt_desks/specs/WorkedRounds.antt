@@ -24,8 +24,8 @@ abbrev pub has_passed : ℕ → ℕ → Counters
 has_passed since looked = record { place = 4; since = since; looked = looked; budget = 9258; count = 1152 }
 
 -- numbers of desks and a climber, with how many places they try in a round of stretches: before any step, right after
--- one, and when 15, 16 and more places have passed since; then the same once it has looked at three times the list, where
--- two desks go on as before
+-- one, and when 15, 16 and more places have passed since, up to 64 by four desks at most; then the same once it has looked
+-- at three times the list, where two desks go on as before
 abbrev pub worked_places : List (ℕ × Counters × ℕ)
 worked_places =
     (1, has_passed 0 0, 1)
@@ -35,8 +35,10 @@ worked_places =
     ∷ (8, has_passed 15 30, 1)
     ∷ (8, has_passed 15 15, 1)
     ∷ (2, has_passed 16 40, 8)
-    ∷ (8, has_passed 31 40, 8)
+    ∷ (8, has_passed 31 40, 12)
     ∷ (8, has_passed 32 40, 16)
+    ∷ (8, has_passed 63 80, 28)
+    ∷ (8, has_passed 64 80, 32)
     ∷ (3, has_passed 71 90, 33)
     ∷ (3, has_passed 72 90, 36)
     ∷ (2, has_passed 127 300, 62)
@@ -47,10 +49,12 @@ worked_places =
     ∷ (2, has_passed 15 3456, 1)
     ∷ (2, has_passed 19 5000, 8)
     ∷ (3, has_passed 0 3456, 9)
-    ∷ (5, has_passed 0 3456, 10)
+    ∷ (5, has_passed 0 3456, 8)
     ∷ (8, has_passed 1 3456, 8)
     ∷ (4, has_passed 23 5000, 8)
     ∷ (4, has_passed 24 5000, 12)
+    ∷ (5, has_passed 63 5000, 28)
+    ∷ (5, has_passed 64 5000, 30)
     ∷ (8, has_passed 1000 5000, 256)
     ∷ []
 

@@ -1,6 +1,6 @@
 //! The desks, and their rounds.
 
-ghost use Rattle.std.specs.Prelude.{◌≡◌, ℕ, ◌+◌, ◌*◌, ◌^◌, ◌<◌, ◌≤◌, ◌↔◌, [], ◌∷◌, ◌++◌, length, None, true, false, IfOk, OnOk, IsTrue};
+ghost use Rattle.std.specs.Prelude.{◌≡◌, ℕ, ◌+◌, ◌*◌, ◌^◌, ◌<◌, ◌≤◌, ◌↔◌, [], ◌∷◌, ◌++◌, length, take, None, true, false, IfOk, OnOk, IsTrue};
 ghost use Rattle.std.specs.Borrow.{sem};
 ghost use Rattle.transyt_climb.specs.Turns.{machine};
 ghost use Rattle.transyt_desks.specs.Desks.{desk_zero, new_desk, opened_desks, AreAligned, AreAlike};
@@ -15,9 +15,10 @@ use crate::crew::Crew;
 use crate::desk::{Desk, all_same, follow_zero};
 use crate::finding::{find_some, find_stretch};
 use crate::gate::Gate;
-use crate::policy::{each, goes_alone};
+use crate::policy::{goes_alone, share};
 use crate::reach::Reach;
 use crate::rounds::{alone, together};
+use crate::share::Share;
 use crate::stretch::Stretch;
 use crate::turns::Round;
 use std::alloc::{AllocError, Global};
@@ -31,8 +32,8 @@ use transyt_steps::Steps;
 /// One to eight desks. Desk 0's session is the one that counts; the others follow it.
 pub struct Desks {
     desks: Vec<Desk>,
-    /// Whether the others are known to stand for the network of desk 0.
-    following: bool,
+    /// How many of the first desks are known to stand for the network of desk 0.
+    following: usize,
 }
 
 impl Drop for Desks {
@@ -74,7 +75,7 @@ impl Desks {
         }
         Ok(Desks {
             desks,
-            following: false,
+            following: 0,
         })
     }
 
@@ -90,7 +91,7 @@ impl Desks {
         ensures* writes_back { sem 𝓛 (LendsZero self.entry result) }
         ensures value { result.now ≡ desk_zero self.old }
     {
-        self.following = false;
+        self.following = 0;
         let desk = &mut self.desks[0];
         &mut desk.session
     }
@@ -104,27 +105,43 @@ impl Desks {
         self.desks.len()
     }
 
-    /// Notes that every desk stands for the network of desk 0.
+    /// Notes that the first desks, so many, stand for the network of desk 0.
     #[tactic(auto, using(crate::proofs::DeskLaws::desks_known))]
-    pub(crate) fn note_aligned(&mut self)
-        requires aligned { AreAligned self.old }
+    pub(crate) fn note_aligned(&mut self, count: usize)
+        requires aligned { AreAligned (take count self.old) }
         ensures { self.new ≡ self.old }
     {
-        self.following = true;
+        self.following = count;
     }
 
-    /// Lets every other desk stand for the network of desk 0. Networks are compared only after desk 0 was lent.
-    fn follow<R: Threads + Sync>(&mut self, rt: &R)
+    /// Lets the first desks, so many, stand for the network of desk 0. Networks are compared only after desk 0 was lent,
+    /// and where more desks follow than before.
+    fn follow<R: Threads + Sync>(&mut self, rt: &R, count: usize)
+        requires some { 0 < count }
+        requires within { count ≤ length self.old }
+        requires shape { AreAlike self.old }
+        ensures aligned { AreAligned (take count self.new) }
+        ensures alike { AreAlike self.new }
+        ensures zero { desk_zero self.new ≡ desk_zero self.old }
+        ensures workers { length self.new ≡ length self.old }
+    {
+        if count <= self.following {
+            return;
+        }
+        let (front, _) = self.desks.as_mut_slice().split_at_mut(count);
+        follow_zero(rt, front);
+        self.following = count;
+    }
+
+    /// Lets every other desk stand for the network of desk 0.
+    fn follow_all<R: Threads + Sync>(&mut self, rt: &R)
         requires shape { AreAlike self.old }
         ensures aligned { AreAligned self.new }
         ensures zero { desk_zero self.new ≡ desk_zero self.old }
         ensures workers { length self.new ≡ length self.old }
     {
-        if self.following {
-            return;
-        }
-        follow_zero(rt, self.desks.as_mut_slice());
-        self.following = true;
+        let count = self.count();
+        self.follow(rt, count);
     }
 
     /// Lets every other desk stand for the network of desk 0. It takes no memory, and does nothing with one desk.
@@ -135,7 +152,7 @@ impl Desks {
         ensures workers { length self.new ≡ length self.old }
         ensures alone { length self.old ≡ 1 → steps.new ≡ steps.old }
     {
-        self.follow(rt);
+        self.follow_all(rt);
     }
 
     /// Whether every desk stands for the network of desk 0.
@@ -168,7 +185,7 @@ impl Desks {
         ensures alike { AreAlike self.new }
         ensures workers { length self.new ≡ length self.old }
     {
-        self.follow(rt);
+        self.follow_all(rt);
         if !tries.is_empty() {
             self.try_some(&Crew { rt, gate }, from, tries);
         }
@@ -193,19 +210,21 @@ impl Desks {
         find_some(crew, self.desks.as_mut_slice(), from, tries);
     }
 
-    /// Tries the moves of a reach at desks that stand for one network, all at once, and gives them as a stretch, up to
-    /// the first that lowers the index.
+    /// Tries the moves of a reach at its desks, which stand for one network, all at once, and gives them as a stretch, up
+    /// to the first that lowers the index.
     pub(crate) fn try_reach<R: Threads + Sync, G: Gate>(
         &mut self,
         crew: &Crew<'_, R, G>,
         reach: Reach,
     ) -> Stretch
-        requires { CanReach reach self.old }
+        requires within { reach.desks ≤ length self.old }
+        requires ready { CanReach reach (take reach.desks self.old) }
         ensures same { self.new ≡ self.old }
         ensures tried { IsStretch (desk_zero self.old).net
             reach.place reach.count reach.room result }
     {
-        find_stretch(crew, self.desks.as_mut_slice(), reach)
+        let (front, _) = self.desks.as_mut_slice().split_at_mut(reach.desks as usize);
+        find_stretch(crew, front, reach)
     }
 
     /// A round: the next moves of the list are tried at once, one at each desk, and the first of them that lowers the
@@ -233,14 +252,18 @@ impl Desks {
         if self.count() == 1 {
             return alone(gate, self, climber, steps);
         }
-        let round = together(&Crew { rt, gate }, self, 1, climber, steps);
-        self.follow(rt);
+        let share = Share {
+            desks: self.count(),
+            each: 1,
+        };
+        let round = together(&Crew { rt, gate }, self, share, climber, steps);
+        self.follow_all(rt);
         round
     }
 
     /// A round in which desk 0 goes on alone, early in a climb and for a while after a step, or else the desks try the next
-    /// moves in turn, the more the longer no move lowers the index: as many in all as `places_of` says. The first of them
-    /// that lowers the index is made at desk 0.
+    /// moves in turn, the more the longer no move lowers the index: as many in all as `places_of` says, and up to some
+    /// places after a step no more than four of the desks. The first of them that lowers the index is made at desk 0.
     ///
     /// Early in a climb the same move mostly lowers the index again right after a step, so that one desk goes on alone,
     /// with nothing to copy. The other desks are left behind, and stand for the network of desk 0 again once they try. A
@@ -265,9 +288,9 @@ impl Desks {
         if goes_alone(self.count(), climber) {
             return alone(gate, self, climber, steps);
         }
-        self.follow(rt);
-        let each = each(self.count(), climber);
-        together(&Crew { rt, gate }, self, each, climber, steps)
+        let share = share(self.count(), climber);
+        self.follow(rt, share.desks);
+        together(&Crew { rt, gate }, self, share, climber, steps)
     }
 }
 

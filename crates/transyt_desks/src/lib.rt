@@ -5,7 +5,7 @@
 //! order of the list that lowers the index is made at desk 0, and what was tried after it is forgotten. So a round is
 //! so many turns of one worker, and a climb by rounds is the climb, whatever the number of workers. In a climb desk 0
 //! goes on alone for a while after a step, and the other desks are left behind until they try again; the longer no move
-//! lowers the index, the more moves a round has. All of this is this project's own.
+//! lowers the index, the more moves a round has, and the more desks try. All of this is this project's own.
 //!
 //! A contract sees desks as the list of their sessions, desk 0 first. `IsRound` of transyt_climb is what a round does to
 //! the climber and desk 0, and `turns_of` of `specs/Rounds` its number of turns. That several desks are at work at once
@@ -23,6 +23,7 @@ mod laws;
 mod policy;
 mod reach;
 mod rounds;
+mod share;
 mod stretch;
 mod turns;
 

@@ -1,8 +1,9 @@
 //! When several desks try together, and how many places each of them tries.
 
 ghost use Rattle.std.specs.Prelude.{◌≡◌, ◌<◌, ◌≤◌};
-ghost use Rattle.transyt_desks.specs.Rounds.{each_of, goes_alone, is_early, least_of};
+ghost use Rattle.transyt_desks.specs.Rounds.{each_of, goes_alone, is_early, least_of, trying_of};
 
+use crate::share::Share;
 use transyt_climb::Climber;
 
 /// With so many desks a climb is early to its end.
@@ -15,10 +16,16 @@ pub(crate) const LISTS_EARLY: u64 = 3;
 /// Up to so many places after a step, desk 0 goes on alone in an early climb.
 pub(crate) const PLACES_ALONE: u32 = 16;
 
-/// Later all desks together try at least so many places.
+/// Up to so many places after a step, at most `DESKS_SOON` desks try.
+pub(crate) const PLACES_SOON: u32 = 64;
+
+/// So many desks try soon after a step.
+pub(crate) const DESKS_SOON: usize = 4;
+
+/// Late in a climb all desks that try have together at least so many places.
 pub(crate) const PLACES_LATE: u32 = 8;
 
-/// All desks together try one more for so many places since the last step.
+/// All desks that try have together one place more for so many since the last step.
 pub(crate) const PLACES_FOR_ONE: u32 = 2;
 
 /// Each desk tries at most so many places.
@@ -44,6 +51,20 @@ pub(crate) fn goes_alone(desks: usize, climber: &Climber) -> bool
     climber.looked() > 0 && is_early(desks, climber) && climber.since() < PLACES_ALONE
 }
 
+/// How many of so many desks try: a few soon after a step, and then all.
+fn trying(desks: usize, climber: &Climber) -> usize
+    requires some { 0 < desks }
+    requires few { desks ≤ 8 }
+    ensures value { result ≡ trying_of desks climber.now }
+    ensures some { 0 < result }
+    ensures within { result ≤ desks }
+{
+    if climber.since() < PLACES_SOON {
+        return desks.min(DESKS_SOON);
+    }
+    desks
+}
+
 /// How many places each of so many desks tries at least.
 fn least(desks: usize, climber: &Climber) -> u32
     requires some { 0 < desks }
@@ -58,7 +79,7 @@ fn least(desks: usize, climber: &Climber) -> u32
 }
 
 /// How many places each of so many desks tries.
-pub(crate) fn each(desks: usize, climber: &Climber) -> u32
+fn each(desks: usize, climber: &Climber) -> u32
     requires some { 0 < desks }
     requires few { desks ≤ 8 }
     ensures value { result ≡ each_of desks climber.now }
@@ -67,4 +88,19 @@ pub(crate) fn each(desks: usize, climber: &Climber) -> u32
 {
     let places = climber.since() / (PLACES_FOR_ONE * desks as u32);
     places.max(least(desks, climber)).min(MOST_PLACES)
+}
+
+/// Which of so many desks try, and how many places each of them.
+pub(crate) fn share(desks: usize, climber: &Climber) -> Share
+    requires some { 0 < desks }
+    requires few { desks ≤ 8 }
+    ensures desks { result.desks ≡ trying_of desks climber.now }
+    ensures each { result.each ≡ each_of (trying_of desks climber.now) climber.now }
+    ensures within { result.desks ≤ desks }
+{
+    let trying = trying(desks, climber);
+    Share {
+        desks: trying,
+        each: each(trying, climber),
+    }
 }

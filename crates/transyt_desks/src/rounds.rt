@@ -1,6 +1,6 @@
 //! A round of desks: one turn at desk 0, or moves that every desk tries.
 
-ghost use Rattle.std.specs.Prelude.{◌≡◌, ℕ, ◌+◌, ◌*◌, ◌<◌, ◌≤◌, length, true, false};
+ghost use Rattle.std.specs.Prelude.{◌≡◌, ℕ, ◌+◌, ◌*◌, ◌<◌, ◌≤◌, length, take, true, false};
 ghost use Rattle.transyt_climb.specs.Turns.{machine};
 ghost use Rattle.transyt_session.specs.Session.{SessionValue};
 ghost use Rattle.transyt_desks.specs.Desks.{desk_zero, AreAligned};
@@ -10,6 +10,7 @@ use crate::crew::Crew;
 use crate::desks::Desks;
 use crate::gate::Gate;
 use crate::reach::Reach;
+use crate::share::Share;
 use crate::turns::{Round, make_turn, make_turns};
 use std::sync::ledger::Ledger;
 use std::thread::Threads;
@@ -86,32 +87,30 @@ fn reach_of(climber: &Climber, places: u32, desks: usize) -> Reach
     }
 }
 
-/// A round in which every desk tries so many moves, or the end of the climb.
+/// A round in which the desks of a share try the moves that it gives each of them, or the end of the climb.
 pub(crate) fn together<R: Threads + Sync, G: Gate, L: Ledger>(
     crew: &Crew<'_, R, G>,
     desks: &mut Desks,
-    each: u32,
+    share: Share,
     climber: &mut Climber,
     steps: &mut Steps<L>,
 ) -> Round
-    requires aligned { AreAligned desks.old }
+    requires within { share.desks ≤ length desks.old }
+    requires aligned { AreAligned (take share.desks desks.old) }
     requires ready { CanRound climber.old (desk_zero desks.old) }
-    requires some { 0 < each }
-    requires few { each ≤ 64 }
-    ensures { RoundsDesks (length desks.old * each) climber.old desks.old
+    ensures { RoundsDesks (share.desks * share.each) climber.old desks.old
         climber.new desks.new result }
 {
-    let count = desks.count();
-    let places = count as u32 * each;
+    let places = share.desks as u32 * share.each;
     if is_over(climber) {
         return turn_zero(desks, climber, places, steps);
     }
-    let reach = reach_of(climber, places, count);
+    let reach = reach_of(climber, places, share.desks);
     let tried = desks.try_reach(crew, reach);
     let round = make_turns(climber, desks.session_mut(), tried, places, steps);
     if tried.lowers {
         return round;
     }
-    desks.note_aligned();
+    desks.note_aligned(share.desks);
     round
 }

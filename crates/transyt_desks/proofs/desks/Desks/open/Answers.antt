@@ -1,5 +1,5 @@
 -- One twin more, and the desks when all are made.
-use Rattle.std.proofs.Common.{◌≡◌, ◌++◌, false, List, [], ◌∷◌, length, slice_index_or, length-append, rules, sym, ap, ◌∙◌, subst, arith}
+use Rattle.std.proofs.Common.{◌≡◌, ◌++◌, List, [], ◌∷◌, length, slice_index_or, length-append, rules, sym, ap, ◌∙◌, subst, arith}
 use Rattle.std.proofs.lemmas.List.{get_or_append_left}
 use Rattle.transyt_session.specs.Session.{SessionValue, opened}
 use Rattle.transyt_desks.specs.declared.desk.Desk.{Desk}
@@ -32,7 +32,7 @@ invariant_of-result c =
     let all : sessions_of c.loop-made.desks.items ≡ opened_desks s c.args.workers =
     (let made : c.loop-made.made ≡ c.args.workers = omega arith in
     c.loop-made.invariant.desks ∙ ap (opened_desks s) made) in
-    subst (λ (ss : List SessionValue). AreDesks ss false) (sym all) (opened_are s c.args.workers (omega arith) c.requires.few)
+    subst (λ (ss : List SessionValue). AreDesks ss 0) (sym all) (opened_are s c.args.workers (omega arith) c.requires.few)
 
 pub returns : goal.returns
 returns c =

@@ -8,8 +8,8 @@ use Rattle.transyt_desks.proofs.DeskLaws.{aligned_alike}
 use Rattle.transyt_desks.proofs.RoundLaws.{alike_rounds, rounds_workers}
 use Rattle.transyt_desks.proofs.desks.Desks.round.Goals as goal
 
-pub follow-requires-clause-shape : goal.follow-requires-clause-shape
-follow-requires-clause-shape g c κs within =
+pub follow_all-requires-clause-shape : goal.follow_all-requires-clause-shape
+follow_all-requires-clause-shape g c κs within =
     let some : 0 < length c.args.self.now = omega (arith, c.count.ensures.value, c.count.ensures.some) in
     alike_rounds _ _ _ c.args.self.now c.together-round.new.desks c.together-round.result some
     (aligned_alike c.args.self.now c.requires.aligned) c.together-round.ensures
@@ -22,11 +22,11 @@ returns-then-count-eq1-clause-made g c =
 
 pub returns-clause-made : goal.returns-clause-made
 returns-clause-made g c =
-    let one : length c.args.self.now * 1 ≡ length c.args.self.now = omega arith in
+    let one : c.count-2.result * 1 ≡ length c.args.self.now = omega (arith, c.count-2.ensures.value) in
     subst (λ n. MakesRound n (machine c.args.climber.now (desk_zero c.args.self.now))
-    (machine c.together-round.new.climber (desk_zero c.follow.new.self)) c.together-round.result) one
-    (subst (λ (s : SessionValue). MakesRound (length c.args.self.now * 1) (machine c.args.climber.now (desk_zero c.args.self.now))
-    (machine c.together-round.new.climber s) c.together-round.result) (sym c.follow.ensures.zero) c.together-round.ensures.made)
+    (machine c.together-round.new.climber (desk_zero c.follow_all.new.self)) c.together-round.result) one
+    (subst (λ (s : SessionValue). MakesRound (c.count-2.result * 1) (machine c.args.climber.now (desk_zero c.args.self.now))
+    (machine c.together-round.new.climber s) c.together-round.result) (sym c.follow_all.ensures.zero) c.together-round.ensures.made)
 
 pub returns-clause-workers : goal.returns-clause-workers
-returns-clause-workers g c = c.follow.ensures.workers ∙ rounds_workers _ _ _ _ _ _ c.together-round.ensures
+returns-clause-workers g c = c.follow_all.ensures.workers ∙ rounds_workers _ _ _ _ _ _ c.together-round.ensures

@@ -4,7 +4,6 @@ use Rattle.transyt_climb.specs.Turns.{machine}
 use Rattle.transyt_session.specs.Session.{SessionValue}
 use Rattle.transyt_desks.specs.Desks.{desk_zero}
 use Rattle.transyt_desks.specs.Rounds.{CanRound, MakesRound}
-use Rattle.transyt_desks.proofs.DeskLaws.{aligned_alike}
 use Rattle.transyt_desks.proofs.RoundLaws.{alike_rounds, never_one, places_alone, places_together, rounds_workers}
 use Rattle.transyt_desks.proofs.desks.Desks.stretch_round.Goals as goal
 
@@ -18,7 +17,7 @@ returns-clause-alike g c =
     let followed = c.follow.new.self in
     let some : 0 < length followed = omega (arith, c.follow.ensures.workers, c.count.ensures.value, c.count.ensures.some) in
     alike_rounds _ _ _ followed c.together.new.desks c.together.result some
-    (aligned_alike followed c.follow.ensures.aligned) c.together.ensures
+    c.follow.ensures.alike c.together.ensures
 
 pub returns-then-goes_alone-clause-made : goal.returns-then-goes_alone-clause-made
 returns-then-goes_alone-clause-made g c =
@@ -39,9 +38,9 @@ returns-clause-made g c =
     subst (λ n. MakesRound n (machine c.args.climber.now (desk_zero c.args.self.now))
     (machine c.together.new.climber (desk_zero c.together.new.desks)) c.together.result)
     (places_together (length c.args.self.now) c.count.result c.args.climber.now c.goes_alone.result c.count.ensures.value
-    c.goes_alone.ensures (length c.follow.new.self) c.count-2.result c.each-each.result c.if-goes_alone.false
-    c.follow.ensures.workers c.count-2.ensures.value c.each-each.ensures.value)
-    (subst (λ (s : SessionValue). MakesRound (length c.follow.new.self * c.each-each.result) (machine c.args.climber.now s)
+    c.goes_alone.ensures c.count-2.result c.share-share.result.desks c.share-share.result.each c.if-goes_alone.false
+    c.count-2.ensures.value c.share-share.ensures.desks c.share-share.ensures.each)
+    (subst (λ (s : SessionValue). MakesRound (c.share-share.result.desks * c.share-share.result.each) (machine c.args.climber.now s)
     (machine c.together.new.climber (desk_zero c.together.new.desks)) c.together.result) c.follow.ensures.zero
     c.together.ensures.made)
 
