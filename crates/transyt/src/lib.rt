@@ -11,6 +11,7 @@
 
 mod ending;
 mod given;
+mod host_gate;
 mod laws;
 mod over;
 mod program;

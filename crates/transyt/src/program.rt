@@ -5,6 +5,7 @@ ghost use Rattle.transyt_outcome.specs.declared.status.Status.{Status};
 ghost use Rattle.transyt.specs.Program.{ProgramHeadline, ProgramRan, TopCall, after_name, ends_of};
 
 use crate::ending::{exit_of, sentence_of};
+use crate::host_gate::HostGate;
 use crate::telling::Telling;
 use crate::top::transyt;
 use crate::version::VERSION;
@@ -12,7 +13,6 @@ use std::io::{self, ErrorKind};
 use std::marker::Brand;
 use std::sync::ledger::{Blank, Ledger};
 use std::thread::Threads;
-use transyt_desks::OpenGate;
 use transyt_io::{Sink, Source, SteadySource, TallySink};
 use transyt_outcome::Status;
 use transyt_steps::Steps;
@@ -27,7 +27,7 @@ fn after_name(given: &[String]) -> &[String]
     }
 }
 
-/// The top call with a counter of steps that this blank makes, and an open gate.
+/// The top call with a counter of steps that this blank makes, and with no more workers than there are processors.
 fn run_words<R: Threads + Sync + AllocGlobal, S: Source, K: Sink, L: Ledger>(
     rt: &R,
     words: &[String],
@@ -43,10 +43,18 @@ fn run_words<R: Threads + Sync + AllocGlobal, S: Source, K: Sink, L: Ledger>(
         (ends_of S.left S.last S.faults K.written K.faults source.new sink.new) result }
 {
     let mut steps = Steps::<L>::begin(blank);
-    transyt(rt, rt.alloc(), words, source, sink, &OpenGate, &mut steps)
+    transyt(
+        rt,
+        rt.alloc(),
+        words,
+        source,
+        sink,
+        &HostGate { rt },
+        &mut steps,
+    )
 }
 
-/// The top call, with an open gate and a counter of steps of its own.
+/// The top call with a counter of steps of its own.
 fn run_call<R: Threads + Sync + AllocGlobal, S: Source, K: Sink>(
     rt: &R,
     words: &[String],

@@ -26,7 +26,7 @@ struct Crew<'a, R, G> {
     gate: &'a G,
 }
 
-impl<'a, R, G> Crew<'a, R, G> {
+impl<'a, R, G: Gate> Crew<'a, R, G> {
     /// The runtime and the allocator.
     fn host(&self) -> Host<'a, R> {
         Host {
@@ -35,12 +35,16 @@ impl<'a, R, G> Crew<'a, R, G> {
         }
     }
 
-    /// So many workers of it.
+    /// So many workers of it, but no more than its gate lets in at once.
     fn workers(&self, count: u32) -> Workers<'a, R, G>
         requires some { 1 ≤ count }
         requires most { count ≤ 8 }
-        ensures { result.count ≡ count }
+        ensures { count ≡ 1 → result.count ≡ 1 }
     {
+        let count = match count {
+            1 => 1,
+            _ => count.min(self.gate.most()),
+        };
         Workers {
             rt: self.rt,
             gate: self.gate,
@@ -89,7 +93,8 @@ fn answer_word<R: Threads + Sync, S: Source, K: Sink, G: Gate, L: Ledger>(
 
 /// Runs the program with its words.
 ///
-/// - `run` and `run w` write the report of a deck and its commands, with one worker or w, 1 to 8;
+/// - `run` and `run w` write the report of a deck and its commands, with one worker or w, 1 to 8, but no more than the
+///   gate lets in at once;
 /// - `make seed nodes` writes the deck text of the town that is made from the seed;
 /// - `brief seed nodes` and `brief seed nodes w` climb once on that town and write one line;
 /// - `counts` turns a table of counts after a deck into commands;

@@ -39,7 +39,7 @@ pub others_kept : (sessions : List SessionValue) (s : SessionValue) (k : ℕ) �
 others_kept sessions s k other = get_or-set_other sessions 0 k s no_session (λ same. absurd (omega (arith, same)))
 
 -- none of them stands for another network where there is none
-none_aligned : AreAligned []
+pub none_aligned : AreAligned []
 none_aligned = record { same = λ k less. absurd (omega (arith, less)) }
 
 -- and what desks keep to

@@ -1,21 +1,32 @@
 -- Finds: a move's desk is the rest of its number by the number of desks, and its turn the quotient.
 use Rattle.std.proofs.Common.{◌≡◌, ℕ, ◌+◌, ◌*◌, ◌/◌, ◌%◌, ◌<◌, ◌≤◌, List, length, slice_index_or, slice_set, [], ◌∷◌, ◌++◌}
+use Rattle.std.proofs.Common.{Bool, true, false, nat_lt, Option, Some, None, if◌then◌else◌}
 use Rattle.std.proofs.Common.{length-append, refl, ap, sym, ◌∙◌, subst, arith}
-use Rattle.std.proofs.lemmas.List.{get_or-set_other, get_or_append_left, length-set}
+use Rattle.std.proofs.lemmas.Bool.Decides.{nat_tests}
+use Rattle.std.proofs.lemmas.Option.{none-some}
+use Rattle.std.proofs.lemmas.List.{get_or-set_other, get_or_append_left, get_or_default, length-set}
 use Rattle.std.proofs.Math.Seq.{get_or-append_seam}
 use Rattle.std.proofs.lemmas.Grind.{get_or-set_at}
-use Rattle.std.proofs.Math.Nat.{mod-eq_of_lt}
+use Rattle.std.proofs.Math.Nat.{mod-eq_of_lt, mul-le-mul_right}
 use borrow.Author.Count.{below_more}
 use Rattle.std.proofs.lemmas.Nat.{mod_below}
+use Rattle.transyt_net.specs.declared.edit.Edit.{Edit}
+use Rattle.transyt_net.specs.declared.edit.EditFault.{EditFault}
+use Rattle.transyt_net.specs.EditFaults.{edit_fault}
+use Rattle.transyt_net.specs.Edits.{with_edit}
 use Rattle.transyt_net.specs.Parts.{Network}
 use Rattle.transyt_moves.specs.Moves.{move}
-use Rattle.transyt_track.specs.Due.{edit_work}
+use Rattle.transyt_sweep.specs.Sweeps.{index}
+use Rattle.transyt_track.specs.Due.{due, edit_work}
 use Rattle.transyt_session.specs.declared.answers.Tried.{Tried}
-use Rattle.transyt_session.specs.Session.{SessionValue, try_of}
+use Rattle.transyt_session.specs.Session.{SessionValue, standing_for, try_of, tried_with}
 use Rattle.transyt_desks.specs.declared.desk.Desk.{Desk}
+use Rattle.transyt_desks.specs.declared.finds.Finds.{Finds}
+use Rattle.transyt_desks.specs.declared.finds.Made.{Made}
 use Rattle.transyt_desks.specs.declared.reach.Reach.{Reach}
-use Rattle.transyt_desks.specs.Stretches.{place_at, AreFinds, AreFound, AreTriesAt, HasFound, HaveFound}
-use Rattle.transyt_desks.specs.Desks.{desk_zero, no_desk, sessions_of, AreAligned}
+use Rattle.transyt_desks.specs.Stretches.{made_at, made_by, net_made, place_at, turn_place}
+use Rattle.transyt_desks.specs.Stretches.{AreFinds, AreFound, AreTriesAt, HasFound, HaveFound, HaveTried}
+use Rattle.transyt_desks.specs.Desks.{desk_zero, no_desk, session_at, sessions_of, AreAligned}
 use Rattle.transyt_desks.proofs.DeskLaws.{session_is, sessions_count}
 
 -- one try more
@@ -39,46 +50,137 @@ pub record IsTurnOf (reach : Reach) (number : ℕ) : Type 0 where
 pub turn_of : (reach : Reach) (number : ℕ) → IsTurnOf reach number
 turn_of reach number = record { desk = mod_below number reach.desks reach.some; sum = omega (arith, reach.some) }
 
--- its find
-pub found_at : (reach : Reach) (desks : List Desk) (number : ℕ) (d : Desk) (t : Tried) → AreFound reach desks
-    → number < reach.room → d ≡ slice_index_or desks (number % reach.desks) no_desk
-    → slice_index_or d.finds (number / reach.desks) t
-    ≡ try_of (desk_zero (sessions_of desks)).net (move (desk_zero (sessions_of desks)).net
-    (place_at reach.place reach.count number))
-found_at reach desks number d t found inside is =
-    let net = (desk_zero (sessions_of desks)).net in
-    let at : IsTurnOf reach number = turn_of reach number in
-    ap (λ (x : Desk). slice_index_or x.finds (number / reach.desks) t) is
-    ∙ (found.each (number % reach.desks) (omega (arith, at.desk, found.count))).each (number / reach.desks) t
-    (omega (arith, at.sum, inside))
-    ∙ ap (λ n. try_of net (move net (place_at reach.place reach.count n))) at.sum
+-- what the desk found whose turn the move with a number is
+abbrev pub finds_of : Reach → List Desk → ℕ → Desk → Finds
+finds_of reach desks number d = (slice_index_or desks (number % reach.desks) d).finds
 
--- and its work
-pub found_few : (reach : Reach) (desks : List Desk) (number : ℕ) → AreFound reach desks → number < reach.room
-    → edit_work (desk_zero (sessions_of desks)).net (move (desk_zero (sessions_of desks)).net
-    (place_at reach.place reach.count number)) ≤ 8000
-found_few reach desks number found inside =
-    let net = (desk_zero (sessions_of desks)).net in
-    let at : IsTurnOf reach number = turn_of reach number in
-    subst (λ n. edit_work net (move net (place_at reach.place reach.count n)) ≤ 8000) at.sum
-    ((found.each (number % reach.desks) (omega (arith, at.desk, found.count))).few (number / reach.desks)
-    (omega (arith, at.sum, inside)))
+-- the find of a move that its desk took back, and what is known where the desk had stopped
+module _ (net : Network) (reach : Reach) (desks : List Desk) (number : ℕ) (d : Desk) (found : AreFound net reach desks)
+    (inside : number < reach.room) where
+  at : IsTurnOf reach number
+  at = turn_of reach number
+
+  -- the desk is there
+  pub desk_inside : number % reach.desks < length desks
+  desk_inside = omega (arith, at.desk, found.count)
+
+  pub its : AreFinds net reach (number % reach.desks) (finds_of reach desks number d)
+  its =
+      subst (λ (x : Desk). AreFinds net reach (number % reach.desks) x.finds)
+      (get_or_default desks (number % reach.desks) no_desk d desk_inside) (found.each (number % reach.desks) desk_inside)
+
+  pub found_at : (t : Tried) → number / reach.desks < (finds_of reach desks number d).passed
+      → slice_index_or (finds_of reach desks number d).tries (number / reach.desks) t ≡ try_of net (move net (place_at reach.place reach.count number))
+  found_at t before =
+      its.tries.each (number / reach.desks) t before
+      ∙ ap (λ n. try_of net (move net (place_at reach.place reach.count n))) at.sum
+
+  pub found_few : number / reach.desks < (finds_of reach desks number d).passed
+      → edit_work net (move net (place_at reach.place reach.count number)) ≤ 8000
+  found_few before =
+      subst (λ n. edit_work net (move net (place_at reach.place reach.count n)) ≤ 8000) at.sum
+      (its.tries.few (number / reach.desks) before)
+
+  pub found_passes : number / reach.desks < (finds_of reach desks number d).passed
+      → made_at net reach.bound (place_at reach.place reach.count number) ≡ None
+  found_passes before =
+      ap (λ n. made_at net reach.bound (place_at reach.place reach.count n)) (sym at.sum)
+      ∙ its.passes (number / reach.desks) before
+
+  -- a desk that has stopped has made a move
+  pub stopped_made : (finds_of reach desks number d).passed ≤ number / reach.desks → (finds_of reach desks number d).made ≡ None → ⊥
+  stopped_made stopped none =
+      let going = its.whole none (number / reach.desks) (omega (arith, at.sum, inside)) in omega (arith, stopped, going)
+
+  -- it is this one, where no move before it is made
+  pub stopped_at : (finds_of reach desks number d).passed ≤ number / reach.desks
+      → ((k : ℕ) → k < number → made_at net reach.bound (place_at reach.place reach.count k) ≡ None)
+      → (made : Made) → (finds_of reach desks number d).made ≡ Some made
+      → made_at net reach.bound (place_at reach.place reach.count number) ≡ Some made
+  stopped_at stopped before made is = by (nat_lt (finds_of reach desks number d).passed (number / reach.desks)) refl
+    where
+      its_number : ℕ
+      its_number = number % reach.desks + (finds_of reach desks number d).passed * reach.desks
+
+      here : made_at net reach.bound (place_at reach.place reach.count its_number) ≡ Some made
+      here = its.found made is
+
+      by : (b : Bool) → nat_lt (finds_of reach desks number d).passed (number / reach.desks) ≡ b
+          → made_at net reach.bound (place_at reach.place reach.count number) ≡ Some made
+      by true less =
+          let fewer : (finds_of reach desks number d).passed + 1 ≤ number / reach.desks = grind (arith, nat_tests, less) in
+          let times = mul-le-mul_right reach.desks fewer in
+          let one : ((finds_of reach desks number d).passed + 1) * reach.desks ≡ (finds_of reach desks number d).passed * reach.desks + reach.desks = omega arith in
+          let earlier = before its_number (omega (arith, times, one, at.sum, reach.some)) in
+          absurd (none-some made (sym earlier ∙ here))
+      by false more =
+          let same : number / reach.desks ≡ (finds_of reach desks number d).passed = grind (arith, nat_tests, more) in
+          ap (λ n. made_at net reach.bound (place_at reach.place reach.count n))
+          (sym at.sum ∙ ap (λ t. number % reach.desks + t * reach.desks) same) ∙ here
+
+-- nothing is made below nothing
+none_below : (net : Network) (e : Edit) (fault : Option EditFault) → made_by 0 e (tried_with net e fault) ≡ None
+none_below net e None = ap (λ b. if b then Some made else None) (never (index (with_edit net e)))
+  where
+    made : Made
+    made = record { edit = e; index = index (with_edit net e); work = due net (with_edit net e) }
+
+    never : (x : ℕ) → nat_lt x 0 ≡ false
+    never x = grind (arith, nat_tests)
+none_below net e (Some fault) = refl
+
+-- so with the bound 0 no desk stops
+pub never_stops : (net : Network) (reach : Reach) (desk : ℕ) (finds : Finds) → reach.bound ≡ 0 → AreFinds net reach desk finds
+    → finds.made ≡ None
+never_stops net reach desk finds zero_bound its = by finds.made refl
+  where
+    never : (place : ℕ) → made_at net reach.bound place ≡ None
+    never place =
+        ap (λ b. made_at net b place) zero_bound ∙ none_below net (move net place) (edit_fault net (move net place))
+
+    by : (o : Option Made) → finds.made ≡ o → finds.made ≡ None
+    by None is = is
+    by (Some made) is =
+        absurd (none-some made (sym (never (turn_place reach desk finds.passed)) ∙ its.found made is))
+
+-- and each has tried all its moves
+pub going_on : (net : Network) (reach : Reach) (desks : List Desk) (number : ℕ) (d : Desk) → AreFound net reach desks
+    → number < reach.room → reach.bound ≡ 0 → number / reach.desks < (finds_of reach desks number d).passed
+going_on net reach desks number d found inside zero_bound =
+    let its_finds = its net reach desks number d found inside in
+    its_finds.whole (never_stops net reach (number % reach.desks) (finds_of reach desks number d) zero_bound its_finds)
+    (number / reach.desks) (omega (arith, (turn_of reach number).sum, inside))
 
 -- aligned desks that have each tried their moves have tried them on the network of desk 0
-pub all_found : (reach : Reach) (olds news : List Desk) → AreAligned (sessions_of olds)
-    → sessions_of news ≡ sessions_of olds → length news ≡ length olds → reach.desks ≡ length olds
-    → ((k : ℕ) (d : Desk) → k < length olds → HasFound reach k (slice_index_or olds k d) (slice_index_or news k d))
-    → AreFound reach news
-all_found reach olds news aligned same count desks has = record { count = desks ∙ sym count; each = each }
+pub all_tried : (reach : Reach) (olds news : List Desk) → AreAligned (sessions_of olds) → reach.desks ≡ length olds
+    → HaveFound reach olds news → HaveTried (desk_zero (sessions_of olds)).net reach olds news
+all_tried reach olds news aligned desks has = record {
+  len = has.len;
+  found = record { count = desks ∙ sym has.len; each = λ k less. finds k (omega (arith, less, has.len)) };
+  each = each;
+}
   where
-    each : (k : ℕ) → k < length news → AreFinds (desk_zero (sessions_of news)).net reach k (slice_index_or news k no_desk).finds
-    each k less =
-        let here : k < length olds = omega (arith, count) in
-        let net_is : (slice_index_or olds k no_desk).session.net ≡ (desk_zero (sessions_of news)).net =
+    net : Network
+    net = (desk_zero (sessions_of olds)).net
+
+    net_is : (k : ℕ) → k < length olds → (slice_index_or olds k no_desk).session.net ≡ net
+    net_is k less =
         sym (ap (λ (s : SessionValue). s.net) (session_is olds k))
-        ∙ aligned.same k (omega (arith, sessions_count olds, here))
-        ∙ sym (ap (λ (ss : List SessionValue). (desk_zero ss).net) same) in
-        subst (λ (n : Network). AreFinds n reach k (slice_index_or news k no_desk).finds) net_is (has k no_desk here).finds
+        ∙ aligned.same k (omega (arith, sessions_count olds, less))
+
+    finds : (k : ℕ) → k < length olds → AreFinds net reach k (slice_index_or news k no_desk).finds
+    finds k less =
+        subst (λ (n : Network). AreFinds n reach k (slice_index_or news k no_desk).finds) (net_is k less)
+        (has.each k no_desk less).finds
+
+    each : (k : ℕ) → k < length olds
+        → session_at (sessions_of news) k
+        ≡ standing_for (net_made (slice_index_or news k no_desk).finds.made net) (session_at (sessions_of olds) k)
+    each k less =
+        session_is news k ∙ (has.each k no_desk less).session
+        ∙ ap (λ (n : Network). standing_for (net_made (slice_index_or news k no_desk).finds.made n) (slice_index_or olds k no_desk).session)
+        (net_is k less)
+        ∙ ap (standing_for (net_made (slice_index_or news k no_desk).finds.made net)) (sym (session_is olds k))
 
 -- a place that isn't past the end of the list
 pub place_within : (place count number : ℕ) → place + number < count → place_at place count number ≡ place + number

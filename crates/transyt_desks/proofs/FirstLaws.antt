@@ -11,7 +11,7 @@ use Rattle.transyt_session.specs.Session.{SessionValue}
 use Rattle.transyt_desks.specs.declared.desk.Desk.{Desk}
 use Rattle.transyt_desks.specs.Desks.{no_session, session_at, desk_zero, sessions_of}
 use Rattle.transyt_desks.specs.Desks.{AreAligned, AreAlike, AreDesks, OthersClosed}
-use Rattle.transyt_desks.proofs.DeskLaws.{aligned_lent, sessions_count}
+use Rattle.transyt_desks.proofs.DeskLaws.{aligned_lent, none_aligned, sessions_count}
 
 -- the sessions of the first desks are the first sessions
 pub sessions_first : (n : ℕ) (desks : List Desk) → sessions_of (take n desks) ≡ take n (sessions_of desks)
@@ -118,24 +118,27 @@ module _ (n : ℕ) (olds front : List SessionValue) (some : 0 < n) (within : n �
   joined_closed : OthersClosed front → OthersClosed olds → OthersClosed (front ++ drop n olds)
   joined_closed ours theirs = record { closed = joined_each (λ s. s.before ≡ None) ours.closed theirs.closed }
 
-  -- and desks stay alike whose first come to stand for the network of desk 0
-  joined_alike : desk_zero front ≡ desk_zero olds → AreAligned front → AreAlike olds → AreAlike (front ++ drop n olds)
-  joined_alike same aligned alike = record { shape = shape }
+  -- desks stay alike whose first keep the shape of the network of desk 0
+  joined_shapes : ((k : ℕ) → k < length front → SameShape (session_at front k).net (desk_zero olds).net) → AreAlike olds
+      → AreAlike (front ++ drop n olds)
+  joined_shapes shapes alike = record { shape = shape }
     where
-      zero_is : desk_zero (front ++ drop n olds) ≡ desk_zero olds
-      zero_is = joined_zero ∙ same
-
       to_zero : (k : ℕ) → 0 < k → k < length (front ++ drop n olds)
           → SameShape (session_at (front ++ drop n olds) k).net (desk_zero olds).net
-      to_zero = joined_each (λ s. SameShape s.net (desk_zero olds).net)
-          (λ k other less. ap shape_word (aligned.same k less) ∙ ap (λ (s : SessionValue). shape_word s.net) same)
+      to_zero = joined_each (λ s. SameShape s.net (desk_zero olds).net) (λ k other less. shapes k less)
           (λ k other less. alike.shape k less)
 
       shape : (k : ℕ) → k < length (front ++ drop n olds)
           → SameShape (session_at (front ++ drop n olds) k).net (desk_zero (front ++ drop n olds)).net
       shape zero less = refl
       shape (suc k) less =
-          to_zero (suc k) (omega arith) less ∙ sym (ap (λ (s : SessionValue). shape_word s.net) zero_is)
+          to_zero (suc k) (omega arith) less ∙ sym (shapes 0 (omega (arith, count, some)))
+          ∙ sym (ap (λ (s : SessionValue). shape_word s.net) joined_zero)
+
+  -- as they do where these come to stand for it
+  joined_alike : desk_zero front ≡ desk_zero olds → AreAligned front → AreAlike olds → AreAlike (front ++ drop n olds)
+  joined_alike same aligned = joined_shapes (λ k less. ap shape_word (aligned.same k less)
+      ∙ ap (λ (s : SessionValue). shape_word s.net) same)
 
   -- what desks keep to is kept, and the first are known to follow
   joined_are : (following : ℕ) → OthersClosed front → AreAligned front → AreDesks olds following
@@ -146,6 +149,47 @@ module _ (n : ℕ) (olds front : List SessionValue) (some : 0 < n) (within : n �
     others = joined_closed ours are.others;
     aligned = subst AreAligned (sym joined_first) aligned;
   }
+
+-- desks cut in two whose first have changed, and may have open no trial but at desk 0
+module _ (n : ℕ) (desks first back front : List Desk) (some : 0 < n) (inside : n ≤ length (sessions_of desks))
+    (start : first ≡ take n desks) (rest : back ≡ drop n desks) (count : length front ≡ n) where
+  changed_count : length (sessions_of front) ≡ n
+  changed_count = omega (arith, count, sessions_count front)
+
+  -- the others are as they were
+  changed_are : sessions_of (front ++ back) ≡ sessions_of front ++ drop n (sessions_of desks)
+  changed_are =
+      map-append (λ (d : Desk). d.session) front back
+      ∙ ap (λ ds. sessions_of front ++ sessions_of ds) rest
+      ∙ ap (λ ss. sessions_of front ++ ss) (sym (drop-map (λ (d : Desk). d.session) n desks))
+
+  -- desk 0 is that of the first
+  changed_zero : desk_zero (sessions_of first) ≡ desk_zero (sessions_of desks)
+  changed_zero =
+      ap (λ ds. desk_zero (sessions_of ds)) start ∙ ap desk_zero (sessions_first n desks) ∙ zero_first n (sessions_of desks) some
+
+  -- none is known to follow
+  pub reached_are : (following : ℕ) → OthersClosed (sessions_of front) → AreDesks (sessions_of desks) following
+      → AreDesks (sessions_of (front ++ back)) 0
+  reached_are following ours are =
+      subst (λ ss. AreDesks ss 0) (sym changed_are)
+      (let workers = joined_workers n (sessions_of desks) (sessions_of front) some inside changed_count in
+      record {
+        some = omega (arith, workers, are.some);
+        few = omega (arith, workers, are.few);
+        others = joined_closed n (sessions_of desks) (sessions_of front) some inside changed_count ours are.others;
+        aligned = none_aligned;
+      })
+
+  -- they are alike where the first have kept the shape
+  pub reached_alike : ((k : ℕ) → k < length (sessions_of first)
+      → SameShape (session_at (sessions_of front) k).net (desk_zero (sessions_of first)).net)
+      → length (sessions_of first) ≡ length (sessions_of front) → AreAlike (sessions_of desks)
+      → AreAlike (sessions_of (front ++ back))
+  reached_alike shapes as_many alike =
+      subst AreAlike (sym changed_are)
+      (joined_shapes n (sessions_of desks) (sessions_of front) some inside changed_count
+      (λ k less. shapes k (omega (arith, less, as_many)) ∙ ap (λ (s : SessionValue). shape_word s.net) changed_zero) alike)
 
 -- desks cut in two whose first were lent are those that came back and the others
 pub given_back : {Z : Type 0} (v : Vec Desk Z) (n : ℕ) (whole first back front : List Desk) → length whole ≡ v.len

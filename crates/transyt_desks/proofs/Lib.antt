@@ -10,3 +10,5 @@ pub mod StretchLaws
 pub mod RoundLaws
 pub mod WorkedLaws
 pub mod WorkedFindLaws
+pub mod LeadLaws
+pub mod ReachLaws

@@ -65,7 +65,7 @@ pub record Stands (zero : Network) (session : SessionValue) : Type 0 where
 
 -- a new desk with a session
 abbrev pub new_desk : SessionValue → Desk
-new_desk session = record { session = session; finds = replicate 64 Barred }
+new_desk session = record { session = session; finds = record { tries = replicate 64 Barred; passed = 0; made = None } }
 
 -- the desk at a place that has none
 abbrev pub no_desk : Desk

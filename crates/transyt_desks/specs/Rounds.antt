@@ -1,6 +1,6 @@
 -- A round: the turns that several desks make together.
-use Rattle.std.specs.Prelude.{◌≡◌, ℕ, ◌+◌, ◌-◌, ◌*◌, ◌/◌, ◌%◌, ◌^◌, ◌≤◌, min, max, Bool, true, false, List, Option, Some, None}
-use Rattle.std.specs.Prelude.{if◌then◌else◌, ◌==◌, ◌&&◌, ◌||◌, nat_le, nat_lt}
+use Rattle.std.specs.Prelude.{◌≡◌, ℕ, ◌+◌, ◌-◌, ◌*◌, ◌/◌, ◌%◌, ◌^◌, ◌≤◌, min, max, Bool, true, false, List, length, Option, Some, None}
+use Rattle.std.specs.Prelude.{if◌then◌else◌, ◌==◌, ◌&&◌, ◌||◌, nat_lt}
 use Rattle.transyt_moves.specs.Moves.{move_count}
 use Rattle.transyt_session.specs.Session.{SessionValue}
 use Rattle.transyt_sweep.specs.Climb.{least}
@@ -8,10 +8,10 @@ use Rattle.transyt_climb.specs.declared.turn.Turn.{Turn}
 use Rattle.transyt_climb.specs.declared.turn.Turn.TheVariants.{Took, Passed, Local, Budget}
 use Rattle.transyt_climb.specs.Turns.{Counters, Machine, machine, answer_of, turns, is_end}
 use Rattle.transyt_climb.specs.Way.{IsRound}
-use Rattle.transyt_desks.specs.declared.policy.TheConstants.{FEW_DESKS, LISTS_EARLY, PLACES_ALONE, PLACES_SOON, DESKS_SOON}
+use Rattle.transyt_desks.specs.declared.policy.TheConstants.{LISTS_EARLY, PLACES_ALONE, PLACES_SOON, DESKS_SOON}
 use Rattle.transyt_desks.specs.declared.policy.TheConstants.{PLACES_LATE, PLACES_FOR_ONE, MOST_PLACES}
 use Rattle.transyt_desks.specs.declared.turns.Round.{Round}
-use Rattle.transyt_desks.specs.Desks.{desk_zero, with_zero}
+use Rattle.transyt_desks.specs.Desks.{desk_zero, AreAlike}
 
 -- whether a turn takes a step
 abbrev pub is_took : Turn → Bool
@@ -37,14 +37,13 @@ room_of workers c = min workers (min (c.budget - c.looked) (c.count - c.since))
 abbrev pub turns_of : ℕ → Machine → ℕ
 turns_of workers m = if is_end (answer_of m) then 1 else turns_up_to (room_of workers m.counters) m
 
--- whether a climb by so many desks is early: there are few, or it has looked at fewer than some times as many places as
--- its list has
-abbrev pub is_early : ℕ → Counters → Bool
-is_early desks c = nat_le desks FEW_DESKS || nat_lt c.looked (LISTS_EARLY * c.count)
+-- whether a climb is early: it has looked at fewer than some times as many places as its list has
+abbrev pub is_early : Counters → Bool
+is_early c = nat_lt c.looked (LISTS_EARLY * c.count)
 
 -- whether desk 0 of so many goes on alone: where there is no other, and early in a climb up to some places after a step
 abbrev pub goes_alone : ℕ → Counters → Bool
-goes_alone desks c = (desks == 1) || (nat_lt 0 c.looked && is_early desks c && nat_lt c.since PLACES_ALONE)
+goes_alone desks c = (desks == 1) || (nat_lt 0 c.looked && is_early c && nat_lt c.since PLACES_ALONE)
 
 -- how many of so many desks try: up to some places after a step no more than a few, and then all
 abbrev pub trying_of : ℕ → Counters → ℕ
@@ -52,7 +51,7 @@ trying_of desks c = if nat_lt c.since PLACES_SOON then min desks DESKS_SOON else
 
 -- how many places each of so many desks tries at least: later so many that all desks together try some
 abbrev pub least_of : ℕ → Counters → ℕ
-least_of desks c = if is_early desks c then 1 else (PLACES_LATE + desks - 1) / desks
+least_of desks c = if is_early c then 1 else (PLACES_LATE + desks - 1) / desks
 
 -- how many places each of so many desks tries: its part of a fraction of the places since the last step, but not too few
 -- or too many
@@ -87,8 +86,9 @@ pub record MakesRound (places : ℕ) (before after : Machine) (result : Round) :
   pub closed : after.session.before ≡ None
   pub few : after.session.work ≤ before.session.work + 8000 * result.turns
 
--- a round at desk 0: the other desks stay as they are
+-- a round of desks, before and after: as many as before, and of one shape where they were
 pub record RoundsDesks (places : ℕ) (before : Counters) (olds : List SessionValue) (after : Counters) (news : List SessionValue)
     (result : Round) : Type 0 where
   pub made : MakesRound places (machine before (desk_zero olds)) (machine after (desk_zero news)) result
-  pub others : news ≡ with_zero olds (desk_zero news)
+  pub alike : AreAlike olds → AreAlike news
+  pub workers : length news ≡ length olds

@@ -25,7 +25,7 @@ has_passed since looked = record { place = 4; since = since; looked = looked; bu
 
 -- numbers of desks and a climber, with how many places they try in a round of stretches: before any step, right after
 -- one, and when 15, 16 and more places have passed since, up to 64 by four desks at most; then the same once it has looked
--- at three times the list, where two desks go on as before
+-- at three times the list
 abbrev pub worked_places : List (ℕ × Counters × ℕ)
 worked_places =
     (1, has_passed 0 0, 1)
@@ -46,8 +46,9 @@ worked_places =
     ∷ (8, has_passed 1000 1100, 256)
     ∷ (3, has_passed 15 3455, 1)
     ∷ (1, has_passed 70 3456, 1)
-    ∷ (2, has_passed 15 3456, 1)
+    ∷ (2, has_passed 0 3456, 8)
     ∷ (2, has_passed 19 5000, 8)
+    ∷ (2, has_passed 20 5000, 10)
     ∷ (3, has_passed 0 3456, 9)
     ∷ (5, has_passed 0 3456, 8)
     ∷ (8, has_passed 1 3456, 8)

@@ -5,14 +5,15 @@ ghost use Rattle.std.specs.Thread.{IsSync};
 ghost use Rattle.transyt_desks.specs.Desks.{AreAlike, AreAligned, CanStand, OthersClosed, Stands, sessions_of, desk_zero};
 
 use crate::equal::same_net;
+use crate::finds::Finds;
 use std::thread::{self, Threads};
-use transyt_session::{Session, Tried};
+use transyt_session::Session;
 
 /// A session, and what the last moves tried on it came to.
 #[derive(Drop)]
 pub(crate) struct Desk {
     pub(crate) session: Session,
-    pub(crate) finds: [Tried; 64],
+    pub(crate) finds: Finds,
 }
 
 /// Whether all desks stand for the network of the first.

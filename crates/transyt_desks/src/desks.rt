@@ -5,15 +5,17 @@ ghost use Rattle.std.specs.Borrow.{sem};
 ghost use Rattle.transyt_climb.specs.Turns.{machine};
 ghost use Rattle.transyt_desks.specs.Desks.{desk_zero, new_desk, opened_desks, AreAligned, AreAlike};
 ghost use Rattle.transyt_desks.specs.Lends.{LendsZero};
-ghost use Rattle.transyt_desks.specs.Stretches.{AreTriesOf, IsStretch};
+ghost use Rattle.transyt_desks.specs.Stretches.{AreTriesOf, IsStretch, net_made};
 ghost use Rattle.transyt_desks.specs.Reaches.{CanReach};
 ghost use Rattle.transyt_moves.specs.Moves.{move_count};
-ghost use Rattle.transyt_session.specs.Session.{SessionValue};
+ghost use Rattle.transyt_session.specs.Session.{SessionValue, standing_for};
+ghost use Rattle.transyt_sweep.specs.Sweeps.{index};
 ghost use Rattle.transyt_desks.specs.Rounds.{places_of, CanRound, MakesRound};
 
 use crate::crew::Crew;
 use crate::desk::{Desk, all_same, follow_zero};
 use crate::finding::{find_some, find_stretch};
+use crate::finds::Finds;
 use crate::gate::Gate;
 use crate::policy::{goes_alone, share};
 use crate::reach::Reach;
@@ -211,7 +213,8 @@ impl Desks {
     }
 
     /// Tries the moves of a reach at its desks, which stand for one network, all at once, and gives them as a stretch, up
-    /// to the first that lowers the index.
+    /// to the first that lowers the index. Desk 0 stands for the network with that move made then, with its work as it
+    /// was.
     pub(crate) fn try_reach<R: Threads + Sync, G: Gate>(
         &mut self,
         crew: &Crew<'_, R, G>,
@@ -219,10 +222,16 @@ impl Desks {
     ) -> Stretch
         requires within { reach.desks ≤ length self.old }
         requires ready { CanReach reach (take reach.desks self.old) }
-        ensures same { self.new ≡ self.old }
+        requires bound { reach.bound ≡ index (desk_zero self.old).net }
         ensures tried { IsStretch (desk_zero self.old).net
             reach.place reach.count reach.room result }
+        ensures zero { desk_zero self.new
+            ≡ standing_for (net_made result.made (desk_zero self.old).net) (desk_zero self.old) }
+        ensures same { result.made ≡ None → self.new ≡ self.old }
+        ensures alike { AreAlike self.old → AreAlike self.new }
+        ensures workers { length self.new ≡ length self.old }
     {
+        self.following = 0;
         let (front, _) = self.desks.as_mut_slice().split_at_mut(reach.desks as usize);
         find_stretch(crew, front, reach)
     }
@@ -300,7 +309,7 @@ fn add_desk(desks: &mut Vec<Desk>, session: Session) -> Result<(), AllocError>
 {
     let desk = Desk {
         session,
-        finds: [Tried::Barred; 64],
+        finds: Finds::none(),
     };
     desks.push(desk)?;
     Ok(())

@@ -1,39 +1,49 @@
 //! Moves of the list, all tried at once.
 
 ghost use Rattle.std.specs.Thread.{IsSync};
-ghost use Rattle.std.specs.Prelude.{◌≡◌, ℕ, ◌+◌, ◌*◌, ◌^◌, ◌<◌, ◌≤◌, length, None, All};
+ghost use Rattle.std.specs.Prelude.{◌≡◌, ◌≢◌, ℕ, ◌+◌, ◌*◌, ◌^◌, ◌<◌, ◌≤◌, length, None, All};
 ghost use Rattle.transyt_moves.specs.Moves.{move, move_count};
 ghost use Rattle.transyt_sweep.specs.Sweeps.{index};
 ghost use Rattle.transyt_track.specs.Due.{edit_work};
-ghost use Rattle.transyt_session.specs.Session.{try_of};
+ghost use Rattle.transyt_session.specs.Session.{standing_for, try_of};
 ghost use Rattle.transyt_desks.specs.Desks.{OthersClosed, desk_zero, sessions_of};
-ghost use Rattle.transyt_desks.specs.Stretches.{AreFinds, AreFound, AreTriesOf, HasFound, HaveFound, IsStretch, place_at};
-ghost use Rattle.transyt_desks.specs.Reaches.{CanFind, CanReach, CanTry};
+ghost use Rattle.transyt_desks.specs.Stretches.{AreFinds, AreFound, AreTriesOf, HasFound, HaveFound, HaveTried, IsStretch, MadeAt, net_made};
+ghost use Rattle.transyt_desks.specs.Reaches.{CanFind, CanReach, CanTry, HasLed, HasReached};
 
 use crate::crew::Crew;
 use crate::desk::Desk;
+use crate::finds::Finds;
 use crate::gate::Gate;
 use crate::reach::Reach;
-use crate::stretch::{Stretch, after_find, place_of, try_at};
+use crate::stretch::{Stretch, pass, place_of, try_at};
+use std::snapshot::Snapshot;
 use std::thread::{self, Threads};
 use transyt_moves::move_count;
+use transyt_net::Net;
 use transyt_session::{Session, Tried};
 
-/// Tries the moves of a reach that come to a desk in turn.
-fn find(session: &mut Session, reach: Reach, desk: u32) -> [Tried; 64]
+/// Tries the moves of a reach that come to a desk in turn, up to the first that brings the index below the bound, which it
+/// makes.
+fn find(session: &mut Session, reach: Reach, desk: u32) -> Finds
     requires desk { desk < 8 }
     requires count { reach.count ≡ move_count session.old.net }
     requires closed { session.old.before ≡ None }
     ensures finds { AreFinds session.old.net reach desk result }
-    ensures same { session.new ≡ session.old }
+    ensures state { session.new ≡ standing_for (net_made result.made session.old.net) session.old }
 {
-    let mut finds = [Tried::Barred; 64];
+    let mut finds = Finds::none();
     for turn in 0..64u32 {
         let number = desk + turn * reach.desks;
         if number >= reach.room {
             return finds;
         }
-        finds[turn as usize] = try_at(session, place_of(reach, number));
+        let (found, made) = try_at(session, place_of(reach, number), reach.bound);
+        finds.made = made;
+        if made.is_some() {
+            return finds;
+        }
+        finds.tries[turn as usize] = found;
+        finds.passed = turn + 1;
     }
     finds
 }
@@ -103,62 +113,59 @@ fn find_both<R: Threads + Sync, G: Gate>(
 fn find_reach<R: Threads + Sync, G: Gate>(crew: &Crew<'_, R, G>, desks: &mut [Desk], reach: Reach)
     requires ready { CanReach reach (sessions_of desks.old) }
     requires others { OthersClosed (sessions_of desks.old) }
-    ensures len { length desks.new ≡ length desks.old }
-    ensures sessions { sessions_of desks.new ≡ sessions_of desks.old }
-    ensures found { AreFound reach desks.new }
+    ensures { HaveTried (desk_zero (sessions_of desks.old)).net reach desks.old desks.new }
 {
     find_all(crew, desks, reach);
 }
 
-/// The find of the move of a reach with a number.
-fn find_at(desks: &[Desk], reach: Reach, number: u32) -> Tried
-    requires number { number < reach.room }
-    requires found { AreFound reach desks.now }
-    ensures found { result ≡ try_of (desk_zero (sessions_of desks.now)).net
-        (move (desk_zero (sessions_of desks.now)).net (place_at reach.place reach.count number)) }
-    ensures few { edit_work (desk_zero (sessions_of desks.now)).net
-        (move (desk_zero (sessions_of desks.now)).net (place_at reach.place reach.count number))
-        ≤ 8000 }
+/// The moves of a reach as a stretch, up to the first in the list's order that lowers the index, which its desk has made.
+fn first_made(desks: &[Desk], reach: Reach, net: &Snapshot<Net>) -> Stretch
+    requires bound { reach.bound ≡ index net.now.value }
+    requires found { AreFound net.now.value reach desks.now }
+    ensures stretch { IsStretch net.now.value reach.place reach.count reach.room result }
+    ensures desk { result.made ≢ None → MadeAt reach desks.now result }
 {
-    let desk = (number % reach.desks) as usize;
-    let turn = (number / reach.desks) as usize;
-    desks[desk].finds[turn]
-}
-
-/// The moves of a reach as a stretch, up to the first in the list's order that lowers the index; `limit` is the index of
-/// the network.
-fn first_lower(desks: &[Desk], reach: Reach, limit: u128) -> Stretch
-    requires limit { limit ≡ index (desk_zero (sessions_of desks.now)).net }
-    requires found { AreFound reach desks.now }
-    ensures { IsStretch (desk_zero (sessions_of desks.now)).net
-        reach.place reach.count reach.room result }
-{
-    let mut stretch = Stretch {
-        passed: 0,
-        work: 0,
-        lowers: false,
-    };
+    let mut stretch = Stretch::none();
     for number in 0..reach.room {
-        let found = find_at(desks, reach, number);
-        stretch = after_find(stretch, found, limit);
-        if stretch.lowers {
-            return stretch;
+        let finds = &desks[(number % reach.desks) as usize].finds;
+        let turn = number / reach.desks;
+        if turn >= finds.passed {
+            return Stretch {
+                made: finds.made,
+                ..stretch
+            };
         }
+        stretch = pass(stretch, finds.tries[turn as usize]);
     }
     stretch
 }
 
+/// Lets desk 0 trade networks with a desk, where it is another. Each keeps its work.
+fn lead(desks: &mut [Desk], desk: usize)
+    requires desk { desk < length desks.old }
+    requires closed { All (λ d. d.session.before ≡ None) desks.old }
+    ensures { HasLed desk (sessions_of desks.old) (sessions_of desks.new) }
+{
+    if desk == 0 {
+        return;
+    }
+    let (front, back) = desks.split_at_mut(desk);
+    front[0].session.trade(&mut back[0].session);
+}
+
 /// Hands on the finds in the list's order.
-fn hand_on(desks: &[Desk], reach: Reach, tries: &mut [Tried])
+fn hand_on(desks: &[Desk], reach: Reach, net: &Snapshot<Net>, tries: &mut [Tried])
+    requires bound { reach.bound ≡ 0 }
     requires inside { reach.place + reach.room ≤ reach.count }
     requires room { reach.room ≡ length tries.old }
-    requires found { AreFound reach desks.now }
+    requires found { AreFound net.now.value reach desks.now }
     ensures len { length tries.new ≡ length tries.old }
-    ensures tries { AreTriesOf (desk_zero (sessions_of desks.now)).net
-        reach.place (length tries.old) tries.new }
+    ensures tries { AreTriesOf net.now.value reach.place (length tries.old) tries.new }
 {
     for number in 0..tries.len() {
-        tries[number] = find_at(desks, reach, number as u32);
+        let desk = number % reach.desks as usize;
+        let turn = number / reach.desks as usize;
+        tries[number] = desks[desk].finds.tries[turn];
     }
 }
 
@@ -169,12 +176,14 @@ fn reach_from(desks: &[Desk], from: u32, room: usize) -> Reach
     ensures place { result.place ≡ from }
     ensures room { result.room ≡ room }
     ensures inside { from + room ≤ result.count }
+    ensures bound { result.bound ≡ 0 }
 {
     Reach {
         place: from,
         count: move_count(desks[0].session.net()),
         room: room as u32,
         desks: desks.len() as u32,
+        bound: 0,
     }
 }
 
@@ -194,11 +203,13 @@ pub(crate) fn find_some<R: Threads + Sync, G: Gate>(
         from (length tries.old) tries.new }
 {
     let reach = reach_from(desks, from, tries.len());
+    let net = Snapshot::of(desks[0].session.net());
     find_reach(crew, desks, reach);
-    hand_on(desks, reach, tries);
+    hand_on(desks, reach, &net, tries);
 }
 
-/// Tries the moves of a reach, all at once, and gives them as a stretch, up to the first that lowers the index.
+/// Tries the moves of a reach, all at once, and gives them as a stretch, up to the first that lowers the index. Desk 0
+/// stands for the network with that move made then.
 pub(crate) fn find_stretch<R: Threads + Sync, G: Gate>(
     crew: &Crew<'_, R, G>,
     desks: &mut [Desk],
@@ -206,12 +217,16 @@ pub(crate) fn find_stretch<R: Threads + Sync, G: Gate>(
 ) -> Stretch
     requires ready { CanReach reach (sessions_of desks.old) }
     requires others { OthersClosed (sessions_of desks.old) }
+    requires bound { reach.bound ≡ index (desk_zero (sessions_of desks.old)).net }
     ensures len { length desks.new ≡ length desks.old }
-    ensures sessions { sessions_of desks.new ≡ sessions_of desks.old }
-    ensures tried { IsStretch (desk_zero (sessions_of desks.old)).net
-        reach.place reach.count reach.room result }
+    ensures stretch { HasReached reach (sessions_of desks.old) (sessions_of desks.new) result }
 {
+    let net = Snapshot::of(desks[0].session.net());
     find_reach(crew, desks, reach);
-    let limit = desks[0].session.index();
-    first_lower(desks, reach, limit)
+    let stretch = first_made(desks, reach, &net);
+    if stretch.made.is_none() {
+        return stretch;
+    }
+    lead(desks, (stretch.passed % reach.desks) as usize);
+    stretch
 }

@@ -18,6 +18,7 @@ mod desk;
 mod desks;
 mod equal;
 mod finding;
+mod finds;
 mod gate;
 mod laws;
 mod policy;

@@ -6,11 +6,7 @@ ghost use Rattle.transyt_desks.specs.Rounds.{each_of, goes_alone, is_early, leas
 use crate::share::Share;
 use transyt_climb::Climber;
 
-/// With so many desks a climb is early to its end.
-pub(crate) const FEW_DESKS: usize = 2;
-
-/// With more, a climb is early until it has looked at so many times as many places as its list has. Steps are frequent
-/// then.
+/// A climb is early until it has looked at so many times as many places as its list has. Steps are frequent then.
 pub(crate) const LISTS_EARLY: u64 = 3;
 
 /// Up to so many places after a step, desk 0 goes on alone in an early climb.
@@ -31,13 +27,10 @@ pub(crate) const PLACES_FOR_ONE: u32 = 2;
 /// Each desk tries at most so many places.
 pub(crate) const MOST_PLACES: u32 = 32;
 
-/// Whether a climb by so many desks is early.
-fn is_early(desks: usize, climber: &Climber) -> bool
-    ensures { result ≡ is_early desks climber.now }
+/// Whether a climb is early.
+fn is_early(climber: &Climber) -> bool
+    ensures { result ≡ is_early climber.now }
 {
-    if desks <= FEW_DESKS {
-        return true;
-    }
     u64::from(climber.looked()) < LISTS_EARLY * u64::from(climber.count())
 }
 
@@ -48,13 +41,12 @@ pub(crate) fn goes_alone(desks: usize, climber: &Climber) -> bool
     if desks == 1 {
         return true;
     }
-    climber.looked() > 0 && is_early(desks, climber) && climber.since() < PLACES_ALONE
+    climber.looked() > 0 && is_early(climber) && climber.since() < PLACES_ALONE
 }
 
 /// How many of so many desks try: a few soon after a step, and then all.
 fn trying(desks: usize, climber: &Climber) -> usize
     requires some { 0 < desks }
-    requires few { desks ≤ 8 }
     ensures value { result ≡ trying_of desks climber.now }
     ensures some { 0 < result }
     ensures within { result ≤ desks }
@@ -72,7 +64,7 @@ fn least(desks: usize, climber: &Climber) -> u32
     ensures value { result ≡ least_of desks climber.now }
     ensures some { 0 < result }
 {
-    if is_early(desks, climber) {
+    if is_early(climber) {
         return 1;
     }
     PLACES_LATE.div_ceil(desks as u32)

@@ -15,6 +15,8 @@ pub(crate) struct Reach {
     pub(crate) room: u32,
     /// How many desks try them, in turn.
     pub(crate) desks: u32,
+    /// A desk makes the first of its moves that brings the index below this, and tries no more. With 0 it makes none.
+    pub(crate) bound: u128,
     ghost place_within: { place < count },
     ghost some: { 0 < desks },
     ghost many: { desks ≤ 8 },

@@ -1,4 +1,4 @@
-//! A round of desks: one turn at desk 0, or moves that every desk tries.
+//! A round of desks: one turn at desk 0, or moves that the desks of a share try.
 
 ghost use Rattle.std.specs.Prelude.{◌≡◌, ℕ, ◌+◌, ◌*◌, ◌<◌, ◌≤◌, length, take, true, false};
 ghost use Rattle.transyt_climb.specs.Turns.{machine};
@@ -12,6 +12,7 @@ use crate::gate::Gate;
 use crate::reach::Reach;
 use crate::share::Share;
 use crate::turns::{Round, make_turn, make_turns};
+use std::snapshot::Snapshot;
 use std::sync::ledger::Ledger;
 use std::thread::Threads;
 use transyt_climb::Climber;
@@ -66,8 +67,9 @@ pub(crate) fn alone<G: Gate, L: Ledger>(
     round
 }
 
-/// So many next moves of a climber's list, up to its budget and at most once round the list, for so many desks.
-fn reach_of(climber: &Climber, places: u32, desks: usize) -> Reach
+/// So many next moves of a climber's list, up to its budget and at most once round the list, for so many desks, and the
+/// bound below which they make a move.
+fn reach_of(climber: &Climber, places: u32, desks: usize, bound: u128) -> Reach
     requires since { climber.now.since < climber.now.count }
     requires some { 0 < desks }
     requires many { desks ≤ 8 }
@@ -76,6 +78,7 @@ fn reach_of(climber: &Climber, places: u32, desks: usize) -> Reach
     ensures list { result.count ≡ climber.now.count }
     ensures room { result.room ≡ room_of places climber.now }
     ensures desks { result.desks ≡ desks }
+    ensures bound { result.bound ≡ bound }
 {
     let looks = climber.budget() - climber.looked();
     let left = climber.count() - climber.since();
@@ -84,6 +87,7 @@ fn reach_of(climber: &Climber, places: u32, desks: usize) -> Reach
         count: climber.count(),
         room: places.min(looks.min(left)),
         desks: desks as u32,
+        bound,
     }
 }
 
@@ -105,10 +109,11 @@ pub(crate) fn together<R: Threads + Sync, G: Gate, L: Ledger>(
     if is_over(climber) {
         return turn_zero(desks, climber, places, steps);
     }
-    let reach = reach_of(climber, places, share.desks);
+    let reach = reach_of(climber, places, share.desks, desks.session().index());
+    let before = Snapshot::of(desks.session());
     let tried = desks.try_reach(crew, reach);
-    let round = make_turns(climber, desks.session_mut(), tried, places, steps);
-    if tried.lowers {
+    let round = make_turns(climber, desks.session_mut(), tried, places, &before);
+    if tried.made.is_some() {
         return round;
     }
     desks.note_aligned(share.desks);

@@ -1,11 +1,12 @@
 //! Moves of the list, one after another, up to the first that lowers the index.
 
-ghost use Rattle.std.specs.Prelude.{◌≡◌, ℕ, ◌+◌, ◌^◌, ◌<◌, ◌≤◌, None};
+ghost use Rattle.std.specs.Prelude.{◌≡◌, ◌+◌, ◌^◌, ◌<◌, ◌≤◌, IfSome, None};
 ghost use Rattle.transyt_moves.specs.Moves.{move, move_count};
 ghost use Rattle.transyt_track.specs.Due.{edit_work};
-ghost use Rattle.transyt_session.specs.Session.{try_of};
-ghost use Rattle.transyt_desks.specs.Stretches.{after_found, passing, place_at, work_found};
+ghost use Rattle.transyt_session.specs.Session.{standing_for, tried_below, try_of};
+ghost use Rattle.transyt_desks.specs.Stretches.{made_at, net_made, passing, place_at, work_found};
 
+use crate::finds::{Made, made_by};
 use crate::reach::Reach;
 use std::marker::Brand;
 use std::sync::ledger::{Blank, Ledger};
@@ -14,27 +15,50 @@ use transyt_net::Edit;
 use transyt_session::{Session, Tried};
 use transyt_steps::Steps;
 
-/// Moves that the desks have tried, up to the first that lowers the index.
+/// Moves that the desks have tried, up to the first that lowers the index, which was made.
 #[derive(Clone, Copy)]
 pub(crate) struct Stretch {
     /// How many don't lower the index.
     pub(crate) passed: u32,
     /// The work of these.
     pub(crate) work: u64,
-    /// Whether the next one was tried and lowers it.
-    pub(crate) lowers: bool,
+    /// The next one, if it lowers the index.
+    pub(crate) made: Option<Made>,
 }
 
-/// One move more with this work doesn't lower the index.
-fn passing(stretch: Stretch, work: u64) -> Stretch
+impl Stretch {
+    /// No move yet.
+    pub(crate) fn none() -> Stretch
+        ensures { result ≡ record { passed = 0; work = 0; made = None } }
+    {
+        Stretch {
+            passed: 0,
+            work: 0,
+            made: None,
+        }
+    }
+}
+
+/// The work that a try found.
+fn work_found(found: Tried) -> u64
+    ensures { result ≡ work_found found }
+{
+    match found {
+        Tried::Barred => 0,
+        Tried::Index { work, .. } => work,
+    }
+}
+
+/// A stretch with one move more, which doesn't lower the index, by what a try of it came to.
+pub(crate) fn pass(stretch: Stretch, found: Tried) -> Stretch
     requires passed { stretch.passed + 1 < 2 ^ 32 }
-    requires work { stretch.work + work < 2 ^ 64 }
-    ensures { result ≡ passing stretch work }
+    requires work { stretch.work + work_found found < 2 ^ 64 }
+    ensures { result ≡ passing stretch (work_found found) }
 {
     Stretch {
         passed: stretch.passed + 1,
-        work: stretch.work + work,
-        lowers: false,
+        work: stretch.work + work_found(found),
+        made: None,
     }
 }
 
@@ -46,49 +70,33 @@ pub(crate) fn place_of(reach: Reach, number: u32) -> u32
     ((u64::from(reach.place) + u64::from(number)) % u64::from(reach.count)) as u32
 }
 
-/// Tries an edit, with a counter of steps of its own.
-fn try_counted<L: Ledger>(session: &mut Session, edit: Edit, blank: Blank) -> Tried
+/// Tries an edit with a bound, with a counter of steps of its own.
+fn try_counted<L: Ledger>(session: &mut Session, edit: Edit, bound: u128, blank: Blank) -> Tried
     requires name { blank.name ≡ L.name }
     requires parts { blank.parts ≡ L.parts }
     requires some { 0 < L.parts }
     requires closed { session.old.before ≡ None }
     ensures tried { result ≡ try_of session.old.net edit }
     ensures few { edit_work session.old.net edit ≤ 8000 }
-    ensures same { session.new ≡ session.old }
+    ensures state { session.new ≡ tried_below bound edit session.old }
 {
     let mut steps = Steps::<L>::begin(blank);
-    session.try_edit(edit, &mut steps)
+    session.try_below(edit, bound, &mut steps)
 }
 
-/// Tries the move at a place, with a counter of steps of its own.
-pub(crate) fn try_at(session: &mut Session, place: u32) -> Tried
+/// Tries the move at a place, and makes it where it is allowed and brings the index below a bound: what the try came to,
+/// and the move if it is made.
+#[tactic(auto, using(crate::proofs::TriedLaws::after_try, crate::proofs::TriedLaws::made_small))]
+pub(crate) fn try_at(session: &mut Session, place: u32, bound: u128) -> (Tried, Option<Made>)
     requires place { place < move_count session.old.net }
     requires closed { session.old.before ≡ None }
-    ensures tried { result ≡ try_of session.old.net (move session.old.net place) }
+    ensures tried { result.0 ≡ try_of session.old.net (move session.old.net place) }
+    ensures made { result.1 ≡ made_at session.old.net bound place }
     ensures few { edit_work session.old.net (move session.old.net place) ≤ 8000 }
-    ensures same { session.new ≡ session.old }
+    ensures small { IfSome result.1 (λ made. made.work ≤ 8000) }
+    ensures state { session.new ≡ standing_for (net_made result.1 session.old.net) session.old }
 {
     let edit = move_at(session.net(), place);
-    try_counted::<Brand>(session, edit, Blank::new(1))
-}
-
-/// A stretch with one try more; `limit` is the index of the network.
-pub(crate) fn after_find(stretch: Stretch, found: Tried, limit: u128) -> Stretch
-    requires passed { stretch.passed + 1 < 2 ^ 32 }
-    requires work { stretch.work + work_found found < 2 ^ 64 }
-    ensures { result ≡ after_found limit found stretch }
-{
-    match found {
-        Tried::Barred => passing(stretch, 0),
-        Tried::Index { index, work } => {
-            if index < limit {
-                Stretch {
-                    lowers: true,
-                    ..stretch
-                }
-            } else {
-                passing(stretch, work)
-            }
-        }
-    }
+    let found = try_counted::<Brand>(session, edit, bound, Blank::new(1));
+    (found, made_by(bound, edit, found))
 }

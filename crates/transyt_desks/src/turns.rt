@@ -1,11 +1,13 @@
 //! The turns of a round at desk 0, some of whose moves the desks have tried before.
 
-ghost use Rattle.std.specs.Prelude.{◌≡◌, ℕ, ◌+◌, ◌*◌, ◌<◌, ◌≤◌, false};
+ghost use Rattle.std.specs.Prelude.{◌≡◌, ℕ, ◌+◌, ◌*◌, ◌<◌, ◌≤◌};
+ghost use Rattle.transyt_session.specs.Session.{standing_for};
 ghost use Rattle.transyt_climb.specs.Turns.{machine};
 ghost use Rattle.transyt_desks.specs.Rounds.{CanRound, MakesRound, passed_by, room_of, turns_of};
-ghost use Rattle.transyt_desks.specs.Stretches.{IsStretch};
+ghost use Rattle.transyt_desks.specs.Stretches.{IsStretch, net_made};
 
 use crate::stretch::Stretch;
+use std::snapshot::Snapshot;
 use std::sync::ledger::Ledger;
 use transyt_climb::{Climber, Turn};
 use transyt_session::Session;
@@ -30,38 +32,48 @@ fn note_passed(climber: &mut Climber, passed: u32)
     }
 }
 
-/// The turns of a round of so many places, which were tried before: those that pass are counted, and a move that lowers
-/// the index is made.
-pub(crate) fn make_turns<L: Ledger>(
+/// The turns of a round of so many places, which were tried before: those that pass are counted, and so is the move that
+/// lowers the index, which the session has made since `before`.
+pub(crate) fn make_turns(
     climber: &mut Climber,
     session: &mut Session,
     tried: Stretch,
     places: u32,
-    steps: &mut Steps<L>,
+    before: &Snapshot<Session>,
 ) -> Round
-    requires ready { CanRound climber.old session.old }
+    requires ready { CanRound climber.old before.now.value }
     requires some { 0 < places }
     requires place { climber.old.place < climber.old.count }
     requires since { climber.old.since < climber.old.count }
     requires looked { climber.old.looked < climber.old.budget }
-    requires tried { IsStretch session.old.net climber.old.place climber.old.count
+    requires tried { IsStretch before.now.value.net climber.old.place climber.old.count
         (room_of places climber.old) tried }
-    ensures made { MakesRound places (machine climber.old session.old)
+    requires session { session.old
+        ≡ standing_for (net_made tried.made before.now.value.net) before.now.value }
+    ensures made { MakesRound places (machine climber.old before.now.value)
         (machine climber.new session.new) result }
-    ensures net { tried.lowers ≡ false → session.new.net ≡ session.old.net }
+    ensures net { session.new.net ≡ session.old.net }
 {
     note_passed(climber, tried.passed);
     session.credit(tried.work);
-    if tried.lowers {
-        let last = climber.turn(session, steps);
-        return Round {
-            turns: tried.passed + 1,
-            last,
-        };
-    }
-    Round {
-        turns: tried.passed,
-        last: Turn::Passed,
+    match tried.made {
+        None => Round {
+            turns: tried.passed,
+            last: Turn::Passed,
+        },
+        Some(made) => {
+            let place = climber.place();
+            climber.note(true);
+            session.credit(made.work);
+            Round {
+                turns: tried.passed + 1,
+                last: Turn::Took {
+                    place,
+                    edit: made.edit,
+                    index: made.index,
+                },
+            }
+        }
     }
 }
 

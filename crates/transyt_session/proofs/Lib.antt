@@ -1,2 +1,1 @@
-pub mod LowerLaws
 pub mod WorkedLaws

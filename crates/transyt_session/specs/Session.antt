@@ -50,9 +50,21 @@ tried_with net e (Some fault) = Barred
 abbrev pub try_of : Network → Edit → Tried
 try_of net e = tried_with net e (edit_fault net e)
 
+-- whether an edit is allowed and brings the index below a bound
+abbrev pub falls_below : ℕ → Network → Edit → Bool
+falls_below bound net e = is_below bound (index_with net e (edit_fault net e))
+
+-- a try of an edit with a bound: one that is allowed and brings the index below the bound is made, and the work stays
+abbrev pub tried_below : ℕ → Edit → SessionValue → SessionValue
+tried_below bound e s = record {
+  net = if falls_below bound s.net e then with_edit s.net e else s.net;
+  before = None;
+  work = s.work;
+}
+
 -- whether an edit is allowed and lowers the index
 abbrev pub edit_lowers : Network → Edit → Bool
-edit_lowers net e = is_below (index net) (index_with net e (edit_fault net e))
+edit_lowers net e = falls_below (index net) net e
 
 -- a look at an edit: one that is allowed and lowers the index is made, and the work of an allowed one is added
 abbrev pub lowered : Edit → SessionValue → SessionValue

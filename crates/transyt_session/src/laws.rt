@@ -1,15 +1,15 @@
 //! The worked session, computed from the definitions.
 
-ghost use Rattle.std.specs.Prelude.{◌≡◌, map, None};
+ghost use Rattle.std.specs.Prelude.{◌≡◌, ◌+◌, map, None};
 ghost use Rattle.transyt_net.specs.declared.edit.Edit.TheVariants.{Offset, Change};
 ghost use Rattle.transyt_sweep.specs.Sweeps.{index};
 ghost use Rattle.transyt_track.specs.WorkedWork.{junctions};
 ghost use Rattle.transyt_session.specs.declared.answers.Tried.TheVariants.{Barred, Index};
-ghost use Rattle.transyt_session.specs.Session.{opened, edited, reply_to, try_of, trial_of, back_of, keep_of, credited, standing_for, lowered, lower_index};
+ghost use Rattle.transyt_session.specs.Session.{opened, edited, reply_to, tried_below, try_of, trial_of, back_of, keep_of, credited, standing_for, lowered, lower_index};
 ghost use Rattle.transyt_session.specs.WorkedSessions.{shifted, begun, in_trial, taken_back, kept, worked_replies};
 
 /// A worked session after each call, and the answers to edits.
-#[tactic(auto, using(crate::proofs::WorkedLaws::trial, crate::proofs::WorkedLaws::replies, crate::proofs::WorkedLaws::tried))]
+#[tactic(auto, using(crate::proofs::WorkedLaws::trial, crate::proofs::WorkedLaws::replies, crate::proofs::WorkedLaws::tried, crate::proofs::WorkedLaws::at_bound, crate::proofs::WorkedLaws::below_bound))]
 pub fn worked_session()
     ensures trial { edited (Offset 21 9) (trial_of begun) ≡ in_trial }
     ensures second_trial { trial_of in_trial ≡ in_trial }
@@ -24,6 +24,10 @@ pub fn worked_session()
     ensures replies { map (λ row. reply_to junctions row.0) worked_replies
         ≡ map (λ row. row.1) worked_replies }
     ensures tried { try_of junctions (Offset 21 9) ≡ Index (index shifted) 6 }
+    ensures at_bound { tried_below (index shifted) (Offset 21 9) begun ≡ begun }
+    ensures below_bound { tried_below (index shifted + 1) (Offset 21 9) begun
+        ≡ record begun { net = shifted } }
+    ensures refused_try { tried_below 5 (Offset 21 15) in_trial ≡ kept }
     ensures refused_look { lowered (Offset 21 15) in_trial ≡ kept }
     ensures refused_found { lower_index junctions (Offset 21 15) ≡ None }
     ensures barred { try_of junctions (Change 21 2 4) ≡ Barred }

@@ -6,11 +6,12 @@ ghost use Rattle.transyt_net.specs.Edits.{with_edit};
 ghost use Rattle.transyt_net.specs.Parts.{SameShape};
 ghost use Rattle.transyt_sweep.specs.Sweeps.{index, out_of, evaluated};
 ghost use Rattle.transyt_track.specs.Due.{due, edit_work};
-ghost use Rattle.transyt_session.specs.Session.{SessionValue, opened, edited_net, edited, reply_to, try_of, trial_of, back_of, keep_of, credited, standing_for, lowered, lower_index};
+ghost use Rattle.transyt_session.specs.Session.{SessionValue, opened, edited_net, edited, reply_to, tried_below, try_of, trial_of, back_of, keep_of, credited, standing_for, lowered, lower_index};
 
 use crate::answers::{NoTrial, Reply, TrialOpen, Tried};
 use std::alloc::{AllocError, Global};
 use std::marker::Model;
+use std::mem;
 use std::sync::ledger::Ledger;
 use transyt_delay::Figures;
 use transyt_net::{Edit, EditFault, Net};
@@ -222,16 +223,28 @@ impl Session {
         ensures few { edit_work self.old.net e ≤ 8000 }
         ensures steps { steps.new ≡ steps.old + edit_work self.old.net e }
     {
-        match make(&mut self.net, e) {
-            Ok(back) => {
-                let found = self.tracker.follow_below(&self.net, e, 0, steps);
-                let _ = self.net.apply(back);
-                Tried::Index {
-                    index: found.index,
-                    work: found.due,
-                }
-            }
-            Err(_) => Tried::Barred,
+        self.try_below(e, 0, steps)
+    }
+
+    /// Tries an edit, and makes it where it is allowed and brings the index below a bound. Otherwise all stays as it is;
+    /// in either case the work does, and only steps are made. It takes no memory.
+    pub fn try_below<L: Ledger>(&mut self, e: Edit, bound: u128, steps: &mut Steps<L>) -> Tried
+        requires closed { self.old.before ≡ None }
+        ensures tried { result ≡ try_of self.old.net e }
+        ensures state { self.new ≡ tried_below bound e self.old }
+        ensures few { edit_work self.old.net e ≤ 8000 }
+        ensures steps { steps.new ≡ steps.old + edit_work self.old.net e }
+    {
+        let Ok(back) = make(&mut self.net, e) else {
+            return Tried::Barred;
+        };
+        let found = self.tracker.follow_below(&self.net, e, bound, steps);
+        if found.index >= bound {
+            let _ = self.net.apply(back);
+        }
+        Tried::Index {
+            index: found.index,
+            work: found.due,
         }
     }
 
@@ -245,18 +258,14 @@ impl Session {
         ensures few { self.new.work ≤ self.old.work + 8000 }
         ensures steps { steps.new ≡ steps.old + edit_work self.old.net e }
     {
-        let Ok(back) = make(&mut self.net, e) else {
-            return None;
-        };
-        let bound = self.tracker.index();
-        let found = self.tracker.follow_below(&self.net, e, bound, steps);
-        self.work += found.due;
-        let lowers = found.index < bound;
-        if lowers {
-            return Some(found.index);
+        let bound = self.index();
+        match self.try_below(e, bound, steps) {
+            Tried::Index { index, work } => {
+                self.work += work;
+                if index < bound { Some(index) } else { None }
+            }
+            Tried::Barred => None,
         }
-        let _ = self.net.apply(back);
-        None
     }
 
     /// Adds to the work.
@@ -287,6 +296,17 @@ impl Session {
     {
         self.net.take_numbers(&from.net);
         self.tracker.take_over(&from.tracker);
+    }
+
+    /// Trades networks with another session, and each keeps its work. It works out nothing and takes no memory.
+    pub fn trade(&mut self, other: &mut Session)
+        requires closed { self.old.before ≡ None }
+        requires other_closed { other.old.before ≡ None }
+        ensures value { self.new ≡ standing_for other.old.net self.old }
+        ensures other { other.new ≡ standing_for self.old.net other.old }
+    {
+        mem::swap(&mut self.net, &mut other.net);
+        mem::swap(&mut self.tracker, &mut other.tracker);
     }
 }
 

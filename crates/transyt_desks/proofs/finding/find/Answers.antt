@@ -1,39 +1,39 @@
--- One move more is tried, or none is left.
-use Rattle.std.proofs.Common.{◌≡◌, ◌<◌, ◌≤◌, refl, ap, sym, ◌∙◌, subst, arith}
+-- One move more is tried and taken back.
+use Rattle.std.proofs.Common.{◌≡◌, ◌≤◌, None, refl, ap, sym, ◌∙◌, subst, arith}
 use Rattle.std.proofs.lemmas.List.{length-set}
-use Rattle.transyt_moves.specs.Moves.{move, move_count}
+use borrow.Author.Count.{below_more}
+use Rattle.transyt_moves.specs.Moves.{move}
 use Rattle.transyt_track.specs.Due.{edit_work}
-use Rattle.transyt_session.specs.Session.{SessionValue, try_of}
-use Rattle.transyt_desks.specs.Stretches.{turn_place}
+use Rattle.transyt_session.specs.Session.{SessionValue, standing_for, try_of}
+use Rattle.transyt_desks.specs.Stretches.{made_at, net_made, turn_place}
 use Rattle.transyt_desks.proofs.FindLaws.{tries_more}
+use Rattle.transyt_desks.proofs.TriedLaws.{none_made}
 use Rattle.transyt_desks.proofs.finding.find.Goals as goal
 
 pub loop-turn-preserved : goal.loop-turn-preserved
 loop-turn-preserved c =
     let net = c.args.session.now.net in
     let so = c.loop-turn.invariant in
-    let place : c.place_of.result ≡ turn_place c.args.reach c.args.desk c.loop-turn.turn = c.place_of.ensures.value in
-    let tried : c.try_at.result ≡ try_of net (move net (turn_place c.args.reach c.args.desk c.loop-turn.turn)) =
-    c.try_at.ensures.tried ∙ ap (λ (s : SessionValue). try_of s.net (move s.net c.place_of.result)) so.same
-    ∙ ap (λ p. try_of net (move net p)) place in
-    let few : edit_work net (move net (turn_place c.args.reach c.args.desk c.loop-turn.turn)) ≤ 8000 =
-    subst (λ p. edit_work net (move net p) ≤ 8000) place
-    (subst (λ (s : SessionValue). edit_work s.net (move s.net c.place_of.result) ≤ 8000) so.same c.try_at.ensures.few) in
+    let told = c.try_at-found.ensures in
+    let n = c.loop-turn.turn in
+    let place : c.place_of.result ≡ turn_place c.args.reach c.args.desk n = c.place_of.ensures.value in
+    let net_is : c.loop-turn.session.net ≡ net = ap (λ (s : SessionValue). s.net) so.same in
+    let none : c.try_at-found.result.1 ≡ None = none_made c.try_at-found.result.1 (sym c.is_some.ensures ∙ c.if-is_some.false) in
     record {
-      tries = tries_more net (turn_place c.args.reach c.args.desk) c.loop-turn.turn c.loop-turn.finds c.try_at.result
-          (omega (arith, so.len, c.loop-turn-test.true)) so.tries tried few;
-      len = length-set c.loop-turn.finds c.loop-turn.turn c.try_at.result ∙ so.len;
-      same = c.try_at.ensures.same ∙ so.same;
+      tries = tries_more net (turn_place c.args.reach c.args.desk) n c.loop-turn.finds.tries c.try_at-found.result.0
+          (omega (arith, so.len, c.loop-turn-test.true)) so.tries
+          (told.tried ∙ (λ i. try_of (net_is i) (move (net_is i) (place i))))
+          (subst (λ p. edit_work net (move net p) ≤ 8000) place
+          (subst (λ u. edit_work u (move u c.place_of.result) ≤ 8000) net_is told.few));
+      passes = below_more (λ k. made_at net c.args.reach.bound (turn_place c.args.reach c.args.desk k) ≡ None) n so.passes
+          (sym (told.made ∙ (λ i. made_at (net_is i) c.args.reach.bound (place i))) ∙ none);
+      passed = refl;
+      none = none;
+      len = length-set c.loop-turn.finds.tries n c.try_at-found.result.0 ∙ so.len;
+      same = told.state ∙ ap (λ made. standing_for (net_made made c.loop-turn.session.net) c.loop-turn.session) none
+          ∙ (λ i. record {
+            net = net_is i;
+            before = (sym c.requires.closed) i;
+            work = (so.same i).work;
+          });
     }
-
-pub loop-turn-init : goal.loop-turn-init
-loop-turn-init c = record {
-  tries = record { each = λ k d less. absurd (omega (arith, less)); few = λ k less. absurd (omega (arith, less)) };
-  len = refl;
-  same = refl;
-}
-
-pub try_at-requires-clause-place : goal.try_at-requires-clause-place
-try_at-requires-clause-place c =
-    subst (λ (s : SessionValue). c.place_of.result < move_count s.net) (sym c.loop-turn.invariant.same)
-    (subst (λ n. c.place_of.result < n) c.requires.count c.place_of.ensures.below)

@@ -1,12 +1,11 @@
 -- The finds so far were handed on.
 use Rattle.std.proofs.Common.{◌≡◌, length}
-use Rattle.transyt_desks.specs.Desks.{desk_zero, sessions_of}
 use Rattle.transyt_desks.specs.Stretches.{AreTriesOf}
 use Rattle.transyt_desks.proofs.finding.hand_on.Given as goal
 
 -- they stand at the front
 abbrev pub invariant-loop-number : goal.invariant-loop-number
 invariant-loop-number l = record {
-  tries : AreTriesOf (desk_zero (sessions_of l.desks)).net l.reach.place l.number l.tries;
+  tries : AreTriesOf l.net.value l.reach.place l.number l.tries;
   len : length l.tries ≡ length l.fn.tries;
 }

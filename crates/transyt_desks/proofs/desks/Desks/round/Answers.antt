@@ -1,18 +1,15 @@
 -- Desks that stand for one network are alike after the turns at desk 0.
-use Rattle.std.proofs.Common.{◌≡◌, ◌<◌, ◌*◌, length, sym, ◌∙◌, subst, arith}
+use Rattle.std.proofs.Common.{◌≡◌, ◌*◌, length, sym, ◌∙◌, subst, arith}
 use Rattle.transyt_climb.specs.Turns.{machine}
 use Rattle.transyt_session.specs.Session.{SessionValue}
 use Rattle.transyt_desks.specs.Desks.{desk_zero}
 use Rattle.transyt_desks.specs.Rounds.{MakesRound}
 use Rattle.transyt_desks.proofs.DeskLaws.{aligned_alike}
-use Rattle.transyt_desks.proofs.RoundLaws.{alike_rounds, rounds_workers}
 use Rattle.transyt_desks.proofs.desks.Desks.round.Goals as goal
 
 pub follow_all-requires-clause-shape : goal.follow_all-requires-clause-shape
 follow_all-requires-clause-shape g c κs within =
-    let some : 0 < length c.args.self.now = omega (arith, c.count.ensures.value, c.count.ensures.some) in
-    alike_rounds _ _ _ c.args.self.now c.together-round.new.desks c.together-round.result some
-    (aligned_alike c.args.self.now c.requires.aligned) c.together-round.ensures
+    c.together-round.ensures.alike (aligned_alike c.args.self.now c.requires.aligned)
 
 pub returns-then-count-eq1-clause-made : goal.returns-then-count-eq1-clause-made
 returns-then-count-eq1-clause-made g c =
@@ -29,4 +26,4 @@ returns-clause-made g c =
     (machine c.together-round.new.climber s) c.together-round.result) (sym c.follow_all.ensures.zero) c.together-round.ensures.made)
 
 pub returns-clause-workers : goal.returns-clause-workers
-returns-clause-workers g c = c.follow_all.ensures.workers ∙ rounds_workers _ _ _ _ _ _ c.together-round.ensures
+returns-clause-workers g c = c.follow_all.ensures.workers ∙ c.together-round.ensures.workers

@@ -1,23 +1,19 @@
 -- Desk 0 goes on alone, or all follow it before they try.
-use Rattle.std.proofs.Common.{◌<◌, ◌*◌, length, sym, ◌∙◌, subst, arith}
+use Rattle.std.proofs.Common.{◌*◌, length, sym, ◌∙◌, subst}
 use Rattle.transyt_climb.specs.Turns.{machine}
 use Rattle.transyt_session.specs.Session.{SessionValue}
 use Rattle.transyt_desks.specs.Desks.{desk_zero}
 use Rattle.transyt_desks.specs.Rounds.{CanRound, MakesRound}
-use Rattle.transyt_desks.proofs.RoundLaws.{alike_rounds, never_one, places_alone, places_together, rounds_workers}
+use Rattle.transyt_desks.proofs.RoundLaws.{never_one, places_alone, places_together}
 use Rattle.transyt_desks.proofs.desks.Desks.stretch_round.Goals as goal
 
 pub returns-then-goes_alone-clause-alike : goal.returns-then-goes_alone-clause-alike
 returns-then-goes_alone-clause-alike g c =
-    let some : 0 < length c.args.self.now = omega (arith, c.count.ensures.value, c.count.ensures.some) in
-    alike_rounds 1 _ _ c.args.self.now c.alone.new.desks c.alone.result some c.requires.alike c.alone.ensures.made
+    c.alone.ensures.made.alike c.requires.alike
 
 pub returns-clause-alike : goal.returns-clause-alike
 returns-clause-alike g c =
-    let followed = c.follow.new.self in
-    let some : 0 < length followed = omega (arith, c.follow.ensures.workers, c.count.ensures.value, c.count.ensures.some) in
-    alike_rounds _ _ _ followed c.together.new.desks c.together.result some
-    c.follow.ensures.alike c.together.ensures
+    c.together.ensures.alike c.follow.ensures.alike
 
 pub returns-then-goes_alone-clause-made : goal.returns-then-goes_alone-clause-made
 returns-then-goes_alone-clause-made g c =
@@ -27,7 +23,7 @@ returns-then-goes_alone-clause-made g c =
     c.goes_alone.ensures c.if-goes_alone.true) c.alone.ensures.made.made
 
 pub returns-then-goes_alone-clause-workers : goal.returns-then-goes_alone-clause-workers
-returns-then-goes_alone-clause-workers g c = rounds_workers _ _ _ _ _ _ c.alone.ensures.made
+returns-then-goes_alone-clause-workers g c = c.alone.ensures.made.workers
 
 pub together-requires-clause-ready : goal.together-requires-clause-ready
 together-requires-clause-ready g c κs within =
@@ -46,7 +42,7 @@ returns-clause-made g c =
 
 pub returns-clause-workers : goal.returns-clause-workers
 returns-clause-workers g c =
-    rounds_workers _ _ _ c.follow.new.self c.together.new.desks _ c.together.ensures ∙ c.follow.ensures.workers
+    c.together.ensures.workers ∙ c.follow.ensures.workers
 
 pub returns-clause-steps : goal.returns-clause-steps
 returns-clause-steps g c one =
