@@ -1,18 +1,16 @@
 -- Desks as a list: each session is that of its desk, so facts of all desks are facts of their sessions.
-use Rattle.std.proofs.Common.{◌≡◌, ℕ, zero, suc, ◌+◌, ◌-◌, ◌<◌, ◌≤◌, List, [], ◌∷◌, ◌++◌, length, take, drop}
-use Rattle.std.proofs.Common.{slice_index_or, slice_set, replicate, refl, ap, sym, ◌∙◌, arith, None}
+use Rattle.std.proofs.Common.{◌≡◌, ℕ, zero, suc, ◌-◌, ◌<◌, ◌≤◌, List, [], ◌∷◌, length, drop, max, Bool, true, false, nat_lt, ◌==◌, if◌then◌else◌}
+use Rattle.std.proofs.Common.{slice_index_or, slice_set, replicate, refl, ap, sym, ◌∙◌, arith}
 use Rattle.std.proofs.Math.ListN.{get_or-map}
-use Rattle.std.proofs.lemmas.List.{length-map, map-append, same_lists, get_or_default, get_or-set_other}
-use Rattle.std.proofs.lemmas.List.{length-replicate, get_or-replicate, replicate-append-replicate}
-use Rattle.std.proofs.lemmas.List.{length-set, length-drop}
-use Rattle.std.proofs.lemmas.List.{get_or-map as get_or-map-at}
-use Rattle.std.proofs.lemmas.Grind.{get_or_after_one}
-use Rattle.transyt_net.specs.Parts.{Network, SameShape, shape as shape_word}
-use Rattle.transyt_moves.specs.Moves.{move_count}
-use Rattle.transyt_session.specs.Session.{SessionValue, opened, standing_for}
+use Rattle.std.proofs.lemmas.Bool.Decides.{nat_tests}
+use Rattle.std.proofs.lemmas.List.{length-map, get_or_default, get_or-set_other, length-set}
+use Rattle.std.proofs.lemmas.List.{get_or-replicate}
+use Rattle.transyt_net.specs.Parts.{SameShape, shape as shape_word}
+use Rattle.transyt_session.specs.Session.{SessionValue, opened}
 use Rattle.transyt_desks.specs.declared.desk.Desk.{Desk}
-use Rattle.transyt_desks.specs.Desks.{no_session, no_desk, new_desk, session_at, desk_zero, sessions_of, opened_desks}
-use Rattle.transyt_desks.specs.Desks.{AreAligned, AreAlike, AreDesks, OthersClosed, Stands}
+use Rattle.transyt_desks.specs.Desks.{no_session, no_desk, session_at, desk_zero, desks_of, sessions_of, opened_desks}
+use Rattle.transyt_desks.specs.Desks.{AreAligned, AreAlike, AreDesks}
+use Rattle.transyt_desks.specs.Reaches.{AreStanding, CanFollow}
 
 -- the session at a place is that of the desk there
 pub session_is : (desks : List Desk) (k : ℕ) → session_at (sessions_of desks) k ≡ (slice_index_or desks k no_desk).session
@@ -38,31 +36,6 @@ pub others_kept : (sessions : List SessionValue) (s : SessionValue) (k : ℕ) �
     → session_at (slice_set sessions 0 s) k ≡ session_at sessions k
 others_kept sessions s k other = get_or-set_other sessions 0 k s no_session (λ same. absurd (omega (arith, same)))
 
--- none of them stands for another network where there is none
-pub none_aligned : AreAligned []
-none_aligned = record { same = λ k less. absurd (omega (arith, less)) }
-
--- and what desks keep to
-pub desks_lent : (sessions : List SessionValue) (following : ℕ) (s : SessionValue) → AreDesks sessions following
-    → AreDesks (slice_set sessions 0 s) 0
-desks_lent sessions following s are =
-    let count : length (slice_set sessions 0 s) ≡ length sessions = length-set sessions 0 s in
-    record {
-      some = omega (arith, are.some, count);
-      few = omega (arith, are.few, count);
-      others = record {
-        closed = λ k other less. ap (λ (x : SessionValue). x.before) (others_kept sessions s k other)
-            ∙ are.others.closed k other (omega (arith, count));
-      };
-      aligned = none_aligned;
-    }
-
--- and where the first stand for one network they may be known to
-pub desks_known : (sessions : List SessionValue) (following count : ℕ) → AreDesks sessions following
-    → AreAligned (take count sessions) → AreDesks sessions count
-desks_known sessions following count are aligned =
-    record { some = are.some; few = are.few; others = are.others; aligned = aligned }
-
 -- a new session is at desk 0
 pub zero_set : (sessions : List SessionValue) (s : SessionValue) → 0 < length sessions → desk_zero (slice_set sessions 0 s) ≡ s
 zero_set [] s some = absurd (omega arith)
@@ -84,145 +57,125 @@ alike_lent sessions s some alike same = record { shape = shape }
         ∙ alike.shape (suc k) (omega (arith, length-set sessions 0 s)) ∙ sym same
         ∙ sym (ap (λ (x : SessionValue). shape_word x.net) zero_is)
 
--- desks stand for one network with another session of it at desk 0
-pub aligned_lent : (sessions : List SessionValue) (s : SessionValue) → 0 < length sessions → AreAligned sessions
-    → s.net ≡ (desk_zero sessions).net → AreAligned (slice_set sessions 0 s)
-aligned_lent sessions s some aligned is = record { same = same }
-  where
-    same : (k : ℕ) → k < length (slice_set sessions 0 s)
-        → (session_at (slice_set sessions 0 s) k).net ≡ (desk_zero (slice_set sessions 0 s)).net
-    same zero less = refl
-    same (suc k) less =
-        ap (λ (x : SessionValue). x.net) (others_kept sessions s (suc k) (omega arith))
-        ∙ aligned.same (suc k) (omega (arith, length-set sessions 0 s)) ∙ sym is
-        ∙ sym (ap (λ (x : SessionValue). x.net) (zero_set sessions s some))
-
 -- desks that stand for one network are alike
 pub aligned_alike : (sessions : List SessionValue) → AreAligned sessions → AreAlike sessions
 aligned_alike sessions aligned = record { shape = λ k less. ap shape_word (aligned.same k less) }
 
--- desks that stand for one network have as many moves
-pub aligned_count : (desks : List Desk) (count k : ℕ) (d : Desk) → AreAligned (sessions_of desks)
-    → count ≡ move_count (desk_zero (sessions_of desks)).net → k < length desks
-    → move_count (slice_index_or desks k d).session.net ≡ count
-aligned_count desks count k d aligned is less =
-    ap (λ (s : SessionValue). move_count s.net) (session_read desks k d less)
-    ∙ ap move_count (aligned.same k (omega (arith, sessions_count desks))) ∙ sym is
+-- a fact of all sessions of desks holds with another desk in a place, if it holds of its session
+pub set_each : (P : SessionValue → Type 0) (desks : List Desk) (at : ℕ) (y : Desk) → P y.session
+    → ((k : ℕ) → k < length (sessions_of desks) → P (session_at (sessions_of desks) k))
+    → (k : ℕ) → k < length (sessions_of (slice_set desks at y)) → P (session_at (sessions_of (slice_set desks at y)) k)
+set_each P [] at y here all k less = absurd (omega (arith, less))
+set_each P (d ∷ ds) zero y here all zero less = here
+set_each P (d ∷ ds) zero y here all (suc k) less = all (suc k) less
+set_each P (d ∷ ds) (suc at) y here all zero less = all 0 (omega arith)
+set_each P (d ∷ ds) (suc at) y here all (suc k) less =
+    set_each P ds at y here (λ j fewer. all (suc j) (omega (arith, fewer))) k (omega (arith, less))
 
--- so many desks, opened
-pub opened_more : (s : SessionValue) (n : ℕ) → 0 < n
-    → opened_desks s n ++ opened s.net ∷ [] ≡ opened_desks s (n + 1)
-opened_more s zero some = absurd (omega arith)
-opened_more s (suc n) some =
-    let now : suc n - 1 ≡ n = omega arith in
-    let next : suc n + 1 - 1 ≡ n + 1 = omega arith in
-    ap (λ k. (s ∷ replicate k (opened s.net)) ++ opened s.net ∷ []) now
-    ∙ ap (λ ss. s ∷ ss) (replicate-append-replicate n 1 (opened s.net))
-    ∙ sym (ap (λ k. s ∷ replicate k (opened s.net)) next)
+-- desks by desk 0 and their crew: after desk 0 each stands in the place that it has in the crew
+pub desk_at : (zero_desk : SessionValue) (crew : List SessionValue) (k : ℕ) → 0 < k
+    → session_at (desks_of zero_desk crew) k ≡ session_at crew k
+desk_at zero_desk crew zero some = absurd (omega (arith, some))
+desk_at zero_desk [] (suc k) some = refl
+desk_at zero_desk (x ∷ xs) (suc k) some = refl
 
--- a session more
-pub sessions_more : (desks : List Desk) (s : SessionValue)
-    → sessions_of (desks ++ new_desk s ∷ []) ≡ sessions_of desks ++ s ∷ []
-sessions_more desks s = map-append (λ (d : Desk). d.session) desks (new_desk s ∷ [])
+-- there are as many as in the crew, or one
+pub desks_count : (zero_desk : SessionValue) (crew : List SessionValue)
+    → length (desks_of zero_desk crew) ≡ max (length crew) 1
+desks_count zero_desk [] = refl
+desks_count zero_desk (x ∷ xs) = omega arith
 
+-- the session at a place after the first of desks that were opened
 pub opened_at : (s : SessionValue) (n k : ℕ) → 0 < k → k < n → session_at (opened_desks s n) k ≡ opened s.net
 opened_at s n zero some less = absurd (omega arith)
 opened_at s n (suc k) some less = get_or-replicate (n - 1) k (opened s.net) no_session (omega arith)
 
--- desks that were opened keep to what desks keep to
-pub opened_are : (s : SessionValue) (n : ℕ) → 0 < n → n ≤ 8 → AreDesks (opened_desks s n) 0
-opened_are s n some few =
-    let count : length (opened_desks s n) ≡ n = omega (arith, length-replicate (n - 1) (opened s.net)) in
-    record {
-      some = omega (arith, count);
-      few = omega (arith, count);
-      others = record {
-        closed = λ k other less. ap (λ (x : SessionValue). x.before) (opened_at s n k other (omega (arith, count)));
-      };
-      aligned = none_aligned;
-    }
+-- a crew for so many workers
+abbrev pub crew_of : ℕ → ℕ
+crew_of workers = if workers == 1 then 0 else workers
 
--- the first desk alone
-pub first_desk : (desks : List Desk) → 0 < length desks → take 1 desks ≡ slice_index_or desks 0 no_desk ∷ []
-first_desk [] some = absurd (omega arith)
-first_desk (x ∷ xs) some = refl
+-- desks that were opened with it
+pub opened_is : (s : SessionValue) (workers : ℕ) → 1 ≤ workers
+    → desks_of s (replicate (crew_of workers) (opened s.net)) ≡ opened_desks s workers
+opened_is s zero some = absurd (omega (arith, some))
+opened_is s (suc zero) some = refl
+opened_is s (suc (suc n)) some =
+    let many : (suc (suc n) == 1) ≡ false = grind (arith, nat_tests) in
+    let fewer : suc n ≡ suc (suc n) - 1 = omega arith in
+    ap (λ b. desks_of s (replicate (if b then 0 else suc (suc n)) (opened s.net))) many
+    ∙ ap (λ k. s ∷ replicate k (opened s.net)) fewer
 
--- a desk and others that stand for its network are aligned
-pub joined_aligned : (x : Desk) (ys : List Desk)
-    → ((k : ℕ) (d : Desk) → k < length ys → (slice_index_or ys k d).session.net ≡ x.session.net)
-    → AreAligned (sessions_of (x ∷ ys))
-joined_aligned x ys all = record { same = same }
+module _ (zero_desk : SessionValue) (crew : List SessionValue) (following : ℕ) (are : AreDesks zero_desk crew following) where
+  -- where there is one of the crew, there are two
+  pub crew_two : (k : ℕ) → k < length crew → 1 < length crew
+  crew_two k less = by (nat_lt 1 (length crew)) refl
+    where
+      by : (b : Bool) → nat_lt 1 (length crew) ≡ b → 1 < length crew
+      by true two = grind (arith, nat_tests, two)
+      by false few =
+          let at_most : length crew ≤ 1 = grind (arith, nat_tests, few) in absurd (are.several (omega (arith, at_most, less)))
+
+  -- several desks are as many as their crew
+  pub crew_count : 1 < length (desks_of zero_desk crew) → length (desks_of zero_desk crew) ≡ length crew
+  crew_count several = omega (arith, several, desks_count zero_desk crew)
+
+  -- the networks of a crew have the shape of that of desk 0 where those of the desks have
+  pub crew_shape : AreAlike (desks_of zero_desk crew) → (k : ℕ) → k < length crew
+      → SameShape (session_at crew k).net zero_desk.net
+  crew_shape alike k less =
+      let two = crew_two k less in
+      are.shapes k less
+      ∙ sym (ap (λ (s : SessionValue). shape_word s.net) (desk_at zero_desk crew 1 (omega arith)))
+      ∙ alike.shape 1 (omega (arith, two, desks_count zero_desk crew))
+
+  -- so each can come to its network
+  pub crew_can : AreAlike (desks_of zero_desk crew) → (n : ℕ) (known : Bool) → (known ≡ true → n ≤ following)
+      → (k : ℕ) → k < n → k < length crew → CanFollow zero_desk.net known (session_at crew k)
+  crew_can alike n known knows k fewer less = record {
+    shape = crew_shape alike k less;
+    closed = are.closed k less;
+    known_is = λ yes. are.known k (omega (arith, fewer, knows yes)) less;
+  }
+
+-- a crew that stands for the network of desk 0
+module _ (zero_desk : SessionValue) (olds news : List SessionValue) (following : ℕ) (are : AreDesks zero_desk olds following)
+    (count : length news ≡ length olds) (stand : AreStanding zero_desk.net news) where
+  pub standing_aligned : AreAligned (desks_of zero_desk news)
+  standing_aligned = record { same = same }
+    where
+      same : (k : ℕ) → k < length (desks_of zero_desk news) → (session_at (desks_of zero_desk news) k).net ≡ zero_desk.net
+      same zero less = refl
+      same (suc k) less =
+          ap (λ (s : SessionValue). s.net) (desk_at zero_desk news (suc k) (omega arith))
+          ∙ stand.nets (suc k) (omega (arith, less, desks_count zero_desk news))
+
+-- a crew that is known to follow stands for the network of desk 0
+pub known_aligned : (zero_desk : SessionValue) (crew : List SessionValue) (following : ℕ) → AreDesks zero_desk crew following
+    → length crew ≤ following → AreAligned (desks_of zero_desk crew)
+known_aligned zero_desk crew following are all = record { same = same }
   where
-    same : (k : ℕ) → k < length (sessions_of (x ∷ ys)) → (session_at (sessions_of (x ∷ ys)) k).net ≡ x.session.net
+    same : (k : ℕ) → k < length (desks_of zero_desk crew) → (session_at (desks_of zero_desk crew) k).net ≡ zero_desk.net
     same zero less = refl
     same (suc k) less =
-        ap (λ (s : SessionValue). s.net) (session_is ys k) ∙ all k no_desk (omega (arith, less, sessions_count ys))
+        let inside : suc k < length crew = omega (arith, less, desks_count zero_desk crew) in
+        ap (λ (s : SessionValue). s.net) (desk_at zero_desk crew (suc k) (omega arith))
+        ∙ are.known (suc k) (omega (arith, inside, all)) inside
 
--- and none but it has a trial where the others have none
-pub joined_closed : (x : Desk) (ys : List Desk)
-    → ((k : ℕ) (d : Desk) → k < length ys → (slice_index_or ys k d).session.before ≡ None)
-    → OthersClosed (sessions_of (x ∷ ys))
-joined_closed x ys all = record { closed = closed }
+-- the others of desks are those of their crew after the first
+pub others_aligned : (zero_desk : SessionValue) (crew : List Desk)
+    → ((k : ℕ) → k < length (drop 1 crew) → (session_at (sessions_of (drop 1 crew)) k).net ≡ zero_desk.net)
+    → AreAligned (desks_of zero_desk (sessions_of crew))
+others_aligned zero_desk crew all = record { same = same crew all }
   where
-    closed : (k : ℕ) → 0 < k → k < length (sessions_of (x ∷ ys)) → (session_at (sessions_of (x ∷ ys)) k).before ≡ None
-    closed zero other less = absurd (omega arith)
-    closed (suc k) other less =
-        ap (λ (s : SessionValue). s.before) (session_is ys k) ∙ all k no_desk (omega (arith, less, sessions_count ys))
+    same : (crew : List Desk)
+        → ((k : ℕ) → k < length (drop 1 crew) → (session_at (sessions_of (drop 1 crew)) k).net ≡ zero_desk.net)
+        → (k : ℕ) → k < length (desks_of zero_desk (sessions_of crew))
+        → (session_at (desks_of zero_desk (sessions_of crew)) k).net ≡ zero_desk.net
+    same crew all zero less = refl
+    same [] all (suc k) less = absurd (omega (arith, less))
+    same (x ∷ xs) all (suc k) less = all k (omega (arith, less, sessions_count xs))
 
--- a desk after the first, by its place among all
-pub record IsOther (desks : List Desk) (k : ℕ) (x : Desk) : Type 0 where
-  pub inside : k + 1 < length (sessions_of desks)
-  pub session : x.session ≡ session_at (sessions_of desks) (k + 1)
-
-pub other_read : (desks back : List Desk) (k : ℕ) (d : Desk) → back ≡ drop 1 desks → k < length back
-    → IsOther desks k (slice_index_or back k d)
-other_read desks back k d is less =
-    let there : k < length (drop 1 desks) = omega (arith, less, ap (λ (ds : List Desk). length ds) is) in
-    let next : 1 + k ≡ k + 1 = omega arith in
-    record {
-      inside = omega (arith, there, length-drop 1 desks, sessions_count desks);
-      session = ap (λ (ds : List Desk). (slice_index_or ds k d).session) is
-          ∙ ap (λ (x : Desk). x.session) (get_or_after_one desks k d)
-          ∙ session_read desks (1 + k) d (omega (arith, there, length-drop 1 desks))
-          ∙ ap (session_at (sessions_of desks)) next;
-    }
-
--- another desk in the place of desk 0
-pub lent_sessions : (desks : List Desk) (d : Desk)
-    → sessions_of (slice_set desks 0 d) ≡ slice_set (sessions_of desks) 0 d.session
-lent_sessions [] d = refl
-lent_sessions (x ∷ xs) d = refl
-
--- desks whose sessions stayed have the same sessions
-pub same_sessions : (olds news : List Desk) → length news ≡ length olds
-    → ((k : ℕ) (d : Desk) → k < length olds → (slice_index_or news k d).session ≡ (slice_index_or olds k d).session)
-    → sessions_of news ≡ sessions_of olds
-same_sessions olds news count same = same_lists (sessions_of news) (sessions_of olds) lengths at
-  where
-    lengths : length (sessions_of news) ≡ length (sessions_of olds)
-    lengths = sessions_count news ∙ count ∙ sym (sessions_count olds)
-
-    at : (k : ℕ) (s : SessionValue) → k < length (sessions_of news)
-        → slice_index_or (sessions_of news) k s ≡ slice_index_or (sessions_of olds) k s
-    at k s less =
-        let here : k < length olds = omega (arith, sessions_count news, count) in
-        get_or-map-at (λ (d : Desk). d.session) news k no_desk s (omega (arith, count))
-        ∙ same k no_desk here
-        ∙ sym (get_or-map-at (λ (d : Desk). d.session) olds k no_desk s here)
-
--- no desk has an open trial
-pub all_closed : (desks : List Desk) (k : ℕ) (d : Desk) → OthersClosed (sessions_of desks)
-    → (desk_zero (sessions_of desks)).before ≡ None → k < length desks
-    → (slice_index_or desks k d).session.before ≡ None
-all_closed desks zero d others zero_closed less =
-    ap (λ (s : SessionValue). s.before) (session_read desks 0 d less) ∙ zero_closed
-all_closed desks (suc k) d others zero_closed less =
-    ap (λ (s : SessionValue). s.before) (session_read desks (suc k) d less)
-    ∙ others.closed (suc k) (omega arith) (omega (arith, sessions_count desks))
-
--- a session that took over stands for the network
-pub stands : (net : Network) (old new : SessionValue) → new ≡ standing_for net old → Stands net new
-stands net old new is = record {
-  net = ap (λ (s : SessionValue). s.net) is;
-  closed = ap (λ (s : SessionValue). s.before) is;
-}
+pub aligned_others : (zero_desk : SessionValue) (crew : List Desk) → AreAligned (desks_of zero_desk (sessions_of crew))
+    → (k : ℕ) → k < length (drop 1 crew) → (session_at (sessions_of (drop 1 crew)) k).net ≡ zero_desk.net
+aligned_others zero_desk [] aligned k less = absurd (omega (arith, less))
+aligned_others zero_desk (x ∷ xs) aligned k less = aligned.same (suc k) (omega (arith, less, sessions_count xs))

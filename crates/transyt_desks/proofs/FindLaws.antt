@@ -19,15 +19,14 @@ use Rattle.transyt_moves.specs.Moves.{move}
 use Rattle.transyt_sweep.specs.Sweeps.{index}
 use Rattle.transyt_track.specs.Due.{due, edit_work}
 use Rattle.transyt_session.specs.declared.answers.Tried.{Tried}
-use Rattle.transyt_session.specs.Session.{SessionValue, standing_for, try_of, tried_with}
+use Rattle.transyt_session.specs.Session.{try_of, tried_with}
 use Rattle.transyt_desks.specs.declared.desk.Desk.{Desk}
 use Rattle.transyt_desks.specs.declared.finds.Finds.{Finds}
 use Rattle.transyt_desks.specs.declared.finds.Made.{Made}
 use Rattle.transyt_desks.specs.declared.reach.Reach.{Reach}
-use Rattle.transyt_desks.specs.Stretches.{made_at, made_by, net_made, place_at, turn_place}
-use Rattle.transyt_desks.specs.Stretches.{AreFinds, AreFound, AreTriesAt, HasFound, HaveFound, HaveTried}
-use Rattle.transyt_desks.specs.Desks.{desk_zero, no_desk, session_at, sessions_of, AreAligned}
-use Rattle.transyt_desks.proofs.DeskLaws.{session_is, sessions_count}
+use Rattle.transyt_desks.specs.Stretches.{made_at, made_by, place_at, turn_place}
+use Rattle.transyt_desks.specs.Stretches.{AreFinds, AreFound, AreTriesAt, HasFound, HaveFound}
+use Rattle.transyt_desks.specs.Desks.{no_desk}
 
 -- one try more
 pub tries_more : (net : Network) (places : ℕ → ℕ) (n : ℕ) (tries : List Tried) (t : Tried) → n < length tries
@@ -129,6 +128,9 @@ none_below net e None = ap (λ b. if b then Some made else None) (never (index (
     never x = grind (arith, nat_tests)
 none_below net e (Some fault) = refl
 
+pub nothing_made : (net : Network) (place : ℕ) → made_at net 0 place ≡ None
+nothing_made net place = none_below net (move net place) (edit_fault net (move net place))
+
 -- so with the bound 0 no desk stops
 pub never_stops : (net : Network) (reach : Reach) (desk : ℕ) (finds : Finds) → reach.bound ≡ 0 → AreFinds net reach desk finds
     → finds.made ≡ None
@@ -136,7 +138,7 @@ never_stops net reach desk finds zero_bound its = by finds.made refl
   where
     never : (place : ℕ) → made_at net reach.bound place ≡ None
     never place =
-        ap (λ b. made_at net b place) zero_bound ∙ none_below net (move net place) (edit_fault net (move net place))
+        ap (λ b. made_at net b place) zero_bound ∙ nothing_made net place
 
     by : (o : Option Made) → finds.made ≡ o → finds.made ≡ None
     by None is = is
@@ -150,37 +152,6 @@ going_on net reach desks number d found inside zero_bound =
     let its_finds = its net reach desks number d found inside in
     its_finds.whole (never_stops net reach (number % reach.desks) (finds_of reach desks number d) zero_bound its_finds)
     (number / reach.desks) (omega (arith, (turn_of reach number).sum, inside))
-
--- aligned desks that have each tried their moves have tried them on the network of desk 0
-pub all_tried : (reach : Reach) (olds news : List Desk) → AreAligned (sessions_of olds) → reach.desks ≡ length olds
-    → HaveFound reach olds news → HaveTried (desk_zero (sessions_of olds)).net reach olds news
-all_tried reach olds news aligned desks has = record {
-  len = has.len;
-  found = record { count = desks ∙ sym has.len; each = λ k less. finds k (omega (arith, less, has.len)) };
-  each = each;
-}
-  where
-    net : Network
-    net = (desk_zero (sessions_of olds)).net
-
-    net_is : (k : ℕ) → k < length olds → (slice_index_or olds k no_desk).session.net ≡ net
-    net_is k less =
-        sym (ap (λ (s : SessionValue). s.net) (session_is olds k))
-        ∙ aligned.same k (omega (arith, sessions_count olds, less))
-
-    finds : (k : ℕ) → k < length olds → AreFinds net reach k (slice_index_or news k no_desk).finds
-    finds k less =
-        subst (λ (n : Network). AreFinds n reach k (slice_index_or news k no_desk).finds) (net_is k less)
-        (has.each k no_desk less).finds
-
-    each : (k : ℕ) → k < length olds
-        → session_at (sessions_of news) k
-        ≡ standing_for (net_made (slice_index_or news k no_desk).finds.made net) (session_at (sessions_of olds) k)
-    each k less =
-        session_is news k ∙ (has.each k no_desk less).session
-        ∙ ap (λ (n : Network). standing_for (net_made (slice_index_or news k no_desk).finds.made n) (slice_index_or olds k no_desk).session)
-        (net_is k less)
-        ∙ ap (standing_for (net_made (slice_index_or news k no_desk).finds.made net)) (sym (session_is olds k))
 
 -- a place that isn't past the end of the list
 pub place_within : (place count number : ℕ) → place + number < count → place_at place count number ≡ place + number
@@ -205,10 +176,11 @@ one_more P olds news (b ∷ []) x y one same each last = λ k d less. below_more
     last))
     k less d
 
-pub found_more : (reach : Reach) (olds news back : List Desk) (x y : Desk) → length back ≡ 1 → HaveFound reach olds news
-    → HasFound reach (length olds) (slice_index_or back 0 x) y → HaveFound reach (olds ++ back) (news ++ slice_set back 0 y)
-found_more reach olds news back x y one found last = record {
+pub found_more : (net : Network) (reach : Reach) (olds news back : List Desk) (x y : Desk) → length back ≡ 1
+    → HaveFound net reach olds news → HasFound net reach (length olds) (slice_index_or back 0 x) y
+    → HaveFound net reach (olds ++ back) (news ++ slice_set back 0 y)
+found_more net reach olds news back x y one found last = record {
   len = omega (arith, found.len, length-append news (slice_set back 0 y), length-append olds back, length-set back 0 y);
-  each = λ k d less. one_more (HasFound reach) olds news back x y one found.len found.each last k d
+  each = λ k d less. one_more (HasFound net reach) olds news back x y one found.len found.each last k d
       (omega (arith, less, length-append olds back, one));
 }

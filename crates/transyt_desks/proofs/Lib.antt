@@ -2,7 +2,6 @@ pub mod TriedLaws
 pub mod PassingLaws
 pub mod LeastLaws
 pub mod DeskLaws
-pub mod FirstLaws
 pub mod SplitLaws
 pub mod FindLaws
 pub mod ShapeLaws
@@ -10,5 +9,5 @@ pub mod StretchLaws
 pub mod RoundLaws
 pub mod WorkedLaws
 pub mod WorkedFindLaws
-pub mod LeadLaws
 pub mod ReachLaws
+pub mod CrewLaws

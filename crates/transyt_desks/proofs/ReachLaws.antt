@@ -1,7 +1,6 @@
--- A reach: where no move is made all sessions are as they were, and else desk 0 has come to the network with the first.
-use Rattle.std.proofs.Common.{◌≡◌, ◌≢◌, ℕ, ◌+◌, ◌*◌, ◌%◌, ◌<◌, List, length, slice_index_or, Option, Some, None}
+-- What a crew comes to that has tried the moves of a reach.
+use Rattle.std.proofs.Common.{◌≡◌, ◌≢◌, ℕ, ◌+◌, ◌*◌, ◌%◌, ◌<◌, List, length, slice_index_or, slice_set, Option, Some, None}
 use Rattle.std.proofs.Common.{refl, ap, sym, ◌∙◌, subst, arith}
-use Rattle.std.proofs.lemmas.List.{same_lists, get_or_default}
 use Rattle.std.proofs.lemmas.Option.{none-some}
 use Rattle.transyt_net.specs.Parts.{Network, SameShape, shape as shape_word}
 use Rattle.transyt_sweep.specs.Sweeps.{index}
@@ -10,121 +9,107 @@ use Rattle.transyt_desks.specs.declared.desk.Desk.{Desk}
 use Rattle.transyt_desks.specs.declared.finds.Made.{Made}
 use Rattle.transyt_desks.specs.declared.reach.Reach.{Reach}
 use Rattle.transyt_desks.specs.declared.stretch.Stretch.{Stretch}
-use Rattle.transyt_desks.specs.Desks.{no_desk, no_session, session_at, desk_zero, sessions_of, AreAligned, OthersClosed}
-use Rattle.transyt_desks.specs.Reaches.{HasLed, HasReached}
-use Rattle.transyt_desks.specs.Stretches.{made_at, net_made, place_at, turn_place, AreFinds, HaveTried, IsStretch, MadeAt}
-use Rattle.transyt_desks.proofs.DeskLaws.{all_closed, session_is, sessions_count}
+use Rattle.transyt_desks.specs.Desks.{no_desk, session_at, sessions_of}
+use Rattle.transyt_desks.specs.Reaches.{AreStanding, HasReached}
+use Rattle.transyt_desks.specs.Stretches.{made_at, net_made, place_at, turn_place, AreFinds, HaveFound, IsStretch, MadeAt}
+use Rattle.transyt_desks.proofs.DeskLaws.{session_is, sessions_count, set_each}
 use Rattle.transyt_desks.proofs.FindLaws.{never_stops}
 use Rattle.transyt_desks.proofs.TriedLaws.{lowers_none, made_shape}
 
--- the network of desk 0
-abbrev net_of : List Desk → Network
-net_of desks = (desk_zero (sessions_of desks)).net
+-- desks that have come to a network and tried their moves of a reach on it
+module _ (net : Network) (reach : Reach) (olds news : List Desk) (has : HaveFound net reach olds news) where
+  its : (k : ℕ) → k < length news → AreFinds net reach k (slice_index_or news k no_desk).finds
+  its k less = (has.each k no_desk (omega (arith, less, has.len))).finds
 
--- desks that stand for one network, without a trial, have tried the moves of a reach
-module _ (reach : Reach) (olds news : List Desk) (aligned : AreAligned (sessions_of olds))
-    (others : OthersClosed (sessions_of olds)) (closed : (desk_zero (sessions_of olds)).before ≡ None)
-    (tried : HaveTried (net_of olds) reach olds news) where
-  -- each session stood for the network
-  stood : (k : ℕ) → k < length olds → session_at (sessions_of olds) k ≡ standing_for (net_of olds) (session_at (sessions_of olds) k)
-  stood k less =
-      let its_net = aligned.same k (omega (arith, less, sessions_count olds)) in
-      let its_before = ap (λ (s : SessionValue). s.before) (session_is olds k) ∙ all_closed olds k no_desk others closed less in
-      λ i. record { net = its_net i; before = its_before i; work = (session_at (sessions_of olds) k).work }
+  its_session : (k : ℕ) → k < length news → session_at (sessions_of news) k
+      ≡ standing_for (net_made (slice_index_or news k no_desk).finds.made net) (slice_index_or olds k no_desk).session
+  its_session k less = session_is news k ∙ (has.each k no_desk (omega (arith, less, has.len))).session
 
-  -- so it is as it was where its desk has made no move
-  pub kept_all : ((k : ℕ) → k < length olds → (slice_index_or news k no_desk).finds.made ≡ None)
-      → sessions_of news ≡ sessions_of olds
-  kept_all none = same_lists (sessions_of news) (sessions_of olds) lengths at
+  -- none has a trial
+  closed_all : (k : ℕ) → k < length (sessions_of news) → (session_at (sessions_of news) k).before ≡ None
+  closed_all k less = ap (λ (s : SessionValue). s.before) (its_session k (omega (arith, less, sessions_count news)))
+
+  -- the networks have the same shape
+  shapes_all : (k : ℕ) → k < length (sessions_of news) → SameShape (session_at (sessions_of news) k).net net
+  shapes_all k less = by (slice_index_or news k no_desk).finds.made refl
     where
-      lengths : length (sessions_of news) ≡ length (sessions_of olds)
-      lengths = sessions_count news ∙ tried.len ∙ sym (sessions_count olds)
+      here : k < length news
+      here = omega (arith, less, sessions_count news)
 
-      at : (k : ℕ) (s : SessionValue) → k < length (sessions_of news)
-          → slice_index_or (sessions_of news) k s ≡ slice_index_or (sessions_of olds) k s
-      at k s less =
-          let here : k < length olds = omega (arith, less, sessions_count news, tried.len) in
-          get_or_default (sessions_of news) k s no_session less
-          ∙ tried.each k here
-          ∙ ap (λ made. standing_for (net_made made (net_of olds)) (session_at (sessions_of olds) k)) (none k here)
-          ∙ sym (stood k here)
-          ∙ get_or_default (sessions_of olds) k no_session s (omega (arith, here, sessions_count olds))
+      is : shape_word (session_at (sessions_of news) k).net
+          ≡ shape_word (net_made (slice_index_or news k no_desk).finds.made net)
+      is = ap (λ (t : SessionValue). shape_word t.net) (its_session k here)
 
-  -- with the bound 0 none has
-  pub kept_unbound : reach.bound ≡ 0 → sessions_of news ≡ sessions_of olds
-  kept_unbound zero_bound = kept_all (λ k less. never_stops (net_of olds) reach k (slice_index_or news k no_desk).finds zero_bound
-      (tried.found.each k (omega (arith, less, tried.len))))
+      by : (o : Option Made) → (slice_index_or news k no_desk).finds.made ≡ o
+          → SameShape (session_at (sessions_of news) k).net net
+      by None none = is ∙ ap (λ made. shape_word (net_made made net)) none
+      by (Some made) some =
+          is ∙ ap (λ o. shape_word (net_made o net)) some
+          ∙ made_shape net reach.bound (turn_place reach k (slice_index_or news k no_desk).finds.passed) made
+          ((its k here).found made some)
 
-  module _ (s : Stretch) (bound : reach.bound ≡ index (net_of olds))
-      (stretch : IsStretch (net_of olds) reach.place reach.count reach.room s) where
-    -- nor where no move of the reach lowers the index
-    none_made_all : s.made ≡ None → (k : ℕ) → k < length olds → (slice_index_or news k no_desk).finds.made ≡ None
+  -- a desk that has made no move stands for the network
+  net_kept : (k : ℕ) → k < length (sessions_of news) → (slice_index_or news k no_desk).finds.made ≡ None
+      → (session_at (sessions_of news) k).net ≡ net
+  net_kept k less none =
+      ap (λ (s : SessionValue). s.net) (its_session k (omega (arith, less, sessions_count news)))
+      ∙ ap (λ made. net_made made net) none
+
+  -- with the bound 0 all do
+  pub all_standing : reach.bound ≡ 0 → AreStanding net (sessions_of news)
+  all_standing zero_bound = record {
+    nets = λ k less. net_kept k less (never_stops net reach k (slice_index_or news k no_desk).finds zero_bound
+        (its k (omega (arith, less, sessions_count news))));
+    closed = closed_all;
+  }
+
+  module _ (zero_desk : SessionValue) (s : Stretch) (net_is : zero_desk.net ≡ net) (closed : zero_desk.before ≡ None)
+      (bound : reach.bound ≡ index net) (stretch : IsStretch net reach.place reach.count reach.room s) where
+    -- nor has any where no move of the reach lowers the index
+    none_made_all : s.made ≡ None → (k : ℕ) → k < length news → (slice_index_or news k no_desk).finds.made ≡ None
     none_made_all none k less = by (slice_index_or news k no_desk).finds.made refl
       where
-        its : AreFinds (net_of olds) reach k (slice_index_or news k no_desk).finds
-        its = tried.found.each k (omega (arith, less, tried.len))
-
         by : (o : Option Made) → (slice_index_or news k no_desk).finds.made ≡ o → (slice_index_or news k no_desk).finds.made ≡ None
         by None is = is
         by (Some made) is =
             let number = k + (slice_index_or news k no_desk).finds.passed * reach.desks in
-            let higher = stretch.passes number (omega (arith, its.next made is, stretch.whole none)) in
-            let never = ap (λ b. made_at (net_of olds) b (place_at reach.place reach.count number)) bound
-            ∙ lowers_none (net_of olds) (place_at reach.place reach.count number) higher in
-            absurd (none-some made (sym never ∙ its.found made is))
+            let higher = stretch.passes number (omega (arith, (its k less).next made is, stretch.whole none)) in
+            let never = ap (λ b. made_at net b (place_at reach.place reach.count number)) bound
+            ∙ lowers_none net (place_at reach.place reach.count number) higher in
+            absurd (none-some made (sym never ∙ (its k less).found made is))
 
-    -- then all are as they were
-    pub reached_none : s.made ≡ None → HasReached reach (sessions_of olds) (sessions_of news) s
-    reached_none none =
-        let same = kept_all (none_made_all none) in
-        let z = desk_zero (sessions_of olds) in
+    stretch_zero : IsStretch zero_desk.net reach.place reach.count reach.room s
+    stretch_zero = subst (λ n. IsStretch n reach.place reach.count reach.room s) (sym net_is) stretch
+
+    -- then all stand for the network
+    pub reached_none : s.made ≡ None → HasReached reach zero_desk zero_desk (sessions_of news) s
+    reached_none none = record {
+      stretch = stretch_zero;
+      zero_is = (λ i. record { net = zero_desk.net; before = closed i; work = zero_desk.work })
+          ∙ ap (λ made. standing_for (net_made made zero_desk.net) zero_desk) (sym none);
+      zero_shape = refl;
+      same = λ _ k less. net_kept k less (none_made_all none k (omega (arith, less, sessions_count news))) ∙ sym net_is;
+      shapes = λ k less. shapes_all k less ∙ sym (ap shape_word net_is);
+      closed = closed_all;
+    }
+
+    -- else desk 0 has traded networks with the desk that has made the move
+    pub reached_some : (zero_new : SessionValue) (d y : Desk) → s.made ≢ None → MadeAt reach news s
+        → zero_new ≡ standing_for (slice_index_or news (s.passed % reach.desks) d).session.net zero_desk
+        → y.session ≡ standing_for zero_desk.net (slice_index_or news (s.passed % reach.desks) d).session
+        → (slice_index_or news (s.passed % reach.desks) d).session ≡ session_at (sessions_of news) (s.passed % reach.desks)
+        → HasReached reach zero_desk zero_new (sessions_of (slice_set news (s.passed % reach.desks) y)) s
+    reached_some zero_new d y some made_there zero_is y_is read =
+        let at = s.passed % reach.desks in
+        let its_net = ap (λ (t : SessionValue). t.net) (read ∙ its_session at made_there.inside)
+        ∙ (λ i. net_made (made_there.made i) (sym net_is i)) in
         record {
-          stretch = stretch;
-          zero = ap desk_zero same
-              ∙ (λ i. record { net = z.net; before = closed i; work = z.work })
-              ∙ ap (λ made. standing_for (net_made made z.net) z) (sym none);
-          same = λ _. same;
-          shapes = λ k less. ap (λ (ss : List SessionValue). shape_word (session_at ss k).net) same
-              ∙ ap shape_word (aligned.same k less);
-          others = subst OthersClosed (sym same) others;
-        }
-
-    -- each network has the shape of the one before
-    shapes_tried : (k : ℕ) → k < length (sessions_of news) → SameShape (session_at (sessions_of news) k).net (net_of olds)
-    shapes_tried k less = by (slice_index_or news k no_desk).finds.made refl
-      where
-        here : k < length olds
-        here = omega (arith, less, sessions_count news, tried.len)
-
-        its : AreFinds (net_of olds) reach k (slice_index_or news k no_desk).finds
-        its = tried.found.each k (omega (arith, here, tried.len))
-
-        is : shape_word (session_at (sessions_of news) k).net
-            ≡ shape_word (net_made (slice_index_or news k no_desk).finds.made (net_of olds))
-        is = ap (λ (t : SessionValue). shape_word t.net) (tried.each k here)
-
-        by : (o : Option Made) → (slice_index_or news k no_desk).finds.made ≡ o
-            → SameShape (session_at (sessions_of news) k).net (net_of olds)
-        by None none = is ∙ ap (λ made. shape_word (net_made made (net_of olds))) none
-        by (Some made) some =
-            is ∙ ap (λ o. shape_word (net_made o (net_of olds))) some
-            ∙ made_shape (net_of olds) reach.bound (turn_place reach k (slice_index_or news k no_desk).finds.passed) made
-            (its.found made some)
-
-    -- a desk has made the move that lowers the index, and has traded it to desk 0
-    pub reached_some : (ends : List Desk) → s.made ≢ None → MadeAt reach news s → 0 < length olds
-        → HasLed (s.passed % reach.desks) (sessions_of news) (sessions_of ends)
-        → HasReached reach (sessions_of olds) (sessions_of ends) s
-    reached_some ends some made_there any led =
-        let k = s.passed % reach.desks in
-        let here : k < length olds = omega (arith, made_there.inside, tried.len) in
-        let its_net = ap (λ (t : SessionValue). t.net) (tried.each k here)
-        ∙ ap (λ made. net_made made (net_of olds)) made_there.made in
-        record {
-          stretch = stretch;
-          zero = led.zero ∙ (λ i. standing_for (its_net i) (tried.each 0 any i));
+          stretch = stretch_zero;
+          zero_is = zero_is ∙ ap (λ n. standing_for n zero_desk) its_net;
+          zero_shape = ap (λ (t : SessionValue). shape_word t.net) zero_is
+              ∙ ap (λ (t : SessionValue). shape_word t.net) read ∙ shapes_all at (omega (arith, made_there.inside, sessions_count news)) ∙ sym (ap shape_word net_is);
           same = λ none. absurd (some none);
-          shapes = λ j less. led.shapes (net_of olds) shapes_tried j
-              (omega (arith, less, sessions_count news, sessions_count olds, tried.len));
-          others = led.others;
+          shapes = set_each (λ t. SameShape t.net zero_desk.net) news at y (ap (λ (t : SessionValue). shape_word t.net) y_is)
+              (λ k less. shapes_all k less ∙ sym (ap shape_word net_is));
+          closed = set_each (λ t. t.before ≡ None) news at y (ap (λ (t : SessionValue). t.before) y_is) closed_all;
         }

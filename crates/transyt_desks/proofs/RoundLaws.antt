@@ -1,6 +1,7 @@
 -- A round: a turn that is no end is a look, so the round is the turns of a stretch, and one more where a move lowers.
-use Rattle.std.proofs.Common.{◌≡◌, ℕ, ◌+◌, ◌*◌, ◌<◌, Bool, true, false, Some, None, List, length, slice_set, refl, ap, sym, ◌∙◌, subst, arith}
+use Rattle.std.proofs.Common.{◌≤◌, ◌≡◌, ℕ, ◌+◌, ◌*◌, ◌<◌, Bool, true, false, nat_lt, Some, None, List, length, slice_set, refl, ap, sym, ◌∙◌, subst, arith}
 use Rattle.std.proofs.Common.{if◌then◌else◌}
+use Rattle.std.proofs.lemmas.Bool.Decides.{nat_tests}
 use Rattle.std.proofs.lemmas.List.{length-set}
 use Rattle.transyt_net.specs.Edits.{with_edit}
 use Rattle.transyt_net.specs.Parts.{SameShape}
@@ -183,3 +184,11 @@ module _ (desks count : ℕ) (c : Counters) (told : Bool) (is : count ≡ desks)
   -- and there are several
   pub never_one : told ≡ false → desks ≡ 1 → ⊥
   never_one others one = (let never : true ≡ false = ap (λ n. goes_alone n c) (sym one) ∙ answer ∙ others in cc)
+
+  pub several_desks : told ≡ false → 0 < desks → 1 < desks
+  several_desks others some = decide (nat_lt 1 desks) refl
+    where
+      decide : (b : Bool) → nat_lt 1 desks ≡ b → 1 < desks
+      decide true more = grind (arith, nat_tests, more)
+      decide false few =
+          let at_most : desks ≤ 1 = grind (arith, nat_tests, few) in absurd (never_one others (omega (arith, at_most, some)))

@@ -1,9 +1,8 @@
--- Desks cut in two: what holds of all holds of each part, and of all again with another desk in place of a last one.
-use Rattle.std.proofs.Common.{◌≡◌, ℕ, ◌<◌, List, [], ◌∷◌, ◌++◌, length, slice_index_or, slice_set}
-use Rattle.std.proofs.Common.{length-append, ap, sym, ◌∙◌, subst, arith}
+-- Desks cut in two: what holds of all holds of each part.
+use Rattle.std.proofs.Common.{◌≡◌, ℕ, ◌<◌, List, [], ◌∷◌, ◌++◌, length, slice_index_or}
+use Rattle.std.proofs.Common.{length-append, ap, ◌∙◌, subst, arith}
 use Rattle.std.proofs.lemmas.List.{get_or_append_left}
 use Rattle.std.proofs.Math.Seq.{get_or-append_seam}
-use borrow.Author.Count.{below_more}
 use Rattle.transyt_desks.specs.declared.desk.Desk.{Desk}
 
 module _ (P : Desk → Type 0) where
@@ -23,14 +22,3 @@ module _ (P : Desk → Type 0) where
   all_last desks front (b ∷ bs) is all some d =
       subst P (ap (λ (ds : List Desk). slice_index_or ds (length front) d) is ∙ get_or-append_seam front b bs d)
       (all (length front) d (omega (arith, length-append front (b ∷ bs), ap (λ (ds : List Desk). length ds) is)))
-
-  -- of all, with a desk in place of the last
-  pub all_more : (front back : List Desk) (y : Desk) → length back ≡ 1
-      → ((k : ℕ) (d : Desk) → k < length front → P (slice_index_or front k d)) → P y
-      → (k : ℕ) (d : Desk) → k < length (front ++ slice_set back 0 y) → P (slice_index_or (front ++ slice_set back 0 y) k d)
-  all_more front [] y one all last k d less = absurd (omega (arith, one))
-  all_more front (b ∷ c ∷ more) y one all last k d less = absurd (omega (arith, one))
-  all_more front (b ∷ []) y one all last k d less =
-      below_more (λ k. (d : Desk) → P (slice_index_or (front ++ y ∷ []) k d)) (length front)
-      (λ k fewer d. subst P (sym (get_or_append_left front (y ∷ []) d k fewer)) (all k d fewer))
-      (λ d. subst P (sym (get_or-append_seam front y [] d)) last) k (omega (arith, less, length-append front (y ∷ []))) d

@@ -1,8 +1,8 @@
 -- Desks: sessions that try candidates for one climb, desk 0 first.
-use Rattle.std.specs.Prelude.{◌≡◌, ℕ, ◌-◌, ◌<◌, ◌≤◌, List, [], ◌∷◌, map, length, take, None, replicate}
+use Rattle.std.specs.Prelude.{◌≡◌, ◌≢◌, ℕ, ◌-◌, ◌<◌, ◌≤◌, List, [], ◌∷◌, map, length, drop, None, replicate}
 use Rattle.std.specs.Prelude.{slice_index_or, slice_set}
 use Rattle.transyt_parts.specs.declared.frame.Frame.{Frame}
-use Rattle.transyt_net.specs.Parts.{Network, network_of, SameShape}
+use Rattle.transyt_net.specs.Parts.{network_of, SameShape}
 use Rattle.transyt_session.specs.declared.answers.Tried.TheVariants.{Barred}
 use Rattle.transyt_session.specs.Session.{SessionValue, opened}
 use Rattle.transyt_desks.specs.declared.desk.Desk.{Desk}
@@ -37,31 +37,23 @@ pub record AreAligned (sessions : List SessionValue) : Type 0 where
 pub record AreAlike (sessions : List SessionValue) : Type 0 where
   pub shape : (k : ℕ) → k < length sessions → SameShape (session_at sessions k).net (desk_zero sessions).net
 
--- no trial is open at any desk but desk 0
-pub record OthersClosed (sessions : List SessionValue) : Type 0 where
-  pub closed : (k : ℕ) → 0 < k → k < length sessions → (session_at sessions k).before ≡ None
+-- the invariant of desks, of desk 0 and of those who try beside it, the crew: the others of the desks, and one session more
+-- before them. With one desk there is no crew. None of the crew has a trial, their networks have one shape, and the first of
+-- them, as many as are known to follow, stand for the network of desk 0. No public clause cites it.
+pub record AreDesks (zero : SessionValue) (crew : List SessionValue) (following : ℕ) : Type 0 where
+  pub few : length crew ≤ 8
+  pub several : length crew ≢ 1
+  pub closed : (k : ℕ) → k < length crew → (session_at crew k).before ≡ None
+  pub shapes : (k : ℕ) → k < length crew → SameShape (session_at crew k).net (session_at crew 1).net
+  pub known : (k : ℕ) → k < following → k < length crew → (session_at crew k).net ≡ zero.net
 
--- the invariant of desks: one to eight of them, no trial at any but desk 0, and one network for the first of them, as many
--- as are known to follow. No public clause cites it.
-pub record AreDesks (sessions : List SessionValue) (following : ℕ) : Type 0 where
-  pub some : 0 < length sessions
-  pub few : length sessions ≤ 8
-  pub others : OthersClosed sessions
-  pub aligned : AreAligned (take following sessions)
+-- desks by desk 0 and their crew
+abbrev pub desks_of : SessionValue → List SessionValue → List SessionValue
+desks_of zero crew = zero ∷ drop 1 crew
 
 -- the sessions of desks
 abbrev pub sessions_of : List Desk → List SessionValue
 sessions_of desks = map (λ d. d.session) desks
-
--- a session that can stand for a network: its own has the same shape, and it has no trial. No public clause cites it.
-pub record CanStand (zero : Network) (session : SessionValue) : Type 0 where
-  pub shape : SameShape session.net zero
-  pub closed : session.before ≡ None
-
--- a session that stands for a network, without a trial. No public clause cites it.
-pub record Stands (zero : Network) (session : SessionValue) : Type 0 where
-  pub net : session.net ≡ zero
-  pub closed : session.before ≡ None
 
 -- a new desk with a session
 abbrev pub new_desk : SessionValue → Desk

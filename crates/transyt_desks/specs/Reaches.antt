@@ -1,48 +1,34 @@
--- Desks that can try the moves of a reach. No public clause cites it.
-use Rattle.std.specs.Prelude.{◌≡◌, ℕ, ◌+◌, ◌*◌, ◌<◌, ◌≤◌, List, length, None}
+-- Desks that can try the moves of a reach, and what they come to. No public clause cites it.
+use Rattle.std.specs.Prelude.{◌≡◌, ℕ, ◌<◌, Bool, true, List, length, None}
 use Rattle.transyt_net.specs.Parts.{Network, SameShape}
-use Rattle.transyt_moves.specs.Moves.{move_count}
 use Rattle.transyt_session.specs.Session.{SessionValue, standing_for}
-use Rattle.transyt_desks.specs.declared.desk.Desk.{Desk}
 use Rattle.transyt_desks.specs.declared.reach.Reach.{Reach}
 use Rattle.transyt_desks.specs.declared.stretch.Stretch.{Stretch}
-use Rattle.transyt_desks.specs.Desks.{desk_zero, session_at, AreAligned, OthersClosed}
+use Rattle.transyt_desks.specs.Desks.{session_at}
 use Rattle.transyt_desks.specs.Stretches.{net_made, IsStretch}
 
--- a desk that can try the moves of a reach: they are those of its network, and it has no trial
-pub record CanFind (reach : Reach) (desk : Desk) : Type 0 where
-  pub moves : move_count desk.session.net ≡ reach.count
-  pub closed : desk.session.before ≡ None
+-- a session that can come to a network: its own has the same shape, and it has no trial; where it is known to, it stands for
+-- it already
+pub record CanFollow (net : Network) (known : Bool) (session : SessionValue) : Type 0 where
+  pub shape : SameShape session.net net
+  pub closed : session.before ≡ None
+  pub known_is : known ≡ true → session.net ≡ net
 
--- desks that can try them together: as many as the reach names, on one network, and desk 0 has no trial
-pub record CanReach (reach : Reach) (sessions : List SessionValue) : Type 0 where
-  pub desks : reach.desks ≡ length sessions
-  pub aligned : AreAligned sessions
-  pub moves : reach.count ≡ move_count (desk_zero sessions).net
-  pub closed : (desk_zero sessions).before ≡ None
+-- the sessions of a crew that can
+abbrev pub CanAllFollow : Network → Bool → List SessionValue → Type 0
+CanAllFollow net known crew = (k : ℕ) → k < length crew → CanFollow net known (session_at crew k)
 
--- desks that can try so many moves from a place on together: one to eight on one network, and desk 0 has no trial
-pub record CanTry (from room : ℕ) (sessions : List SessionValue) : Type 0 where
-  pub some : 0 < room
-  pub many : length sessions ≤ 8
-  pub few : room ≤ 32 * length sessions
-  pub aligned : AreAligned sessions
-  pub places : from + room ≤ move_count (desk_zero sessions).net
-  pub closed : (desk_zero sessions).before ≡ None
+-- a crew that has tried the moves of a reach as a stretch, with the session of desk 0, before and after: that has made the
+-- move that lowers the index, if one does, and else all stand for its network
+pub record HasReached (reach : Reach) (zero zero_new : SessionValue) (news : List SessionValue) (s : Stretch) : Type 0 where
+  pub stretch : IsStretch zero.net reach.place reach.count reach.room s
+  pub zero_is : zero_new ≡ standing_for (net_made s.made zero.net) zero
+  pub zero_shape : SameShape zero_new.net zero.net
+  pub same : s.made ≡ None → (k : ℕ) → k < length news → (session_at news k).net ≡ zero.net
+  pub shapes : (k : ℕ) → k < length news → SameShape (session_at news k).net zero.net
+  pub closed : (k : ℕ) → k < length news → (session_at news k).before ≡ None
 
--- desks of which desk 0 has traded networks with one, before and after: all networks still have the shape that all had
-pub record HasLed (desk : ℕ) (olds news : List SessionValue) : Type 0 where
-  pub len : length news ≡ length olds
-  pub zero : desk_zero news ≡ standing_for (session_at olds desk).net (desk_zero olds)
-  pub shapes : (net : Network) → ((k : ℕ) → k < length olds → SameShape (session_at olds k).net net)
-      → (k : ℕ) → k < length olds → SameShape (session_at news k).net net
-  pub others : OthersClosed news
-
--- desks that have tried the moves of a reach as a stretch, before and after: desk 0 has made the move that lowers the
--- index, if one does, and else all are as they were
-pub record HasReached (reach : Reach) (olds news : List SessionValue) (s : Stretch) : Type 0 where
-  pub stretch : IsStretch (desk_zero olds).net reach.place reach.count reach.room s
-  pub zero : desk_zero news ≡ standing_for (net_made s.made (desk_zero olds).net) (desk_zero olds)
-  pub same : s.made ≡ None → news ≡ olds
-  pub shapes : (k : ℕ) → k < length olds → SameShape (session_at news k).net (desk_zero olds).net
-  pub others : OthersClosed news
+-- a crew that stands for a network, without a trial
+pub record AreStanding (net : Network) (crew : List SessionValue) : Type 0 where
+  pub nets : (k : ℕ) → k < length crew → (session_at crew k).net ≡ net
+  pub closed : (k : ℕ) → k < length crew → (session_at crew k).before ≡ None

@@ -16,7 +16,7 @@ use Rattle.transyt_desks.specs.declared.finds.Finds.{Finds}
 use Rattle.transyt_desks.specs.declared.finds.Made.{Made}
 use Rattle.transyt_desks.specs.declared.reach.Reach.{Reach}
 use Rattle.transyt_desks.specs.declared.stretch.Stretch.{Stretch}
-use Rattle.transyt_desks.specs.Desks.{no_desk, session_at, sessions_of}
+use Rattle.transyt_desks.specs.Desks.{no_desk}
 
 -- the place of the move with a number, from a place on, round the list
 abbrev pub place_at : ℕ → ℕ → ℕ → ℕ
@@ -86,29 +86,20 @@ pub record AreFinds (net : Network) (reach : Reach) (desk : ℕ) (finds : Finds)
   pub small : (made : Made) → finds.made ≡ Some made → made.work ≤ 8000
   pub whole : finds.made ≡ None → (turn : ℕ) → desk + turn * reach.desks < reach.room → turn < finds.passed
 
--- a desk that has tried its moves of a reach, before and after. No public clause cites it.
-pub record HasFound (reach : Reach) (desk : ℕ) (before after : Desk) : Type 0 where
-  pub session : after.session ≡ standing_for (net_made after.finds.made before.session.net) before.session
-  pub finds : AreFinds before.session.net reach desk after.finds
+-- a desk that has come to a network and has tried its moves of a reach on it, before and after. No public clause cites it.
+pub record HasFound (net : Network) (reach : Reach) (desk : ℕ) (before after : Desk) : Type 0 where
+  pub session : after.session ≡ standing_for (net_made after.finds.made net) before.session
+  pub finds : AreFinds net reach desk after.finds
 
--- desks that have each tried their moves of a reach, before and after. No public clause cites it.
-pub record HaveFound (reach : Reach) (olds news : List Desk) : Type 0 where
+-- desks that have each done so, before and after. No public clause cites it.
+pub record HaveFound (net : Network) (reach : Reach) (olds news : List Desk) : Type 0 where
   pub len : length news ≡ length olds
-  pub each : (k : ℕ) (d : Desk) → k < length olds → HasFound reach k (slice_index_or olds k d) (slice_index_or news k d)
+  pub each : (k : ℕ) (d : Desk) → k < length olds → HasFound net reach k (slice_index_or olds k d) (slice_index_or news k d)
 
 -- desks that have each tried their moves of a reach on this network
 pub record AreFound (net : Network) (reach : Reach) (desks : List Desk) : Type 0 where
   pub count : reach.desks ≡ length desks
   pub each : (k : ℕ) → k < length desks → AreFinds net reach k (slice_index_or desks k no_desk).finds
-
--- desks that have each tried their moves of a reach on this network, before and after: each stands for it still, or for the
--- one that its own move made of it
-pub record HaveTried (net : Network) (reach : Reach) (olds news : List Desk) : Type 0 where
-  pub len : length news ≡ length olds
-  pub found : AreFound net reach news
-  pub each : (k : ℕ) → k < length olds
-      → session_at (sessions_of news) k
-      ≡ standing_for (net_made (slice_index_or news k no_desk).finds.made net) (session_at (sessions_of olds) k)
 
 -- the desk whose turn it was has made the move that ends a stretch
 pub record MadeAt (reach : Reach) (desks : List Desk) (s : Stretch) : Type 0 where

@@ -1,30 +1,29 @@
 //! The desks, and their rounds.
 
-ghost use Rattle.std.specs.Prelude.{◌≡◌, ℕ, ◌+◌, ◌*◌, ◌^◌, ◌<◌, ◌≤◌, ◌↔◌, [], ◌∷◌, ◌++◌, length, take, None, true, false, IfOk, OnOk, IsTrue};
+ghost use Rattle.std.specs.Prelude.{◌≡◌, ◌≢◌, ℕ, ◌+◌, ◌*◌, ◌^◌, ◌<◌, ◌≤◌, ◌↔◌, length, max, replicate, None, IfOk, IsTrue, ◌==◌, if◌then◌else◌};
 ghost use Rattle.std.specs.Borrow.{sem};
 ghost use Rattle.transyt_climb.specs.Turns.{machine};
-ghost use Rattle.transyt_desks.specs.Desks.{desk_zero, new_desk, opened_desks, AreAligned, AreAlike};
+ghost use Rattle.transyt_desks.specs.Desks.{desk_zero, opened_desks, sessions_of, with_zero, AreAligned, AreAlike};
 ghost use Rattle.transyt_desks.specs.Lends.{LendsZero};
 ghost use Rattle.transyt_desks.specs.Stretches.{AreTriesOf, IsStretch, net_made};
-ghost use Rattle.transyt_desks.specs.Reaches.{CanReach};
 ghost use Rattle.transyt_moves.specs.Moves.{move_count};
-ghost use Rattle.transyt_session.specs.Session.{SessionValue, standing_for};
+ghost use Rattle.transyt_session.specs.Session.{opened, standing_for};
 ghost use Rattle.transyt_sweep.specs.Sweeps.{index};
-ghost use Rattle.transyt_desks.specs.Rounds.{places_of, CanRound, MakesRound};
+ghost use Rattle.transyt_desks.specs.Rounds.{places_of, room_of, CanRound, MakesRound};
 
-use crate::crew::Crew;
-use crate::desk::{Desk, all_same, follow_zero};
-use crate::finding::{find_some, find_stretch};
-use crate::finds::Finds;
+use crate::desk::{Desk, all_stand};
+use crate::finding::{find_alone, find_first, find_some, stand_all};
 use crate::gate::Gate;
+use crate::means::Means;
 use crate::policy::{goes_alone, share};
 use crate::reach::Reach;
 use crate::rounds::{alone, together};
 use crate::share::Share;
 use crate::stretch::Stretch;
-use crate::turns::Round;
+use crate::turns::{Round, make_turns};
 use std::alloc::{AllocError, Global};
 use std::marker::Model;
+use std::snapshot::Snapshot;
 use std::sync::ledger::Ledger;
 use std::thread::Threads;
 use transyt_climb::Climber;
@@ -33,8 +32,12 @@ use transyt_steps::Steps;
 
 /// One to eight desks. Desk 0's session is the one that counts; the others follow it.
 pub struct Desks {
-    desks: Vec<Desk>,
-    /// How many of the first desks are known to stand for the network of desk 0.
+    /// The session of desk 0.
+    zero: Session,
+    /// Who tries while desk 0 is read: a session more, which no clause sees, and the other desks. None where there is no
+    /// other.
+    crew: Vec<Desk>,
+    /// How many of the first of the crew are known to stand for the network of desk 0.
     following: usize,
 }
 
@@ -42,7 +45,8 @@ impl Drop for Desks {
     // Written out: a derived one is proved again in each crate that lets a value go.
     fn drop(self) {
         let Desks {
-            desks: _,
+            zero: _,
+            crew: _,
             following: _,
         } = self;
     }
@@ -51,13 +55,13 @@ impl Drop for Desks {
 impl Model for Desks {
     ghost use Rattle.std.specs.Prelude.{List};
     ghost use Rattle.transyt_session.specs.Session.{SessionValue};
-    ghost use Rattle.transyt_desks.specs.Desks.{sessions_of, AreDesks};
+    ghost use Rattle.transyt_desks.specs.Desks.{desks_of, sessions_of, AreDesks};
 
     ghost Value = { List SessionValue };
 
-    ghost view = { λ d. sessions_of d.desks.items };
+    ghost view = { λ d. desks_of d.zero (sessions_of d.crew.items) };
 
-    ghost invariant = { λ d. AreDesks (sessions_of d.desks.items) d.following };
+    ghost invariant = { λ d. AreDesks d.zero (sessions_of d.crew.items) d.following };
 }
 
 impl Desks {
@@ -69,14 +73,13 @@ impl Desks {
         requires closed { session.before ≡ None }
         ensures { IfOk result (λ desks. desks ≡ opened_desks session workers) }
     {
-        let mut desks = Vec::new(alloc);
-        add_desk(&mut desks, session)?;
-        for made in 1..workers {
-            let twin = desks[0].session.twin(alloc)?;
-            add_desk(&mut desks, twin)?;
-        }
+        let Ok(crew) = open_crew(alloc, &session, crew_size(workers)) else {
+            drop(session);
+            return Err(AllocError);
+        };
         Ok(Desks {
-            desks,
+            zero: session,
+            crew,
             following: 0,
         })
     }
@@ -85,7 +88,7 @@ impl Desks {
     pub fn session(&self) -> &Session
         ensures { result.now ≡ desk_zero self.now }
     {
-        &self.desks[0].session
+        &self.zero
     }
 
     /// The session of desk 0, to be changed. The other desks stay as they are.
@@ -94,8 +97,7 @@ impl Desks {
         ensures value { result.now ≡ desk_zero self.old }
     {
         self.following = 0;
-        let desk = &mut self.desks[0];
-        &mut desk.session
+        &mut self.zero
     }
 
     /// How many desks there are.
@@ -104,35 +106,7 @@ impl Desks {
         ensures some { 0 < result }
         ensures few { result ≤ 8 }
     {
-        self.desks.len()
-    }
-
-    /// Notes that the first desks, so many, stand for the network of desk 0.
-    #[tactic(auto, using(crate::proofs::DeskLaws::desks_known))]
-    pub(crate) fn note_aligned(&mut self, count: usize)
-        requires aligned { AreAligned (take count self.old) }
-        ensures { self.new ≡ self.old }
-    {
-        self.following = count;
-    }
-
-    /// Lets the first desks, so many, stand for the network of desk 0. Networks are compared only after desk 0 was lent,
-    /// and where more desks follow than before.
-    fn follow<R: Threads + Sync>(&mut self, rt: &R, count: usize)
-        requires some { 0 < count }
-        requires within { count ≤ length self.old }
-        requires shape { AreAlike self.old }
-        ensures aligned { AreAligned (take count self.new) }
-        ensures alike { AreAlike self.new }
-        ensures zero { desk_zero self.new ≡ desk_zero self.old }
-        ensures workers { length self.new ≡ length self.old }
-    {
-        if count <= self.following {
-            return;
-        }
-        let (front, _) = self.desks.as_mut_slice().split_at_mut(count);
-        follow_zero(rt, front);
-        self.following = count;
+        self.crew.len().max(1)
     }
 
     /// Lets every other desk stand for the network of desk 0.
@@ -142,8 +116,12 @@ impl Desks {
         ensures zero { desk_zero self.new ≡ desk_zero self.old }
         ensures workers { length self.new ≡ length self.old }
     {
-        let count = self.count();
-        self.follow(rt, count);
+        let count = self.crew.len();
+        if count <= self.following {
+            return;
+        }
+        stand_all(rt, self.crew.as_mut_slice(), &self.zero);
+        self.following = count;
     }
 
     /// Lets every other desk stand for the network of desk 0. It takes no memory, and does nothing with one desk.
@@ -161,7 +139,11 @@ impl Desks {
     pub fn aligned(&self) -> bool
         ensures { IsTrue result ↔ AreAligned self.now }
     {
-        all_same(&self.desks)
+        if self.crew.is_empty() {
+            return true;
+        }
+        let (_, others) = self.crew.as_slice().split_at(1);
+        all_stand(others, self.zero.net())
     }
 
     /// Tries consecutive moves of the list from a place on, all desks at once, and writes the find of each: at most 32
@@ -187,53 +169,67 @@ impl Desks {
         ensures alike { AreAlike self.new }
         ensures workers { length self.new ≡ length self.old }
     {
-        self.follow_all(rt);
-        if !tries.is_empty() {
-            self.try_some(&Crew { rt, gate }, from, tries);
+        if self.crew.is_empty() {
+            gate.enter(0);
+            find_alone(&mut self.zero, from, tries);
+            gate.leave(0);
+            return;
         }
+        let means = Means { rt, gate };
+        find_some(&means, self.crew.as_mut_slice(), &self.zero, from, tries);
+        self.following = self.crew.len();
     }
 
-    /// Tries consecutive moves from a place on, at least one, at desks that stand for one network.
-    fn try_some<R: Threads + Sync, G: Gate>(
-        &mut self,
-        crew: &Crew<'_, R, G>,
-        from: u32,
-        tries: &mut [Tried],
-    )
-        requires some { 0 < length tries.old }
-        requires aligned { AreAligned self.old }
-        requires closed { (desk_zero self.old).before ≡ None }
-        requires places { from + length tries.old ≤ move_count (desk_zero self.old).net }
-        requires few { length tries.old ≤ 32 * length self.old }
-        ensures tried { AreTriesOf (desk_zero self.old).net from (length tries.old) tries.new }
-        ensures len { length tries.new ≡ length tries.old }
-        ensures same { self.new ≡ self.old }
-    {
-        find_some(crew, self.desks.as_mut_slice(), from, tries);
-    }
-
-    /// Tries the moves of a reach at its desks, which stand for one network, all at once, and gives them as a stretch, up
-    /// to the first that lowers the index. Desk 0 stands for the network with that move made then, with its work as it
-    /// was.
+    /// Tries the moves of a reach at as many of the desks as it names, all at once, and gives them as a stretch, up to the
+    /// first that lowers the index. Desk 0 stands for the network with that move made then, with its work as it was.
     pub(crate) fn try_reach<R: Threads + Sync, G: Gate>(
         &mut self,
-        crew: &Crew<'_, R, G>,
+        means: &Means<'_, R, G>,
         reach: Reach,
     ) -> Stretch
+        requires several { 1 < length self.old }
         requires within { reach.desks ≤ length self.old }
-        requires ready { CanReach reach (take reach.desks self.old) }
+        requires alike { AreAlike self.old }
+        requires closed { (desk_zero self.old).before ≡ None }
+        requires count { reach.count ≡ move_count (desk_zero self.old).net }
         requires bound { reach.bound ≡ index (desk_zero self.old).net }
         ensures tried { IsStretch (desk_zero self.old).net
             reach.place reach.count reach.room result }
         ensures zero { desk_zero self.new
             ≡ standing_for (net_made result.made (desk_zero self.old).net) (desk_zero self.old) }
-        ensures same { result.made ≡ None → self.new ≡ self.old }
-        ensures alike { AreAlike self.old → AreAlike self.new }
+        ensures alike { AreAlike self.new }
         ensures workers { length self.new ≡ length self.old }
     {
-        self.following = 0;
-        let (front, _) = self.desks.as_mut_slice().split_at_mut(reach.desks as usize);
-        find_stretch(crew, front, reach)
+        let count = reach.desks as usize;
+        let reach = reach.with_known(count <= self.following);
+        let tried = find_first(means, &mut self.zero, self.crew.as_mut_slice(), reach);
+        self.following = known_after(tried, count, self.following);
+        tried
+    }
+
+    /// The turns of a round at desk 0, as `make_turns` makes them.
+    pub(crate) fn make_turns(
+        &mut self,
+        climber: &mut Climber,
+        tried: Stretch,
+        places: u32,
+        before: &Snapshot<Session>,
+    ) -> Round
+        requires ready { CanRound climber.old before.now.value }
+        requires some { 0 < places }
+        requires place { climber.old.place < climber.old.count }
+        requires since { climber.old.since < climber.old.count }
+        requires looked { climber.old.looked < climber.old.budget }
+        requires tried { IsStretch before.now.value.net climber.old.place climber.old.count
+            (room_of places climber.old) tried }
+        requires session { desk_zero self.old
+            ≡ standing_for (net_made tried.made before.now.value.net) before.now.value }
+        ensures made { MakesRound places (machine climber.old before.now.value)
+            (machine climber.new (desk_zero self.new)) result }
+        ensures net { (desk_zero self.new).net ≡ (desk_zero self.old).net }
+        ensures others { self.new ≡ with_zero self.old (desk_zero self.new) }
+    {
+        make_turns(climber, &mut self.zero, tried, places, before)
     }
 
     /// A round: the next moves of the list are tried at once, one at each desk, and the first of them that lowers the
@@ -265,7 +261,7 @@ impl Desks {
             desks: self.count(),
             each: 1,
         };
-        let round = together(&Crew { rt, gate }, self, share, climber, steps);
+        let round = together(&Means { rt, gate }, self, share, climber, steps);
         self.follow_all(rt);
         round
     }
@@ -298,19 +294,43 @@ impl Desks {
             return alone(gate, self, climber, steps);
         }
         let share = share(self.count(), climber);
-        self.follow(rt, share.desks);
-        together(&Crew { rt, gate }, self, share, climber, steps)
+        together(&Means { rt, gate }, self, share, climber, steps)
     }
 }
 
-/// Adds a desk with this session.
-fn add_desk(desks: &mut Vec<Desk>, session: Session) -> Result<(), AllocError>
-    ensures { OnOk result (desks.new.items ≡ desks.old.items ++ new_desk session ∷ []) }
+/// How many of a crew are known to stand for the network of desk 0 after a stretch by so many: with a step none, and else
+/// these and those that were.
+fn known_after(tried: Stretch, count: usize, following: usize) -> usize
+    ensures none { tried.made ≡ None → result ≡ max count following }
+    ensures some { tried.made ≢ None → result ≡ 0 }
 {
-    let desk = Desk {
-        session,
-        finds: Finds::none(),
-    };
-    desks.push(desk)?;
-    Ok(())
+    match tried.made {
+        None => count.max(following),
+        Some(_) => 0,
+    }
+}
+
+/// How many try beside desk 0 with so many workers: none with one, and else one more than there are other desks.
+fn crew_size(workers: u32) -> u32
+    ensures { result ≡ (if workers == 1 then 0 else workers) }
+{
+    match workers {
+        1 => 0,
+        _ => workers,
+    }
+}
+
+/// So many twins of a session, each at a desk.
+fn open_crew(alloc: Global, session: &Session, count: u32) -> Result<Vec<Desk>, AllocError>
+    requires few { count ≤ 8 }
+    requires closed { session.now.before ≡ None }
+    ensures { IfOk result
+        (λ crew. sessions_of crew.items ≡ replicate count (opened session.now.net)) }
+{
+    let mut crew = Vec::new(alloc);
+    for made in 0..count {
+        let twin = session.twin(alloc)?;
+        crew.push(Desk::new(twin))?;
+    }
+    Ok(crew)
 }

@@ -1,19 +1,19 @@
 //! Moves of the list, all tried at once.
 
 ghost use Rattle.std.specs.Thread.{IsSync};
-ghost use Rattle.std.specs.Prelude.{◌≡◌, ◌≢◌, ℕ, ◌+◌, ◌*◌, ◌^◌, ◌<◌, ◌≤◌, length, None, All};
+ghost use Rattle.std.specs.Prelude.{◌≡◌, ◌≢◌, ℕ, ◌+◌, ◌*◌, ◌^◌, ◌<◌, ◌≤◌, length, take, drop, None, All, false};
 ghost use Rattle.transyt_moves.specs.Moves.{move, move_count};
 ghost use Rattle.transyt_sweep.specs.Sweeps.{index};
 ghost use Rattle.transyt_track.specs.Due.{edit_work};
 ghost use Rattle.transyt_session.specs.Session.{standing_for, try_of};
-ghost use Rattle.transyt_desks.specs.Desks.{OthersClosed, desk_zero, sessions_of};
-ghost use Rattle.transyt_desks.specs.Stretches.{AreFinds, AreFound, AreTriesOf, HasFound, HaveFound, HaveTried, IsStretch, MadeAt, net_made};
-ghost use Rattle.transyt_desks.specs.Reaches.{CanFind, CanReach, CanTry, HasLed, HasReached};
+ghost use Rattle.transyt_desks.specs.Desks.{sessions_of};
+ghost use Rattle.transyt_desks.specs.Stretches.{AreFinds, AreFound, AreTriesOf, HasFound, HaveFound, IsStretch, MadeAt, net_made};
+ghost use Rattle.transyt_desks.specs.Reaches.{AreStanding, CanAllFollow, CanFollow, HasReached};
 
-use crate::crew::Crew;
-use crate::desk::Desk;
+use crate::desk::{Desk, follow};
 use crate::finds::Finds;
-use crate::gate::Gate;
+use crate::gate::{Gate, OpenGate};
+use crate::means::Means;
 use crate::reach::Reach;
 use crate::stretch::{Stretch, pass, place_of, try_at};
 use std::snapshot::Snapshot;
@@ -48,27 +48,35 @@ fn find(session: &mut Session, reach: Reach, desk: u32) -> Finds
     finds
 }
 
-/// Tries a desk's moves of a reach, between entering and leaving the gate.
-fn find_at_gate<G: Gate>(gate: &G, desk: &mut Desk, number: usize, reach: Reach)
+/// Lets a desk come to the network of desk 0, and try its moves of a reach between entering and leaving the gate.
+fn find_at_gate<G: Gate>(gate: &G, desk: &mut Desk, number: usize, zero: &Session, reach: Reach)
     requires number { number < 8 }
-    requires ready { CanFind reach desk.old }
-    ensures { HasFound reach number desk.old desk.new }
+    requires count { reach.count ≡ move_count zero.now.net }
+    requires ready { CanFollow zero.now.net reach.known desk.old.session }
+    ensures { HasFound zero.now.net reach number desk.old desk.new }
 {
+    follow(&mut desk.session, zero, reach.known);
     gate.enter(number as u32);
     desk.finds = find(&mut desk.session, reach, number as u32);
     gate.leave(number as u32);
 }
 
-/// Tries the moves of a reach, which come to the desks in turn, all at once: those of desk 0 in this thread, those of
-/// each other desk in a new one.
+/// Lets all desks of a crew come to the network of desk 0 and try the moves of a reach, which come to them in turn, at
+/// once: the first in this thread, each other in a new one.
 ///
 /// This thread makes all the others before it tries a move itself: a thread that is made by one which then works on
 /// mostly gets the same processor, and waits there until the other is done.
 #[cycle(forks)]
-fn find_all<R: Threads + Sync, G: Gate>(crew: &Crew<'_, R, G>, desks: &mut [Desk], reach: Reach)
+fn find_all<R: Threads + Sync, G: Gate>(
+    means: &Means<'_, R, G>,
+    desks: &mut [Desk],
+    zero: &Session,
+    reach: Reach,
+)
     requires few { length desks.old ≤ 8 }
-    requires ready { All (λ d. CanFind reach d) desks.old }
-    ensures { HaveFound reach desks.old desks.new }
+    requires count { reach.count ≡ move_count zero.now.net }
+    requires ready { All (λ d. CanFollow zero.now.net reach.known d.session) desks.old }
+    ensures { HaveFound zero.now.net reach desks.old desks.new }
 {
     if desks.is_empty() {
         return;
@@ -76,46 +84,64 @@ fn find_all<R: Threads + Sync, G: Gate>(crew: &Crew<'_, R, G>, desks: &mut [Desk
     let number = desks.len() - 1;
     let (front, last) = desks.split_at_mut(number);
     if front.is_empty() {
-        find_at_gate(crew.gate, &mut last[0], 0, reach);
+        find_at_gate(means.gate, &mut last[0], 0, zero, reach);
     } else {
-        find_both(crew, front, &mut last[0], reach);
+        find_both(means, front, &mut last[0], zero, reach);
     }
 }
 
-/// Tries the moves of the last desk in a new thread, and those of the desks before it from this thread.
+/// Does so with the last desk in a new thread, and with the desks before it from this thread.
 #[cycle(forks)]
 fn find_both<R: Threads + Sync, G: Gate>(
-    crew: &Crew<'_, R, G>,
+    means: &Means<'_, R, G>,
     front: &mut [Desk],
     last: &mut Desk,
+    zero: &Session,
     reach: Reach,
 )
     requires few { length front.old < 8 }
-    requires ready { All (λ d. CanFind reach d) front.old }
-    requires last_ready { CanFind reach last.old }
-    ensures front { HaveFound reach front.old front.new }
-    ensures last { HasFound reach (length front.old) last.old last.new }
+    requires count { reach.count ≡ move_count zero.now.net }
+    requires ready { All (λ d. CanFollow zero.now.net reach.known d.session) front.old }
+    requires last_ready { CanFollow zero.now.net reach.known last.old.session }
+    ensures front { HaveFound zero.now.net reach front.old front.new }
+    ensures last { HasFound zero.now.net reach (length front.old) last.old last.new }
 {
     let number = front.len();
     let mut there = ||
-        requires { IsSync G.row × (number < 8) × CanFind reach last.now }
-        ensures { HasFound reach number last.entry.now last.exit.now }
-    { find_at_gate(crew.gate, last, number, reach) };
+        requires { IsSync G.row × (number < 8) × (reach.count ≡ move_count zero.now.net)
+            × CanFollow zero.now.net reach.known last.now.session }
+        ensures { HasFound zero.entry.now.net reach number last.entry.now last.exit.now }
+    { find_at_gate(means.gate, last, number, zero, reach) };
     let mut here = ||
         requires { IsSync R.row × IsSync G.row × (length front.now ≤ 8)
-            × All (λ d. CanFind reach d) front.now }
-        ensures { HaveFound reach front.entry.now front.exit.now }
-    { find_all(crew, front, reach) };
-    thread::join_mut(crew.rt, &mut there, &mut here);
+            × (reach.count ≡ move_count zero.now.net)
+            × All (λ d. CanFollow zero.now.net reach.known d.session) front.now }
+        ensures { HaveFound zero.entry.now.net reach front.entry.now front.exit.now }
+    { find_all(means, front, zero, reach) };
+    thread::join_mut(means.rt, &mut there, &mut here);
 }
 
-/// Tries the moves of a reach at desks that stand for one network, all at once.
-fn find_reach<R: Threads + Sync, G: Gate>(crew: &Crew<'_, R, G>, desks: &mut [Desk], reach: Reach)
-    requires ready { CanReach reach (sessions_of desks.old) }
-    requires others { OthersClosed (sessions_of desks.old) }
-    ensures { HaveTried (desk_zero (sessions_of desks.old)).net reach desks.old desks.new }
+/// Lets all desks of a crew stand for the network of desk 0, all at once.
+pub(crate) fn stand_all<R: Threads + Sync>(rt: &R, desks: &mut [Desk], zero: &Session)
+    requires some { 0 < length desks.old }
+    requires few { length desks.old ≤ 8 }
+    requires ready { CanAllFollow zero.now.net false (sessions_of desks.old) }
+    ensures len { length desks.new ≡ length desks.old }
+    ensures stand { AreStanding zero.now.net (sessions_of desks.new) }
 {
-    find_all(crew, desks, reach);
+    let reach = Reach {
+        place: 0,
+        count: move_count(zero.net()),
+        room: 0,
+        desks: desks.len() as u32,
+        bound: 0,
+        known: false,
+    };
+    let means = Means {
+        rt,
+        gate: &OpenGate,
+    };
+    find_all(&means, desks, zero, reach);
 }
 
 /// The moves of a reach as a stretch, up to the first in the list's order that lowers the index, which its desk has made.
@@ -140,19 +166,6 @@ fn first_made(desks: &[Desk], reach: Reach, net: &Snapshot<Net>) -> Stretch
     stretch
 }
 
-/// Lets desk 0 trade networks with a desk, where it is another. Each keeps its work.
-fn lead(desks: &mut [Desk], desk: usize)
-    requires desk { desk < length desks.old }
-    requires closed { All (λ d. d.session.before ≡ None) desks.old }
-    ensures { HasLed desk (sessions_of desks.old) (sessions_of desks.new) }
-{
-    if desk == 0 {
-        return;
-    }
-    let (front, back) = desks.split_at_mut(desk);
-    front[0].session.trade(&mut back[0].session);
-}
-
 /// Hands on the finds in the list's order.
 fn hand_on(desks: &[Desk], reach: Reach, net: &Snapshot<Net>, tries: &mut [Tried])
     requires bound { reach.bound ≡ 0 }
@@ -169,64 +182,98 @@ fn hand_on(desks: &[Desk], reach: Reach, net: &Snapshot<Net>, tries: &mut [Tried
     }
 }
 
-/// The reach of so many moves from a place on, at desks that stand for one network.
-fn reach_from(desks: &[Desk], from: u32, room: usize) -> Reach
-    requires can { CanTry from room (sessions_of desks.now) }
-    ensures can { CanReach result (sessions_of desks.now) }
-    ensures place { result.place ≡ from }
-    ensures room { result.room ≡ room }
-    ensures inside { from + room ≤ result.count }
-    ensures bound { result.bound ≡ 0 }
-{
-    Reach {
-        place: from,
-        count: move_count(desks[0].session.net()),
-        room: room as u32,
-        desks: desks.len() as u32,
-        bound: 0,
-    }
-}
-
-/// Tries consecutive moves from a place on, at least one, all at once, and hands on the finds.
+/// Tries consecutive moves of a network from a place on at a crew, all at once, and hands on the finds.
 pub(crate) fn find_some<R: Threads + Sync, G: Gate>(
-    crew: &Crew<'_, R, G>,
+    means: &Means<'_, R, G>,
     desks: &mut [Desk],
+    zero: &Session,
     from: u32,
     tries: &mut [Tried],
 )
-    requires can { CanTry from (length tries.old) (sessions_of desks.old) }
-    requires others { OthersClosed (sessions_of desks.old) }
+    requires some { 0 < length desks.old }
+    requires many { length desks.old ≤ 8 }
+    requires ready { CanAllFollow zero.now.net false (sessions_of desks.old) }
+    requires places { from + length tries.old ≤ move_count zero.now.net }
+    requires few { length tries.old ≤ 32 * length desks.old }
     ensures len { length desks.new ≡ length desks.old }
-    ensures sessions { sessions_of desks.new ≡ sessions_of desks.old }
+    ensures stand { AreStanding zero.now.net (sessions_of desks.new) }
     ensures tries { length tries.new ≡ length tries.old }
-    ensures tried { AreTriesOf (desk_zero (sessions_of desks.old)).net
-        from (length tries.old) tries.new }
+    ensures tried { AreTriesOf zero.now.net from (length tries.old) tries.new }
 {
-    let reach = reach_from(desks, from, tries.len());
-    let net = Snapshot::of(desks[0].session.net());
-    find_reach(crew, desks, reach);
+    let reach = Reach {
+        place: from,
+        count: move_count(zero.net()),
+        room: tries.len() as u32,
+        desks: desks.len() as u32,
+        bound: 0,
+        known: false,
+    };
+    let net = Snapshot::of(zero.net());
+    find_all(means, desks, zero, reach);
     hand_on(desks, reach, &net, tries);
 }
 
-/// Tries the moves of a reach, all at once, and gives them as a stretch, up to the first that lowers the index. Desk 0
-/// stands for the network with that move made then.
-pub(crate) fn find_stretch<R: Threads + Sync, G: Gate>(
-    crew: &Crew<'_, R, G>,
+/// Tries consecutive moves of a session's network from a place on, one after another.
+pub(crate) fn find_alone(session: &mut Session, from: u32, tries: &mut [Tried])
+    requires closed { session.old.before ≡ None }
+    requires places { from + length tries.old ≤ move_count session.old.net }
+    ensures same { session.new ≡ session.old }
+    ensures len { length tries.new ≡ length tries.old }
+    ensures tried { AreTriesOf session.old.net from (length tries.old) tries.new }
+{
+    let _ = move_count(session.net());
+    for number in 0..tries.len() {
+        let (found, _) = try_at(session, from + number as u32, 0);
+        tries[number] = found;
+    }
+}
+
+/// Tries the moves of a reach at a crew, all at once, and gives them as a stretch, up to the first that lowers the index.
+/// Desk 0 trades networks with the desk that has made it.
+fn find_stretch<R: Threads + Sync, G: Gate>(
+    means: &Means<'_, R, G>,
+    zero: &mut Session,
     desks: &mut [Desk],
     reach: Reach,
 ) -> Stretch
-    requires ready { CanReach reach (sessions_of desks.old) }
-    requires others { OthersClosed (sessions_of desks.old) }
-    requires bound { reach.bound ≡ index (desk_zero (sessions_of desks.old)).net }
+    requires some { reach.desks ≡ length desks.old }
+    requires closed { zero.old.before ≡ None }
+    requires ready { CanAllFollow zero.old.net reach.known (sessions_of desks.old) }
+    requires count { reach.count ≡ move_count zero.old.net }
+    requires bound { reach.bound ≡ index zero.old.net }
     ensures len { length desks.new ≡ length desks.old }
-    ensures stretch { HasReached reach (sessions_of desks.old) (sessions_of desks.new) result }
+    ensures reached { HasReached reach zero.old zero.new (sessions_of desks.new) result }
 {
-    let net = Snapshot::of(desks[0].session.net());
-    find_reach(crew, desks, reach);
+    let net = Snapshot::of(zero.net());
+    find_all(means, desks, zero, reach);
     let stretch = first_made(desks, reach, &net);
     if stretch.made.is_none() {
         return stretch;
     }
-    lead(desks, (stretch.passed % reach.desks) as usize);
+    let desk = (stretch.passed % reach.desks) as usize;
+    zero.trade(&mut desks[desk].session);
     stretch
+}
+
+/// Tries the moves of a reach at the first of a crew, as many as it names, as `find_stretch` does. The others stay as they
+/// are.
+pub(crate) fn find_first<R: Threads + Sync, G: Gate>(
+    means: &Means<'_, R, G>,
+    zero: &mut Session,
+    desks: &mut [Desk],
+    reach: Reach,
+) -> Stretch
+    requires within { reach.desks ≤ length desks.old }
+    requires closed { zero.old.before ≡ None }
+    requires ready { CanAllFollow zero.old.net reach.known (take reach.desks (sessions_of desks.old)) }
+    requires count { reach.count ≡ move_count zero.old.net }
+    requires bound { reach.bound ≡ index zero.old.net }
+    ensures len { length desks.new ≡ length desks.old }
+    ensures reached { HasReached reach zero.old zero.new (take reach.desks (sessions_of desks.new))
+        result }
+    ensures others { drop reach.desks (sessions_of desks.new)
+        ≡ drop reach.desks (sessions_of desks.old) }
+{
+    let (front, _) = desks.split_at_mut(reach.desks as usize);
+    find_stretch(means, zero, front, reach)
 }

@@ -13,7 +13,6 @@
 #![tactic(auto)]
 
 mod climbing;
-mod crew;
 mod desk;
 mod desks;
 mod equal;
@@ -21,6 +20,7 @@ mod finding;
 mod finds;
 mod gate;
 mod laws;
+mod means;
 mod policy;
 mod reach;
 mod rounds;

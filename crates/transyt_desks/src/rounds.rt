@@ -1,17 +1,17 @@
 //! A round of desks: one turn at desk 0, or moves that the desks of a share try.
 
-ghost use Rattle.std.specs.Prelude.{◌≡◌, ℕ, ◌+◌, ◌*◌, ◌<◌, ◌≤◌, length, take, true, false};
+ghost use Rattle.std.specs.Prelude.{◌≡◌, ℕ, ◌+◌, ◌*◌, ◌<◌, ◌≤◌, length, true, false};
 ghost use Rattle.transyt_climb.specs.Turns.{machine};
 ghost use Rattle.transyt_session.specs.Session.{SessionValue};
-ghost use Rattle.transyt_desks.specs.Desks.{desk_zero, AreAligned};
+ghost use Rattle.transyt_desks.specs.Desks.{desk_zero, AreAlike};
 ghost use Rattle.transyt_desks.specs.Rounds.{room_of, turns_of, CanRound, RoundsDesks};
 
-use crate::crew::Crew;
 use crate::desks::Desks;
 use crate::gate::Gate;
+use crate::means::Means;
 use crate::reach::Reach;
 use crate::share::Share;
-use crate::turns::{Round, make_turn, make_turns};
+use crate::turns::{Round, make_turn};
 use std::snapshot::Snapshot;
 use std::sync::ledger::Ledger;
 use std::thread::Threads;
@@ -88,19 +88,21 @@ fn reach_of(climber: &Climber, places: u32, desks: usize, bound: u128) -> Reach
         room: places.min(looks.min(left)),
         desks: desks as u32,
         bound,
+        known: false,
     }
 }
 
 /// A round in which the desks of a share try the moves that it gives each of them, or the end of the climb.
 pub(crate) fn together<R: Threads + Sync, G: Gate, L: Ledger>(
-    crew: &Crew<'_, R, G>,
+    means: &Means<'_, R, G>,
     desks: &mut Desks,
     share: Share,
     climber: &mut Climber,
     steps: &mut Steps<L>,
 ) -> Round
+    requires several { 1 < length desks.old }
     requires within { share.desks ≤ length desks.old }
-    requires aligned { AreAligned (take share.desks desks.old) }
+    requires alike { AreAlike desks.old }
     requires ready { CanRound climber.old (desk_zero desks.old) }
     ensures { RoundsDesks (share.desks * share.each) climber.old desks.old
         climber.new desks.new result }
@@ -111,11 +113,6 @@ pub(crate) fn together<R: Threads + Sync, G: Gate, L: Ledger>(
     }
     let reach = reach_of(climber, places, share.desks, desks.session().index());
     let before = Snapshot::of(desks.session());
-    let tried = desks.try_reach(crew, reach);
-    let round = make_turns(climber, desks.session_mut(), tried, places, &before);
-    if tried.made.is_some() {
-        return round;
-    }
-    desks.note_aligned(share.desks);
-    round
+    let tried = desks.try_reach(means, reach);
+    desks.make_turns(climber, tried, places, &before)
 }

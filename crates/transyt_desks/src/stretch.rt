@@ -64,6 +64,7 @@ pub(crate) fn pass(stretch: Stretch, found: Tried) -> Stretch
 
 /// The place of the move with a number.
 pub(crate) fn place_of(reach: Reach, number: u32) -> u32
+    requires { number < reach.room }
     ensures value { result ≡ place_at reach.place reach.count number }
     ensures below { result < reach.count }
 {

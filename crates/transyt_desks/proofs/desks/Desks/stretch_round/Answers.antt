@@ -1,10 +1,9 @@
--- Desk 0 goes on alone, or all follow it before they try.
-use Rattle.std.proofs.Common.{◌*◌, length, sym, ◌∙◌, subst}
+-- Desk 0 goes on alone, or the desks try, which are several then.
+use Rattle.std.proofs.Common.{length, subst, arith}
 use Rattle.transyt_climb.specs.Turns.{machine}
-use Rattle.transyt_session.specs.Session.{SessionValue}
 use Rattle.transyt_desks.specs.Desks.{desk_zero}
-use Rattle.transyt_desks.specs.Rounds.{CanRound, MakesRound}
-use Rattle.transyt_desks.proofs.RoundLaws.{never_one, places_alone, places_together}
+use Rattle.transyt_desks.specs.Rounds.{MakesRound}
+use Rattle.transyt_desks.proofs.RoundLaws.{never_one, places_alone, places_together, several_desks}
 use Rattle.transyt_desks.proofs.desks.Desks.stretch_round.Goals as goal
 
 pub returns-then-goes_alone-clause-alike : goal.returns-then-goes_alone-clause-alike
@@ -13,7 +12,7 @@ returns-then-goes_alone-clause-alike g c =
 
 pub returns-clause-alike : goal.returns-clause-alike
 returns-clause-alike g c =
-    c.together.ensures.alike c.follow.ensures.alike
+    c.together.ensures.alike c.requires.alike
 
 pub returns-then-goes_alone-clause-made : goal.returns-then-goes_alone-clause-made
 returns-then-goes_alone-clause-made g c =
@@ -25,9 +24,10 @@ returns-then-goes_alone-clause-made g c =
 pub returns-then-goes_alone-clause-workers : goal.returns-then-goes_alone-clause-workers
 returns-then-goes_alone-clause-workers g c = c.alone.ensures.made.workers
 
-pub together-requires-clause-ready : goal.together-requires-clause-ready
-together-requires-clause-ready g c κs within =
-    subst (CanRound c.args.climber.now) (sym c.follow.ensures.zero) c.requires.ready
+pub together-requires-clause-several : goal.together-requires-clause-several
+together-requires-clause-several g c κs within =
+    several_desks (length c.args.self.now) c.count.result c.args.climber.now c.goes_alone.result c.count.ensures.value
+    c.goes_alone.ensures c.if-goes_alone.false (omega (arith, c.count.ensures.value, c.count.ensures.some))
 
 pub returns-clause-made : goal.returns-clause-made
 returns-clause-made g c =
@@ -36,13 +36,11 @@ returns-clause-made g c =
     (places_together (length c.args.self.now) c.count.result c.args.climber.now c.goes_alone.result c.count.ensures.value
     c.goes_alone.ensures c.count-2.result c.share-share.result.desks c.share-share.result.each c.if-goes_alone.false
     c.count-2.ensures.value c.share-share.ensures.desks c.share-share.ensures.each)
-    (subst (λ (s : SessionValue). MakesRound (c.share-share.result.desks * c.share-share.result.each) (machine c.args.climber.now s)
-    (machine c.together.new.climber (desk_zero c.together.new.desks)) c.together.result) c.follow.ensures.zero
-    c.together.ensures.made)
+    c.together.ensures.made
 
 pub returns-clause-workers : goal.returns-clause-workers
 returns-clause-workers g c =
-    c.together.ensures.workers ∙ c.follow.ensures.workers
+    c.together.ensures.workers
 
 pub returns-clause-steps : goal.returns-clause-steps
 returns-clause-steps g c one =

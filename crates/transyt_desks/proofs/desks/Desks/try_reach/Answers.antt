@@ -1,33 +1,71 @@
--- The first desks try the moves of a reach, and the others stay as they are.
-use Rattle.std.proofs.Common.{List, length, take, drop, ap, sym, ◌∙◌, subst, arith}
-use Rattle.transyt_session.specs.Session.{SessionValue}
-use Rattle.transyt_desks.specs.Desks.{sessions_of, AreAlike, AreDesks}
-use Rattle.transyt_desks.proofs.DeskLaws.{sessions_count}
-use Rattle.transyt_desks.proofs.FirstLaws.{given_back, reached_alike, reached_are}
+-- The first of the crew try the moves of a reach, and the others stay as they are.
+use Rattle.std.proofs.Common.{◌≡◌, ◌<◌, List, length, take, drop, ap, sym, ◌∙◌, subst, arith}
+use Rattle.std.proofs.lemmas.Bool.Decides.{nat_tests}
+use Rattle.std.proofs.lemmas.List.{with_items_is}
+use Rattle.transyt_desks.specs.declared.desk.Desk.{Desk}
+use Rattle.transyt_desks.specs.Desks.{desks_of, sessions_of, AreAlike, AreDesks}
+use Rattle.transyt_desks.specs.Reaches.{CanAllFollow, HasReached}
+use Rattle.transyt_desks.proofs.CrewLaws.{first_can, tried_alike, tried_are}
+use Rattle.transyt_desks.proofs.DeskLaws.{crew_count, sessions_count}
 use Rattle.transyt_desks.proofs.desks.Desks.try_reach.Goals as goal
+
+pub find_first-tried-requires-clause-ready : goal.find_first-tried-requires-clause-ready
+find_first-tried-requires-clause-ready g c κs within =
+    let n = c.args.reach.desks in
+    let crew = c.self.inside.crew.items in
+    subst (λ ss. CanAllFollow c.self.inside.zero.net c.with_known-reach.result.known ss)
+    ((λ i. take (sym c.with_known-reach.ensures.desks i) (sessions_of (sym c.as_mut_slice.ensures.value i))))
+    (first_can c.self.inside.zero (sessions_of crew) c.self.inside.following n c.with_known-reach.result.known c.self.invariant
+    (subst AreAlike (sym c.self.view_is) c.requires.alike)
+    (λ yes. grind (arith, nat_tests, yes, c.with_known-reach.ensures.known)))
 
 pub invariant_of-self : goal.invariant_of-self
 invariant_of-self g c =
-    let split = c.split_at_mut-front in
-    let whole = c.as_mut_slice.ensures.value in
-    let written = given_back c.self.inside.desks c.args.reach.desks _ _ split.result.1.now c.find_stretch.new.desks
-    c.as_mut_slice.ensures.len split.ensures.front_len split.ensures.back_len c.find_stretch.ensures.len in
-    subst (λ (ss : List SessionValue). AreDesks ss 0) (sym (ap sessions_of written))
-    (reached_are c.args.reach.desks c.self.inside.desks.items _ _ c.find_stretch.new.desks c.args.reach.some
-    (omega (arith, c.requires.within, ap length c.self.view_is)) (split.ensures.front ∙ ap (take c.args.reach.desks) whole)
-    (split.ensures.back ∙ ap (drop c.args.reach.desks) whole) (c.find_stretch.ensures.len ∙ split.ensures.front_len)
-    c.self.inside.following c.find_stretch.ensures.stretch.others c.self.invariant)
+    let n = c.args.reach.desks in
+    let olds = sessions_of c.self.inside.crew.items in
+    let news = c.find_first-tried.new.desks in
+    let desks_is = c.with_known-reach.ensures.desks in
+    let counts = c.find_first-tried.ensures.len ∙ ap length c.as_mut_slice.ensures.value in
+    let written = with_items_is c.self.inside.crew news (c.find_first-tried.ensures.len ∙ c.as_mut_slice.ensures.len) in
+    let several = subst (λ ss. 1 < length ss) (sym c.self.view_is) c.requires.several in
+    subst (λ ds. AreDesks c.find_first-tried.new.zero (sessions_of ds) c.known_after-self-inside.result) (sym written)
+    (tried_are n c.self.inside.zero c.find_first-tried.new.zero olds (sessions_of news) c.self.inside.following
+    c.with_known-reach.result c.find_first-tried.result
+    (omega (
+      arith,
+      c.requires.within,
+      ap length c.self.view_is,
+      crew_count c.self.inside.zero olds c.self.inside.following c.self.invariant several,
+    ))
+    (omega (arith, counts, sessions_count news, sessions_count c.self.inside.crew.items))
+    (subst (λ m. drop m (sessions_of news) ≡ drop m olds) desks_is
+    (c.find_first-tried.ensures.others ∙ ap (λ (ds : List Desk). drop c.with_known-reach.result.desks (sessions_of ds)) c.as_mut_slice.ensures.value))
+    c.self.invariant (subst AreAlike (sym c.self.view_is) c.requires.alike)
+    (subst (λ m. HasReached c.with_known-reach.result c.self.inside.zero c.find_first-tried.new.zero
+    (take m (sessions_of news)) c.find_first-tried.result) desks_is c.find_first-tried.ensures.reached)
+    c.known_after-self-inside.result c.known_after-self-inside.ensures.none c.known_after-self-inside.ensures.some)
 
 pub returns-clause-alike : goal.returns-clause-alike
-returns-clause-alike g c alike =
-    let split = c.split_at_mut-front in
-    let whole = c.as_mut_slice.ensures.value in
-    let written = given_back c.self.inside.desks c.args.reach.desks _ _ split.result.1.now c.find_stretch.new.desks
-    c.as_mut_slice.ensures.len split.ensures.front_len split.ensures.back_len c.find_stretch.ensures.len in
-    subst AreAlike (sym (ap sessions_of written))
-    (reached_alike c.args.reach.desks c.self.inside.desks.items split.result.0.now _ c.find_stretch.new.desks c.args.reach.some
-    (omega (arith, c.requires.within, ap length c.self.view_is)) (split.ensures.front ∙ ap (take c.args.reach.desks) whole)
-    (split.ensures.back ∙ ap (drop c.args.reach.desks) whole) (c.find_stretch.ensures.len ∙ split.ensures.front_len)
-    c.find_stretch.ensures.stretch.shapes
-    (sessions_count split.result.0.now ∙ sym c.find_stretch.ensures.len ∙ sym (sessions_count c.find_stretch.new.desks))
-    (subst AreAlike (sym c.self.view_is) alike))
+returns-clause-alike g c =
+    let n = c.args.reach.desks in
+    let olds = sessions_of c.self.inside.crew.items in
+    let news = c.find_first-tried.new.desks in
+    let desks_is = c.with_known-reach.ensures.desks in
+    let counts = c.find_first-tried.ensures.len ∙ ap length c.as_mut_slice.ensures.value in
+    let written = with_items_is c.self.inside.crew news (c.find_first-tried.ensures.len ∙ c.as_mut_slice.ensures.len) in
+    let several = subst (λ ss. 1 < length ss) (sym c.self.view_is) c.requires.several in
+    subst (λ ds. AreAlike (desks_of c.find_first-tried.new.zero (sessions_of ds))) (sym written)
+    (tried_alike n c.self.inside.zero c.find_first-tried.new.zero olds (sessions_of news) c.self.inside.following
+    c.with_known-reach.result c.find_first-tried.result
+    (omega (
+      arith,
+      c.requires.within,
+      ap length c.self.view_is,
+      crew_count c.self.inside.zero olds c.self.inside.following c.self.invariant several,
+    ))
+    (omega (arith, counts, sessions_count news, sessions_count c.self.inside.crew.items))
+    (subst (λ m. drop m (sessions_of news) ≡ drop m olds) desks_is
+    (c.find_first-tried.ensures.others ∙ ap (λ (ds : List Desk). drop c.with_known-reach.result.desks (sessions_of ds)) c.as_mut_slice.ensures.value))
+    c.self.invariant (subst AreAlike (sym c.self.view_is) c.requires.alike)
+    (subst (λ m. HasReached c.with_known-reach.result c.self.inside.zero c.find_first-tried.new.zero
+    (take m (sessions_of news)) c.find_first-tried.result) desks_is c.find_first-tried.ensures.reached))
