@@ -182,7 +182,7 @@ module _ (desks count : ℕ) (c : Counters) (told : Bool) (is : count ≡ desks)
       ∙ sym (ap (λ b. if b then 1 else trying_of desks c * each_of (trying_of desks c) c) (answer ∙ others))
 
   -- and there are several
-  pub never_one : told ≡ false → desks ≡ 1 → ⊥
+  never_one : told ≡ false → desks ≡ 1 → ⊥
   never_one others one = (let never : true ≡ false = ap (λ n. goes_alone n c) (sym one) ∙ answer ∙ others in cc)
 
   pub several_desks : told ≡ false → 0 < desks → 1 < desks

@@ -24,7 +24,7 @@ abbrev pub has_passed : ℕ → ℕ → Counters
 has_passed since looked = record { place = 4; since = since; looked = looked; budget = 9258; count = 1152 }
 
 -- numbers of desks and a climber, with how many places they try in a round of stretches: before any step, right after
--- one, and when 15, 16 and more places have passed since, up to 64 by four desks at most; then the same once it has looked
+-- one, and when 7, 8 and more places have passed since, up to 64 by four desks at most; then the same once it has looked
 -- at three times the list
 abbrev pub worked_places : List (ℕ × Counters × ℕ)
 worked_places =
@@ -32,8 +32,10 @@ worked_places =
     ∷ (1, has_passed 70 90, 1)
     ∷ (3, has_passed 0 0, 3)
     ∷ (3, has_passed 0 1, 1)
-    ∷ (8, has_passed 15 30, 1)
-    ∷ (8, has_passed 15 15, 1)
+    ∷ (8, has_passed 7 30, 1)
+    ∷ (8, has_passed 7 7, 1)
+    ∷ (8, has_passed 8 30, 4)
+    ∷ (2, has_passed 8 40, 4)
     ∷ (2, has_passed 16 40, 8)
     ∷ (8, has_passed 31 40, 12)
     ∷ (8, has_passed 32 40, 16)
@@ -44,7 +46,8 @@ worked_places =
     ∷ (2, has_passed 127 300, 62)
     ∷ (2, has_passed 128 300, 64)
     ∷ (8, has_passed 1000 1100, 256)
-    ∷ (3, has_passed 15 3455, 1)
+    ∷ (3, has_passed 7 3455, 1)
+    ∷ (3, has_passed 8 3455, 3)
     ∷ (1, has_passed 70 3456, 1)
     ∷ (2, has_passed 0 3456, 8)
     ∷ (2, has_passed 19 5000, 8)

@@ -10,7 +10,7 @@ use transyt_climb::Climber;
 pub(crate) const LISTS_EARLY: u64 = 3;
 
 /// Up to so many places after a step, desk 0 goes on alone in an early climb.
-pub(crate) const PLACES_ALONE: u32 = 16;
+pub(crate) const PLACES_ALONE: u32 = 8;
 
 /// Up to so many places after a step, at most `DESKS_SOON` desks try.
 pub(crate) const PLACES_SOON: u32 = 64;

@@ -2,10 +2,10 @@
 
 ghost use Rattle.std.specs.Prelude.{◌<◌, ◌≤◌};
 
-/// So many of the desks try so many places each: one to eight desks, the first of them, and 1 to 64 places.
+/// So many desks try so many places each: one to eight desks, and 1 to 64 places.
 #[derive(Clone, Copy)]
 pub(crate) struct Share {
-    /// How many desks try, desk 0 among them.
+    /// How many desks try.
     pub(crate) desks: usize,
     /// How many places each of them tries.
     pub(crate) each: u32,
