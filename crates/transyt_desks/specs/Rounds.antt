@@ -37,21 +37,22 @@ room_of workers c = min workers (min (c.budget - c.looked) (c.count - c.since))
 abbrev pub turns_of : ℕ → Machine → ℕ
 turns_of workers m = if is_end (answer_of m) then 1 else turns_up_to (room_of workers m.counters) m
 
--- whether a climb is early: it has looked at fewer than some times as many places as its list has
-abbrev pub is_early : Counters → Bool
-is_early c = nat_lt c.looked (LISTS_EARLY * c.count)
-
--- whether desk 0 of so many goes on alone: where there is no other, and early in a climb up to some places after a step
-abbrev pub goes_alone : ℕ → Counters → Bool
-goes_alone desks c = (desks == 1) || (nat_lt 0 c.looked && is_early c && nat_lt c.since PLACES_ALONE)
-
 -- how many of so many desks try: up to some places after a step no more than a few, and then all
 abbrev pub trying_of : ℕ → Counters → ℕ
 trying_of desks c = if nat_lt c.since PLACES_SOON then min desks DESKS_SOON else desks
 
+-- whether a climb is early for so many desks that try: it has looked at fewer places than their part of some lists
+abbrev pub is_early : ℕ → Counters → Bool
+is_early trying c = nat_lt (c.looked * trying) (LISTS_EARLY * c.count)
+
+-- whether desk 0 of so many goes on alone: where there is no other, and early in a climb up to some places after a step
+abbrev pub goes_alone : ℕ → Counters → Bool
+goes_alone desks c =
+    (desks == 1) || (nat_lt 0 c.looked && is_early (trying_of desks c) c && nat_lt c.since PLACES_ALONE)
+
 -- how many places each of so many desks tries at least: later so many that all desks together try some
 abbrev pub least_of : ℕ → Counters → ℕ
-least_of desks c = if is_early c then 1 else (PLACES_LATE + desks - 1) / desks
+least_of desks c = if is_early desks c then 1 else (PLACES_LATE + desks - 1) / desks
 
 -- how many places each of so many desks tries: its part of a fraction of the places since the last step, but not too few
 -- or too many

@@ -24,8 +24,8 @@ abbrev pub has_passed : ℕ → ℕ → Counters
 has_passed since looked = record { place = 4; since = since; looked = looked; budget = 9258; count = 1152 }
 
 -- numbers of desks and a climber, with how many places they try in a round of stretches: before any step, right after
--- one, and when 7, 8 and more places have passed since, up to 64 by four desks at most; then the same once it has looked
--- at three times the list
+-- one, and when 7, 8 and more places have passed since, up to 64 by four desks at most; then the same where a climb is
+-- late, which it is once it has looked at two lists for two desks, at one and a third for three, at one for more
 abbrev pub worked_places : List (ℕ × Counters × ℕ)
 worked_places =
     (1, has_passed 0 0, 1)
@@ -46,17 +46,25 @@ worked_places =
     ∷ (2, has_passed 127 300, 62)
     ∷ (2, has_passed 128 300, 64)
     ∷ (8, has_passed 1000 1100, 256)
-    ∷ (3, has_passed 7 3455, 1)
-    ∷ (3, has_passed 8 3455, 3)
+    ∷ (2, has_passed 7 2303, 1)
+    ∷ (2, has_passed 7 2304, 4)
+    ∷ (3, has_passed 7 1535, 1)
+    ∷ (3, has_passed 8 1535, 3)
+    ∷ (3, has_passed 8 1536, 6)
+    ∷ (4, has_passed 7 1151, 1)
+    ∷ (4, has_passed 7 1152, 4)
+    ∷ (8, has_passed 0 1151, 1)
+    ∷ (8, has_passed 0 1152, 4)
     ∷ (1, has_passed 70 3456, 1)
-    ∷ (2, has_passed 0 3456, 8)
-    ∷ (2, has_passed 19 5000, 8)
-    ∷ (2, has_passed 20 5000, 10)
-    ∷ (3, has_passed 0 3456, 9)
-    ∷ (5, has_passed 0 3456, 8)
-    ∷ (8, has_passed 1 3456, 8)
-    ∷ (4, has_passed 23 5000, 8)
+    ∷ (2, has_passed 0 3456, 4)
+    ∷ (2, has_passed 11 5000, 4)
+    ∷ (2, has_passed 12 5000, 6)
+    ∷ (3, has_passed 17 5000, 6)
+    ∷ (3, has_passed 18 5000, 9)
+    ∷ (4, has_passed 15 5000, 4)
+    ∷ (4, has_passed 16 5000, 8)
     ∷ (4, has_passed 24 5000, 12)
+    ∷ (5, has_passed 1 3456, 4)
     ∷ (5, has_passed 63 5000, 28)
     ∷ (5, has_passed 64 5000, 30)
     ∷ (8, has_passed 1000 5000, 256)

@@ -6,8 +6,9 @@ ghost use Rattle.transyt_desks.specs.Rounds.{each_of, goes_alone, is_early, leas
 use crate::share::Share;
 use transyt_climb::Climber;
 
-/// A climb is early until it has looked at so many times as many places as its list has. Steps are frequent then.
-pub(crate) const LISTS_EARLY: u64 = 3;
+/// A climb is early for the desks that try until each of them had its part of so many lists: two lists for two desks, one
+/// for four. Steps are frequent then.
+pub(crate) const LISTS_EARLY: u64 = 4;
 
 /// Up to so many places after a step, desk 0 goes on alone in an early climb.
 pub(crate) const PLACES_ALONE: u32 = 8;
@@ -19,7 +20,7 @@ pub(crate) const PLACES_SOON: u32 = 64;
 pub(crate) const DESKS_SOON: usize = 4;
 
 /// Late in a climb all desks that try have together at least so many places.
-pub(crate) const PLACES_LATE: u32 = 8;
+pub(crate) const PLACES_LATE: u32 = 4;
 
 /// All desks that try have together one place more for so many since the last step.
 pub(crate) const PLACES_FOR_ONE: u32 = 2;
@@ -27,21 +28,25 @@ pub(crate) const PLACES_FOR_ONE: u32 = 2;
 /// Each desk tries at most so many places.
 pub(crate) const MOST_PLACES: u32 = 32;
 
-/// Whether a climb is early.
-fn is_early(climber: &Climber) -> bool
-    ensures { result ≡ is_early climber.now }
+/// Whether a climb is early for so many desks that try.
+fn is_early(trying: usize, climber: &Climber) -> bool
+    requires few { trying ≤ 8 }
+    ensures value { result ≡ is_early trying climber.now }
 {
-    u64::from(climber.looked()) < LISTS_EARLY * u64::from(climber.count())
+    u64::from(climber.looked()) * (trying as u64) < LISTS_EARLY * u64::from(climber.count())
 }
 
 /// Whether desk 0 of so many goes on alone: where there is no other, and early in a climb for some places after a step.
 pub(crate) fn goes_alone(desks: usize, climber: &Climber) -> bool
-    ensures { result ≡ goes_alone desks climber.now }
+    requires some { 0 < desks }
+    requires few { desks ≤ 8 }
+    ensures value { result ≡ goes_alone desks climber.now }
 {
     if desks == 1 {
         return true;
     }
-    climber.looked() > 0 && is_early(climber) && climber.since() < PLACES_ALONE
+    let trying = trying(desks, climber);
+    climber.looked() > 0 && is_early(trying, climber) && climber.since() < PLACES_ALONE
 }
 
 /// How many of so many desks try: a few soon after a step, and then all.
@@ -64,7 +69,7 @@ fn least(desks: usize, climber: &Climber) -> u32
     ensures value { result ≡ least_of desks climber.now }
     ensures some { 0 < result }
 {
-    if is_early(climber) {
+    if is_early(desks, climber) {
         return 1;
     }
     PLACES_LATE.div_ceil(desks as u32)

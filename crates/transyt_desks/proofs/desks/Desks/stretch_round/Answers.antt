@@ -24,7 +24,7 @@ returns-then-goes_alone-clause-made g c =
     subst (λ n. MakesRound n (machine c.args.climber.now (desk_zero c.args.self.now))
     (machine c.ahead.new.climber (desk_zero c.ahead.new.desks)) c.ahead.result)
     (places_alone (length c.args.self.now) c.count-2.result c.args.climber.now c.goes_alone.result c.count-2.ensures.value
-    c.goes_alone.ensures c.if-goes_alone.true) c.ahead.ensures.made
+    c.goes_alone.ensures.value c.if-goes_alone.true) c.ahead.ensures.made
 
 pub returns-then-goes_alone-clause-alike : goal.returns-then-goes_alone-clause-alike
 returns-then-goes_alone-clause-alike g c =
@@ -40,14 +40,14 @@ returns-then-goes_alone-clause-steps g c one =
 pub together-requires-clause-several : goal.together-requires-clause-several
 together-requires-clause-several g c κs within =
     several_desks (length c.args.self.now) c.count-2.result c.args.climber.now c.goes_alone.result c.count-2.ensures.value
-    c.goes_alone.ensures c.if-goes_alone.false (omega (arith, c.count.ensures.value, c.count.ensures.some))
+    c.goes_alone.ensures.value c.if-goes_alone.false (omega (arith, c.count.ensures.value, c.count.ensures.some))
 
 pub returns-clause-made : goal.returns-clause-made
 returns-clause-made g c =
     subst (λ n. MakesRound n (machine c.args.climber.now (desk_zero c.args.self.now))
     (machine c.together.new.climber (desk_zero c.together.new.desks)) c.together.result)
     (places_together (length c.args.self.now) c.count-2.result c.args.climber.now c.goes_alone.result
-    c.count-2.ensures.value c.goes_alone.ensures c.count-3.result c.share-share.result.desks c.share-share.result.each
+    c.count-2.ensures.value c.goes_alone.ensures.value c.count-3.result c.share-share.result.desks c.share-share.result.each
     c.if-goes_alone.false c.count-3.ensures.value c.share-share.ensures.desks c.share-share.ensures.each)
     c.together.ensures.made
 
