@@ -9,7 +9,5 @@ pub mod StretchLaws
 pub mod RoundLaws
 pub mod WorkedLaws
 pub mod WorkedFindLaws
-pub mod BackLaws
-pub mod LookLaws
 pub mod ReachLaws
 pub mod CrewLaws

@@ -2,7 +2,6 @@ pub mod Stretches
 pub mod Desks
 pub mod Rounds
 pub mod Reaches
-pub mod Backs
 pub mod Lends
 pub mod WorkedRounds
 pub mod WorkedDesks

@@ -11,24 +11,22 @@ ghost use Rattle.transyt_session.specs.Session.{opened, standing_for};
 ghost use Rattle.transyt_sweep.specs.Sweeps.{index};
 ghost use Rattle.transyt_desks.specs.Rounds.{places_of, room_of, CanRound, MakesRound, RoundsDesks};
 
-use crate::back::{Back, is_same};
 use crate::desk::{Desk, all_stand};
 use crate::finding::{find_alone, find_first, find_some, stand_all};
 use crate::gate::Gate;
 use crate::means::Means;
 use crate::policy::{goes_alone, share};
 use crate::reach::Reach;
-use crate::rounds::{ahead, alone, together};
+use crate::rounds::{alone, together};
 use crate::share::Share;
 use crate::stretch::Stretch;
-use crate::turns::{Round, make_look, make_turns};
+use crate::turns::{Round, make_turns};
 use std::alloc::{AllocError, Global};
 use std::marker::Model;
 use std::snapshot::Snapshot;
 use std::sync::ledger::Ledger;
 use std::thread::Threads;
 use transyt_climb::Climber;
-use transyt_moves::move_at;
 use transyt_session::{Session, Tried};
 use transyt_steps::Steps;
 
@@ -41,8 +39,6 @@ pub struct Desks {
     crew: Vec<Desk>,
     /// How many of the first of the crew are known to stand for the network of desk 0.
     following: usize,
-    /// What is known of the edit that takes the last step of a climb back.
-    back: Option<Back>,
 }
 
 impl Drop for Desks {
@@ -52,7 +48,6 @@ impl Drop for Desks {
             zero: _,
             crew: _,
             following: _,
-            back: _,
         } = self;
     }
 }
@@ -61,14 +56,12 @@ impl Model for Desks {
     ghost use Rattle.std.specs.Prelude.{List};
     ghost use Rattle.transyt_session.specs.Session.{SessionValue};
     ghost use Rattle.transyt_desks.specs.Desks.{desks_of, sessions_of, AreDesks};
-    ghost use Rattle.transyt_desks.specs.Backs.{KnowsBack};
 
     ghost Value = { List SessionValue };
 
     ghost view = { λ d. desks_of d.zero (sessions_of d.crew.items) };
 
-    ghost invariant = { λ d.
-        AreDesks d.zero (sessions_of d.crew.items) d.following × KnowsBack d.zero.net d.back };
+    ghost invariant = { λ d. AreDesks d.zero (sessions_of d.crew.items) d.following };
 }
 
 impl Desks {
@@ -88,7 +81,6 @@ impl Desks {
             zero: session,
             crew,
             following: 0,
-            back: None,
         })
     }
 
@@ -105,7 +97,6 @@ impl Desks {
         ensures value { result.now ≡ desk_zero self.old }
     {
         self.following = 0;
-        self.back = None;
         &mut self.zero
     }
 
@@ -213,42 +204,7 @@ impl Desks {
         let reach = reach.with_known(count <= self.following);
         let tried = find_first(means, &mut self.zero, self.crew.as_mut_slice(), reach);
         self.following = known_after(tried, count, self.following);
-        self.back = None;
         tried
-    }
-
-    /// The move at a place as a stretch of it alone, where it takes the last step back: then it passes without a try.
-    pub(crate) fn passed_back(&self, place: u32) -> Option<Stretch>
-        requires { place < move_count (desk_zero self.now).net }
-        ensures stretch { IfSome result (λ tried. IsStretch (desk_zero self.now).net place
-            (move_count (desk_zero self.now).net) 1 tried) }
-        ensures none { IfSome result (λ tried. tried.made ≡ None) }
-    {
-        match self.back {
-            None => None,
-            Some(back) => {
-                if is_same(move_at(self.zero.net(), place), back.edit) {
-                    return Some(Stretch {
-                        passed: 1,
-                        work: back.work,
-                        made: None,
-                    });
-                }
-                None
-            }
-        }
-    }
-
-    /// A look at a climber's next move at desk 0, as a round of one place. The other desks stay as they are.
-    pub(crate) fn look<L: Ledger>(&mut self, climber: &mut Climber, steps: &mut Steps<L>) -> Round
-        requires ready { CanRound climber.old (desk_zero self.old) }
-        requires place { climber.old.place < climber.old.count }
-        requires since { climber.old.since < climber.old.count }
-        requires looked { climber.old.looked < climber.old.budget }
-        ensures { RoundsDesks 1 climber.old self.old climber.new self.new result }
-    {
-        self.following = 0;
-        make_look(climber, &mut self.zero, &mut self.back, steps)
     }
 
     /// The turns of a round at desk 0, as `make_turns` makes them.
@@ -315,9 +271,8 @@ impl Desks {
     /// places after a step no more than four of the desks. The first of them that lowers the index is made at desk 0.
     ///
     /// Early in a climb the same move mostly lowers the index again right after a step, so that one desk goes on alone,
-    /// with nothing to copy. The move after it mostly takes that step back: it passes, with its work, and isn't tried, since
-    /// what it comes to is known. The other desks are left behind, and stand for the network of desk 0 again once they try. A
-    /// desk tries its moves between entering and leaving the gate. All else is as in `round`.
+    /// with nothing to copy. The other desks stand for the network of desk 0 again once they try. A desk tries its moves
+    /// between entering and leaving the gate. All else is as in `round`.
     pub fn stretch_round<R: Threads + Sync, G: Gate, L: Ledger>(
         &mut self,
         rt: &R,
@@ -335,11 +290,8 @@ impl Desks {
         ensures steps { length self.old ≡ 1
             → steps.new + (desk_zero self.old).work ≡ steps.old + (desk_zero self.new).work }
     {
-        if self.count() == 1 {
-            return alone(gate, self, climber, steps);
-        }
         if goes_alone(self.count(), climber) {
-            return ahead(gate, self, climber, steps);
+            return alone(gate, self, climber, steps);
         }
         let share = share(self.count(), climber);
         together(&Means { rt, gate }, self, share, climber, steps)

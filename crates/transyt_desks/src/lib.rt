@@ -12,7 +12,6 @@
 //! is no clause's matter: a test shows it.
 #![tactic(auto)]
 
-mod back;
 mod climbing;
 mod desk;
 mod desks;

@@ -67,31 +67,6 @@ pub(crate) fn alone<G: Gate, L: Ledger>(
     round
 }
 
-/// A round in which desk 0 of several goes on alone by one move, or the end of the climb. A move that takes the last step
-/// back passes without a try.
-pub(crate) fn ahead<G: Gate, L: Ledger>(
-    gate: &G,
-    desks: &mut Desks,
-    climber: &mut Climber,
-    steps: &mut Steps<L>,
-) -> Round
-    requires some { 0 < length desks.old }
-    requires ready { CanRound climber.old (desk_zero desks.old) }
-    ensures { RoundsDesks 1 climber.old desks.old climber.new desks.new result }
-{
-    if is_over(climber) {
-        return turn_zero(desks, climber, 1, steps);
-    }
-    if let Some(tried) = desks.passed_back(climber.place()) {
-        let before = Snapshot::of(desks.session());
-        return desks.make_turns(climber, tried, 1, &before);
-    }
-    gate.enter(0);
-    let round = desks.look(climber, steps);
-    gate.leave(0);
-    round
-}
-
 /// So many next moves of a climber's list, up to its budget and at most once round the list, for so many desks, and the
 /// bound below which they make a move.
 fn reach_of(climber: &Climber, places: u32, desks: usize, bound: u128) -> Reach

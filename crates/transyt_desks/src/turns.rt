@@ -1,19 +1,15 @@
 //! The turns of a round at desk 0, some of whose moves the desks have tried before.
 
-ghost use Rattle.std.specs.Prelude.{◌≡◌, ℕ, ◌+◌, ◌*◌, ◌<◌, ◌≤◌, option_map};
+ghost use Rattle.std.specs.Prelude.{◌≡◌, ℕ, ◌+◌, ◌*◌, ◌<◌, ◌≤◌};
 ghost use Rattle.transyt_session.specs.Session.{standing_for};
 ghost use Rattle.transyt_climb.specs.Turns.{machine};
 ghost use Rattle.transyt_desks.specs.Rounds.{CanRound, MakesRound, passed_by, room_of, turns_of};
-ghost use Rattle.transyt_desks.specs.Backs.{KnowsBack};
 ghost use Rattle.transyt_desks.specs.Stretches.{IsStretch, net_made};
 
-use crate::back::{Back, inverse_of};
 use crate::stretch::Stretch;
 use std::snapshot::Snapshot;
 use std::sync::ledger::Ledger;
 use transyt_climb::{Climber, Turn};
-use transyt_moves::move_at;
-use transyt_net::Edit;
 use transyt_session::Session;
 use transyt_steps::Steps;
 
@@ -96,44 +92,4 @@ pub(crate) fn make_turn<L: Ledger>(
 {
     let last = climber.turn(session, steps);
     Round { turns: 1, last }
-}
-
-/// A look at a climber's next move, as a round of one place.
-///
-/// `back` is what is known of the edit that takes the last step back, before and after: where the look takes a step, that
-/// is the last.
-pub(crate) fn make_look<L: Ledger>(
-    climber: &mut Climber,
-    session: &mut Session,
-    back: &mut Option<Back>,
-    steps: &mut Steps<L>,
-) -> Round
-    requires ready { CanRound climber.old session.old }
-    requires place { climber.old.place < climber.old.count }
-    requires since { climber.old.since < climber.old.count }
-    requires looked { climber.old.looked < climber.old.budget }
-    requires back { KnowsBack session.old.net back.old }
-    ensures made { MakesRound 1 (machine climber.old session.old)
-        (machine climber.new session.new) result }
-    ensures back { KnowsBack session.new.net back.new }
-{
-    let edit = move_at(session.net(), climber.place());
-    let inverse = inverse_of(session.net(), edit);
-    let before = session.work();
-    let round = make_turn(climber, session, 1, steps);
-    if round.last.step_count() == 0 {
-        return round;
-    }
-    *back = known_back(inverse, session.work() - before);
-    round
-}
-
-/// What is known of an inverse of this work, if there is one.
-fn known_back(inverse: Option<Edit>, work: u64) -> Option<Back>
-    ensures { result ≡ option_map (λ edit. record { edit = edit; work = work }) inverse }
-{
-    match inverse {
-        Some(edit) => Some(Back { edit, work }),
-        None => None,
-    }
 }

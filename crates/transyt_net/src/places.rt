@@ -7,12 +7,13 @@ ghost use Rattle.transyt_net.specs.Valid.{is_among, place_of, numbered, node_num
 
 use std::alloc::{AllocError, Global};
 use std::marker::Model;
+use indexmap::IndexSet;
 use transyt_parts::{Link, Node, has_feeder};
 
 /// The card numbers of nodes or links, in card order. No two are equal.
 #[derive(Drop)]
 pub(crate) struct Numbers {
-    numbers: Vec<u32>,
+    numbers: IndexSet<u32>,
 }
 
 impl Model for Numbers {
@@ -21,9 +22,9 @@ impl Model for Numbers {
 
     ghost Value = { List ℕ };
 
-    ghost view = { λ n. n.numbers.items };
+    ghost view = { λ n. n.numbers.keys };
 
-    ghost invariant = { λ n. all_differ n.numbers.items ≡ true };
+    ghost invariant = { λ n. all_differ n.numbers.keys ≡ true };
 }
 
 impl Numbers {
@@ -32,7 +33,7 @@ impl Numbers {
         ensures { result ≡ [] }
     {
         Numbers {
-            numbers: Vec::new(alloc),
+            numbers: IndexSet::new(alloc),
         }
     }
 
@@ -43,39 +44,25 @@ impl Numbers {
         ensures ok { OnOk result (self.new ≡ self.old ++ number ∷ []) }
         ensures err { OnErr result (self.new ≡ self.old) }
     {
-        self.numbers.push(number)?;
+        self.numbers.insert(number)?;
         Ok(())
     }
 
     /// The same numbers, with memory of their own.
-    pub(crate) fn copy(&self, alloc: Global) -> Result<Numbers, AllocError>
+    pub(crate) fn copy(&self, _alloc: Global) -> Result<Numbers, AllocError>
         ensures { IfOk result (λ copy. copy ≡ self.now) }
     {
-        let numbers = Vec::from_slice(alloc, &self.numbers)?;
+        let numbers = self.numbers.clone()?;
         Ok(Numbers { numbers })
     }
 
     /// The place of a number, from 0.
-    ///
-    /// It is found at once where the numbers are those from 1 on in order, and else by a search from the first.
+    #[tactic(auto, using(crate::proofs::PlaceLaws::place_found))]
     pub(crate) fn place(&self, number: u32) -> Option<usize>
         ensures place { result ≡ place_of self.now number }
         ensures found { is_some result ≡ is_among self.now number }
     {
-        let in_order = number.saturating_sub(1) as usize;
-        if let Some(there) = self.numbers.get(in_order) {
-            if *there == number {
-                return Some(in_order);
-            }
-        }
-        self.search(number)
-    }
-
-    /// The place of a number, by a search from the first on.
-    fn search(&self, number: u32) -> Option<usize>
-        ensures { result ≡ place_of self.now number }
-    {
-        self.numbers.iter().position(|there| *there == number)
+        self.numbers.get_index_of(&number)
     }
 
     /// Whether a number is there.

@@ -3,7 +3,7 @@
 use crate::fields::Field;
 use crate::sentence::Sentence;
 use std::str;
-use transyt_io::{next_line, next_word};
+use transyt_io::next_word;
 use transyt_num::read_number;
 use transyt_syntax::{Further, first_of, further_of, word_count};
 
@@ -39,20 +39,6 @@ impl<'a> Words<'a> {
     pub(crate) fn number(&self, place: usize) -> u32 {
         self.further.numbers.at(place)
     }
-}
-
-/// The line with this number, from 1; empty where there is none.
-pub fn line_at(input: &[u8], number: u32) -> &[u8] {
-    let mut rest = input;
-    let mut before = 1;
-    while let Some((line, after)) = next_line(rest) {
-        if before == number {
-            return line;
-        }
-        before = before.saturating_add(1);
-        rest = after;
-    }
-    b""
 }
 
 /// The place, from 1, and the value of the first byte that may not stand in a line.

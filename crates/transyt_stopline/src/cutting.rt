@@ -41,21 +41,21 @@ pub fn cut(x: &[u64], go: &[u64], out: &mut [u64]) -> Totals
     requires out_len { length out.old ≡ length x.now }
     requires fit { All (λ v. v < 2 ^ 48) x.now }
     requires go_fit { All (λ v. v < 2 ^ 30) go.now }
-    ensures come { result.come ≡ sum x.now }
-    ensures served { result.served ≡ sum go.now }
-    ensures cut { result.served < result.come → out.new ≡ arrivals_of x.now go.now }
-    ensures uncut { result.come ≤ result.served → x.now ≡ arrivals_of x.now go.now }
+    ensures arrivals { result.arrivals ≡ sum x.now }
+    ensures go { result.go ≡ sum go.now }
+    ensures cut { result.go < result.arrivals → out.new ≡ arrivals_of x.now go.now }
+    ensures uncut { result.arrivals ≤ result.go → x.now ≡ arrivals_of x.now go.now }
     ensures total { sum (arrivals_of x.now go.now) ≤ sum go.now }
     ensures small { All (λ v. v < 2 ^ 48) (arrivals_of x.now go.now) }
 {
     let totals = Totals {
-        come: total(x),
-        served: total(go),
+        arrivals: total(x),
+        go: total(go),
     };
     if totals.more_comes() {
         let ratio = Ratio {
-            served: totals.served,
-            come: totals.come,
+            go: totals.go,
+            arrivals: totals.arrivals,
         };
         scale(x, ratio, out);
     }
@@ -66,11 +66,11 @@ pub fn cut(x: &[u64], go: &[u64], out: &mut [u64]) -> Totals
 #[tactic(auto, using(crate::proofs::CutLaws::step_within))]
 fn scale(x: &[u64], ratio: Ratio, out: &mut [u64])
     requires lengths { length out.old ≡ length x.now }
-    requires whole { ratio.come ≡ sum x.now }
+    requires whole { ratio.arrivals ≡ sum x.now }
     ensures { (k : ℕ) → k < length x.now
-        → slice_index out.new k ≡ scaled ratio.come ratio.served (slice_index x.now k) }
+        → slice_index out.new k ≡ scaled ratio.arrivals ratio.go (slice_index x.now k) }
 {
-    if ratio.come < 1 << 32 {
+    if ratio.arrivals < 1 << 32 {
         scale_near(x, ratio, out);
         return;
     }
@@ -83,12 +83,12 @@ fn scale(x: &[u64], ratio: Ratio, out: &mut [u64])
 #[tactic(auto, using(crate::proofs::CutLaws::step_within))]
 fn scale_near(x: &[u64], ratio: Ratio, out: &mut [u64])
     requires lengths { length out.old ≡ length x.now }
-    requires whole { ratio.come ≡ sum x.now }
-    requires fits { ratio.come < 2 ^ 32 }
+    requires whole { ratio.arrivals ≡ sum x.now }
+    requires fits { ratio.arrivals < 2 ^ 32 }
     ensures { (k : ℕ) → k < length x.now
-        → slice_index out.new k ≡ scaled ratio.come ratio.served (slice_index x.now k) }
+        → slice_index out.new k ≡ scaled ratio.arrivals ratio.go (slice_index x.now k) }
 {
-    let near = u64::MAX / ratio.come;
+    let near = u64::MAX / ratio.arrivals;
     for step in 0..x.len() {
         out[step] = scaled_near(x[step], ratio, near);
     }
@@ -97,19 +97,19 @@ fn scale_near(x: &[u64], ratio: Ratio, out: &mut [u64])
 /// One step scaled down, by a number near the reciprocal of the arrivals' sum.
 #[tactic(auto, using(crate::proofs::CutLaws::product_fits))]
 fn scaled_near(value: u64, ratio: Ratio, near: u64) -> u64
-    requires value { value ≤ ratio.come }
-    requires fits { ratio.come < 2 ^ 32 }
-    requires near { near * ratio.come < 2 ^ 64 }
-    ensures { result ≡ scaled ratio.come ratio.served value }
+    requires value { value ≤ ratio.arrivals }
+    requires fits { ratio.arrivals < 2 ^ 32 }
+    requires near { near * ratio.arrivals < 2 ^ 64 }
+    ensures { result ≡ scaled ratio.arrivals ratio.go value }
 {
-    divided_near(value * ratio.served, ratio.come, near)
+    divided_near(value * ratio.go, ratio.arrivals, near)
 }
 
 /// One step scaled down, by a division.
 #[tactic(auto, using(crate::proofs::CutLaws::scaled_part))]
 fn scale_one(value: u64, ratio: Ratio) -> u64
-    requires { value ≤ ratio.come }
-    ensures { result ≡ scaled ratio.come ratio.served value }
+    requires { value ≤ ratio.arrivals }
+    ensures { result ≡ scaled ratio.arrivals ratio.go value }
 {
-    mul_div(value, ratio.served, ratio.come) as u64
+    mul_div(value, ratio.go, ratio.arrivals) as u64
 }

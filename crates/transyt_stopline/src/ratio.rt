@@ -6,8 +6,8 @@ ghost use Rattle.std.specs.Prelude.{◌<◌};
 #[derive(Clone, Copy)]
 pub(crate) struct Ratio {
     /// GO of a cycle.
-    pub(crate) served: u64,
+    pub(crate) go: u64,
     /// The arrivals of a cycle, before the cut.
-    pub(crate) come: u64,
-    ghost part: { served < come },
+    pub(crate) arrivals: u64,
+    ghost part: { go < arrivals },
 }

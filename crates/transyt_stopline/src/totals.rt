@@ -6,16 +6,16 @@ ghost use Rattle.std.specs.Prelude.{◌<◌, ◌↔◌, IsTrue};
 #[derive(Clone, Copy)]
 pub struct Totals {
     /// The arrivals, before any cut.
-    pub come: u64,
+    pub arrivals: u64,
     /// GO of a cycle.
-    pub served: u64,
+    pub go: u64,
 }
 
 impl Totals {
     /// Whether more comes than the green lets pass: then less reaches the stop line than comes.
     pub fn more_comes(self) -> bool
-        ensures { IsTrue result ↔ self.served < self.come }
+        ensures { IsTrue result ↔ self.go < self.arrivals }
     {
-        self.served < self.come
+        self.go < self.arrivals
     }
 }

@@ -54,23 +54,23 @@ terms_frame f = record {
 
 -- the terms from which the figures of the link at a place are made
 abbrev pub terms_of : Network → ℕ → List ℕ → List ℕ → Terms
-terms_of net l come room = record {
-  arrivals = sum come;
-  room = sum room;
-  queued = sum (queues (arrivals_of come room) room);
-  stopped = stopped_of (arrivals_of come room) (queues (arrivals_of come room) room);
+terms_of net l arrivals go = record {
+  arrivals = sum arrivals;
+  room = sum go;
+  queued = sum (queues (arrivals_of arrivals go) go);
+  stopped = stopped_of (arrivals_of arrivals go) (queues (arrivals_of arrivals go) go);
   frame = terms_frame net.frame;
   weights = (link_of net l).weights;
 }
 
 -- the link at a place, worked out of arrivals and GO
 abbrev pub cell_of : Network → ℕ → List ℕ → List ℕ → CellValue
-cell_of net l come room = record {
-  arrivals = come;
-  go = room;
-  queue = queues (arrivals_of come room) room;
-  out = outs (arrivals_of come room) room;
-  figures = figures (terms_of net l come room);
+cell_of net l arrivals go = record {
+  arrivals = arrivals;
+  go = go;
+  queue = queues (arrivals_of arrivals go) go;
+  out = outs (arrivals_of arrivals go) go;
+  figures = figures (terms_of net l arrivals go);
 }
 
 -- the link at a place, worked out of the departures that it reads

@@ -17,8 +17,8 @@ use Rattle.transyt_kept.specs.Cell.{AreSmall}
 -- cut, and the weights
 abbrev pub terms_with : Totals → List ℕ → List ℕ → Weights → Terms
 terms_with totals reaching queue weights = record {
-  arrivals = totals.come;
-  room = totals.served;
+  arrivals = totals.arrivals;
+  room = totals.go;
   queued = sum queue;
   stopped = stopped_of reaching queue;
   frame = weights.frame;
@@ -27,13 +27,13 @@ terms_with totals reaching queue weights = record {
 
 -- the same from arrivals and GO in each step
 abbrev pub terms_in : List ℕ → List ℕ → List ℕ → Weights → Terms
-terms_in come room queue weights =
-    terms_with (record { come = sum come; served = sum room }) (arrivals_of come room) queue weights
+terms_in arrivals go queue weights =
+    terms_with (record { arrivals = sum arrivals; go = sum go }) (arrivals_of arrivals go) queue weights
 
 -- the figures: those that are known, else what the rows give
 abbrev pub figures_in : List ℕ → List ℕ → List ℕ → LazyFigures → Figures
-figures_in come room queue (Known f) = f
-figures_in come room queue (Open weights totals) = figures (terms_in come room queue weights)
+figures_in arrivals go queue (Known f) = f
+figures_in arrivals go queue (Open weights totals) = figures (terms_in arrivals go queue weights)
 
 -- weights and a frame's numbers with which figures can be worked out
 pub record AreWeights (w : Weights) : Type 0 where
@@ -45,21 +45,21 @@ pub record AreWeights (w : Weights) : Type 0 where
 
 -- figures can be worked out of these rows: they are within bounds, their sums are right, and the arrivals after the cut
 -- are there where anything is cut
-pub record CanTell (come room queue reaching : List ℕ) (weights : Weights) (totals : Totals) : Type 0 where
-  pub steps : length come ≤ 120
-  pub come_small : All (λ v. v < 2 ^ 48) come
-  pub room_small : All (λ v. v < 2 ^ 30) room
+pub record CanTell (arrivals go queue reaching : List ℕ) (weights : Weights) (totals : Totals) : Type 0 where
+  pub steps : length arrivals ≤ 120
+  pub arrivals_small : All (λ v. v < 2 ^ 48) arrivals
+  pub go_small : All (λ v. v < 2 ^ 30) go
   pub queue_small : All (λ v. v < 2 ^ 37) queue
-  pub reached_small : All (λ v. v < 2 ^ 48) (arrivals_of come room)
-  pub come_total : totals.come ≡ sum come
-  pub room_total : totals.served ≡ sum room
-  pub cut : totals.served < totals.come → reaching ≡ arrivals_of come room
+  pub reached_small : All (λ v. v < 2 ^ 48) (arrivals_of arrivals go)
+  pub arrivals_total : totals.arrivals ≡ sum arrivals
+  pub go_total : totals.go ≡ sum go
+  pub cut : totals.go < totals.arrivals → reaching ≡ arrivals_of arrivals go
   pub limits : AreWeights weights
 
 -- figures that are known are small, and others can be worked out
 abbrev pub AreTold : List ℕ → List ℕ → List ℕ → List ℕ → LazyFigures → Type 0
-AreTold come room queue reaching (Known f) = AreSmall f
-AreTold come room queue reaching (Open weights totals) = CanTell come room queue reaching weights totals
+AreTold arrivals go queue reaching (Known f) = AreSmall f
+AreTold arrivals go queue reaching (Open weights totals) = CanTell arrivals go queue reaching weights totals
 
 -- all of it has a value for each step, departures are small, figures can be told, and factors are right
 pub record IsScratch (arrivals go queue out : List ℕ) (asked : LazyFigures) (room reaching : List ℕ)

@@ -209,8 +209,8 @@ fn zero_rows(
 /// The figures of a link from the sums of arrivals and of GO over a cycle, from the arrivals after the cut and from the
 /// queue.
 fn work_out(totals: Totals, reaching: &[u64], queue: &[u64], weights: Weights) -> Figures
-    requires come { totals.come < 2 ^ 55 }
-    requires served { totals.served < 2 ^ 55 }
+    requires arrivals { totals.arrivals < 2 ^ 55 }
+    requires go { totals.go < 2 ^ 55 }
     requires most { length reaching.now ≤ 120 }
     requires queue_len { length queue.now ≡ length reaching.now }
     requires reaching_small { All (λ v. v < 2 ^ 48) reaching.now }
@@ -220,8 +220,8 @@ fn work_out(totals: Totals, reaching: &[u64], queue: &[u64], weights: Weights) -
     ensures small { AreSmall result }
 {
     let terms = Terms {
-        arrivals: totals.come,
-        room: totals.served,
+        arrivals: totals.arrivals,
+        room: totals.go,
         queued: total(queue),
         stopped: stopped(reaching, queue),
         frame: weights.frame,

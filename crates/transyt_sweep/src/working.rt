@@ -84,9 +84,9 @@ fn stand(
     ensures queued { queued.new ≡ queues (arrivals_of arrivals.now go_profile.now) go_profile.now }
     ensures departures { departures.new
         ≡ outs (arrivals_of arrivals.now go_profile.now) go_profile.now }
-    ensures total { result.come ≡ sum arrivals.now }
-    ensures served { result.served ≡ sum go_profile.now }
-    ensures cut { result.served < result.come
+    ensures arrivals_total { result.arrivals ≡ sum arrivals.now }
+    ensures go_total { result.go ≡ sum go_profile.now }
+    ensures cut { result.go < result.arrivals
         → cut_arrivals.new ≡ arrivals_of arrivals.now go_profile.now }
     ensures cut_small { All (λ v. v < 2 ^ 48) (arrivals_of arrivals.now go_profile.now) }
     ensures queued_small { All (λ v. v < 2 ^ 37) queued.new }

@@ -160,12 +160,12 @@ invariant_of-scratch g c =
       out_small = stood.ensures.departures_small;
       told = record {
         steps = omega (arith, steps, c.frame.ensures.valid.sound.frame.step_count);
-        come_small = filled.ensures.small;
-        room_small = green.ensures.small;
+        arrivals_small = filled.ensures.small;
+        go_small = green.ensures.small;
         queue_small = stood.ensures.queued_small;
         reached_small = subst (λ (xs : List ℕ). All (λ v. v < 2 ^ 48) xs) cut_is stood.ensures.cut_small;
-        come_total = stood.ensures.total ∙ ap sum come_is;
-        room_total = stood.ensures.served ∙ ap sum going_is;
+        arrivals_total = stood.ensures.arrivals_total ∙ ap sum come_is;
+        go_total = stood.ensures.go_total ∙ ap sum going_is;
         cut = λ more. stood.ensures.cut more ∙ cut_is;
         limits = c.weights_of.ensures.are;
       };

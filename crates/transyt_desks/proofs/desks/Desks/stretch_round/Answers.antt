@@ -1,54 +1,36 @@
 -- Desk 0 goes on alone, or the desks try, which are several then.
-use Rattle.std.proofs.Common.{length, ap, sym, ◌∙◌, subst, arith}
+use Rattle.std.proofs.Common.{length, subst, arith}
 use Rattle.transyt_climb.specs.Turns.{machine}
 use Rattle.transyt_desks.specs.Desks.{desk_zero}
-use Rattle.transyt_desks.specs.Rounds.{MakesRound, places_of}
+use Rattle.transyt_desks.specs.Rounds.{MakesRound}
 use Rattle.transyt_desks.proofs.RoundLaws.{places_alone, places_together, several_desks}
 use Rattle.transyt_desks.proofs.desks.Desks.stretch_round.Goals as goal
-
-pub returns-then-count-eq1-clause-made : goal.returns-then-count-eq1-clause-made
-returns-then-count-eq1-clause-made g c =
-    subst (λ n. MakesRound n (machine c.args.climber.now (desk_zero c.args.self.now))
-    (machine c.alone.new.climber (desk_zero c.alone.new.desks)) c.alone.result)
-    (ap (λ n. places_of n c.args.climber.now) (sym c.if-count-eq1.true ∙ c.count.ensures.value)) c.alone.ensures.made.made
-
-pub returns-then-count-eq1-clause-alike : goal.returns-then-count-eq1-clause-alike
-returns-then-count-eq1-clause-alike g c =
-    c.alone.ensures.made.alike c.requires.alike
-
-pub returns-then-count-eq1-clause-workers : goal.returns-then-count-eq1-clause-workers
-returns-then-count-eq1-clause-workers g c = c.alone.ensures.made.workers
 
 pub returns-then-goes_alone-clause-made : goal.returns-then-goes_alone-clause-made
 returns-then-goes_alone-clause-made g c =
     subst (λ n. MakesRound n (machine c.args.climber.now (desk_zero c.args.self.now))
-    (machine c.ahead.new.climber (desk_zero c.ahead.new.desks)) c.ahead.result)
-    (places_alone (length c.args.self.now) c.count-2.result c.args.climber.now c.goes_alone.result c.count-2.ensures.value
-    c.goes_alone.ensures.value c.if-goes_alone.true) c.ahead.ensures.made
+    (machine c.alone.new.climber (desk_zero c.alone.new.desks)) c.alone.result)
+    (places_alone (length c.args.self.now) c.count.result c.args.climber.now c.goes_alone.result c.count.ensures.value
+    c.goes_alone.ensures.value c.if-goes_alone.true) c.alone.ensures.made.made
 
 pub returns-then-goes_alone-clause-alike : goal.returns-then-goes_alone-clause-alike
-returns-then-goes_alone-clause-alike g c =
-    c.ahead.ensures.alike c.requires.alike
+returns-then-goes_alone-clause-alike g c = c.alone.ensures.made.alike c.requires.alike
 
 pub returns-then-goes_alone-clause-workers : goal.returns-then-goes_alone-clause-workers
-returns-then-goes_alone-clause-workers g c = c.ahead.ensures.workers
-
-pub returns-then-goes_alone-clause-steps : goal.returns-then-goes_alone-clause-steps
-returns-then-goes_alone-clause-steps g c one =
-    absurd (c.if-count-eq1.false (c.count.ensures.value ∙ one))
+returns-then-goes_alone-clause-workers g c = c.alone.ensures.made.workers
 
 pub together-requires-clause-several : goal.together-requires-clause-several
 together-requires-clause-several g c κs within =
-    several_desks (length c.args.self.now) c.count-2.result c.args.climber.now c.goes_alone.result c.count-2.ensures.value
+    several_desks (length c.args.self.now) c.count.result c.args.climber.now c.goes_alone.result c.count.ensures.value
     c.goes_alone.ensures.value c.if-goes_alone.false (omega (arith, c.count.ensures.value, c.count.ensures.some))
 
 pub returns-clause-made : goal.returns-clause-made
 returns-clause-made g c =
     subst (λ n. MakesRound n (machine c.args.climber.now (desk_zero c.args.self.now))
     (machine c.together.new.climber (desk_zero c.together.new.desks)) c.together.result)
-    (places_together (length c.args.self.now) c.count-2.result c.args.climber.now c.goes_alone.result
-    c.count-2.ensures.value c.goes_alone.ensures.value c.count-3.result c.share-share.result.desks c.share-share.result.each
-    c.if-goes_alone.false c.count-3.ensures.value c.share-share.ensures.desks c.share-share.ensures.each)
+    (places_together (length c.args.self.now) c.count.result c.args.climber.now c.goes_alone.result
+    c.count.ensures.value c.goes_alone.ensures.value c.count-2.result c.share-share.result.desks c.share-share.result.each
+    c.if-goes_alone.false c.count-2.ensures.value c.share-share.ensures.desks c.share-share.ensures.each)
     c.together.ensures.made
 
 pub returns-clause-alike : goal.returns-clause-alike
@@ -61,4 +43,9 @@ returns-clause-workers g c =
 
 pub returns-clause-steps : goal.returns-clause-steps
 returns-clause-steps g c one =
-    absurd (c.if-count-eq1.false (c.count.ensures.value ∙ one))
+    absurd (omega (
+      arith,
+      one,
+      several_desks (length c.args.self.now) c.count.result c.args.climber.now c.goes_alone.result
+          c.count.ensures.value c.goes_alone.ensures.value c.if-goes_alone.false (omega (arith, c.count.ensures.value, c.count.ensures.some)),
+    ))

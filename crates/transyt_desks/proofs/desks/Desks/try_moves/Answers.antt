@@ -12,6 +12,6 @@ returns-clause-alike g c =
     subst (λ ds. AreAlike (desks_of c.self.inside.zero (sessions_of ds))) (sym written)
     (aligned_alike (desks_of c.self.inside.zero (sessions_of c.find_some.new.desks))
     (standing_aligned c.self.inside.zero (sessions_of olds) (sessions_of c.find_some.new.desks) c.self.inside.following
-    c.self.invariant.0
+    c.self.invariant
     (omega (arith, sessions_count olds, sessions_count c.find_some.new.desks, c.find_some.ensures.len, ap length c.as_mut_slice.ensures.value))
     c.find_some.ensures.stand))

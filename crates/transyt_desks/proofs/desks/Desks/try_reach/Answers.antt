@@ -15,7 +15,7 @@ find_first-tried-requires-clause-ready g c κs within =
     let crew = c.self.inside.crew.items in
     subst (λ ss. CanAllFollow c.self.inside.zero.net c.with_known-reach.result.known ss)
     ((λ i. take (sym c.with_known-reach.ensures.desks i) (sessions_of (sym c.as_mut_slice.ensures.value i))))
-    (first_can c.self.inside.zero (sessions_of crew) c.self.inside.following n c.with_known-reach.result.known c.self.invariant.0
+    (first_can c.self.inside.zero (sessions_of crew) c.self.inside.following n c.with_known-reach.result.known c.self.invariant
     (subst AreAlike (sym c.self.view_is) c.requires.alike)
     (λ yes. grind (arith, nat_tests, yes, c.with_known-reach.ensures.known)))
 
@@ -27,25 +27,23 @@ invariant_of-self g c =
     let desks_is = c.with_known-reach.ensures.desks in
     let counts = c.find_first-tried.ensures.len ∙ ap length c.as_mut_slice.ensures.value in
     let written = with_items_is c.self.inside.crew news (c.find_first-tried.ensures.len ∙ c.as_mut_slice.ensures.len) in
-    let several = subst (λ ss. 1 < length ss) (sym c.self.view_is) c.requires.several in (
-      subst (λ ds. AreDesks c.find_first-tried.new.zero (sessions_of ds) c.known_after-self-inside.result) (sym written)
-          (tried_are n c.self.inside.zero c.find_first-tried.new.zero olds (sessions_of news) c.self.inside.following
-          c.with_known-reach.result c.find_first-tried.result
-          (omega (
-            arith,
-            c.requires.within,
-            ap length c.self.view_is,
-            crew_count c.self.inside.zero olds c.self.inside.following c.self.invariant.0 several,
-          ))
-          (omega (arith, counts, sessions_count news, sessions_count c.self.inside.crew.items))
-          (subst (λ m. drop m (sessions_of news) ≡ drop m olds) desks_is
-          (c.find_first-tried.ensures.others ∙ ap (λ (ds : List Desk). drop c.with_known-reach.result.desks (sessions_of ds)) c.as_mut_slice.ensures.value))
-          c.self.invariant.0 (subst AreAlike (sym c.self.view_is) c.requires.alike)
-          (subst (λ m. HasReached c.with_known-reach.result c.self.inside.zero c.find_first-tried.new.zero
-          (take m (sessions_of news)) c.find_first-tried.result) desks_is c.find_first-tried.ensures.reached)
-          c.known_after-self-inside.result c.known_after-self-inside.ensures.none c.known_after-self-inside.ensures.some),
-      tt,
-    )
+    let several = subst (λ ss. 1 < length ss) (sym c.self.view_is) c.requires.several in
+    subst (λ ds. AreDesks c.find_first-tried.new.zero (sessions_of ds) c.known_after-self-inside.result) (sym written)
+    (tried_are n c.self.inside.zero c.find_first-tried.new.zero olds (sessions_of news) c.self.inside.following
+    c.with_known-reach.result c.find_first-tried.result
+    (omega (
+      arith,
+      c.requires.within,
+      ap length c.self.view_is,
+      crew_count c.self.inside.zero olds c.self.inside.following c.self.invariant several,
+    ))
+    (omega (arith, counts, sessions_count news, sessions_count c.self.inside.crew.items))
+    (subst (λ m. drop m (sessions_of news) ≡ drop m olds) desks_is
+    (c.find_first-tried.ensures.others ∙ ap (λ (ds : List Desk). drop c.with_known-reach.result.desks (sessions_of ds)) c.as_mut_slice.ensures.value))
+    c.self.invariant (subst AreAlike (sym c.self.view_is) c.requires.alike)
+    (subst (λ m. HasReached c.with_known-reach.result c.self.inside.zero c.find_first-tried.new.zero
+    (take m (sessions_of news)) c.find_first-tried.result) desks_is c.find_first-tried.ensures.reached)
+    c.known_after-self-inside.result c.known_after-self-inside.ensures.none c.known_after-self-inside.ensures.some)
 
 pub returns-clause-alike : goal.returns-clause-alike
 returns-clause-alike g c =
@@ -63,11 +61,11 @@ returns-clause-alike g c =
       arith,
       c.requires.within,
       ap length c.self.view_is,
-      crew_count c.self.inside.zero olds c.self.inside.following c.self.invariant.0 several,
+      crew_count c.self.inside.zero olds c.self.inside.following c.self.invariant several,
     ))
     (omega (arith, counts, sessions_count news, sessions_count c.self.inside.crew.items))
     (subst (λ m. drop m (sessions_of news) ≡ drop m olds) desks_is
     (c.find_first-tried.ensures.others ∙ ap (λ (ds : List Desk). drop c.with_known-reach.result.desks (sessions_of ds)) c.as_mut_slice.ensures.value))
-    c.self.invariant.0 (subst AreAlike (sym c.self.view_is) c.requires.alike)
+    c.self.invariant (subst AreAlike (sym c.self.view_is) c.requires.alike)
     (subst (λ m. HasReached c.with_known-reach.result c.self.inside.zero c.find_first-tried.new.zero
     (take m (sessions_of news)) c.find_first-tried.result) desks_is c.find_first-tried.ensures.reached))
