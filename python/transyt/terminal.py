@@ -1,0 +1,64 @@
+"""What the words of `./plan` share: sentences on standard error, decks from files, texts to standard output."""
+
+import argparse
+import os
+import sys
+from typing import Optional
+
+from .deck import Deck, cards_of
+from .faults import Fault, in_file
+from .session import Session
+from .text import decoded, escaped
+
+
+def tell(sentence: str) -> None:
+    """A sentence on standard error, with control characters as `\\x1b`."""
+    print(escaped(sentence), file=sys.stderr, flush=True)
+
+
+def write(text: str) -> None:
+    """A text to standard output, in UTF-8 whatever the locale, whole."""
+    sys.stdout.flush()
+    data = text.encode("utf-8", "replace")
+    while data:
+        data = data[os.write(sys.stdout.fileno(), data):]
+
+
+def read_file(path: str) -> str:
+    """The text of a file, `-` for standard input; bytes that aren't UTF-8 become U+FFFD."""
+    try:
+        if path == "-":
+            return decoded(sys.stdin.buffer.read())
+        with open(path, "rb") as file:
+            return decoded(file.read())
+    except OSError as error:
+        raise Fault(f"{path} can't be read: {error.strerror}") from error
+
+
+def open_session(path: str, args: argparse.Namespace, workers: Optional[int] = None) -> Session:
+    """A session of the deck in a file; a fault of it has the file's name, and name lines that are left are told."""
+    text = cards_of(read_file(path))
+    try:
+        return Session(text, workers or getattr(args, "workers", 1), args.program, lambda said: tell(f"{path}, {said}"))
+    except Fault as fault:
+        raise in_file(path, fault) from fault
+
+
+def read_deck_file(path: str, args: argparse.Namespace) -> Deck:
+    """The deck of a file, once the program has accepted it, with its names and comments."""
+    with open_session(path, args, 1) as session:
+        return session.given
+
+
+def workers(word: str) -> int:
+    """The number of workers that a word tells, 1 to 8."""
+    if word not in ("1", "2", "3", "4", "5", "6", "7", "8"):
+        raise argparse.ArgumentTypeError(f"{word} is none of 1 to 8")
+    return int(word)
+
+
+def add_workers(parser: argparse.ArgumentParser) -> None:
+    """The argument --workers."""
+    count = min(8, len(os.sched_getaffinity(0)) if hasattr(os, "sched_getaffinity") else os.cpu_count() or 1)
+    parser.add_argument("--workers", type=workers, default=count, metavar="W",
+                        help=f"workers of the program, 1 to 8 ({count})")
