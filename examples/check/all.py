@@ -1,168 +1,169 @@
-"""all.py [PROGRAM [DECKS [SEED]]]: check.py and twin.py over the examples, and over random decks that PROGRAM answers.
+"""all.py [PROGRAM [DECKS [SEED]]]: the examples' reports, and random inputs that PROGRAM answers, against twin.py.
 
 PROGRAM is the built program, crates/transyt_cli/out/transyt_cli where none is named. Without one the examples alone are
-checked, by their stored reports. DECKS (20) towns are made from SEED (1): the links and feeds are those of `make`, and
-every other number is drawn. Each is run with edits, some of them refused, trials, climbs and a certificate, and then by
-the other words. The exit number is 0 where all agree."""
-import math, os, random, subprocess, sys
-from check import compared, words
+checked, by their stored reports. DECKS (20) decks are drawn from SEED (1), each with commands and then for the other words,
+some of them spoiled. Every output is compared to the byte, and the exit number too. The last line is 'N passed, M failed',
+and the exit number is 0 where none failed."""
+import os, subprocess, sys
+from random import Random
+from typing import Optional
+
+import decks
+from cards import MOST
 from twin import answer
 
-here = os.path.dirname(os.path.abspath(__file__))
-examples = os.path.dirname(here)
-usual = [os.path.join(examples, '../crates/transyt_cli/out/transyt_cli'), '20', '1']
-program, decks, seed = sys.argv[1:] + usual[len(sys.argv) - 1:]
-agreed = []
+HERE = os.path.dirname(os.path.abspath(__file__))
+EXAMPLES = os.path.dirname(HERE)
+BUILT = os.path.join(EXAMPLES, '../crates/transyt_cli/out/transyt_cli')
+# each stored report that doesn't take minutes: its deck, and the words of the call
+STORED = [('arterial', 'arterial', 'run'), ('town', 'town', 'run'), ('one-junction', 'one-junction', 'run'),
+          ('wrong', 'wrong', 'run'), ('counts', 'counts', 'counts'), ('equisat', 'equisat', 'equisat'),
+          ('certificate', 'certificate', 'audit'), ('changed', 'changed', 'audit'), ('cycles', 'cycles', 'cycles 4 60 120 10')]
+SECONDS = 120  # that the program has for an answer
+Output = tuple[bytes, Optional[int]]
 
 
-def tell(name, wrong, right):
-    """Tells how many lines agree, or each that doesn't."""
-    agreed.append(not wrong)
-    print(name + ': ' + ('\n'.join(wrong) if wrong else f'{right} lines agree'), flush=True)
+def due(words: list[str], data: bytes) -> Output:
+    """What twin.py writes, and its exit number."""
+    lines, written = answer(words, data), b''
+    while True:
+        try: written += next(lines).encode('latin-1') + b'\n'
+        except StopIteration as end: return written, end.value
 
 
-def check(name, deck, report):
-    """Compares the figures of a report of `run`, as check.py does."""
-    pairs = list(compared(words(deck.splitlines()), iter(words(report.splitlines())[1:])))
-    wrong = [f'the report has {told}, check.py gives {right}' for told, right in pairs if told != right]
-    tell(name, wrong, len(pairs))
+def first_difference(told: Output, right: Output) -> str:
+    """The first line or the number in which two outputs differ."""
+    for place, (a, b) in enumerate(zip(told[0].split(b'\n'), right[0].split(b'\n')), 1):
+        if a != b: return f'line {place}: the program wrote {a[:300]!r}, twin.py gives {b[:300]!r}'
+    if told[0] != right[0]: return f'the program wrote {len(told[0])} bytes, twin.py {len(right[0])}'
+    return f'the program ended with {told[1]}, twin.py with {right[1]}'
 
 
-def twin(name, asked, deck, report):
-    """Compares every line of an output with that of twin.py."""
-    right, told = list(answer(asked, deck.splitlines())), report.splitlines()
-    wrong = [f'the program wrote {a!r}, twin.py gives {b!r}' for a, b in zip(told, right) if a != b]
-    if len(told) != len(right): wrong.append(f'the program wrote {len(told)} lines, twin.py {len(right)}')
-    tell(f'{name}, {" ".join(asked)}', wrong, len(told))
+class Checks:
+    """The comparisons with one program, and how many of them passed and failed."""
+
+    def __init__(self, program: str) -> None: self.program, self.passed, self.failed = program, 0, 0
+
+    def run(self, words: list[str], data: bytes) -> Output:
+        """What the program writes, and its exit number; none where it takes too long or can't be run."""
+        try:
+            done = subprocess.run([self.program, *words], input=data, stdout=subprocess.PIPE, stderr=subprocess.DEVNULL,
+                                  timeout=SECONDS)
+        except (OSError, subprocess.TimeoutExpired): return b'', None
+        return done.stdout, done.returncode
+
+    def tell(self, name: str, told: Output, right: Output) -> bool:
+        """Counts a comparison, and tells a difference."""
+        if told == right: self.passed += 1
+        else:
+            self.failed += 1
+            print(f'{name}: {first_difference(told, right)}', flush=True)
+        return told == right
+
+    def same(self, name: str, calls: list[list[str]], data: bytes = b'') -> None:
+        """Compares the answers to calls that differ in the number of workers alone; shows an input that was told apart."""
+        right = due(calls[0], data)
+        told = [self.tell(f'{name}, {" ".join(words)}', self.run(words, data), right) for words in calls]
+        if not all(told) and data: sys.stdout.write(f'-- the input\n{data[:20000].decode("latin-1")}-- its end\n')
 
 
-def read(name):
-    with open(os.path.join(examples, name)) as file: return file.read()
+def read(name: str) -> bytes:
+    with open(os.path.join(EXAMPLES, name), 'rb') as file: return file.read()
 
 
-def stages(n):
-    """Two to four stages whose lengths sum to n steps, as cards."""
-    count = random.randint(2, min(4, n // 5))
-    needs = [(random.randint(0, 2), random.randint(1, 3)) for _ in range(count)]
-    cuts = sorted(random.randint(0, n - sum(map(sum, needs))) for _ in range(count - 1))
-    lengths = [sum(need) + high - low for need, low, high in zip(needs, [0, *cuts], [*cuts, n - sum(map(sum, needs))])]
-    first = random.randrange(n)
-    return [f'STAGE {(first + sum(lengths[:k])) % n} {need[0]} {need[1]}' for k, need in enumerate(needs)]
+def check_stored(checks: Checks) -> None:
+    for deck, report, words in STORED:
+        right = due(words.split(), read(deck + '.deck'))
+        if checks.tell(f'{report}.report', (read(report + '.report'), right[1]), right):
+            print(f'{report}.report, {words}: every byte agrees', flush=True)
 
 
-def number(usual, most):
-    """A number up to a usual greatest one, and now and then up to the limit of the cards."""
-    return random.randint(0, usual if random.random() < 0.9 else most)
+def check_words(checks: Checks, draw: Random) -> None:
+    """The words that read nothing, and words that are none."""
+    seed = str(draw.randrange(10 ** 9))
+    for words in (['make', seed, str(draw.randint(1, 200))], ['make', '000000001', '017']): checks.same('a made town', [words])
+    checks.same('a made town', [['brief', seed, '2'], ['brief', seed, '2', '8']])
+    for text in ('', 'RUN', 'run 0', 'run 9', 'run 01', 'run 1 1', 'make 1', 'make 1 0', 'make 1 201', 'make 1000000000 1',
+                 'brief 1 1 9', 'brief 1 1 1 1', 'scan 1 29 60 1', 'scan 1 61 60 1', 'scan 1 60 60 0', 'cycles 1 60 241 1',
+                 'cycles 1 60 60 211', 'cycles 0 60 60 1', 'starts 1 1 0', 'starts 1 1 1001', 'starts 1 1', 'audit 1',
+                 'starts 1 1 1000 1', 'starts 1 1 1 1000', 'starts 1 1 1 1 1', 'counts x', 'equisat 1', '--help'):
+        checks.same('words that are none', [text.split()], b'CYCLE 60 10 1 60 100\nEND\n')
 
 
-def random_deck(made):
-    """The town that `make` wrote with all its numbers drawn anew, and commands after it."""
-    n, form, cards, counts = random.choice([10, 18, 25, 40, 60]), random.choice([1, 2, 2]), [], {}
-    nodes, links, feeds = [], [], []
-    for keyword, *words in map(str.split, made.splitlines()):
-        if keyword == 'CYCLE':
-            frame = [random.randint(30, 240), n, random.randint(1, 8), random.randint(15, 120),
-                     number(200, 9999), number(60, 100)]
-            cards += ([f'FORM {form}'] if form == 2 else []) + ['CYCLE ' + ' '.join(map(str, frame))]
-        if keyword == 'NODE':
-            plan = stages(n)
-            counts[words[0]] = len(plan)
-            nodes.append(words[0])
-            cards += [f'NODE {words[0]} {random.randrange(n)}', *plan]
-        if keyword == 'LINK':
-            runs = random.sample(range(1, counts[words[1]] + 1), random.randint(1, counts[words[1]]))
-            lags = [number(2, n - 1), number(2, n - 1)] if form == 2 else []
-            numbers = [number(700, 9999), 100 + number(3500, 9899), number(5, 999), number(5, 999), *lags, *runs]
-            links.append(words[0])
-            cards.append(' '.join(['LINK', *words[:2], *map(str, numbers)]))
-        if keyword == 'FEED':
-            feeds.append(words[:2])
-            cards.append(f'FEED {words[0]} {words[1]} {number(600, 9999)} {1 + number(60, 299)}')
-    for link in random.sample(links, len(links) // 3):
-        cards.append(f'YIELD {link} {random.choice(links)} {number(150, 400)}')
-    sizes = ' '.join(str(random.randint(1, n - 1)) for _ in range(random.randint(1, 2)))
-    cards += [f'STEPS {random.randint(1, 60)} {sizes}', 'END']
-    node = lambda: random.choice(nodes) if random.random() < 0.9 else '7'
-    link = lambda: random.choice(links) if random.random() < 0.9 else '5'
-    feed = lambda: ' '.join(random.choice(feeds)) if feeds and random.random() < 0.8 else f'{link()} {link()}'
-    edits = [lambda: f'OFFSET {node()} {random.randrange(n + 2)}', lambda: f'ENTRY {link()} {number(700, 12000)}',
-             lambda: f'CHANGE {node()} {random.randint(0, 4)} {random.randrange(n + 2)}',
-             lambda: f'SATURATION {link()} {number(3500, 12000)}',
-             lambda: f'WEIGHT {link()} {number(5, 999)} {number(5, 1100)}',
-             lambda: f'PART {feed()} {number(600, 12000)}', lambda: f'CRUISE {feed()} {number(60, 330)}',
-             lambda: 'TRIAL', lambda: 'BACK', lambda: 'KEEP', lambda: 'CLIMB', lambda: 'WORK', lambda: 'LINKS',
-             lambda: f'PROFILE {link()}', lambda: f'QUEUE {link()}', lambda: f'PLOT {link()}']
-    commands = [random.choice(edits)() for _ in range(25)]
-    return '\n'.join([*cards, 'LINKS', *commands, 'KEEP', 'CLIMB', 'LINKS', 'CERT', 'WORK', 'TIMING', 'DECK', ''])
+def check_version(checks: Checks) -> bool:
+    """Compares the word `version`; a program that hasn't it hasn't the fourth number of `starts` either."""
+    if checks.run(['version'], b'')[1] == 1:
+        print('this program has no word version: it and the fourth number of starts are left out')
+        return False
+    checks.same('the version', [['version']])
+    return True
 
 
-def run(asked, text=''):
-    """What the program writes, or none where it has no such words."""
-    done = subprocess.run([program, *asked], input=text, capture_output=True, text=True)
-    return None if done.returncode == 1 else done.stdout
+def check_ends(checks: Checks) -> None:
+    """Inputs as long as may be and a byte longer, a read and a write that fail."""
+    deck = b'CYCLE 60 10 1 60 100\nEND\nWORK\n'
+    filler = b'*' + b' ' * 4094 + b'\n'
+    full = deck + filler * ((MOST - len(deck)) // len(filler))
+    full += b' ' * (MOST - 5 - len(full)) + b'\nWORK'
+    for name, data in (('the longest input', full), ('a longer input', full + b'\n'), ('a stop in it', b'STOP\n'.join([deck, full]))):
+        checks.same(name, [['run']], data)
+        checks.same(name, [['equisat']], data)
+    twin = [sys.executable, os.path.join(HERE, 'twin.py')]
+    for words in ('run', 'equisat', 'make 1 1'):
+        ends = [fault_ends(command, words.split()) for command in ([checks.program], twin)]
+        checks.tell(f'a fault, {words}', (b'', ends[0]), (b'', ends[1]))
 
 
-def certificate_of(cards):
-    """The lines of a deck's certificate as the program writes them, mostly with a line gone, doubled or changed."""
-    lines = run(['run'], '\n'.join([*cards, 'CERT', ''])).splitlines()[1:]
-    place = random.randrange(len(lines))
-    return random.choice([lines, lines[:place] + lines[place + 1:], [*lines[:place], lines[place], *lines[place:]],
-                          [*lines[:place], '* a comment', lines[place] + '0', *lines[place + 1:]]])
+def fault_ends(command: list[str], words: list[str]) -> Optional[list[int]]:
+    """The exit numbers where standard input is a folder, and where standard output is full."""
+    ends = []
+    folder = os.open(HERE, os.O_RDONLY)
+    try: ends.append(subprocess.run([*command, *words], stdin=folder, stdout=subprocess.DEVNULL, stderr=subprocess.DEVNULL).returncode)
+    except OSError: return None
+    finally: os.close(folder)
+    if os.path.exists('/dev/full'):
+        with open('/dev/full', 'wb') as full:
+            deck = b'CYCLE 60 10 1 60 100\nEND\n'
+            ends.append(subprocess.run([*command, *words], input=deck, stdout=full, stderr=subprocess.DEVNULL).returncode)
+    return ends
 
 
-def table_of(cards):
-    """A table of counts; some rows have a code."""
-    links = [card.split()[1] for card in cards if card.startswith('LINK')]
-    keys = [card.split()[1:3] for card in cards if card.startswith('FEED')] + [[link, ''] for link in links]
-    counted = lambda: [str(number(900, 999999)), str(number(60, 1500))]
-    rows = [[*random.choice(keys), *counted()] for _ in range(random.randrange(10))]
-    for row in rows:
-        if random.random() < 0.1: row[random.randrange(4)] = random.choice(['', '7', 'x', '1,2', links[0]])
-    return [','.join(row) for row in rows]
+def check_random(checks: Checks, name: str, draw: Random, has_from: bool) -> None:
+    """One random deck with its commands, and for each word that takes a deck."""
+    draft = decks.Draft(draw)
+    cards, failed = [*draft.cards, 'END'], checks.failed
+    checks.same(name, [['run'], ['run', str(draw.randint(1, 8))], ['run', '8']],
+                decks.written(draw, [*cards, *decks.commands(draft, 25)]))
+    for _ in range(3):
+        checks.same(name, [['run']], decks.written(draw, [*decks.spoiled(draft, cards), 'DECK', 'INDEX']))
+    C, low = draft.cycle, max(30, draft.cycle - 20)
+    first = [str(draw.choice([0, 1, 3, 997]))] if has_from and draw.random() < 0.5 else []
+    rows = [['scan', str(C), str(min(240, C + 20)), '20'], ['starts', str(draw.randrange(100)), '3', *first],
+            ['cycles', str(low), str(min(240, C + 20)), draw.choice(['5', '10'])]]
+    spoiled = decks.spoiled(draft, cards) if draw.random() < 0.2 else cards
+    for word, *numbers in rows: checks.same(name, [[word, w, *numbers] for w in '18'], decks.written(draw, spoiled))
+    checks.same(name, [['equisat']], decks.written(draw, spoiled))
+    text = decks.written(draw, [*cards, 'CERT'])
+    lines = due(['run'], text)[0].decode().split('\n')[1:-1]
+    checks.same(name, [['audit']], decks.written(draw, [*spoiled, *decks.certificate(draw, lines)]))
+    checks.same(name, [['counts']], '\n'.join([*spoiled, *decks.table(draft)]).encode('latin-1'))
+    print(f'{name}: {"every byte agrees" if checks.failed == failed else "it differs"}', flush=True)
 
 
-def try_words(name, cards):
-    """Compares what every word makes of a deck; words and commands that the program hasn't are left out."""
-    (C, N), = [map(int, card.split()[1:3]) for card in cards if card.startswith('CYCLE')]
-    whole = C // math.gcd(C, N)  # a cycle that differs by this has a whole number of steps of the same length
-    low = C - whole * ((C - 30) // whole)
-    for asked in (['equisat'], ['scan', '2', str(C), str(min(240, C + 20)), '20'],
-                  ['starts', '2', str(random.randrange(100)), '3'],
-                  ['cycles', '2', str(max(low, C - whole)), str(min(240, C + whole)), str(min(210, whole))]):
-        text = '\n'.join(cards) + '\n'
-        told = run(asked, text)
-        if told is not None: twin(name, asked, text, told)
-    for asked, lines in (('audit', certificate_of(cards)), ('counts', table_of(cards))):
-        text = '\n'.join([*cards, *lines, ''])
-        twin(name, [asked], text, run([asked], text))
-    new = '\n'.join([*cards, 'FIGURES', 'CHART', ''])
-    if 'REFUSED' not in run(['run'], new): twin(name, ['run'], new, run(['run'], new))
+def main(program: str = BUILT, count: str = '20', seed: str = '1') -> int:
+    checks = Checks(program)
+    check_stored(checks)
+    if os.path.exists(program):
+        draw = Random(int(seed))
+        has_from = check_version(checks)
+        check_words(checks, draw)
+        check_ends(checks)
+        for place in range(int(count)): check_random(checks, f'deck {place + 1} of seed {seed}', draw, has_from)
+    else: print(f'{program} is not built: no random decks')
+    print(f'{checks.passed} passed, {checks.failed} failed')
+    return 1 if checks.failed else 0
 
 
-for name in sorted(os.listdir(examples)):
-    if name.endswith('.deck') and read(name[:-5] + '.report').startswith('ACCEPTED'):
-        check(name, read(name), read(name[:-5] + '.report'))
-        twin(name, ['run'], read(name), read(name[:-5] + '.report'))
-# the certificate stands in its deck, after END, as the answer to CERT
-cards, end, certificate = read('certificate.deck').partition('\nEND\n')
-check('certificate.deck', cards + end + 'CERT\n', 'ACCEPTED\n' + certificate)
-for name, asked in (('equisat', 'equisat'), ('counts', 'counts'), ('certificate', 'audit'), ('changed', 'audit'),
-                    ('cycles', 'cycles 4 60 120 10')):
-    if os.path.exists(os.path.join(examples, name + '.report')):
-        twin(f'{name}.deck', asked.split(), read(f'{name}.deck'), read(f'{name}.report'))
-if os.path.exists(program):
-    random.seed(int(seed))
-    for word, most in (('make', 200), ('brief', 2)):
-        asked = [word, str(random.randrange(10 ** 9)), str(random.randint(1, most))]
-        twin('a made town', asked, '', run(asked))
-    for place in range(int(decks)):
-        deck = random_deck(run(['make', str(random.randrange(10 ** 9)), str(random.randint(1, 4))]))
-        name, before = f'random deck {place + 1} of seed {seed}', len(agreed)
-        report = run(['run', str(random.randint(1, 8))], deck)
-        check(name, deck, report)
-        twin(name, ['run'], deck, report)
-        try_words(name, deck[:deck.index('\nEND\n') + 4].splitlines())
-        if not all(agreed[before:]): print(deck)
-else:
-    print(f'{program} is not built: no random decks')
-sys.exit(0 if all(agreed) else 1)
+if __name__ == '__main__':
+    if len(sys.argv) > 4 or not all(word.isdigit() for word in sys.argv[2:]): sys.exit(__doc__)
+    sys.exit(main(*sys.argv[1:]))

@@ -1,80 +1,100 @@
-"""check.py DECK REPORT: works a run's deck out again, by docs/MODEL.md alone, and compares the run's report with it."""
-import itertools, math, sys
+"""Works an input out again, by docs/MODEL.md and docs/FORMATS.md alone, and compares its report with that.
 
-def read_deck(cards):
-    nodes, links, numbers = {}, {}, {}
-    for keyword, *n in cards:
-        if keyword == 'CYCLE': frame = (n + [35])[:6]
-        if keyword == 'NODE': node, nodes[n[0]], numbers['OFFSET', n[0]] = n[0], [], n[1:]
-        if keyword == 'STAGE': nodes[node].append(n[1]); numbers['CHANGE', node, len(nodes[node])] = n[:1]
-        if keyword == 'LINK':
-            start, end, *stages = n[6:] if ['FORM', 2] in cards else [0, 0] + n[6:]
-            links[n[0]] = {'node': n[1], 'start': start, 'end': end, 'stages': stages, 'FEED': [], 'YIELD': []}
-            numbers['ENTRY', n[0]], numbers['SATURATION', n[0]], numbers['WEIGHT', n[0]] = n[2:3], n[3:4], n[4:6]
-        if keyword == 'FEED': numbers[('PART', *n[:2])], numbers[('CRUISE', *n[:2])] = n[2:3], n[3:]
-        if keyword in ('FEED', 'YIELD'): links[n[0]][keyword].append(n[1:])
-    return frame, nodes, links, numbers
+Every line is worked out, refused cards and commands too, and every line of the report has to be one of these, in order and
+to the byte. The exit number is 0 where all agree, 1 where a line differs or none was compared, 2 where a file can't be
+read. With --quick a climb's other places aren't tried: its steps are taken from the report, and each has to lower the index
+to what it says. The work of such a climb isn't known, so lines of WORK after it aren't compared."""
+import argparse, sys, time
+from functools import partial
+from typing import Iterator, Optional
 
-def edited(numbers, *command):
-    return next({**numbers, command[:n]: command[n:]} for n in (2, 3) if command[:n] in numbers)
+from cards import is_number
+from town import Climb, Town, climb, moves, text_of, with_move
+from twin import answer, are_words
 
-def dispersed(x, t, k):
-    N, z = len(x), [sum(x) // len(x)]
-    for j in range(2 * N): z.append((100 * x[j % N] + k * t * z[-1]) // (100 + k * t))
-    return [z[N + 1 + (i - t) % N] for i in range(N)]
+SHOWN, EVERY = 20, 5  # differences that are told; seconds between two lines that say how far it is
 
-def green(N, offset, changes, intergreens, link):
-    shown, runs = [False] * N, [k + 1 in link['stages'] for k in range(len(changes))]
-    for k, change in enumerate(changes):
-        for p in range((changes[(k + 1) % len(changes)] - change) % N):
-            shown[(offset + change + p) % N] = runs[k] and (p >= intergreens[k] or runs[k - 1])
-    return [any(shown[i - n] for n in range(link['end'] + 1))
-            and not any(shown[i - n] and not shown[i - n - 1] for n in range(link['start'])) for i in range(N)]
 
-def evaluated(frame, nodes, links, numbers, before=None):
-    (C, N, S, T, K, k), of = frame, lambda *name: numbers[name][0]
-    units = lambda flow: flow * C * 1000000 // (3600 * N)
-    total = {l: of('ENTRY', l) + sum(of('PART', l, f) for f, *_ in link['FEED']) for l, link in links.items()}
-    OUT, shown = dict(before or {l: [units(total[l])] * N for l in links}), {}
-    for l, link in list(links.items()) * S:
-        IN, node = [units(of('ENTRY', l))] * N, link['node']
-        for f, *_ in link['FEED']:
-            share = [x * of('PART', l, f) // total[f] if total[f] else 0 for x in OUT[f]]
-            IN = list(map(sum, zip(IN, dispersed(share, (8 * of('CRUISE', l, f) * N + 5 * C) // (10 * C), k))))
-        changes = [of('CHANGE', node, stage + 1) for stage in range(len(nodes[node]))]
-        GO = [g * units(of('SATURATION', l)) for g in green(N, of('OFFSET', node), changes, nodes[node], link)]
-        for other, percent in link['YIELD']: GO = [g and max(1, g - percent * y // 100) for g, y in zip(GO, OUT[other])]
-        A, B, (wd, ws) = sum(IN), sum(GO), numbers['WEIGHT', l]
-        arrivals = [a * B // A for a in IN] if A > B else IN
-        Q = [max(0, *itertools.accumulate(arrivals[i - n] - GO[i - n] for n in range(N))) for i in range(N)]
-        OUT[l] = [Q[i - 1] + arrivals[i] - Q[i] for i in range(N)]
-        x, y, stops = 60 * T * A // C, 60 * T * B // C, sum(a for a, q in zip(arrivals, Q) if q) // C
-        delay = sum(Q) // N, (math.isqrt((x - y) ** 2 + 4000000 * x) + x - y) // 4
-        figures = [*delay, stops, wd * sum(delay) + ws * K * stops // 100]
-        shown[l] = {'IN': IN, 'GO': GO, 'OUT': OUT[l], 'QUEUE': Q, 'LINK': figures}
-    return shown, sum(link['LINK'][-1] for link in shown.values())
+class Report:
+    """The lines of a report, and how many of them were compared."""
 
-def compared(deck, report):
-    """Follows the commands as the report answers them: each line with figures, and what docs/MODEL.md makes of it."""
-    *network, numbers = read_deck(deck[:deck.index(['END'])])
-    for (keyword, *n), answer in zip(deck[deck.index(['END']) + 1:], report):
-        if answer == ['DONE'] and keyword == 'TRIAL': kept = numbers
-        elif answer == ['DONE'] and keyword != 'KEEP': numbers = edited(numbers, keyword, *n) if n else kept
-        shown, index = evaluated(*network, numbers)
-        for line in itertools.chain([answer], report):
-            if line[0] in ('TOOK', 'MOVE') and line[-1] != 'BARRED':
-                after = evaluated(*network, moved := edited(numbers, *line[2:-2]))
-                yield line[-1], after[1]
-                if line[0] == 'TOOK': numbers, (shown, index) = moved, after
-            elif 'UNIFORM' in line: yield line[3::2], shown[line[1]]['LINK']
-            elif line[0] in ('IN', 'GO', 'OUT', 'QUEUE'): yield line[2:], shown[line[1]][line[0]]
-            elif line[-2:-1] == ['INDEX']: yield line[-1], index
-            if line[0] not in 'LINK TOOK MOVE IN GO NODE STAGE CHART FORM CYCLE FEED YIELD STEPS'.split(): break
+    def __init__(self, data: bytes) -> None:
+        *self.lines, rest = data.decode('latin-1').split('\n')
+        if rest: self.lines.append(f'{rest} (and no LF behind it)')
+        self.place, self.told, self.has_followed = 0, time.monotonic(), False
 
-def words(text):
-    return [[int(word) if word.isdigit() else word for word in line.split()] for line in text if line.strip()[:1] > '9']
+    def next(self) -> Optional[str]: return self.lines[self.place] if self.place < len(self.lines) else None
 
-if __name__ == '__main__':
-    pairs = list(compared(words(open(sys.argv[1])), iter(words(open(sys.argv[2]))[1:])))
-    wrong = [f'the report has {answer}, docs/MODEL.md gives {right}' for answer, right in pairs if answer != right]
-    sys.exit('\n'.join(wrong) if wrong else print(f'{len(pairs)} lines of figures agree'))
+    def tell(self, looked: int = 0) -> None:
+        """Says now and then how far it is."""
+        if time.monotonic() < self.told + EVERY: return
+        self.told = time.monotonic()
+        places = f', {looked} places of a climb' if looked else ''
+        print(f'check.py: {self.place} of {len(self.lines)} lines{places}', file=sys.stderr, flush=True)
+
+    def followed(self, town: Town) -> Climb:
+        """A climb whose steps are those of the report, as far as each of them lowers the index."""
+        steps, at, looked, count, self.has_followed = [], 0, 0, len(list(moves(town))), True
+        for told in self.lines[self.place:]:
+            self.tell(looked)
+            keyword, place = (told.split(' ') + [''])[:2]
+            if keyword != 'TOOK' or not is_number(place) or int(place) >= count: break
+            looked, at = looked + (int(place) - at) % count + 1, int(place)
+            move = list(moves(town))[at]
+            after = with_move(town, move)
+            if looked > town.plan[0] or not after or after.index() >= town.index(): break
+            town = after
+            steps.append(f'TOOK {at} {text_of(move)} INDEX {town.index()}')
+        is_local = looked + count <= town.plan[0]
+        return Climb(town, steps, *(('LOCAL', looked + count) if is_local else ('BUDGET', town.plan[0])), 0)
+
+
+def compared(report: Report, right: Iterator[str]) -> Iterator[Optional[str]]:
+    """For each line that is due or was told: none where the two are the same, else how they differ."""
+    for text in right:
+        told = report.next()
+        report.place += 1
+        report.tell()
+        if report.has_followed and told and told[:5] == text[:5] == 'WORK ' and is_number(told[5:]): continue
+        yield None if told == text else differs(report.place, told, text)
+    while report.next() is not None:
+        report.place += 1
+        yield differs(report.place, report.lines[report.place - 1], None)
+
+
+def differs(place: int, told: Optional[str], right: Optional[str]) -> str:
+    has = 'ends' if told is None else f'has {told!r}'
+    return f'line {place}: the report {has}, docs/MODEL.md gives {"no more" if right is None else repr(right)}'
+
+
+def faults(deck: bytes, told: bytes, words: list[str], is_quick: bool = False) -> tuple[list[str], int]:
+    """How a report differs from what it should be, at the first lines that do; and how many lines were compared."""
+    report, found, count = Report(told), [], 0
+    for fault in compared(report, answer(words, deck, climber=report.followed if is_quick else partial(climb, look=report.tell))):
+        count += 1
+        if fault: found.append(fault)
+        if len(found) == SHOWN: break
+    return found, count
+
+
+def main() -> int:
+    parser = argparse.ArgumentParser('check.py', description=__doc__, formatter_class=argparse.RawDescriptionHelpFormatter)
+    parser.add_argument('--quick', action='store_true', help='take the steps of a climb from the report')
+    parser.add_argument('deck', metavar='DECK', help='the input: a deck, and what stands after it')
+    parser.add_argument('report', metavar='REPORT', help='what the program wrote of it')
+    parser.add_argument('words', metavar='WORD', nargs='*', default=['run'], help="the words of the program's call (run)")
+    asked = parser.parse_args()
+    words, read = asked.words, []
+    if not are_words(words): parser.error(f'{" ".join(words)}: the program takes no such words')
+    for name in (asked.deck, asked.report):
+        try:
+            with open(name, 'rb') as file: read.append(file.read())
+        except OSError as error: parser.error(f'{name} cannot be read: {error.strerror}')
+    found, count = faults(*read, words, asked.quick)
+    for fault in found: print(fault)
+    if len(found) == SHOWN: print('it stops here: what comes after these lines was not compared')
+    elif not found: print(f'{count} lines agree' if count else 'nothing was compared')
+    return 1 if found or not count else 0
+
+
+if __name__ == '__main__': sys.exit(main())
