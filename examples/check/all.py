@@ -23,9 +23,9 @@ SECONDS = 120  # that the program has for an answer
 Output = tuple[bytes, Optional[int]]
 
 
-def due(words: list[str], data: bytes) -> Output:
-    """What twin.py writes, and its exit number."""
-    lines, written = answer(words, data), b''
+def due(words: list[str], data: bytes, has_failed: bool = False) -> Output:
+    """What twin.py writes, and its exit number; `has_failed` says that a read fails after the data."""
+    lines, written = answer(words, data, has_failed), b''
     while True:
         try: written += next(lines).encode('latin-1') + b'\n'
         except StopIteration as end: return written, end.value
@@ -99,33 +99,27 @@ def check_version(checks: Checks) -> bool:
     return True
 
 
-def check_ends(checks: Checks) -> None:
-    """Inputs as long as may be and a byte longer, a read and a write that fail."""
+def check_lengths(checks: Checks) -> None:
+    """Inputs as long as may be, a byte longer, and ended by STOP."""
     deck = b'CYCLE 60 10 1 60 100\nEND\nWORK\n'
     filler = b'*' + b' ' * 4094 + b'\n'
     full = deck + filler * ((MOST - len(deck)) // len(filler))
     full += b' ' * (MOST - 5 - len(full)) + b'\nWORK'
-    for name, data in (('the longest input', full), ('a longer input', full + b'\n'), ('a stop in it', b'STOP\n'.join([deck, full]))):
-        checks.same(name, [['run']], data)
-        checks.same(name, [['equisat']], data)
-    twin = [sys.executable, os.path.join(HERE, 'twin.py')]
-    for words in ('run', 'equisat', 'make 1 1'):
-        ends = [fault_ends(command, words.split()) for command in ([checks.program], twin)]
-        checks.tell(f'a fault, {words}', (b'', ends[0]), (b'', ends[1]))
+    for name, data in (('the longest', full), ('a longer', full + b'\n'), ('a stopped', deck + b'STOP\n' + full)):
+        for word in ('run', 'equisat', 'counts'): checks.same(f'{name} input', [[word]], data)
 
 
-def fault_ends(command: list[str], words: list[str]) -> Optional[list[int]]:
-    """The exit numbers where standard input is a folder, and where standard output is full."""
-    ends = []
-    folder = os.open(HERE, os.O_RDONLY)
-    try: ends.append(subprocess.run([*command, *words], stdin=folder, stdout=subprocess.DEVNULL, stderr=subprocess.DEVNULL).returncode)
-    except OSError: return None
-    finally: os.close(folder)
-    if os.path.exists('/dev/full'):
+def check_faults(checks: Checks) -> None:
+    """A read that fails, of a folder, and a write that fails, to what is always full."""
+    for words in (['run'], ['equisat'], ['audit'], ['make', '1', '1']):
+        folder = os.open(HERE, os.O_RDONLY)
+        done = subprocess.run([checks.program, *words], stdin=folder, stdout=subprocess.PIPE, stderr=subprocess.DEVNULL)
+        os.close(folder)
+        checks.tell(f'a read that fails, {words[0]}', (done.stdout, done.returncode), due(words, b'', True))
+        if not os.path.exists('/dev/full'): continue
         with open('/dev/full', 'wb') as full:
-            deck = b'CYCLE 60 10 1 60 100\nEND\n'
-            ends.append(subprocess.run([*command, *words], input=deck, stdout=full, stderr=subprocess.DEVNULL).returncode)
-    return ends
+            done = subprocess.run([checks.program, *words], input=b'NODE 1 0\n', stdout=full, stderr=subprocess.DEVNULL)
+        checks.tell(f'a write that fails, {words[0]}', (b'', done.returncode), (b'', 4))
 
 
 def check_random(checks: Checks, name: str, draw: Random, has_from: bool) -> None:
@@ -157,7 +151,8 @@ def main(program: str = BUILT, count: str = '20', seed: str = '1') -> int:
         draw = Random(int(seed))
         has_from = check_version(checks)
         check_words(checks, draw)
-        check_ends(checks)
+        check_lengths(checks)
+        check_faults(checks)
         for place in range(int(count)): check_random(checks, f'deck {place + 1} of seed {seed}', draw, has_from)
     else: print(f'{program} is not built: no random decks')
     print(f'{checks.passed} passed, {checks.failed} failed')
