@@ -14,14 +14,19 @@ def balance(town: Town, node: int) -> tuple[list[int], list[int], tuple[int, int
     mine = [(l, link.stages[0]) for l, link in town.links.items() if link.node == node and len(link.stages) == 1]
     parts = lambda l, e: (town.flow(l) * N, town.numbers['SATURATION', l][0] * e)
     degree = lambda l, e: Fraction(*parts(l, e))
-    green = lambda k, fits: next(e for e in range(least[k - 1], 10 ** 9)
-                                 if all(fits(degree(l, e)) for l, stage in mine if stage == k))
+    # a green that is longer than the cycle fits in no plan
+    green = lambda k, fits: next((e for e in range(least[k - 1], N + 2)
+                                  if all(fits(degree(l, e)) for l, stage in mine if stage == k)), N + 2)
     spare = N - sum(town.intergreens[node])
     peaks = sorted({Fraction(0)} | {degree(l, e) for l, _ in mine for e in range(1, N + 1)})
     flows = any(town.flow(l) for l, _ in mine)
-    for V in peaks[flows:]:
-        greens = [green(k, lambda d: d <= V) for k in stages]
-        if sum(greens) <= spare: break
+    low, high = int(flows), len(peaks) - 1
+    while low < high:  # a greater peak wants no more green
+        V = peaks[(low + high) // 2]
+        if sum(green(k, lambda d: d <= V) for k in stages) <= spare: high = (low + high) // 2
+        else: low = (low + high) // 2 + 1
+    V = peaks[low]
+    greens = [green(k, lambda d: d <= V) for k in stages]
     greens[0] += spare - sum(greens)
     if not flows: return greens, [0] * len(greens), (0, 1), 0
     link, stage = next((l, k) for l, k in mine if degree(l, greens[k - 1]) == V)

@@ -1,6 +1,7 @@
 """The random inputs have every shape that is wanted, and all.py notices a wrong byte and a wrong exit number."""
-import contextlib, io, os, re, sys, tempfile, unittest
+import contextlib, io, os, re, tempfile, unittest
 from random import Random
+from typing import Callable
 from unittest import mock
 
 import all as everything
@@ -9,7 +10,7 @@ from cards import read_deck
 from twin import answer
 from worked import deck
 
-HERE = os.path.dirname(os.path.abspath(__file__))
+SMALL = 6  # the seed of a small deck
 
 
 class Inputs(unittest.TestCase):
@@ -66,33 +67,46 @@ class Inputs(unittest.TestCase):
         for seed in range(100): self.assertEqual(list(answer(['run'], decks.written(Random(seed), [*deck(), 'DECK']))), right)
 
 
-class Comparisons(unittest.TestCase):
-    """The program is played by scripts over twin.py, right and wrong ones."""
+class Played(everything.Checks):
+    """A program that is played by twin.py, with its answers changed."""
 
-    def run_with(self, change: str) -> tuple:
-        """How many comparisons of one random deck pass and fail where a script changes `text`, and how it ends."""
-        with tempfile.TemporaryDirectory() as folder:
-            program = os.path.join(folder, 'program')
-            with open(program, 'w') as file:
-                file.write(f'#!{sys.executable}\nimport sys\nsys.path.insert(0, {HERE!r})\nfrom all import due\n'
-                           f'text, end = due(sys.argv[1:], sys.stdin.buffer.read())\n{change}\n'
-                           'sys.stdout.buffer.write(text)\nsys.exit(end)\n')
-            os.chmod(program, 0o755)
-            checks = everything.Checks(program)
-            with contextlib.redirect_stdout(io.StringIO()): everything.check_random(checks, 'a deck', Random(4), True)
+    def __init__(self, change: Callable) -> None:
+        super().__init__('/nowhere')
+        self.change = change
+
+    def run(self, words: list, data: bytes) -> tuple:
+        text, end = everything.due(words, data)
+        return self.change(words, text), end
+
+
+class Comparisons(unittest.TestCase):
+    def counts(self, checks: everything.Checks) -> tuple:
+        """How many comparisons of one random deck pass and fail."""
+        with contextlib.redirect_stdout(io.StringIO()): everything.check_random(checks, 'a deck', Random(SMALL), True)
         return checks.passed, checks.failed
 
-    def test_a_right_program_passes(self):
-        passed, failed = self.run_with('')
+    def test_a_right_program_passes_and_a_wrong_one_fails(self):
+        passed, failed = self.counts(Played(lambda words, text: text))
         self.assertTrue(passed > 10 and not failed)
+        self.assertEqual(self.counts(Played(lambda words, text: text[:-1])), (0, passed))
+        changes = {'a blank line more': lambda words, text: text + b'\n',
+                   'another word': lambda words, text: text.replace(b'ACCEPTED', b'ACCEPT'),
+                   'eight workers': lambda words, text: b'' if words[-1] == '8' else text}
+        for name, change in changes.items(): self.assertGreater(self.counts(Played(change))[1], 0, name)
 
-    def test_wrong_programs_fail(self):
-        passed, failed = self.run_with('text = text[:-1]')
-        self.assertEqual(passed, 0)
-        self.assertGreater(failed, 10)
-        for change in ('end = 2 - end', 'text += b"\\n"', 'text = text.replace(b"ACCEPTED", b"ACCEPT")',
-                       'text = text if sys.argv[-1] != "8" else b""'):
-            self.assertGreater(self.run_with(change)[1], 0, change)
+    def test_a_program_is_run(self):
+        with tempfile.TemporaryDirectory() as folder:
+            program = os.path.join(folder, 'program')
+            with open(program, 'w') as file: file.write('#!/bin/sh\necho "$@"\ncat\nexit 2\n')
+            os.chmod(program, 0o755)
+            self.assertEqual(everything.Checks(program).run(['run', '8'], b'END\n'), (b'run 8\nEND\n', 2))
+
+    def test_another_exit_number_fails(self):
+        checks = everything.Checks('/nowhere')
+        with contextlib.redirect_stdout(io.StringIO()):
+            self.assertFalse(checks.tell('x', (b'a', 0), (b'a', 2)))
+            self.assertTrue(checks.tell('x', (b'a', 2), (b'a', 2)))
+        self.assertEqual((checks.passed, checks.failed), (1, 1))
 
     def test_the_first_difference_is_told(self):
         tell = everything.first_difference
