@@ -1,0 +1,56 @@
+"""How tests.py counts: what rt ci, unittest and all.py say at their ends, and groups that end badly."""
+import contextlib
+import io
+import unittest
+from unittest import mock
+
+import tests
+from tests import Count, told, unit_tests
+
+
+class Counting(unittest.TestCase):
+    def test_a_last_line(self) -> None:
+        self.assertEqual(told("45 passed, 0 failed"), Count(45, 0))
+        self.assertEqual(told("45 passed, 2 failed (transyt and the crates below alone: not the gate)"), Count(45, 2))
+        self.assertIsNone(told("rt: FAILED: transyt"))
+
+    def test_unittest(self) -> None:
+        ran = "..\n----\nRan 7 tests in 0.1s\n\n"
+        self.assertEqual(unit_tests(ran + "OK\n"), Count(7, 0))
+        self.assertEqual(unit_tests(ran + "OK (skipped=2)\n"), Count(5, 0))
+        self.assertEqual(unit_tests(ran + "FAILED (failures=1, errors=2, skipped=1)\n"), Count(3, 3))
+        self.assertEqual(unit_tests(ran + "FAILED (unexpected successes=1)\n"), Count(6, 1))
+        self.assertIsNone(unit_tests("Segmentation fault\n"))
+
+    def test_a_group_that_ends_badly_has_failed(self) -> None:
+        with contextlib.redirect_stdout(io.StringIO()) as out:
+            count = lambda program: tests.group("x", ["-c", program], told)
+            self.assertEqual(count("print('3 passed, 0 failed')"), Count(3, 0))
+            self.assertEqual(count("print('3 passed, 0 failed'); exit(1)"), Count(3, 1))
+            self.assertEqual(count("print('3 passed, 2 failed'); exit(1)"), Count(3, 2))
+            self.assertEqual(count("exit(4)"), Count(0, 1))
+            with mock.patch("tests.SECONDS", 0.2):
+                self.assertEqual(count("import time; time.sleep(9)"), Count(0, 1))
+        self.assertIn("it took too long", out.getvalue())
+
+    def test_a_group_without_a_number_has_failed(self) -> None:
+        with contextlib.redirect_stdout(io.StringIO()):
+            self.assertEqual(tests.group("x", ["-c", "pass"], told), Count(0, 1))
+
+    def end(self, status: str, line: str, groups: Count) -> tuple[int, str]:
+        """The exit number and the last line, where each group of unit tests has these numbers."""
+        out = io.StringIO()
+        with mock.patch("tests.unit_group", lambda folder: groups), mock.patch("tests.compared", lambda: Count(5, 0)):
+            with contextlib.redirect_stdout(out):
+                status = tests.main(status, line)
+        return status, out.getvalue().splitlines()[-1]
+
+    def test_the_last_line_and_the_worse_status(self) -> None:
+        self.assertEqual(self.end("0", "100 passed, 0 failed", Count(10, 0)), (0, "145 passed, 0 failed"))
+        self.assertEqual(self.end("1", "98 passed, 2 failed", Count(10, 0)), (1, "143 passed, 2 failed"))
+        self.assertEqual(self.end("0", "100 passed, 0 failed", Count(9, 1)), (1, "141 passed, 4 failed"))
+        self.assertEqual(self.end("137", "Killed", Count(0, 0)), (137, "5 passed, 1 failed"))
+
+
+if __name__ == "__main__":
+    unittest.main()

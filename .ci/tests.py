@@ -1,0 +1,86 @@
+"""tests.py STATUS LINE: the tests of what isn't Rattle, after rt ci ended with STATUS and with the last line LINE.
+
+Each group is left out, with a word on it, where what it needs isn't there. Nothing is built here: the program is the one
+that rt ci has just built. The last line is 'N passed, M failed' of rt ci and of these together, and the exit number is the
+worse of the two."""
+import os
+import re
+import subprocess
+import sys
+from typing import NamedTuple, Optional
+
+ROOT = os.path.dirname(os.path.dirname(os.path.abspath(__file__)))
+PROGRAM = "crates/transyt_cli/out/transyt_cli"
+SECONDS = 900  # that a group has
+
+
+class Count(NamedTuple):
+    passed: int
+    failed: int
+
+
+def say(text: str) -> None:
+    print(f".ci: {text}", flush=True)
+
+
+def told(line: str) -> Optional[Count]:
+    """The numbers of a line 'N passed, M failed'."""
+    found = re.match(r"(\d+) passed, (\d+) failed", line)
+    return Count(int(found[1]), int(found[2])) if found else None
+
+
+def unit_tests(text: str) -> Optional[Count]:
+    """The numbers of what unittest writes at its end; tests that it skipped are neither."""
+    ran = re.findall(r"^Ran (\d+) tests? in ", text, re.M)
+    if not ran:
+        return None
+    of = {kind: int(number) for kind, number in re.findall(r"(\w+)=(\d+)", text.strip().rsplit("\n", 1)[-1])}
+    failed = of.get("failures", 0) + of.get("errors", 0) + of.get("successes", 0)
+    return Count(max(0, int(ran[-1]) - failed - of.get("skipped", 0)), failed)
+
+
+def group(name: str, words: list[str], counted: object) -> Count:
+    """Runs a group of tests, shows what it writes, and counts it; one that ends badly, or with no number, has failed."""
+    say(name)
+    # the package of python/ is found without being installed
+    env = {**os.environ, "PYTHONPATH": f"{ROOT}/python"}
+    how = {"cwd": ROOT, "env": env, "stdin": subprocess.DEVNULL, "stdout": subprocess.PIPE, "stderr": subprocess.STDOUT}
+    try:
+        ran = subprocess.run([sys.executable, "-B", *words], timeout=SECONDS, text=True, errors="replace", **how)
+        text, status = ran.stdout, ran.returncode
+    except subprocess.TimeoutExpired as error:
+        text, status = (error.stdout or b"").decode(errors="replace") + "\nit took too long", 1
+    print(text, end="" if text.endswith("\n") else "\n")
+    found = counted(text)
+    return Count(found.passed, max(found.failed, int(status != 0))) if found else Count(0, 1)
+
+
+def unit_group(folder: str) -> Count:
+    """The unit tests of a folder, if it is there."""
+    if not os.path.isdir(f"{ROOT}/{folder}"):
+        say(f"there is no {folder}: its tests are left out")
+        return Count(0, 0)
+    return group(f"tests of {folder}", ["-m", "unittest", "discover", "-s", folder, "-p", "test_*.py"], unit_tests)
+
+
+def compared() -> Count:
+    """The examples and some random decks: what the built program writes, against what examples/check works out."""
+    if not os.access(f"{ROOT}/{PROGRAM}", os.X_OK):
+        say(f"{PROGRAM} is not built: it is not compared with examples/check")
+        return Count(0, 0)
+    words = ["examples/check/all.py", PROGRAM, "10", "1"]
+    return group("the program against examples/check", words, lambda text: told(text.strip().rsplit("\n", 1)[-1]))
+
+
+def main(status: str, line: str) -> int:
+    counts = [told(line) or Count(0, 1)]
+    for folder in (".ci", "examples/check", "examples/sumo", "python/tests"):
+        counts.append(unit_group(folder))
+    counts.append(compared())
+    passed, failed = map(sum, zip(*counts))
+    print(f"{passed} passed, {failed} failed")
+    return max(int(status), int(failed > 0))
+
+
+if __name__ == "__main__":
+    sys.exit(main(*sys.argv[1:]))
