@@ -16,6 +16,14 @@ def tell(sentence: str) -> None:
     print(escaped(sentence), file=sys.stderr, flush=True)
 
 
+def progress(sentence: str) -> None:
+    """How far it is, on standard error: a line, or the same line of a terminal."""
+    if sys.stderr.isatty():
+        print(f"\r{escaped(sentence)}\x1b[K", end="\r", file=sys.stderr, flush=True)
+    else:
+        tell(sentence)
+
+
 def write(text: str) -> None:
     """A text to standard output, in UTF-8 whatever the locale, whole."""
     sys.stdout.flush()
