@@ -31,6 +31,11 @@ empty_town = of (signals 4 8) (new_link 5 21 431 1733 3 2 1 2 (1 ∷ []) ∷ [])
 abbrev pub quiet_town : Network
 quiet_town = of (signals 4 8) (new_link 4 7 0 1451 4 1 0 0 (1 ∷ []) ∷ [])
 
+-- a town in which a first and a third stage of node 21 are alike: link 5 has at 6 steps of green what link 2 has at 4
+abbrev pub even_town : Network
+even_town =
+    of (signals 4 8) (new_link 5 21 735 1750 3 2 1 2 (1 ∷ []) ∷ new_link 2 21 455 1625 5 7 0 1 (3 ∷ []) ∷ [])
+
 -- a stage of an answer
 abbrev pub share : ℕ → ℕ → ℕ → Share
 share change green need = record { change = change; green = green; need = need }
@@ -47,6 +52,17 @@ balance_of_7 = record { top = 6984; base = 8706; link = 4; stages = share 5 6 7 
 -- the balance of node 7 without traffic: all that is left of the cycle goes to the first stage
 abbrev pub balance_without_traffic : GreensValue
 balance_without_traffic = record { top = 0; base = 1; link = 0; stages = share 5 9 0 ∷ share 17 5 0 ∷ [] }
+
+-- the balance of node 21 without traffic: of three stages too the first gets all that is left
+abbrev pub three_without_traffic : GreensValue
+three_without_traffic =
+    record { top = 0; base = 1; link = 0; stages = share 2 10 0 ∷ share 13 4 0 ∷ share 1 1 0 ∷ [] }
+
+-- and where both links are at the peak with 6, 4 and 4 steps: the first stage gets the one step that is left, so that
+-- link 2 alone has the peak, 455 · 18 of 1625 · 4
+abbrev pub balance_of_even : GreensValue
+balance_of_even =
+    record { top = 8190; base = 6500; link = 2; stages = share 2 7 7 ∷ share 10 4 4 ∷ share 16 4 5 ∷ [] }
 
 -- two stages with an intergreen of 1 and a least green of 2
 abbrev pub two_stages : List Stage

@@ -7,6 +7,7 @@ ghost use Rattle.transyt_equisat.specs.Peaks.{IsPlanOf, greens_of};
 ghost use Rattle.transyt_equisat.specs.Balance.{all_greens, balance, least_greens, need_at, timed, IsBalanced};
 ghost use Rattle.transyt_equisat.specs.WorkedBalances.{balance_of_21, balance_of_7, balance_without_traffic};
 ghost use Rattle.transyt_equisat.specs.WorkedBalances.{empty_town, quiet_town, greens_in_ten, share, two_stages, worked_town};
+ghost use Rattle.transyt_equisat.specs.WorkedBalances.{even_town, three_without_traffic, balance_of_even};
 ghost use Rattle.transyt_equisat.specs.WorkedBalances.{equal_town, four_at_peak, nine_at_peak, balance_by_four, balance_by_nine};
 ghost use Rattle.transyt_equisat.specs.WorkedPeaks.{fraction, compared, stages_of_21, stages_of_7, unplanned};
 ghost use Rattle.transyt_equisat.specs.WorkedPeaks.{tight_town, tight_node, worthless, not_least};
@@ -18,6 +19,8 @@ pub fn worked_balances()
     ensures second { balance worked_town 1 ≡ balance_of_7 }
     ensures empty { balance empty_town 1 ≡ balance_without_traffic }
     ensures quiet { balance quiet_town 1 ≡ balance_without_traffic }
+    ensures three { balance quiet_town 0 ≡ three_without_traffic }
+    ensures even { balance even_town 0 ≡ balance_of_even }
     ensures four_first { balance (equal_town (four_at_peak ∷ nine_at_peak ∷ [])) 0
         ≡ balance_by_four }
     ensures nine_first { balance (equal_town (nine_at_peak ∷ four_at_peak ∷ [])) 0

@@ -2,7 +2,7 @@
 use Rattle.std.proofs.Common.{◌≡◌, ◌/◌, [], ◌∷◌, map, refl}
 use Rattle.transyt_make.specs.Draws.{after_draws}
 use Rattle.transyt_make.specs.Made.{made, made_node, made_link}
-use Rattle.transyt_make.specs.WorkedTowns.{worked_draws, town_of_one, nodes_of_ten, links_of_ten}
+use Rattle.transyt_make.specs.WorkedTowns.{worked_draws, town_of_one, nodes_of_ten, links_of_ten, links_of_sixteen}
 
 -- the first six draws
 pub draws_of_one : map (λ k. after_draws 1 k / 65536) (1 ∷ 2 ∷ 3 ∷ 4 ∷ 5 ∷ 6 ∷ []) ≡ worked_draws
@@ -23,3 +23,8 @@ nodes_are = refl
 pub links_are : map (made_link 999999999 10) (1 ∷ 7 ∷ 29 ∷ 32 ∷ 36 ∷ 38 ∷ []) ≡ links_of_ten
 unfolding after_draws
 links_are = refl
+
+-- links of the town of sixteen
+pub far_links_are : map (made_link 999999999 16) (31 ∷ 62 ∷ []) ≡ links_of_sixteen
+unfolding after_draws
+far_links_are = refl

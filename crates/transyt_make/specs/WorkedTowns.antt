@@ -1,5 +1,5 @@
--- Towns that were worked out by hand: the whole one of one node, and parts of one of ten.
-use Rattle.std.specs.Prelude.{ℕ, List, [], ◌∷◌, Some}
+-- Towns that were worked out by hand: the whole one of one node, and parts of one of ten and of one of sixteen.
+use Rattle.std.specs.Prelude.{ℕ, List, [], ◌∷◌, Option, Some, None}
 use Rattle.transyt_parts.specs.declared.link.Feed.{Feed}
 use Rattle.transyt_parts.specs.Parts.{NodeValue, LinkValue}
 use Rattle.transyt_parts.specs.Made.{new_stage, new_feed, new_link, new_plan}
@@ -39,3 +39,16 @@ links_of_ten =
     ∷ fed_link 91 9 373 1 []
     ∷ fed_link 101 10 10 1 (new_feed 91 274 15 ∷ new_feed 93 60 15 ∷ new_feed 94 92 15 ∷ [])
     ∷ fed_link 103 10 17 2 (new_feed 23 266 30 ∷ new_feed 21 68 30 ∷ new_feed 22 96 30 ∷ []) ∷ []
+
+-- links of the town of sixteen nodes from the same seed: at the ends of two rows, from below and from above
+abbrev pub links_of_sixteen : List LinkValue
+links_of_sixteen =
+    fed_link 84 8 14 2 (new_feed 164 251 26 ∷ new_feed 161 60 26 ∷ new_feed 162 79 26 ∷ [])
+    ∷ fed_link 163 16 23 2 (new_feed 83 263 19 ∷ new_feed 81 85 19 ∷ new_feed 82 77 19 ∷ []) ∷ []
+
+-- nodes and sides in a town of sixteen, with the neighbour there, at both ends of two rows
+abbrev pub neighbours_in_sixteen : List ((ℕ × ℕ) × Option ℕ)
+neighbours_in_sixteen =
+    ((8, 1), Some 7) ∷ ((8, 2), None) ∷ ((8, 3), None) ∷ ((8, 4), Some 16) ∷ ((9, 1), None) ∷ ((9, 2), Some 10)
+    ∷ ((9, 3), Some 1) ∷ ((9, 4), None) ∷ ((16, 1), Some 15) ∷ ((16, 2), None) ∷ ((16, 3), Some 8)
+    ∷ ((16, 4), None) ∷ []

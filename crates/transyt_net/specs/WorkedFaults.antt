@@ -71,6 +71,7 @@ abbrev pub links : List (Option DraftFault × Option DraftFault)
 links =
     (link_fault town (new 99999), None) ∷ (link_fault town (new 9), Some draft.Twice)
     ∷ (link_fault town (record (new 6) { stages = 3 ∷ 3 ∷ [] }), Some draft.Twice)
+    ∷ (link_fault town (record (new 6) { stages = 9 ∷ 9 ∷ [] }), Some draft.Twice)
     ∷ (link_fault town (record (new 6) { stages = 3 ∷ 0 ∷ [] }), Some draft.Unknown)
     ∷ (link_fault town (record (new 6) { stages = 4 ∷ 3 ∷ [] }), Some draft.Unknown)
     ∷ (link_fault town (record (new 0) { node = 5 }), Some draft.Unknown)

@@ -1,5 +1,8 @@
 -- Figures in the units of an engineer that were worked out apart, with their links. No number of them is neutral.
 use Rattle.std.specs.Prelude.{ℕ, List, [], ◌∷◌, codes}
+use Rattle.transyt_parts.specs.Made.{new_link}
+use Rattle.transyt_net.specs.Parts.{Network}
+use Rattle.transyt_sweep.specs.WorkedSweeps.{one_node}
 use Rattle.transyt_report.specs.declared.measures.LinkFigures.{LinkFigures}
 use Rattle.transyt_report.specs.WorkedTexts.{ended}
 
@@ -46,6 +49,20 @@ worked_worst =
 abbrev pub sent_of_three : List (ℕ × ℕ)
 sent_of_three =
     (5, 311) ∷ (2, 77) ∷ (9, 402) ∷ (4, 88) ∷ (8, 173) ∷ (3, 279) ∷ (6, 41) ∷ (11, 0) ∷ []
+
+-- one link whose queue is greatest at step 0
+abbrev pub longest_at_first : Network
+longest_at_first = one_node 0 5 1 (new_link 1 1 360 1800 1 1 0 0 (1 ∷ []) ∷ [])
+
+-- FIGURES of it
+abbrev pub report_of_first : List ℕ
+report_of_first =
+    ended
+    (
+    codes "LINK 1 FLOW 360 SENT 0 SATURATION 500 DELAY 187 STOPPED 700 QUEUE 3600000"
+    ∷ codes "TOTAL DELAY 1878618 STOPS 70000 INDEX 1948618 WORST 1"
+    ∷ []
+    )
 
 -- FIGURES of the three junctions
 abbrev pub report_of_three : List ℕ

@@ -19,8 +19,9 @@ abbrev pub green_steps : List Bool
 green_steps = replicate 8 false ++ replicate 6 true ++ replicate 4 false
 
 -- at which steps a link is shown, its start lag and its end lag, and at which steps it is green: one with neither lag,
--- one that loses all its green, one that is shown at every step, one whose end lag leads past the cycle, and two that
--- open in the last step and in the last but one, whose start lags lead past the cycle
+-- one that loses all its green, one that is shown at every step, one whose end lag leads past the cycle, two that
+-- open in the last step and in the last but one, whose start lags lead past the cycle, and one that is shown in a single
+-- step, whose start lag goes on while the end lag holds it
 abbrev pub lagging : List (List Bool × ℕ × ℕ × List Bool)
 lagging =
     (true ∷ true ∷ false ∷ false ∷ [], 0, 0, true ∷ true ∷ false ∷ false ∷ [])
@@ -29,6 +30,7 @@ lagging =
     ∷ (true ∷ false ∷ false ∷ true ∷ [], 1, 1, true ∷ true ∷ false ∷ false ∷ [])
     ∷ (true ∷ true ∷ false ∷ false ∷ true ∷ [], 2, 0, false ∷ true ∷ false ∷ false ∷ false ∷ [])
     ∷ (true ∷ true ∷ false ∷ true ∷ true ∷ [], 3, 0, false ∷ true ∷ false ∷ false ∷ false ∷ [])
+    ∷ (true ∷ replicate 5 false, 3, 3, replicate 3 false ++ true ∷ replicate 2 false)
     ∷ []
 
 -- a percentage, the departures of the other link, GO before and GO after

@@ -1,6 +1,6 @@
 //! Laws about the definitions.
 
-ghost use Rattle.std.specs.Prelude.{◌≡◌, ℕ, List, [], ◌∷◌, All, map};
+ghost use Rattle.std.specs.Prelude.{◌≡◌, ℕ, List, [], ◌∷◌, All, map, replicate};
 ghost use Rattle.transyt_stopline.specs.StopLine.{arrivals_of, sum_at_places, sum_back, IsQueue, outs, queues};
 ghost use Rattle.transyt_stopline.specs.StopLine.{stopped_of};
 ghost use Rattle.transyt_stopline.specs.WorkedCycles.{
@@ -18,6 +18,7 @@ ghost use Rattle.transyt_stopline.specs.WorkedQueues.{queues_by_facts};
 pub fn worked_cycles()
     ensures cut { arrivals_of crowd green ≡ cut_crowd }
     ensures uncut { arrivals_of some_traffic green ≡ some_traffic }
+    ensures no_go { arrivals_of crowd (replicate 6 0) ≡ replicate 6 0 }
     ensures places { map (λ row. sum_at_places crowd row.0.0 row.0.1) worked_sums
         ≡ map (λ row. row.1) worked_sums }
     ensures sums { map (λ row. sum_back crowd row.0.0 row.0.1) worked_sums

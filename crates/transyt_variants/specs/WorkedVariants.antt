@@ -1,10 +1,10 @@
 -- Worked starts and cycle times of a town of two nodes. No number is neutral.
-use Rattle.std.specs.Prelude.{ℕ, List, [], ◌∷◌, Some}
+use Rattle.std.specs.Prelude.{ℕ, List, [], ◌∷◌, None, Some}
 use Rattle.transyt_parts.specs.Parts.{NodeValue}
 use Rattle.transyt_parts.specs.Made.{new_stage, new_plan, new_link}
 use Rattle.transyt_net.specs.Parts.{Network}
 use Rattle.transyt_net.specs.WorkedNets.{frame, of, signals}
-use Rattle.transyt_equisat.specs.WorkedBalances.{worked_town, worked_links}
+use Rattle.transyt_equisat.specs.WorkedBalances.{even_town, worked_town, worked_links}
 use Rattle.transyt_variants.specs.declared.cycles.AtCycle.{AtCycle}
 use Rattle.transyt_variants.specs.declared.cycles.AtCycle.TheVariants.{NoPlan, Barred, Plan}
 
@@ -25,9 +25,10 @@ nodes_at _ _ _ _ = []
 abbrev pub town_with : ℕ → ℕ → Network
 town_with offset other = of (nodes_at offset (2 ∷ 8 ∷ 15 ∷ []) other (5 ∷ 16 ∷ [])) (worked_links 431 0)
 
--- its first three starts from seed 7, whose draws modulo 18 are 16, 14, 14 and 12: the town, two draws, two more
+-- its first five starts from seed 7, whose draws modulo 18 are 16, 14, 14, 12, 5, 17, 12 and 2: the town, and two draws
+-- for each other start
 abbrev pub worked_starts : List Network
-worked_starts = town_with 4 17 ∷ town_with 16 14 ∷ town_with 14 12 ∷ []
+worked_starts = town_with 4 17 ∷ town_with 16 14 ∷ town_with 14 12 ∷ town_with 5 17 ∷ town_with 12 2 ∷ []
 
 -- the town at a cycle time of so many steps
 abbrev pub town_at : ℕ → ℕ → List NodeValue → AtCycle
@@ -44,6 +45,19 @@ town_at_135 = town_at 135 27 (nodes_at 6 (3 ∷ 17 ∷ 23 ∷ []) 25 (7 ∷ 20 �
 
 abbrev pub town_at_55 : AtCycle
 town_at_55 = town_at 55 11 (nodes_at 2 (1 ∷ 5 ∷ 0 ∷ []) 10 (3 ∷ 8 ∷ []))
+
+-- the town at its own 90 seconds: not as it stands, but with its balance
+abbrev pub town_at_90 : AtCycle
+town_at_90 = town_at 90 18 (nodes_at 4 (2 ∷ 10 ∷ 16 ∷ []) 17 (5 ∷ 14 ∷ []))
+
+-- the town with a first and a third stage that are alike, at 140 seconds, 28 steps: 12, 4 and 8 steps of green are
+-- enough for node 21, and the first of its three stages gets the one that is left, as that of node 7 all that are
+abbrev pub even_town_at_140 : AtCycle
+even_town_at_140 =
+    Plan (record even_town {
+      frame = record frame { cycle = 140; step_count = 28 };
+      nodes = nodes_at 6 (3 ∷ 17 ∷ 23 ∷ []) 26 (7 ∷ 1 ∷ []);
+    })
 
 -- the town with steps a third as long
 abbrev pub fast_town : Network
@@ -64,6 +78,21 @@ short_town = record worked_town {
       ∷ record { number = 7; offset = 17; stages = new_stage 5 3 2 ∷ new_stage 16 1 5 ∷ [] } ∷ [];
 }
 
+-- the town with another least green of this stage: node 21's second, and node 7's second
+abbrev pub with_least : ℕ → ℕ → Network
+with_least second other = record worked_town {
+  nodes = record { number = 21; offset = 4; stages = new_stage 2 1 3 ∷ new_stage 8 2 second ∷ new_stage 15 0 1 ∷ [] }
+      ∷ record { number = 7; offset = 17; stages = new_stage 5 3 2 ∷ new_stage 16 1 other ∷ [] } ∷ [];
+}
+
+-- the town without a climb plan
+abbrev pub planless : Network
+planless = record worked_town { plan = None }
+
+-- a network without nodes and links, of this cycle time and number of steps
+abbrev pub empty_at : ℕ → ℕ → Network
+empty_at cycle steps = record (of [] []) { frame = record frame { cycle = cycle; step_count = steps } }
+
 -- a cycle time of a network, and what it comes to
 pub record Case : Type 0 where
   pub net : Network
@@ -81,3 +110,13 @@ unplanned =
     ∷ case_of (lagged 10 2) 50 NoPlan ∷ case_of (lagged 1 10) 50 NoPlan ∷ case_of (sized 10) 50 NoPlan
     ∷ case_of (lagged 9 9) 50 (Barred 21) ∷ case_of (sized 9) 50 (Barred 21)
     ∷ case_of short_town 50 (Barred 7) ∷ []
+
+-- two barred nodes, of which the second needs more, and of which the first does: the first in card order is named;
+-- without a climb plan no size is too long; and 9, 10, 120 and 121 steps
+abbrev pub bounds : List Case
+bounds =
+    case_of (with_least 4 6) 50 (Barred 21) ∷ case_of (with_least 5 5) 50 (Barred 21)
+    ∷ case_of planless 50 (Barred 21)
+    ∷ case_of (empty_at 120 40) 30 (Plan (empty_at 30 10)) ∷ case_of (empty_at 120 20) 54 NoPlan
+    ∷ case_of (empty_at 120 120) 120 (Plan (empty_at 120 120)) ∷ case_of (empty_at 120 120) 121 NoPlan
+    ∷ []

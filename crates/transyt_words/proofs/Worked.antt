@@ -3,19 +3,25 @@ use Rattle.std.proofs.Common.{◌≡◌, ◌*◌, ◌++◌, ℕ, List, [], ◌�
 use Rattle.std.proofs.Common.{refl, sym, ◌∙◌, lit≤, arith}
 use Rattle.std.specs.Fmt.{digits}
 use Rattle.transyt_syntax.specs.declared.code.Code.TheVariants.{Unknown}
-use Rattle.transyt_text.specs.Forms.{filled, form_line}
+use Rattle.transyt_text.specs.Forms.{filled, form_line, values_text}
 use Rattle.transyt_outcome.specs.Outcome.{IsFront, TextRow}
 use Rattle.transyt_outcome.specs.WorkedOutcomes.{Each}
 use Rattle.transyt_outcome.specs.declared.status.Status.TheVariants.{Done}
-use Rattle.transyt_words.specs.Answer.{of_whole, answer_text, done, refusal, lines_text, refused_card}
+use Rattle.transyt_words.specs.Answer.{of_whole, answer_text, done, refusal, lines_text, refused_card, with_deck}
 use Rattle.transyt_words.specs.Whole.{StepsWithin, Told}
-use Rattle.transyt_words.specs.WorkedTexts.{worked_lines}
+use Rattle.transyt_words.specs.WorkedTexts.{a_best_line, line_with_deck, worked_lines}
+use Rattle.transyt_words.specs.WorkedPlans.{unlinked}
 use Rattle.transyt_words.specs.WorkedTold.{two_lines, first_text, both_texts, told_rows, untold_rows}
 
 -- each line has its text
 pub texts : map (λ row. lines_text row.0) worked_lines ≡ map (λ row. row.1) worked_lines
 unfolding form_line filled digits
 texts = refl
+
+-- the deck text follows the lines
+pub deck_is : answer_text (with_deck a_best_line (Some unlinked)) ≡ line_with_deck
+unfolding form_line filled digits values_text
+deck_is = refl
 
 -- a refused input is told by its line
 pub refused_report : (of_whole (λ input. refusal (refused_card 7 Unknown ∷ []))).report (9 ∷ [])

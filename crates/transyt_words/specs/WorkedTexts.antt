@@ -27,6 +27,16 @@ a_climb = record { number = 66; «from» = 1948618; took = 5; «local» = true; 
 abbrev pub a_balance : GreensValue
 a_balance = record { top = 1800; base = 1320; link = 21; stages = [] }
 
+-- a line, and its text with the deck text of the junction without links after it
+abbrev pub a_best_line : List LineValue
+a_best_line = plan.best_line (Some (record { place = 3; number = 66; «to» = 1352922 })) ∷ []
+
+abbrev pub line_with_deck : List ℕ
+line_with_deck =
+    codes "* BEST 66 1352922" ++ 10 ∷ codes "FORM 2" ++ 10 ∷ codes "CYCLE 90 15 2 45 37 40" ++ 10
+    ∷ codes "NODE 21 4" ++ 10 ∷ codes "STAGE 2 1 3" ++ 10 ∷ codes "STAGE 6 2 5" ++ 10 ∷ codes "STEPS 7 2" ++ 10
+    ∷ codes "END" ++ 10 ∷ []
+
 -- each kind of line, with its text
 abbrev pub worked_lines : List (List LineValue × List ℕ)
 worked_lines =

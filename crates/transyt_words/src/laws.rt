@@ -24,15 +24,16 @@ ghost use Rattle.transyt_words.specs.WorkedAnswers.{balance_lines, cut_after_thr
 ghost use Rattle.transyt_words.specs.WorkedAnswers.{scan_lines, steps_of_rest, worked_tables};
 ghost use Rattle.transyt_words.specs.WorkedPlans.{no_cycles, starts_in_range, starts_out_of_range, three_cycles, three_starts};
 ghost use Rattle.transyt_words.specs.WorkedPlans.{two_plan_lines, two_plans, unlinked, unlinked_at_66};
-ghost use Rattle.transyt_words.specs.WorkedTexts.{worked_lines};
+ghost use Rattle.transyt_words.specs.WorkedTexts.{a_best_line, line_with_deck, worked_lines};
 ghost use Rattle.transyt_words.specs.WorkedTold.{both_texts, told_rows, two_lines, untold_rows};
 ghost use Rattle.transyt_words.specs.declared.table.Numbered.TheVariants.{Cycles, Starts};
 
 /// The worked lines have the texts that are written beside the definitions. Of a refused input nothing is written
 /// before its end, and then the line of the refusal. Two bytes of at most 8 steps each may add 16, and not one more.
-#[tactic(auto, using(crate::proofs::Worked::texts, crate::proofs::Worked::refused_report, crate::proofs::Worked::all_steps, crate::proofs::Worked::one_step_more))]
+#[tactic(auto, using(crate::proofs::Worked::texts, crate::proofs::Worked::deck_is, crate::proofs::Worked::refused_report, crate::proofs::Worked::all_steps, crate::proofs::Worked::one_step_more))]
 pub fn worked_texts()
     ensures texts { map (λ row. lines_text row.0) worked_lines ≡ map (λ row. row.1) worked_lines }
+    ensures deck { answer_text (with_deck a_best_line (Some unlinked)) ≡ line_with_deck }
     ensures open { (of_whole (λ input. refusal (refused_card 7 Code.Unknown ∷ []))).ends (9 ∷ [])
         ≡ None }
     ensures report { (of_whole (λ input. refusal (refused_card 7 Code.Unknown ∷ []))).report
