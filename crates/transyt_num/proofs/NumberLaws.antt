@@ -17,10 +17,6 @@ use Rattle.transyt_num.specs.Number.{word_value, number_of, IsShortest}
 pub word_value_push : (ds : List ℕ) (c : ℕ) → word_value (ds ++ c ∷ []) ≡ word_value ds * 10 + (c - 48)
 word_value_push ds c = fold-append (λ value digit. value * 10 + (digit - 48)) 0 ds (c ∷ [])
 
--- the byte of a digit is one
-digit_byte : (d : ℕ) → d < 10 → is_ascii_digit (48 + d) ≡ true
-digit_byte d small = grind (arith, nat_tests)
-
 -- the shortest text of a value below ten is its digit
 shortest_digit : (n : ℕ) → n < 10 → IsShortest n ((48 + n) ∷ [])
 shortest_digit n small = grind (arith, nat_tests)

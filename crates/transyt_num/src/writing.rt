@@ -3,6 +3,8 @@
 ghost use Rattle.std.specs.Prelude.{◌≡◌, ℕ, ◌^◌, ◌<◌, ◌≤◌, take, drop, decimal, Some};
 ghost use Rattle.transyt_num.specs.Number.{number_of, IsShortest};
 
+use itoa::Buffer;
+
 /// Writes the shortest decimal text of `v` at the front of `out`, and returns its length, 1 to 39.
 ///
 /// The bytes of `out` after the text stay. The text of a `u64` has at most 20 bytes.
@@ -16,17 +18,8 @@ pub fn put_number(v: u128, out: &mut [u8; 39]) -> usize
     ensures digits { (k : ℕ) → 0 < k → v < 10 ^ k → result ≤ k }
     ensures short { v < 2 ^ 64 → result ≤ 20 }
 {
-    let mut digits = [b'0'; 39];
-    let mut start: usize = 39;
-    let mut rest = v;
-    while rest >= 10 {
-        start -= 1;
-        digits[start] = b'0' + (rest % 10) as u8;
-        rest /= 10;
-    }
-    start -= 1;
-    digits[start] = b'0' + rest as u8;
-    let length = 39 - start;
-    out[..length].copy_from_slice(&digits[start..]);
-    length
+    let mut buffer = Buffer::new();
+    let text = buffer.format(v).as_bytes();
+    out[..text.len()].copy_from_slice(text);
+    text.len()
 }
