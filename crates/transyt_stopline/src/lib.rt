@@ -9,6 +9,7 @@
 #![tactic(auto)]
 
 mod cutting;
+mod flow;
 mod laws;
 mod queueing;
 mod ratio;

@@ -4,6 +4,8 @@ ghost use Rattle.std.specs.Prelude.{◌≡◌, ℕ, ◌+◌, ◌-◌, ◌*◌, �
 ghost use Rattle.transyt_cycle.specs.Cycle.{step_before};
 ghost use Rattle.transyt_stopline.specs.StopLine.{IsQueue, outs, queues, turn};
 
+use crate::flow::Flow;
+
 /// The queue at the end of each step, and the departures in each step.
 ///
 /// All four slices have one value for each step of the cycle, in millionths of a vehicle; `queue` and `out` are
@@ -37,27 +39,27 @@ pub fn queue(arrivals: &[u64], go: &[u64], queue: &mut [u64], out: &mut [u64])
     ensures queue_small { All (λ v. v < 2 ^ 37) queue.new }
     ensures out_small { All (λ v. v < 2 ^ 30) out.new }
 {
-    let left = first_turn(arrivals, go, queue, out);
-    second_turn(arrivals, go, left, queue, out);
+    let flow = Flow { arrivals, go };
+    let left = first_turn(&flow, queue, out);
+    second_turn(&flow, left, queue, out);
 }
 
 /// Once round the cycle from an empty queue. The answer is the queue left then, that of every later cycle at its last
 /// step.
 #[tactic(auto, using(crate::proofs::QueueLaws::turn_more))]
-fn first_turn(arrivals: &[u64], go: &[u64], queue: &mut [u64], out: &mut [u64]) -> u64
-    requires most { length arrivals.now ≤ 120 }
-    requires go_len { length go.now ≡ length arrivals.now }
-    requires queue_len { length queue.old ≡ length arrivals.now }
-    requires out_len { length out.old ≡ length arrivals.now }
-    requires arrivals_fit { All (λ v. v < 2 ^ 48) arrivals.now }
-    ensures left { result ≡ turn arrivals.now go.now 0 (length arrivals.now) }
-    ensures small { result ≤ length arrivals.now * 2 ^ 48 }
-    ensures queue { (i : ℕ) → i < length arrivals.now
-        → slice_index queue.new i ≡ turn arrivals.now go.now 0 (i + 1) }
-    ensures out { (i : ℕ) → i < length arrivals.now
-        → slice_index out.new i + turn arrivals.now go.now 0 (i + 1)
-        ≡ turn arrivals.now go.now 0 i + slice_index arrivals.now i }
+fn first_turn(flow: &Flow<'_>, queue: &mut [u64], out: &mut [u64]) -> u64
+    requires queue_len { length queue.old ≡ length flow.now.arrivals.now }
+    requires out_len { length out.old ≡ length flow.now.arrivals.now }
+    ensures left { result
+        ≡ turn flow.now.arrivals.now flow.now.go.now 0 (length flow.now.arrivals.now) }
+    ensures small { result ≤ length flow.now.arrivals.now * 2 ^ 48 }
+    ensures queue { (i : ℕ) → i < length flow.now.arrivals.now
+        → slice_index queue.new i ≡ turn flow.now.arrivals.now flow.now.go.now 0 (i + 1) }
+    ensures out { (i : ℕ) → i < length flow.now.arrivals.now
+        → slice_index out.new i + turn flow.now.arrivals.now flow.now.go.now 0 (i + 1)
+        ≡ turn flow.now.arrivals.now flow.now.go.now 0 i + slice_index flow.now.arrivals.now i }
 {
+    let Flow { arrivals, go } = *flow;
     let mut waiting: u64 = 0;
     for i in 0..arrivals.len() {
         let present = waiting + arrivals[i];
@@ -72,27 +74,25 @@ fn first_turn(arrivals: &[u64], go: &[u64], queue: &mut [u64], out: &mut [u64]) 
 /// Round the cycle again, from the queue that was left, up to a step with the queue of the first turn: from there on
 /// the two turns are the same.
 #[tactic(auto, using(crate::proofs::QueueLaws::turn_more))]
-fn second_turn(arrivals: &[u64], go: &[u64], left: u64, queue: &mut [u64], out: &mut [u64])
-    requires most { length arrivals.now ≤ 120 }
-    requires go_len { length go.now ≡ length arrivals.now }
-    requires queue_len { length queue.old ≡ length arrivals.now }
-    requires out_len { length out.old ≡ length arrivals.now }
-    requires arrivals_fit { All (λ v. v < 2 ^ 48) arrivals.now }
-    requires small { left ≤ length arrivals.now * 2 ^ 48 }
-    requires queue { (i : ℕ) → i < length arrivals.now
-        → slice_index queue.old i ≡ turn arrivals.now go.now 0 (i + 1) }
-    requires out { (i : ℕ) → i < length arrivals.now
-        → slice_index out.old i + turn arrivals.now go.now 0 (i + 1)
-        ≡ turn arrivals.now go.now 0 i + slice_index arrivals.now i }
-    ensures queue { (i : ℕ) → i < length arrivals.now
-        → slice_index queue.new i ≡ turn arrivals.now go.now left (i + 1) }
-    ensures out { (i : ℕ) → i < length arrivals.now
-        → slice_index out.new i + turn arrivals.now go.now left (i + 1)
-        ≡ turn arrivals.now go.now left i + slice_index arrivals.now i }
+fn second_turn(flow: &Flow<'_>, left: u64, queue: &mut [u64], out: &mut [u64])
+    requires queue_len { length queue.old ≡ length flow.now.arrivals.now }
+    requires out_len { length out.old ≡ length flow.now.arrivals.now }
+    requires small { left ≤ length flow.now.arrivals.now * 2 ^ 48 }
+    requires queue { (i : ℕ) → i < length flow.now.arrivals.now
+        → slice_index queue.old i ≡ turn flow.now.arrivals.now flow.now.go.now 0 (i + 1) }
+    requires out { (i : ℕ) → i < length flow.now.arrivals.now
+        → slice_index out.old i + turn flow.now.arrivals.now flow.now.go.now 0 (i + 1)
+        ≡ turn flow.now.arrivals.now flow.now.go.now 0 i + slice_index flow.now.arrivals.now i }
+    ensures queue { (i : ℕ) → i < length flow.now.arrivals.now
+        → slice_index queue.new i ≡ turn flow.now.arrivals.now flow.now.go.now left (i + 1) }
+    ensures out { (i : ℕ) → i < length flow.now.arrivals.now
+        → slice_index out.new i + turn flow.now.arrivals.now flow.now.go.now left (i + 1)
+        ≡ turn flow.now.arrivals.now flow.now.go.now left i + slice_index flow.now.arrivals.now i }
 {
     if left == 0 {
         return;
     }
+    let Flow { arrivals, go } = *flow;
     let mut standing = left;
     for i in 0..arrivals.len() {
         let there = standing + arrivals[i];

@@ -9,15 +9,15 @@ use Rattle.transyt_stopline.proofs.queueing.second_turn.Goals as goal
 
 -- where it ends early, the steps from there on are those of the first turn
 meet : (c : goal.Then-standing-queue) (k : ℕ) → c.loop-i.i + 1 ≤ k
-    → turn c.args.arrivals.now c.args.go.now 0 k ≡ turn c.args.arrivals.now c.args.go.now c.args.left k
+    → turn c.args.flow.now.arrivals.now c.args.flow.now.go.now 0 k ≡ turn c.args.flow.now.arrivals.now c.args.flow.now.go.now c.args.left k
 meet c =
-    turns_meet c.args.arrivals.now c.args.go.now 0 c.args.left (c.loop-i.i + 1)
+    turns_meet c.args.flow.now.arrivals.now c.args.flow.now.go.now 0 c.args.left (c.loop-i.i + 1)
     (omega (
       arith,
       c.requires.queue c.loop-i.i (omega arith),
       c.loop-i.invariant.first_queue c.loop-i.i (omega arith),
       c.saturating_sub-standing.ensures,
-      turn_more c.args.arrivals.now c.args.go.now c.args.left c.loop-i.i,
+      turn_more c.args.flow.now.arrivals.now c.args.flow.now.go.now c.args.left c.loop-i.i,
     ))
 
 pub returns-then-standing-queue-clause-queue : goal.returns-then-standing-queue-clause-queue
@@ -36,7 +36,7 @@ pub returns-then-standing-queue-clause-out : goal.returns-then-standing-queue-cl
 returns-then-standing-queue-clause-out c = λ k below.
     ⊎_elim
     (λ (passed : k < c.loop-i.i + 1).
-    let more = turn_more c.args.arrivals.now c.args.go.now c.args.left c.loop-i.i in
+    let more = turn_more c.args.flow.now.arrivals.now c.args.flow.now.go.now c.args.left c.loop-i.i in
     grind (arith, common_steps, more, c.loop-i.invariant.out k))
     (λ (rest : c.loop-i.i + 1 ≤ k).
     let before = meet c k rest in
