@@ -8,20 +8,24 @@ use crate::passing::Passing;
 use crate::platoon::Platoon;
 use transyt_profile::{Scale, share_ready};
 
-/// Up to four platoons side by side, the products of each ready in a lane of its own.
+/// Up to four platoons side by side, the products of each ready in a lane of its own, with their sums.
 #[derive(Clone, Copy)]
 pub(crate) struct Abreast<'a> {
     /// The platoons, in the order of their lanes.
     pub(crate) platoons: &'a [Platoon<'a>],
     /// Four products for each step of the cycle, one of each lane.
     pub(crate) lanes: &'a [u64],
+    /// The sum of each platoon as it sets out, in the order of their lanes.
+    pub(crate) totals: &'a [u64],
     /// The steps of the cycle.
     pub(crate) step_count: usize,
     ghost some: { 0 < step_count },
     ghost most: { step_count ≤ 120 },
     ghost few: { length platoons.now ≤ 4 },
     ghost lanes_len: { length lanes.now ≡ 4 * step_count },
+    ghost totals_len: { length totals.now ≡ length platoons.now },
     ghost ready: { AreReady step_count lanes.now platoons.now },
+    ghost sums: { AreTotals totals.now platoons.now },
 }
 
 /// Makes the products of platoons ready, each in a lane of its own, with the sum of each, and says so; says no at the
@@ -57,11 +61,9 @@ pub(crate) fn fill_lanes(
     true
 }
 
-/// Each platoon before its first step; `totals` are their sums.
-pub(crate) fn begin_each<const N: usize>(abreast: &Abreast<'_>, totals: &[u64]) -> [Passing; N]
+/// Each platoon before its first step.
+pub(crate) fn begin_each<const N: usize>(abreast: &Abreast<'_>) -> [Passing; N]
     requires count { length abreast.now.platoons.now ≡ N }
-    requires totals_len { length totals.now ≡ N }
-    requires totals { AreTotals totals.now abreast.now.platoons.now }
     ensures { HavePassed abreast.now.platoons.now 0 result }
 {
     let none = Passing {
@@ -71,7 +73,7 @@ pub(crate) fn begin_each<const N: usize>(abreast: &Abreast<'_>, totals: &[u64]) 
     };
     let mut goings = [none; N];
     for lane in 0..N {
-        goings[lane] = Passing::begin(&abreast.platoons[lane], totals[lane]);
+        goings[lane] = Passing::begin(&abreast.platoons[lane], abreast.totals[lane]);
     }
     goings
 }

@@ -4,7 +4,7 @@ ghost use Rattle.std.specs.Prelude.{◌≡◌, ℕ, ◌+◌, ◌-◌, ◌*◌, �
 ghost use Rattle.transyt_platoon.specs.Platoon.{mixed, smoothed, dispersed};
 ghost use Rattle.transyt_platoon.specs.Passing.{Placed};
 
-use crate::mixer::{most_of, travel_by};
+use crate::mixer::{Quick, most_of, travel_by};
 use transyt_profile::total;
 
 /// Writes the profile of a platoon at the end of its travel, in millionths of a vehicle per step.
@@ -66,7 +66,7 @@ fn go_round(journey: &Journey<'_>, whole: u64, out: &mut [u64])
 {
     let most = most_of(u64::from(journey.percent) * u64::from(journey.time));
     if leaves_room(journey, whole, most) {
-        travel_by(journey, most, out);
+        travel_by(&Quick { journey, most }, out);
     } else {
         travel(journey, out);
     }

@@ -20,6 +20,21 @@ pub(crate) fn most_of(weight: u64) -> u64
     }
 }
 
+/// A journey that takes time and disperses, and whose values leave room for products.
+#[derive(Clone, Copy)]
+pub(crate) struct Quick<'a> {
+    /// The journey.
+    pub(crate) journey: &'a Journey<'a>,
+    /// The sum of its profile is below this, and so is each value.
+    pub(crate) most: u64,
+    ghost fit: { sum journey.now.profile.now < most },
+    ghost room: { most * (100 + journey.now.percent * journey.now.time)
+        * (100 + journey.now.percent * journey.now.time) ≤ 2 ^ 64 },
+    ghost most_fits: { most < 2 ^ 44 },
+    ghost some_travel: { 0 < journey.now.time },
+    ghost some_percent: { 0 < journey.now.percent },
+}
+
 /// The factors of `travel_by`, which take the place of a division.
 #[derive(Clone, Copy)]
 struct Mixer {
@@ -44,19 +59,16 @@ struct Mixer {
 }
 
 impl Mixer {
-    /// For this weight and values below `most`.
-    fn new(weight: u64, most: u64) -> Mixer
-        requires some { 0 < weight }
-        requires weight { weight ≤ 96000 }
-        requires room { most * (100 + weight) * (100 + weight) ≤ 2 ^ 64 }
-        requires most_fits { most < 2 ^ 44 }
-        ensures weight { result.weight ≡ weight }
-        ensures most { result.most ≡ most }
+    /// Those of a journey.
+    fn new(quick: &Quick<'_>) -> Mixer
+        ensures weight { result.weight ≡ quick.now.journey.now.percent * quick.now.journey.now.time }
+        ensures most { result.most ≡ quick.now.most }
     {
+        let weight = u64::from(quick.journey.percent) * u64::from(quick.journey.time);
         let reciprocal = reciprocal(100 + weight);
         Mixer {
             weight,
-            most,
+            most: quick.most,
             reciprocal,
             starting_factor: 100 * reciprocal,
             before_factor: weight * reciprocal,
@@ -76,20 +88,15 @@ impl Mixer {
     }
 }
 
-/// Twice round the cycle by products, where the sum of the profile is below `most`: the second turn is written.
-pub(crate) fn travel_by(journey: &Journey<'_>, most: u64, out: &mut [u64])
-    requires lengths { length journey.now.profile.now ≡ length out.old }
-    requires fit { sum journey.now.profile.now < most }
-    requires most { most * (100 + journey.now.percent * journey.now.time)
-        * (100 + journey.now.percent * journey.now.time) ≤ 2 ^ 64 }
-    requires most_fits { most < 2 ^ 44 }
-    requires some_travel { 0 < journey.now.time }
-    requires some_percent { 0 < journey.now.percent }
-    ensures { Placed journey.now.profile.now out.new journey.now.time journey.now.percent
-        (length journey.now.profile.now) }
+/// Twice round the cycle by products: the second turn is written.
+pub(crate) fn travel_by(quick: &Quick<'_>, out: &mut [u64])
+    requires { length quick.now.journey.now.profile.now ≡ length out.old }
+    ensures { Placed quick.now.journey.now.profile.now out.new quick.now.journey.now.time
+        quick.now.journey.now.percent (length quick.now.journey.now.profile.now) }
 {
+    let journey = quick.journey;
     let x = journey.profile;
-    let mixer = Mixer::new(u64::from(journey.percent) * u64::from(journey.time), most);
+    let mixer = Mixer::new(quick);
     let mut value = journey.mean;
     'first: for i in 0..x.len() {
         value = mixer.mix(x[i], value);

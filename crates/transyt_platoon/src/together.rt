@@ -2,7 +2,6 @@
 
 ghost use Rattle.std.specs.Prelude.{◌≡◌, ℕ, ◌+◌, ◌*◌, ◌^◌, ◌<◌, ◌≤◌, length, All, Any, IsTrue};
 ghost use Rattle.transyt_platoon.specs.Arriving.{sent, with_arriving};
-ghost use Rattle.transyt_platoon.specs.Passing.{AreTotals};
 ghost use Rattle.transyt_profile.specs.Profile.{folded};
 
 use crate::abreast::{Abreast, arrive_each, begin_each, fill_lanes, pass_each};
@@ -45,17 +44,16 @@ pub fn disperse_together(
     let abreast = Abreast {
         platoons,
         lanes,
+        totals,
         step_count,
     };
-    add_all(&abreast, totals, turns);
+    add_all(&abreast, turns);
     true
 }
 
-/// Adds platoons whose products are ready to two turns round the cycle; `totals` are their sums.
-fn add_all(abreast: &Abreast<'_>, totals: &[u64], turns: &mut [u64])
+/// Adds platoons whose products are ready to two turns round the cycle.
+fn add_all(abreast: &Abreast<'_>, turns: &mut [u64])
     requires some { 0 < length abreast.now.platoons.now }
-    requires totals_len { length totals.now ≡ length abreast.now.platoons.now }
-    requires totals { AreTotals totals.now abreast.now.platoons.now }
     requires turns_len { length turns.old ≡ 2 * abreast.now.step_count }
     requires fit { All (λ v. v < 2 ^ 48) (folded abreast.now.step_count turns.old) }
     ensures value { folded abreast.now.step_count turns.new
@@ -66,21 +64,19 @@ fn add_all(abreast: &Abreast<'_>, totals: &[u64], turns: &mut [u64])
 {
     let count = abreast.platoons.len();
     if count == 4 {
-        add_each::<4>(abreast, totals, turns);
+        add_each::<4>(abreast, turns);
     } else if count == 3 {
-        add_each::<3>(abreast, totals, turns);
+        add_each::<3>(abreast, turns);
     } else if count == 2 {
-        add_each::<2>(abreast, totals, turns);
+        add_each::<2>(abreast, turns);
     } else {
-        add_each::<1>(abreast, totals, turns);
+        add_each::<1>(abreast, turns);
     }
 }
 
 /// The same where their number is known, so that no step of one is kept in memory.
-fn add_each<const N: usize>(abreast: &Abreast<'_>, totals: &[u64], turns: &mut [u64])
+fn add_each<const N: usize>(abreast: &Abreast<'_>, turns: &mut [u64])
     requires count { length abreast.now.platoons.now ≡ N }
-    requires totals_len { length totals.now ≡ N }
-    requires totals { AreTotals totals.now abreast.now.platoons.now }
     requires turns_len { length turns.old ≡ 2 * abreast.now.step_count }
     requires fit { All (λ v. v < 2 ^ 48) (folded abreast.now.step_count turns.old) }
     ensures value { folded abreast.now.step_count turns.new
@@ -89,7 +85,7 @@ fn add_each<const N: usize>(abreast: &Abreast<'_>, totals: &[u64], turns: &mut [
         → All (λ v. v < limit + length abreast.now.platoons.now * 2 ^ 22)
         (folded abreast.now.step_count turns.new) }
 {
-    let mut goings: [Passing; N] = begin_each(abreast, totals);
+    let mut goings: [Passing; N] = begin_each(abreast);
     'first: for step in 0..abreast.step_count {
         pass_each(abreast, step, &mut goings);
     }

@@ -7,15 +7,15 @@ use Rattle.transyt_platoon.proofs.mixer.travel_by.Given as goal
 -- the value after i steps of the first turn
 abbrev pub invariant-first : goal.invariant-first
 invariant-first l = record {
-  small : l.value < l.most;
-  here : l.value ≡ smoothed l.journey.profile.now (l.journey.percent * l.journey.time) l.i;
+  small : l.value < l.quick.most;
+  here : l.value ≡ smoothed l.quick.journey.now.profile.now (l.quick.journey.now.percent * l.quick.journey.now.time) l.i;
 }
 
 -- the value after i steps of the second turn, and where it will stand; those before stand in their places
 abbrev pub invariant-second : goal.invariant-second
 invariant-second l = record {
-  small : l.value < l.most;
-  here : l.value ≡ smoothed l.journey.profile.now (l.journey.percent * l.journey.time) (length l.journey.profile.now + l.i);
-  place : l.place ≡ (l.i + l.journey.time) % length l.journey.profile.now;
-  placed : Placed l.journey.profile.now l.out l.journey.time l.journey.percent l.i;
+  small : l.value < l.quick.most;
+  here : l.value ≡ smoothed l.quick.journey.now.profile.now (l.quick.journey.now.percent * l.quick.journey.now.time) (length l.quick.journey.now.profile.now + l.i);
+  place : l.place ≡ (l.i + l.quick.journey.now.time) % length l.quick.journey.now.profile.now;
+  placed : Placed l.quick.journey.now.profile.now l.out l.quick.journey.now.time l.quick.journey.now.percent l.i;
 }
