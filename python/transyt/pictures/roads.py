@@ -132,7 +132,8 @@ def heights_of(deck: Deck, route: Route, both: bool) -> List[float]:
     lengths, _ = lengths_of(deck, route)
     least = BLOCK * (2 if both else 1) + GAP
     scale = TARGET / max(sum(lengths), 1)
-    y, places = BLOCK + 6 if both else 14.0, []
+    y: float = BLOCK + 6 if both else 14.0
+    places: List[float] = []
     for length in [0, *reversed(lengths)]:
         y += max(least, scale * length) if places else 0
         places.insert(0, y)

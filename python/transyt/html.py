@@ -1,0 +1,68 @@
+"""Pieces of a page: text as text, figures with their raw value and their place in the report, tables."""
+
+import base64
+import hashlib
+from html import escape
+from typing import Sequence
+
+CSS = """
+body { font: 14px/1.45 sans-serif; color: #1d1d26; max-width: 62em; margin: 2em auto; padding: 0 1em; }
+h1 { font-size: 1.5em; margin-bottom: 0.2em; } h2 { font-size: 1.15em; margin: 1.6em 0 0.4em; }
+table { border-collapse: collapse; width: 100%; } th, td { padding: 0.18em 0.5em; border-bottom: 1px solid #d9d9e0; }
+th { text-align: left; vertical-align: bottom; } td.number, th.number { text-align: right; }
+thead th { border-bottom: 2px solid #4a4e69; } th[data-sorted] { text-decoration: underline; }
+.worse { font-weight: bold; } .better { color: #1b6ca8; } .mark { color: #b23a48; font-weight: bold; }
+.small { font-size: 0.85em; color: #4a4e69; } code { overflow-wrap: anywhere; } svg { width: 100%; height: auto; }
+dl { display: grid; grid-template-columns: max-content 1fr; gap: 0.1em 1em; } dd { margin: 0; }
+@page { size: A4; margin: 14mm; }
+@media print { body { margin: 0; max-width: none; font-size: 10pt; } h2, svg, tr { break-inside: avoid; } }
+"""
+SCRIPT = """
+for (const table of document.querySelectorAll('table.sortable')) {
+  table.querySelectorAll('thead th').forEach((head, column) => head.addEventListener('click', () => {
+    const value = row => { const cell = row.cells[column], data = cell.querySelector('data');
+      return data ? Number(data.value) : cell.textContent; };
+    const rows = [...table.tBodies[0].rows], down = head.dataset.sorted === 'up';
+    rows.sort((a, b) => { const x = value(a), y = value(b); return (x < y ? -1 : x > y ? 1 : 0) * (down ? -1 : 1); });
+    table.querySelectorAll('thead th').forEach(other => delete other.dataset.sorted);
+    head.dataset.sorted = down ? 'down' : 'up';
+    rows.forEach(row => table.tBodies[0].append(row));
+  }));
+}
+"""
+
+
+def text(words: str) -> str:
+    """A text as text, isolated in its direction."""
+    return f"<bdi>{escape(words)}</bdi>"
+
+
+def figure(place: str, raw: int, shown: str) -> str:
+    """A figure: its raw value, its place in the report, and how it is shown."""
+    return f'<data value="{raw}" class="{escape(place)}">{escape(shown)}</data>'
+
+
+def digest(text_of: str) -> str:
+    """The source by which a policy allows a script or a style sheet."""
+    return "sha256-" + base64.b64encode(hashlib.sha256(text_of.encode("utf-8")).digest()).decode("ascii")
+
+
+def document(title: str, body: str) -> str:
+    """A page that needs no network: its policy allows its own style sheet and script by their sums, and nothing else."""
+    policy = f"default-src 'none'; style-src '{digest(CSS)}'; script-src '{digest(SCRIPT)}'"
+    return (f'<!DOCTYPE html>\n<html lang="en">\n<head>\n<meta charset="utf-8">\n'
+            f'<meta http-equiv="Content-Security-Policy" content="{policy}">\n'
+            f'<meta name="viewport" content="width=device-width, initial-scale=1">\n<title>{escape(title)}</title>\n'
+            f"<style>{CSS}</style>\n</head>\n<body>\n{body}\n<script>{SCRIPT}</script>\n</body>\n</html>\n")
+
+
+def table(heads: Sequence[str], rows: Sequence[Sequence[str]], numbers: int, kind: str = "") -> str:
+    """A table of cells that are HTML already; the last `numbers` columns are set to the right."""
+    def cells(name: str, row: Sequence[str]) -> str:
+        first = len(row) - numbers
+        return "".join(f'<{name} class="number">{cell}</{name}>' if place >= first else f"<{name}>{cell}</{name}>"
+                       for place, cell in enumerate(row))
+
+    body = "\n".join(f"<tr>{cells('td', row)}</tr>" for row in rows)
+    named = f' class="{kind}"' if kind else ""
+    return f"<table{named}>\n<thead><tr>{cells('th', heads)}</tr></thead>\n<tbody>\n{body}\n</tbody>\n</table>"
