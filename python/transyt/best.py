@@ -39,13 +39,23 @@ class Wanted:
 
 
 class Search:
-    """A deck that gets better: `deck` is the best so far, with its index, and whether a climb ended LOCAL there."""
+    """A deck that gets better: `best` is the best so far with its index, set at once, so that Ctrl-C finds a pair."""
 
     def __init__(self, deck: Deck, program: Program, wanted: Wanted, tell: Tell,
                  progress: Callable[[str], None] = lambda _: None) -> None:
-        self.given, self.deck, self.program, self.wanted = deck, deck, program, wanted
+        self.given, self.program, self.wanted = deck, program, wanted
         self.tell, self._progress, self._told = tell, progress, time.monotonic()
-        self.index, self.local = self._index_of(deck), False
+        self.best = (deck, self._index_of(deck))
+
+    @property
+    def deck(self) -> Deck:
+        """The best deck so far."""
+        return self.best[0]
+
+    @property
+    def index(self) -> int:
+        """The index of the best deck so far."""
+        return self.best[1]
 
     def run(self) -> None:
         """All words in their order."""
@@ -119,8 +129,8 @@ class Search:
         """CLIMB until LOCAL."""
         before = self.index
         with Session(self.deck, self.wanted.workers, self.program.path) as session:
-            self.local = self._until_local(session, follow=True)
-        self.tell(f"climb: {before} to {self.index}, {'LOCAL' if self.local else 'BUDGET: not LOCAL'}")
+            local = self._until_local(session, follow=True)
+        self.tell(f"climb: {before} to {self.index}, {'LOCAL' if local else 'BUDGET: not LOCAL'}")
 
     def _until_local(self, session: Session, follow: bool = False) -> bool:
         """Climbs until LOCAL; whether that came. With `follow` the best deck goes along with each step."""
@@ -128,7 +138,7 @@ class Search:
             climb = session.climb()
             for step in climb:
                 if follow:
-                    self.deck, self.index = after(self.deck, step.edit), step.index
+                    self.best = (after(self.deck, step.edit), step.index)
                 self.progress(f"climb: {step.index}")
             if climb.local or not climb.steps:
                 if not climb.local:
@@ -144,7 +154,7 @@ class Search:
             for number in range(1, count + 1):
                 if kicker.kick():
                     kept += 1
-                    self.deck, self.index = kicker.deck, kicker.index
+                    self.best = (kicker.deck, kicker.index)
                 self.progress(f"kicks: {number} of {count}, {self.index}")
         self.tell(f"kicks: {before} to {self.index}, {kept} of {count} kept")
 
@@ -165,7 +175,7 @@ class Search:
 
     def _take(self, deck: Deck, index: int) -> None:
         """Takes another deck for the best, with the names of the one given."""
-        self.deck, self.index = replace(deck, names=self.given.names, comments=self.given.comments), index
+        self.best = (replace(deck, names=self.given.names, comments=self.given.comments), index)
 
     def _told_rows(self, word: str, before: int, rows: List[Row], more: str = "") -> None:
         """The line of a word."""
