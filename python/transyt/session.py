@@ -1,5 +1,6 @@
 """A session: the program with a deck, asked one command after another."""
 
+import threading
 import weakref
 from dataclasses import replace
 from types import TracebackType
@@ -56,6 +57,7 @@ class Climb(Iterator[Step]):
     def __init__(self, session: "Session") -> None:
         self._session = session
         self._is_over = self._is_stopped = False
+        self._lock = threading.Lock()
         self.steps: List[Step] = []
         self.end: Optional[ClimbEnd] = None
 
@@ -70,15 +72,17 @@ class Climb(Iterator[Step]):
         return self.end.looked if self.end else 0
 
     def __next__(self) -> Step:
-        if self._is_over:
-            raise StopIteration
-        line = self._read()
-        if line.startswith("TOOK "):
-            self.steps.append(read_step(line))
-            return self.steps[-1]
-        self._is_over = True
-        self._session._climb_is_over(line)
-        self.end = read_climb_end(line)
+        if not self._is_over and not self._is_stopped:
+            line = self._read()
+            if line.startswith("TOOK "):
+                self.steps.append(read_step(line))
+                return self.steps[-1]
+            with self._lock:
+                self._is_over = not self._is_stopped
+            if self._is_over:
+                self._session._climb_is_over(line)
+                self.end = read_climb_end(line)
+        self.close()
         raise StopIteration
 
     def _read(self) -> str:
@@ -106,8 +110,10 @@ class Climb(Iterator[Step]):
 
     def stop(self) -> None:
         """Ends the child, from whatever thread; who reads the climb then gets no more steps."""
-        self._is_stopped = True
-        self._session._kill()
+        with self._lock:
+            if not self._is_over:
+                self._is_stopped = True
+                self._session._kill()
 
     def close(self) -> None:
         """Leaves the climb: the child is ended, and the session has the steps so far."""
