@@ -1,0 +1,199 @@
+"""`./plan best`: its words, its kicks against a second script, and the deck that Ctrl-C leaves."""
+
+import os
+import signal
+import subprocess
+import sys
+import unittest
+
+import support
+from support import PROGRAM, needs_program
+from transyt.best import Search, Wanted
+from transyt.deck import read_deck
+from transyt.faults import Fault
+from transyt.kicks import Draws, Kicker, near
+from transyt.program import ROOT, Program
+from transyt.rows import read_rows
+from transyt.session import Session
+
+ROWS = """* CYCLE 45 NONE
+* CYCLE 60 BARRED 300
+* CYCLE 90 FROM 1181182170 TOOK 24 BUDGET 250 TO 525337775
+* CYCLE 105 FROM 1321231334 TOOK 24 LOCAL 202 TO 355203319
+* BEST 105 355203319
+""".split("\n")[:-1]
+
+
+class ReadRows(unittest.TestCase):
+    def test_rows_and_deck(self):
+        rows = read_rows(ROWS + str(read_deck(support.THREE).bare()).split("\n"))
+        self.assertEqual([(row.number, row.index, row.local, row.barred) for row in rows.rows],
+                         [(45, None, False, None), (60, None, False, 300), (90, 525337775, False, None),
+                          (105, 355203319, True, None)])
+        self.assertEqual((rows.rows[2].before, rows.rows[2].taken, rows.rows[2].looked, rows.index),
+                         (1181182170, 24, 250, 355203319))
+        self.assertEqual(rows.deck, read_deck(support.THREE).bare())
+
+    def test_none(self):
+        self.assertIsNone(read_rows(ROWS[:2] + ["* NONE"]).deck)
+
+    def test_start_row(self):
+        self.assertEqual(read_rows(["* START 7 FROM 5 TOOK 4 LOCAL 3 TO 2"]).rows[0].index, 2)
+
+
+class KicksApart(unittest.TestCase):
+    def test_draws_are_the_generators(self):
+        # `make 1 1` has these draws before the remainder is taken (docs/MODEL.md, "The generated town")
+        draws = Draws(1)
+        self.assertEqual([draws.below(10 ** 9) for _ in range(6)], [16838, 5758, 10113, 17515, 31051, 5627])
+
+    def test_near(self):
+        self.assertEqual(near(read_deck(support.THREE)), {1: (1, 2), 2: (1, 2, 3), 3: (2, 3)})
+
+
+@needs_program
+class Kicks(unittest.TestCase):
+    def kicked(self, text, count, seed):
+        """The plan after kicks by the package, told as the second script tells it."""
+        with Session(text, 1, PROGRAM) as town:
+            kicker = Kicker(town, town.deck(), town.index(), seed)
+            for _ in range(count):
+                kicker.kick()
+                self.assertEqual((town.index(), town.deck()), (kicker.index, kicker.deck))
+            lines = [f"{number} {offset} {' '.join(map(str, changes))}\n"
+                     for number, (offset, changes) in town.deck().plan().items()]
+            return "".join(lines) + f"{town.index()}\n"
+
+    def test_as_the_second_script(self):
+        for seed, count in ((1, 4), (7, 3), (99, 3)):
+            with Session(support.THREE, 1, PROGRAM) as town:
+                for _ in range(2):
+                    town.climb().run()
+                text = str(town.deck())
+            again = subprocess.run([sys.executable, os.path.join(support.HERE, "kicks_again.py"), str(count), str(seed)],
+                                   input=text, capture_output=True, text=True, check=True)
+            self.assertEqual(self.kicked(text, count, seed), again.stdout)
+
+    def test_kicks_that_lower(self):
+        self.assertNotEqual(self.kicked(support.THREE, 4, 1).split("\n")[-2], self.kicked(support.THREE, 0, 1))
+
+
+@needs_program
+class Best(unittest.TestCase):
+    def search(self, text, wanted):
+        self.said = []
+        search = Search(read_deck(text), Program(PROGRAM), wanted, self.said.append)
+        search.run()
+        search.check()
+        return search
+
+    def test_words_one_after_another(self):
+        search = self.search(support.example("cycles.deck"), Wanted((60, 100, 20), 12, 3, 1, 2))
+        self.assertEqual([line.split(":")[0] for line in self.said], ["cycles", "starts", "climb", "kicks", "climb"])
+        self.assertIn("4 rows", self.said[0])  # 60, 80, 100, and the deck's own plan at its own 80 s
+        self.assertIn("12 rows", self.said[1])
+        self.assertEqual(search.deck.frame.cycle, 100)
+        with Session(search.deck, 1, PROGRAM) as town:
+            self.assertTrue(all(move.index is None or move.index >= search.index for move in town.certificate().moves))
+
+    def test_starts_in_parts_are_the_starts(self):
+        text = support.example("cycles.deck")
+        whole = read_rows(Program(PROGRAM).answer(["starts", 2, 5, 25], str(read_deck(text).bare())))
+        search = Search(read_deck(text), Program(PROGRAM), Wanted(seed=5, workers=2), lambda _: None)
+        search.starts(25)
+        self.assertEqual((search.deck.bare(), search.index), (whole.deck, whole.index))
+
+    def test_cycles_one_after_another_are_the_cycles(self):
+        text = support.example("cycles.deck")
+        whole = read_rows(Program(PROGRAM).answer(["cycles", 2, 90, 110, 10], str(read_deck(text).bare())))
+        search = Search(read_deck(text), Program(PROGRAM), Wanted(workers=2), lambda _: None)
+        search.cycles(90, 110, 10)
+        self.assertEqual((search.deck.bare(), search.index), (whole.deck, whole.index))
+
+    def test_no_cycle_time_fits(self):
+        with self.assertRaisesRegex(Fault, "61: no whole number of steps"):
+            self.search(support.example("cycles.deck"), Wanted((61, 61, 1)))
+
+    def test_names_and_comments_go_along(self):
+        search = self.search(support.THREE, Wanted((60, 60, 1), 3, 1))
+        given = read_deck(support.THREE)
+        self.assertEqual((search.deck.names, search.deck.comments), (given.names, given.comments))
+
+    def test_deck_without_steps(self):
+        text = "".join(line + "\n" for line in support.THREE.split("\n")[:-1] if not line.startswith("STEPS"))
+        with self.assertRaisesRegex(Fault, "no STEPS card"):
+            self.search(text, Wanted())
+
+    def test_budget_shorter_than_the_list(self):
+        search = self.search(support.THREE.replace("STEPS 200 1 3", "STEPS 2 1 3"), Wanted(starts=1))
+        self.assertTrue(any("greater budget" in line for line in self.said))
+        self.assertIn("BUDGET: not LOCAL", self.said[-1])
+        self.assertLessEqual(search.index, search._index_of(search.given))
+
+    def test_how_many(self):
+        wanted = Wanted()
+        self.assertEqual([wanted.start_count(junctions) for junctions in (1, 8, 9, 20, 21)], [100, 100, 30, 30, 0])
+        self.assertEqual([wanted.kick_count(junctions) for junctions in (1, 8, 9)], [0, 0, 250])
+        self.assertEqual((Wanted(starts=0, kicks=0).start_count(3), Wanted(kicks=0).kick_count(30)), (0, 0))
+
+
+@needs_program
+class CtrlC(unittest.TestCase):
+    def stop(self, phase, words, text, after=2):
+        """Runs `best`, presses Ctrl-C in a phase after some progress of it, and judges the deck that it leaves."""
+        code = ("import os, signal, sys\n"
+                f"sys.path.insert(0, {os.path.dirname(support.HERE)!r})\n"
+                "from transyt import best, __main__\n"
+                "seen = []\n"
+                "def progress(self, sentence):\n"
+                f"    seen.append(sentence.startswith({phase!r}))\n"
+                f"    if sum(seen) == {after}: os.kill(os.getpid(), signal.SIGINT)\n"
+                "best.Search.progress = progress\n"
+                "signal.signal(signal.SIGINT, signal.default_int_handler)\n"
+                "sys.exit(__main__.main(sys.argv[1:]))\n")
+        done = subprocess.run([sys.executable, "-c", code, "best", "-", "--program", PROGRAM, "--workers", "2", *words],
+                              input=text.encode(), capture_output=True, timeout=60)
+        self.assertEqual(done.returncode, 130, done.stderr)
+        index = int(done.stderr.decode().strip().split(" ")[-1])
+        with Session(done.stdout, 1, PROGRAM) as town:
+            self.assertEqual(town.index(), index)
+            self.assertLessEqual(index, Session(text, 1, PROGRAM).index())
+            return town.deck()
+
+    def test_in_each_phase(self):
+        text = support.example("arterial.deck")
+        self.stop("cycles", ["--cycles", "80", "120", "20"], text)
+        self.stop("starts", ["--starts", "30"], text, after=1)
+        climbed = self.stop("climb", ["--starts", "0"], text)
+        moved = [node for node in climbed.nodes if node != read_deck(text).node(node.number)]
+        self.assertEqual(len(moved), 1)  # two steps at the first junction
+        self.stop("kicks", ["--starts", "0", "--kicks", "5"], text)
+
+    def test_ctrl_c_of_the_terminal_comes_to_python_alone(self):
+        with Session(support.THREE, 1, PROGRAM) as town:
+            self.assertNotEqual(os.getpgid(town._child.process.pid), os.getpgid(0))
+
+
+@needs_program
+class Command(unittest.TestCase):
+    def plan(self, *words, text="", folder=None):
+        return subprocess.run([os.path.join(ROOT, "plan"), *words, "--program", PROGRAM], input=text, text=True,
+                              capture_output=True, cwd=folder or ROOT, timeout=120)
+
+    def test_from_another_folder_and_by_standard_input(self):
+        done = self.plan("best", "-", "--starts", "2", text=support.THREE, folder="/tmp")
+        self.assertEqual(done.returncode, 0, done.stderr)
+        self.assertIn("* NAME TOWN Mill Road, morning\n", done.stdout)
+
+    def test_faults(self):
+        for words, text, said in ((["best", "/nowhere"], "", "/nowhere can't be read"),
+                                  (["best", "-"], "CYCLE 60 12\n", "-, line 1, CYCLE 60 12"),
+                                  (["best", "-", "--cycles", "90", "80", "10"], support.THREE, "the low one first"),
+                                  (["best", "-", "--starts", "1001"], support.THREE, "1001 is no whole number")):
+            done = self.plan(*words, text=text)
+            self.assertEqual((done.returncode, done.stdout), (2, ""))
+            self.assertIn(said, done.stderr)
+
+
+if __name__ == "__main__":
+    unittest.main()
