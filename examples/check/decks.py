@@ -131,7 +131,8 @@ def written(draw: Random, lines: list[str]) -> bytes:
     for line in lines:
         if draw.random() < 0.1: drawn.append(draw.choice(['* a comment \xff\x00', '', ' \t ', '*' * 4096, ' ' * 4096]))
         if len(line) < 4000 and not line.startswith(('*', ' ')):
-            line = ''.join(draw.choice([' ', '\t', ' \t ']) if byte == ' ' and draw.random() < 0.5 else byte for byte in line)
+            part = lambda byte: draw.choice([' ', '\t', ' \t ']) if byte == ' ' and draw.random() < 0.5 else byte
+            line = ''.join(map(part, line))
             if draw.random() < 0.1: line = draw.choice([' ', '\t']) + line + draw.choice([' ', '\t', ''])
         drawn.append(line)
     return (ends.join(drawn) + draw.choice(['', '\n', '\r', '\r\n'])).encode('latin-1')
@@ -154,8 +155,10 @@ def table(draft: Draft) -> list[str]:
             for _ in range(draw.randrange(10) if keys else 0)]
     cells = [list(map(str, row)) for row in rows]
     for row in cells:
-        if draw.random() < 0.1: row[draw.randrange(4)] = draw.choice(['', '7', 'x', '1,2', ' 1', '"1"', '""', '"1""2"', '1"'])
+        odd = draw.choice(['', '7', 'x', '1,2', ' 1', '"1"', '""', '"1""2"', '1"'])
+        if draw.random() < 0.1: row[draw.randrange(4)] = odd
         if draw.random() < 0.2: row[3] = draw.choice(['"15"', '015', '15', '15\r', '15\r\r'])
     lines = [','.join(row) for row in cells]
-    for _ in range(draw.choice([0, 0, 1])): lines.insert(draw.randrange(len(lines) + 1), draw.choice(['', ' ', '* x', '"', '\x00']))
+    for _ in range(draw.choice([0, 0, 1])):
+        lines.insert(draw.randrange(len(lines) + 1), draw.choice(['', ' ', '* x', '"', '\x00']))
     return lines

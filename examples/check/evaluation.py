@@ -85,25 +85,36 @@ def figures_of(frame: list[int], weights: tuple[int, ...], IN: Profile, GO: Prof
     return uniform, random, stops, wd * (uniform + random) + ws * K * stops // 100
 
 
+def capacities(town: 'Town', l: int) -> Profile:
+    """SIG of a link: its saturation flow at green steps, and 0 elsewhere."""
+    link, N = town.links[l], town.frame[1]
+    begins = tuple((town.offset(link.node) + change) % N for change in town.changes(link.node))
+    is_green = greens(N, begins, tuple(town.intergreens[link.node]), link.stages, link.start, link.end)
+    saturation = units(town.frame, town.numbers['SATURATION', l][0])
+    return tuple(saturation if green else 0 for green in is_green)
+
+
+def arrivals_at(town: 'Town', l: int, OUT: dict[int, Profile], total: dict[int, int]) -> Profile:
+    """IN of a link, where OUT has the departures that it reads."""
+    number = lambda *name: town.numbers[name][0]
+    brought = [platoon(OUT[f], number('PART', l, f), total[f], travel(town.frame, number('CRUISE', l, f)), town.frame[5])
+               for f in town.links[l].feeders]
+    return tuple(map(sum, zip((units(town.frame, number('ENTRY', l)),) * town.frame[1], *brought)))
+
+
 def evaluate(town: 'Town') -> Evaluation:
     """All links at all sweeps, in card order: [Sweeps], [Give way]."""
-    frame, N, S, k = town.frame, town.frame[1], town.frame[2], town.frame[5]
-    number, total = (lambda *name: town.numbers[name][0]), {l: town.flow(l) for l in town.links}
-    sweeps, shown = [{l: (units(frame, total[l]),) * N for l in town.links}], {}
-    for _ in range(S):
+    total, SIG = {l: town.flow(l) for l in town.links}, {l: capacities(town, l) for l in town.links}
+    sweeps, shown = [{l: (units(town.frame, total[l]),) * town.frame[1] for l in town.links}], {}
+    for _ in range(town.frame[2]):
         OUT = dict(sweeps[-1])
         for l, link in town.links.items():
-            brought = [platoon(OUT[f], number('PART', l, f), total[f], travel(frame, number('CRUISE', l, f)), k)
-                       for f in link.feeders]
-            IN = tuple(map(sum, zip((units(frame, number('ENTRY', l)),) * N, *brought)))
-            begins = tuple((town.offset(link.node) + change) % N for change in town.changes(link.node))
-            is_green = greens(N, begins, tuple(town.intergreens[link.node]), link.stages, link.start, link.end)
-            GO = tuple(g * units(frame, number('SATURATION', l)) for g in is_green)
+            IN, GO = arrivals_at(town, l, OUT, total), SIG[l]
             if link.rule:
                 other, percent = link.rule
                 GO = tuple(g and max(1, g - percent * y // 100) for g, y in zip(GO, OUT[other]))
             _, Q, OUT[l] = stop_line(IN, GO)
             shown[l] = IN, GO, OUT[l], Q
         sweeps.append(OUT)
-    links = {l: Shown(*rows, figures_of(frame, town.numbers['WEIGHT', l], *rows[:2])) for l, rows in shown.items()}
+    links = {l: Shown(*rows, figures_of(town.frame, town.numbers['WEIGHT', l], *rows[:2])) for l, rows in shown.items()}
     return Evaluation(sweeps, links, sum(link.figures[3] for link in links.values()))

@@ -1,5 +1,5 @@
 """The random inputs have every shape that is wanted, and all.py notices a wrong byte and a wrong exit number."""
-import contextlib, io, os, re, tempfile, unittest
+import contextlib, io, os, tempfile, unittest
 from random import Random
 from typing import Callable
 from unittest import mock
@@ -8,7 +8,7 @@ import all as everything
 import decks
 from cards import read_deck
 from twin import answer
-from worked import deck
+from worked import QUEUE, deck
 
 SMALL = 6  # the seed of a small deck
 
@@ -114,18 +114,35 @@ class Comparisons(unittest.TestCase):
         self.assertEqual(tell((b'a\n', 0), (b'a\n', 2)), 'the program ended with 0, twin.py with 2')
         self.assertIn('line 2', tell((b'a\n', 0), (b'a\nb\n', 0)))
 
-    def test_a_program_that_is_not_there_is_said_and_no_answer_is_no_agreement(self):
-        self.assertEqual(everything.Checks('/nowhere').run(['run'], b''), (b'', None))
-        out = io.StringIO()
-        with mock.patch('all.STORED', [('one-junction', 'one-junction', 'run')]), contextlib.redirect_stdout(out):
-            self.assertEqual(everything.main('/nowhere'), 0)
-        self.assertEqual(out.getvalue().splitlines()[-2:], ['/nowhere is not built: no random decks', '1 passed, 0 failed'])
+    def test_words_lengths_and_the_version(self):
+        for change, fails in ((lambda words, text: text, False), (lambda words, text: text + b'\n', True)):
+            checks = Played(change)
+            with contextlib.redirect_stdout(io.StringIO()):
+                everything.check_words(checks, Random(1))
+                everything.check_lengths(checks)
+                self.assertTrue(everything.check_version(checks))
+            self.assertGreater(checks.failed if fails else checks.passed, 30)
+            self.assertEqual(checks.passed if fails else checks.failed, 0)
 
-    def test_a_stored_report_that_differs(self):
+    def main_over(self, report: list) -> tuple:
+        """How all.py ends, and what it tells, over one example that is made here and without a program."""
         out = io.StringIO()
-        with mock.patch('all.STORED', [('one-junction', 'wrong', 'run')]), contextlib.redirect_stdout(out):
-            self.assertEqual(everything.main('/nowhere'), 1)
-        self.assertTrue(re.search('^0 passed, 1 failed$', out.getvalue(), re.M))
+        with tempfile.TemporaryDirectory() as folder:
+            for name, lines in (('one.deck', [*deck(), 'QUEUE 1']), ('one.report', report)):
+                with open(os.path.join(folder, name), 'w') as file: file.write('\n'.join([*lines, '']))
+            with mock.patch('all.EXAMPLES', folder), mock.patch('all.STORED', [('one', 'one', 'run')]):
+                with contextlib.redirect_stdout(out): end = everything.main('/nowhere')
+        return end, out.getvalue().splitlines()
+
+    def test_a_stored_report(self):
+        self.assertEqual(self.main_over(['ACCEPTED 1 1', QUEUE]), (0, ['one.report, run: every byte agrees',
+                         '/nowhere is not built: no random decks', '1 passed, 0 failed']))
+        for report in ([], ['ACCEPTED 1 1'], ['ACCEPTED 1 1', QUEUE + '1'], ['ACCEPTED 1 1', QUEUE, 'DONE']):
+            end, told = self.main_over(report)
+            self.assertEqual((end, told[-1]), (1, '0 passed, 1 failed'))
+
+    def test_a_program_that_is_not_there_gives_no_answer(self):
+        self.assertEqual(everything.Checks('/nowhere').run(['run'], b''), (b'', None))
 
 
 if __name__ == '__main__': unittest.main()

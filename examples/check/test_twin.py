@@ -4,14 +4,15 @@ import os, subprocess, sys, unittest
 import worked
 from cards import MOST
 from twin import answer, are_words
-from worked import CERT, CLIMB, GIVES_WAY, GIVES_WAY_REPORT, LESS, LINKS, LOOP, MADE, QUEUE, REFUSED, STEADY, TIMING, TWO, TWO_REPORT, deck
+from worked import CERT, CLIMB, GIVES_WAY, LINKS, LOOP, MADE, QUEUE, REFUSED, TIMING, TWO, TWO_REPORT, deck
 
 TWIN = os.path.join(os.path.dirname(os.path.abspath(__file__)), 'twin.py')
 
 
 def told(words: str, *lines: str, data: bytes = b'', has_failed: bool = False) -> tuple[list[str], int]:
     """The lines of an answer, and the exit number."""
-    answers, written = answer(words.split(), data or ''.join(line + '\n' for line in lines).encode('latin-1'), has_failed), []
+    data = data or ''.join(line + '\n' for line in lines).encode('latin-1')
+    answers, written = answer(words.split(), data, has_failed), []
     while True:
         try: written.append(next(answers))
         except StopIteration as end: return written, end.value
@@ -24,7 +25,7 @@ class Run(unittest.TestCase):
     def test_reports(self):
         self.answers(deck(), ['LINKS', 'QUEUE 1', 'PROFILE 1'], ['ACCEPTED 1 1', *LINKS, QUEUE, *worked.PROFILE])
         self.answers(deck(1800), ['LINKS', 'QUEUE 1'], ['ACCEPTED 1 1', *worked.OVERSATURATED])
-        self.answers(GIVES_WAY, ['LINKS', 'PROFILE 2'], ['ACCEPTED 1 2', *GIVES_WAY_REPORT])
+        self.answers(GIVES_WAY, ['LINKS', 'PROFILE 2'], ['ACCEPTED 1 2', *worked.GIVES_WAY_REPORT])
         self.answers(deck()[:1], ['STEPS 1 1', 'END', 'CLIMB', 'CERT', 'LINKS', 'TIMING'],
                      ['ACCEPTED 0 0', 'LOCAL 0 INDEX 0', 'CERT 0 INDEX 0', 'INDEX 0', 'END TIMING'])
         self.answers(deck(), ['OFFSET 1 4', 'DECK'],
@@ -51,11 +52,14 @@ class Run(unittest.TestCase):
                  'OFFSET 1 1': 6, 'OFFSET 2 4': 7, 'WEIGHT 2 0 0': 7}
         self.answers(TWO, [line for edit in edits for line in (edit, 'WORK')],
                      ['ACCEPTED 2 2', *(line for work in edits.values() for line in ('DONE', f'WORK {work}'))])
-        self.answers(LOOP, ['PROFILE 1', 'ENTRY 3 3420', 'WORK', 'PROFILE 1'], ['ACCEPTED 1 3', *STEADY, 'DONE', 'WORK 7', *LESS])
-        self.answers(GIVES_WAY, ['ENTRY 1 360', 'WORK', 'ENTRY 1 0', 'WORK'], ['ACCEPTED 1 2', 'DONE', 'WORK 0', 'DONE', 'WORK 2'])
+        self.answers(LOOP, ['PROFILE 1', 'ENTRY 3 3420', 'WORK', 'PROFILE 1'],
+                     ['ACCEPTED 1 3', *worked.STEADY, 'DONE', 'WORK 7', *worked.LESS])
+        self.answers(GIVES_WAY, ['ENTRY 1 360', 'WORK', 'ENTRY 1 0', 'WORK'],
+                     ['ACCEPTED 1 2', 'DONE', 'WORK 0', 'DONE', 'WORK 2'])
 
     def test_trials(self):
-        self.answers(deck(), ['TRIAL', 'ENTRY 1 1800', 'INDEX', 'ENTRY 1 0', 'INDEX', 'ENTRY 1 900', 'BACK', 'INDEX', 'WORK', 'BACK'],
+        edits = ['TRIAL', 'ENTRY 1 1800', 'INDEX', 'ENTRY 1 0', 'INDEX', 'ENTRY 1 900']
+        self.answers(deck(), [*edits, 'BACK', 'INDEX', 'WORK', 'BACK'],
                      ['ACCEPTED 1 1', 'DONE', 'DONE', 'INDEX 544612051', 'DONE', 'INDEX 0', 'DONE', 'DONE', 'INDEX 1948618',
                       'WORK 3', 'REFUSED 24'])
         self.answers(deck(steps='STEPS 100 1'), ['TRIAL', 'ENTRY 1 0', 'TRIAL', 'CLIMB', 'CERT', 'INDEX', 'KEEP', 'INDEX'],
@@ -74,7 +78,8 @@ class Run(unittest.TestCase):
         self.assertEqual(told('run', *deck(), 'STOP 1', 'INDEX'), (['ACCEPTED 1 1', 'REFUSED 12', 'INDEX 1948618'], 0))
 
     def test_refused_decks(self):
-        for lines, right in (([], 'CARD 1 REFUSED 21'), (deck()[:-1], 'CARD 6 REFUSED 21'), (['NODE 1 0', 'STOP'], 'CARD 1 REFUSED 15'),
+        for lines, right in (([], 'CARD 1 REFUSED 21'), (deck()[:-1], 'CARD 6 REFUSED 21'),
+                             (['NODE 1 0', 'STOP'], 'CARD 1 REFUSED 15'),
                              (deck(end='EN'), 'CARD 6 REFUSED 10'), (['*' * 4097], 'CARD 1 REFUSED 11')):
             self.assertEqual(told('run', *lines), ([right], 2))
             for words in ('equisat', 'audit', 'counts', 'scan 1 60 60 1', 'starts 1 1 1', 'cycles 1 60 60 1'):
@@ -89,14 +94,17 @@ class Words(unittest.TestCase):
         self.assertEqual(told('equisat', *two), (['NODE 1 PEAK 9000 OF 9000 LINK 2', 'STAGE 1 CHANGE 0 GREEN 3 NEED 3',
                                                   'STAGE 2 CHANGE 4 GREEN 5 NEED 6', 'END EQUISAT'], 0))
         for entry, peak, needs in ((360, '3600 OF 10800 LINK 1', (7, 2)), (0, '0 OF 1 LINK 0', (0, 0))):
-            self.assertEqual(told('equisat', *deck(entry)), ([f'NODE 1 PEAK {peak}', f'STAGE 1 CHANGE 0 GREEN 6 NEED {needs[0]}',
-                                                              f'STAGE 2 CHANGE 7 GREEN 2 NEED {needs[1]}', 'END EQUISAT'], 0))
+            right = [f'NODE 1 PEAK {peak}', f'STAGE 1 CHANGE 0 GREEN 6 NEED {needs[0]}',
+                     f'STAGE 2 CHANGE 7 GREEN 2 NEED {needs[1]}', 'END EQUISAT']
+            self.assertEqual(told('equisat', *deck(entry)), (right, 0))
 
     def test_scan(self):
         self.assertEqual(told('scan 2 60 120 60', *deck(steps='STEPS 100 1')),
-                         (['CYCLE 60 FROM 1948618 TOOK 2 LOCAL 11 TO 889826', 'CYCLE 120 FROM 3328618 TOOK 2 LOCAL 11 TO 1489826',
+                         (['CYCLE 60 FROM 1948618 TOOK 2 LOCAL 11 TO 889826',
+                           'CYCLE 120 FROM 3328618 TOOK 2 LOCAL 11 TO 1489826',
                            'BEST 60 889826'], 0))
-        self.assertEqual(told('scan 8 60 60 1', *deck())[0], ['CYCLE 60 FROM 1948618 TOOK 0 LOCAL 0 TO 1948618', 'BEST 60 1948618'])
+        self.assertEqual(told('scan 8 60 60 1', *deck())[0],
+                         ['CYCLE 60 FROM 1948618 TOOK 0 LOCAL 0 TO 1948618', 'BEST 60 1948618'])
 
     def test_starts_from_a_later_one_are_those_of_the_whole_list(self):
         rows = told('starts 1 7 4', *TWO)[0][:4]
@@ -145,8 +153,8 @@ class Ends(unittest.TestCase):
                       'starts 1 1 1001', 'starts 1 1', 'starts 1 1 1000 1', 'starts 1 1 1 1000', 'starts 1 1 1 1 1',
                       'starts 1 1 1 x', 'version 1', '--help'):
             self.assertEqual(told(words, *deck()), ([], 1), words)
-        for words in ('run', 'run 8', 'make 000000012 017', 'brief 0 1', 'brief 0 1 8', 'starts 1 1 1000', 'starts 8 1 1 999',
-                      'starts 1 1 1 0', 'scan 1 030 240 210', 'version'):
+        for words in ('run', 'run 8', 'make 000000012 017', 'brief 0 1', 'brief 0 1 8', 'starts 1 1 1000',
+                      'starts 8 1 1 999', 'starts 1 1 1 0', 'scan 1 030 240 210', 'version'):
             self.assertTrue(are_words(words.split()), words)
 
     def test_too_long(self):
@@ -168,7 +176,8 @@ class Ends(unittest.TestCase):
         self.assertEqual(told('audit', data=data, has_failed=True), ([], 3))
 
     def test_the_command(self):
-        run = lambda *words, **how: subprocess.run([sys.executable, TWIN, *words], input=b'END', stderr=subprocess.DEVNULL, **how)
+        run = lambda *words, **how: subprocess.run([sys.executable, TWIN, *words], input=b'END',
+                                                   stderr=subprocess.DEVNULL, **how)
         done = run('run', stdout=subprocess.PIPE)
         self.assertEqual((done.stdout, done.returncode), (b'CARD 1 REFUSED 15\n', 2))
         self.assertEqual(run('run', '9').returncode, 1)

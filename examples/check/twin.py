@@ -97,6 +97,7 @@ def read_all() -> tuple[bytes, bool]:
 def main(words: list[str]) -> int:
     try: list(map(lambda word: os.fsencode(word).decode('utf-8'), words))
     except UnicodeDecodeError: return 7
+    if not are_words(words): print(__doc__, file=sys.stderr)
     lines = answer(words, *(read_all() if are_words(words) and words[0] not in ALONE else ()))
     while True:
         try: line = next(lines)
