@@ -2,12 +2,12 @@
 //!
 //! The parts are those of `transyt_parts`, which this crate hands on. A contract sees a network as
 //! the record `Network` of `specs/Parts`: its frame, its nodes and links in card order, and its
-//! climb plan. The sets of numbers, which give each its place, and the totals, which keep the total
-//! flow of each link, are seen by no public clause. Cite first: `IsValid` of `specs/Valid` for what
-//! always holds of a `Net`, `numbered` and `on_numbered` there for the part of a number, `perstep`
-//! and `SameShape` of `specs/Parts`, `node_fault` and its like of `specs/Faults` for a `Draft`,
-//! `Refuses` there for the answers of its calls, `with_edit` and `inverse` of `specs/Edits`, and
-//! `edit_fault` of `specs/EditFaults`.
+//! climb plan. The sets of numbers, which are those of `indexmap` and give each its place, and the
+//! totals, which keep the total flow of each link, are seen by no public clause. Cite first:
+//! `IsValid` of `specs/Valid` for what always holds of a `Net`, `numbered` and `on_numbered` there
+//! for the part of a number, `perstep` and `SameShape` of `specs/Parts`, `node_fault` and its like
+//! of `specs/Faults` for a `Draft`, `Refuses` there for the answers of its calls, `with_edit` and
+//! `inverse` of `specs/Edits`, and `edit_fault` of `specs/EditFaults`.
 //!
 //! Networks of such parts are those of Robertson's TRANSYT (LR 253); drafts, edits and all limits
 //! are this project's own.

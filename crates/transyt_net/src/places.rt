@@ -5,9 +5,9 @@ ghost use Rattle.std.specs.Option.{option_map};
 ghost use Rattle.transyt_parts.specs.Valid.{is_fed, node_number, link_number};
 ghost use Rattle.transyt_net.specs.Valid.{is_among, place_of, numbered, node_numbers, link_numbers, stages_at, feeds_at};
 
+use indexmap::IndexSet;
 use std::alloc::{AllocError, Global};
 use std::marker::Model;
-use indexmap::IndexSet;
 use transyt_parts::{Link, Node, has_feeder};
 
 /// The card numbers of nodes or links, in card order. No two are equal.
