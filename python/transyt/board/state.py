@@ -1,0 +1,257 @@
+"""The plan on the board: one session behind a lock, changes that can be undone, a climb that can be stopped.
+
+The view is made after each change and read without the lock, so that a long climb or answer stops nobody from looking.
+Besides the session the board keeps the deck text after each change, for a child that is lost, and the edits for Undo.
+"""
+
+import threading
+from dataclasses import dataclass
+from fractions import Fraction
+from typing import Dict, List, Optional, Sequence, Tuple
+
+from ..deck import Deck
+from ..edits import Edit, after
+from ..faults import Ended, Fault, Refused
+from ..session import Climb, Session
+from .view import Shown, view_of
+
+Change = List[Tuple[Edit, Edit]]  # edits in their order, each with its inverse
+
+
+class Stale(Fault):
+    """A change was made from a state that isn't there any more."""
+
+
+@dataclass(frozen=True)
+class Wanted:
+    """What a hand asks for: a node's offset, or where a stage begins in the common cycle, in seconds."""
+
+    node: int
+    stage: int  # 0 for the offset
+    seconds: Fraction
+
+
+class Board:
+    """A plan that is changed by hand."""
+
+    def __init__(self, deck: Deck, workers: int, program: Optional[str], routes: Sequence[Sequence[int]]) -> None:
+        self._workers, self._program, self._routes = workers, program, routes
+        self._lock = threading.Lock()
+        self._session = Session(deck, workers, program)
+        self._given = self._session.deck()
+        self._given_figures = self._session.figures()
+        self._undo: List[Change] = []
+        self._redo: List[Change] = []
+        self._climb: Optional[Climb] = None
+        self._climber: Optional[threading.Thread] = None
+        self.version = 0
+        self._kept = self._given
+        self._view = self._made("")
+
+    def view(self) -> Shown:
+        """The view as it was made last, with how far a climb is."""
+        climb = self._climb
+        return self._view if climb is None else {**self._view, "climbing": True,
+                                                 "took": [f"{step.edit}  INDEX {step.index}" for step in climb.steps]}
+
+    def edit(self, version: int, wanted: Wanted) -> Shown:
+        """Makes a change by hand."""
+        with self._changing(version):
+            edit = edit_of(self._kept, wanted)
+            change = [(edit, inverse_of(self._kept, edit))]
+            try:
+                self._do([edit])
+            except Refused as refused:
+                raise Fault(f"{refused.sentence} (code {refused.code})") from refused
+            self._undo.append(change)
+            self._redo.clear()
+            return self._next("")
+
+    def undo(self, version: int) -> Shown:
+        """Takes the last change back, a whole climb too."""
+        with self._changing(version):
+            if not self._undo:
+                raise Fault("there is nothing to undo")
+            change = self._undo[-1]
+            self._do([inverse for _, inverse in reversed(change)])
+            self._redo.append(self._undo.pop())
+            return self._next("")
+
+    def redo(self, version: int) -> Shown:
+        """Makes the change again that was undone last."""
+        with self._changing(version):
+            if not self._redo:
+                raise Fault("there is nothing to redo")
+            change = self._redo[-1]
+            self._do([edit for edit, _ in change])
+            self._undo.append(self._redo.pop())
+            return self._next("")
+
+    def start_again(self, version: int) -> Shown:
+        """Goes to the deck of the call; Undo comes back from there."""
+        with self._changing(version):
+            edits = edits_between(self._kept, self._given)
+            change, deck = [], self._kept
+            for edit in edits:
+                change.append((edit, inverse_of(deck, edit)))
+                deck = after(deck, edit)
+            self._session.close()
+            self._session = Session(self._given, self._workers, self._program)
+            self._kept = self._given
+            if change:
+                self._undo.append(change)
+            self._redo.clear()
+            return self._next("")
+
+    def climb(self, version: int) -> Shown:
+        """Begins a climb; it goes on in a thread of its own, and the view has its steps."""
+        with self._changing(version):
+            self._climb = self._session.climb()
+            self._climber = threading.Thread(target=self._read_climb, args=(self._climb,), daemon=True)
+            self._climber.start()
+            return self.view()
+
+    def stop(self) -> Shown:
+        """Stops a climb: the state is that of its last whole step."""
+        climb, climber = self._climb, self._climber
+        if climb is not None:
+            climb.stop()
+        if climber is not None:
+            climber.join(10)
+        return self.view()
+
+    def certificate(self) -> Dict[str, str]:
+        """The picture of the certificate, when it is asked for."""
+        from ..pictures import sensitivity
+        with self._changing(self.version):
+            return {"sensitivity": sensitivity(self._session)}
+
+    def deck_text(self) -> str:
+        """The deck as it stands, names and all."""
+        return str(self._kept)
+
+    def close(self) -> None:
+        """Ends the child."""
+        climb = self._climb
+        if climb is not None:
+            climb.stop()
+        self._session.close(at_once=True)
+
+    # Behind the lock.
+
+    def _changing(self, version: int) -> "_Changing":
+        """The lock for one change from a state."""
+        return _Changing(self, version)
+
+    def _do(self, edits: Sequence[Edit]) -> None:
+        """Makes edits one after another; the board keeps the deck after all of them."""
+        try:
+            for edit in edits:
+                self._session.edit(edit)
+        except Ended:
+            self._session = Session(self._kept, self._workers, self._program)
+            raise Fault("the program had ended: it was started again, and nothing has changed") from None
+        for edit in edits:
+            self._kept = after(self._kept, edit)
+
+    def _next(self, message: str) -> Shown:
+        """The view of the state that is there now."""
+        self.version += 1
+        self._view = self._made(message)
+        return self._view
+
+    def _made(self, message: str) -> Shown:
+        """The view, asked of the program."""
+        view = view_of(self._session, self._given, self._given_figures, self._routes)
+        return {**view, "version": self.version, "message": message, "climbing": False, "took": [],
+                "can_undo": bool(self._undo), "can_redo": bool(self._redo)}
+
+    def _read_climb(self, climb: Climb) -> None:
+        """Reads a climb to its end or until it is stopped, and notes it as one change."""
+        try:
+            for _ in climb:
+                pass
+            message = f"{'LOCAL' if climb.local else 'BUDGET'} after {climb.looked} looks, {len(climb.steps)} steps" \
+                if climb.end else f"stopped after {len(climb.steps)} steps"
+        except Fault as fault:
+            message = f"the climb ended: {fault}"
+        with self._lock:
+            self._climb = self._climber = None
+            message = self._after_climb(climb, message)
+            self._next(message)
+
+    def _after_climb(self, climb: Climb, message: str) -> str:
+        """Takes the steps of a climb as one change; where the program's index isn't the last step's, none of them."""
+        change, deck = [], self._kept
+        for step in climb.steps:
+            change.append((step.edit, inverse_of(deck, step.edit)))
+            deck = after(deck, step.edit)
+        try:
+            wrong = bool(climb.steps) and self._session.index() != climb.steps[-1].index
+        except Fault:
+            wrong = True
+        if wrong:
+            self._session.close(at_once=True)
+            self._session = Session(self._kept, self._workers, self._program)
+            return "the steps of the climb don't lead to the index that the program told: the plan from before it stands"
+        self._kept = deck
+        if change:
+            self._undo.append(change)
+            self._redo.clear()
+        return message
+
+
+class _Changing:
+    """The lock of a board for one change: refused where the state is another, or a climb is on its way."""
+
+    def __init__(self, board: Board, version: int) -> None:
+        self._board, self._version = board, version
+
+    def __enter__(self) -> None:
+        board = self._board
+        board._lock.acquire()
+        if board._climb is not None:
+            board._lock.release()
+            raise Fault("a climb is on its way: stop it first, or wait for its end")
+        if self._version != board.version:
+            board._lock.release()
+            raise Stale("the plan was changed elsewhere meanwhile: this is how it stands now")
+
+    def __exit__(self, *_: object) -> None:
+        self._board._lock.release()
+
+
+def edit_of(deck: Deck, wanted: Wanted) -> Edit:
+    """The edit that a hand asks for; a time that isn't whole steps is refused with the two nearest."""
+    node, step = deck.node(wanted.node), Fraction(deck.frame.cycle, deck.frame.step_count)
+    if not 0 <= wanted.seconds < deck.frame.cycle:
+        raise Fault(f"{float(wanted.seconds):g} s is not within 0 to {float(deck.frame.cycle - step):g} s")
+    steps = wanted.seconds / step
+    if steps.denominator != 1:
+        below = int(steps)
+        raise Fault(f"{float(wanted.seconds):g} s is no whole number of steps of {float(step):g} s; the nearest are "
+                    f"{float(below * step):g} and {float((below + 1) * step):g} s")
+    if wanted.stage == 0:
+        return Edit("OFFSET", (node.number, int(steps)))
+    if not 1 <= wanted.stage <= len(node.stages):
+        raise Fault(f"junction {node.number} has no stage {wanted.stage}")
+    return Edit("CHANGE", (node.number, wanted.stage, (int(steps) - node.offset) % deck.frame.step_count))
+
+
+def inverse_of(deck: Deck, edit: Edit) -> Edit:
+    """The edit that takes an edit of an offset or a change back."""
+    node = deck.node(edit.node)
+    old = node.offset if edit.word == "OFFSET" else node.stages[edit.numbers[1] - 1].change
+    return Edit(edit.word, (*edit.numbers[:-1], old))
+
+
+def edits_between(deck: Deck, goal: Deck) -> List[Edit]:
+    """Edits of offsets and changes that lead from one deck to another of the same network."""
+    edits: List[Edit] = []
+    for node in goal.nodes:
+        here = deck.node(node.number)
+        if here.offset != node.offset:
+            edits.append(Edit("OFFSET", (node.number, node.offset)))
+        edits += [Edit("CHANGE", (node.number, place, stage.change))
+                  for place, (stage, now) in enumerate(zip(node.stages, here.stages), 1) if stage.change != now.change]
+    return edits
