@@ -80,7 +80,8 @@ class Search:
     def cycles(self, low: int, high: int, by: int) -> None:
         """`cycles` for one time after another, and the deck given as one more row; the best of them."""
         rows: List[Row] = []
-        before, best = self.index, None
+        before = self.index
+        best: Optional[int] = None
         for cycle in range(low, high + 1, by):
             for found, deck in self._cycle(cycle):
                 rows.append(found)
@@ -108,7 +109,8 @@ class Search:
     def starts(self, count: int) -> None:
         """`starts` in parts of ten; the best of them."""
         rows: List[Row] = []
-        before, deck, best = self.index, self.deck, None
+        before, deck = self.index, self.deck
+        best: Optional[int] = None
         for first, some in self._parts(count):
             words = ["starts", self.wanted.workers, self.wanted.seed, some] + ([] if first is None else [first])
             answer = self._asked(words, deck)

@@ -101,6 +101,11 @@ class Link:
         """Vehicles an hour: the entry flow and all feeds."""
         return self.entry + sum(feed.flow for feed in self.feeds)
 
+    @property
+    def used_feeds(self) -> Tuple[Feed, ...]:
+        """The feeds by which vehicles come."""
+        return tuple(feed for feed in self.feeds if feed.flow > 0)
+
     def feed(self, feeder: int) -> Feed:
         """The feed from a feeder."""
         for feed in self.feeds:
@@ -244,7 +249,8 @@ def cards_of(text: str) -> str:
 
 def read_deck(source: Union[str, bytes], tell: Tell = ignore) -> Deck:
     """The deck of a text; what stands after its END card isn't looked at. `tell` hears of name lines that are left."""
-    cards, comments, first = _Cards(), [], None
+    cards, first = _Cards(), 0
+    comments: List[Tuple[int, str]] = []
     for place, line in enumerate(lines_of(decoded(source)), 1):
         words = words_of(line)
         if line.startswith("*"):
@@ -302,13 +308,15 @@ class _Cards:
         elif word == "CYCLE":
             self.frame = Frame(*numbers)
         elif word == "NODE":
-            self.nodes[_new(numbers[0], self.nodes)] = Node(*numbers)
+            self.nodes[_new(numbers[0], self.nodes)] = Node(numbers[0], numbers[1])
         elif word == "STAGE":
             node = list(self.nodes.values())[-1]
             self.nodes[node.number] = replace(node, stages=node.stages + (Stage(*numbers),))
         elif word == "LINK":
-            head = numbers[:8] if self.form == 2 else numbers[:6] + [0, 0]
-            self.links[_new(numbers[0], self.links)] = Link(*head, tuple(numbers[8 if self.form == 2 else 6:]))
+            number, node, entry, saturation, delay, stop, *rest = numbers if self.form == 2 else [*numbers[:6], 0, 0,
+                                                                                               *numbers[6:]]
+            self.links[_new(number, self.links)] = Link(number, node, entry, saturation, delay, stop, rest[0], rest[1],
+                                                        tuple(rest[2:]))
         elif word == "FEED":
             link = self.links[numbers[0]]
             self.links[link.number] = replace(link, feeds=link.feeds + (Feed(*numbers[1:]),))

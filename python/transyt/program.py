@@ -61,7 +61,8 @@ class Program:
     def ask(self, words: Sequence[object], text: str = "") -> Answer:
         """What the program answers to words and an input, whatever it is; the child is ended in any case."""
         child = Child([self.path, *map(str, words)])
-        at_once, lines = True, []
+        at_once = True
+        lines: List[str] = []
         try:
             threading.Thread(target=child.send_all, args=(text.encode("utf-8", "replace"),), daemon=True).start()
             for data in child.process.stdout or ():

@@ -6,7 +6,7 @@ the unit is made of; nothing else is worked out.
 """
 
 from dataclasses import dataclass
-from typing import Callable, Dict, Iterable, List, Mapping, Optional, Sequence, Tuple
+from typing import Callable, Dict, Iterable, List, Mapping, Optional, Sequence, Tuple, TypeVar
 
 from .deck import Plan
 from .edits import Edit
@@ -154,7 +154,10 @@ class Links:
         return _numbered(self.links, number)
 
 
-def _numbered(links, number: int):  # type: ignore[no-untyped-def]
+LinkLine = TypeVar("LinkLine", LinkFigures, LinkDelays)
+
+
+def _numbered(links: Sequence[LinkLine], number: int) -> LinkLine:
     """The link of a number."""
     for link in links:
         if link.number == number:

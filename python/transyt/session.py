@@ -143,7 +143,7 @@ class Session:
         self._climb: Optional["weakref.ref[Climb]"] = None
         self._base = cards_of(str(deck) if isinstance(deck, Deck) else decoded(deck))
         self._steps: List[Step] = []  # those of a climb that was left, over the base
-        self._work_before = self._sent = self._line_count = 0
+        self._work_before = self._work_left = self._sent = self._line_count = 0
         self.is_closed = False
         if len(self._base.encode("utf-8")) > MOST_BYTES:
             raise Fault(f"the deck is longer than the {MOST_BYTES:,} bytes that the program takes")

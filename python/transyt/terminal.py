@@ -58,6 +58,12 @@ def read_deck_file(path: str, args: argparse.Namespace) -> Deck:
         return session.given
 
 
+def add_program(parser: argparse.ArgumentParser) -> None:
+    """The argument --program of a word within a word."""
+    parser.add_argument("--program", metavar="FILE", default=argparse.SUPPRESS,
+                        help="the program transyt, built, or the script that builds it")
+
+
 def workers(word: str) -> int:
     """The number of workers that a word tells, 1 to 8."""
     if word not in ("1", "2", "3", "4", "5", "6", "7", "8"):

@@ -1,13 +1,16 @@
 """Greens by the rules of the model, and signals laid out for SUMO."""
 
-import os
 import unittest
 
-from deck import Refusal, read_deck
-from greens import aspects, check_greens, expected_go, green_steps, phases, shown_steps
-from program import ROOT, LinkFigures, read_timing
+import support
+from transyt.deck import read_deck
+from transyt.faults import Fault
+from transyt.sumo.figures import LinkPlan, PlanFigures
+from transyt.sumo.look import last_plan
+from transyt.sumo.greens import aspects, check_greens, expected_go, green_steps, phases, shown_steps
 
-THREE_STAGES = """CYCLE 40 20 1 60 0 0
+THREE_STAGES = """FORM 2
+CYCLE 40 20 1 60 0 0
 NODE 7 3
 STAGE 18 2 3
 STAGE 4 1 2
@@ -31,7 +34,7 @@ class ShownSteps(unittest.TestCase):
         self.deck = read_deck(THREE_STAGES)
 
     def shown(self, number):
-        return steps_of(shown_steps(self.deck, self.deck.links[number]))
+        return steps_of(shown_steps(self.deck, self.deck.link(number)))
 
     def test_intergreen_comes_first(self):
         self.assertEqual(self.shown(1), [3, 4, 5, 6])
@@ -62,29 +65,26 @@ class Go(unittest.TestCase):
     def test_go_is_the_saturation_flow_at_green(self):
         deck = read_deck(THREE_STAGES)
         expected = tuple(1_000_000 if 3 <= step < 7 else 0 for step in range(20))
-        self.assertEqual(expected_go(deck, deck.links[1]), expected)
+        self.assertEqual(expected_go(deck, deck.link(1)), expected)
 
     def test_go_reckons_with_both_lags(self):
         # shown at 8 to 20, which is 0: opened at 8, closed at 1
         deck = read_deck(THREE_STAGES)
-        self.assertEqual(steps_of(expected_go(deck, deck.links[2])), [0, 1] + list(range(10, 20)))
+        self.assertEqual(steps_of(expected_go(deck, deck.link(2))), [0, 1] + list(range(10, 20)))
 
     def test_go_of_the_stored_report(self):
-        with open(os.path.join(ROOT, "examples", "arterial.deck")) as file:
-            deck = read_deck(file.read())
-        with open(os.path.join(ROOT, "examples", "arterial.report")) as file:
-            report = file.read()
+        deck, report = read_deck(support.example("arterial.deck")), support.example("arterial.report")
         go = next(line.split()[2:] for line in report.splitlines() if line.startswith("GO 31 "))
-        deck = deck.with_plan(read_timing(report))
-        self.assertEqual(expected_go(deck, deck.links[31]), tuple(int(number) for number in go))
+        deck = deck.with_plan(last_plan(report))
+        self.assertEqual(expected_go(deck, deck.link(31)), tuple(int(number) for number in go))
 
     def test_another_go_is_refused(self):
         deck = read_deck(THREE_STAGES)
-        figures = {number: LinkFigures(100, 0, 0, expected_go(deck, link)) for number, link in deck.links.items()}
-        check_greens(deck, figures)
-        figures[2] = LinkFigures(100, 0, 0, (1,) + figures[2].go[1:])
-        with self.assertRaisesRegex(Refusal, "link 2 "):
-            check_greens(deck, figures)
+        links = {link.number: LinkPlan(100, 0, 0, 0, expected_go(deck, link)) for link in deck.links}
+        check_greens(deck, PlanFigures(links, 0))
+        links[2] = LinkPlan(100, 0, 0, 0, (1,) + links[2].go[1:])
+        with self.assertRaisesRegex(Fault, "link 2 "):
+            check_greens(deck, PlanFigures(links, 0))
 
 
 class Signals(unittest.TestCase):

@@ -2,19 +2,25 @@
 
 import heapq
 import math
+from typing import Dict, List, Mapping, Tuple
+
+Roads = Mapping[int, Mapping[int, float]]
+Table = Dict[int, Dict[int, float]]
+Places = Dict[int, Tuple[float, float]]
 
 APART = 1000  # metres between parts of a town that no link joins
 ROUNDS = 100
 
 
-def distances(roads):
+def distances(roads: Roads) -> Table:
     """The shortest way from each node to each, in metres; `roads` has for each node the length to each neighbour."""
     return {start: distances_from(start, roads) for start in roads}
 
 
-def distances_from(start, roads):
+def distances_from(start: int, roads: Roads) -> Dict[int, float]:
     """The shortest ways from a node to those that can be reached, by Dijkstra's rule."""
-    found, heap = {}, [(0.0, start)]
+    found: Dict[int, float] = {}
+    heap = [(0.0, start)]
     while heap:
         far, node = heapq.heappop(heap)
         if node not in found:
@@ -24,21 +30,22 @@ def distances_from(start, roads):
     return found
 
 
-def places(roads):
+def places(roads: Roads) -> Places:
     """A place (x, y) in metres for each node, the first to the left; parts that no road joins stand side by side."""
-    shown, left = {}, 0.0
+    shown: Places = {}
+    left = 0.0
     far = distances(roads)
     for start in roads:
         if start not in shown:
             part = spread(far, list(far[start]))
-            west, south = (min(place[axis] for place in part.values()) for axis in (0, 1))
+            west, south = (min(place[along] for place in part.values()) for along in (0, 1))
             for node, (x, y) in part.items():
                 shown[node] = (left + x - west, y - south)
             left = max(x for x, _ in shown.values()) + APART
     return shown
 
 
-def spread(far, nodes):
+def spread(far: Table, nodes: List[int]) -> Places:
     """Places of which the distances differ little from those by road, near ones least."""
     products = centred(far, nodes)
     first = axis(products, {node: count + 1 for count, node in enumerate(nodes)})
@@ -52,7 +59,7 @@ def spread(far, nodes):
     return found
 
 
-def centred(far, nodes):
+def centred(far: Table, nodes: List[int]) -> Table:
     """The products of places about their middle that distances have in the plane: classical scaling's matrix."""
     square = {one: {other: far[one][other] ** 2 for other in nodes} for one in nodes}
     mean = {node: sum(square[node].values()) / len(nodes) for node in nodes}
@@ -61,9 +68,9 @@ def centred(far, nodes):
             for one in nodes}
 
 
-def axis(products, guess):
+def axis(products: Table, guess: Mapping[int, float]) -> Dict[int, float]:
     """The coordinates along the axis on which most of the products lies, by repeated multiplication from a guess."""
-    found, size = guess, 0.0
+    found, size = dict(guess), 0.0
     for _ in range(ROUNDS):
         length = math.sqrt(sum(part ** 2 for part in found.values()))
         if length < 1e-6:
@@ -74,7 +81,7 @@ def axis(products, guess):
     return {node: math.sqrt(max(0.0, size)) * part for node, part in unit.items()}
 
 
-def moved(node, far, found):
+def moved(node: int, far: Mapping[int, float], found: Places) -> Tuple[float, float]:
     """Where a node would stand by the mean of all others, each asking for its distance and near ones most."""
     x, y = found[node]
     sum_x = sum_y = weights = 0.0

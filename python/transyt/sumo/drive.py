@@ -3,13 +3,16 @@
 import os
 import xml.etree.ElementTree as ElementTree
 from dataclasses import dataclass
+from typing import Any, Dict, List, Mapping, Set, Tuple
 
-from greens import aspects, phases, shown_steps
-from roads import lane_count, link_road, run_tool, write_xml
+from ..deck import Deck
+from ..faults import Fault
+from .greens import aspects, phases, shown_steps
+from .roads import Net, lane_count, link_road, run_tool, write_xml
 
 WARM_UP, MEASURED, AFTER = 900, 3600, 900  # seconds
 SECONDS = WARM_UP + MEASURED + AFTER
-OPTIONS = {"step-length": 0.5, "time-to-teleport": -1, "collision.action": "warn", "xml-validation": "never"}
+OPTIONS: Dict[str, Any] = {"step-length": 0.5, "time-to-teleport": -1, "collision.action": "warn", "xml-validation": "never"}
 
 VIEW = """<viewsettings>
   <scheme name="town">
@@ -24,11 +27,11 @@ VIEW = """<viewsettings>
 """
 
 
-def write_signals(deck, net, path):
+def write_signals(deck: Deck, net: Net, path: str) -> None:
     """Writes the signals of a plan: at each node a fixed program over the cycle, in the time of the whole network."""
     root = ElementTree.Element("additional")
     for junction, order in net.signals.items():
-        signals = [aspects(shown_steps(deck, deck.links[order[index]]), deck.frame) for index in sorted(order)]
+        signals = [aspects(shown_steps(deck, deck.link(order[index])), deck.frame) for index in sorted(order)]
         logic = ElementTree.SubElement(root, "tlLogic", id=junction, type="static", programID="plan", offset="0")
         for duration, state in phases(signals):
             ElementTree.SubElement(logic, "phase", duration=f"{duration:g}", state=state)
@@ -36,11 +39,12 @@ def write_signals(deck, net, path):
     ElementTree.ElementTree(root).write(path, encoding="utf-8", xml_declaration=True)
 
 
-def write_measures(deck, cycle, path):
+def write_measures(deck: Deck, cycle: int, path: str) -> None:
     """Writes what SUMO is to measure: all edges over the hour, and the queue of each lane in each cycle."""
-    elements = [("edgeData", {"id": "roads", "file": "roads.xml", "begin": WARM_UP, "end": WARM_UP + MEASURED,
-                              "withInternal": "true"})]
-    for link in deck.links.values():
+    elements: List[Tuple[str, Dict[str, Any]]] = [
+        ("edgeData", {"id": "roads", "file": "roads.xml", "begin": WARM_UP, "end": WARM_UP + MEASURED,
+                      "withInternal": "true"})]
+    for link in deck.links:
         for lane in range(lane_count(link)):
             name = f"{link_road(link.number)}_{lane}"
             elements.append(("laneAreaDetector", {"id": name, "lane": name, "pos": 0, "endPos": -0.1,
@@ -48,7 +52,7 @@ def write_measures(deck, cycle, path):
     write_xml(path, "additional", elements)
 
 
-def write_configuration(path, signals, cars):
+def write_configuration(path: str, signals: str, cars: str) -> None:
     """Writes the file that sumo-gui opens."""
     root = ElementTree.Element("configuration")
     wanted = {"net-file": "town.net.xml", "route-files": cars, "additional-files": signals,
@@ -59,7 +63,7 @@ def write_configuration(path, signals, cars):
     ElementTree.ElementTree(root).write(path, encoding="utf-8", xml_declaration=True)
 
 
-def write_view(path):
+def write_view(path: str) -> None:
     """Writes how sumo-gui shows the town."""
     with open(path, "w", encoding="utf-8") as file:
         file.write(VIEW)
@@ -78,7 +82,7 @@ class LinkMeasures:
     queue: float
 
     @property
-    def seconds(self):
+    def seconds(self) -> float:
         """Mean delay of a vehicle in seconds."""
         return 3600 * self.delay / self.vehicles if self.vehicles else 0.0
 
@@ -87,12 +91,12 @@ class LinkMeasures:
 class Measures:
     """A run: the measures of each link by its number, and how often cars collided or were taken off their place."""
 
-    links: dict
+    links: Mapping[int, LinkMeasures]
     collisions: int
     teleports: int
 
     @property
-    def delay(self):
+    def delay(self) -> float:
         """Vehicle-hours of delay an hour of the whole network."""
         return sum(link.delay for link in self.links.values())
 
@@ -108,12 +112,12 @@ class Run:
     seed: int
 
     @property
-    def out(self):
+    def out(self) -> str:
         """The folder of the run's results, within its folder."""
         return f"{self.signals.split('.')[0]}-{self.seed}"
 
 
-def drive(deck, net, run):
+def drive(deck: Deck, net: Net, run: Run) -> Measures:
     """Drives the cars of a run by its signals, and returns its measures."""
     out = os.path.join(run.folder, run.out)
     os.makedirs(out, exist_ok=True)
@@ -128,26 +132,29 @@ def drive(deck, net, run):
     return read_measures(deck, net, out)
 
 
-def read_measures(deck, net, out):
+def read_measures(deck: Deck, net: Net, out: str) -> Measures:
     """The measures of a run out of the files that SUMO wrote."""
     lost, left = read_roads(os.path.join(out, "roads.xml"), net)
     waited = read_waits(os.path.join(out, "trips.xml"))
     queues = read_queues(os.path.join(out, "queues.xml"))
     links = {}
-    for number in deck.links:
+    for number in deck.link_by_number:
         road = link_road(number)
         delay = (lost.get(road, 0) + waited.get(number, 0)) / MEASURED
         links[number] = LinkMeasures(left.get(road, 0) * 3600 / MEASURED, delay, queues.get(road, 0))
     statistics = ElementTree.parse(os.path.join(out, "statistics.xml")).getroot()
-    return Measures(links, int(statistics.find("safety").get("collisions")),
-                    int(statistics.find("teleports").get("total")))
+    safety, teleports = statistics.find("safety"), statistics.find("teleports")
+    if safety is None or teleports is None:
+        raise Fault(f"SUMO's statistics in {out} have no collisions and teleports")
+    return Measures(links, int(safety.get("collisions", 0)), int(teleports.get("total", 0)))
 
 
-def read_roads(path, net):
+def read_roads(path: str, net: Net) -> Tuple[Dict[str, float], Dict[str, float]]:
     """For each road the seconds lost on it and in the junction behind it, and the vehicles that left it."""
-    lost, left = {}, {}
+    lost: Dict[str, float] = {}
+    left: Dict[str, float] = {}
     for edge in ElementTree.parse(path).getroot().iter("edge"):
-        name = edge.get("id")
+        name = edge.get("id", "")
         road = net.inside.get(name, name)
         lost[road] = lost.get(road, 0) + float(edge.get("timeLoss", 0))
         if road == name:
@@ -155,24 +162,26 @@ def read_roads(path, net):
     return lost, left
 
 
-def read_waits(path):
+def read_waits(path: str) -> Dict[int, float]:
     """For each link's number the seconds of the hour that cars waited to enter on it, those that never could too."""
-    waited = {}
+    waited: Dict[int, float] = {}
     for trip in ElementTree.parse(path).getroot().iter("tripinfo"):
-        number, depart = int(trip.get("id").split(".")[0]), float(trip.get("depart"))
+        number, depart = int(trip.get("id", "").split(".")[0]), float(trip.get("depart", 0))
         end = depart if depart >= 0 else SECONDS
-        begin = end - float(trip.get("departDelay"))
+        begin = end - float(trip.get("departDelay", 0))
         within = min(end, WARM_UP + MEASURED) - max(begin, WARM_UP)
         waited[number] = waited.get(number, 0) + max(0, within)
     return waited
 
 
-def read_queues(path):
+def read_queues(path: str) -> Dict[str, float]:
     """For each road the longest queue of a cycle, its lanes together, as a mean over the cycles within the hour."""
-    sums, cycles = {}, {}
+    sums: Dict[str, int] = {}
+    cycles: Dict[str, Set[str]] = {}
     for interval in ElementTree.parse(path).getroot().iter("interval"):
-        if float(interval.get("begin")) >= WARM_UP and float(interval.get("end")) <= WARM_UP + MEASURED:
-            lane, road = interval.get("id"), interval.get("id").rsplit("_", 1)[0]
-            sums[road] = sums.get(road, 0) + int(interval.get("maxJamLengthInVehicles"))
-            cycles[road] = cycles.get(road, set()) | {(interval.get("begin"))}
+        begin = interval.get("begin", "0")
+        if float(begin) >= WARM_UP and float(interval.get("end", 0)) <= WARM_UP + MEASURED:
+            road = interval.get("id", "").rsplit("_", 1)[0]
+            sums[road] = sums.get(road, 0) + int(interval.get("maxJamLengthInVehicles", 0))
+            cycles[road] = cycles.get(road, set()) | {begin}
     return {road: total / len(cycles[road]) for road, total in sums.items()}

@@ -1,26 +1,24 @@
-#!/usr/bin/env python3
-"""compare.py DECK [--against DECK] [--seeds 3]: drives two plans with the same cars, and writes a table.
+"""Two plans driven with the same cars, and the table of it.
 
-The plans are the deck's and the one at the end of the program's climb on it; or, with --against, those of two decks of
-one demand, as they stand. For each link the table has the program's seconds a vehicle and queue, and SUMO's.
+For each link the table has the program's seconds a vehicle and queue, and SUMO's.
 """
 
-import argparse
+import math
 import os
 import statistics
 import subprocess
-import sys
-import tempfile
 from concurrent.futures import ThreadPoolExecutor
 from dataclasses import dataclass
+from typing import Callable, Dict, List, Optional, Sequence, Tuple
 
-from calibrate import calibrate
-from cars import draw_cars, write_cars
-from deck import Deck, Refusal
-from drive import SECONDS, Run, drive, write_signals
-from greens import check_greens
-from program import Program
-from roads import build, check_carried
+from ..deck import Deck
+from ..faults import Fault
+from ..terminal import progress
+from .calibrate import calibrate
+from .cars import draw_cars, write_cars
+from .drive import SECONDS, Measures, Run, drive, write_signals
+from .figures import PlanFigures
+from .roads import build
 
 
 @dataclass(frozen=True)
@@ -29,41 +27,40 @@ class Plan:
 
     name: str
     deck: Deck
-    figures: dict
-    index: int
-    runs: list
+    figures: PlanFigures
+    runs: List[Measures]
 
     @property
-    def delay(self):
+    def delay(self) -> float:
         """The program's vehicle-hours of delay an hour."""
-        return sum(figures.delay for figures in self.figures.values())
+        return sum(link.delay for link in self.figures.links.values())
 
     @property
-    def driven_delay(self):
+    def driven_delay(self) -> float:
         """SUMO's vehicle-hours of delay an hour, as a mean over the runs."""
         return statistics.fmean(run.delay for run in self.runs)
 
-    def driven_seconds(self, number):
+    def driven_seconds(self, number: int) -> float:
         """SUMO's mean delay of a vehicle on a link in seconds, over all runs."""
         links = [run.links[number] for run in self.runs]
         vehicles = sum(link.vehicles for link in links)
         return 3600 * sum(link.delay for link in links) / vehicles if vehicles else 0.0
 
-    def driven_queue(self, number):
+    def driven_queue(self, number: int) -> float:
         """SUMO's queue of a link, as a mean over the runs."""
         return statistics.fmean(run.links[number].queue for run in self.runs)
 
 
-def check_same_demand(one, other):
+def check_same_demand(one: Deck, other: Deck) -> None:
     """Refuses two decks that differ in more than their plans and cycles."""
-    def demand(deck):
-        return {number: (link.node, link.entry, link.saturation, link.feeds) for number, link in deck.links.items()}
+    def demand(deck: Deck) -> Dict[int, object]:
+        return {link.number: (link.node, link.entry, link.saturation, link.feeds) for link in deck.links}
 
     if demand(one) != demand(other):
-        raise Refusal("the two decks differ in links, flows, saturation flows or feeds, and so can't share their cars")
+        raise Fault("the two decks differ in links, flows, saturation flows or feeds, and so can't share their cars")
 
 
-def write_all_cars(deck, headway, folder, seeds):
+def write_all_cars(deck: Deck, headway: float, folder: str, seeds: Sequence[int]) -> int:
     """Writes the cars of each seed, and tells how many they are together."""
     count = 0
     for seed in seeds:
@@ -73,7 +70,7 @@ def write_all_cars(deck, headway, folder, seeds):
     return count
 
 
-def drive_plans(plans, folder, seeds, jobs):
+def drive_plans(plans: Sequence[Plan], folder: str, seeds: Sequence[int], jobs: int) -> Tuple[float, int]:
     """Drives each plan with each seed's cars, some runs at once; adds the measures to the plans, and tells of the cars.
 
     What is told is how many seconds a car stays behind the one ahead, and how many cars all seeds have.
@@ -82,7 +79,7 @@ def drive_plans(plans, folder, seeds, jobs):
     net = build(first, folder)
     headway = calibrate(first, os.path.join(folder, "calibration"))
     count = write_all_cars(first, headway, folder, seeds)
-    runs = []
+    runs: List[Tuple[Plan, Run]] = []
     for place, plan in enumerate(plans):
         signals = f"plan{place}.add.xml"
         write_signals(plan.deck, net, os.path.join(folder, signals))
@@ -92,50 +89,52 @@ def drive_plans(plans, folder, seeds, jobs):
         driven = pool.map(lambda asked: drive(asked[0].deck, net, asked[1]), runs)
         for done, ((plan, _), measures) in enumerate(zip(runs, driven), 1):
             plan.runs.append(measures)
-            print(f"{done} of {len(runs)} runs", file=sys.stderr)
+            progress(f"{done} of {len(runs)} runs")
     return headway, count
 
 
-def correlation(pairs):
+def correlation(pairs: Sequence[Tuple[float, float]]) -> Optional[float]:
     """The correlation of pairs, or None where there is none to tell."""
-    try:
-        return statistics.correlation(*zip(*pairs))
-    except (statistics.StatisticsError, TypeError):
+    if len(pairs) < 2:
         return None
+    means = [statistics.fmean(side) for side in zip(*pairs)]
+    apart = [(one - means[0], other - means[1]) for one, other in pairs]
+    spread = math.sqrt(sum(one * one for one, _ in apart) * sum(other * other for _, other in apart))
+    return sum(one * other for one, other in apart) / spread if spread else None
 
 
-def told(number, digits=2):
+def told(number: Optional[float], digits: int = 2) -> str:
     """A number as the table has it."""
     return "-" if number is None else f"{number:.{digits}f}"
 
 
-def row(cells):
+def row(cells: Sequence[object]) -> str:
     """A row of the table."""
     return "| " + " | ".join(str(cell) for cell in cells) + " |"
 
 
-def link_table(plans):
+def link_table(plans: Sequence[Plan]) -> List[str]:
     """The table of links: for each plan seconds a vehicle and queue, the program's and SUMO's."""
     heads = [head for plan in plans
              for head in (f"{plan.name}: s a vehicle", "in SUMO", f"{plan.name}: queue", "in SUMO")]
     lines = [row(["link", "vehicles an hour", *heads]), row(["--:"] * (2 + len(heads)))]
-    for number, link in plans[0].deck.links.items():
-        cells = []
+    for link in plans[0].deck.links:
+        number, cells = link.number, []
         for plan in plans:
-            figures = plan.figures[number]
+            figures = plan.figures.link(number)
             cells += [told(figures.seconds, 1), told(plan.driven_seconds(number), 1),
                       told(figures.queue, 1), told(plan.driven_queue(number), 1)]
         lines.append(row([number, link.total_flow, *cells]))
     return lines
 
 
-def over_links(plan, figure, driven):
+def over_links(plan: Plan, figure: str, driven: Callable[[int], float]) -> Optional[float]:
     """The correlation of a figure of the program's with SUMO's over the links that have traffic."""
-    used = [number for number, link in plan.deck.links.items() if link.total_flow]
-    return correlation([(getattr(plan.figures[number], figure), driven(number)) for number in used])
+    used = [link.number for link in plan.deck.links if link.total_flow]
+    return correlation([(getattr(plan.figures.link(number), figure), driven(number)) for number in used])
 
 
-def total_table(plans):
+def total_table(plans: Sequence[Plan]) -> List[str]:
     """The table of totals: vehicle-hours of delay an hour on both sides, their ratio, and correlations over links."""
     one, other = plans
     ratios = [after.delay / before.delay for before, after in zip(one.runs, other.runs)]
@@ -146,8 +145,8 @@ def total_table(plans):
     return [
         row(["", one.name, other.name, f"{other.name} / {one.name}"]), row([":--", "--:", "--:", "--:"]),
         row(["cycle, seconds", one.deck.frame.cycle, other.deck.frame.cycle, ""]),
-        row(["the program's index, millions", told(one.index / 1e6), told(other.index / 1e6),
-             told(other.index / one.index, 3)]),
+        row(["the program's index, millions", told(one.figures.index / 1e6), told(other.figures.index / 1e6),
+             told(other.figures.index / one.figures.index, 3)]),
         row(["delay by the program, vehicle-hours an hour", told(one.delay), told(other.delay),
              told(other.delay / one.delay, 3)]),
         row(["delay in SUMO, vehicle-hours an hour", told(one.driven_delay), told(other.driven_delay), ratio]),
@@ -157,78 +156,20 @@ def total_table(plans):
     ]
 
 
-def sumo_version():
+def sumo_version() -> str:
     """The first line that SUMO tells of itself."""
     try:
-        return subprocess.run(["sumo", "--version"], capture_output=True, text=True).stdout.splitlines()[0]
+        return subprocess.run(["sumo", "--version"], capture_output=True, text=True).stdout.split("\n")[0]
     except FileNotFoundError as error:
-        raise Refusal("sumo is not installed: README.md here says how it is") from error
+        raise Fault("sumo is not installed: examples/sumo/README.md says how it is") from error
 
 
-def make_plans(program, words):
-    """The two plans that are to be driven, with the program's figures; nothing is driven before the greens agree."""
-    deck = program.read(words.deck)
-    other = program.read(words.against) if words.against else None
-    if words.without_yield:
-        deck, other = deck.without_rules(), other and other.without_rules()
-    check_carried(deck)
-    if other:
-        check_carried(other)
-        check_same_demand(deck, other)
-        names = [os.path.splitext(os.path.basename(path))[0] for path in (words.deck, words.against)]
-    else:
-        other, names = program.climb(deck), ["before", "after"]
-    plans = [Plan(name, it, program.figures(it), program.index(it), []) for name, it in zip(names, (deck, other))]
-    for plan in plans:
-        check_greens(plan.deck, plan.figures)
-    return plans
-
-
-def compare(words):
-    """The lines of the whole table."""
+def table(plans: Sequence[Plan], folder: str, seeds: Sequence[int], jobs: int) -> List[str]:
+    """Drives the plans, and tells the lines of the whole table."""
     version = sumo_version()
-    plans = make_plans(Program(words.program), words)
-    seeds = range(1, words.seeds + 1)
-    with tempfile.TemporaryDirectory() as passing:
-        folder = words.keep or passing
-        os.makedirs(folder, exist_ok=True)
-        headway, count = drive_plans(plans, folder, seeds, words.jobs)
+    headway, count = drive_plans(plans, folder, seeds, jobs)
     runs = [run for plan in plans for run in plan.runs]
-    end = (f"{version}, seeds 1 to {words.seeds}, {count // words.seeds} cars a run that stay {headway:.2f} s behind "
+    end = (f"{version}, seeds 1 to {len(seeds)}, {count // len(seeds)} cars a run that stay {headway:.2f} s behind "
            f"one another; {sum(run.collisions for run in runs)} collisions and {sum(run.teleports for run in runs)} "
            f"teleports in {len(runs)} runs; {sum(os.times()[:4]):.0f} s of processor time.")
     return total_table(plans) + [""] + link_table(plans) + ["", end]
-
-
-def some(word):
-    """The number that a word tells, which is 1 or more."""
-    if not word.isdecimal() or int(word) == 0:
-        raise argparse.ArgumentTypeError(f"{word} is no number from 1 on")
-    return int(word)
-
-
-def read_words():
-    """The words of the call."""
-    words = argparse.ArgumentParser(description=__doc__.split("\n\n")[0])
-    words.add_argument("deck", metavar="DECK")
-    words.add_argument("--against", metavar="DECK", help="drive the plan of this deck instead of the climbed one")
-    words.add_argument("--seeds", type=some, default=3, metavar="N", help="how many seeds (3)")
-    words.add_argument("--jobs", type=some, default=2, metavar="N", help="runs at once (2)")
-    words.add_argument("--keep", metavar="DIR", help="leave the files of SUMO there")
-    words.add_argument("--without-yield", action="store_true", help="leave the decks' give-way rules out")
-    words.add_argument("--program", help="the built program, or the script transyt")
-    return words.parse_args()
-
-
-def main():
-    """Reads the words and writes the table; 2 where that can't be done."""
-    try:
-        print("\n".join(compare(read_words())))
-    except (Refusal, OSError) as refusal:
-        print(f"compare.py: {refusal}", file=sys.stderr)
-        return 2
-    return 0
-
-
-if __name__ == "__main__":
-    sys.exit(main())

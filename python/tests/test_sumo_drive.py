@@ -1,18 +1,20 @@
-"""What SUMO wrote as it is read here, the saturation flow that is wanted, the table, and the seconds kept."""
+"""What SUMO wrote as it is read here, the saturation flow that is wanted, and the table."""
 
 import functools
 import os
 import tempfile
 import unittest
 
-from calibrate import Green, headway_of, one_stop_line, usual_green
-from compare import Plan, check_same_demand, correlation, link_table, total_table
-from deck import Refusal, read_deck
-from drive import LinkMeasures, Measures, read_measures
-from keep_seconds import at_cycle
-from program import LinkFigures
+import support  # noqa: F401
+from transyt.deck import read_deck
+from transyt.faults import Fault
+from transyt.sumo.calibrate import Green, headway_of, one_stop_line, usual_green
+from transyt.sumo.drive import LinkMeasures, Measures, read_measures
+from transyt.sumo.figures import LinkPlan, PlanFigures
+from transyt.sumo.plans import Plan, check_same_demand, correlation, link_table, total_table
 
-DECK = """CYCLE 60 30 1 60 0 0
+DECK = """FORM 2
+CYCLE 60 30 1 60 0 0
 NODE 1 7
 STAGE 5 1 3
 STAGE 15 2 4
@@ -102,18 +104,20 @@ class Calibration(unittest.TestCase):
 
     def test_out_of_reach_is_refused(self):
         for wanted in (27, 10):
-            with self.assertRaisesRegex(Refusal, f"{wanted}.0 cars"):
+            with self.assertRaisesRegex(Fault, f"{wanted}.0 cars"):
                 headway_of(lambda headway: 30 - 5 * headway, wanted)
 
 
 class Tables(unittest.TestCase):
     def plan(self, name, delay, driven):
         deck = read_deck(DECK)
-        figures = {number: LinkFigures(deck.links[number].total_flow, delay * share, 2.0, ())
-                   for number, share in ((11, 0.5), (12, 0.25), (13, 0.25))}
+        figures = {}
+        for number, share in ((11, 0.5), (12, 0.25), (13, 0.25)):
+            flow = deck.link(number).total_flow
+            figures[number] = LinkPlan(flow, delay * share, 3600 * delay * share / flow, 2.0, ())
         runs = [Measures({11: LinkMeasures(600, part, 3), 12: LinkMeasures(300, part / 2, 4),
                           13: LinkMeasures(0, 0, 0)}, 0, 0) for part in driven]
-        return Plan(name, deck, figures, 5_000_000, runs)
+        return Plan(name, deck, PlanFigures(figures, 5_000_000), runs)
 
     def test_totals(self):
         lines = total_table([self.plan("before", 8, [4, 6]), self.plan("after", 6, [3, 3])])
@@ -133,26 +137,9 @@ class Tables(unittest.TestCase):
         self.assertIsNone(correlation([]))
 
     def test_decks_of_other_flows_are_refused(self):
-        with self.assertRaisesRegex(Refusal, "differ"):
+        with self.assertRaisesRegex(Fault, "differ"):
             check_same_demand(read_deck(DECK), read_deck(DECK.replace("600 3600", "601 3600")))
         check_same_demand(read_deck(DECK), read_deck(DECK.replace("CYCLE 60 30", "CYCLE 80 40")))
-
-
-class KeepSeconds(unittest.TestCase):
-    def test_stages_are_as_short_as_they_may_be(self):
-        # 40 steps of two seconds; the stages take at least 4 and 6, and stage 1 the 30 that are left over
-        deck = at_cycle(read_deck(DECK), 80)
-        self.assertEqual((deck.frame.cycle, deck.frame.step_count, deck.nodes[1].offset), (80, 40, 9))
-        self.assertEqual([stage.change for stage in deck.nodes[1].stages], [6, 0])
-        self.assertEqual([deck.nodes[1].length(place, 40) for place in (0, 1)], [34, 6])
-
-    def test_cycle_of_no_whole_steps_is_refused(self):
-        with self.assertRaisesRegex(Refusal, "whole number of steps"):
-            at_cycle(read_deck(DECK), 61)
-
-    def test_cycle_shorter_than_the_stages_is_refused(self):
-        with self.assertRaisesRegex(Refusal, "too short for .* node 1"):
-            at_cycle(read_deck(DECK.replace("STAGE 5 1 3", "STAGE 5 1 9")), 30)
 
 
 if __name__ == "__main__":

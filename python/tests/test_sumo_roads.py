@@ -3,11 +3,14 @@
 import math
 import unittest
 
-import layout
-from deck import Refusal, read_deck
-from roads import check_carried, draw_map, free_direction, lane_count, lane_pairs, mean_cruise, shape, Map, Road
+import support  # noqa: F401
+from transyt.deck import read_deck
+from transyt.faults import Fault
+from transyt.sumo import layout
+from transyt.sumo.roads import check_carried, draw_map, free_direction, lane_count, lane_pairs, mean_cruise, shape, Map, Road
 
-DECK = """CYCLE 60 30 1 60 0 0
+DECK = """FORM 2
+CYCLE 60 30 1 60 0 0
 NODE 1 0
 STAGE 0 1 3
 STAGE 10 2 4
@@ -25,7 +28,7 @@ END
 
 class CheckCarried(unittest.TestCase):
     def refused(self, old, new, sentence):
-        with self.assertRaisesRegex(Refusal, sentence):
+        with self.assertRaisesRegex(Fault, sentence):
             check_carried(read_deck(DECK.replace(old, new)))
 
     def test_plain_deck_is_carried_over(self):
@@ -37,7 +40,7 @@ class CheckCarried(unittest.TestCase):
     def test_feeders_at_two_nodes(self):
         deck = DECK.replace("NODE 2 0", "NODE 3 0\nSTAGE 0 1 3\nSTAGE 10 2 4\nNODE 2 0")
         deck = deck.replace("LINK 12 1", "LINK 12 3")
-        with self.assertRaisesRegex(Refusal, "link 21 is fed from the nodes 1, 3"):
+        with self.assertRaisesRegex(Fault, "link 21 is fed from the nodes 1, 3"):
             check_carried(read_deck(deck))
 
     def test_feeder_at_its_own_node(self):
@@ -48,8 +51,8 @@ class CheckCarried(unittest.TestCase):
         self.refused("450 20\nFEED 21 12 150 24", "450 1\nFEED 21 12 150 2", "link 21 would be shorter")
 
     def test_deck_without_traffic(self):
-        with self.assertRaisesRegex(Refusal, "no vehicle"):
-            check_carried(read_deck("CYCLE 60 30 1 60 0 0\nEND\n"))
+        with self.assertRaisesRegex(Fault, "no vehicle"):
+            check_carried(read_deck("FORM 2\nCYCLE 60 30 1 60 0 0\nEND\n"))
 
     def test_feed_without_flow_is_no_matter(self):
         self.assertIsNone(check_carried(read_deck(DECK.replace("END\n", "FEED 12 21 0 20\nEND\n"))))
@@ -60,7 +63,7 @@ class DrawMap(unittest.TestCase):
         self.drawn = draw_map(read_deck(DECK))
 
     def test_links_are_as_long_as_their_cruise_time(self):
-        self.assertEqual(mean_cruise(read_deck(DECK).links[21]), 21)
+        self.assertEqual(mean_cruise(read_deck(DECK).link(21)), 21)
         self.assertAlmostEqual(self.drawn.roads["link21"].length, 21 * 13.9)
         self.assertEqual(self.drawn.roads["link11"].length, 500)
 
@@ -78,8 +81,8 @@ class DrawMap(unittest.TestCase):
 
 class Lanes(unittest.TestCase):
     def test_a_lane_for_each_1800(self):
-        links = read_deck(DECK).links
-        self.assertEqual([lane_count(links[number]) for number in (11, 12, 21)], [2, 1, 1])
+        deck = read_deck(DECK)
+        self.assertEqual([lane_count(deck.link(number)) for number in (11, 12, 21)], [2, 1, 1])
 
     def test_lanes_side_by_side(self):
         self.assertEqual(lane_pairs(2, 2), [(0, 0), (1, 1)])

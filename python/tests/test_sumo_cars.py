@@ -3,10 +3,12 @@
 import unittest
 from collections import Counter
 
-from cars import draw_cars, entering_flow, lane_saturation, share_sent, ways_on
-from deck import read_deck
+import support  # noqa: F401
+from transyt.deck import read_deck
+from transyt.sumo.cars import draw_cars, entering_flow, lane_saturation, share_sent, ways_on
 
-DECK = """CYCLE 60 30 1 60 0 0
+DECK = """FORM 2
+CYCLE 60 30 1 60 0 0
 NODE 1 0
 STAGE 0 1 3
 STAGE 10 2 4
@@ -30,8 +32,8 @@ class Flows(unittest.TestCase):
         self.assertEqual([share_sent(self.deck, number) for number in (11, 12, 21)], [1, 0.8, 1])
 
     def test_missing_cars_enter_on_the_link_fed(self):
-        self.assertAlmostEqual(entering_flow(self.deck, self.deck.links[21]), 45)
-        self.assertEqual(entering_flow(self.deck, self.deck.links[11]), 600)
+        self.assertAlmostEqual(entering_flow(self.deck, self.deck.link(21)), 45)
+        self.assertEqual(entering_flow(self.deck, self.deck.link(11)), 600)
 
     def test_parts_of_the_ways_on(self):
         self.assertEqual(ways_on(self.deck), {11: [(21, 0.75)], 12: [(21, 1.0)], 21: []})

@@ -1,58 +1,63 @@
 """The steps at which a link is green, by the rules of docs/MODEL.md, "Green"; and the signals as SUMO takes them."""
 
-from deck import Refusal
-from program import UNITS_PER_VEHICLE
+from typing import List, Mapping, Sequence, Tuple
+
+from ..deck import Deck, Frame, Link
+from ..faults import Fault
+from ..report import UNITS
+from .figures import PlanFigures
 
 YELLOW = 3  # seconds of yellow after a green
 TICKS = 2  # signals switch at whole half seconds, which are SUMO's time steps here
 
 
-def shown_steps(deck, link):
+def shown_steps(deck: Deck, link: Link) -> List[bool]:
     """For each step of the network whether the link's node shows it, lags apart."""
     return [is_shown(deck, link, step) for step in range(deck.frame.step_count)]
 
 
-def is_shown(deck, link, step):
+def is_shown(deck: Deck, link: Link, step: int) -> bool:
     """Whether a stage of the link is on at a step and past its intergreen, or the link ran in the stage before too."""
-    step_count, node = deck.frame.step_count, deck.nodes[link.node]
+    step_count, node = deck.frame.step_count, deck.node(link.node)
     for place, stage in enumerate(node.stages):
         age = (step - node.offset - stage.change) % step_count
         before = (place - 1) % len(node.stages) + 1
-        if place + 1 in link.stages and age < node.length(place, step_count):
+        if place + 1 in link.stages and age < node.length(place + 1, step_count):
             return age >= stage.intergreen or before in link.stages
     return False
 
 
-def green_steps(shown, start_lag, end_lag):
+def green_steps(shown: Sequence[bool], start_lag: int, end_lag: int) -> List[bool]:
     """The steps at which a link that is shown at the given steps is green, its lags reckoned in."""
-    def is_green(step):
+    def is_green(step: int) -> bool:
         opened = any(shown[step - past] and not shown[step - past - 1] for past in range(start_lag))
         return not opened and any(shown[step - past] for past in range(end_lag + 1))
 
     return [is_green(step) for step in range(len(shown))]
 
 
-def expected_go(deck, link):
+def expected_go(deck: Deck, link: Link) -> Tuple[int, ...]:
     """GO of a link without a give-way rule: its saturation flow in units per step where it is green, else 0."""
     frame = deck.frame
-    rate = link.saturation * frame.cycle * UNITS_PER_VEHICLE // (3600 * frame.step_count)
+    rate = link.saturation * frame.cycle * UNITS // (3600 * frame.step_count)
     green = green_steps(shown_steps(deck, link), link.start_lag, link.end_lag)
     return tuple(rate if is_green else 0 for is_green in green)
 
 
-def check_greens(deck, figures):
+def check_greens(deck: Deck, figures: PlanFigures) -> None:
     """Refuses a deck of which a link's GO, as laid out here, differs from the program's at some step."""
-    for number, link in deck.links.items():
-        if expected_go(deck, link) != figures[number].go:
-            raise Refusal(f"the green of link {number} as laid out here isn't that of the program's PROFILE {number}")
+    for link in deck.links:
+        if expected_go(deck, link) != figures.link(link.number).go:
+            raise Fault(f"the green of link {link.number} as laid out here isn't that of the program's "
+                        f"PROFILE {link.number}")
 
 
-def aspects(shown, frame):
+def aspects(shown: Sequence[bool], frame: Frame) -> str:
     """The signal of a link at each half second of the cycle: G for green, y for yellow, r for red."""
     ends = [round(TICKS * frame.cycle * step / frame.step_count) for step in range(frame.step_count + 1)]
     green = [is_green for step, is_green in enumerate(shown) for _ in range(ends[step], ends[step + 1])]
 
-    def aspect(tick):
+    def aspect(tick: int) -> str:
         if green[tick]:
             return "G"
         return "y" if any(green[tick - past] for past in range(1, YELLOW * TICKS + 1)) else "r"
@@ -60,13 +65,11 @@ def aspects(shown, frame):
     return "".join(aspect(tick) for tick in range(len(green)))
 
 
-def phases(signals):
+def phases(signals: Sequence[str]) -> List[Tuple[float, str]]:
     """The phases of a node: from each signal's aspects, in the order of the signals, (seconds, state) in turn."""
     states = ["".join(state) for state in zip(*signals)]
-    found = []
+    found: List[Tuple[float, str]] = []
     for state in states:
-        if found and found[-1][1] == state:
-            found[-1][0] += 1 / TICKS
-        else:
-            found.append([1 / TICKS, state])
-    return [tuple(phase) for phase in found]
+        before = found.pop()[0] if found and found[-1][1] == state else 0
+        found.append((before + 1 / TICKS, state))
+    return found

@@ -1,0 +1,1 @@
+"""A plan in Eclipse SUMO: looked at, and driven with the same cars as another."""
