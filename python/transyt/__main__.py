@@ -40,7 +40,8 @@ def main(words: List[str]) -> int:
         return 0 if words else 2
     module = module_of(words[0]) if words[0] in WORDS else None
     if module is None:
-        tell(f"plan: there is no word {words[0]}\n{usage()}")
+        tell(f"plan: there is no word {words[0]}")
+        print(usage(), file=sys.stderr)
         return 2
     try:
         return int(module.run(parser_of(words[0], module).parse_args(words[1:])))

@@ -3,7 +3,7 @@
 import argparse
 import time
 from dataclasses import dataclass, replace
-from typing import Callable, List, Optional, Tuple
+from typing import Callable, Iterator, List, Optional, Sequence, Tuple
 
 from .deck import Deck
 from .edits import after
@@ -111,9 +111,7 @@ class Search:
         rows: List[Row] = []
         before, deck = self.index, self.deck
         best: Optional[int] = None
-        for first, some in self._parts(count):
-            words = ["starts", self.wanted.workers, self.wanted.seed, some] + ([] if first is None else [first])
-            answer = self._asked(words, deck)
+        for answer in self._parts(count, deck):
             rows += answer.rows
             if answer.deck and (best is None or answer.index < best):
                 best = answer.index
@@ -121,11 +119,15 @@ class Search:
             self.progress(f"starts: {len(rows)} of {count}, {self.index}")
         self._told_rows("starts", before, rows)
 
-    def _parts(self, count: int) -> List[Tuple[Optional[int], int]]:
-        """The first start and the count of each part; one part for a program that takes no fourth number."""
-        if self.program.ask(["starts", 1, 1, 1, 0], str(self.deck.bare())).status == 1:
-            return [(None, count)]
-        return [(first, min(PART, count - first)) for first in range(0, count, PART)]
+    def _parts(self, count: int, deck: Deck) -> Iterator[Rows]:
+        """The starts in parts of ten; at once by a program that takes no fourth number."""
+        words: List[object] = ["starts", self.wanted.workers, self.wanted.seed]
+        first = self.program.ask([*words, min(PART, count), 0], str(deck.bare()))
+        if first.status == 1:
+            yield self._asked([*words, count], deck)
+            return
+        for begin in range(0, count, PART):
+            yield self._asked([*words, min(PART, count - begin), begin], deck) if begin else read_rows(first.lines)
 
     def climb(self) -> None:
         """CLIMB until LOCAL."""
@@ -171,7 +173,7 @@ class Search:
         with Session(deck, 1, self.program.path) as session:
             return session.index()
 
-    def _asked(self, words: List[object], deck: Deck) -> Rows:
+    def _asked(self, words: Sequence[object], deck: Deck) -> Rows:
         """The answer of a word to a deck."""
         return read_rows(self.program.answer(words, str(deck.bare())))
 

@@ -8,7 +8,6 @@ from typing import Dict, Iterator, List, Optional, Tuple
 
 from .deck import Deck
 from .edits import Edit
-from .faults import Refused
 from .session import Session
 
 
@@ -100,14 +99,10 @@ class Kicker:
 
     def _try(self, edit: Edit, index: int) -> Optional[int]:
         """Tries a move in a trial: its index where it lowers, and then it is kept; else None, and it is taken back."""
-        self.session.ask("TRIAL")
-        try:
-            self.session.edit(edit)
-            after = self.session.index()
-        except Refused:
-            after = index
-        self.session.ask("KEEP" if after < index else "BACK")
-        return after if after < index else None
+        after = self.session.attempt(edit)
+        lowers = after is not None and after < index
+        self.session.ask("KEEP" if lowers else "BACK")
+        return after if lowers else None
 
     def _edit(self, node: int, stage: int, value: int) -> Edit:
         """The edit of an offset or a change."""

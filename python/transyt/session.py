@@ -4,7 +4,7 @@ import threading
 import weakref
 from dataclasses import replace
 from types import TracebackType
-from typing import Iterator, List, Mapping, Optional, Type, Union
+from typing import Iterator, List, Mapping, Optional, Sequence, Type, Union
 
 from .child import Child
 from .deck import Deck, cards_of, has_end, read_deck
@@ -15,7 +15,7 @@ from .program import MOST_BYTES, find_program
 from .report import (LAST_WORDS, Certificate, ClimbEnd, Figures, Links, Profile, Queue, Step, Timing, is_last, read_certificate,
                      read_chart, read_climb_end, read_figures, read_index, read_links, read_profile, read_queue,
                      read_step, read_timing)
-from .text import decoded, escaped, lines_of
+from .text import decoded, escaped, lines_of, words_of
 
 FULL = MOST_BYTES * 3 // 4  # bytes after which another child goes on
 ASKED = frozenset([*LAST_WORDS, *COUNTS, "TRIAL", "KEEP", "BACK"]) - {"CLIMB"}
@@ -258,6 +258,17 @@ class Session:
         """A trial as a context: `with session.trial() as trial:`."""
         return Trial(self)
 
+    def attempt(self, edit: Union[Edit, str]) -> Optional[int]:
+        """TRIAL, an edit and INDEX in one go: the index in the trial, which stays open; None where it is refused."""
+        self._check_free()
+        commands = ["TRIAL", str(edit), "INDEX"]
+        if self._trial is not None or not set("\n*").isdisjoint(commands[1]) or words_of(commands[1])[0] not in COUNTS:
+            raise Fault(f"{escaped(commands[1][:80])} can't be tried: it is no edit, or a trial is open")
+        self._renew_if_full(sum(map(len, commands)) + 3)
+        _, made, index = self._exchange_all(commands)
+        self._trial = [commands[1]] if made == ["DONE"] else []
+        return read_index(index) if self._trial else None
+
     @property
     def in_trial(self) -> bool:
         """Whether a trial is open."""
@@ -265,10 +276,12 @@ class Session:
 
     def climb(self) -> Climb:
         """Climbs: an iterator of the steps that are taken. Until it ends or is left another call raises."""
+        self._check_free()
+        if self._trial is not None:
+            self._exchange("CLIMB")  # which is refused
         base, work = _text(self.ask("DECK")), self.work()
         self._renew_if_full(len("CLIMB\n"))
-        if self._trial is None:
-            self._base, self._steps, self._work_left = base, [], work
+        self._base, self._steps, self._work_left = base, [], work
         self._send("CLIMB")
         climb = Climb(self)
         self._climb = weakref.ref(climb)
@@ -330,24 +343,32 @@ class Session:
             raise Ended("the session is closed")
         return self._child
 
-    def _send(self, command: str) -> None:
-        """Sends a command."""
-        data = command.encode("utf-8") + b"\n"
+    def _send(self, *commands: str) -> None:
+        """Sends commands."""
+        data = "".join(command + "\n" for command in commands).encode("utf-8")
         self._live().send(data)
         self._sent += len(data)
-        self._line_count += 1
+        self._line_count += len(commands)
 
-    def _exchange(self, command: str) -> List[str]:
-        """Sends a command and reads its answer; where that isn't read to its end, the session is closed."""
+    def _exchange_all(self, commands: Sequence[str]) -> List[List[str]]:
+        """Sends commands and reads their answers; where they aren't read to their end, the session is closed."""
+        answers = []
         try:
             child = self._live()
-            self._send(command)
-            lines = [child.line()]
-            while not is_last(command, lines[-1]):
-                lines.append(child.line())
+            self._send(*commands)
+            for command in commands:
+                lines = [child.line()]
+                while not is_last(command, lines[-1]):
+                    lines.append(child.line())
+                answers.append(lines)
         except BaseException:
             self.close(at_once=True)
             raise
+        return answers
+
+    def _exchange(self, command: str) -> List[str]:
+        """Sends a command and reads its answer; a refused one raises."""
+        lines = self._exchange_all([command])[0]
         if lines[0].startswith("REFUSED "):
             raise self._refused(int(lines[0].split(" ")[1]), command, self._line_count)
         return lines

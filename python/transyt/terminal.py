@@ -25,8 +25,10 @@ def progress(sentence: str) -> None:
 
 
 def write(text: str) -> None:
-    """A text to standard output, in UTF-8 whatever the locale, whole."""
+    """A text to standard output, in UTF-8 whatever the locale, whole; on a terminal with control characters escaped."""
     sys.stdout.flush()
+    if sys.stdout.isatty():
+        text = "\n".join(escaped(line) for line in text.split("\n"))
     data = text.encode("utf-8", "replace")
     while data:
         data = data[os.write(sys.stdout.fileno(), data):]
