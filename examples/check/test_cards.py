@@ -37,7 +37,8 @@ class Codes(unittest.TestCase):
 
     def test_words(self):
         for card, code in (('X' * 4097, 11), ('* ' * 2049, 11), ('HELLO', 10), ('cycle 60 10 1 60 100', 10), (' * x', 10),
-                           ('CYCLE 60 10 1 60 100\x7f', 10), ('CYCLE 60\x0b10 1 60 100', 10), ('OFFSET 1 1', 10),
+                           ('CYCLE 60 10 1 60 100\x7f', 10), ('CYCLE 60\x0b10 1 60 100', 10), ('CYCLE 60\r10 1 60 100', 10),
+                           ('OFFSET 1 1', 10),
                            ('CYCLE 60 10 1 60', 12), ('CYCLE 1 2 3 4 5 6 7', 12), ('END x', 12), ('CYCLE 60 10 1 60 x', 13),
                            ('CYCLE 60 10 1 60 0000000100', 13), ('CYCLE 60 10 1 60 +1', 13)):
             self.assertEqual(code_of(card), (1, code), card)

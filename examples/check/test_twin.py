@@ -65,6 +65,14 @@ class Run(unittest.TestCase):
         self.answers(deck(steps='STEPS 100 1'), ['TRIAL', 'ENTRY 1 0', 'TRIAL', 'CLIMB', 'CERT', 'INDEX', 'KEEP', 'INDEX'],
                      ['ACCEPTED 1 1', 'DONE', 'DONE', *['REFUSED 25'] * 3, 'INDEX 0', 'DONE', 'INDEX 0'])
 
+        self.answers(deck(), ['TRIAL', 'KEEP', 'TRIAL', 'KEEP', 'KEEP'], ['ACCEPTED 1 1', *['DONE'] * 4, 'REFUSED 24'])
+
+    def test_timing_is_round_the_cycle(self):
+        self.answers(deck(), ['OFFSET 1 9', 'TIMING'],
+                     ['ACCEPTED 1 1', 'DONE', 'NODE 1 OFFSET 9',
+                      'STAGE 1 CHANGE 0 AT 9 LENGTH 5 INTERGREEN 1 GREEN 4 LEAST 2',
+                      'STAGE 2 CHANGE 5 AT 4 LENGTH 5 INTERGREEN 1 GREEN 4 LEAST 2', 'END TIMING'])
+
     def test_refused_commands_change_nothing(self):
         self.answers(deck(), [*REFUSED, 'INDEX', 'WORK'],
                      ['ACCEPTED 1 1', *(f'REFUSED {code}' for code in REFUSED.values()), 'INDEX 1948618', 'WORK 0'])
@@ -87,7 +95,12 @@ class Run(unittest.TestCase):
 
 
 class Words(unittest.TestCase):
-    def test_a_made_town(self): self.assertEqual(told('make 1 1'), (MADE, 0))
+    def test_a_made_town(self):
+        self.assertEqual(told('make 1 1'), (MADE, 0))
+        # eight nodes in a row: 8 and 9 aren't side by side, 1 and 9 stand one above the other
+        fed = {tuple(line.split()[1:3]) for line in told('make 1 9')[0] if line.startswith('FEED')}
+        self.assertFalse({('82', '92'), ('91', '81')} & fed)
+        self.assertLessEqual({('14', '94'), ('93', '13'), ('81', '71')}, fed)
 
     def test_equal_saturation(self):
         two = [*deck()[:-1], 'LINK 2 1 900 1800 1 1 2', 'END']
@@ -126,7 +139,7 @@ class Words(unittest.TestCase):
     def test_counts(self):
         table = ['1,,45,15', '2,1,80,15', '1,,55,15']
         self.assertEqual(told('counts', *TWO, *table), (['ENTRY 1 200', 'PART 2 1 320', '* COUNTS 3 2'], 0))
-        for row, right in (('2,2,1,15', 23), ('1,,999999,15', 27), ('1,,1', 12), ('1, ,1,1', 13), (' ', 12), ('9,,1,1', 17),
+        for row, right in (('2,2,1,15', 23), ('1,,999999,15', 27), ('1,,1', 12), ('1,,1,1,', 12), ('1, ,1,1', 13), (' ', 12), ('9,,1,1', 17),
                            ('1,9,1,1', 17), ('1,,1000000,1', 14), ('1,,1,0', 14), ('1,,1,1441', 14), ('1,,1,\x00', 13)):
             self.assertEqual(told('counts', *TWO, *table, '', row), ([f'ROW 4 REFUSED {right}'], 2), row)
         self.assertEqual(told('counts', *TWO), (['* COUNTS 0 0'], 0))

@@ -2,7 +2,7 @@
 
 WORDS are those that the program takes. It writes the same bytes and ends with the same number: 0 done, 1 these words are
 none, 2 the deck was refused, 3 a read failed, 4 a write failed, 6 too long, 7 the words can't be read. Of memory it says
-nothing (5). No file of crates/ and nothing of the prover is read."""
+nothing (5). `version` is what ./transyt --version says; else nothing of the program or of the prover is read."""
 import os, subprocess, sys
 from typing import Callable, Iterator, Optional
 
