@@ -139,8 +139,8 @@ class Words(unittest.TestCase):
     def test_counts(self):
         table = ['1,,45,15', '2,1,80,15', '1,,55,15']
         self.assertEqual(told('counts', *TWO, *table), (['ENTRY 1 200', 'PART 2 1 320', '* COUNTS 3 2'], 0))
-        for row, right in (('2,2,1,15', 23), ('1,,999999,15', 27), ('1,,1', 12), ('1,,1,1,', 12), ('1, ,1,1', 13), (' ', 12), ('9,,1,1', 17),
-                           ('1,9,1,1', 17), ('1,,1000000,1', 14), ('1,,1,0', 14), ('1,,1,1441', 14), ('1,,1,\x00', 13)):
+        for row, right in (('2,2,1,15', 23), ('1,,999999,15', 27), ('1,,1', 12), ('1,,1,1,', 12), ('1, ,1,1', 13), (' ', 12),
+                           ('9,,1,1', 17), ('1,9,1,1', 17), ('1,,1000000,1', 14), ('1,,1,0', 14), ('1,,1,1441', 14), ('1,,1,\x00', 13)):
             self.assertEqual(told('counts', *TWO, *table, '', row), ([f'ROW 4 REFUSED {right}'], 2), row)
         self.assertEqual(told('counts', *TWO), (['* COUNTS 0 0'], 0))
         self.assertEqual(told('counts', *TWO, '"1","","45","15"\r')[0], ['ENTRY 1 180', '* COUNTS 1 1'])
