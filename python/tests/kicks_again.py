@@ -1,29 +1,28 @@
-"""Kicks written again, over the index of examples/check: nothing of the package, no program.
+"""Kicks written again, over the networks of examples/check: nothing of the package, no program.
 
 kicks_again.py COUNT SEED < DECK writes the deck's offsets and changes after the kicks, a line a junction, and the index.
 """
 import os, sys
 sys.path.insert(0, os.path.join(os.path.dirname(os.path.realpath(__file__)), '..', '..', 'examples', 'check'))
-from check import edited, words
-from twin import Town, moves, with_move
+from cards import cut, read_deck
+from town import moves, with_move
 
 
 def kicked(town, count, seed):
     """The town after kicks, by the words of the specification."""
-    x, nodes, N = seed, list(town.nodes), town.frame[1]
+    x, nodes, N = seed, list(town.intergreens), town.frame[1]
     def draw(m):
         nonlocal x
         x = (1103515245 * x + 12345) % 2 ** 31
         return x // 65536 % m
-    at = {l: link['node'] for l, link in town.links.items()}
-    pairs = {(link['node'], at[f]) for link in town.links.values() for f, *_ in link['FEED']}
+    pairs = {(link.node, town.links[f].node) for link in town.links.values() for f in link.feeders}
     for _ in range(count):
         middle = nodes[draw(len(nodes))]
         around = [n for n in nodes if n == middle or (n, middle) in pairs or (middle, n) in pairs]
         now = town
         for n in around:
             new = draw(2 * N)
-            if new < N: now = now.like(numbers=edited(now.numbers, 'OFFSET', n, new))
+            if new < N: now = now.edited('OFFSET', n, new)
         listed = lambda: [move for move in moves(now) if move[1] in around]
         place = since = 0
         while since < len(listed()):
@@ -36,8 +35,9 @@ def kicked(town, count, seed):
 
 def told(town):
     """The plan, a line a junction, and the index."""
-    return ''.join(f'{n} {town.offset(n)} {" ".join(map(str, town.changes(n)))}\n' for n in town.nodes) + f'{town.index()}\n'
+    return ''.join(f'{n} {town.offset(n)} {" ".join(map(str, town.changes(n)))}\n' for n in town.intergreens) + f'{town.index()}\n'
 
 
 if __name__ == '__main__':
-    sys.stdout.write(told(kicked(Town(words(sys.stdin)), int(sys.argv[1]), int(sys.argv[2]))))
+    given, _, _ = read_deck(cut(sys.stdin.buffer.read()))
+    sys.stdout.write(told(kicked(given, int(sys.argv[1]), int(sys.argv[2]))))
