@@ -11,7 +11,7 @@ use Rattle.std.proofs.lemmas.Slice.{between-put_mid, between_is, take-put_mid_be
 use Rattle.std.proofs.Math.Nat.{mul-le-mul_right}
 use borrow.Rule.Slice.PartMut.{put_mid}
 use Rattle.transyt_kept.specs.Rows.{row, empty_table}
-use Rattle.transyt_kept.specs.Table.{cut_rows}
+use Rattle.transyt_kept.specs.Versions.{cut_rows}
 
 -- row p
 abbrev pub piece : ℕ → List ℕ → ℕ → List ℕ

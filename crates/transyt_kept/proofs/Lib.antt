@@ -1,11 +1,7 @@
 pub mod RowLaws
-pub mod SavedLaws
 pub mod PairLaws
 pub mod ShownLaws
-pub mod TableLaws
 pub mod FlatLaws
 pub mod IndexLaws
+pub mod VersionLaws
 pub mod WrittenLaws
-pub mod OldLaws
-pub mod KeptLaws
-pub mod GivenLaws

@@ -1,6 +1,5 @@
 pub mod Cell
 pub mod Rows
-pub mod Table
-pub mod Saved
+pub mod Marked
+pub mod Versions
 pub mod WorkedRows
-pub mod WorkedSaved

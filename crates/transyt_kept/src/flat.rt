@@ -4,7 +4,6 @@ ghost use Rattle.std.specs.Prelude.{◌≡◌, ◌*◌, ◌^◌, ◌<◌, length
 ghost use Rattle.transyt_profile.specs.Profile.{uniform};
 ghost use Rattle.transyt_kept.specs.Rows.{row, empty_table};
 
-use crate::narrow::NarrowTable;
 use std::alloc::{AllocError, Global};
 use std::marker::Model;
 use transyt_profile::fill_uniform;
@@ -19,7 +18,7 @@ pub(crate) struct FlatTable {
 
 impl Model for FlatTable {
     ghost use Rattle.std.specs.Prelude.{◌≡◌, ◌*◌, ℕ, List, length};
-    ghost use Rattle.transyt_kept.specs.Table.{cut_rows};
+    ghost use Rattle.transyt_kept.specs.Versions.{cut_rows};
 
     ghost Value = { List (List ℕ) };
 
@@ -73,16 +72,5 @@ impl FlatTable {
     {
         let from = place * self.step_count;
         fill_uniform(value, &mut self.values[from..from + self.step_count]);
-    }
-
-    /// The row at a place becomes that of a narrow table, which is as long.
-    pub(crate) fn take_narrow(&mut self, place: usize, from: &NarrowTable)
-        requires place { place < length self.old }
-        requires there { place < length from.now }
-        requires steps { length (row from.now place) ≡ length (row self.old place) }
-        ensures { self.new ≡ slice_set self.old place (row from.now place) }
-    {
-        let start = place * self.step_count;
-        from.copy_row(place, &mut self.values[start..start + self.step_count]);
     }
 }

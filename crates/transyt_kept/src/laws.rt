@@ -2,10 +2,8 @@
 
 ghost use Rattle.std.specs.Prelude.{◌≡◌};
 ghost use Rattle.transyt_kept.specs.Rows.{pair_in, placed, with_rest, with_arrivals, with_go, index_in};
-ghost use Rattle.transyt_kept.specs.Saved.{old_rows};
 ghost use Rattle.transyt_kept.specs.WorkedRows.{rows, second_link, another, placed_before, placed_last};
 ghost use Rattle.transyt_kept.specs.WorkedRows.{with_another, arrivals_of_another, go_of_another};
-ghost use Rattle.transyt_kept.specs.WorkedSaved.{rows_marked, rows_now, saved_two};
 
 /// The worked rows are read and written as it is written beside them.
 pub fn worked_rows()
@@ -17,9 +15,4 @@ pub fn worked_rows()
         ≡ arrivals_of_another }
     ensures go { with_go rows 1 another.go ≡ go_of_another }
     ensures index { index_in rows ≡ 138 }
-{}
-
-/// The rows of the mark of the worked saved rows are the rows that are written beside them.
-pub fn worked_saved()
-    ensures { old_rows saved_two rows_now ≡ rows_marked }
 {}

@@ -1,37 +1,32 @@
-//! Rows, each in memory of its own: they change places without a copy.
+//! A table of rows of equal length, each in two versions.
 
-ghost use Rattle.std.specs.Prelude.{◌≡◌, ◌<◌, length, slice_set, IfOk};
+ghost use Rattle.std.specs.Prelude.{◌≡◌, ◌*◌, ◌^◌, ◌<◌, length, slice_set, IfOk};
+ghost use Rattle.transyt_profile.specs.Profile.{uniform};
 ghost use Rattle.transyt_kept.specs.Rows.{row, empty_table};
-ghost use Rattle.transyt_kept.specs.Table.{rows_in};
+ghost use Rattle.transyt_kept.specs.Versions.{both};
 
+use crate::flat::FlatTable;
+use crate::slots::Slots;
 use std::alloc::{AllocError, Global};
 use std::marker::Model;
-use std::mem;
 
-/// Rows of values.
+/// Rows of values: each now, and at the mark.
 #[derive(Drop)]
 pub(crate) struct Table {
-    rows: Vec<Vec<u64>>,
+    step_count: usize,
+    slots: Slots,
+    versions: FlatTable,
 }
 
 impl Model for Table {
     ghost use Rattle.std.specs.Prelude.{ℕ, List};
-    ghost use Rattle.transyt_kept.specs.Table.{rows_in};
+    ghost use Rattle.transyt_kept.specs.Versions.{VersionsValue, versions_of, AreRowVersions};
 
-    ghost Value = { List (List ℕ) };
+    ghost Value = { VersionsValue (List ℕ) };
 
-    ghost view = { λ t. rows_in t.rows.items };
-}
+    ghost view = { λ t. versions_of t.slots t.versions };
 
-/// As many rows of as many values, all 0.
-fn empty_rows(alloc: Global, count: usize, step_count: usize) -> Result<Vec<Vec<u64>>, AllocError>
-    ensures { IfOk result (λ rows. rows_in rows.items ≡ empty_table count step_count) }
-{
-    let mut rows = Vec::with_capacity(alloc, count)?;
-    for _row in 0..count {
-        rows.push(vec![in alloc; 0; step_count]?)?;
-    }
-    Ok(rows)
+    ghost invariant = { λ t. AreRowVersions t.step_count t.slots t.versions };
 }
 
 /// Three tables of `count` rows of `step_count` values, all 0. All their memory is taken here.
@@ -40,9 +35,11 @@ pub(crate) fn three_tables(
     count: usize,
     step_count: usize,
 ) -> Result<(Table, Table, Table), AllocError>
-    ensures one { IfOk result (λ tables. tables.0 ≡ empty_table count step_count) }
-    ensures two { IfOk result (λ tables. tables.1 ≡ empty_table count step_count) }
-    ensures three { IfOk result (λ tables. tables.2 ≡ empty_table count step_count) }
+    requires few { count < 2 ^ 31 }
+    requires fits { 2 * count * step_count < 2 ^ 32 }
+    ensures one { IfOk result (λ tables. tables.0 ≡ both (empty_table count step_count)) }
+    ensures two { IfOk result (λ tables. tables.1 ≡ both (empty_table count step_count)) }
+    ensures three { IfOk result (λ tables. tables.2 ≡ both (empty_table count step_count)) }
 {
     let one = Table::empty(alloc, count, step_count)?;
     let Ok(two) = Table::empty(alloc, count, step_count) else {
@@ -58,49 +55,65 @@ pub(crate) fn three_tables(
 }
 
 impl Table {
-    /// A table of `count` rows of `step_count` values, all 0. All its memory is taken here.
-    fn empty(alloc: Global, count: usize, step_count: usize) -> Result<Table, AllocError>
-        ensures { IfOk result (λ table. table ≡ empty_table count step_count) }
+    /// A table of `count` rows of `step_count` values, all 0, now and at the mark. All its memory is taken here.
+    pub(crate) fn empty(alloc: Global, count: usize, step_count: usize) -> Result<Table, AllocError>
+        requires few { count < 2 ^ 31 }
+        requires fits { 2 * count * step_count < 2 ^ 32 }
+        ensures { IfOk result (λ table. table ≡ both (empty_table count step_count)) }
     {
-        let rows = empty_rows(alloc, count, step_count)?;
-        Ok(Table { rows })
+        let slots = Slots::open(alloc, count)?;
+        let Ok(versions) = FlatTable::empty(alloc, 2 * count, step_count) else {
+            drop(slots);
+            return Err(AllocError);
+        };
+        Ok(Table {
+            step_count,
+            slots,
+            versions,
+        })
     }
 
-    /// The row at a place.
+    /// The row at a place now.
     pub(crate) fn row(&self, place: usize) -> &[u64]
-        requires { place < length self.now }
-        ensures { result.now ≡ row self.now place }
+        requires { place < length self.now.now }
+        ensures { result.now ≡ row self.now.now place }
     {
-        &self.rows[place]
+        self.versions.row(self.slots.current(place))
     }
 
     /// Puts a row in its place.
-    #[tactic(auto, using(crate::proofs::TableLaws::row_read))]
     pub(crate) fn put(&mut self, place: usize, values: &[u64])
-        requires place { place < length self.old }
-        requires steps { length values.now ≡ length (row self.old place) }
-        ensures { self.new ≡ slice_set self.old place values.now }
+        requires place { place < length self.old.now }
+        requires steps { length values.now ≡ length (row self.old.now place) }
+        ensures { self.new ≡ record
+            self.old { now = slice_set self.old.now place values.now } }
     {
-        self.rows[place].copy_from_slice(values);
+        let slot = self.slots.other(place);
+        self.versions.put(slot, values);
     }
 
-    /// A row of values and the one at a place change places. Nothing is copied.
-    #[tactic(auto, using(crate::proofs::TableLaws::row_read))]
-    pub(crate) fn exchange(&mut self, place: usize, values: &mut Vec<u64>)
-        requires { place < length self.old }
-        ensures put { self.new ≡ slice_set self.old place values.old.items }
-        ensures left { values.new.items ≡ row self.old place }
+    /// Puts a row of one value at each step in its place.
+    pub(crate) fn fill(&mut self, place: usize, value: u64)
+        requires { place < length self.old.now }
+        ensures { self.new ≡ record self.old {
+          now = slice_set self.old.now place (uniform (length (row self.old.now place)) value);
+        } }
     {
-        mem::swap(&mut self.rows[place], values);
+        let slot = self.slots.other(place);
+        self.versions.fill(slot, value);
     }
 
-    /// The rows of two tables at a place change places. Nothing is copied.
-    pub(crate) fn exchange_with(&mut self, place: usize, other: &mut Table)
-        requires here { place < length self.old }
-        requires there { place < length other.old }
-        ensures here { self.new ≡ slice_set self.old place (row other.old place) }
-        ensures there { other.new ≡ slice_set other.old place (row self.old place) }
+    /// The mark stands for the rows now.
+    pub(crate) fn begin(&mut self)
+        ensures { self.new ≡ record self.old { mark = self.old.now } }
     {
-        mem::swap(&mut self.rows[place], &mut other.rows[place]);
+        self.slots.begin();
+    }
+
+    /// The rows become those of the mark.
+    pub(crate) fn restore(&mut self)
+        ensures { self.new ≡ record self.old { now = self.old.mark } }
+    {
+        self.slots.restore();
     }
 }

@@ -8,7 +8,6 @@ use Rattle.transyt_stopline.specs.StopLine.{arrivals_of, queues, outs, stopped_o
 use Rattle.transyt_delay.specs.Figures.{figures}
 use Rattle.transyt_net.specs.Parts.{Network, link_of}
 use Rattle.transyt_delay.specs.declared.figures.Figures.{Figures}
-use Rattle.transyt_sweep.specs.declared.figures.LazyFigures.{LazyFigures}
 use Rattle.transyt_sweep.specs.declared.figures.LazyFigures.TheVariants.{Known}
 use Rattle.transyt_sweep.specs.declared.figures.Weights.{Weights}
 use Rattle.transyt_sweep.specs.declared.factors.Factors.{Factors}
@@ -32,23 +31,6 @@ pub sum_small : (limit : ℕ) (xs : List ℕ) → limit ≤ 2 ^ 48 → length xs
 sum_small limit xs within few small =
     let each : All (λ v. v ≤ 2 ^ 48) xs = λ k d h. let one = small k d h in omega (arith, one) in
     omega (arith, sum_by-le (λ v. v) (2 ^ 48) xs each)
-
--- rows of the same length, and figures that are known, are kept in room for one link's work
-pub known_scratch : (arrivals go queue out : List ℕ) (asked : LazyFigures) (room reaching : List ℕ) (factors : List Factors)
-    → IsScratch arrivals go queue out asked room reaching factors → (come green standing : List ℕ) (f : Figures)
-    → length come ≡ length arrivals → length green ≡ length arrivals → length standing ≡ length arrivals → AreSmall f
-    → IsScratch come green standing out (Known f) room reaching factors
-known_scratch arrivals go queue out asked room reaching factors was come green standing f come_len green_len
-    standing_len small = record {
-      go_len = green_len ∙ sym come_len;
-      queue_len = standing_len ∙ sym come_len;
-      out_len = was.out_len ∙ sym come_len;
-      room_len = was.room_len ∙ ap (λ n. 8 * n) (sym come_len);
-      reaching_len = was.reaching_len ∙ sym come_len;
-      out_small = was.out_small;
-      told = small;
-      right = subst (λ n. All (AreFactors n) factors) (sym come_len) was.right;
-    }
 
 -- rows of 0, factors that are right and figures that are small are kept in it
 pub empty_scratch : (n links : ℕ) (arrivals go queue out room reaching : List ℕ) (factors : List Factors) (f : Factors)

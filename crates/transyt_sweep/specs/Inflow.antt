@@ -44,7 +44,7 @@ pub record IsSmall (f : Feed) : Type 0 where
 
 -- the departures that a cell reads of each link
 abbrev pub read_by : Inputs → ℕ → List ℕ
-read_by inputs = read_in inputs.rows.now inputs.sweep inputs.link
+read_by inputs = read_in inputs.rows.now.now inputs.sweep inputs.link
 
 -- two turns of n steps have room for the values of so many feeds more
 pub record HaveRoom (n count : ℕ) (turns : List ℕ) : Type 0 where
@@ -74,7 +74,7 @@ pub record AreServed (net : Network) (feeds : List Feed) (slots : List Factors) 
 -- the factors are right for the cell's steps, and name a link of its rows
 pub record AreSendable (inputs : Inputs) (f : Factors) : Type 0 where
   pub are : AreFactors inputs.step_count f
-  pub feeder : f.feeder < length inputs.rows.now.figures
+  pub feeder : f.feeder < length inputs.rows.now.now.figures
 
 -- the arrivals by these factors
 abbrev pub carried : (ℕ → List ℕ) → Factors → List ℕ

@@ -27,9 +27,9 @@ pub(crate) struct Inputs<'a> {
     ghost steps: { step_count ≡ net.now.frame.step_count },
     ghost some: { 0 < step_count },
     ghost most: { step_count ≤ 120 },
-    ghost rows_steps: { rows.now.step_count ≡ step_count },
-    ghost rows_sweeps: { rows.now.sweeps ≡ net.now.frame.sweeps },
-    ghost rows_links: { length rows.now.figures ≡ length net.now.links },
+    ghost rows_steps: { rows.now.now.step_count ≡ step_count },
+    ghost rows_sweeps: { rows.now.now.sweeps ≡ net.now.frame.sweeps },
+    ghost rows_links: { length rows.now.now.figures ≡ length net.now.links },
 }
 
 /// The sweep at which a link, at a sweep, reads another.
@@ -48,8 +48,9 @@ impl<'a> Inputs<'a> {
     /// The departures that the link reads of another: those of this sweep where that stands earlier, else those of
     /// the one before.
     pub(crate) fn read(&self, other: usize) -> &'a [u64]
-        requires { other < length self.now.rows.now.figures }
-        ensures value { result.now ≡ read_in self.now.rows.now self.now.sweep self.now.link other }
+        requires { other < length self.now.rows.now.now.figures }
+        ensures value { result.now ≡ read_in self.now.rows.now.now self.now.sweep self.now.link
+            other }
         ensures steps { length result.now ≡ self.now.step_count }
         ensures small { All (λ v. v < 2 ^ 30) result.now }
     {

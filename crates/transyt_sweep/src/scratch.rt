@@ -3,7 +3,6 @@
 ghost use Rattle.std.specs.Prelude.{◌≡◌, ◌^◌, ◌<◌, ◌≤◌, length, replicate, All, IfOk};
 ghost use Rattle.transyt_delay.specs.Figures.{figures};
 ghost use Rattle.transyt_kept.specs.Cell.{AreSmall};
-ghost use Rattle.transyt_kept.specs.Rows.{with_arrivals, with_go};
 ghost use Rattle.transyt_sweep.specs.Scratch.{AreWeights, terms_with};
 
 use crate::factors::{Factors, factors_of};
@@ -12,7 +11,6 @@ use std::alloc::{AllocError, Global};
 use std::marker::Model;
 use std::mem::size_of;
 use transyt_delay::{Figures, Terms, figures_of};
-use transyt_kept::KeptRows;
 use transyt_net::{Feed, Net};
 use transyt_profile::total;
 use transyt_stopline::{Totals, stopped};
@@ -161,33 +159,6 @@ impl Scratch {
                 work_out(totals, reaching, &self.queue, weights)
             }
         }
-    }
-
-    /// Writes the arrivals, the queue and the figures as a link's at the last sweep. The scratch is left with other
-    /// rows: nothing is copied.
-    pub fn exchange_arrivals(&mut self, link: usize, kept: &mut KeptRows)
-        requires link { link < length kept.old.now.figures }
-        requires steps { length self.old.arrivals ≡ kept.old.now.step_count }
-        ensures value { kept.new ≡ record kept.old {
-          now = with_arrivals kept.old.now link self.old.arrivals self.old.queue self.old.figures;
-        } }
-        ensures go { self.new.go ≡ self.old.go }
-        ensures steps { length self.new.arrivals ≡ kept.old.now.step_count }
-    {
-        let mut figures = self.figures();
-        kept.exchange_arrivals(link, &mut self.arrivals, &mut self.queue, &mut figures);
-        self.asked = LazyFigures::Known(figures);
-    }
-
-    /// Writes the GO as a link's at the last sweep. The scratch is left with another row: nothing is copied.
-    pub fn exchange_go(&mut self, link: usize, kept: &mut KeptRows)
-        requires link { link < length kept.old.now.figures }
-        requires steps { length self.old.arrivals ≡ kept.old.now.step_count }
-        ensures value { kept.new ≡ record kept.old { now = with_go kept.old.now link self.old.go } }
-        ensures steps { length self.new.arrivals ≡ kept.old.now.step_count }
-    {
-        self.asked = LazyFigures::Known(self.figures());
-        kept.exchange_go(link, &mut self.go);
     }
 }
 

@@ -1,6 +1,6 @@
 //! The whole evaluation of a network.
 
-ghost use Rattle.std.specs.Prelude.{◌≡◌, ◌+◌, ◌*◌, ◌<◌, ◌≤◌, length, IfOk, OnOk, OnErr};
+ghost use Rattle.std.specs.Prelude.{◌≡◌, ◌+◌, ◌*◌, ◌<◌, ◌≤◌, length, IfOk, OnOk, OnErr, None};
 ghost use Rattle.transyt_sweep.specs.Sweeps.{index};
 ghost use Rattle.transyt_kept.specs.Rows.{index_in};
 ghost use Rattle.transyt_sweep.specs.Front.{AreFilled, AreEvaluation};
@@ -15,12 +15,13 @@ use transyt_kept::Rows;
 use transyt_net::Net;
 use transyt_steps::Steps;
 
-/// The whole evaluation of a network: each link at each sweep, one after another.
+/// The whole evaluation of a network, with no mark: each link at each sweep, one after another.
 ///
 /// All memory is taken before the first cell is worked out, so an error costs no step.
 pub fn full<L: Ledger>(alloc: Global, net: &Net, steps: &mut Steps<L>) -> Result<Rows, AllocError>
-    ensures rows { IfOk result (λ rows. AreEvaluation net.now rows) }
-    ensures index { IfOk result (λ rows. index_in rows ≡ index net.now) }
+    ensures rows { IfOk result (λ rows. AreEvaluation net.now rows.now) }
+    ensures unmarked { IfOk result (λ rows. rows.marked ≡ None) }
+    ensures index { IfOk result (λ rows. index_in rows.now ≡ index net.now) }
     ensures ok { OnOk result (steps.new ≡ steps.old + net.now.frame.sweeps * length net.now.links) }
     ensures err { OnErr result (steps.new ≡ steps.old) }
 {
@@ -39,9 +40,10 @@ pub fn full<L: Ledger>(alloc: Global, net: &Net, steps: &mut Steps<L>) -> Result
 
 /// Works out each link at each sweep.
 fn fill<L: Ledger>(net: &Net, rows: &mut Rows, scratch: &mut Scratch, steps: &mut Steps<L>)
-    requires opened { AreOpened net.now rows.old }
+    requires opened { AreOpened net.now rows.old.now }
     requires step_count { length scratch.old.arrivals ≡ net.now.frame.step_count }
-    ensures rows { AreEvaluation net.now rows.new }
+    ensures rows { AreEvaluation net.now rows.new.now }
+    ensures marked { rows.new.marked ≡ rows.old.marked }
     ensures steps { steps.new ≡ steps.old + net.now.frame.sweeps * length net.now.links }
 {
     for sweep in 1..net.frame().sweeps + 1 {
@@ -59,9 +61,10 @@ fn fill_sweep<L: Ledger>(
 )
     requires first { 1 ≤ sweep }
     requires last { sweep ≤ net.now.frame.sweeps }
-    requires filled { AreFilled net.now sweep 0 rows.old }
+    requires filled { AreFilled net.now sweep 0 rows.old.now }
     requires step_count { length scratch.old.arrivals ≡ net.now.frame.step_count }
-    ensures filled { AreFilled net.now (sweep + 1) 0 rows.new }
+    ensures filled { AreFilled net.now (sweep + 1) 0 rows.new.now }
+    ensures marked { rows.new.marked ≡ rows.old.marked }
     ensures step_count { length scratch.new.arrivals ≡ net.now.frame.step_count }
     ensures steps { steps.new ≡ steps.old + length net.now.links }
 {
@@ -82,9 +85,10 @@ fn fill_cell<L: Ledger>(
     requires link { link < length net.now.links }
     requires first { 1 ≤ sweep }
     requires last { sweep ≤ net.now.frame.sweeps }
-    requires filled { AreFilled net.now sweep link rows.old }
+    requires filled { AreFilled net.now sweep link rows.old.now }
     requires step_count { length scratch.old.arrivals ≡ net.now.frame.step_count }
-    ensures filled { AreFilled net.now sweep (link + 1) rows.new }
+    ensures filled { AreFilled net.now sweep (link + 1) rows.new.now }
+    ensures marked { rows.new.marked ≡ rows.old.marked }
     ensures step_count { length scratch.new.arrivals ≡ net.now.frame.step_count }
     ensures steps { steps.new ≡ steps.old + 1 }
 {

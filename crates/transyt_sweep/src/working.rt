@@ -34,9 +34,9 @@ pub fn cell<L: Ledger>(
     requires link { link < length net.now.links }
     requires first { 1 ≤ sweep }
     requires last { sweep ≤ net.now.frame.sweeps }
-    requires fits { Fits net.now rows.now }
+    requires fits { Fits net.now rows.now.now }
     requires step_count { length scratch.old.arrivals ≡ net.now.frame.step_count }
-    ensures value { scratch.new ≡ cell_by net.now (read_in rows.now sweep link) link }
+    ensures value { scratch.new ≡ cell_by net.now (read_in rows.now.now sweep link) link }
     ensures steps { steps.new ≡ steps.old + 1 }
 {
     let inputs = Inputs {

@@ -6,7 +6,7 @@ use Rattle.transyt_net.specs.Parts.{Network, shape, SameShape}
 use Rattle.transyt_kept.specs.Rows.{RowsValue}
 use Rattle.transyt_sweep.specs.Reading.{Fits}
 use Rattle.transyt_sweep.specs.Front.{AreEvaluation}
-use Rattle.transyt_kept.specs.Saved.{KeptValue}
+use Rattle.transyt_kept.specs.Marked.{KeptValue}
 use Rattle.transyt_track.specs.Own.{PlacesValue, ArePlaces, all_places}
 use Rattle.transyt_track.specs.Change.{HasRoom}
 use Rattle.transyt_track.specs.Readers.{AreReaders}

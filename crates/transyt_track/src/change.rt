@@ -7,7 +7,7 @@ ghost use Rattle.transyt_track.specs.Readers.{AreReaders};
 
 use crate::own::Places;
 use crate::readers::Readers;
-use transyt_kept::KeptRows;
+use transyt_kept::Rows;
 use transyt_net::Net;
 use transyt_sweep::Scratch;
 
@@ -34,7 +34,7 @@ pub(crate) struct Change<'a> {
 #[derive(Drop)]
 pub(crate) struct Front {
     /// The rows, with those of the mark.
-    pub(crate) kept: KeptRows,
+    pub(crate) kept: Rows,
     /// A flag for each link: its own data differ.
     pub(crate) own_changed: Vec<bool>,
     /// A flag for each link: it is known to be due at its next turn.

@@ -18,7 +18,7 @@ use crate::readers::Readers;
 use crate::replacing::{Differs, leave, place};
 use crate::starting::set_out;
 use std::sync::ledger::Ledger;
-use transyt_kept::{KeptRows, Rows};
+use transyt_kept::Rows;
 use transyt_net::Net;
 use transyt_steps::Steps;
 use transyt_sweep::{Scratch, cell};
@@ -37,10 +37,10 @@ fn differ(one: &[u64], other: &[u64]) -> bool
 
 /// Whether the departures of a link at a sweep differ from those of a scratch.
 fn row_differs(rows: &Rows, sweep: u32, link: usize, scratch: &Scratch) -> bool
-    requires sweep { sweep ≤ rows.now.sweeps }
-    requires link { link < length rows.now.figures }
-    requires steps { length scratch.now.arrivals ≡ rows.now.step_count }
-    ensures { result ≡ not (bytes_eq (out_at rows.now sweep link) scratch.now.out) }
+    requires sweep { sweep ≤ rows.now.now.sweeps }
+    requires link { link < length rows.now.now.figures }
+    requires steps { length scratch.now.arrivals ≡ rows.now.now.step_count }
+    ensures { result ≡ not (bytes_eq (out_at rows.now.now sweep link) scratch.now.out) }
 {
     differ(rows.out(sweep, link), scratch.out())
 }
@@ -85,7 +85,7 @@ fn work_cell<L: Ledger>(
     net: &Net,
     sweep: u32,
     link: usize,
-    kept: &KeptRows,
+    kept: &Rows,
     scratch: &mut Scratch,
     steps: &mut Steps<L>,
 ) -> bool
@@ -98,9 +98,8 @@ fn work_cell<L: Ledger>(
     ensures differs { result ≡ not (bytes_eq (out_at kept.now.now sweep link) scratch.new.out) }
     ensures steps { steps.new ≡ steps.old + 1 }
 {
-    let rows = kept.rows();
-    cell(net, link, sweep, rows, scratch, steps);
-    row_differs(rows, sweep, link, scratch)
+    cell(net, link, sweep, kept, scratch, steps);
+    row_differs(kept, sweep, link, scratch)
 }
 
 /// The link at the front is due: it is worked out.

@@ -8,8 +8,8 @@
 //! The law of the front is `AreAt` of `specs/Front`, that of the mark `AreOfMark` of `specs/Tracker`.
 //!
 //! All memory is taken by `Tracker::open` and `Tracker::twin`: beside its two networks a tracker takes at most
-//! `MOST_BYTES`, 20.2 million bytes. That a plan is evaluated again after each change is from LR 253; which pairs are
-//! worked out again, marks and saved rows are this project's own.
+//! `MOST_BYTES`, 24.4 million bytes. That a plan is evaluated again after each change is from LR 253; which pairs are
+//! worked out again, marks are this project's own.
 #![tactic(auto)]
 
 mod change;

@@ -8,12 +8,12 @@ ghost use Rattle.transyt_track.specs.Front.{left_at};
 
 use crate::change::{Change, Front};
 use crate::own::same_weights;
-use transyt_kept::KeptRows;
+use transyt_kept::Rows;
 use transyt_net::Net;
 use transyt_sweep::{Scratch, reweigh};
 
 /// Writes a link's departures at a sweep from a scratch, where they differ.
-fn place_out(sweep: u32, link: usize, differs: bool, scratch: &Scratch, kept: &mut KeptRows)
+fn place_out(sweep: u32, link: usize, differs: bool, scratch: &Scratch, kept: &mut Rows)
     requires sweep { sweep ≤ kept.old.now.sweeps }
     requires link { link < length kept.old.now.figures }
     requires steps { length scratch.now.arrivals ≡ kept.old.now.step_count }
@@ -27,16 +27,15 @@ fn place_out(sweep: u32, link: usize, differs: bool, scratch: &Scratch, kept: &m
 }
 
 /// Writes the rest of a link at the last sweep from a scratch: arrivals, queue and figures, and GO where it may differ.
-fn place_shown(link: usize, may_differ: bool, scratch: &mut Scratch, kept: &mut KeptRows)
+fn place_shown(link: usize, may_differ: bool, scratch: &Scratch, kept: &mut Rows)
     requires link { link < length kept.old.now.figures }
-    requires steps { length scratch.old.arrivals ≡ kept.old.now.step_count }
-    requires same { may_differ ≡ false → (shown_at kept.old.now link).go ≡ scratch.old.go }
-    ensures value { kept.new ≡ record kept.old { now = with_rest kept.old.now link scratch.old } }
-    ensures steps { length scratch.new.arrivals ≡ kept.old.now.step_count }
+    requires steps { length scratch.now.arrivals ≡ kept.old.now.step_count }
+    requires same { may_differ ≡ false → (shown_at kept.old.now link).go ≡ scratch.now.go }
+    ensures { kept.new ≡ record kept.old { now = with_rest kept.old.now link scratch.now } }
 {
-    scratch.exchange_arrivals(link, kept);
+    kept.put_arrivals(link, scratch.arrivals(), scratch.queue(), scratch.figures());
     if may_differ {
-        scratch.exchange_go(link, kept);
+        kept.put_go(link, scratch.go());
     }
 }
 
@@ -62,19 +61,19 @@ pub(crate) fn place(net: &Net, sweep: u32, link: usize, differs: Differs, front:
     ensures value { front.new.kept
         ≡ record front.old.kept { now = placed front.old.kept.now sweep link front.old.scratch } }
     ensures rows { AreRows front.old.kept.now }
-    ensures steps { length front.new.scratch.arrivals ≡ front.old.kept.now.step_count }
+    ensures scratch { front.new.scratch ≡ front.old.scratch }
     ensures awaited { front.new.awaited ≡ front.old.awaited }
     ensures own_changed { front.new.own_changed ≡ front.old.own_changed }
 {
-    front.kept.rows().index();
+    front.kept.index();
     place_out(sweep, link, differs.out, &front.scratch, &mut front.kept);
     if sweep == net.frame().sweeps {
-        place_shown(link, differs.go, &mut front.scratch, &mut front.kept);
+        place_shown(link, differs.go, &front.scratch, &mut front.kept);
     }
 }
 
 /// A link that isn't due is weighed anew at the last sweep; where its weights are equal, its index stays.
-pub(crate) fn leave(change: &Change<'_>, sweep: u32, link: usize, kept: &mut KeptRows)
+pub(crate) fn leave(change: &Change<'_>, sweep: u32, link: usize, kept: &mut Rows)
     requires fits { Fits change.now.after.now kept.old.now }
     requires link { link < length change.now.after.now.links }
     requires shown { sweep ≡ change.now.after.now.frame.sweeps
@@ -87,7 +86,7 @@ pub(crate) fn leave(change: &Change<'_>, sweep: u32, link: usize, kept: &mut Kep
         return;
     }
     if !same_weights(change.before, after, link, change.node.is_some()) {
-        let figures = kept.rows().figures(link);
+        let figures = kept.figures(link);
         kept.put_figures(link, reweigh(after, link, figures));
     }
 }

@@ -4,7 +4,7 @@ use crate::own::Places;
 use crate::readers::Readers;
 use std::mem::size_of;
 use transyt_delay::Figures;
-use transyt_kept::KeptRows;
+use transyt_kept::Rows;
 use transyt_sweep::{FACTOR_BYTES, Scratch};
 
 // the limits of a network
@@ -20,17 +20,10 @@ const SWEEPS: usize = 8;
 const PAIRS: usize = (SWEEPS + 1) * LINKS;
 // a value for each step
 const PROFILE: usize = STEPS * size_of::<u64>();
-// a profile in memory of its own
-const ROW: usize = PROFILE + size_of::<Vec<u64>>();
-// the arrivals, green, queue and figures of each link at the last sweep
-const SHOWN: usize = LINKS * (3 * ROW + size_of::<Figures>());
-// the departures of each link at each sweep, in one piece of memory, and the rest of the last
-const ROWS: usize = PAIRS * PROFILE + SHOWN;
-// the flags of saved rows: one for the departures of each pair, and for each link one for its arrivals and one for its
-// GO
-const FLAGS: usize = (PAIRS + 2 * LINKS) * size_of::<bool>();
-// the saved rows, in which departures take half the memory, and their flags
-const SAVED: usize = PAIRS * STEPS * size_of::<u32>() + SHOWN + FLAGS;
+// the departures of each link at each sweep, and the arrivals, green, queue and figures of each at the last
+const VERSION: usize = PAIRS * PROFILE + LINKS * (3 * PROFILE + size_of::<Figures>());
+// the two versions of all rows, and two bits for each row that tell which is which
+const ROWS: usize = 2 * VERSION + 2 * (PAIRS + 4 * LINKS) * size_of::<bool>();
 // the places of each link's node, feeders and rule
 const PLACES: usize = LINKS * (size_of::<Places>() + FEEDS * size_of::<usize>());
 // the readers of each link: each link reads nine at most, and room doubles as it fills and is four at least
@@ -39,15 +32,14 @@ const READERS: usize = LINKS * (size_of::<Readers>() + (2 * (FEEDS + 1) + 4) * s
 const ROOM: usize = 2 * LINKS * size_of::<bool>() + 13 * PROFILE + LINKS * FACTOR_BYTES;
 
 /// The most bytes that a tracker takes beside its two networks, at the limits of a network: 1,000 links of eight feeds,
-/// 120 steps and eight sweeps. It is below 20.2 million.
-pub const MOST_BYTES: usize = size_of::<KeptRows>()
+/// 120 steps and eight sweeps. It is below 24.4 million.
+pub const MOST_BYTES: usize = size_of::<Rows>()
     + size_of::<Scratch>()
     + ROWS
-    + SAVED
     + PLACES
     + READERS
     + ROOM;
 
-const _: () = prove!(MOST_BYTES <= 20_200_000);
+const _: () = prove!(MOST_BYTES <= 24_400_000);
 
-const _: () = prove!(MOST_BYTES > 20_100_000);
+const _: () = prove!(MOST_BYTES > 24_300_000);

@@ -23,7 +23,7 @@ use std::marker::Model;
 use std::mem;
 use std::sync::ledger::Ledger;
 use transyt_delay::Figures;
-use transyt_kept::{KeptRows, Rows};
+use transyt_kept::Rows;
 use transyt_net::{Edit, Net};
 use transyt_steps::Steps;
 use transyt_sweep::full;
@@ -79,8 +79,7 @@ impl Tracker {
         ensures err { OnErr result
             (steps.new ≤ steps.old + net.now.frame.sweeps * length net.now.links) }
     {
-        let rows = full(alloc, net, steps)?;
-        let kept = KeptRows::open(alloc, rows)?;
+        let kept = full(alloc, net, steps)?;
         Tracker::around(alloc, net, kept)
     }
 
@@ -89,14 +88,13 @@ impl Tracker {
         requires { self.now.mark ≡ None }
         ensures { IfOk result (λ tracker. tracker ≡ self.now) }
     {
-        let rows = Rows::empty(alloc, self.front.kept.rows().size())?;
-        let mut kept = KeptRows::open(alloc, rows)?;
-        copy_rows(&self.net, self.front.kept.rows(), &mut kept);
+        let mut kept = Rows::empty(alloc, self.front.kept.size())?;
+        copy_rows(&self.net, &self.front.kept, &mut kept);
         Tracker::around(alloc, &self.net, kept)
     }
 
     /// A tracker around the rows of the evaluation of a network, with no mark.
-    fn around(alloc: Global, net: &Net, kept: KeptRows) -> Result<Tracker, AllocError>
+    fn around(alloc: Global, net: &Net, kept: Rows) -> Result<Tracker, AllocError>
         requires rows { AreEvaluation net.now kept.now }
         requires closed { kept.marked ≡ None }
         ensures { IfOk result (λ tracker. tracker ≡ unmarked net.now) }
@@ -172,7 +170,7 @@ impl Tracker {
         requires link { link < length self.now.net.links }
         ensures { result.now ≡ out_of self.now.net sweep link }
     {
-        self.front.kept.rows().out(sweep, link)
+        self.front.kept.out(sweep, link)
     }
 
     /// The arrivals of a link at the last sweep, before any cut, in millionths of a vehicle per step.
@@ -180,7 +178,7 @@ impl Tracker {
         requires { link < length self.now.net.links }
         ensures { result.now ≡ (evaluated self.now.net link).arrivals }
     {
-        self.front.kept.rows().arrivals(link)
+        self.front.kept.arrivals(link)
     }
 
     /// The GO of a link at the last sweep, in millionths of a vehicle per step.
@@ -188,7 +186,7 @@ impl Tracker {
         requires { link < length self.now.net.links }
         ensures { result.now ≡ (evaluated self.now.net link).go }
     {
-        self.front.kept.rows().go(link)
+        self.front.kept.go(link)
     }
 
     /// The queue at the end of each step of the last sweep, in millionths of a vehicle.
@@ -196,7 +194,7 @@ impl Tracker {
         requires { link < length self.now.net.links }
         ensures { result.now ≡ (evaluated self.now.net link).queue }
     {
-        self.front.kept.rows().queue(link)
+        self.front.kept.queue(link)
     }
 
     /// The figures of a link at the last sweep, in millionths as those of `transyt_delay`.
@@ -204,14 +202,14 @@ impl Tracker {
         requires { link < length self.now.net.links }
         ensures { result ≡ (evaluated self.now.net link).figures }
     {
-        self.front.kept.rows().figures(link)
+        self.front.kept.figures(link)
     }
 
     /// The index of the network: the sum of its links' indexes.
     pub fn index(&self) -> u128
         ensures { result ≡ index self.now.net }
     {
-        self.front.kept.rows().index()
+        self.front.kept.index()
     }
 
     /// Follows edits: stands for `after` then, and returns how many pairs of a link and a sweep were due.
@@ -297,7 +295,7 @@ impl Tracker {
             readers: &self.readers,
         };
         let due = follow_rows(&change, &mut self.front, steps);
-        let index = self.front.kept.rows().index();
+        let index = self.front.kept.index();
         settle_on(&mut self.net, after, e, index < bound, &mut self.front.kept);
         Found { index, due }
     }
@@ -309,7 +307,7 @@ impl Tracker {
         ensures net { self.new.net ≡ from.now.net }
         ensures mark { self.new.mark ≡ None }
     {
-        copy_rows(&from.net, from.front.kept.rows(), &mut self.front.kept);
+        copy_rows(&from.net, &from.front.kept, &mut self.front.kept);
         self.net.take_numbers(&from.net);
     }
 
@@ -354,7 +352,7 @@ fn make(net: &mut Net, e: Edit)
 
 /// The rows of an evaluation of `after`, which is a network with an allowed edit made, are kept, and the edit is made
 /// in the network itself, or the rows go back to those of the mark. The mark is gone.
-fn settle_on(net: &mut Net, after: &Net, e: Edit, keeps: bool, kept: &mut KeptRows)
+fn settle_on(net: &mut Net, after: &Net, e: Edit, keeps: bool, kept: &mut Rows)
     requires shape { SameShape net.old after.now }
     requires allowed { edit_fault net.old e ≡ None }
     requires after { after.now ≡ with_edit net.old e }

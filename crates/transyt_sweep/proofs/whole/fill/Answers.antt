@@ -1,5 +1,5 @@
 -- After the last sweep the rows are the evaluation.
-use Rattle.std.proofs.Common.{◌≡◌, ◌+◌, subst, ap, arith, rules}
+use Rattle.std.proofs.Common.{◌≡◌, ◌+◌, refl, subst, ap, arith, rules}
 use Rattle.transyt_parts.specs.declared.frame.Frame.{Frame}
 use Rattle.transyt_sweep.specs.Front.{AreFilled}
 use Rattle.transyt_sweep.proofs.FilledLaws.{filled_end, opened_filled}
@@ -8,8 +8,9 @@ use Rattle.transyt_sweep.proofs.whole.fill.Goals as goal
 -- before the first sweep the links are started
 pub loop-sweep-init : goal.loop-sweep-init
 loop-sweep-init g c = record {
-  filled = opened_filled c.args.net.now c.args.rows.now c.frame-sweep-end.ensures.valid.sound.frame.sweeps.0
+  filled = opened_filled c.args.net.now c.args.rows.now.now c.frame-sweep-end.ensures.valid.sound.frame.sweeps.0
       c.requires.opened;
+  marked = refl;
   step_count = search rules;
   steps = omega arith;
 }
@@ -18,5 +19,5 @@ pub returns-clause-rows : goal.returns-clause-rows
 returns-clause-rows g c =
     let all : c.loop-sweep.sweep ≡ c.args.net.now.frame.sweeps + 1 =
     omega (arith, ap (λ (f : Frame). f.sweeps) c.frame-sweep-end.ensures.value) in
-    filled_end c.args.net.now c.loop-sweep.rows
-    (subst (λ s. AreFilled c.args.net.now s 0 c.loop-sweep.rows) all c.loop-sweep.invariant.filled)
+    filled_end c.args.net.now c.loop-sweep.rows.now
+    (subst (λ s. AreFilled c.args.net.now s 0 c.loop-sweep.rows.now) all c.loop-sweep.invariant.filled)

@@ -6,7 +6,8 @@ use Rattle.transyt_sweep.proofs.whole.fill.Given as goal
 -- those so far are worked out, in a step for each link of each
 abbrev pub invariant-loop-sweep : goal.invariant-loop-sweep
 invariant-loop-sweep g l = record {
-  filled : AreFilled l.net l.sweep 0 l.rows;
+  filled : AreFilled l.net l.sweep 0 l.rows.now;
+  marked : l.rows.marked ≡ l.fn.rows.marked;
   step_count : length l.scratch.arrivals ≡ l.net.frame.step_count;
   steps : l.steps ≡ l.fn.steps + (l.sweep - 1) * length l.net.links;
 }

@@ -6,7 +6,8 @@ use Rattle.transyt_sweep.proofs.whole.fill_sweep.Given as goal
 -- those so far are worked out, in a step each
 abbrev pub invariant-loop-link : goal.invariant-loop-link
 invariant-loop-link g l = record {
-  filled : AreFilled l.net l.sweep l.link l.rows;
+  filled : AreFilled l.net l.sweep l.link l.rows.now;
+  marked : l.rows.marked ≡ l.fn.rows.marked;
   step_count : length l.scratch.arrivals ≡ l.net.frame.step_count;
   steps : l.steps ≡ l.fn.steps + l.link;
 }

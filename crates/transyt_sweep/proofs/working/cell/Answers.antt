@@ -179,7 +179,7 @@ returns-clause-value g c =
     let filled = c.fill_inflow in
     let green = c.fill_go_under_rule in
     let stood = c.stand-totals in
-    let read : ℕ → List ℕ = read_in c.args.rows.now c.args.sweep c.args.link in
+    let read : ℕ → List ℕ = read_in c.args.rows.now.now c.args.sweep c.args.link in
     let come = with_items_is i.arrivals filled.new.arrivals (filled.auto.arrivals ∙ c.deref_mut-3.ensures.len)
     ∙ filled.ensures.value in
     let going = with_items_is i.go green.new.out (green.auto.out ∙ c.deref_mut-4.ensures.len) ∙ green.ensures.value in

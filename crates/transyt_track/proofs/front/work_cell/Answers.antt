@@ -1,12 +1,9 @@
 -- The link that is worked out has a value for each step.
-use Rattle.std.proofs.Common.{ap, ◌∙◌}
-use Rattle.transyt_kept.specs.Rows.{RowsValue}
 use Rattle.transyt_sweep.specs.Reading.{read_in}
 use Rattle.transyt_track.proofs.TurnLaws.{worked_steps}
 use Rattle.transyt_track.proofs.front.work_cell.Goals as goal
 
 pub row_differs-requires-clause-steps : goal.row_differs-requires-clause-steps
 row_differs-requires-clause-steps g c =
-    worked_steps c.args.net.now c.args.link (read_in c.rows-rows.result.now c.args.sweep c.args.link)
-    c.rows-rows.result.now.step_count c.cell.new.scratch c.cell.ensures.value
-    (ap (λ (r : RowsValue). r.step_count) c.rows-rows.ensures ∙ c.requires.fits.step_count)
+    worked_steps c.args.net.now c.args.link (read_in c.args.kept.now.now c.args.sweep c.args.link)
+    c.args.kept.now.now.step_count c.cell.new.scratch c.cell.ensures.value c.requires.fits.step_count

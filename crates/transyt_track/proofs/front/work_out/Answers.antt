@@ -1,5 +1,6 @@
 -- The link that is worked out is that of the definition.
-use Rattle.std.proofs.Common.{length, subst, ap, sym, ◌∙◌, arith}
+use Rattle.std.proofs.Common.{length, refl, subst, ap, sym, ◌∙◌, arith}
+use Rattle.transyt_kept.specs.Cell.{CellValue}
 use Rattle.transyt_kept.specs.Rows.{out_at}
 use Rattle.transyt_sweep.specs.Reading.{read_in}
 use Rattle.transyt_track.specs.Front.{AreFlags, own_differs}
@@ -74,5 +75,7 @@ returns-clause-front g c =
     record {
       at = rw (c.place.ensures.value, c.place.ensures.awaited) at;
       own = rw c.place.ensures.own_changed r.front.own;
-      steps = c.place.ensures.steps ∙ r.front.at.outs.fits.step_count;
+      steps = ap (λ (v : CellValue). length v.arrivals) c.place.ensures.scratch
+          ∙ worked_steps b c.args.link (read_in c.args.front.now.kept.now c.args.sweep c.args.link)
+          b.frame.step_count c.work_cell-differs.new.scratch c.work_cell-differs.ensures.value refl;
     }

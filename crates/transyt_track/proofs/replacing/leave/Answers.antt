@@ -19,8 +19,7 @@ returns-then-not-same_weights c =
     let rows = c.args.kept.now.now in
     let sweeps : c.frame.result.sweeps ≡ b.frame.sweeps = ap (λ (f : Frame). f.sweeps) c.frame.ensures.value in
     let last : c.args.sweep ≡ b.frame.sweeps = omega (arith, c.if-sweep-frame.false, sweeps) in
-    let figures : c.figures-figures.result ≡ (shown_at rows l).figures =
-    c.figures-figures.ensures.value ∙ ap (λ r. (shown_at r l).figures) c.rows.ensures in
+    let figures : c.figures-figures.result ≡ (shown_at rows l).figures = c.figures-figures.ensures.value in
     c.put_figures.ensures
     ∙ ap (λ f. record c.args.kept.now { now = with_figures rows l f })
     (c.reweigh.ensures.value ∙ ap (reweighed b l) figures)

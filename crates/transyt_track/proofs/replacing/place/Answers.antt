@@ -2,7 +2,7 @@
 use Rattle.std.proofs.Common.{◌≡◌, ap, sym, ◌∙◌, arith, if◌then◌else◌}
 use Rattle.transyt_parts.specs.declared.frame.Frame.{Frame}
 use Rattle.transyt_kept.specs.Rows.{RowsValue, with_out, with_rest, shown_at}
-use Rattle.transyt_kept.specs.Saved.{KeptValue}
+use Rattle.transyt_kept.specs.Marked.{KeptValue}
 use Rattle.transyt_track.proofs.FrontLaws.{same_test, other_test}
 use Rattle.transyt_track.proofs.replacing.place.Goals as goal
 
@@ -26,7 +26,7 @@ returns-then-sweep-frame-clause-value c =
     let out : RowsValue = with_out rows s l front.scratch.out in
     let last : rows.sweeps ≡ s =
     c.requires.fits.sweeps ∙ sym (c.if-sweep-frame.true ∙ ap (λ (f : Frame). f.sweeps) c.frame.ensures.value) in
-    c.place_shown.ensures.value
+    c.place_shown.ensures
     ∙ ap (λ (k : KeptValue). record k { now = with_rest k.now l front.scratch }) c.place_out.ensures
     ∙ sym (ap (λ t. record front.kept { now = if t then with_rest out l front.scratch else out })
     (same_test s rows.sweeps last))

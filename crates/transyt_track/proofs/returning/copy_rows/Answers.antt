@@ -1,9 +1,9 @@
 -- One pair more.
-use Rattle.std.proofs.Common.{◌≡◌, ◌+◌, ◌<◌, ◌≤◌, length, ap, subst, arith}
+use Rattle.std.proofs.Common.{◌≡◌, ◌+◌, ◌<◌, ◌≤◌, length, ap, subst, ◌∙◌, arith}
 use Rattle.transyt_parts.specs.declared.frame.Frame.{Frame}
 use Rattle.transyt_sweep.specs.Sweeps.{out_of, evaluated}
 use Rattle.transyt_kept.specs.Rows.{out_at, shown_at}
-use Rattle.transyt_kept.specs.Saved.{KeptValue}
+use Rattle.transyt_kept.specs.Marked.{KeptValue}
 use Rattle.transyt_sweep.specs.Front.{AreMixed}
 use Rattle.transyt_sweep.proofs.FrontLaws.{mixed_turn}
 use Rattle.transyt_track.specs.Front.{AreShownMixed}
@@ -20,13 +20,13 @@ loop-link-preserved c =
     let inside : c.loop-link.link < length net.links = omega
     (arith, c.loop-link-test.true, ap length c.links-link-end.ensures.value) in
     record {
-      outs = rw c.copy_pair.ensures.value (copied_outs net c.args.from.now c.requires.from (out_at old) (shown_at old)
+      outs = rw (ap (λ (k : KeptValue). k.now) c.copy_pair.ensures.value) (copied_outs net c.args.from.now.now c.requires.from (out_at old) (shown_at old)
           c.loop-sweep.sweep c.loop-link.link c.loop-link.kept.now c.loop-link.invariant.outs c.copy_pair.ensures.rows
           swept inside);
-      shown = rw c.copy_pair.ensures.value (copied_shown net c.args.from.now c.requires.from (out_at old) (shown_at old)
+      shown = rw (ap (λ (k : KeptValue). k.now) c.copy_pair.ensures.value) (copied_shown net c.args.from.now.now c.requires.from (out_at old) (shown_at old)
           c.loop-sweep.sweep c.loop-link.link c.loop-link.kept.now c.loop-link.invariant.outs c.copy_pair.ensures.rows
           swept inside c.loop-link.invariant.shown);
-      closed = ap (λ (k : KeptValue). k.marked) c.copy_pair.ensures.value;
+      marked = ap (λ (k : KeptValue). k.marked) c.copy_pair.ensures.value ∙ c.loop-link.invariant.marked;
     }
 
 pub loop-sweep-preserved : goal.loop-sweep-preserved
@@ -39,7 +39,7 @@ loop-sweep-preserved c =
           c.loop-link.invariant.outs;
       shown = shown_turn net (evaluated net) (shown_at old) c.loop-sweep.sweep c.loop-link.link c.loop-link.kept.now
           c.loop-link.invariant.shown all;
-      closed = c.loop-link.invariant.closed;
+      marked = c.loop-link.invariant.marked;
     }
 
 pub returns-clause-rows : goal.returns-clause-rows

@@ -1,5 +1,5 @@
 -- The pairs, one after another.
-use Rattle.std.proofs.Common.{◌≡◌, None}
+use Rattle.std.proofs.Common.{◌≡◌}
 use Rattle.transyt_sweep.specs.Sweeps.{out_of, evaluated}
 use Rattle.transyt_kept.specs.Rows.{out_at, shown_at}
 use Rattle.transyt_sweep.specs.Front.{AreMixed}
@@ -10,12 +10,12 @@ abbrev pub invariant-loop-sweep : goal.invariant-loop-sweep
 invariant-loop-sweep l = record {
   outs : AreMixed l.net (out_of l.net) (out_at l.fn.kept.now) l.sweep 0 l.kept.now;
   shown : AreShownMixed l.net (evaluated l.net) (shown_at l.fn.kept.now) l.sweep 0 l.kept.now;
-  closed : l.kept.marked ≡ None;
+  marked : l.kept.marked ≡ l.fn.kept.marked;
 }
 
 abbrev pub invariant-loop-link : goal.invariant-loop-link
 invariant-loop-link l = record {
   outs : AreMixed l.net (out_of l.net) (out_at l.fn.kept.now) l.sweep l.link l.kept.now;
   shown : AreShownMixed l.net (evaluated l.net) (shown_at l.fn.kept.now) l.sweep l.link l.kept.now;
-  closed : l.kept.marked ≡ None;
+  marked : l.kept.marked ≡ l.fn.kept.marked;
 }

@@ -16,7 +16,7 @@ returns-then-moves-clause-starting c =
     let started : uniform rows.step_count c.per_step.result ≡ start b c.args.link =
     ap (λ n. uniform n c.per_step.result) r.starting.outs.fits.step_count
     ∙ ap (uniform b.frame.step_count) (c.per_step.ensures.value ∙ ap (perstep b.frame) c.total_flow-total.ensures.value) in
-    let made = started_put a b c.args.change.now.same_shape c.args.link rows flags r.starting r.link r.some c.fill_out.ensures.rows
+    let made = started_put a b c.args.change.now.same_shape c.args.link rows flags r.starting r.link r.some c.fill_out.ensures.kept
     (sym r.moves ∙ c.if-moves.true) in
     rw (c.fill_out.ensures.value, started, c.if-moves.true) made
 

@@ -1,9 +1,8 @@
 -- The rows are those of the network with the edit made, or those from before it.
 use Rattle.std.proofs.Common.{◌≡◌, IsSome, refl, ap, sym, subst, if◌then◌else◌, nat_lt, ◌∙◌}
-use Rattle.transyt_kept.specs.Rows.{index_in}
 use Rattle.transyt_sweep.specs.Sweeps.{index}
 use Rattle.transyt_sweep.proofs.IndexLaws.{index_is}
-use Rattle.transyt_kept.specs.Saved.{KeptValue}
+use Rattle.transyt_kept.specs.Marked.{KeptValue}
 use Rattle.transyt_track.specs.Tracker.{TrackerValue, AreOfMark}
 use Rattle.transyt_track.proofs.TrackLaws.{begun_tracks, closed_tracks, follow_shape, follow_room, follow_due}
 use Rattle.transyt_track.proofs.TrackLaws.{follow_tracks}
@@ -37,7 +36,6 @@ invariant_of-self g c =
 pub returns-clause-index : goal.returns-clause-index
 returns-clause-index g c =
     c.index-index.ensures.value
-    ∙ ap index_in c.rows.ensures
     ∙ index_is c.args.after.now c.follow_rows-due.new.front.kept.now c.follow_rows-due.ensures.rows
 
 pub returns-clause-net : goal.returns-clause-net

@@ -2,7 +2,6 @@
 use Rattle.std.proofs.Common.{◌≡◌, ◌<◌, length, ap, ◌∙◌, arith}
 use Rattle.transyt_net.specs.Parts.{Network}
 use Rattle.transyt_kept.specs.Cell.{CellValue}
-use Rattle.transyt_kept.specs.Rows.{RowsValue, shown_at}
 use Rattle.transyt_sweep.specs.Sweeps.{evaluated}
 use Rattle.transyt_track.specs.Tracker.{TrackerValue}
 use Rattle.transyt_track.proofs.tracker.Tracker.go.Goals as goal
@@ -13,6 +12,5 @@ returns c =
     let inside : c.args.link < length c.self.inside.net.links =
     omega (arith, c.requires, ap (λ (n : Network). length n.links) net) in
     c.go.ensures.value
-    ∙ ap (λ (r : RowsValue). (shown_at r c.args.link).go) c.rows.ensures
     ∙ ap (λ (v : CellValue). v.go) (c.self.invariant.evaluation.shown c.args.link inside)
     ∙ ap (λ (n : Network). (evaluated n c.args.link).go) net

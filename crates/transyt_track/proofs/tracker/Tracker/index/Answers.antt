@@ -1,6 +1,5 @@
 -- The sum of the links' indexes is the network's.
 use Rattle.std.proofs.Common.{ap, ◌∙◌}
-use Rattle.transyt_kept.specs.Rows.{index_in}
 use Rattle.transyt_sweep.specs.Sweeps.{index}
 use Rattle.transyt_sweep.proofs.IndexLaws.{index_is}
 use Rattle.transyt_track.specs.Tracker.{TrackerValue}
@@ -9,6 +8,5 @@ use Rattle.transyt_track.proofs.tracker.Tracker.index.Goals as goal
 pub returns : goal.returns
 returns c =
     c.index.ensures.value
-    ∙ ap index_in c.rows.ensures
     ∙ index_is c.self.inside.net c.self.inside.front.kept.now c.self.invariant.evaluation
     ∙ ap (λ (t : TrackerValue). index t.net) c.self.view_is

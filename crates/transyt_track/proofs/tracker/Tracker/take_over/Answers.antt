@@ -10,15 +10,11 @@ copy_rows-requires-clause-fits c =
     fits_shape i.net c.from.inside.net (shape_inside c.self.view_is c.from.view_is c.requires.shape) i.front.kept.now
     c.self.invariant.evaluation.fits
 
-pub copy_rows-requires-clause-closed : goal.copy_rows-requires-clause-closed
-copy_rows-requires-clause-closed c =
-    let i = c.self.inside in
-    no_mark i.front.kept.marked i.marked (ap (λ (t : TrackerValue). t.mark) c.self.view_is ∙ c.requires.closed)
-
 pub invariant_of-self : goal.invariant_of-self
 invariant_of-self c =
     let i = c.self.inside in
     let same = shape_inside c.self.view_is c.from.view_is c.requires.shape in
     rw c.take_numbers.ensures
     (closed_tracks i.net i.marked i.front i.places.items i.readers.items c.self.invariant c.from.inside.net i.marked
-    same (sym same ∙ c.self.invariant.shape) c.copy_rows.new.kept c.copy_rows.ensures.rows c.copy_rows.ensures.closed)
+    same (sym same ∙ c.self.invariant.shape) c.copy_rows.new.kept c.copy_rows.ensures.rows
+    (c.copy_rows.ensures.marked ∙ no_mark i.front.kept.marked i.marked (ap (λ (t : TrackerValue). t.mark) c.self.view_is ∙ c.requires.closed)))

@@ -3,8 +3,7 @@ use Rattle.std.proofs.Common.{◌≡◌, IfOk, length, ap, sym, subst, ◌∙◌
 use Rattle.std.proofs.lemmas.List.{length-replicate}
 use Rattle.transyt_kept.specs.Cell.{no_figures}
 use Rattle.transyt_kept.specs.Rows.{RowsValue, empty_rows}
-use Rattle.transyt_kept.specs.Saved.{KeptValue}
-use Rattle.transyt_sweep.specs.Front.{AreEvaluation}
+use Rattle.transyt_kept.specs.Marked.{KeptValue}
 use Rattle.transyt_track.specs.Tracker.{TrackerValue, unmarked}
 use Rattle.transyt_track.proofs.tracker.Tracker.twin.Goals as goal
 
@@ -13,21 +12,23 @@ copy_rows-requires c =
     let was = c.self.invariant.evaluation in
     let size = c.size.result in
     let say = c.size.ensures in
-    let rows = c.rows.ensures in
     let kept : c.in_ok-kept.kept.now ≡ empty_rows size.step_count size.sweeps size.link_count =
-    ap (λ (k : KeptValue). k.now) c.in_ok-kept.ensures ∙ c.in_ok-rows.ensures in
+    ap (λ (k : KeptValue). k.now) c.in_ok-kept.ensures in
     record {
       fits = record {
         step_count = ap (λ (r : RowsValue). r.step_count) kept ∙ say.step_count
-            ∙ ap (λ (r : RowsValue). r.step_count) rows ∙ was.fits.step_count;
-        sweeps = ap (λ (r : RowsValue). r.sweeps) kept ∙ say.sweeps ∙ ap (λ (r : RowsValue). r.sweeps) rows
+            ∙ was.fits.step_count;
+        sweeps = ap (λ (r : RowsValue). r.sweeps) kept ∙ say.sweeps
             ∙ was.fits.sweeps;
         link_count = ap (λ (r : RowsValue). length r.figures) kept ∙ length-replicate size.link_count no_figures
-            ∙ say.link_count ∙ ap (λ (r : RowsValue). length r.figures) rows ∙ was.fits.link_count;
+            ∙ say.link_count ∙ was.fits.link_count;
       };
-      from = subst (AreEvaluation c.self.inside.net) (sym c.rows-2.ensures) was;
-      closed = ap (λ (k : KeptValue). k.marked) c.in_ok-kept.ensures;
+      from = was;
     }
+
+pub around-requires-clause-closed : goal.around-requires-clause-closed
+around-requires-clause-closed c =
+    c.copy_rows.ensures.marked ∙ ap (λ (k : KeptValue). k.marked) c.in_ok-kept.ensures
 
 pub returns : goal.returns
 returns c =
