@@ -4,7 +4,7 @@ Two junctions are near where a link of one is fed by a link of the other; each i
 """
 
 from dataclasses import dataclass
-from typing import Dict, Iterator, List, Optional, Tuple
+from typing import Dict, Iterator, List, Tuple
 
 from .deck import Deck
 from .edits import Edit
@@ -85,24 +85,19 @@ class Kicker:
     def _climb(self, drawn: int, taken_back: List[Edit]) -> int:
         """Climbs on the moves near the drawn node by CLIMB's rule until a whole round lowers nothing; the index there."""
         kinds = [kind for kind in self._kinds if kind.node in self._near[drawn]]
-        index, place, since = self.session.index(), 0, 0
+        index, place, since, ending = self.session.index(), 0, 0, ""
         while since < len(kinds):
             kind = kinds[place]
             value = (self._plan[kind.node][kind.stage] + kind.by) % self.deck.frame.step_count
-            lowered = self._try(self._edit(kind.node, kind.stage, value), index)
-            if lowered is None:
-                place, since = (place + 1) % len(kinds), since + 1
-            else:
-                index, since = lowered, 0
+            after = self.session.attempt(self._edit(kind.node, kind.stage, value), ending)
+            if after is not None and after < index:
+                index, since, ending = after, 0, "KEEP"
                 taken_back.append(self._set(kind.node, kind.stage, value))
+            else:
+                place, since, ending = (place + 1) % len(kinds), since + 1, "BACK"
+        if ending:
+            self.session.ask(ending)
         return index
-
-    def _try(self, edit: Edit, index: int) -> Optional[int]:
-        """Tries a move in a trial: its index where it lowers, and then it is kept; else None, and it is taken back."""
-        after = self.session.attempt(edit)
-        lowers = after is not None and after < index
-        self.session.ask("KEEP" if lowers else "BACK")
-        return after if lowers else None
 
     def _edit(self, node: int, stage: int, value: int) -> Edit:
         """The edit of an offset or a change."""

@@ -15,7 +15,7 @@ from .program import MOST_BYTES, find_program
 from .report import (LAST_WORDS, Certificate, ClimbEnd, Figures, Links, Profile, Queue, Step, Timing, is_last, read_certificate,
                      read_chart, read_climb_end, read_figures, read_index, read_links, read_profile, read_queue,
                      read_step, read_timing)
-from .text import decoded, escaped, lines_of, words_of
+from .text import decoded, escaped, lines_of
 
 FULL = MOST_BYTES * 3 // 4  # bytes after which another child goes on
 ASKED = frozenset([*LAST_WORDS, *COUNTS, "TRIAL", "KEEP", "BACK"]) - {"CLIMB"}
@@ -258,15 +258,18 @@ class Session:
         """A trial as a context: `with session.trial() as trial:`."""
         return Trial(self)
 
-    def attempt(self, edit: Union[Edit, str]) -> Optional[int]:
-        """TRIAL, an edit and INDEX in one go: the index in the trial, which stays open; None where it is refused."""
+    def attempt(self, edit: Edit, ending: str = "") -> Optional[int]:
+        """TRIAL, an edit and INDEX in one go: the index in the trial, which stays open; None where it is refused.
+
+        An open trial is ended before by `ending`, which is KEEP or BACK.
+        """
         self._check_free()
-        commands = ["TRIAL", str(edit), "INDEX"]
-        if self._trial is not None or not set("\n*").isdisjoint(commands[1]) or words_of(commands[1])[0] not in COUNTS:
-            raise Fault(f"{escaped(commands[1][:80])} can't be tried: it is no edit, or a trial is open")
-        self._renew_if_full(sum(map(len, commands)) + 3)
-        _, made, index = self._exchange_all(commands)
-        self._trial = [commands[1]] if made == ["DONE"] else []
+        if (self._trial is None) == bool(ending) or ending not in ("", "KEEP", "BACK") or edit.word not in COUNTS:
+            raise Fault(f"{edit} can't be tried: it is no edit, or a trial is open, or none is where one is to be ended")
+        commands = [ending] * bool(ending) + ["TRIAL", str(edit), "INDEX"]
+        self._renew_if_full(sum(map(len, commands)) + len(commands))
+        *_, made, index = self._exchange_all(commands)
+        self._trial = [commands[-2]] if made == ["DONE"] else []
         return read_index(index) if self._trial else None
 
     @property
