@@ -37,6 +37,12 @@ class Counting(unittest.TestCase):
         with contextlib.redirect_stdout(io.StringIO()):
             self.assertEqual(tests.group("x", ["-c", "pass"], told), Count(0, 1))
 
+    def test_a_folder_without_tests_is_left_out(self) -> None:
+        with contextlib.redirect_stdout(io.StringIO()) as out:
+            self.assertEqual(tests.unit_group("crates"), Count(0, 0))
+            self.assertEqual(tests.unit_group("no/such/folder"), Count(0, 0))
+        self.assertEqual(out.getvalue(), ".ci: crates has no tests\n.ci: no/such/folder has no tests\n")
+
     def end(self, status: str, line: str, groups: Count) -> tuple[int, str]:
         """The exit number and the last line, where each group of unit tests has these numbers."""
         out = io.StringIO()
@@ -46,9 +52,9 @@ class Counting(unittest.TestCase):
         return status, out.getvalue().splitlines()[-1]
 
     def test_the_last_line_and_the_worse_status(self) -> None:
-        self.assertEqual(self.end("0", "100 passed, 0 failed", Count(10, 0)), (0, "145 passed, 0 failed"))
-        self.assertEqual(self.end("1", "98 passed, 2 failed", Count(10, 0)), (1, "143 passed, 2 failed"))
-        self.assertEqual(self.end("0", "100 passed, 0 failed", Count(9, 1)), (1, "141 passed, 4 failed"))
+        self.assertEqual(self.end("0", "100 passed, 0 failed", Count(10, 0)), (0, "135 passed, 0 failed"))
+        self.assertEqual(self.end("1", "98 passed, 2 failed", Count(10, 0)), (1, "133 passed, 2 failed"))
+        self.assertEqual(self.end("0", "100 passed, 0 failed", Count(9, 1)), (1, "132 passed, 3 failed"))
         self.assertEqual(self.end("137", "Killed", Count(0, 0)), (137, "5 passed, 1 failed"))
 
 
