@@ -1,13 +1,15 @@
 #!/usr/bin/env python3
-"""drawings.py: draws the three pictures of docs/ARCHITECTURE.md into docs/pictures.
+"""drawings.py: draws all pictures of the documents into docs/pictures.
 
-front.svg is the law of the front, round.svg a round of desks, crates.svg which crate waits for which, read from
-crates.txt. Run it where one of them has changed; nothing else reads what it writes.
+Of ARCHITECTURE: front.svg is the law of the front, round.svg a round of desks, crates.svg which crate waits for which,
+read from crates.txt. Of README and GUIDE, by ./plan and the built program: the arterial's road before and after a climb,
+its signals and saturation. Run it where one of them has changed.
 """
 
 from __future__ import annotations
 
 import os
+import sys
 from html import escape
 from typing import Dict, List, Set, Tuple
 
@@ -148,7 +150,28 @@ def draw_crates() -> None:
     picture.write("crates.svg")
 
 
+def draw_plans() -> None:
+    """The arterial before and after a climb, as ./plan draws it."""
+    sys.path.insert(0, f"{HERE}/../python")
+    import transyt
+    from transyt import pictures
+
+    def write(name: str, text: str) -> None:
+        with open(f"{HERE}/pictures/{name}", "w", encoding="utf-8") as it:
+            it.write(text)
+
+    with open(f"{HERE}/../examples/arterial.deck", encoding="utf-8") as it:
+        deck = it.read()
+    with transyt.Session(deck) as session:
+        write("road-before.svg", pictures.road(session, [[11, 21, 31, 41, 51, 61]]))
+        write("climb.svg", pictures.climb(session))
+        write("road-after.svg", pictures.road(session, [[11, 21, 31, 41, 51, 61]]))
+        write("signals.svg", pictures.signals(session))
+        write("saturation.svg", pictures.saturation(session))
+
+
 if __name__ == "__main__":
     draw_front()
     draw_round()
     draw_crates()
+    draw_plans()
