@@ -176,9 +176,9 @@ class Board:
         except Fault as fault:
             message = f"the climb ended: {fault}"
         with self._lock:
-            self._climb = self._climber = None
             message = self._after_climb(climb, message)
             self._next(message)
+            self._climb = self._climber = None
 
     def _after_climb(self, climb: Climb, message: str) -> str:
         """Takes the steps of a climb as one change; where the program's index isn't the last step's, none of them."""

@@ -46,5 +46,6 @@ def run(args: argparse.Namespace) -> int:
     finally:
         if server is not None:
             server.shutdown()
+            server.server_close()
         board.close()
     return 0
