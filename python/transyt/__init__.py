@@ -17,5 +17,5 @@ VERSION = "1.0.0"
 __all__ = [
     "Answer", "Balance", "Certificate", "Climb", "ClimbEnd", "ClimbPlan", "Deck", "Edit", "Ended", "Fault", "Feed",
     "Figures", "Frame", "GiveWay", "Line", "Link", "LinkDelays", "LinkFigures", "Links", "Move", "Names", "Node",
-    "NodeTiming", "Profile", "Program", "Queue", "Refused", "Session", "Stage", "StageTiming", "Step", "Timing", "Trial",
-    "VERSION", "find_program", "read_deck", "read_edit"]
+    "NodeTiming", "Profile", "Program", "Queue", "Refused", "Session", "Stage", "StageTiming", "Step", "Timing",
+    "Trial", "VERSION", "find_program", "read_deck", "read_edit"]

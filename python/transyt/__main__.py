@@ -3,11 +3,13 @@
 import argparse
 import importlib
 import importlib.util
+import os
 import sys
 from types import ModuleType
 from typing import List, Optional
 
 from .faults import Fault
+from .program import BUILT, SCRIPT, find_program
 from .terminal import tell
 from .words import WORDS
 
@@ -27,6 +29,12 @@ def parser_of(word: str, module: ModuleType) -> argparse.ArgumentParser:
     return parser
 
 
+def tell_of_build(program: Optional[str]) -> None:
+    """Tells that the program is built first, where it isn't yet."""
+    if find_program(program) == SCRIPT and not os.access(BUILT, os.X_OK):
+        tell("plan: the program isn't built yet, and is proved and built now: README.md says how long that takes")
+
+
 def usage() -> str:
     """What the words are for."""
     words = "\n".join(f"  {word:<10} {what}" for word, what in WORDS.items() if module_of(word))
@@ -44,7 +52,9 @@ def main(words: List[str]) -> int:
         print(usage(), file=sys.stderr)
         return 2
     try:
-        return int(module.run(parser_of(words[0], module).parse_args(words[1:])))
+        args = parser_of(words[0], module).parse_args(words[1:])
+        tell_of_build(args.program)
+        return int(module.run(args))
     except Fault as fault:
         tell(f"plan {words[0]}: {fault}")
         return 2

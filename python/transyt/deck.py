@@ -24,8 +24,8 @@ Plan = Mapping[int, Tuple[int, Sequence[int]]]
 
 @dataclass(frozen=True)
 class Frame:
-    """The CYCLE card: cycle in seconds, steps a cycle, sweeps, period in minutes, stop penalty in hundredths, dispersion
-    in percent."""
+    """The CYCLE card: cycle in seconds, steps a cycle, sweeps, period in minutes, stop penalty in hundredths, and the
+    dispersion in percent."""
 
     cycle: int
     step_count: int

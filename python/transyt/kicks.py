@@ -83,7 +83,7 @@ class Kicker:
         return False
 
     def _climb(self, drawn: int, taken_back: List[Edit]) -> int:
-        """Climbs on the moves near the drawn node by CLIMB's rule until a whole round lowers nothing; the index there."""
+        """Climbs on the moves near the drawn node by CLIMB's rule until a round lowers nothing; the index there."""
         kinds = [kind for kind in self._kinds if kind.node in self._near[drawn]]
         index, place, since, ending = self.session.index(), 0, 0, ""
         while since < len(kinds):

@@ -14,6 +14,7 @@ from .text import lines_of
 
 ROOT = os.path.dirname(os.path.dirname(os.path.dirname(os.path.realpath(__file__))))
 BUILT = os.path.join(ROOT, "crates", "transyt_cli", "out", "transyt_cli")
+SCRIPT = os.path.join(ROOT, "transyt")  # which builds it
 MOST_BYTES = 4_194_304  # of an input
 
 
@@ -29,9 +30,8 @@ def find_program(path: Optional[str] = None) -> str:
         return os.path.abspath(named) if os.sep in named or os.path.exists(named) else named
     if os.access(BUILT, os.X_OK):
         return BUILT
-    script = os.path.join(ROOT, "transyt")
-    if is_repository() and os.access(script, os.X_OK):
-        return script
+    if is_repository() and os.access(SCRIPT, os.X_OK):
+        return SCRIPT
     found = shutil.which("transyt")
     if not found:
         raise Fault("the program transyt isn't found: name it by --program FILE or by the variable TRANSYT")

@@ -1,7 +1,7 @@
 """Lines, words and texts as docs/FORMATS.md cuts them, and as a terminal and a spreadsheet may show them.
 
-Lines are cut at LF alone, with one CR before it, and words at blanks and tabs: `splitlines` and `split` of Python cut at
-more, at U+0085 and U+2028 too, and so aren't used.
+Lines are cut at LF alone, with one CR before it, and words at blanks and tabs: `splitlines` and `split` of Python cut
+at more, at U+0085 and U+2028 too, and so aren't used.
 """
 
 import re

@@ -12,7 +12,8 @@ from .roads import Net, lane_count, link_road, run_tool, write_xml
 
 WARM_UP, MEASURED, AFTER = 900, 3600, 900  # seconds
 SECONDS = WARM_UP + MEASURED + AFTER
-OPTIONS: Dict[str, Any] = {"step-length": 0.5, "time-to-teleport": -1, "collision.action": "warn", "xml-validation": "never"}
+OPTIONS: Dict[str, Any] = {"step-length": 0.5, "time-to-teleport": -1, "collision.action": "warn",
+                           "xml-validation": "never"}
 
 VIEW = """<viewsettings>
   <scheme name="town">

@@ -27,7 +27,8 @@ def last_plan(report: str) -> Plan:
     block: List[str] = []
     for line in lines_of(report):
         words = line.split(" ")
-        if words[0] == "NODE" and words[2:3] == ["OFFSET"] or words[0] == "STAGE" and words[2:3] == ["CHANGE"] and block:
+        is_node, is_stage = (words[0::2][:2] == head for head in (["NODE", "OFFSET"], ["STAGE", "CHANGE"]))
+        if is_node or is_stage and block:
             block.append(line)
         elif words == ["END", "TIMING"]:
             found, block = block + [line], []
@@ -37,9 +38,9 @@ def last_plan(report: str) -> Plan:
 
 
 def write_town(deck: Deck, figures: PlanFigures, folder: str, seed: int) -> float:
-    """Writes the network, signals and cars of a deck to a folder, once its greens are the program's; tells the headway.
+    """Writes the network, signals and cars of a deck to a folder, once its greens are the program's.
 
-    The headway is how many seconds a car stays behind the one ahead.
+    Returned is the headway: how many seconds a car stays behind the one ahead.
     """
     check_carried(deck)
     check_greens(deck, figures)

@@ -215,8 +215,8 @@ def write_map(drawn: Map, folder: str) -> None:
     for road in drawn.roads.values():
         before = beside.get((road.start, road.end), 0)
         beside[road.start, road.end] = before + road.lanes
-        edge: Dict[str, Any] = {"id": road.name, "from": road.start, "to": road.end, "numLanes": road.lanes, "speed": SPEED,
-                "shape": shape(road, drawn, before)}
+        edge: Dict[str, Any] = {"id": road.name, "from": road.start, "to": road.end, "numLanes": road.lanes,
+                                "speed": SPEED, "shape": shape(road, drawn, before)}
         edges.append(("edge", edge | ({"length": round(road.length, 2)} if road.length else {})))
     write_xml(os.path.join(folder, "town.edg.xml"), "edges", edges)
     write_xml(os.path.join(folder, "town.con.xml"), "connections", (
@@ -250,9 +250,12 @@ class Net:
 
     def __init__(self, path: str) -> None:
         root = ElementTree.parse(path).getroot()
-        self.signals: Dict[str, Dict[int, int]] = {}  # for each junction with signals the link of each signal, in their order
-        self.inside: Dict[str, str] = {}  # for each edge within a junction the road that leads to it
-        self.turn_length: Dict[Tuple[str, str], float] = {}  # for each turn the length of its way through the junction, in metres
+        # for each junction with signals the link of each signal, in their order
+        self.signals: Dict[str, Dict[int, int]] = {}
+        # for each edge within a junction the road that leads to it
+        self.inside: Dict[str, str] = {}
+        # for each turn the length of its way through the junction, in metres
+        self.turn_length: Dict[Tuple[str, str], float] = {}
         lanes = {lane.get("id"): float(lane.get("length", 0)) for lane in root.iter("lane")}
         for turn in root.iter("connection"):
             start, end, via = (turn.get(key, "") for key in ("from", "to", "via"))
