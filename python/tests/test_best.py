@@ -111,8 +111,9 @@ class Best(unittest.TestCase):
         self.assertEqual((search.deck.bare(), search.index), (whole.deck, whole.index))
 
     def test_no_cycle_time_fits(self):
-        with self.assertRaisesRegex(Fault, "61: no whole number of steps"):
-            self.search(support.example("cycles.deck"), Wanted((61, 61, 1)))
+        with self.assertRaisesRegex(Fault, "no cycle time can be climbed on"):
+            self.search(support.example("cycles.deck"), Wanted((61, 63, 2)))
+        self.assertEqual([line[:30] for line in self.said], [f"cycles: {cycle}: no whole number of" for cycle in (61, 63)])
 
     def test_names_and_comments_go_along(self):
         search = self.search(support.THREE, Wanted((60, 60, 1), 3, 1))
@@ -135,6 +136,37 @@ class Best(unittest.TestCase):
         self.assertEqual([wanted.start_count(junctions) for junctions in (1, 8, 9, 20, 21)], [100, 100, 30, 30, 0])
         self.assertEqual([wanted.kick_count(junctions) for junctions in (1, 8, 9)], [0, 0, 250])
         self.assertEqual((Wanted(starts=0, kicks=0).start_count(3), Wanted(kicks=0).kick_count(30)), (0, 0))
+
+
+# Answers `starts w seed count from`: start i ends at 100 + 7 i mod 9, and its deck has i % 12 as an offset.
+STARTS = """
+words = sys.argv[1:]
+if words[0] == "run":
+    deck(); said("ACCEPTED 3 6")
+    for line in sys.stdin: said("INDEX 500")
+    sys.exit()
+text = sys.stdin.read()
+with open(__file__ + ".words", "a") as file: file.write(" ".join(words) + "\\n")
+count, begin = int(words[3]), int(words[4])
+index = lambda i: 100 + 7 * i % 9
+for i in range(begin, begin + count):
+    said(f"* START {i} FROM 200 TOOK 3 {'BUDGET' if i == 4 else 'LOCAL'} 40 TO {index(i)}")
+best = min(range(begin, begin + count), key=index)
+said(f"* BEST {best} {index(best)}")
+sys.stdout.write(text.replace("NODE 1 0", f"NODE 1 {best % 12}"))
+"""
+
+
+class Parts(support.Played):
+    def test_starts_in_parts_of_ten(self):
+        path, said = self.play(STARTS), []
+        search = Search(read_deck(support.THREE), Program(path), Wanted(seed=5, workers=2), said.append)
+        search.starts(25)
+        with open(path + ".words", encoding="utf-8") as file:
+            self.assertEqual(file.read(), "starts 2 5 10 0\nstarts 2 5 10 10\nstarts 2 5 5 20\n")
+        # starts 0, 9 and 18 end at 100, and the first stays
+        self.assertEqual((search.index, search.deck.node(1).offset), (100, 0))
+        self.assertEqual(said, ["starts: 500 to 100; 25 rows, 1 ended BUDGET"])
 
 
 @needs_program

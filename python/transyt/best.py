@@ -89,11 +89,11 @@ class Search:
                     best = found.index
                     self._take(deck, best)
             self.progress(f"cycles: {rows[-1]}")
-        if best is None:
-            raise Fault("; ".join(["no cycle time can be climbed on", *map(str, rows)]))
         for row in rows:
             if row.index is None:
                 self.tell(f"cycles: {row}")
+        if best is None:
+            raise Fault("no cycle time can be climbed on")
         self._told_rows("cycles", before, rows, f", best {self.deck.frame.cycle} s")
 
     def _cycle(self, cycle: int) -> List[Tuple[Row, Optional[Deck]]]:

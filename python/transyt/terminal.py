@@ -13,13 +13,18 @@ from .text import decoded, escaped
 
 def tell(sentence: str) -> None:
     """A sentence on standard error, with control characters as `\\x1b`."""
-    print(escaped(sentence), file=sys.stderr, flush=True)
+    print(f"{_cleared()}{escaped(sentence)}", file=sys.stderr, flush=True)
+
+
+def _cleared() -> str:
+    """What clears a line of progress on a terminal."""
+    return "\r\x1b[K" if sys.stderr.isatty() else ""
 
 
 def progress(sentence: str) -> None:
     """How far it is, on standard error: a line, or the same line of a terminal."""
     if sys.stderr.isatty():
-        print(f"\r{escaped(sentence)}\x1b[K", end="\r", file=sys.stderr, flush=True)
+        print(f"{_cleared()}{escaped(sentence)}", end="", file=sys.stderr, flush=True)
     else:
         tell(sentence)
 

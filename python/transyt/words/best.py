@@ -29,8 +29,8 @@ def run(args: argparse.Namespace) -> int:
     except KeyboardInterrupt:
         if search is None:
             raise
-        signal.signal(signal.SIGINT, signal.SIG_IGN)
         status = 130
+    signal.signal(signal.SIGINT, signal.SIG_IGN)  # from here on the deck is written whole
     search.check()
     write(str(search.deck))
     if status:

@@ -1,0 +1,96 @@
+"""The program: where it is found, and words that take their input whole."""
+
+import os
+import signal
+import unittest
+from unittest import mock
+
+import support
+from support import PROGRAM, is_there, needs_program
+from transyt import program
+from transyt.deck import read_deck
+from transyt.faults import Fault, Refused
+from transyt.program import Program, find_program
+
+
+class Found(unittest.TestCase):
+    def test_order(self):
+        def none(_path, _mode):
+            return False
+
+        with mock.patch.dict(os.environ, {"TRANSYT": "/b"}):
+            self.assertEqual((find_program("/a"), find_program()), ("/a", "/b"))
+        without = {key: value for key, value in os.environ.items() if key != "TRANSYT"}
+        with mock.patch.dict(os.environ, without, clear=True):
+            with mock.patch.object(program.os, "access", lambda path, _: path == program.BUILT):
+                self.assertEqual(find_program(), program.BUILT)
+            with mock.patch.object(program.os, "access", lambda path, _: path == program.SCRIPT):
+                self.assertEqual(find_program(), program.SCRIPT)
+            with mock.patch.object(program.os, "access", none):
+                with mock.patch.object(program.shutil, "which", lambda _: "/c"):
+                    self.assertEqual(find_program(), "/c")
+                with mock.patch.object(program.shutil, "which", lambda _: None):
+                    with self.assertRaisesRegex(Fault, "isn't found"):
+                        find_program()
+
+
+class Played(support.Played):
+    def test_exit_number_is_told(self):
+        with self.assertRaisesRegex(Fault, "ended with 1 at run 2: what"):
+            Program(self.play('told("what"); sys.exit(1)')).answer(["run", 2], "")
+
+    def test_missing_program_is_told(self):
+        with self.assertRaisesRegex(Fault, "can't be started"):
+            Program("/nowhere/transyt").answer(["run"], support.THREE)
+
+    def test_sentence_of_a_refused_card(self):
+        body = 'deck(); told("line 9: code 14: offset 30, and it is 0 to 11"); said("CARD 9 REFUSED 14"); sys.exit(2)'
+        with self.assertRaises(Refused) as caught:
+            Program(self.play(body)).answer(["equisat"], support.THREE)
+        self.assertEqual((caught.exception.code, caught.exception.line), (14, 9))
+        self.assertEqual(str(caught.exception), "NODE 2 3: offset 30, and it is 0 to 11")
+
+    def test_refused_row(self):
+        body = 'deck(); told("row 2: code 17: there is no link 9"); said("ROW 2 REFUSED 17"); sys.exit(2)'
+        with self.assertRaisesRegex(Refused, "ROW 2 REFUSED 17: there is no link 9"):
+            Program(self.play(body)).answer(["counts"], support.THREE)
+
+    def test_more_than_a_pipe_holds_both_ways(self):
+        body = 'for line in sys.stdin: sys.stdout.write(line)\nsys.stderr.write("e\\n" * 50000)'
+        text = "x" * 99 + "\n"
+        answer = Program(self.play(body)).ask(["run"], text * 20000)
+        self.assertEqual((answer.text, answer.status, len(answer.messages)), (text * 20000, 0, 1000))
+
+    def test_ctrl_c_ends_the_child(self):
+        path = self.play('open(__file__ + ".pid", "w").write(str(os.getpid())); time.sleep(1000)')
+        signal.signal(signal.SIGALRM, lambda *_: (_ for _ in ()).throw(KeyboardInterrupt()))
+        self.addCleanup(signal.signal, signal.SIGALRM, signal.SIG_DFL)
+        signal.setitimer(signal.ITIMER_REAL, 1)
+        with self.assertRaises(KeyboardInterrupt):
+            Program(path).ask(["run"], support.THREE)
+        with open(path + ".pid", encoding="utf-8") as file:
+            self.assertFalse(is_there(int(file.read())))
+
+
+@needs_program
+class Asked(unittest.TestCase):
+    def test_balanced(self):
+        deck = read_deck(support.example("equisat.deck"))
+        other = Program(PROGRAM).balanced(deck)
+        self.assertEqual([node.offset for node in other.nodes], [node.offset for node in deck.nodes])
+        lines = Program(PROGRAM).answer(["equisat"], support.example("equisat.deck"))
+        self.assertEqual([stage.change for node in other.nodes for stage in node.stages],
+                         [int(line.split(" ")[3]) for line in lines if line.startswith("STAGE")])
+
+    def test_refused_deck(self):
+        with self.assertRaises(Refused) as caught:
+            Program(PROGRAM).answer(["starts", 1, 1, 1], support.THREE.replace("NODE 2 3", "NODE 2 30"))
+        self.assertEqual((caught.exception.code, caught.exception.line, caught.exception.command), (14, 9, "NODE 2 30"))
+
+    def test_words_that_are_none(self):
+        with self.assertRaisesRegex(Fault, "ended with 1 at nonsense"):
+            Program(PROGRAM).answer(["nonsense"])
+
+
+if __name__ == "__main__":
+    unittest.main()
