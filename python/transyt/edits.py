@@ -1,7 +1,7 @@
 """Edits: the commands of the program that set one number of a network, or the two weights of a link."""
 
 from dataclasses import dataclass, replace
-from typing import Tuple
+from typing import List, Tuple
 
 from .deck import Deck, Feed, Link
 from .faults import Fault
@@ -88,7 +88,8 @@ def moves(deck: Deck) -> Tuple[Edit, ...]:
     """The list of moves of the deck's climb plan, in its order, over the network as it stands (MODEL, "Moves")."""
     if deck.climb_plan is None:
         return ()
-    count, found = deck.frame.step_count, []
+    count = deck.frame.step_count
+    found: List[Edit] = []
     for size in deck.climb_plan.sizes:
         for node in deck.nodes:
             found += [Edit("OFFSET", (node.number, (node.offset + by) % count)) for by in (size, -size)]

@@ -119,7 +119,8 @@ def link_table(plans: Sequence[Plan]) -> List[str]:
              for head in (f"{plan.name}: s a vehicle", "in SUMO", f"{plan.name}: queue", "in SUMO")]
     lines = [row(["link", "vehicles an hour", *heads]), row(["--:"] * (2 + len(heads)))]
     for link in plans[0].deck.links:
-        number, cells = link.number, []
+        number = link.number
+        cells: List[str] = []
         for plan in plans:
             figures = plan.figures.link(number)
             cells += [told(figures.seconds, 1), told(plan.driven_seconds(number), 1),
