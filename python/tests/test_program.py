@@ -11,6 +11,7 @@ from transyt import program
 from transyt.deck import read_deck
 from transyt.faults import Fault, Refused
 from transyt.program import Program, find_program
+from transyt.session import Session
 
 
 class Found(unittest.TestCase):
@@ -70,6 +71,17 @@ class Played(support.Played):
             Program(path).ask(["run"], support.THREE)
         with open(path + ".pid", encoding="utf-8") as file:
             self.assertFalse(is_there(int(file.read())))
+
+
+@needs_program
+class Decks(unittest.TestCase):
+    def test_towns_are_written_as_the_program_writes_them(self):
+        for seed in range(1, 21):
+            text = "".join(line + "\n" for line in Program(PROGRAM).answer(["make", seed, 1 + seed * 5]))
+            deck = read_deck(text)
+            self.assertEqual(str(deck), text)
+            with Session(deck, 1, PROGRAM) as town:
+                self.assertEqual(town.deck(), deck)
 
 
 @needs_program
