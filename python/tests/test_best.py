@@ -171,10 +171,12 @@ class Best(unittest.TestCase):
             self.search(text, Wanted())
 
     def test_budget_shorter_than_the_list(self):
-        search = self.search(support.THREE.replace("STEPS 200 1 3", "STEPS 2 1 3"), Wanted(starts=1))
-        self.assertTrue(any("greater budget" in line for line in self.said))
-        self.assertIn("BUDGET: not LOCAL", self.said[-1])
-        self.assertLessEqual(search.index, search._index_of(search.given))
+        text = support.THREE.replace("STEPS 200 1 3", "STEPS 2 1 3")
+        search = self.search(text, Wanted((60, 60, 1), 1, 2))
+        self.assertTrue(any("a budget of 2 doesn't go round the list of 36 moves" in line for line in self.said))
+        self.assertIn("STEPS 2 1 3\n", str(search.deck))
+        with Session(search.deck, 1, PROGRAM) as town:
+            self.assertTrue(all(move.index is None or move.index >= search.index for move in town.certificate().moves))
 
     def test_how_many(self):
         wanted = Wanted()

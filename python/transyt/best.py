@@ -5,8 +5,8 @@ import time
 from dataclasses import dataclass, replace
 from typing import Callable, Iterator, List, Optional, Sequence, Tuple
 
-from .deck import Deck
-from .edits import after
+from .deck import ClimbPlan, Deck
+from .edits import after, moves
 from .faults import Fault
 from .kicks import Kicker
 from .names import Tell
@@ -59,8 +59,7 @@ class Search:
 
     def run(self) -> None:
         """All words in their order."""
-        if self.deck.climb_plan is None:
-            raise Fault("the deck has no STEPS card, and so no moves to climb by")
+        self._plan_of(self.deck)
         if self.wanted.cycles:
             self.cycles(*self.wanted.cycles)
         junctions = len(self.deck.nodes)
@@ -101,9 +100,9 @@ class Search:
         answer = self._asked(["cycles", self.wanted.workers, cycle, cycle, 1], self.given)
         found = [(row, answer.deck) for row in answer.rows]
         if cycle == self.given.frame.cycle:
-            with Session(self.given, self.wanted.workers, self.program.path) as session:
-                before, local = session.index(), self._until_local(session)
-                found.append((Row(cycle, session.index(), before, local=local), session.deck()))
+            before = self._index_of(self.given)
+            deck, index = self._climbed(self.given, before, lambda _deck, _index: None)
+            found.append((Row(cycle, index, before, local=True), deck))
         return found
 
     def starts(self, count: int) -> None:
@@ -130,25 +129,42 @@ class Search:
             yield self._asked([*words, min(PART, count - begin), begin], deck) if begin else read_rows(first.lines)
 
     def climb(self) -> None:
-        """CLIMB until LOCAL."""
-        before = self.index
-        with Session(self.deck, self.wanted.workers, self.program.path) as session:
-            local = self._until_local(session, follow=True)
-        self.tell(f"climb: {before} to {self.index}, {'LOCAL' if local else 'BUDGET: not LOCAL'}")
+        """CLIMB until LOCAL; the best deck goes along with each step."""
+        def follow(deck: Deck, index: int) -> None:
+            self.best = (deck, index)
 
-    def _until_local(self, session: Session, follow: bool = False) -> bool:
-        """Climbs until LOCAL; whether that came. With `follow` the best deck goes along with each step."""
+        before = self.index
+        self.best = self._climbed(self.deck, self.index, follow)
+        self.tell(f"climb: {before} to {self.index}, LOCAL")
+
+    def _climbed(self, deck: Deck, index: int, follow: Callable[[Deck, int], None]) -> Tuple[Deck, int]:
+        """The deck climbed on until LOCAL, and its index.
+
+        A budget that doesn't go round the list of moves can't end so: then one that does is taken for the climb, which
+        is told. The deck keeps its own.
+        """
+        plan = self._plan_of(deck)
         while True:
-            climb = session.climb()
-            for step in climb:
-                if follow:
-                    self.best = (after(self.deck, step.edit), step.index)
-                self.progress(f"climb: {step.index}")
-            if climb.local or not climb.steps:
-                if not climb.local:
-                    self.tell("the budget of the STEPS card is shorter than its list of moves, and no move within it "
-                              "lowers the index: a greater budget can go on")
-                return climb.local
+            with Session(replace(deck, climb_plan=plan), self.wanted.workers, self.program.path) as session:
+                taken = True
+                while taken:
+                    climb = session.climb()
+                    for step in climb:
+                        deck, index = after(deck, step.edit), step.index
+                        follow(deck, index)
+                        self.progress(f"climb: {index}")
+                    if climb.local:
+                        return deck, index
+                    taken = bool(climb.steps)
+            self.tell(f"climb: a budget of {plan.budget} doesn't go round the list of {len(moves(deck))} moves, and so "
+                      "it is climbed on with one that does")
+            plan = replace(plan, budget=len(moves(deck)))
+
+    def _plan_of(self, deck: Deck) -> ClimbPlan:
+        """The climb plan of a deck, which it has to have."""
+        if deck.climb_plan is None:
+            raise Fault("the deck has no STEPS card, and so no moves to climb by")
+        return deck.climb_plan
 
     def kicks(self, count: int) -> None:
         """Kicks through one session."""
