@@ -5,10 +5,10 @@ import time
 from dataclasses import dataclass, replace
 from typing import Callable, Iterator, List, Optional, Sequence, Tuple
 
-from .deck import ClimbPlan, Deck
-from .edits import after, moves
+from .deck import Deck
 from .faults import Fault
 from .kicks import Kicker
+from .local import climb_to_local
 from .names import Tell
 from .program import Program
 from .rows import Row, Rows, read_rows
@@ -59,7 +59,8 @@ class Search:
 
     def run(self) -> None:
         """All words in their order."""
-        self._plan_of(self.deck)
+        if self.deck.climb_plan is None:
+            raise Fault("the deck has no STEPS card, and so no moves to climb by")
         if self.wanted.cycles:
             self.cycles(*self.wanted.cycles)
         junctions = len(self.deck.nodes)
@@ -100,9 +101,8 @@ class Search:
         answer = self._asked(["cycles", self.wanted.workers, cycle, cycle, 1], self.given)
         found = [(row, answer.deck) for row in answer.rows]
         if cycle == self.given.frame.cycle:
-            before = self._index_of(self.given)
-            deck, index = self._climbed(self.given, before, lambda _deck, _index: None)
-            found.append((Row(cycle, index, before, local=True), deck))
+            deck, index = climb_to_local(self.given, self.wanted.workers, self.program.path, self._tell_climb)
+            found.append((Row(cycle, index, self._index_of(self.given), local=True), deck))
         return found
 
     def starts(self, count: int) -> None:
@@ -132,39 +132,15 @@ class Search:
         """CLIMB until LOCAL; the best deck goes along with each step."""
         def follow(deck: Deck, index: int) -> None:
             self.best = (deck, index)
+            self.progress(f"climb: {index}")
 
         before = self.index
-        self.best = self._climbed(self.deck, self.index, follow)
+        self.best = climb_to_local(self.deck, self.wanted.workers, self.program.path, self._tell_climb, follow)
         self.tell(f"climb: {before} to {self.index}, LOCAL")
 
-    def _climbed(self, deck: Deck, index: int, follow: Callable[[Deck, int], None]) -> Tuple[Deck, int]:
-        """The deck climbed on until LOCAL, and its index.
-
-        A budget that doesn't go round the list of moves can't end so: then one that does is taken for the climb, which
-        is told. The deck keeps its own.
-        """
-        plan = self._plan_of(deck)
-        while True:
-            with Session(replace(deck, climb_plan=plan), self.wanted.workers, self.program.path) as session:
-                taken = True
-                while taken:
-                    climb = session.climb()
-                    for step in climb:
-                        deck, index = after(deck, step.edit), step.index
-                        follow(deck, index)
-                        self.progress(f"climb: {index}")
-                    if climb.local:
-                        return deck, index
-                    taken = bool(climb.steps)
-            self.tell(f"climb: a budget of {plan.budget} doesn't go round the list of {len(moves(deck))} moves, and so "
-                      "it is climbed on with one that does")
-            plan = replace(plan, budget=len(moves(deck)))
-
-    def _plan_of(self, deck: Deck) -> ClimbPlan:
-        """The climb plan of a deck, which it has to have."""
-        if deck.climb_plan is None:
-            raise Fault("the deck has no STEPS card, and so no moves to climb by")
-        return deck.climb_plan
+    def _tell_climb(self, said: str) -> None:
+        """Tells what a climb says."""
+        self.tell(f"climb: {said}")
 
     def kicks(self, count: int) -> None:
         """Kicks through one session."""

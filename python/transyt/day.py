@@ -16,15 +16,14 @@ from .filing.commands import FiledReport
 from .filing.folder import DECK, REPORT, sum_of
 from .filing.writing import Asked, made_files, write_folder
 from .html import document, figure, table, text
+from .local import climb_to_local
 from .page import seconds_text, times_of
 from .program import Program
 from .rows import read_rows
-from .session import Session
 from .sheets import Sheets, make_deck
 from .sheets.checking import balanced, checked
 from .sheets.hour import read_window
 from .sheets.values import time_text
-from .stress import climb_until_local
 from .text import csv_name, decoded, lines_of
 
 MADE_OF = "* MADE-OF "  # the sum of all that a period's plan was made of
@@ -157,10 +156,8 @@ def turned(day: Day, name: str, deck: Deck, before: Optional[Deck]) -> Deck:
         return deck
     count = deck.frame.step_count
     nodes = tuple(replace(node, offset=(node.offset + turn) % count) for node in deck.nodes)
-    with Session(replace(deck, nodes=nodes), day.wanted.workers, day.program.path) as session:
-        climb_until_local(session)
-        index = session.index()
-        found = session.deck()
+    found, index = climb_to_local(replace(deck, nodes=nodes), day.wanted.workers, day.program.path,
+                                  lambda said: day.tell(f"{name}: {said}"))
     day.tell(f"{name}: turned by {turn} steps toward the period before; INDEX {index}")
     return found
 

@@ -6,6 +6,7 @@ from typing import Callable, List, Optional, Sequence, Tuple
 
 from .deck import Deck
 from .faults import Fault
+from .local import climb_to_local
 from .report import Figures
 from .session import Session
 
@@ -63,21 +64,12 @@ def stressed(deck: Deck, factors: Sequence[Fraction], workers: int, program: Opt
             continue
         with Session(more, workers, program) as session:
             standing = session.figures()
-            climbed = None
-            if deck.climb_plan:
-                climb_until_local(session)
+        climbed = None
+        if deck.climb_plan:
+            with Session(climb_to_local(more, workers, program, tell)[0], workers, program) as session:
                 climbed = session.figures()
         rows.append(Row(factor, standing, climbed))
     return rows
-
-
-def climb_until_local(session: Session) -> None:
-    """Climbs until no listed move lowers the index, or the budget is too short to find one."""
-    while True:
-        climb = session.climb()
-        climb.run()
-        if climb.local or not climb.steps:
-            return
 
 
 def reserve(greatest: int) -> Optional[int]:
