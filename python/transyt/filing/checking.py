@@ -60,7 +60,8 @@ class Check:
         except Fault as fault:
             self.note(False, "", f"{DECK} can't be read: {fault}")
             return self.findings
-        self.check_commands(text, deck)
+        if not self.check_commands(text, deck):
+            return self.findings
         self.check_sheets(filed, deck)
         self.check_maker(filed)
         report = self.check_report(deck)
@@ -87,14 +88,15 @@ class Check:
         return self.note(told == wanted, f"{SUMS} has the sums of all files",
                          f"{SUMS} hasn't the sum of {', '.join(differ)}" if differ else f"{SUMS} has lines of its own")
 
-    def check_commands(self, text: str, deck: Deck) -> None:
+    def check_commands(self, text: str, deck: Deck) -> bool:
         """After END stand exactly the commands of a filing, and no edit."""
         after = lines_of(text[len(cards_of(text)):])
         wanted = commands_of(deck)
         odd = next((line for line, right in zip(after, [*wanted, *[""] * len(after)]) if line != right), None)
         sentence = f"after END stands {odd}, where a filed plan has another command" if odd is not None else \
             f"after END stand {len(after)} commands, and a filed plan has {len(wanted)}"
-        self.note(has_end(text) and after == wanted, "after END stand the commands of a filed plan, and no edit", sentence)
+        return self.note(has_end(text) and after == wanted, "after END stand the commands of a filed plan, and no edit",
+                         sentence)
 
     def check_maker(self, filed: Filed) -> None:
         """The program is the one that was filed, or another one that is told."""

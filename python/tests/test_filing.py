@@ -1,0 +1,213 @@
+"""A filed plan: what `check` finds, with the sums made anew each time."""
+
+import os
+import re
+import shutil
+import tempfile
+import unittest
+from typing import Callable, Dict, List, Optional
+
+import support
+from sheet_tables import two_junctions, write_tables
+from support import PROGRAM, needs_program
+from transyt.deck import cards_of, read_deck
+from transyt.faults import Fault
+from transyt.filing.checking import Check, Finding
+from transyt.filing.folder import SUMS, read_filed, sum_of, sums_text
+from transyt.filing.writing import Asked, made_files, write_folder
+from transyt.program import Program
+from transyt.session import Session
+from transyt.sheets import All, make_deck, read_sheets
+
+Files = Dict[str, bytes]
+Change = Callable[[Files], None]
+
+
+def put(name: str, old: str, new: str) -> Change:
+    """The first text of a file in the place of another."""
+    def change(files: Files) -> None:
+        text = files[name].decode("utf-8")
+        assert old in text, (name, old)
+        files[name] = text.replace(old, new, 1).encode("utf-8")
+
+    return change
+
+
+def swap_figures(files: Files) -> None:
+    """Two figures of the page exchanged, raw values and all."""
+    text = files["plan.html"].decode("utf-8")
+    one, other = re.findall(r'<data value="([0-9]+)" class="FIGURES LINK [0-9]+ DELAY">([^<]*)</data>', text)[:2]
+    first, second = (f'<data value="{raw}" class="FIGURES LINK {link} DELAY">{shown}</data>'
+                     for (raw, shown), link in ((one, 11), (other, 12)))
+    changed = text.replace(first, "\0").replace(second, f'<data value="{one[0]}" class="FIGURES LINK 12 DELAY">{one[1]}</data>')
+    files["plan.html"] = changed.replace("\0", f'<data value="{other[0]}" class="FIGURES LINK 11 DELAY">{other[1]}</data>'
+                                         ).encode("utf-8")
+    assert files["plan.html"] != text.encode("utf-8")
+
+
+@needs_program
+class Filing(unittest.TestCase):
+    """The town of the sheets' tests, climbed until LOCAL and filed."""
+
+    files: Files
+
+    @classmethod
+    def setUpClass(cls) -> None:
+        cls.folder = tempfile.mkdtemp()
+        cls.addClassCleanup(shutil.rmtree, cls.folder)
+        cls.sheets = write_tables(os.path.join(cls.folder, "sheets"), two_junctions())
+        cls.program = Program(PROGRAM)
+        with Session(make_deck(read_sheets(cls.sheets), All()).deck, 1, PROGRAM) as town:
+            cls.unclimbed = town.deck()
+            town.climb().run()
+            cls.deck = town.deck()
+        cls.files = made_files(cls.deck, cls.program, Asked("Two", "A. Engineer", "2026-04-02", cls.sheets))
+
+    def checked(self, files: Files, sums: bool = True, **how: bool) -> List[Finding]:
+        """The findings of a folder with these files, with its sums made anew."""
+        path = os.path.join(tempfile.mkdtemp(dir=self.folder), "filed")
+        if sums:
+            rest = {name: data for name, data in files.items() if name != SUMS}
+            files = {**rest, SUMS: sums_text(rest).encode("ascii", "replace")}
+        write_folder(path, files)
+        return Check(path, self.program, **how).run()
+
+    def failing(self, files: Files, sums: bool = True) -> str:
+        """What doesn't hold, in sentences."""
+        return "; ".join(finding.sentence for finding in self.checked(files, sums) if not finding.holds)
+
+    def test_it_holds(self) -> None:
+        """As it was filed."""
+        self.assertEqual(self.failing(self.files), "")
+
+    def test_each_change_is_found(self) -> None:
+        """A sentence that names the file; sums made anew each time."""
+        line = next(line for line in self.files["plan.report"].decode().split("\n") if line.startswith("MOVE 3 "))
+        at = re.search(r"AT ([0-9]+)", self.files["plan.report"].decode())
+        assert at is not None
+        edit = "OFFSET 2 5\nTIMING\n"
+        with Session(self.deck, 1, PROGRAM) as town:
+            town.offset(2, 5)
+            moved = town.deck()
+        fitting = made_files(moved, self.program, Asked("Two", "A. Engineer", "2026-04-02", self.sheets, True))
+        slipped: Files = {**fitting, "plan.deck": self.files["plan.deck"].replace(b"END\nTIMING\n", b"END\n" + edit.encode()),
+                          "certificate": self.files["certificate"]}
+        slipped["plan.report"] = self.program.ask(["run"], slipped["plan.deck"].decode()).text.encode()
+        changes: List[tuple] = [
+            ("a byte of plan.deck", put("plan.deck", "LINK 11 1 442", "LINK 11 1 443"), "sheets give another deck: LINK 11"),
+            ("the title", put("plan.deck", "* TITLE Two", "* TITLE Too"), "plan.html"),
+            ("a byte of plan.report", put("plan.report", "TOTAL DELAY", "TOTAL  DELAY"), "plan.report, line"),
+            ("an AT", put("plan.report", at[0], f"AT {int(at[1]) + 1}"), "plan.report, line"),
+            ("a MOVE", put("plan.report", line, line[:-1] + str((int(line[-1]) + 1) % 10) if line[-1].isdigit() else
+                           line.replace("BARRED", "INDEX 7")), "plan.report, line"),
+            ("a byte of certificate", put("certificate", "CYCLE 80", "CYCLE 82"), "certificate, line"),
+            ("audit's answer", put("certificate", "* AUDIT YES", "* AUDIT yes"), "certificate, line 1"),
+            ("a time of the controllers", put("controller.csv", "1,First,1,road,", "1,First,1,main,"), "controller.csv, line 2"),
+            ("a byte of the page", put("plan.html", "Certificate", "certificate"), "plan.html"),
+            ("two figures", swap_figures, "plan.html: FIGURES LINK"),
+            ("a count", put("sheets/counts.csv", "07:45,15,100", "07:45,15,101"), "the sheets aren't those"),
+            ("a count with its sum", recount, "the sheets give another deck"),
+            ("an edit after END", lambda files: files.update(slipped), "after END stands OFFSET 2 5"),
+            ("a file more", lambda files: files.update({"notes": b"x"}), "notes is no file"),
+            ("a sheet more", lambda files: files.update({"sheets/ways2.csv": b"x"}), "ways2.csv"),
+            ("a file less", lambda files: files.pop("controller.csv") and None, "controller.csv isn't there"),
+            ("a sheet less", lambda files: files.pop("sheets/gives.csv") and None, "gives.csv"),
+        ]
+        for what, change, sentence in changes:
+            with self.subTest(what):
+                files = dict(self.files)
+                change(files)
+                self.assertIn(sentence, self.failing(files))
+
+    def test_a_sum(self) -> None:
+        """Without the sums made anew the file itself is named."""
+        files = dict(self.files)
+        put("controller.csv", "First", "Furst")(files)
+        self.assertIn("SHA256SUMS hasn't the sum of controller.csv", self.failing(files, sums=False))
+
+    def test_a_link_in_a_files_place(self) -> None:
+        """No link is followed."""
+        path = os.path.join(tempfile.mkdtemp(dir=self.folder), "filed")
+        write_folder(path, self.files)
+        os.rename(os.path.join(path, "plan.report"), os.path.join(self.folder, "elsewhere"))
+        os.symlink(os.path.join(self.folder, "elsewhere"), os.path.join(path, "plan.report"))
+        findings = Check(path, self.program).run()
+        self.assertEqual([finding.holds for finding in findings], [False])
+        self.assertIn("plan.report is no plain file", findings[0].sentence)
+
+    def test_another_program(self) -> None:
+        """It is told with both versions, and fails where that is asked for."""
+        files = dict(self.files)
+        put("plan.deck", "* PROGRAM-SUM ", "* PROGRAM-SUM 0")(files)
+        told = [finding for finding in self.checked(files) if "the program is another one" in finding.sentence]
+        self.assertEqual([finding.holds for finding in told], [True])
+        told = [finding for finding in self.checked(files, same_program=True) if "another one" in finding.sentence]
+        self.assertEqual([finding.holds for finding in told], [False])
+
+    def test_another_version_of_the_package(self) -> None:
+        """Text and pictures aren't compared then, but each figure is."""
+        files = dict(self.files)
+        put("plan.deck", "* PLAN plan ", "* PLAN plan 0.")(files)
+        put("plan.html", "<h2>Road</h2>", "<h2>The road</h2>")(files) if b"<h2>Road</h2>" in files["plan.html"] else None
+        told = [finding for finding in self.checked(files) if "plan.html" in finding.sentence]
+        self.assertEqual([finding.holds for finding in told], [True])
+        swap_figures(files)
+        told = [finding for finding in self.checked(files) if "plan.html" in finding.sentence]
+        self.assertEqual([finding.holds for finding in told], [False])
+
+    def test_an_unfinished_plan(self) -> None:
+        """Refused; filed with --unfinished, which its deck and page say, and checked as such."""
+        asked = Asked("Two", "A. Engineer", "2026-04-02", self.sheets)
+        with self.assertRaises(Fault) as caught:
+            made_files(self.unclimbed, self.program, asked)
+        self.assertIn("AUDIT NO", str(caught.exception))
+        files = made_files(self.unclimbed, self.program, Asked("Two", "A. Engineer", "2026-04-02", self.sheets, True))
+        self.assertFalse(read_filed(files["plan.deck"].decode()).finished)
+        self.assertIn(b"UNFINISHED", files["plan.html"])
+        self.assertEqual(self.failing(files), "")
+        put("plan.deck", "* STATUS UNFINISHED: a listed move lowers the index", "* STATUS finished")(files)
+        self.assertIn("the plan is filed as finished", self.failing(files))
+
+    def test_by_the_witness(self) -> None:
+        """--again needs no program, and says the same."""
+        path = os.path.join(tempfile.mkdtemp(dir=self.folder), "filed")
+        write_folder(path, self.files)
+        self.assertEqual([finding.sentence for finding in Check(path, None, again=True).run() if not finding.holds], [])
+
+    def test_what_cant_be_filed(self) -> None:
+        """No title, a date that is none, a direction mark, a deck without STEPS, a folder that isn't empty."""
+        for title, by, date in (("", "A", "2026-04-02"), ("T", "A\u202e", "2026-04-02"), ("T", "A", "2.4.2026"),
+                                ("T\n* BY B", "A", "2026-04-02")):
+            with self.assertRaises(Fault):
+                made_files(self.deck, self.program, Asked(title, by, date))
+        bare = read_deck(str(self.deck).replace(next(line for line in str(self.deck).split("\n")
+                                                     if line.startswith("STEPS")) + "\n", ""))
+        with self.assertRaises(Fault):
+            made_files(bare, self.program, Asked("T", "A", "2026-04-02", None, True))
+        with self.assertRaises(Fault):
+            write_folder(self.folder, self.files)
+
+    def test_a_deck_of_odd_names(self) -> None:
+        """Markup, quotes, right-to-left text and 4,000 letters are shown as text, and the plan holds."""
+        odd = support.THREE.replace("Mill Road, morning", "<script>alert('x')</script> & \"Mill\" \u05d3\u05e8\u05da")
+        odd = odd.replace("* Three junctions in a road.", "* <b>" + "x" * 3_990)
+        with Session(odd, 1, PROGRAM) as town:
+            town.climb().run()
+            files = made_files(town.deck(), self.program, Asked("<i>T</i>", "A & B", "2026-04-02"))
+        page = files["plan.html"].decode("utf-8")
+        self.assertNotIn("<script>alert", page)
+        self.assertNotIn("<i>T", page)
+        self.assertIn("&lt;i&gt;T&lt;/i&gt;", page)
+        self.assertEqual(self.failing(files), "")
+        self.assertIn("x" * 3_990, cards_of(files["plan.deck"].decode("utf-8")))
+
+
+def recount(files: Files) -> None:
+    """Another count, with its sum in plan.deck."""
+    old = sum_of(files["sheets/counts.csv"])
+    put("sheets/counts.csv", "07:45,15,100", "07:45,15,140")(files)
+    put("plan.deck", old, sum_of(files["sheets/counts.csv"]))(files)
+
+
+if __name__ == "__main__":
+    unittest.main()
