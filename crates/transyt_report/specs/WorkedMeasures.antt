@@ -50,19 +50,9 @@ abbrev pub sent_of_three : List (ℕ × ℕ)
 sent_of_three =
     (5, 311) ∷ (2, 77) ∷ (9, 402) ∷ (4, 88) ∷ (8, 173) ∷ (3, 279) ∷ (6, 41) ∷ (11, 0) ∷ []
 
--- one link whose queue is greatest at step 0
+-- one link whose queue is greatest at step 0: 3,600,000, and then 1,200,000
 abbrev pub longest_at_first : Network
 longest_at_first = one_node 0 5 1 (new_link 1 1 360 1800 1 1 0 0 (1 ∷ []) ∷ [])
-
--- FIGURES of it
-abbrev pub report_of_first : List ℕ
-report_of_first =
-    ended
-    (
-    codes "LINK 1 FLOW 360 SENT 0 SATURATION 500 DELAY 187 STOPPED 700 QUEUE 3600000"
-    ∷ codes "TOTAL DELAY 1878618 STOPS 70000 INDEX 1948618 WORST 1"
-    ∷ []
-    )
 
 -- FIGURES of the three junctions
 abbrev pub report_of_three : List ℕ

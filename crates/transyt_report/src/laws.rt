@@ -4,12 +4,12 @@ ghost use Rattle.transyt_net.specs.declared.edit.Edit.{Edit};
 ghost use Rattle.transyt_stage.specs.ThreeJunctions.{three_junctions};
 ghost use Rattle.transyt_report.specs.declared.showing.Report.{Report};
 ghost use Rattle.transyt_report.specs.Chart.{chart_line};
-ghost use Rattle.transyt_report.specs.Measures.{degree_of_saturation, mean_delay, part_stopped, worst_of, flow_sent};
+ghost use Rattle.transyt_report.specs.Measures.{degree_of_saturation, mean_delay, part_stopped, worst_of, flow_sent, link_figures};
 ghost use Rattle.transyt_report.specs.Texts.{index_line, figures_line, node_text, timing_end, work_line, report_text};
 ghost use Rattle.transyt_report.specs.Texts.{IsOfPlace, took_text, end_text};
 ghost use Rattle.transyt_report.specs.WorkedCharts.{six_steps, six_marks, chart_of_three};
 ghost use Rattle.transyt_report.specs.WorkedMeasures.{worked_degrees, worked_delays, worked_stops, worked_worst, sent_of_three};
-ghost use Rattle.transyt_report.specs.WorkedMeasures.{longest_at_first, report_of_first, report_of_three};
+ghost use Rattle.transyt_report.specs.WorkedMeasures.{longest_at_first, report_of_three};
 ghost use Rattle.transyt_report.specs.WorkedTexts.{some_figures, figures_text, node_of_two, lines_of_two, node_of_three};
 ghost use Rattle.transyt_report.specs.WorkedTexts.{lines_of_three, two_nodes, links_of_three, profile_of_fourth};
 ghost use Rattle.transyt_report.specs.WorkedTexts.{queue_of_fourth};
@@ -59,7 +59,7 @@ pub fn worked_measures()
     ensures worst { map (λ row. worst_of row.0) worked_worst ≡ map (λ row. row.1) worked_worst }
     ensures sent { map (λ row. flow_sent three_junctions.links row.0) sent_of_three
         ≡ map (λ row. row.1) sent_of_three }
-    ensures first { report_text longest_at_first 1378 Report.Figures ≡ report_of_first }
+    ensures longest { (link_figures longest_at_first 0).queue ≡ 3600000 }
     ensures report { report_text three_junctions 1378 Report.Figures ≡ report_of_three }
 {}
 

@@ -38,9 +38,9 @@ pub returns-clause-sent : goal.returns-clause-sent
 returns-clause-sent c = refl
 
 -- a link whose queue is greatest at step 0
-pub returns-clause-first : goal.returns-clause-first
-unfolding link_figures_line total_line form_line filled digits sum_back greatest smoothed seen out_of evaluated
-returns-clause-first c = refl
+pub returns-clause-longest : goal.returns-clause-longest
+unfolding sum_back greatest smoothed seen out_of evaluated
+returns-clause-longest c = refl
 
 -- a link by its number, total flow, flow sent on, arrivals, GO, greatest queue and figures
 abbrev link_by : ℕ → ℕ → ℕ → ℕ → ℕ → ℕ → Figures → LinkFigures
