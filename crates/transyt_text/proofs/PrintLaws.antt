@@ -4,22 +4,13 @@ use Rattle.std.proofs.Common.{ap, subst, arith, inl, inr}
 use Rattle.std.proofs.lemmas.List.{append-nil}
 use Rattle.std.specs.Result.{IsErr}
 use Rattle.transyt_io.specs.Streams.{Adds, AddsFront, Rose}
-use Rattle.transyt_io.proofs.Told.{adds_nothing, adds_both, adds_further, front_longer}
+use Rattle.transyt_io.proofs.Told.{adds_both, adds_further, front_longer}
 use Rattle.transyt_text.specs.Prints.{Prints}
 
 -- a count that rose from a later value rose from an earlier one
 rose_from : (a b c : ℕ) → a ≤ b → Rose b c → Rose a c
 rose_from a b c later (inl above) = inl (omega arith)
 rose_from a b c later (inr last) = inr last
-
--- nothing is written
-pub prints_nothing : {T E : Type 0} (v : T) (told : Option (List ℕ)) (quiet : ℕ)
-    → Prints {T = T} {E = E} told told quiet quiet (Ok v) []
-prints_nothing v told quiet = record {
-  ok = adds_nothing told;
-  err = tt;
-  cause = record { later = omega arith; failed = tt };
-}
 
 -- one text is written, and then another as far as it goes
 pub prints_both : {T E : Type 0} {v : T} {a b c : Option (List ℕ)} {f g h : ℕ} (r : Result T E) (xs ys : List ℕ)
