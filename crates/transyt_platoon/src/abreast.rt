@@ -6,7 +6,7 @@ ghost use Rattle.transyt_platoon.specs.Passing.{AreReady, AreTotals, HavePassed,
 
 use crate::passing::Passing;
 use crate::platoon::Platoon;
-use transyt_profile::{Scale, share_ready};
+use transyt_profile::{Lane, share_ready};
 
 /// Up to four platoons side by side, the products of each ready in a lane of its own, with their sums.
 #[derive(Clone, Copy)]
@@ -49,11 +49,12 @@ pub(crate) fn fill_lanes(
 {
     for lane in 0..platoons.len() {
         let platoon = platoons[lane];
-        let scale = Scale {
+        let its_lane = Lane {
+            number: lane,
             factor: platoon.travel.starting_factor,
             limit: platoon.travel.limit,
         };
-        match share_ready(platoon.leaving, platoon.part, scale, lane, lanes) {
+        match share_ready(platoon.leaving, platoon.part, its_lane, lanes) {
             Some(total) => totals[lane] = total,
             None => return false,
         }

@@ -20,6 +20,6 @@ pub use adding::{add_into, add_to_first, fold_into};
 pub use comparing::same;
 pub use filling::{fill_uniform, start_turns};
 pub use laws::worked_profiles;
-pub use readying::{Scale, share_ready};
+pub use readying::{Lane, share_ready};
 pub use sharing::{Part, part_of, share_into, share_part};
 pub use totals::total;

@@ -6,49 +6,46 @@ ghost use Rattle.transyt_profile.specs.Profile.{IsPart, IsQuick, share_of, share
 
 use crate::sharing::{Part, product, share_step};
 
-/// The factor of each share, and the limit below which all shares have to be.
+/// One of four lanes in which shares are made ready: the factor of each share in it, and the limit below which all
+/// shares have to be.
 #[derive(Clone, Copy)]
-pub struct Scale {
+pub struct Lane {
+    /// Which of the four it is, from 0.
+    pub number: usize,
     /// The factor of each share.
     pub factor: u64,
     /// Shares are below this.
     pub limit: u64,
+    ghost within: { number < 4 },
     ghost factor_fits: { factor ≤ 2 ^ 41 },
     ghost limit_fits: { limit ≤ 2 ^ 22 },
 }
 
-/// Writes the part of a profile that goes on, each share times the factor of `scale`, beside three others, and returns
+/// Writes the part of a profile that goes on, each share times the factor of its lane, beside three others, and returns
 /// the sum of its shares, where all of them are below its limit; none where one is not.
 ///
-/// `x` has one value for each step of the cycle and `lanes` four: each product is written at place `lane` of the four
+/// `x` has one value for each step of the cycle and `lanes` four: each product is written at the lane's place of the four
 /// of its step. What stood there is overwritten, and the other lanes stay. It takes least time where all bits of the
 /// shares together are below the limit.
-pub fn share_ready(
-    x: &[u64],
-    part: &Part,
-    scale: Scale,
-    lane: usize,
-    lanes: &mut [u64],
-) -> Option<u64>
+pub fn share_ready(x: &[u64], part: &Part, lane: Lane, lanes: &mut [u64]) -> Option<u64>
     requires most { length x.now ≤ 120 }
-    requires lane { lane < 4 }
     requires lanes_len { length lanes.old ≡ 4 * length x.now }
     requires fit { All (λ v. v < 2 ^ 30) x.now }
     requires is { IsPart part.now }
     ensures below { IfSome result (λ _.
-        All (λ v. v < scale.limit) (shared part.now.part part.now.whole x.now)) }
+        All (λ v. v < lane.limit) (shared part.now.part part.now.whole x.now)) }
     ensures ready { IfSome result (λ _. (k : ℕ) → k < length x.now
-        → slice_index lanes.new (4 * k + lane)
-        ≡ share_of part.now.part part.now.whole (slice_index x.now k) * scale.factor) }
+        → slice_index lanes.new (4 * k + lane.number)
+        ≡ share_of part.now.part part.now.whole (slice_index x.now k) * lane.factor) }
     ensures total { IfSome result
         (λ total. total ≡ sum (shared part.now.part part.now.whole x.now)) }
     ensures none { IfNone result (0 < length x.now
-        → Any (λ v. scale.limit ≤ v) (shared part.now.part part.now.whole x.now)) }
-    ensures others { (k : ℕ) → (m : ℕ) → m < 4 → (m ≡ lane → ⊥)
+        → Any (λ v. lane.limit ≤ v) (shared part.now.part part.now.whole x.now)) }
+    ensures others { (k : ℕ) → (m : ℕ) → m < 4 → (m ≡ lane.number → ⊥)
         → slice_index lanes.new (4 * k + m) ≡ slice_index lanes.old (4 * k + m) }
 {
     if part.quick {
-        let total = share_below(x, part, scale, lane, lanes);
+        let total = share_below(x, part, lane, lanes);
         if total.is_some() {
             return total;
         }
@@ -58,11 +55,11 @@ pub fn share_ready(
     let mut greatest: u64 = 0;
     for i in 0..x.len() {
         let share = share_step(x[i], part);
-        lanes[4 * i + lane] = times(share, scale.factor);
+        lanes[4 * i + lane.number] = times(share, lane.factor);
         total += share;
         greatest = greatest.max(share);
     }
-    if greatest < scale.limit {
+    if greatest < lane.limit {
         Some(total)
     } else {
         None
@@ -72,23 +69,22 @@ pub fn share_ready(
 /// `share_ready` with one product and no division a step, where all bits of the shares together are below
 /// the limit: then each share is. None where they are not. Nothing is tested at a step, so that no step waits for the one
 /// before.
-fn share_below(x: &[u64], part: &Part, scale: Scale, lane: usize, lanes: &mut [u64]) -> Option<u64>
+fn share_below(x: &[u64], part: &Part, lane: Lane, lanes: &mut [u64]) -> Option<u64>
     requires most { length x.now ≤ 120 }
-    requires lane { lane < 4 }
     requires lanes_len { length lanes.old ≡ 4 * length x.now }
     requires fit { All (λ v. v < 2 ^ 30) x.now }
     requires quick { IsQuick part.now }
     ensures below { IfSome result (λ _.
-        All (λ v. v < scale.limit) (shared part.now.part part.now.whole x.now)) }
+        All (λ v. v < lane.limit) (shared part.now.part part.now.whole x.now)) }
     ensures ready { IfSome result (λ _. (k : ℕ) → k < length x.now
-        → slice_index lanes.new (4 * k + lane)
-        ≡ share_of part.now.part part.now.whole (slice_index x.now k) * scale.factor) }
+        → slice_index lanes.new (4 * k + lane.number)
+        ≡ share_of part.now.part part.now.whole (slice_index x.now k) * lane.factor) }
     ensures total { IfSome result
         (λ total. total ≡ sum (shared part.now.part part.now.whole x.now)) }
     ensures none { IfNone result
-        (scale.limit ≤ fold (λ bits v. bit_or bits (share_of part.now.part part.now.whole v)) 0
+        (lane.limit ≤ fold (λ bits v. bit_or bits (share_of part.now.part part.now.whole v)) 0
         x.now) }
-    ensures others { (k : ℕ) → (m : ℕ) → m < 4 → (m ≡ lane → ⊥)
+    ensures others { (k : ℕ) → (m : ℕ) → m < 4 → (m ≡ lane.number → ⊥)
         → slice_index lanes.new (4 * k + m) ≡ slice_index lanes.old (4 * k + m) }
 {
     let part = *part;
@@ -96,15 +92,11 @@ fn share_below(x: &[u64], part: &Part, scale: Scale, lane: usize, lanes: &mut [u
     let mut bits: u64 = 0;
     for i in 0..x.len() {
         let share = product(x[i], &part);
-        lanes[4 * i + lane] = times(share, scale.factor);
+        lanes[4 * i + lane.number] = times(share, lane.factor);
         total += share;
         bits |= share;
     }
-    if bits < scale.limit {
-        Some(total)
-    } else {
-        None
-    }
+    if bits < lane.limit { Some(total) } else { None }
 }
 
 /// A product, where the value is below 2^22.

@@ -19,23 +19,23 @@ loop-i-preserved c =
       bits =
           ap (λ b. bit_or b c.product-share.result) c.loop-i.invariant.bits ∙ ap (bit_or _) is
           ∙ sym (fold_more (λ bits v. bit_or bits (share v)) 0 c.args.x.now c.loop-i.i 0 (omega arith));
-      ready = lane_more _ _ _ _ _ _ (omega (arith, c.requires.lanes_len, c.requires.lane)) c.loop-i.invariant.ready
-          (λ small. c.times.ensures (omega (arith, small, is)) ∙ ap (λ v. v * c.args.scale.factor) is);
-      others = others_more _ _ _ _ _ c.requires.lane c.loop-i.invariant.others;
+      ready = lane_more _ _ _ _ _ _ (omega (arith, c.requires.lanes_len, c.args.lane.within)) c.loop-i.invariant.ready
+          (λ small. c.times.ensures (omega (arith, small, is)) ∙ ap (λ v. v * c.args.lane.factor) is);
+      others = others_more _ _ _ _ _ c.args.lane.within c.loop-i.invariant.others;
       so_far = omega (arith, is, c.loop-i.invariant.so_far, sum_by_more share c.args.x.now c.loop-i.i 0 (omega arith));
       total = omega (arith, c.loop-i.invariant.total, c.product-share.ensures.small);
     }
 
 -- each share is below the limit
-pub returns-then-bits-scale-clause-below : goal.returns-then-bits-scale-clause-below
-returns-then-bits-scale-clause-below c =
+pub returns-then-bits-lane-clause-below : goal.returns-then-bits-lane-clause-below
+returns-then-bits-lane-clause-below c =
     all_shared _ _ _ _ (λ k below. omega (arith, c.loop-i.invariant.most k (omega arith)))
 
 -- the sum over all steps
-pub returns-then-bits-scale-clause-total : goal.returns-then-bits-scale-clause-total
-returns-then-bits-scale-clause-total c = c.loop-i.invariant.so_far ∙ sum_shared _ _ c.loop-i.i c.args.x.now (omega arith)
+pub returns-then-bits-lane-clause-total : goal.returns-then-bits-lane-clause-total
+returns-then-bits-lane-clause-total c = c.loop-i.invariant.so_far ∙ sum_shared _ _ c.loop-i.i c.args.x.now (omega arith)
 
 -- all bits together are those of all shares
-pub returns-else-bits-scale-clause-none : goal.returns-else-bits-scale-clause-none
-returns-else-bits-scale-clause-none c =
+pub returns-else-bits-lane-clause-none : goal.returns-else-bits-lane-clause-none
+returns-else-bits-lane-clause-none c =
     omega (arith, c.loop-i.invariant.bits ∙ ap (fold _ 0) (take_all c.loop-i.i c.args.x.now (omega arith)))
