@@ -318,6 +318,15 @@ class Decks(unittest.TestCase):
             with Session(deck, 1, PROGRAM) as town:
                 self.assertEqual(town.deck(), read_deck(support.THREE))
 
+    def test_comment_in_other_bytes(self):
+        # each of these bytes is shown as three, and the line is still one that the program takes
+        data = b"* " + b"\xe4" * 4000 + b"\n" + support.THREE.encode()
+        for deck in (data, data.decode("utf-8", "surrogateescape")):
+            with Session(deck, 1, PROGRAM) as town:
+                self.assertEqual(town.deck().names.town, "Mill Road, morning")
+                with Session(town.deck(), 1, PROGRAM) as again:
+                    self.assertEqual(again.index(), town.index())
+
     def test_deck_that_is_too_long(self):
         with self.assertRaisesRegex(Fault, "4,194,304"):
             Session("* x\n" * 1_100_000 + support.THREE, 1, PROGRAM)

@@ -5,7 +5,7 @@ from typing import List, Optional, Sequence, Type, TypeVar, Union
 
 from .child import Child
 from .climbing import Climb
-from .deck import Deck, cards_of, has_end, read_deck
+from .deck import Deck, card_bytes, has_end, read_deck
 from .edits import COUNTS, Edit
 from .faults import Ended, Fault, Refused, meaning
 from .names import Tell, ignore
@@ -33,11 +33,11 @@ class Asker:
         self._full = full
         self._child: Optional[Child] = None
         self._trial: Optional[List[str]] = None  # the edits of an open trial
-        self._base = cards_of(str(deck) if isinstance(deck, Deck) else decoded(deck))
+        self._base = card_bytes(deck)
         self._steps: List[Step] = []  # those of a climb that was left, over the base
         self._work_before = self._work_left = self._sent = self._line_count = 0
         self.is_closed = self._is_climbing = False
-        if len(self._base.encode("utf-8")) > MOST_BYTES:
+        if len(self._base) > MOST_BYTES:
             raise Fault(f"the deck is longer than the {MOST_BYTES:,} bytes that the program takes")
         try:
             self._start()
@@ -102,7 +102,7 @@ class Asker:
         self._check_free()
         if self._trial is not None:
             self._exchange("CLIMB")  # which is refused
-        base, work = _text(self.ask("DECK")), self.work()
+        base, work = _bytes(self.ask("DECK")), self.work()
         self._renew_if_full(len("CLIMB\n"))
         self._base, self._steps, self._work_left = base, [], work
         try:
@@ -132,14 +132,14 @@ class Asker:
     def _start(self) -> None:
         """Starts a child with the base."""
         self._child = Child(self._command)
-        data = self._base.encode("utf-8")
-        self._sent, self._line_count = len(data), len(lines_of(self._base))
-        self._child.send(data)
-        if not has_end(self._base):
+        lines = lines_of(decoded(self._base))
+        self._sent, self._line_count = len(self._base), len(lines)
+        self._child.send(self._base)
+        if not has_end(decoded(self._base)):
             self._child.close_input()
         words = self._child.line().split(" ")
         if words[0] == "CARD":
-            place, lines = int(words[1]), lines_of(self._base)
+            place = int(words[1])
             card = lines[place - 1] if place <= len(lines) else "the deck"
             raise self._refused(int(words[3]), escaped(card[:80]), place)
 
@@ -216,7 +216,7 @@ class Asker:
         self._work_before += read_index(self._exchange("WORK"))
         if edits is not None:
             self._exchange("BACK")
-        self._base, self._steps = _text(self._exchange("DECK")), []
+        self._base, self._steps = _bytes(self._exchange("DECK")), []
         child.end()
         self._start()
         if edits is not None:
@@ -249,6 +249,6 @@ class Asker:
             self._steps, self._work_before = list(steps), self._work_left
 
 
-def _text(lines: List[str]) -> str:
+def _bytes(lines: List[str]) -> bytes:
     """Lines with their ends."""
-    return "".join(line + "\n" for line in lines)
+    return "".join(line + "\n" for line in lines).encode("ascii")

@@ -11,7 +11,7 @@ from typing import Dict, List, Mapping, Optional, Sequence, Tuple, Union
 
 from .faults import Fault
 from .names import Names, Parts, Tell, ignore, read_names
-from .text import LONGEST_LINE, decoded, lines_of, number_of, words_of
+from .text import LONGEST_LINE, bytes_of, decoded, lines_of, number_of, words_of
 
 CARDS = {"FORM": (1, 1), "CYCLE": (5, 6), "NODE": (2, 2), "STAGE": (3, 3), "LINK": (7, 16), "FEED": (4, 4),
          "YIELD": (3, 3), "STEPS": (2, 17), "END": (0, 0)}
@@ -235,6 +235,12 @@ def _fitting(comment: str) -> str:
 def has_end(text: str) -> bool:
     """Whether a deck's text has an END card."""
     return any(words_of(line)[:1] == ["END"] for line in lines_of(text) if not line.startswith("*"))
+
+
+def card_bytes(source: Union[str, bytes, Deck]) -> bytes:
+    """The bytes of a deck up to its END card, as they are given."""
+    data = source if isinstance(source, bytes) else bytes_of(str(source))
+    return cards_of(data.decode("latin-1")).encode("latin-1")
 
 
 def cards_of(text: str) -> str:

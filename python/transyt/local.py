@@ -33,6 +33,6 @@ def climb_to_local(deck: Deck, workers: int = 1, program: Optional[str] = None, 
                 if climb.end and climb.end.local:
                     return deck, climb.end.index
                 taken = bool(climb.steps)
-        tell(f"a budget of {plan.budget} doesn't go round the list of {len(moves(deck))} moves: it is climbed on with one "
-             "that does")
+        tell(f"a budget of {plan.budget} doesn't go round the list of {len(moves(deck))} moves: it is climbed on with "
+             "one that does")
         plan = replace(plan, budget=len(moves(deck)))

@@ -5,10 +5,10 @@ import os
 import sys
 from typing import Optional
 
-from .deck import Deck, cards_of
+from .deck import Deck
 from .faults import Fault, in_file
 from .session import Session
-from .text import decoded, escaped
+from .text import escaped
 
 
 def tell(sentence: str) -> None:
@@ -39,22 +39,22 @@ def write(text: str) -> None:
         data = data[os.write(sys.stdout.fileno(), data):]
 
 
-def read_file(path: str) -> str:
-    """The text of a file, `-` for standard input; bytes that aren't UTF-8 become U+FFFD."""
+def read_file(path: str) -> bytes:
+    """The bytes of a file, `-` for standard input."""
     try:
         if path == "-":
-            return decoded(sys.stdin.buffer.read())
+            return sys.stdin.buffer.read()
         with open(path, "rb") as file:
-            return decoded(file.read())
+            return file.read()
     except OSError as error:
         raise Fault(f"{path} can't be read: {error.strerror}") from error
 
 
 def open_session(path: str, args: argparse.Namespace, workers: Optional[int] = None) -> Session:
     """A session of the deck in a file; a fault of it has the file's name, and name lines that are left are told."""
-    text = cards_of(read_file(path))
+    data = read_file(path)
     try:
-        return Session(text, workers or getattr(args, "workers", 1), args.program, lambda said: tell(f"{path}, {said}"))
+        return Session(data, workers or getattr(args, "workers", 1), args.program, lambda said: tell(f"{path}, {said}"))
     except Fault as fault:
         raise in_file(path, fault) from fault
 

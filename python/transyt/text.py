@@ -16,9 +16,15 @@ NUMBER = re.compile("[0-9]{1,9}")
 
 def decoded(source: Union[str, bytes]) -> str:
     """A text out of bytes in UTF-8; bytes that aren't become U+FFFD."""
-    if isinstance(source, bytes):
-        return source.decode("utf-8", "replace")
-    return source.encode("utf-8", "surrogateescape").decode("utf-8", "replace")
+    return (source if isinstance(source, bytes) else bytes_of(source)).decode("utf-8", "replace")
+
+
+def bytes_of(text: str) -> bytes:
+    """The bytes of a text in UTF-8; those that weren't where it was read with `surrogateescape` are as they were."""
+    try:
+        return text.encode("utf-8", "surrogateescape")
+    except UnicodeEncodeError:
+        return text.encode("utf-8", "replace")
 
 
 def lines_of(text: str) -> List[str]:
