@@ -93,6 +93,14 @@ pub grown_small : (count : ℕ) (xs : List ℕ) → count ≤ 8 → All (λ v. v
     → All (λ v. v < 2 ^ 48) xs
 grown_small count xs few grown j d h = omega (arith, few, grown j d h)
 
+-- all arrivals are small: those of an entry flow, to which the arrivals of a link's feeds were added
+pub all_small : (n m value count : ℕ) (started turns : List ℕ) → value < 2 ^ 30 → folded n started ≡ uniform n value
+    → count ≤ 8 → ((limit : ℕ) → All (λ v. v < limit) (folded n started)
+    → All (λ v. v < limit + count * 2 ^ 44) (folded n turns)) → m ≡ n → All (λ v. v < 2 ^ 48) (folded m turns)
+all_small n m value count started turns small start few grows same =
+    subst (λ k. All (λ v. v < 2 ^ 48) (folded k turns)) (sym same)
+    (grown_small count (folded n turns) few (grows (2 ^ 30) (started_small n value started small start)))
+
 -- the feeds of a link are within their limits, each
 pub feeds_small : (numbers : List ℕ) (feeds : List Feed) → All (IsFeed numbers) feeds → All IsSmall feeds
 feeds_small numbers feeds are = λ i d below. let one = are i d below in record {

@@ -1,12 +1,14 @@
 -- A link that is worked out has a value for each step.
 use Rattle.std.proofs.Common.{◌≡◌, ℕ, Bool, true, false, List, [], ◌∷◌, length, Option, Some, None, refl, ◌∙◌, map, sum}
-use Rattle.std.proofs.Common.{if◌then◌else◌, nat_lt}
+use Rattle.std.proofs.Common.{◌<◌, ◌≤◌, if◌then◌else◌, nat_lt, arith}
 use Rattle.std.specs.Prelude.{fold}
 use Rattle.std.proofs.lemmas.List.{length-map, length-replicate}
 use Rattle.std.proofs.lemmas.List.FromFn.{length-map-range_with_len}
 use Rattle.transyt_profile.specs.Profile.{uniform, added, added_at}
+use Rattle.transyt_parts.specs.declared.frame.Frame.{Frame}
 use Rattle.transyt_parts.specs.declared.link.Feed.{Feed}
 use Rattle.transyt_parts.specs.declared.link.GiveWay.{GiveWay}
+use Rattle.transyt_parts.specs.Valid.{IsFrame}
 use Rattle.transyt_net.specs.Parts.{Network, link_of, perstep}
 use Rattle.transyt_stage.specs.Green.{signal, shown_link, passed_at}
 use Rattle.transyt_stopline.specs.StopLine.{arrivals_of, scaled, queue_at, out_at}
@@ -60,3 +62,11 @@ cell_steps net read l =
           ∙ cut;
       out = length-map-range_with_len (out_at (arrivals_of come room) room) 0 (length (arrivals_of come room)) ∙ cut;
     }
+
+-- a profile of a valid frame has a value at least
+pub some_steps : (frame : Frame) (n : ℕ) → IsFrame frame → n ≡ frame.step_count → 0 < n
+some_steps frame n limits same = omega (arith, same, limits.step_count)
+
+-- and at most 120
+pub most_steps : (frame : Frame) (n : ℕ) → IsFrame frame → n ≡ frame.step_count → n ≤ 120
+most_steps frame n limits same = omega (arith, same, limits.step_count)

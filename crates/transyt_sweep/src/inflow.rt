@@ -17,6 +17,7 @@ ghost use Rattle.transyt_sweep.specs.Inflow.{
   with_feeds,
 };
 
+use crate::cell_rows::CellRows;
 use crate::factors::Factors;
 use crate::inputs::Inputs;
 use crate::sending::{platoon, renew_feed, share_feed};
@@ -66,16 +67,15 @@ fn add_each(inputs: &Inputs<'_>, feeds: &[Feed], room: &mut [u64], turns: &mut [
 }
 
 /// Works the factors of feeds out anew, each in its slot, where they are not the feed's.
-fn renew_feeds(net: &Net, feeds: &[Feed], slots: &mut [Factors])
-    requires some { 0 < length net.now.links }
+fn renew_feeds(inputs: &Inputs<'_>, feeds: &[Feed], slots: &mut [Factors])
     requires feeds { All IsSmall feeds.now }
     requires len { length slots.old ≡ length feeds.now }
-    requires are { All (AreFactors net.now.frame.step_count) slots.old }
-    ensures are { All (AreFactors net.now.frame.step_count) slots.new }
-    ensures served { AreServed net.now feeds.now slots.new }
+    requires are { All (AreFactors inputs.now.net.now.frame.step_count) slots.old }
+    ensures are { All (AreFactors inputs.now.net.now.frame.step_count) slots.new }
+    ensures served { AreServed inputs.now.net.now feeds.now slots.new }
 {
     'slots: for i in 0..feeds.len() {
-        renew_feed(net, feeds[i], &mut slots[i]);
+        renew_feed(inputs, feeds[i], &mut slots[i]);
     }
 }
 
@@ -129,7 +129,7 @@ fn add_together(
     ensures slots { All (AreFactors inputs.now.net.now.frame.step_count) slots.new }
 {
     let (lanes, rest) = room.split_at_mut(4 * inputs.step_count);
-    renew_feeds(inputs.net, feeds, slots);
+    renew_feeds(inputs, feeds, slots);
     if send_group(inputs, slots, lanes, turns) {
         return;
     }
@@ -205,20 +205,20 @@ fn feeds_of(net: &Net, link: usize) -> &[Feed]
     at.feeds.as_slice()
 }
 
-/// Fills `arrivals` with the arrivals of a link before any cut, in millionths of a vehicle per step. `room` is room for
-/// the work on four feeds. The factors of the feeds that are worked out side by side are kept in `kept`, eight places a
+/// Fills in the arrivals of a link before any cut, in millionths of a vehicle per step. `room` is room for the work on
+/// four feeds. The factors of the feeds that are worked out side by side are kept in `kept`, eight places a
 /// link; where it has too few places for the link's, the others are worked out by themselves.
 pub(crate) fn fill_inflow(
     inputs: &Inputs<'_>,
     kept: &mut [Factors],
     room: &mut [u64],
-    arrivals: &mut [u64],
+    rows: &mut CellRows,
 )
     requires kept { All (AreFactors inputs.now.net.now.frame.step_count) kept.old }
     requires room_len { length room.old ≡ 8 * inputs.now.step_count }
-    requires arrivals_len { length arrivals.old ≡ inputs.now.step_count }
-    ensures value { arrivals.new ≡ inflow inputs.now.net.now (read_by inputs.now) inputs.now.link }
-    ensures small { All (λ v. v < 2 ^ 48) arrivals.new }
+    requires steps { length rows.old.arrivals.items ≡ inputs.now.step_count }
+    ensures arrivals { rows.new.arrivals.items
+        ≡ inflow inputs.now.net.now (read_by inputs.now) inputs.now.link }
     ensures kept { All (AreFactors inputs.now.net.now.frame.step_count) kept.new }
 {
     let feeds = feeds_of(inputs.net, inputs.link);
@@ -229,5 +229,5 @@ pub(crate) fn fill_inflow(
     let own = own_place(inputs, kept.len());
     let end = kept.len().min(own + feeds.len());
     add_feeds(inputs, feeds, &mut kept[own..end], rest, turns);
-    fold_into(turns, arrivals);
+    fold_into(turns, &mut rows.arrivals);
 }

@@ -11,6 +11,7 @@
 //! are this project's own.
 #![tactic(auto)]
 
+mod cell_rows;
 mod factors;
 mod figures;
 mod inflow;

@@ -1,10 +1,11 @@
 //! Room for the work on one link.
 
-ghost use Rattle.std.specs.Prelude.{◌≡◌, ◌^◌, ◌<◌, ◌≤◌, length, replicate, All, IfOk};
+ghost use Rattle.std.specs.Prelude.{◌≡◌, ◌^◌, ◌<◌, length, All, IfOk};
 ghost use Rattle.transyt_delay.specs.Figures.{figures};
 ghost use Rattle.transyt_kept.specs.Cell.{AreSmall};
-ghost use Rattle.transyt_sweep.specs.Scratch.{AreWeights, terms_with};
+ghost use Rattle.transyt_sweep.specs.Scratch.{CanWeigh, terms_in};
 
+use crate::cell_rows::CellRows;
 use crate::factors::{Factors, factors_of};
 use crate::figures::{LazyFigures, Weights};
 use std::alloc::{AllocError, Global};
@@ -22,16 +23,12 @@ pub const FACTOR_BYTES: usize = 8 * size_of::<Factors>();
 ///
 /// Figures are worked out only when they are asked for, since all sweeps but the last need none.
 pub struct Scratch {
-    pub(crate) arrivals: Vec<u64>,
-    pub(crate) go: Vec<u64>,
-    pub(crate) queue: Vec<u64>,
-    pub(crate) out: Vec<u64>,
+    pub(crate) rows: CellRows,
     // the figures, or what they take beside the rows
     pub(crate) asked: LazyFigures,
     // the work on feeds: two turns of arrivals, four lanes of products, the part of one feed before its travel and
-    // after; and the arrivals after the cut
+    // after
     pub(crate) room: Vec<u64>,
-    pub(crate) reaching: Vec<u64>,
     // the factors that were worked out last of each feed, eight places a link
     pub(crate) factors: Vec<Factors>,
 }
@@ -40,13 +37,9 @@ impl Drop for Scratch {
     // Written out: a derived one is proved again in each crate that lets a value go.
     fn drop(self) {
         let Scratch {
-            arrivals: _,
-            go: _,
-            queue: _,
-            out: _,
+            rows: _,
             asked: _,
             room: _,
-            reaching: _,
             factors: _,
         } = self;
     }
@@ -54,22 +47,13 @@ impl Drop for Scratch {
 
 impl Model for Scratch {
     ghost use Rattle.transyt_sweep.specs.Cell.{CellValue};
-    ghost use Rattle.transyt_sweep.specs.Scratch.{IsScratch, figures_in};
+    ghost use Rattle.transyt_sweep.specs.Scratch.{IsScratch, cell_in};
 
     ghost Value = { CellValue };
 
-    ghost view = { λ s. record {
-      arrivals = s.arrivals.items;
-      go = s.go.items;
-      queue = s.queue.items;
-      out = s.out.items;
-      figures = figures_in s.arrivals.items s.go.items s.queue.items s.asked;
-    } };
+    ghost view = { λ s. cell_in s.rows s.asked };
 
-    ghost invariant = { λ s.
-        IsScratch s.arrivals.items s.go.items s.queue.items s.out.items s.asked s.room.items
-        s.reaching.items
-        s.factors.items };
+    ghost invariant = { λ s. IsScratch s.rows s.asked s.room.items s.factors.items };
 }
 
 impl Scratch {
@@ -83,29 +67,22 @@ impl Scratch {
             flow: 0,
             cruise: 0,
         };
+        let room = vec![in alloc; 0; 8 * step_count]?;
         let factors = vec![in alloc; factors_of(net, none, 0, 0); 8 * net.links().len()]?;
-        let Ok(shown) = zero_rows(alloc, step_count, step_count) else {
+        let Ok(rows) = CellRows::empty(alloc, step_count) else {
+            drop(room);
             drop(factors);
-            return Err(AllocError);
-        };
-        let Ok(rest) = zero_rows(alloc, step_count, 8 * step_count) else {
-            drop(factors);
-            drop(shown);
             return Err(AllocError);
         };
         Ok(Scratch {
-            arrivals: shown.0,
-            go: shown.1,
-            queue: shown.2,
-            out: rest.0,
+            rows,
             asked: LazyFigures::Known(Figures {
                 uniform: 0,
                 random: 0,
                 stops: 0,
                 index: 0,
             }),
-            room: rest.2,
-            reaching: rest.1,
+            room,
             factors,
         })
     }
@@ -114,7 +91,7 @@ impl Scratch {
     pub fn arrivals(&self) -> &[u64]
         ensures { result.now ≡ self.now.arrivals }
     {
-        &self.arrivals
+        &self.rows.arrivals
     }
 
     /// The GO of the link, in millionths of a vehicle per step.
@@ -122,7 +99,7 @@ impl Scratch {
         ensures value { result.now ≡ self.now.go }
         ensures steps { length result.now ≡ length self.now.arrivals }
     {
-        &self.go
+        &self.rows.go
     }
 
     /// The queue at the end of each step, in millionths of a vehicle.
@@ -130,7 +107,7 @@ impl Scratch {
         ensures value { result.now ≡ self.now.queue }
         ensures steps { length result.now ≡ length self.now.arrivals }
     {
-        &self.queue
+        &self.rows.queue
     }
 
     /// The departures of the link, in millionths of a vehicle per step.
@@ -139,62 +116,39 @@ impl Scratch {
         ensures steps { length result.now ≡ length self.now.arrivals }
         ensures small { All (λ v. v < 2 ^ 30) result.now }
     {
-        &self.out
+        &self.rows.departures
     }
 
     /// The figures of the link, in millionths as those of `transyt_delay`. Where they are open they are worked out.
-    #[tactic(auto, using(crate::proofs::ScratchLaws::sum_small, crate::proofs::ScratchLaws::all_arrives))]
     pub fn figures(&self) -> Figures
         ensures value { result ≡ self.now.figures }
         ensures small { AreSmall result }
     {
         match self.asked {
             LazyFigures::Known(figures) => figures,
-            LazyFigures::Open(weights, totals) => {
-                let reaching = if totals.more_comes() {
-                    &self.reaching
-                } else {
-                    &self.arrivals
-                };
-                work_out(totals, reaching, &self.queue, weights)
-            }
+            LazyFigures::Open(weights, totals) => work_out(&self.rows, weights, totals),
         }
     }
 }
 
-/// Two rows of `step_count` values and one of `last`, all 0.
-fn zero_rows(
-    alloc: Global,
-    step_count: usize,
-    last: usize,
-) -> Result<(Vec<u64>, Vec<u64>, Vec<u64>), AllocError>
-    ensures one { IfOk result (λ rows. rows.0.items ≡ replicate step_count 0) }
-    ensures two { IfOk result (λ rows. rows.1.items ≡ replicate step_count 0) }
-    ensures last { IfOk result (λ rows. rows.2.items ≡ replicate last 0) }
-{
-    let one = vec![in alloc; 0; step_count]?;
-    let two = vec![in alloc; 0; step_count]?;
-    Ok((one, two, vec![in alloc; 0; last]?))
-}
-
-/// The figures of a link from the sums of arrivals and of GO over a cycle, from the arrivals after the cut and from the
-/// queue.
-fn work_out(totals: Totals, reaching: &[u64], queue: &[u64], weights: Weights) -> Figures
-    requires arrivals { totals.arrivals < 2 ^ 55 }
-    requires go { totals.go < 2 ^ 55 }
-    requires most { length reaching.now ≤ 120 }
-    requires queue_len { length queue.now ≡ length reaching.now }
-    requires reaching_small { All (λ v. v < 2 ^ 48) reaching.now }
-    requires queue_small { All (λ v. v < 2 ^ 37) queue.now }
-    requires weights { AreWeights weights }
-    ensures value { result ≡ figures (terms_with totals reaching.now queue.now weights) }
+/// The figures of a link from its rows, its weights and the sums of arrivals and of GO over a cycle.
+#[tactic(auto, using(crate::proofs::ScratchLaws::sum_small, crate::proofs::ScratchLaws::all_arrives))]
+fn work_out(rows: &CellRows, weights: Weights, totals: Totals) -> Figures
+    requires { CanWeigh rows.now weights totals }
+    ensures value { result ≡ figures (terms_in rows.now.arrivals.items rows.now.go.items
+        rows.now.queue.items weights) }
     ensures small { AreSmall result }
 {
+    let reaching = if totals.more_comes() {
+        &rows.cut
+    } else {
+        &rows.arrivals
+    };
     let terms = Terms {
         arrivals: totals.arrivals,
         room: totals.go,
-        queued: total(queue),
-        stopped: stopped(reaching, queue),
+        queued: total(&rows.queue),
+        stopped: stopped(reaching, &rows.queue),
         frame: weights.frame,
         weights: weights.link,
     };

@@ -14,12 +14,11 @@ use transyt_platoon::Platoon;
 use transyt_profile::share_into;
 
 /// The place of a link's number; the first where there is no such link.
-pub(crate) fn link_place(net: &Net, number: u32) -> usize
-    requires { 0 < length net.now.links }
-    ensures value { result ≡ link_place net.now number }
-    ensures below { result < length net.now.links }
+pub(crate) fn link_place(inputs: &Inputs<'_>, number: u32) -> usize
+    ensures value { result ≡ link_place inputs.now.net.now number }
+    ensures below { result < length inputs.now.net.now.links }
 {
-    match net.link_place(number) {
+    match inputs.net.link_place(number) {
         Some(place) => place,
         None => 0,
     }
@@ -27,15 +26,14 @@ pub(crate) fn link_place(net: &Net, number: u32) -> usize
 
 /// The place of a feeder: `place`, where the feeder stands there, else looked up.
 #[tactic(auto, using(crate::proofs::FeederLaws::place_of_number))]
-fn feeder_place(net: &Net, feeder: u32, place: usize) -> usize
-    requires { 0 < length net.now.links }
-    ensures value { result ≡ link_place net.now feeder }
-    ensures below { result < length net.now.links }
+fn feeder_place(inputs: &Inputs<'_>, feeder: u32, place: usize) -> usize
+    ensures value { result ≡ link_place inputs.now.net.now feeder }
+    ensures below { result < length inputs.now.net.now.links }
 {
-    if is_at(net, place, feeder) {
+    if is_at(inputs.net, place, feeder) {
         place
     } else {
-        link_place(net, feeder)
+        link_place(inputs, feeder)
     }
 }
 
@@ -59,7 +57,7 @@ pub(crate) fn share_feed(inputs: &Inputs<'_>, feed: Feed, shared: &mut [u64])
     ensures value { shared.new ≡ taken inputs.now.net.now (read_by inputs.now) feed }
     ensures small { All (λ v. v < 2 ^ 44) shared.new }
 {
-    let feeder = link_place(inputs.net, feed.feeder);
+    let feeder = link_place(inputs, feed.feeder);
     let departures = inputs.read(feeder);
     let total = inputs.net.total_flow(feeder);
     share_into(departures, feed.flow, total, shared);
@@ -67,13 +65,13 @@ pub(crate) fn share_feed(inputs: &Inputs<'_>, feed: Feed, shared: &mut [u64])
 
 /// Works the factors that are kept in `slot` out anew, where they are not a feed's. Where its feeder was found last is
 /// looked at first.
-pub(crate) fn renew_feed(net: &Net, feed: Feed, slot: &mut Factors)
-    requires some { 0 < length net.now.links }
+pub(crate) fn renew_feed(inputs: &Inputs<'_>, feed: Feed, slot: &mut Factors)
     requires feed { IsSmall feed }
-    requires are { AreFactors net.now.frame.step_count slot.old }
-    ensures served { Served net.now feed slot.new }
+    requires are { AreFactors inputs.now.net.now.frame.step_count slot.old }
+    ensures served { Served inputs.now.net.now feed slot.new }
 {
-    let feeder = feeder_place(net, feed.feeder, slot.feeder);
+    let net = inputs.net;
+    let feeder = feeder_place(inputs, feed.feeder, slot.feeder);
     renew(net, feed, feeder, net.total_flow(feeder), slot);
 }
 

@@ -1,11 +1,13 @@
 //! One link at one sweep: the cell of which an evaluation is made.
 
-ghost use Rattle.std.specs.Prelude.{◌≡◌, ◌+◌, ◌-◌, ◌*◌, ◌^◌, ◌<◌, ◌≤◌, ℕ, length, sum, All};
+ghost use Rattle.std.specs.Prelude.{◌≡◌, ◌+◌, ◌<◌, ◌≤◌, length};
 ghost use Rattle.transyt_stopline.specs.StopLine.{arrivals_of, queues, outs};
 ghost use Rattle.transyt_sweep.specs.Cell.{go, cell_by};
 ghost use Rattle.transyt_sweep.specs.Inflow.{read_by};
 ghost use Rattle.transyt_sweep.specs.Reading.{Fits, read_in};
+ghost use Rattle.transyt_sweep.specs.Scratch.{AreTotals};
 
+use crate::cell_rows::CellRows;
 use crate::figures::{LazyFigures, weights_of};
 use crate::inflow::fill_inflow;
 use crate::inputs::Inputs;
@@ -50,69 +52,51 @@ pub fn cell<L: Ledger>(
         &inputs,
         &mut scratch.factors,
         &mut scratch.room,
-        &mut scratch.arrivals,
+        &mut scratch.rows,
     );
-    fill_go_under_rule(&inputs, &mut scratch.go);
-    let totals = stand(
-        &scratch.arrivals,
-        &scratch.go,
-        &mut scratch.reaching,
-        &mut scratch.queue,
-        &mut scratch.out,
-    );
+    fill_go_under_rule(&inputs, &mut scratch.rows);
+    let totals = work_out_queue(&mut scratch.rows);
     scratch.asked = LazyFigures::Open(weights_of(net, link), totals);
     steps.tick();
 }
 
-/// Works out the queue and the departures from arrivals before any cut and GO. Returns the sums of both over a cycle:
-/// where more arrives than GO lets pass, `cut_arrivals` are the arrivals after the cut.
-fn stand(
-    arrivals: &[u64],
-    go_profile: &[u64],
-    cut_arrivals: &mut [u64],
-    queued: &mut [u64],
-    departures: &mut [u64],
-) -> Totals
-    requires some { 0 < length arrivals.now }
-    requires most { length arrivals.now ≤ 120 }
-    requires go_len { length go_profile.now ≡ length arrivals.now }
-    requires cut_len { length cut_arrivals.old ≡ length arrivals.now }
-    requires queued_len { length queued.old ≡ length arrivals.now }
-    requires departures_len { length departures.old ≡ length arrivals.now }
-    requires arrivals_small { All (λ v. v < 2 ^ 48) arrivals.now }
-    requires go_small { All (λ v. v < 2 ^ 30) go_profile.now }
-    ensures queued { queued.new ≡ queues (arrivals_of arrivals.now go_profile.now) go_profile.now }
-    ensures departures { departures.new
-        ≡ outs (arrivals_of arrivals.now go_profile.now) go_profile.now }
-    ensures arrivals_total { result.arrivals ≡ sum arrivals.now }
-    ensures go_total { result.go ≡ sum go_profile.now }
-    ensures cut { result.go < result.arrivals
-        → cut_arrivals.new ≡ arrivals_of arrivals.now go_profile.now }
-    ensures cut_small { All (λ v. v < 2 ^ 48) (arrivals_of arrivals.now go_profile.now) }
-    ensures queued_small { All (λ v. v < 2 ^ 37) queued.new }
-    ensures departures_small { All (λ v. v < 2 ^ 30) departures.new }
+/// Works out the queue and the departures from arrivals and GO. Returns the sums of both over a cycle: where more arrives
+/// than GO lets pass, `cut` has the arrivals after the cut.
+fn work_out_queue(rows: &mut CellRows) -> Totals
+    ensures arrivals { rows.new.arrivals ≡ rows.old.arrivals }
+    ensures go { rows.new.go ≡ rows.old.go }
+    ensures queue { rows.new.queue.items
+        ≡ queues (arrivals_of rows.new.arrivals.items rows.new.go.items) rows.new.go.items }
+    ensures departures { rows.new.departures.items
+        ≡ outs (arrivals_of rows.new.arrivals.items rows.new.go.items) rows.new.go.items }
+    ensures totals { AreTotals rows.new result }
 {
-    let totals = cut(arrivals, go_profile, cut_arrivals);
+    let totals = cut(&rows.arrivals, &rows.go, &mut rows.cut);
     if totals.more_comes() {
-        queue(cut_arrivals, go_profile, queued, departures);
+        queue(&rows.cut, &rows.go, &mut rows.queue, &mut rows.departures);
     } else {
-        queue(arrivals, go_profile, queued, departures);
+        queue(
+            &rows.arrivals,
+            &rows.go,
+            &mut rows.queue,
+            &mut rows.departures,
+        );
     }
     totals
 }
 
-/// Fills `out` with the GO of a link: its green capacity, less the part that its rule takes off.
-fn fill_go_under_rule(inputs: &Inputs<'_>, out: &mut [u64])
-    requires out_len { length out.old ≡ inputs.now.step_count }
-    ensures value { out.new ≡ go inputs.now.net.now (read_by inputs.now) inputs.now.link }
-    ensures small { All (λ v. v < 2 ^ 30) out.new }
+/// Fills in the GO of a link: its green capacity, less the part that its rule takes off.
+fn fill_go_under_rule(inputs: &Inputs<'_>, rows: &mut CellRows)
+    requires { length rows.old.arrivals.items ≡ inputs.now.step_count }
+    ensures arrivals { rows.new.arrivals ≡ rows.old.arrivals }
+    ensures go { rows.new.go.items ≡ go inputs.now.net.now (read_by inputs.now) inputs.now.link }
 {
     let net = inputs.net;
-    fill_go(net, inputs.link, out);
+    fill_go(net, inputs.link, &mut rows.go);
     let at = net.link(inputs.link);
     if let Some(rule) = at.gives_way {
-        let other = link_place(net, rule.other);
+        let other = link_place(inputs, rule.other);
         let departures = inputs.read(other);
-        give_way(departures, rule.percent, out);
+        give_way(departures, rule.percent, &mut rows.go);
     }
 }

@@ -1,11 +1,12 @@
 -- The entry flow, the arrivals of the feeds, and both turns folded to one.
-use Rattle.std.proofs.Common.{◌≡◌, ℕ, ◌-◌, ◌^◌, ◌<◌, List, All, length, drop, arith, ap, sym, subst, ◌∙◌}
+use Rattle.std.proofs.Common.{◌≡◌, ℕ, ◌-◌, ◌^◌, ◌<◌, ◌≤◌, All, length, drop, arith, ap, sym, subst, ◌∙◌}
+use Rattle.std.proofs.lemmas.List.{with_items_is}
 use Rattle.std.proofs.lemmas.List.Elements.{All-take, All-drop}
 use Rattle.transyt_profile.specs.Profile.{folded, uniform}
 use Rattle.transyt_parts.specs.Parts.{LinkValue}
 use Rattle.transyt_net.specs.Parts.{Network, link_of, perstep}
 use Rattle.transyt_sweep.specs.Inflow.{AreFactors, read_by, with_feeds}
-use Rattle.transyt_sweep.proofs.InflowLaws.{grown_small, started_room, started_small}
+use Rattle.transyt_sweep.proofs.InflowLaws.{all_small, started_room}
 use Rattle.transyt_sweep.proofs.SlotLaws.{are_put}
 use Rattle.transyt_sweep.proofs.inflow.fill_inflow.Goals as goal
 
@@ -26,23 +27,32 @@ add_feeds-requires-clause-turns c =
 -- all values of the two turns, folded, are small
 pub fold_into-requires-clause-fit : goal.fold_into-requires-clause-fit
 fold_into-requires-clause-fit c =
-    let n : ℕ = c.args.inputs.now.step_count in
-    let turns : List ℕ = c.add_feeds.new.turns in
-    let started = started_small n c.per_step-entry.result c.start_turns.new.turns c.per_step-entry.ensures.small
-    c.start_turns.ensures in
-    subst (λ m. All (λ v. v < 2 ^ 48) (folded m turns)) (sym c.requires.arrivals_len)
-    (grown_small (length c.feeds_of-feeds.result.now) (folded n turns) c.feeds_of-feeds.ensures.few
-    (c.add_feeds.ensures.grows (2 ^ 30) started))
+    all_small c.args.inputs.now.step_count (length c.deref_mut.result.now) c.per_step-entry.result
+    (length c.feeds_of-feeds.result.now) c.start_turns.new.turns c.add_feeds.new.turns c.per_step-entry.ensures.small
+    c.start_turns.ensures c.feeds_of-feeds.ensures.few c.add_feeds.ensures.grows
+    (ap length c.deref_mut.ensures.value ∙ c.requires.steps)
 
-pub returns-clause-small : goal.returns-clause-small
-returns-clause-small c =
-    let n : ℕ = c.args.inputs.now.step_count in
-    let turns : List ℕ = c.add_feeds.new.turns in
-    let started = started_small n c.per_step-entry.result c.start_turns.new.turns c.per_step-entry.ensures.small
-    c.start_turns.ensures in
-    subst (All (λ v. v < 2 ^ 48)) (sym (c.fold_into.ensures ∙ ap (λ m. folded m turns) c.requires.arrivals_len))
-    (grown_small (length c.feeds_of-feeds.result.now) (folded n turns) c.feeds_of-feeds.ensures.few
-    (c.add_feeds.ensures.grows (2 ^ 30) started))
+pub invariant_of-rows : goal.invariant_of-rows
+invariant_of-rows c =
+    let was = c.args.rows.now in
+    let is = with_items_is was.arrivals c.fold_into.new.out (c.fold_into.auto.out ∙ c.deref_mut.ensures.len) in
+    let same = ap length is ∙ c.fold_into.auto.out ∙ ap length c.deref_mut.ensures.value in
+    record {
+      some = subst (λ k. 0 < k) (sym same) was.some;
+      most = subst (λ k. k ≤ 120) (sym same) was.most;
+      go_len = was.go_len ∙ sym same;
+      cut_len = was.cut_len ∙ sym same;
+      queue_len = was.queue_len ∙ sym same;
+      departures_len = was.departures_len ∙ sym same;
+      arrivals_small = subst (All (λ v. v < 2 ^ 48)) (sym (is ∙ c.fold_into.ensures))
+          (all_small c.args.inputs.now.step_count (length c.deref_mut.result.now) c.per_step-entry.result
+          (length c.feeds_of-feeds.result.now) c.start_turns.new.turns c.add_feeds.new.turns
+          c.per_step-entry.ensures.small c.start_turns.ensures c.feeds_of-feeds.ensures.few c.add_feeds.ensures.grows
+          (ap length c.deref_mut.ensures.value ∙ c.requires.steps));
+      go_small = was.go_small;
+      queue_small = was.queue_small;
+      departures_small = was.departures_small;
+    }
 
 pub returns-clause-kept : goal.returns-clause-kept
 returns-clause-kept c =
@@ -51,8 +61,8 @@ returns-clause-kept c =
     c.add_feeds.new.slots c.requires.kept c.add_feeds.ensures.slots
 
 -- all arrivals
-pub returns-clause-value : goal.returns-clause-value
-returns-clause-value c =
+pub returns-clause-arrivals : goal.returns-clause-arrivals
+returns-clause-arrivals c =
     let n : ℕ = c.args.inputs.now.step_count in
     let net : Network = c.args.inputs.now.net.now in
     let link : LinkValue = link_of net c.args.inputs.now.link in
@@ -61,7 +71,8 @@ returns-clause-value c =
     c.start_turns.ensures
     ∙ ap (uniform n) (c.per_step-entry.ensures.value ∙ entry)
     ∙ ap (λ k. uniform k (perstep net.frame link.entry)) c.args.inputs.now.steps in
-    c.fold_into.ensures
-    ∙ ap (λ m. folded m c.add_feeds.new.turns) c.requires.arrivals_len
+    with_items_is c.args.rows.now.arrivals c.fold_into.new.out (c.fold_into.auto.out ∙ c.deref_mut.ensures.len)
+    ∙ c.fold_into.ensures
+    ∙ ap (λ m. folded m c.add_feeds.new.turns) (ap length c.deref_mut.ensures.value ∙ c.requires.steps)
     ∙ c.add_feeds.ensures.value
     ∙ (λ j. with_feeds net (read_by c.args.inputs.now) (start j) (c.feeds_of-feeds.ensures.value j))

@@ -9,9 +9,9 @@ pub slots-preserved : goal.slots-preserved
 slots-preserved c =
     let served = c.renew_feed.ensures.served in
     record {
-      are = All-set (AreFactors c.args.net.now.frame.step_count) c.slots.slots c.slots.i c.renew_feed.new.slot served.are
+      are = All-set (AreFactors c.args.inputs.now.net.now.frame.step_count) c.slots.slots c.slots.i c.renew_feed.new.slot served.are
           c.slots.invariant.are;
-      each = λ k d. served_more c.args.net.now c.args.feeds.now c.slots.slots c.slots.i c.renew_feed.new.slot d
+      each = λ k d. served_more c.args.inputs.now.net.now c.args.feeds.now c.slots.slots c.slots.i c.renew_feed.new.slot d
           (omega (arith, c.slots-test.true, c.slots.auto.slots, c.requires.len)) served
           (λ m. c.slots.invariant.each m d) k;
     }

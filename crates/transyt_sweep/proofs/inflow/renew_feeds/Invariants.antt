@@ -6,6 +6,6 @@ use Rattle.transyt_sweep.proofs.inflow.renew_feeds.Given as goal
 
 abbrev pub invariant-slots : goal.invariant-slots
 invariant-slots l = record {
-  are : All (AreFactors l.net.frame.step_count) l.slots;
-  each : (k : ℕ) (d : Factors) → k < l.i → Served l.net (get_or l.feeds k no_feed) (get_or l.slots k d);
+  are : All (AreFactors l.inputs.net.now.frame.step_count) l.slots;
+  each : (k : ℕ) (d : Factors) → k < l.i → Served l.inputs.net.now (get_or l.feeds k no_feed) (get_or l.slots k d);
 }
