@@ -5,7 +5,7 @@ ghost use Rattle.transyt_parts.specs.declared.frame.Frame.{Frame};
 ghost use Rattle.transyt_parts.specs.declared.link.Feed.{Feed};
 ghost use Rattle.transyt_platoon.specs.Platoon.{travel_steps};
 ghost use Rattle.transyt_platoon.specs.Travels.{IsTravel};
-ghost use Rattle.transyt_sweep.specs.Inflow.{AreFactors, Serve};
+ghost use Rattle.transyt_sweep.specs.Inflow.{AreFactors, IsSmall, Serve};
 
 use transyt_net::{Feed, Frame, Net};
 use transyt_platoon::{Travel, travel_of, travel_steps};
@@ -44,8 +44,7 @@ fn travel(net: &Net, feed: Feed) -> Travel
 
 /// The factors of a feed whose feeder is at a place; `whole` vehicles per hour leave that.
 pub(crate) fn factors_of(net: &Net, feed: Feed, feeder: usize, whole: u32) -> Factors
-    requires flow { feed.flow ≤ 9999 }
-    requires cruise { feed.cruise ≤ 300 }
+    requires { IsSmall feed }
     ensures are { AreFactors net.now.frame.step_count result }
     ensures serve { Serve net.now.frame feed feeder whole result }
 {
@@ -74,8 +73,7 @@ fn serve(factors: &Factors, frame: Frame, feed: Feed, feeder: usize, whole: u32)
 /// Works the factors that are kept in `slot` out anew, where the numbers that they name are not a feed's or the place
 /// not its feeder's.
 pub(crate) fn renew(net: &Net, feed: Feed, feeder: usize, whole: u32, slot: &mut Factors)
-    requires flow { feed.flow ≤ 9999 }
-    requires cruise { feed.cruise ≤ 300 }
+    requires feed { IsSmall feed }
     requires are { AreFactors net.now.frame.step_count slot.old }
     ensures are { AreFactors net.now.frame.step_count slot.new }
     ensures serve { Serve net.now.frame feed feeder whole slot.new }

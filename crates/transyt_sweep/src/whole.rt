@@ -69,29 +69,7 @@ fn fill_sweep<L: Ledger>(
     ensures steps { steps.new ≡ steps.old + length net.now.links }
 {
     for link in 0..net.links().len() {
-        fill_cell(net, link, sweep, rows, scratch, steps);
+        cell(net, link, sweep, rows, scratch, steps);
+        rows.place(sweep, link, scratch);
     }
-}
-
-/// Works out one link at one sweep.
-fn fill_cell<L: Ledger>(
-    net: &Net,
-    link: usize,
-    sweep: u32,
-    rows: &mut Rows,
-    scratch: &mut Scratch,
-    steps: &mut Steps<L>,
-)
-    requires link { link < length net.now.links }
-    requires first { 1 ≤ sweep }
-    requires last { sweep ≤ net.now.frame.sweeps }
-    requires filled { AreFilled net.now sweep link rows.old.now }
-    requires step_count { length scratch.old.arrivals ≡ net.now.frame.step_count }
-    ensures filled { AreFilled net.now sweep (link + 1) rows.new.now }
-    ensures marked { rows.new.marked ≡ rows.old.marked }
-    ensures step_count { length scratch.new.arrivals ≡ net.now.frame.step_count }
-    ensures steps { steps.new ≡ steps.old + 1 }
-{
-    cell(net, link, sweep, rows, scratch, steps);
-    rows.place(sweep, link, scratch);
 }

@@ -1,5 +1,6 @@
 //! A change that a tracker follows, and the front that follows it.
 
+ghost use Rattle.std.specs.Prelude.{◌<◌, ◌≤◌, length};
 ghost use Rattle.std.specs.Option.{ForSome};
 ghost use Rattle.transyt_net.specs.Parts.{SameShape};
 ghost use Rattle.transyt_track.specs.Own.{ArePlaces, DifferAt};
@@ -28,6 +29,20 @@ pub(crate) struct Change<'a> {
     ghost one_node: { ForSome node (λ place. DifferAt place before.now after.now) },
     ghost are_places: { ArePlaces before.now places.now },
     ghost are_readers: { AreReaders before.now readers.now },
+}
+
+/// A link at a sweep of a change that is followed.
+#[derive(Clone, Copy)]
+pub(crate) struct Pair<'a, 'b> {
+    /// The change.
+    pub(crate) change: &'a Change<'b>,
+    /// The sweep.
+    pub(crate) sweep: u32,
+    /// The link's place.
+    pub(crate) link: usize,
+    ghost first: { 1 ≤ sweep },
+    ghost last: { sweep ≤ change.now.after.now.frame.sweeps },
+    ghost inside: { link < length change.now.after.now.links },
 }
 
 /// The rows while they go over from one network to another, and all that changes with them.

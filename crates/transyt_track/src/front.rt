@@ -13,7 +13,7 @@ ghost use Rattle.transyt_track.specs.Due.{is_due, due_at, due};
 ghost use Rattle.transyt_track.specs.Change.{HasRoom, IsFront};
 ghost use Rattle.transyt_track.specs.Front.{flag};
 
-use crate::change::{Change, Front};
+use crate::change::{Change, Front, Pair};
 use crate::readers::Readers;
 use crate::replacing::{Differs, leave, place};
 use crate::starting::set_out;
@@ -80,48 +80,45 @@ fn go_may_differ(net: &Net, own_changed: &[bool], link: usize) -> bool
     own_changed[link] || at.gives_way.is_some()
 }
 
-/// Works a link out into a scratch. Returns whether its departures differ from those of the rows.
+/// Works a pair out into a scratch. Returns whether its departures differ from those of the rows.
 fn work_cell<L: Ledger>(
-    net: &Net,
-    sweep: u32,
-    link: usize,
+    pair: &Pair<'_, '_>,
     kept: &Rows,
     scratch: &mut Scratch,
     steps: &mut Steps<L>,
 ) -> bool
-    requires first { 1 ≤ sweep }
-    requires last { sweep ≤ net.now.frame.sweeps }
-    requires link { link < length net.now.links }
-    requires fits { Fits net.now kept.now.now }
-    requires step_count { length scratch.old.arrivals ≡ net.now.frame.step_count }
-    ensures value { scratch.new ≡ cell_by net.now (read_in kept.now.now sweep link) link }
-    ensures differs { result ≡ not (bytes_eq (out_at kept.now.now sweep link) scratch.new.out) }
+    requires fits { Fits pair.now.change.now.after.now kept.now.now }
+    requires step_count { length scratch.old.arrivals
+        ≡ pair.now.change.now.after.now.frame.step_count }
+    ensures value { scratch.new ≡ cell_by pair.now.change.now.after.now
+        (read_in kept.now.now pair.now.sweep pair.now.link) pair.now.link }
+    ensures differs { result
+        ≡ not (bytes_eq (out_at kept.now.now pair.now.sweep pair.now.link) scratch.new.out) }
     ensures steps { steps.new ≡ steps.old + 1 }
 {
-    cell(net, link, sweep, kept, scratch, steps);
-    row_differs(kept, sweep, link, scratch)
+    cell(
+        pair.change.after,
+        pair.link,
+        pair.sweep,
+        kept,
+        scratch,
+        steps,
+    );
+    row_differs(kept, pair.sweep, pair.link, scratch)
 }
 
-/// The link at the front is due: it is worked out.
-fn work_out<L: Ledger>(
-    change: &Change<'_>,
-    sweep: u32,
-    link: usize,
-    front: &mut Front,
-    steps: &mut Steps<L>,
-)
-    requires first { 1 ≤ sweep }
-    requires last { sweep ≤ change.now.after.now.frame.sweeps }
-    requires link { link < length change.now.after.now.links }
-    requires front { IsFront change.now sweep link front.old }
-    ensures front { IsFront change.now sweep (link + 1) front.new }
+/// The pair at the front is due: it is worked out.
+fn work_out<L: Ledger>(pair: &Pair<'_, '_>, front: &mut Front, steps: &mut Steps<L>)
+    requires { IsFront pair.now.change.now pair.now.sweep pair.now.link front.old }
+    ensures front { IsFront pair.now.change.now pair.now.sweep (pair.now.link + 1) front.new }
     ensures marked { front.new.kept.marked ≡ front.old.kept.marked }
     ensures steps { steps.new ≡ steps.old + 1 }
 {
-    let after = change.after;
+    let after = pair.change.after;
+    let link = pair.link;
     after.frame();
-    let differs = work_cell(after, sweep, link, &front.kept, &mut front.scratch, steps);
-    let readers = change.readers;
+    let differs = work_cell(pair, &front.kept, &mut front.scratch, steps);
+    let readers = pair.change.readers;
     pass_on(
         link,
         differs,
@@ -131,9 +128,7 @@ fn work_out<L: Ledger>(
     );
     let go_differs = go_may_differ(after, &front.own_changed, link);
     place(
-        after,
-        sweep,
-        link,
+        pair,
         Differs {
             out: differs,
             go: go_differs,
@@ -150,30 +145,21 @@ fn is_awaited(flags: &[bool], link: usize) -> bool
     flags[link]
 }
 
-/// One turn: the link at the front is worked out if its flag is up, and else left. Returns how many links were worked
+/// One turn: the pair at the front is worked out if its link's flag is up, and else left. Returns how many were worked
 /// out: 1 or 0.
-fn turn<L: Ledger>(
-    change: &Change<'_>,
-    sweep: u32,
-    link: usize,
-    front: &mut Front,
-    steps: &mut Steps<L>,
-) -> u64
-    requires first { 1 ≤ sweep }
-    requires last { sweep ≤ change.now.after.now.frame.sweeps }
-    requires link { link < length change.now.after.now.links }
-    requires front { IsFront change.now sweep link front.old }
-    ensures front { IsFront change.now sweep (link + 1) front.new }
+fn turn<L: Ledger>(pair: &Pair<'_, '_>, front: &mut Front, steps: &mut Steps<L>) -> u64
+    requires { IsFront pair.now.change.now pair.now.sweep pair.now.link front.old }
+    ensures front { IsFront pair.now.change.now pair.now.sweep (pair.now.link + 1) front.new }
     ensures marked { front.new.kept.marked ≡ front.old.kept.marked }
-    ensures count { result ≡ (if is_due change.now.before.now change.now.after.now sweep link then 1
-        else 0) }
+    ensures count { result ≡ (if is_due pair.now.change.now.before.now pair.now.change.now.after.now
+        pair.now.sweep pair.now.link then 1 else 0) }
     ensures steps { steps.new ≡ steps.old + result }
 {
-    if is_awaited(&front.awaited, link) {
-        work_out(change, sweep, link, front, steps);
+    if is_awaited(&front.awaited, pair.link) {
+        work_out(pair, front, steps);
         1
     } else {
-        leave(change, sweep, link, &mut front.kept);
+        leave(pair, &mut front.kept);
         0
     }
 }
@@ -196,7 +182,12 @@ fn sweep_links<L: Ledger>(
 {
     let mut count = 0;
     for link in 0..change.after.links().len() {
-        count += turn(change, sweep, link, front, steps);
+        let pair = Pair {
+            change: &*change,
+            sweep,
+            link,
+        };
+        count += turn(&pair, front, steps);
     }
     count
 }

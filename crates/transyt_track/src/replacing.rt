@@ -6,10 +6,9 @@ ghost use Rattle.transyt_sweep.specs.Reading.{Fits};
 ghost use Rattle.transyt_sweep.specs.Sweeps.{evaluated};
 ghost use Rattle.transyt_track.specs.Front.{left_at};
 
-use crate::change::{Change, Front};
+use crate::change::{Front, Pair};
 use crate::own::same_weights;
 use transyt_kept::Rows;
-use transyt_net::Net;
 use transyt_sweep::{Scratch, reweigh};
 
 /// Writes a link's departures at a sweep from a scratch, where they differ.
@@ -49,22 +48,25 @@ pub(crate) struct Differs {
 }
 
 /// Writes a link at a sweep from the scratch of the front, at the last sweep all of it.
-pub(crate) fn place(net: &Net, sweep: u32, link: usize, differs: Differs, front: &mut Front)
-    requires fits { Fits net.now front.old.kept.now }
-    requires sweep { sweep ≤ net.now.frame.sweeps }
-    requires link { link < length net.now.links }
+pub(crate) fn place(pair: &Pair<'_, '_>, differs: Differs, front: &mut Front)
+    requires fits { Fits pair.now.change.now.after.now front.old.kept.now }
     requires steps { length front.old.scratch.arrivals ≡ front.old.kept.now.step_count }
     requires out_same { differs.out ≡ false
-        → out_at front.old.kept.now sweep link ≡ front.old.scratch.out }
-    requires go_same { sweep ≡ net.now.frame.sweeps → differs.go ≡ false
-        → (shown_at front.old.kept.now link).go ≡ front.old.scratch.go }
-    ensures value { front.new.kept
-        ≡ record front.old.kept { now = placed front.old.kept.now sweep link front.old.scratch } }
+        → out_at front.old.kept.now pair.now.sweep pair.now.link ≡ front.old.scratch.out }
+    requires go_same { pair.now.sweep ≡ pair.now.change.now.after.now.frame.sweeps
+        → differs.go ≡ false
+        → (shown_at front.old.kept.now pair.now.link).go ≡ front.old.scratch.go }
+    ensures value { front.new.kept ≡ record front.old.kept {
+      now = placed front.old.kept.now pair.now.sweep pair.now.link front.old.scratch;
+    } }
     ensures rows { AreRows front.old.kept.now }
     ensures scratch { front.new.scratch ≡ front.old.scratch }
     ensures awaited { front.new.awaited ≡ front.old.awaited }
     ensures own_changed { front.new.own_changed ≡ front.old.own_changed }
 {
+    let net = pair.change.after;
+    let sweep = pair.sweep;
+    let link = pair.link;
     front.kept.index();
     place_out(sweep, link, differs.out, &front.scratch, &mut front.kept);
     if sweep == net.frame().sweeps {
@@ -73,16 +75,19 @@ pub(crate) fn place(net: &Net, sweep: u32, link: usize, differs: Differs, front:
 }
 
 /// A link that isn't due is weighed anew at the last sweep; where its weights are equal, its index stays.
-pub(crate) fn leave(change: &Change<'_>, sweep: u32, link: usize, kept: &mut Rows)
-    requires fits { Fits change.now.after.now kept.old.now }
-    requires link { link < length change.now.after.now.links }
-    requires shown { sweep ≡ change.now.after.now.frame.sweeps
-        → shown_at kept.old.now link ≡ evaluated change.now.before.now link }
-    ensures { kept.new ≡ record
-        kept.old { now = left_at change.now.after.now sweep link kept.old.now } }
+pub(crate) fn leave(pair: &Pair<'_, '_>, kept: &mut Rows)
+    requires fits { Fits pair.now.change.now.after.now kept.old.now }
+    requires shown { pair.now.sweep ≡ pair.now.change.now.after.now.frame.sweeps
+        → shown_at kept.old.now pair.now.link
+        ≡ evaluated pair.now.change.now.before.now pair.now.link }
+    ensures { kept.new ≡ record kept.old {
+      now = left_at pair.now.change.now.after.now pair.now.sweep pair.now.link kept.old.now;
+    } }
 {
+    let change = pair.change;
     let after = change.after;
-    if sweep != after.frame().sweeps {
+    let link = pair.link;
+    if pair.sweep != after.frame().sweeps {
         return;
     }
     if !same_weights(change.before, after, link, change.node.is_some()) {

@@ -14,13 +14,15 @@ loop-link-init g c = record {
   steps = omega arith;
 }
 
-pub turn-count-requires : goal.turn-count-requires
-turn-count-requires g c = record {
+pub invariant_of-pair : goal.invariant_of-pair
+invariant_of-pair g c = record {
   first = c.requires.first;
   last = c.requires.last;
-  link = omega (arith, c.loop-link-test.true, ap length c.links-link-end.ensures.value);
-  front = c.loop-link.invariant.front;
+  inside = omega (arith, c.loop-link-test.true, ap length c.links-link-end.ensures.value);
 }
+
+pub turn-count-requires : goal.turn-count-requires
+turn-count-requires g c = c.loop-link.invariant.front
 
 pub overflow_add-count : goal.overflow_add-count
 overflow_add-count g c =

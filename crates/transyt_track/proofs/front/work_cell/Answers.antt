@@ -5,5 +5,5 @@ use Rattle.transyt_track.proofs.front.work_cell.Goals as goal
 
 pub row_differs-requires-clause-steps : goal.row_differs-requires-clause-steps
 row_differs-requires-clause-steps g c =
-    worked_steps c.args.net.now c.args.link (read_in c.args.kept.now.now c.args.sweep c.args.link)
+    worked_steps c.args.pair.now.change.now.after.now c.args.pair.now.link (read_in c.args.kept.now.now c.args.pair.now.sweep c.args.pair.now.link)
     c.args.kept.now.now.step_count c.cell.new.scratch c.cell.ensures.value c.requires.fits.step_count

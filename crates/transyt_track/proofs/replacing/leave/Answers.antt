@@ -10,31 +10,31 @@ use Rattle.transyt_track.proofs.ShapeLaws.{shape_count}
 use Rattle.transyt_track.proofs.replacing.leave.Goals as goal
 
 pub same_weights-requires-clause-link : goal.same_weights-requires-clause-link
-same_weights-requires-clause-link c = omega (arith, c.requires.link, shape_count _ _ c.args.change.now.same_shape)
+same_weights-requires-clause-link c = omega (arith, c.args.pair.now.inside, shape_count _ _ c.args.pair.now.change.now.same_shape)
 
 pub returns-then-not-same_weights : goal.returns-then-not-same_weights
 returns-then-not-same_weights c =
-    let b = c.args.change.now.after.now in
-    let l = c.args.link in
+    let b = c.args.pair.now.change.now.after.now in
+    let l = c.args.pair.now.link in
     let rows = c.args.kept.now.now in
     let sweeps : c.frame.result.sweeps ≡ b.frame.sweeps = ap (λ (f : Frame). f.sweeps) c.frame.ensures.value in
-    let last : c.args.sweep ≡ b.frame.sweeps = omega (arith, c.if-sweep-frame.false, sweeps) in
+    let last : c.args.pair.now.sweep ≡ b.frame.sweeps = omega (arith, c.if-pair-frame.false, sweeps) in
     let figures : c.figures-figures.result ≡ (shown_at rows l).figures = c.figures-figures.ensures.value in
     c.put_figures.ensures
     ∙ ap (λ f. record c.args.kept.now { now = with_figures rows l f })
     (c.reweigh.ensures.value ∙ ap (reweighed b l) figures)
     ∙ ap (λ w. record c.args.kept.now { now = if w then with_weights rows b l else rows })
-    (sym (same_test c.args.sweep b.frame.sweeps (sym last)))
+    (sym (same_test c.args.pair.now.sweep b.frame.sweeps (sym last)))
 
 pub returns-else-not-same_weights : goal.returns-else-not-same_weights
 returns-else-not-same_weights c =
-    let b = c.args.change.now.after.now in
-    let l = c.args.link in
+    let b = c.args.pair.now.change.now.after.now in
+    let l = c.args.pair.now.link in
     let rows = c.args.kept.now.now in
     let sweeps : c.frame.result.sweeps ≡ b.frame.sweeps = ap (λ (f : Frame). f.sweeps) c.frame.ensures.value in
-    let last : c.args.sweep ≡ b.frame.sweeps = omega (arith, c.if-sweep-frame.false, sweeps) in
+    let last : c.args.pair.now.sweep ≡ b.frame.sweeps = omega (arith, c.if-pair-frame.false, sweeps) in
     let told : IsTrue c.same_weights.result = search rules in
     ap (λ (r : RowsValue). record c.args.kept.now { now = r })
-    (sym (ap (λ w. if w then with_weights rows b l else rows) (same_test c.args.sweep b.frame.sweeps (sym last))
-    ∙ weights_stay c.args.change.now.before.now b l rows c.args.change.now.same_shape (c.same_weights.ensures.0 told)
+    (sym (ap (λ w. if w then with_weights rows b l else rows) (same_test c.args.pair.now.sweep b.frame.sweeps (sym last))
+    ∙ weights_stay c.args.pair.now.change.now.before.now b l rows c.args.pair.now.change.now.same_shape (c.same_weights.ensures.0 told)
     (ap (λ (v : CellValue). v.figures) (c.requires.shown last))))

@@ -10,10 +10,10 @@ pub place_shown-requires : goal.place_shown-requires
 place_shown-requires c =
     let put = c.place_out.ensures in
     record {
-      link = rw put (omega (arith, c.requires.link, c.requires.fits.link_count));
+      link = rw put (omega (arith, c.args.pair.now.inside, c.requires.fits.link_count));
       steps = c.requires.steps ∙ sym (ap (λ (k : KeptValue). k.now.step_count) put);
       same = λ same.
-          ap (λ (k : KeptValue). (shown_at k.now c.args.link).go) put
+          ap (λ (k : KeptValue). (shown_at k.now c.args.pair.now.link).go) put
           ∙ c.requires.go_same (c.if-sweep-frame.true ∙ ap (λ (f : Frame). f.sweeps) c.frame.ensures.value) same;
     }
 
@@ -21,8 +21,8 @@ pub returns-then-sweep-frame-clause-value : goal.returns-then-sweep-frame-clause
 returns-then-sweep-frame-clause-value c =
     let front = c.args.front.now in
     let rows = front.kept.now in
-    let s = c.args.sweep in
-    let l = c.args.link in
+    let s = c.args.pair.now.sweep in
+    let l = c.args.pair.now.link in
     let out : RowsValue = with_out rows s l front.scratch.out in
     let last : rows.sweeps ≡ s =
     c.requires.fits.sweeps ∙ sym (c.if-sweep-frame.true ∙ ap (λ (f : Frame). f.sweeps) c.frame.ensures.value) in
@@ -35,8 +35,8 @@ pub returns-else-sweep-frame-clause-value : goal.returns-else-sweep-frame-clause
 returns-else-sweep-frame-clause-value c =
     let front = c.args.front.now in
     let rows = front.kept.now in
-    let s = c.args.sweep in
-    let l = c.args.link in
+    let s = c.args.pair.now.sweep in
+    let l = c.args.pair.now.link in
     let out : RowsValue = with_out rows s l front.scratch.out in
     let sweeps : rows.sweeps ≡ c.frame.result.sweeps =
     c.requires.fits.sweeps ∙ sym (ap (λ (f : Frame). f.sweeps) c.frame.ensures.value) in
