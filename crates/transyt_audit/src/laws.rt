@@ -37,6 +37,8 @@ pub fn worked_verdicts()
         ≡ No 11 Code.OtherLine }
     ensures surplus { verdict bare (lines_text (first_line ∷ bare_lines ++ first_line ∷ [])) 8
         ≡ No 16 Code.OtherLine }
+    ensures missing { verdict bare (lines_text (first_line ∷ note ∷ [])) 8
+        ≡ No 11 Code.OtherLine }
     ensures no_plan { verdict (record bare { plan = None }) [] 8 ≡ No 8 Code.NoPlan }
     ensures lower { verdict other
         (lines_text (note ∷ other_moves ++ codes "CERT 6 INDEX 10773335" ∷ [])) 8

@@ -10,7 +10,7 @@ ghost use Rattle.transyt_equisat.specs.WorkedBalances.{empty_town, quiet_town, g
 ghost use Rattle.transyt_equisat.specs.WorkedBalances.{even_town, three_without_traffic, balance_of_even};
 ghost use Rattle.transyt_equisat.specs.WorkedBalances.{equal_town, four_at_peak, nine_at_peak, balance_by_four, balance_by_nine};
 ghost use Rattle.transyt_equisat.specs.WorkedPeaks.{fraction, compared, stages_of_21, stages_of_7, unplanned};
-ghost use Rattle.transyt_equisat.specs.WorkedPeaks.{tight_town, tight_node, worthless, not_least};
+ghost use Rattle.transyt_equisat.specs.WorkedPeaks.{tight, tight_town, tight_node, worthless, not_least};
 
 /// The worked balances come out as they are written beside the definitions: of two links at the peak the first in card
 /// order is told, whichever that is. So do the greens that fill a cycle.
@@ -50,9 +50,10 @@ pub fn worked_peaks()
     ensures timed { timed two_stages (share 7 6 9 ∷ []) ≡ new_stage 7 1 2 ∷ new_stage 0 1 2 ∷ [] }
 {}
 
-/// Answers that are wrong in one thing aren't worth what is said of a balance.
-#[tactic(auto, using(crate::proofs::WorkedPeaks::none_is_balanced, crate::proofs::WorkedPeaks::another_is_less))]
+/// An answer is worth what is said of a balance, and answers that are wrong in one thing aren't.
+#[tactic(auto, using(crate::proofs::WorkedPeaks::tight_is, crate::proofs::WorkedPeaks::none_is_balanced, crate::proofs::WorkedPeaks::another_is_less))]
 pub fn worked_worth()
+    ensures balanced { IsBalanced tight_town tight_node (tight 3110 6220 4 5 3 3) }
     ensures worthless { All (λ g. IsBalanced tight_town tight_node g → ⊥) worthless }
     ensures not_least { IsBalanced worked_town (node_of worked_town 1) not_least → ⊥ }
 {}

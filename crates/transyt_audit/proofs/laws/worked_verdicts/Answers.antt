@@ -19,6 +19,10 @@ pub returns-clause-surplus : goal.returns-clause-surplus
 unfolding move digits
 returns-clause-surplus c = on_bare (lines_text (first_line ∷ bare_lines ++ first_line ∷ []))
 
+pub returns-clause-missing : goal.returns-clause-missing
+unfolding move digits
+returns-clause-missing c = on_bare (lines_text (first_line ∷ note ∷ []))
+
 pub returns-clause-no_plan : goal.returns-clause-no_plan
 returns-clause-no_plan c = refl
 
