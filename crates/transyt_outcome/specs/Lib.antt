@@ -2,4 +2,5 @@
 pub mod Outcome
 pub mod RunSoFar
 pub mod Runs
+pub mod WorkedLimits
 pub mod WorkedOutcomes

@@ -10,8 +10,10 @@
 
 mod ending;
 mod laws;
+mod limits;
 mod status;
 
 pub use ending::{Ending, Stop, ended, stopped, stopped_reading};
 pub use laws::worked_outcomes;
+pub use limits::{worked_claims, worked_faults, worked_limits};
 pub use status::Status;
