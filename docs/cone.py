@@ -1,14 +1,17 @@
-"""cone.py [CLAUSE]: the definitions on which a clause of the top call rests, as the table of docs/THEOREM.md.
+"""cone.py [CLAUSE]: the definitions on which a clause rests, as the table of docs/THEOREM.md.
 
-CLAUSE is headline (where none is named) or climbs. From the words that the clause names it goes to the words that their
-definitions in crates/*/specs name, and so on. The crates stand in the order of crates.txt, each after those on which it
-stands. Lines are those of definitions, without comments, blank lines and imports. Words of std are left out; structs and
-enums that are declared in src/ are listed at the end. `cone.py names [CLAUSE]` tells the names of the definitions too."""
+CLAUSE is headline (where none is named) or climbs of the top call, or program, the headline of the function that main
+calls. From the words that the clause names it goes to the words that their definitions in crates/*/specs name, and so on.
+The crates stand in the order of crates.txt, each after those on which it stands. Lines are those of definitions, without
+comments, blank lines and imports. Structs and enums that are declared in src/ are listed at the end, and words of std are
+counted. `cone.py names [CLAUSE]` tells the names of the definitions and of the words of std too."""
 import os, re, sys
 
 here = os.path.dirname(os.path.abspath(__file__))
 crates = os.path.join(here, '..', 'crates')
-clauses = {'headline': ['IsRun', 'word_of', 'Rose', 'report', 'status'], 'climbs': ['ClimbDescends', 'run_state']}
+clauses = {'headline': ('top.rt', ['IsRun', 'word_of', 'Rose', 'report', 'status']),
+           'climbs': ('top.rt', ['ClimbDescends', 'run_state']),
+           'program': ('given.rt', ['OverHeadline', 'after_name'])}
 
 
 def lines_of(path):
@@ -42,12 +45,15 @@ def read(module):
 
 
 def cone(clause):
-    """The definitions, by module, and the structs and enums."""
-    top = imported(lines_of(os.path.join(crates, 'transyt', 'src', 'top.rt')))
-    todo, modules, found, types = [(top[name], name) for name in clauses[clause]], {}, {}, set()
+    """The definitions, by module, the structs and enums, and the words of std."""
+    file, names = clauses[clause]
+    top = imported(lines_of(os.path.join(crates, 'transyt', 'src', file)))
+    todo, modules, found, types, library = [(top[name], name) for name in names], {}, {}, set(), set()
     while todo:
         module, name = todo.pop()
-        if module.startswith('std.'): continue
+        if module.startswith('std.'):
+            library.add(name)
+            continue
         if '.declared.' in module:
             types.add(module.split('.specs.')[0] + '::' + (module.split('.')[-2] if 'TheVariants' in module else name))
             continue
@@ -59,11 +65,11 @@ def cone(clause):
             found[module][name] = definitions[name]
             words = set(definitions[name][2])
             todo += [(module if word in definitions else uses[word], word) for word in words if word in {**uses, **definitions}]
-    return found, types
+    return found, types, sorted(library)
 
 
 words = [word for word in sys.argv[1:] if word != 'names']
-found, types = cone(words[0] if words else 'headline')
+found, types, library = cone(words[0] if words else 'headline')
 order = [line.split()[0].rstrip(':') for line in lines_of(os.path.join(here, '..', 'crates.txt')) if line[:1].isalpha()]
 count = lambda module: sum(lines for name, (owner, lines, _) in found[module].items() if owner == name)
 print('| Crate | Files of `specs/`, and the lines of each | Lines |\n|---|---|---|')
@@ -75,5 +81,6 @@ for crate in order:
         if 'names' in sys.argv:
             for module in mine: print(f'    {module}: {", ".join(found[module])}')
 definitions = sum(owner == name for module in found for name, (owner, _, _) in found[module].items())
-print(f'\n{len(found)} files, {definitions} definitions, {sum(map(count, found))} lines.')
+print(f'\n{len(found)} files, {definitions} definitions, {sum(map(count, found))} lines; {len(library)} words of std.')
 print('Structs and enums: ' + ', '.join(f'`{name}`' for name in sorted(types)) + '.')
+if 'names' in sys.argv: print('Words of std: ' + ', '.join(f'`{name}`' for name in library) + '.')

@@ -7,5 +7,8 @@ pub mod Refusals
 pub mod SaidCards
 pub mod TaskLaws
 pub mod ValidRuns
+pub mod WorkedClimbs
+pub mod WorkedProgram
+pub mod WorkedRuns
 pub mod WorkedSteps
 pub mod WorkedTasks

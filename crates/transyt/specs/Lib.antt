@@ -4,4 +4,6 @@ pub mod Reports
 pub mod Program
 pub mod Tasks
 pub mod Words
+pub mod WorkedClimbs
+pub mod WorkedProgram
 pub mod WorkedWords

@@ -1,16 +1,17 @@
 //! The end of the program: its number, and its sentence on standard error.
-ghost use Rattle.std.specs.Prelude.{◌≡◌, ◌≢◌, ◌≤◌, ◌↔◌, Ok, Err, IfOk, IfErr, IsSome};
+ghost use Rattle.std.specs.Prelude.{◌≡◌, ◌≢◌, ◌≤◌, ◌↔◌, Ok, IfOk, IfErr, IsSome};
 ghost use Rattle.transyt_outcome.specs.Outcome.{exit_number};
+ghost use Rattle.transyt.specs.Program.{number_without_words};
 
 use std::io::ErrorKind;
 use transyt_outcome::Status;
 
 /// The exit number of the program: that of the status; where the words could not be had, 5 out of memory and 7 for
 /// another cause.
+#[tactic(auto, using(crate::proofs::GivenLaws::other_number))]
 pub fn exit_of(ended: Result<Status, ErrorKind>) -> u8
     ensures status { IfOk ended (λ status. result ≡ exit_number status) }
-    ensures out_of_memory { ended ≡ Err ErrorKind.OutOfMemory → result ≡ 5 }
-    ensures no_words { IfErr ended (λ cause. cause ≢ ErrorKind.OutOfMemory → result ≡ 7) }
+    ensures no_words { IfErr ended (λ cause. result ≡ number_without_words cause) }
     ensures most { result ≤ 7 }
 {
     match ended {

@@ -1,8 +1,8 @@
 //! The program with the words that std answers.
 ghost use Rattle.std.specs.IoError.{error_kind};
-ghost use Rattle.std.specs.Prelude.{◌≡◌, ◌≤◌, ◌⊎◌, IfErr, IfOk, IfSome, IsOkAnd, MatchResult, Some, map, string_bytes};
+ghost use Rattle.std.specs.Prelude.{◌≡◌, ◌≤◌, IfErr, IfOk, IfSome, IsOkAnd, MatchResult, Some, map, string_bytes};
 ghost use Rattle.std.specs.Vec.Iter.{into_iter_items};
-ghost use Rattle.transyt.specs.Program.{ArgsRan, OverHeadline, after_name};
+ghost use Rattle.transyt.specs.Program.{ArgsRan, OverHeadline, after_name, number_without_words};
 
 use crate::over::run_over;
 use std::alloc::Global;
@@ -37,8 +37,8 @@ pub fn run_args<R: Threads + Sync + Eprint + AllocGlobal, I: Read + Drop, W: Wri
     reader: I,
     writer: W,
 ) -> (u8, W)
-    // with the words that std answered, after the first, the program's name: the number is that of a status, and
-    // where no call failed and there was memory the writer holds what it held and what the words ask for
+    // with the words that std answered, after the first, the program's name: the number is that of a status, the bytes
+    // taken and written are as this status says, or there was no memory for the list of words
     ensures ran { IfOk args (λ given. ArgsRan
         (map string_bytes (after_name (into_iter_items given)))
         (I.remaining reader) (W.contents writer) (W.contents result.1) result.0) }
@@ -49,9 +49,8 @@ pub fn run_args<R: Threads + Sync + Eprint + AllocGlobal, I: Read + Drop, W: Wri
     // with no words nothing is written
     ensures no_words { IfErr args (λ error.
         IfSome (W.contents writer) (λ held. W.contents result.1 ≡ Some held)) }
-    ensures no_words_number { IfErr args (λ error. (result.0 ≡ 5) ⊎ (result.0 ≡ 7)) }
-    ensures out_of_memory { IfErr args
-        (λ error. error_kind error ≡ ErrorKind.OutOfMemory → result.0 ≡ 5) }
+    ensures no_words_number { IfErr args
+        (λ error. result.0 ≡ number_without_words (error_kind error)) }
     ensures most { result.0 ≤ 7 }
 {
     let given = given_words(args, rt.alloc());

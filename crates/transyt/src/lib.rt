@@ -21,6 +21,7 @@ mod top;
 mod town;
 mod version;
 mod word;
+mod worked;
 
 pub use ending::{exit_of, sentence_of};
 pub use given::{given_words, run_args};
@@ -33,3 +34,4 @@ pub use transyt_desks::{Gate, OpenGate};
 pub use transyt_line_answers::steps_lower;
 pub use transyt_outcome::Status;
 pub use version::VERSION;
+pub use worked::{worked_calls, worked_climbs, worked_refusals, worked_runs};

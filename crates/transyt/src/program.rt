@@ -1,8 +1,9 @@
 //! The program over any source and sink: its words, the top call and the end.
 ghost use Rattle.std.specs.IoError.{error_kind};
-ghost use Rattle.std.specs.Prelude.{◌≡◌, ◌≢◌, ◌<◌, ◌≤◌, ◌⊎◌, IfErr, IfOk, map, string_bytes};
+ghost use Rattle.std.specs.Prelude.{◌≡◌, ◌≢◌, ◌<◌, ◌≤◌, IfErr, IfOk, map, string_bytes};
 ghost use Rattle.transyt_outcome.specs.declared.status.Status.{Status};
-ghost use Rattle.transyt.specs.Program.{ProgramHeadline, ProgramRan, TopCall, after_name, ends_of};
+ghost use Rattle.transyt.specs.Program.{ProgramHeadline, ProgramRan, TopCall, after_name, ends_of, sides_of};
+ghost use Rattle.transyt.specs.Program.{number_without_words};
 
 use crate::ending::{exit_of, sentence_of};
 use crate::host_gate::HostGate;
@@ -39,8 +40,8 @@ fn run_words<R: Threads + Sync + AllocGlobal, S: Source, K: Sink, L: Ledger>(
     requires parts { blank.parts ≡ L.parts }
     requires some { 0 < L.parts }
     ensures { TopCall (map string_bytes words.now)
-        (ends_of S.left S.last S.faults K.written K.faults source.old sink.old)
-        (ends_of S.left S.last S.faults K.written K.faults source.new sink.new) result }
+        (sides_of (ends_of S.left S.last S.faults K.written K.faults) source.old sink.old)
+        (sides_of (ends_of S.left S.last S.faults K.written K.faults) source.new sink.new) result }
 {
     let mut steps = Steps::<L>::begin(blank);
     transyt(
@@ -62,8 +63,8 @@ fn run_call<R: Threads + Sync + AllocGlobal, S: Source, K: Sink>(
     sink: &mut K,
 ) -> Status
     ensures { TopCall (map string_bytes words.now)
-        (ends_of S.left S.last S.faults K.written K.faults source.old sink.old)
-        (ends_of S.left S.last S.faults K.written K.faults source.new sink.new) result }
+        (sides_of (ends_of S.left S.last S.faults K.written K.faults) source.old sink.old)
+        (sides_of (ends_of S.left S.last S.faults K.written K.faults) source.new sink.new) result }
 {
     run_words::<R, S, K, Brand>(rt, words, source, sink, Blank::new(1))
 }
@@ -117,8 +118,9 @@ fn run_given<R: Threads + Sync + Eprint + AllocGlobal, S: Source, K: Sink>(
     telling: &mut Telling<'_, R, K>,
 ) -> Status
     ensures { TopCall (map string_bytes (after_name given.now))
-        (ends_of S.left S.last S.faults K.written K.faults source.old telling.old.sink)
-        (ends_of S.left S.last S.faults K.written K.faults source.new telling.new.sink) result }
+        (sides_of (ends_of S.left S.last S.faults K.written K.faults) source.old telling.old.sink)
+        (sides_of (ends_of S.left S.last S.faults K.written K.faults) source.new telling.new.sink)
+        result }
 {
     let status = run_call(rt, after_name(given), source, telling);
     tell(rt, Ok(status));
@@ -127,8 +129,7 @@ fn run_given<R: Threads + Sync + Eprint + AllocGlobal, S: Source, K: Sink>(
 
 /// The program without words: nothing is read or written.
 fn run_without<R: Eprint>(rt: &R, cause: ErrorKind) -> u8
-    ensures number { (result ≡ 5) ⊎ (result ≡ 7) }
-    ensures out_of_memory { cause ≡ ErrorKind.OutOfMemory → result ≡ 5 }
+    ensures number { result ≡ number_without_words cause }
     ensures most { result ≤ 7 }
 {
     tell(rt, Err(cause));
@@ -148,8 +149,9 @@ pub fn run_program<R: Threads + Sync + Eprint + AllocGlobal, S: Source, K: Sink>
 ) -> (u8, K)
     // the top call's outcome of one run with the words after the program's name; the number is that of its status
     ensures ran { IfOk given (λ words. ProgramRan (map string_bytes (after_name words.items))
-        (ends_of S.left S.last S.faults K.written K.faults source.old sink)
-        (ends_of S.left S.last S.faults K.written K.faults source.new result.1) result.0) }
+        (sides_of (ends_of S.left S.last S.faults K.written K.faults) source.old sink)
+        (sides_of (ends_of S.left S.last S.faults K.written K.faults) source.new result.1)
+        result.0) }
     // with `run`, with no fault and no want of memory: the report of the input, and the number of its status
     ensures headline { IfOk given
         (λ words. ProgramHeadline (map string_bytes (after_name words.items))
@@ -157,9 +159,8 @@ pub fn run_program<R: Threads + Sync + Eprint + AllocGlobal, S: Source, K: Sink>
         (ends_of S.left S.last S.faults K.written K.faults source.new result.1) result.0) }
     // with no words nothing is read or written
     ensures no_words { IfErr given (λ error. (source.new ≡ source.old) × (result.1 ≡ sink)) }
-    ensures no_words_number { IfErr given (λ error. (result.0 ≡ 5) ⊎ (result.0 ≡ 7)) }
-    ensures out_of_memory { IfErr given
-        (λ error. error_kind error ≡ ErrorKind.OutOfMemory → result.0 ≡ 5) }
+    ensures no_words_number { IfErr given
+        (λ error. result.0 ≡ number_without_words (error_kind error)) }
     ensures most { result.0 ≤ 7 }
 {
     let words = match given {

@@ -7,7 +7,9 @@ returns g c =
     let all = c.transyt.ensures in
     record {
       bad_words = all.bad_words;
+      untouched = λ bad. let same = all.untouched bad in let source = same.0 in let sink = same.1 in cc;
       outcome = all.outcome;
+      reads_nothing = all.reads_nothing;
       read_fault = all.read_fault;
       write_fault = all.write_fault;
       told = λ memory quiet. all.told memory quiet.read quiet.write;
