@@ -28,6 +28,7 @@ pub word_settled : (word : Word) → IsSettledTask (task word)
 word_settled (w.Run workers) = lines_settled deck_answering
 word_settled (w.Make town) = tt
 word_settled (w.Brief town workers) = tt
+word_settled w.Version = tt
 word_settled _ = record {
   ends = λ taken more ended. absurd ended;
   report = λ taken more ended. absurd ended;

@@ -7,3 +7,4 @@ pub mod Words
 pub mod WorkedClimbs
 pub mod WorkedProgram
 pub mod WorkedWords
+pub mod Version

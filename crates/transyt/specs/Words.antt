@@ -21,6 +21,7 @@ use Rattle.transyt.specs.declared.town.Town.{Town}
 use Rattle.transyt.specs.declared.word.Word.{Word}
 use Rattle.transyt.specs.declared.word.Word.TheVariants as w
 use Rattle.transyt.specs.Numbers.{workers_of, IsTown, town_of, times_of}
+use Rattle.transyt.specs.Version.{version_text}
 use Rattle.transyt.specs.Tasks.{Task, Reads, Writes, TextSteps}
 
 -- the numbers of a word are in their ranges
@@ -60,13 +61,16 @@ brief_word (seed ∷ nodes ∷ workers ∷ []) = brief_by (town_of seed nodes) (
 brief_word _ = None
 
 -- the task of `starts` with these numbers
-abbrev pub starts_by : Option ℕ → Option ℕ → Option ℕ → Option Word
-starts_by (Some workers) (Some seed) (Some count) = option_map w.Starts (starts_of workers seed count)
-starts_by _ _ _ = None
+abbrev pub starts_by : Option ℕ → Option ℕ → Option ℕ → Option ℕ → Option Word
+starts_by (Some workers) (Some seed) (Some count) (Some from) = option_map w.Starts (starts_of workers seed count from)
+starts_by _ _ _ _ = None
 
--- `starts w seed count`
+-- `starts w seed count`, which begins with the deck's own plan, and `starts w seed count from`
 abbrev pub starts_word : List (List ℕ) → Option Word
-starts_word (workers ∷ seed ∷ count ∷ []) = starts_by (workers_of workers) (number_of seed) (number_of count)
+starts_word (workers ∷ seed ∷ count ∷ []) =
+    starts_by (workers_of workers) (number_of seed) (number_of count) (Some 0)
+starts_word (workers ∷ seed ∷ count ∷ from ∷ []) =
+    starts_by (workers_of workers) (number_of seed) (number_of count) (number_of from)
 starts_word _ = None
 
 -- the word that is spelled; none where the program doesn't take the words
@@ -82,6 +86,7 @@ word_of (name ∷ rest) =
     else if bytes_eq name (codes "cycles") then option_map w.Cycles (times_of rest)
     else if bytes_eq name (codes "starts") then starts_word rest
     else if bytes_eq name (codes "audit") then alone w.Audit rest
+    else if bytes_eq name (codes "version") then alone w.Version rest
     else None
 
 -- the words are `run` or `run w`
@@ -96,10 +101,11 @@ task (w.Make town) = Writes (deck_text (made town.seed town.nodes))
 task (w.Brief town workers) = Writes (brief_text (made town.seed town.nodes))
 task w.Counts = Reads (of_whole (answer_after counts_answer))
 task w.Equisat = Reads (of_whole (answer_after equisat_answer))
+task w.Version = Writes version_text
 task w.Audit = Reads (of_whole (answer_after audit_answer))
 task (w.Scan asked) = Reads (of_whole (answer_after (scan_answer asked.times)))
 task (w.Cycles asked) = Reads (of_whole (answer_after (cycles_answer asked.times)))
-task (w.Starts asked) = Reads (of_whole (answer_after (starts_answer asked.seed asked.count)))
+task (w.Starts asked) = Reads (of_whole (answer_after (starts_answer asked.seed asked.count asked.from)))
 
 -- the task of words; none where the program doesn't take them
 abbrev pub task_of : List (List ℕ) → Option Task

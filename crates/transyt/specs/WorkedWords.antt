@@ -14,9 +14,9 @@ asked workers low high by = record { workers = workers; times = record { low = l
 abbrev pub town : ℕ → ℕ → Town
 town seed nodes = record { seed = seed; nodes = nodes }
 
--- so many starts from a seed
-abbrev pub from_seed : ℕ → ℕ → ℕ → StartsWord
-from_seed workers seed count = record { workers = workers; seed = seed; count = count }
+-- so many starts from a seed, from a number on
+abbrev pub from_seed : ℕ → ℕ → ℕ → ℕ → StartsWord
+from_seed workers seed count from = record { workers = workers; seed = seed; count = count; from = from }
 
 -- lists of words, each with what it asks for
 abbrev pub worked_words : List (List (List ℕ) × Option Word)
@@ -45,6 +45,8 @@ worked_words =
     ∷ (codes "equisat" ∷ [], Some w.Equisat)
     ∷ (codes "audit" ∷ [], Some w.Audit)
     ∷ (codes "counts" ∷ codes "2" ∷ [], None)
+    ∷ (codes "version" ∷ [], Some w.Version)
+    ∷ (codes "version" ∷ codes "1" ∷ [], None)
     ∷ (codes "scan" ∷ codes "2" ∷ codes "60" ∷ codes "120" ∷ codes "17" ∷ [], Some (w.Scan (asked 2 60 120 17)))
     ∷ (codes "scan" ∷ codes "8" ∷ codes "30" ∷ codes "240" ∷ codes "210" ∷ [], Some (w.Scan (asked 8 30 240 210)))
     ∷ (codes "scan" ∷ codes "2" ∷ codes "29" ∷ codes "120" ∷ codes "17" ∷ [], None)
@@ -56,17 +58,22 @@ worked_words =
     ∷ (codes "cycles" ∷ codes "2" ∷ codes "60" ∷ codes "120" ∷ codes "17" ∷ [], Some (w.Cycles (asked 2 60 120 17)))
     ∷ (codes "cycles" ∷ codes "2" ∷ codes "60" ∷ codes "120" ∷ codes "0" ∷ [], None)
     ∷ (codes "cycles" ∷ codes "2" ∷ codes "60" ∷ codes "120" ∷ [], None)
-    ∷ (codes "starts" ∷ codes "3" ∷ codes "7" ∷ codes "1000" ∷ [], Some (w.Starts (from_seed 3 7 1000)))
+    ∷ (codes "starts" ∷ codes "3" ∷ codes "7" ∷ codes "1000" ∷ [], Some (w.Starts (from_seed 3 7 1000 0)))
     ∷ (codes "starts" ∷ codes "3" ∷ codes "7" ∷ codes "1001" ∷ [], None)
     ∷ (codes "starts" ∷ codes "3" ∷ codes "7" ∷ [], None)
+    ∷ (codes "starts" ∷ codes "3" ∷ codes "7" ∷ codes "500" ∷ codes "499" ∷ [], Some (w.Starts (from_seed 3 7 500 499)))
+    ∷ (codes "starts" ∷ codes "3" ∷ codes "7" ∷ codes "500" ∷ codes "501" ∷ [], None)
+    ∷ (codes "starts" ∷ codes "3" ∷ codes "7" ∷ codes "500" ∷ codes "5x" ∷ [], None)
+    ∷ (codes "starts" ∷ codes "3" ∷ codes "7" ∷ codes "500" ∷ codes "499" ∷ codes "1" ∷ [], None)
     ∷ []
 
 -- words whose numbers are in their ranges: each at its least and at its greatest
 abbrev pub words_in_range : List Word
 words_in_range =
     w.Run 1 ∷ w.Run 8 ∷ w.Make (town 0 1) ∷ w.Make (town 999999999 200) ∷ w.Brief (town 0 200) 1
-    ∷ w.Brief (town 999999999 1) 8 ∷ w.Counts ∷ w.Equisat ∷ w.Audit ∷ w.Scan (asked 1 30 240 210)
-    ∷ w.Cycles (asked 8 30 240 1) ∷ w.Starts (from_seed 1 0 1) ∷ w.Starts (from_seed 8 999999999 1000) ∷ []
+    ∷ w.Brief (town 999999999 1) 8 ∷ w.Counts ∷ w.Equisat ∷ w.Audit ∷ w.Version ∷ w.Scan (asked 1 30 240 210)
+    ∷ w.Cycles (asked 8 30 240 1) ∷ w.Starts (from_seed 1 0 1 0) ∷ w.Starts (from_seed 8 999999999 1000 0)
+    ∷ w.Starts (from_seed 3 7 1 999) ∷ []
 
 -- words with one number that is one past its range
 abbrev pub words_out_of_range : List Word
@@ -74,4 +81,4 @@ words_out_of_range =
     w.Run 0 ∷ w.Run 9 ∷ w.Make (town 1000000000 64) ∷ w.Make (town 7 0) ∷ w.Make (town 7 201)
     ∷ w.Brief (town 1000000000 64) 3 ∷ w.Brief (town 7 0) 3 ∷ w.Brief (town 7 201) 3 ∷ w.Brief (town 7 64) 0
     ∷ w.Brief (town 7 64) 9 ∷ w.Scan (asked 2 60 120 211) ∷ w.Cycles (asked 9 60 120 17)
-    ∷ w.Starts (from_seed 2 7 0) ∷ w.Starts (from_seed 2 7 1001) ∷ []
+    ∷ w.Starts (from_seed 2 7 0 3) ∷ w.Starts (from_seed 2 7 1001 0) ∷ w.Starts (from_seed 2 7 1 1000) ∷ []

@@ -41,7 +41,7 @@ pub fn sentence_of(ended: Result<Status, ErrorKind>) -> Option<&'static str>
 
 /// The sentence for words that the program doesn't take.
 const WORDS: &str = "\
-These words are none that the program takes. It takes:
+The program takes these words:
 
   run [W]                reads a deck and then commands, and answers each line as it comes
   brief SEED NODES [W]   climbs once on the network that make writes, and tells the outcome in one line
@@ -49,11 +49,14 @@ These words are none that the program takes. It takes:
   counts                 reads a deck and a table of counts, and writes commands for run
   equisat                reads a deck, and writes for each node the greens that its links saturate alike
   cycles W LOW HIGH BY   reads a deck, climbs at each cycle time from LOW to HIGH seconds, and writes the best as a deck
-  starts W SEED COUNT    reads a deck, climbs from COUNT starts with drawn offsets, and writes the best as a deck
+  starts W SEED COUNT [FROM]   reads a deck, climbs from COUNT starts with drawn offsets, from number FROM on (0 if left
+                         out), and writes the best as a deck
   scan W LOW HIGH BY     reads a deck, climbs at each cycle time with the deck's own steps, and tells the best
   audit                  reads a deck and its certificate, and tells whether it holds
+  version                says which program this is
 
   cycles keeps seconds: intergreens and least greens last as long in every cycle, and so there are more steps in a longer
   one. scan keeps steps: they are as many in every cycle, so intergreens last longer in a longer one.
 
-  W workers, 1 to 8, climb at once (1 if left out); SEED is at most 999999999, NODES 1 to 200, COUNT 1 to 1000.";
+  W workers, 1 to 8, climb at once (1 if left out); SEED is at most 999999999, NODES 1 to 200, COUNT 1 to 1000, and COUNT and
+  FROM together at most 1000. LOW and HIGH are 30 to 240, BY is 1 to 210.";

@@ -9,6 +9,7 @@
 //! each status says of both.
 #![tactic(auto)]
 
+mod bad_words;
 mod ending;
 mod given;
 mod host_gate;

@@ -5,6 +5,7 @@ ghost use Rattle.transyt_outcome.specs.declared.status.Status.{Status};
 ghost use Rattle.transyt.specs.Program.{ProgramHeadline, ProgramRan, TopCall, after_name, ends_of, sides_of};
 ghost use Rattle.transyt.specs.Program.{number_without_words};
 
+use crate::bad_words::tell_bad_words;
 use crate::ending::{exit_of, sentence_of};
 use crate::host_gate::HostGate;
 use crate::telling::Telling;
@@ -123,6 +124,9 @@ fn run_given<R: Threads + Sync + Eprint + AllocGlobal, S: Source, K: Sink>(
         result }
 {
     let status = run_call(rt, after_name(given), source, telling);
+    if let Status::BadWords = status {
+        tell_bad_words(rt, after_name(given));
+    }
     tell(rt, Ok(status));
     status
 }

@@ -7,6 +7,7 @@ ghost use Rattle.transyt.specs.Tasks.{TaskOutcome, TaskHeadline, TaskComplete, T
 ghost use Rattle.transyt.specs.Words.{task, task_of, WordSteps, IsRun, word_of, IsWord};
 
 use crate::town::{write_made, write_made_brief};
+use crate::version::write_version;
 use crate::word::{Word, word_of};
 use std::alloc::Global;
 use std::sync::ledger::Ledger;
@@ -83,6 +84,7 @@ fn answer_word<R: Threads + Sync, S: Source, K: Sink, G: Gate, L: Ledger>(
         Word::Counts => answer_whole(crew.host(), &CountsWord, source, sink, steps),
         Word::Equisat => answer_whole(crew.host(), &EquisatWord, source, sink, steps),
         Word::Audit => answer_whole(crew.host(), &AuditWord, source, sink, steps),
+        Word::Version => write_version(crew.alloc, sink),
         Word::Scan { asked } => answer_whole(crew.host(), &asked, source, sink, steps),
         Word::Cycles { asked } => {
             answer_whole(crew.host(), &CyclesWord { asked }, source, sink, steps)
@@ -103,7 +105,8 @@ fn answer_word<R: Threads + Sync, S: Source, K: Sink, G: Gate, L: Ledger>(
 /// - `scan w low high by` climbs on a deck at the cycle times low, low + by and so on up to high, with w workers;
 /// - `cycles w low high by` does so with steps as many seconds long as the deck's, and writes the deck of the best;
 /// - `starts w seed count` climbs on a deck from so many starts, whose offsets are drawn from the seed, with w
-///   workers, and writes the deck of the best.
+///   workers, and writes the deck of the best; `starts w seed count from` begins with the start of this number;
+/// - `version` writes which program this is.
 ///
 /// The output is the same for every number of workers. `run` answers each line of the input before the next is
 /// read, and each step of a climb is written before the next look; the words after it that read an input take
@@ -126,7 +129,7 @@ pub fn transyt<R: Threads + Sync, S: Source, K: Sink, G: Gate, L: Ledger>(
     ensures outcome { IfSome (task_of (map string_bytes words.now)) (λ asked.
         TaskOutcome asked (S.left source.old) (S.left source.new) (S.last source.new)
         (K.written sink.old) (K.written sink.new) result) }
-    // with `make` and `brief` nothing is read
+    // with `make`, `brief` and `version` nothing is read
     ensures reads_nothing { IfSome (task_of (map string_bytes words.now)) (λ asked.
         IsWriting asked → source.new ≡ source.old) }
 

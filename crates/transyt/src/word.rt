@@ -48,9 +48,11 @@ pub(crate) enum Word {
         /// The cycle times, and how many workers climb.
         asked: ScanWord,
     },
+    /// Which program this is, and what it was proved with.
+    Version,
     /// Climbs of a deck from starts with drawn offsets.
     Starts {
-        /// The seed, how many starts there are, and how many workers climb.
+        /// The seed, which starts are climbed from, and how many workers climb.
         asked: StartsWord,
     },
 }
@@ -200,26 +202,48 @@ fn cycles_word(rest: &[String]) -> Option<Word>
 }
 
 /// The starts of these numbers, with so many workers.
-fn starts_by(workers: Option<u32>, seed: Option<u32>, count: Option<u32>) -> Option<Word>
-    ensures word { result ≡ starts_by workers seed count }
+fn starts_by(
+    workers: Option<u32>,
+    seed: Option<u32>,
+    count: Option<u32>,
+    from: Option<u32>,
+) -> Option<Word>
+    ensures word { result ≡ starts_by workers seed count from }
     ensures within { IfSome result IsWord }
 {
-    let asked = StartsWord::new(workers?, seed?, count?)?;
+    let asked = StartsWord::new(workers?, seed?, count?, from?)?;
     Some(Word::Starts { asked })
 }
 
-/// `starts w seed count`.
+/// The starts of three words, beginning with the start of a number.
+fn starts_from(workers: &[u8], seed: &[u8], count: &[u8], from: Option<u32>) -> Option<Word>
+    ensures word { result
+        ≡ starts_by (workers_of workers.now) (number_of seed.now) (number_of count.now) from }
+    ensures within { IfSome result IsWord }
+{
+    starts_by(
+        workers_of(workers),
+        read_number(seed),
+        read_number(count),
+        from,
+    )
+}
+
+/// `starts w seed count` and `starts w seed count from`.
 fn starts_word(rest: &[String]) -> Option<Word>
     ensures word { result ≡ starts_word (map string_bytes rest.now) }
     ensures within { IfSome result IsWord }
 {
-    let [workers, seed, count] = rest else {
-        return None;
-    };
-    let workers = workers_of(workers.as_bytes());
-    let seed = read_number(seed.as_bytes());
-    let count = read_number(count.as_bytes());
-    starts_by(workers, seed, count)
+    match rest {
+        [workers, seed, count] => {
+            starts_from(workers.as_bytes(), seed.as_bytes(), count.as_bytes(), Some(0))
+        }
+        [workers, seed, count, from] => {
+            let from = read_number(from.as_bytes());
+            starts_from(workers.as_bytes(), seed.as_bytes(), count.as_bytes(), from)
+        }
+        _ => None,
+    }
 }
 
 /// The task of a word, by what stands after it.
@@ -237,6 +261,7 @@ fn named(name: &[u8], rest: &[String]) -> Option<Word>
         _ if is_word(name, b"cycles") => cycles_word(rest),
         _ if is_word(name, b"starts") => starts_word(rest),
         _ if is_word(name, b"audit") => alone(Word::Audit, rest),
+        _ if is_word(name, b"version") => alone(Word::Version, rest),
         _ => None,
     }
 }

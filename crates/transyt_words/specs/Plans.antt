@@ -1,5 +1,5 @@
 -- The answers of `starts` and `cycles` to a network: a table of plans, each line a comment of a deck.
-use Rattle.std.specs.Prelude.{ℕ, ◌≤◌, Bool, nat_le, ◌&&◌, if◌then◌else◌, Option, Some, None, ◌++◌, List, [], ◌∷◌, codes}
+use Rattle.std.specs.Prelude.{ℕ, ◌≤◌, ◌+◌, Bool, nat_le, ◌&&◌, if◌then◌else◌, Option, Some, None, ◌++◌, List, [], ◌∷◌, codes}
 use Rattle.std.specs.Prelude.{map}
 use Rattle.transyt_words.specs.declared.starts.StartsWord.{StartsWord}
 use Rattle.transyt_climbs.specs.declared.row.Climbed.{Climbed}
@@ -20,23 +20,25 @@ use Rattle.transyt_climbs.specs.declared.row.PlanRow.TheVariants as row
 use Rattle.transyt_climbs.specs.declared.plans.Planned.TheVariants as plan
 use Rattle.transyt_variants.specs.declared.cycles.AtCycle.TheVariants as at
 
--- one to eight workers, a seed of at most nine digits, and 1 to 1,000 starts
+-- one to eight workers, a seed of at most nine digits, and 1 to 1,000 starts, whose numbers are below 1,000
 pub record IsStarts (asked : StartsWord) : Type 0 where
   pub some_workers : 1 ≤ asked.workers
   pub few_workers : asked.workers ≤ 8
   pub seed : asked.seed ≤ 999999999
   pub some : 1 ≤ asked.count
-  pub few : asked.count ≤ 1000
+  pub few : asked.from + asked.count ≤ 1000
 
 -- whether such may be asked for
-abbrev pub are_starts : ℕ → ℕ → ℕ → Bool
-are_starts workers seed count =
-    nat_le 1 workers && nat_le workers 8 && nat_le seed 999999999 && nat_le 1 count && nat_le count 1000
+abbrev pub are_starts : ℕ → ℕ → ℕ → ℕ → Bool
+are_starts workers seed count from =
+    nat_le 1 workers && nat_le workers 8 && nat_le seed 999999999 && nat_le 1 count && nat_le (from + count) 1000
 
 -- the question of these numbers, where they may be
-abbrev pub starts_of : ℕ → ℕ → ℕ → Option StartsWord
-starts_of workers seed count =
-    if are_starts workers seed count then Some (record { workers = workers; seed = seed; count = count }) else None
+abbrev pub starts_of : ℕ → ℕ → ℕ → ℕ → Option StartsWord
+starts_of workers seed count from =
+    if are_starts workers seed count from
+    then Some (record { workers = workers; seed = seed; count = count; from = from })
+    else None
 
 -- the form of a climb's line, by whether it ended LOCAL
 abbrev pub climbed_form : Numbered → Bool → List ℕ
@@ -64,12 +66,12 @@ best_line (Some best) = line_of (codes "* BEST # #") (best.number ∷ best.to �
 abbrev pub table_lines : Numbered → List PlanRow → List LineValue
 table_lines by rows = map (row_line by) rows ++ best_line (best rows) ∷ []
 
--- so many starts, numbered from 0
-abbrev pub starts : ℕ → ℕ → PlanList
-starts seed count = record {
+-- so many starts, numbered from the number of the first; each is the network that it is in the list of all starts
+abbrev pub starts : ℕ → ℕ → ℕ → PlanList
+starts seed count from = record {
   count = count;
-  number = λ place. place;
-  planned = λ net place. plan.Plan (start_at net seed place);
+  number = λ place. from + place;
+  planned = λ net place. plan.Plan (start_at net seed (from + place));
 }
 
 -- the network of a cycle time to climb on, or the reason why there is none
@@ -100,8 +102,8 @@ abbrev pub plans_answer : Numbered → PlanList → Network → AnswerValue
 plans_answer by asked net = answer_by by asked net (table asked net)
 
 -- the answer of `starts`, whatever the number of workers; what stands after the deck isn't looked at
-abbrev pub starts_answer : ℕ → ℕ → Network → ℕ → List ℕ → AnswerValue
-starts_answer seed count net line after = plans_answer Starts (starts seed count) net
+abbrev pub starts_answer : ℕ → ℕ → ℕ → Network → ℕ → List ℕ → AnswerValue
+starts_answer seed count from net line after = plans_answer Starts (starts seed count from) net
 
 -- the same of `cycles`
 abbrev pub cycles_answer : CycleTimes → Network → ℕ → List ℕ → AnswerValue

@@ -4,16 +4,19 @@ use Rattle.transyt_parts.specs.Made.{new_stage, new_plan}
 use Rattle.transyt_net.specs.Parts.{Network}
 use Rattle.transyt_climbs.specs.declared.plans.Planned.TheVariants as plan
 use Rattle.transyt_climbs.specs.Climbs.{PlanList}
+use Rattle.transyt_climb.specs.WorkedTurns.{idle}
 use Rattle.transyt_climbs.specs.WorkedClimbs.{junction}
 use Rattle.transyt_words.specs.Answer.{LineValue, line_of}
 
--- the least that `starts` may be asked for in each place, and the greatest: workers, seed, count
-abbrev pub starts_in_range : List (ℕ × ℕ × ℕ)
-starts_in_range = (1, 0, 1) ∷ (8, 999999999, 1000) ∷ []
+-- the least that `starts` may be asked for in each place, and the greatest: workers, seed, count, number of the first
+abbrev pub starts_in_range : List (ℕ × ℕ × ℕ × ℕ)
+starts_in_range = (1, 0, 1, 0) ∷ (8, 999999999, 1000, 0) ∷ (2, 5, 1, 999) ∷ (2, 5, 300, 700) ∷ []
 
 -- one number out of its range in each
-abbrev pub starts_out_of_range : List (ℕ × ℕ × ℕ)
-starts_out_of_range = (0, 5, 7) ∷ (9, 5, 7) ∷ (2, 1000000000, 7) ∷ (2, 5, 0) ∷ (2, 5, 1001) ∷ []
+abbrev pub starts_out_of_range : List (ℕ × ℕ × ℕ × ℕ)
+starts_out_of_range =
+    (0, 5, 7, 3) ∷ (9, 5, 7, 3) ∷ (2, 1000000000, 7, 3) ∷ (2, 5, 0, 3) ∷ (2, 5, 1001, 0) ∷ (2, 5, 300, 701)
+    ∷ (2, 5, 1, 1000) ∷ []
 
 -- one junction without links, in 15 steps of 6 seconds, whose stages take 11 steps at least
 abbrev pub unlinked : Network
@@ -50,9 +53,18 @@ no_plan number = line_of (codes "* CYCLE # NONE") (number ∷ [])
 abbrev pub best : ℕ → ℕ → LineValue
 best number after = line_of (codes "* BEST # #") (number ∷ after ∷ [])
 
--- the lines of three starts of which none is better than another
+-- the lines of three starts of which none is better than another, and of the two after the first of these
 abbrev pub three_starts : List LineValue
 three_starts = start 0 ∷ start 1 ∷ start 2 ∷ best 0 0 ∷ []
+
+abbrev pub later_starts : List LineValue
+later_starts = start 1 ∷ start 2 ∷ best 1 0 ∷ []
+
+-- the network of that first of two: its offset is the first draw from seed 5, modulo 15
+abbrev pub idle_start : Network
+idle_start = record idle {
+  nodes = record { number = 21; offset = 10; stages = new_stage 2 1 3 ∷ new_stage 6 2 4 ∷ [] } ∷ [];
+}
 
 -- the lines of 60, 63 and 66 seconds, of which the last alone has a plan
 abbrev pub three_cycles : List LineValue

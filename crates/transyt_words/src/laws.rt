@@ -23,6 +23,7 @@ ghost use Rattle.transyt_words.specs.Scan.{scan_answer, table_lines};
 ghost use Rattle.transyt_words.specs.WorkedAnswers.{balance_lines, cut_after_three, idle_lines, refused_at_seven, said_rest};
 ghost use Rattle.transyt_words.specs.WorkedAnswers.{scan_lines, steps_of_rest, worked_tables};
 ghost use Rattle.transyt_words.specs.WorkedPlans.{no_cycles, starts_in_range, starts_out_of_range, three_cycles, three_starts};
+ghost use Rattle.transyt_words.specs.WorkedPlans.{idle_start, later_starts};
 ghost use Rattle.transyt_words.specs.WorkedPlans.{two_plan_lines, two_plans, unlinked, unlinked_at_66};
 ghost use Rattle.transyt_words.specs.WorkedTexts.{a_best_line, line_with_deck, worked_lines};
 ghost use Rattle.transyt_words.specs.WorkedTold.{both_texts, told_rows, two_lines, untold_rows};
@@ -85,17 +86,21 @@ pub fn worked_answers()
 
 /// The questions that `starts` may be asked, each number at its limits, and one past them.
 pub fn worked_asked()
-    ensures within { map (λ a. starts_of a.0 a.1 a.2) starts_in_range
-        ≡ map (λ a. Some (record { workers = a.0; seed = a.1; count = a.2 })) starts_in_range }
-    ensures beyond { map (λ a. starts_of a.0 a.1 a.2) starts_out_of_range
+    ensures within { map (λ a. starts_of a.0 a.1 a.2 a.3) starts_in_range
+        ≡ map (λ a. Some (record { workers = a.0; seed = a.1; count = a.2; from = a.3 }))
+        starts_in_range }
+    ensures beyond { map (λ a. starts_of a.0 a.1 a.2 a.3) starts_out_of_range
         ≡ map (λ _. None) starts_out_of_range }
 {}
 
-/// Worked answers of `starts` and `cycles`: of starts that are equal the first is the best; cycle times of each kind;
+/// Worked answers of `starts` and `cycles`: of starts that are equal the first is the best, whichever start they begin
+/// with; cycle times of each kind;
 /// cycle times of which none has a plan, without a deck; and a climb that betters its network, whose deck is that of
 /// its end.
 pub fn worked_table()
-    ensures starts { plans_answer Starts (starts 5 3) idle ≡ with_deck three_starts (Some idle) }
+    ensures starts { plans_answer Starts (starts 5 3 0) idle ≡ with_deck three_starts (Some idle) }
+    ensures later_starts { plans_answer Starts (starts 5 2 1) idle
+        ≡ with_deck later_starts (Some idle_start) }
     ensures cycles { plans_answer Cycles (cycles (times_of 60 66 3)) unlinked
         ≡ with_deck three_cycles (Some unlinked_at_66) }
     ensures none { plans_answer Cycles (cycles (times_of 57 63 3)) unlinked

@@ -15,24 +15,28 @@ use transyt_net::Net;
 use transyt_steps::Steps;
 use transyt_variants::start_net;
 
-/// Climbs from a deck's own offsets and from drawn ones, with so many workers.
+/// Climbs from a deck's own offsets and from drawn ones, or from a part of these starts, with so many workers.
 #[derive(Clone, Copy, Drop)]
 pub struct StartsWord {
     /// How many workers climb, 1 to 8.
     pub workers: u32,
     /// The seed of the draws, at most 999,999,999.
     pub seed: u32,
-    /// How many starts there are, 1 to 1,000; the first is the deck's own.
+    /// How many starts are climbed from, 1 to 1,000.
     pub count: u32,
+    /// The number of the first of them: start 0 is the deck's own. With the count it is at most 1,000.
+    pub from: u32,
 }
 
 impl StartsWord {
-    /// Climbs with so many workers from so many starts, drawn from a seed; none where a number is out of its range.
-    pub fn new(workers: u32, seed: u32, count: u32) -> Option<StartsWord>
-        ensures value { result ≡ starts_of workers seed count }
+    /// Climbs with so many workers from so many starts, drawn from a seed, beginning with the start of the number
+    /// `from`; none where a number is out of its range.
+    pub fn new(workers: u32, seed: u32, count: u32, from: u32) -> Option<StartsWord>
+        ensures value { result ≡ starts_of workers seed count from }
         ensures within { IfSome result IsStarts }
     {
-        let fits = 1 <= workers && workers <= 8 && seed <= 999999999 && 1 <= count && count <= 1000;
+        let end = u64::from(from) + u64::from(count);
+        let fits = 1 <= workers && workers <= 8 && seed <= 999999999 && 1 <= count && end <= 1000;
         if !fits {
             return None;
         }
@@ -40,6 +44,7 @@ impl StartsWord {
             workers,
             seed,
             count,
+            from,
         })
     }
 }
@@ -49,7 +54,7 @@ impl Plans for StartsWord {
 
     ghost fits = { IsStarts };
 
-    ghost list = { λ self. starts self.seed self.count };
+    ghost list = { λ self. starts self.seed self.count self.from };
 
     fn workers(&self) -> usize {
         self.workers as usize
@@ -60,11 +65,12 @@ impl Plans for StartsWord {
     }
 
     fn number(&self, place: usize) -> u32 {
-        place as u32
+        self.from + place as u32
     }
 
     fn plan(&self, alloc: Global, net: &Net, place: usize) -> Result<Planned, AllocError> {
-        let start = start_net(alloc, net, self.seed, place)?;
+        let number = self.from as usize + place;
+        let start = start_net(alloc, net, self.seed, number)?;
         Ok(Planned::Plan(start))
     }
 }
@@ -84,7 +90,7 @@ impl DeckWord for StartsWord {
 
     ghost fits = { IsStarts };
 
-    ghost answer = { λ self. starts_answer self.seed self.count };
+    ghost answer = { λ self. starts_answer self.seed self.count self.from };
 
     ghost most = { λ self net line table. 0 };
 

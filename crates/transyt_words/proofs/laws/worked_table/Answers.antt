@@ -14,6 +14,10 @@ pub returns-clause-starts : goal.returns-clause-starts
 unfolding start_at after_draws own_climb climb move_count move tried_at lowers moved
 returns-clause-starts c = refl
 
+pub returns-clause-later_starts : goal.returns-clause-later_starts
+unfolding start_at after_draws own_climb climb move_count move tried_at lowers moved
+returns-clause-later_starts c = refl
+
 pub returns-clause-cycles : goal.returns-clause-cycles
 unfolding at_cycle own_climb climb move_count move tried_at lowers moved
 returns-clause-cycles c = refl
