@@ -3,8 +3,8 @@ use Rattle.std.specs.Prelude.{ℕ, ◌-◌, ◌≤◌, ◌<◌, ◌&&◌, nat_le
 use Rattle.std.specs.Bool.{then_some}
 use Rattle.std.specs.Option.{option_map, option_and_then}
 use Rattle.transyt_num.specs.Number.{number_of}
-use Rattle.transyt_scan.specs.Rows.{scan_of}
-use Rattle.transyt_scan.specs.declared.word.ScanWord.{ScanWord}
+use Rattle.transyt_climbs.specs.Scan.{scan_of}
+use Rattle.transyt_climbs.specs.declared.scan_word.ScanWord.{ScanWord}
 use Rattle.transyt.specs.declared.town.Town.{Town}
 
 -- the number of workers of a word: one digit from 1 to 8

@@ -9,7 +9,7 @@ use Rattle.transyt_outcome.specs.declared.status.Status.{Status}
 use Rattle.transyt_outcome.specs.Runs.{StepsTaken}
 use Rattle.transyt_line_answers.specs.Report.{deck_answering, reporting_run}
 use Rattle.transyt_reporter.specs.Brief.{brief_text, brief_steps}
-use Rattle.transyt_scan.specs.Rows.{IsScan}
+use Rattle.transyt_climbs.specs.Scan.{IsScan}
 use Rattle.transyt_words.specs.Answer.{of_whole}
 use Rattle.transyt_words.specs.Whole.{StepsWithin, answer_after, most_after}
 use Rattle.transyt_words.specs.Audit.{audit_answer, audit_most}

@@ -1,6 +1,6 @@
 -- Worked words, each with what it asks for.
 use Rattle.std.specs.Prelude.{ℕ, List, [], ◌∷◌, Option, None, Some, codes}
-use Rattle.transyt_scan.specs.declared.word.ScanWord.{ScanWord}
+use Rattle.transyt_climbs.specs.declared.scan_word.ScanWord.{ScanWord}
 use Rattle.transyt_words.specs.declared.starts.StartsWord.{StartsWord}
 use Rattle.transyt.specs.declared.town.Town.{Town}
 use Rattle.transyt.specs.declared.word.Word.{Word}

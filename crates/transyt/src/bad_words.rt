@@ -51,7 +51,9 @@ fn tell_range<R: Eprint>(rt: &R, name: &str, rest: &[String]) -> io::Result<()> 
             eprintln!(rt; "{name} takes 1 to 1000 starts, and {second} is here")
         }
         "starts" => {
-            eprintln!(rt; "{name} goes up to start 999, and {second} from start {third} on are here")
+            eprintln!(rt;
+                "{name} goes up to start 999, and {second} from start {third} on are here"
+            )
         }
         _ if first < 30 => eprintln!(rt; "{name} begins at 30 s, and {first} is here"),
         _ if second > 240 => eprintln!(rt; "{name} ends at 240 s, and {second} is here"),

@@ -2,13 +2,13 @@
 ghost use Rattle.std.specs.Prelude.{◌≡◌, ◌≤◌, ◌<◌, ◌∷◌, IfSome, map, string_bytes};
 ghost use Rattle.transyt_num.specs.Number.{number_of};
 ghost use Rattle.std.specs.Option.{option_map};
-ghost use Rattle.transyt_scan.specs.Rows.{IsScan};
+ghost use Rattle.transyt_climbs.specs.Scan.{IsScan};
 ghost use Rattle.transyt.specs.Numbers.{workers_of, nodes_of, town_of, times_by, times_of, IsTown};
 ghost use Rattle.transyt.specs.Words.{alone, run_word, make_word, brief_by, brief_word, starts_by, starts_word, word_of, IsWord};
 
 use crate::town::Town;
+use transyt_climbs::ScanWord;
 use transyt_num::read_number;
-use transyt_scan::ScanWord;
 use transyt_syntax::is_word;
 use transyt_words::StartsWord;
 
@@ -236,7 +236,12 @@ fn starts_word(rest: &[String]) -> Option<Word>
 {
     match rest {
         [workers, seed, count] => {
-            starts_from(workers.as_bytes(), seed.as_bytes(), count.as_bytes(), Some(0))
+            starts_from(
+                workers.as_bytes(),
+                seed.as_bytes(),
+                count.as_bytes(),
+                Some(0),
+            )
         }
         [workers, seed, count, from] => {
             let from = read_number(from.as_bytes());

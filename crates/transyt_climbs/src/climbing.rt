@@ -131,15 +131,15 @@ fn row_of<L: Ledger>(
 
 /// The networks that are climbed on, made out of one network, each with memory of its own, and the bench.
 #[derive(Drop)]
-pub(crate) struct Work<'a, P, B> {
+pub struct Work<'a, P, B> {
     /// Where memory comes from.
-    pub(crate) alloc: Global,
+    pub alloc: Global,
     /// The networks that are asked for.
-    pub(crate) asked: &'a P,
+    pub asked: &'a P,
     /// The network that they are made out of.
-    pub(crate) net: &'a Net,
+    pub net: &'a Net,
     /// The bench that each climb passes.
-    pub(crate) bench: &'a B,
+    pub bench: &'a B,
 }
 
 /// The row at a place; none where memory is out.

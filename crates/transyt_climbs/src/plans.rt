@@ -1,6 +1,6 @@
 //! The networks that a word asks for.
 
-ghost use Rattle.std.specs.Prelude.{◌≡◌, ◌<◌, IfOk};
+ghost use Rattle.std.specs.Prelude.{◌≡◌, ◌<◌, ◌≤◌, IfOk};
 ghost use Rattle.transyt_net.specs.Parts.{Network};
 ghost use Rattle.transyt_climbs.specs.Climbs.{PlanList};
 
@@ -29,12 +29,14 @@ pub trait Plans: Sync {
     /// How many workers climb.
     fn workers(&self) -> usize
         requires { fits self.now }
-        ensures { 0 < result };
+        ensures some { 0 < result }
+        ensures few { result ≤ 8 };
 
     /// How many networks there are.
     fn count(&self) -> usize
         requires { fits self.now }
-        ensures { result ≡ (list self.now).count };
+        ensures count { result ≡ (list self.now).count }
+        ensures few { result ≤ 1000 };
 
     /// The number of the row at a place.
     fn number(&self, place: usize) -> u32

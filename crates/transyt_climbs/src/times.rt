@@ -31,7 +31,8 @@ impl CycleTimes {
     /// How many cycle times there are, 1 to 211.
     pub fn count(self) -> usize
         requires { AreTimes self }
-        ensures { result ≡ cycle_count self }
+        ensures count { result ≡ cycle_count self }
+        ensures few { result ≤ 211 }
     {
         ((self.high - self.low) / self.by + 1) as usize
     }

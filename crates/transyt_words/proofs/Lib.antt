@@ -4,3 +4,4 @@ mod LineLaws
 mod Places
 pub mod Worked
 pub mod WorkedEnd
+pub mod PartLaws

@@ -1,10 +1,10 @@
 -- The outcome of a run that has taken its input whole and told its answer.
-use Rattle.std.proofs.Common.{◌≡◌, ℕ, ◌≤◌, ◌+◌, List, [], Option, Some, None, length, refl, ap, subst, sym, ◌∙◌, inr, inl}
+use Rattle.std.proofs.Common.{◌≡◌, ℕ, ◌≤◌, ◌+◌, List, [], Option, Some, None, length, refl, ap, subst, sym, ◌∙◌, inr, inl, ◌⊎◌}
 use Rattle.std.proofs.Common.{Err, arith}
 use Rattle.std.specs.Result.{IsErrOf}
 use Rattle.transyt_io.specs.declared.reader.ReadStop.{ReadStop}
 use Rattle.transyt_io.specs.declared.reader.ReadStop.TheVariants.{Fault, TooLong as Long}
-use Rattle.transyt_io.specs.Streams.{Takes, IsAtEnd, StopTakes}
+use Rattle.transyt_io.specs.Streams.{Takes, IsAtEnd, StopTakes, Rose}
 use Rattle.transyt_io.proofs.Told.{adds_nothing}
 use Rattle.transyt_outcome.specs.Outcome.{Outcome, IsWritten, Reporting, Row, TextRow}
 use Rattle.transyt_outcome.specs.declared.status.Status.{Status}
@@ -53,6 +53,24 @@ pub no_memory : (by : Reporting) (left left_new : Option (List ℕ)) (last : Opt
     (taken : List ℕ) → Takes left left_new taken → Outcome by left left_new last written written NoMemory
 no_memory by left left_new last written taken takes =
     record { taken = taken; out = []; takes = takes; adds = adds_nothing written; row = refl }
+
+-- nor where remarks were made before
+pub no_memory_after : (by : Reporting) (left left_new : Option (List ℕ)) (last : Option ℕ)
+    (written written_new : Option (List ℕ)) (taken : List ℕ) → Takes left left_new taken → written_new ≡ written
+    → Outcome by left left_new last written written_new NoMemory
+no_memory_after by left left_new last written written_new taken takes same =
+    subst (λ w. Outcome by left left_new last written w NoMemory) (sym same)
+    (no_memory by left left_new last written taken takes)
+
+-- what is told after remarks is told of the sink before them
+pub told_after : (found : AnswerValue) (written remarked written_new : Option (List ℕ)) (status : Status)
+    → remarked ≡ written → Told found remarked written_new status → Told found written written_new status
+told_after found written remarked written_new status same told =
+    subst (λ w. Told found w written_new status) same told
+
+pub rose_after : (faults remarked faults_new : ℕ) → remarked ≡ faults → Rose remarked faults_new
+    → Rose faults faults_new
+rose_after faults remarked faults_new same rose = subst (λ n. Rose n faults_new) same rose
 
 -- nor where a read stopped
 stopped_row : (answer : List ℕ → AnswerValue) (left : Option (List ℕ)) (last : Option ℕ) (taken : List ℕ)
@@ -104,6 +122,11 @@ pub told_read : (answer : AnswerValue) (written written_new : Option (List ℕ))
     → Told answer written written_new status → status ≡ ReadFault → ⊥
 told_read answer written written_new status told is =
     subst (λ s. TextRow (answer_text answer) answer.refused told.out s) is told.row
+
+-- a status by which the input wasn't read to its end is silent
+pub unread_silent : (status : Status) → (status ≡ ReadFault) ⊎ (status ≡ TooLong) → IsSilent status
+unread_silent status (inl is) = subst IsSilent (sym is) tt
+unread_silent status (inr is) = subst IsSilent (sym is) tt
 
 pub told_spoken : (answer : AnswerValue) (written written_new : Option (List ℕ)) (status : Status)
     → Told answer written written_new status → (status ≡ NoMemory → ⊥) → IsSilent status → ⊥

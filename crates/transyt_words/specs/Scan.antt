@@ -2,8 +2,8 @@
 use Rattle.std.specs.Prelude.{ℕ, ◌++◌, List, [], ◌∷◌, codes, map, if◌then◌else◌}
 use Rattle.transyt_net.specs.Parts.{Network}
 use Rattle.transyt_climbs.specs.declared.times.CycleTimes.{CycleTimes}
-use Rattle.transyt_scan.specs.declared.row.ScanRow.{ScanRow}
-use Rattle.transyt_scan.specs.Rows.{table, best}
+use Rattle.transyt_climbs.specs.declared.scan_row.ScanRow.{ScanRow}
+use Rattle.transyt_climbs.specs.Scan.{table, best}
 use Rattle.transyt_words.specs.Answer.{AnswerValue, done, LineValue, line_of}
 
 -- the line of a row: its cycle time, the index before the climb, the steps, the places looked at, the index after it

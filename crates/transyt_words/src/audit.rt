@@ -11,6 +11,7 @@ use std::sync::ledger::Ledger;
 use std::thread::Threads;
 use transyt_audit::{Verdict, audit};
 use transyt_deck::Cut;
+use transyt_io::Sink;
 use transyt_sentences::on_audit;
 use transyt_steps::Steps;
 
@@ -40,11 +41,12 @@ impl DeckWord for AuditWord {
 
     ghost most = { λ self. audit_most };
 
-    fn judge<R: Threads + Sync, L: Ledger>(
+    fn judge<R: Threads + Sync, K: Sink, L: Ledger>(
         &self,
         host: Host<'_, R>,
         cut: &Cut,
         table: &[u8],
+        _sink: &mut K,
         steps: &mut Steps<L>,
     ) -> Result<Answer, AllocError> {
         let verdict = audit(host.alloc, &cut.net, table, cut.line, steps)?;

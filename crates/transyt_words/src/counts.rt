@@ -11,6 +11,7 @@ use std::sync::ledger::Ledger;
 use std::thread::Threads;
 use transyt_counts::{CountStop, Counts, read_counts};
 use transyt_deck::Cut;
+use transyt_io::Sink;
 use transyt_net::Edit;
 use transyt_sentences::on_row;
 use transyt_steps::Steps;
@@ -71,11 +72,12 @@ impl DeckWord for CountsWord {
 
     ghost most = { λ self net line table. 0 };
 
-    fn judge<R: Threads + Sync, L: Ledger>(
+    fn judge<R: Threads + Sync, K: Sink, L: Ledger>(
         &self,
         host: Host<'_, R>,
         cut: &Cut,
         table: &[u8],
+        _sink: &mut K,
         _steps: &mut Steps<L>,
     ) -> Result<Answer, AllocError> {
         match read_counts(host.alloc, table, &cut.net) {

@@ -9,10 +9,10 @@ use crate::table::{Numbered, TableWord, answer_net};
 use std::alloc::{AllocError, Global};
 use std::sync::ledger::Ledger;
 use std::thread::Threads;
-use transyt_climbs::{Planned, Plans};
+use transyt_climbs::{Planned, Plans, ScanWord};
 use transyt_deck::Cut;
+use transyt_io::Sink;
 use transyt_net::Net;
-use transyt_scan::ScanWord;
 use transyt_steps::Steps;
 use transyt_variants::{AtCycle, cycle_net};
 
@@ -35,7 +35,7 @@ fn planned_of(at: AtCycle) -> Planned
 }
 
 impl Plans for CyclesWord {
-    ghost use Rattle.transyt_scan.specs.Rows.{IsScan};
+    ghost use Rattle.transyt_climbs.specs.Scan.{IsScan};
     ghost use Rattle.transyt_words.specs.Plans.{cycles};
 
     ghost fits = { λ self. IsScan self.asked };
@@ -71,7 +71,7 @@ impl TableWord for CyclesWord {
 }
 
 impl DeckWord for CyclesWord {
-    ghost use Rattle.transyt_scan.specs.Rows.{IsScan};
+    ghost use Rattle.transyt_climbs.specs.Scan.{IsScan};
     ghost use Rattle.transyt_words.specs.Plans.{cycles_answer};
 
     ghost fits = { λ self. IsScan self.asked };
@@ -80,13 +80,14 @@ impl DeckWord for CyclesWord {
 
     ghost most = { λ self net line table. 0 };
 
-    fn judge<R: Threads + Sync, L: Ledger>(
+    fn judge<R: Threads + Sync, K: Sink, L: Ledger>(
         &self,
         host: Host<'_, R>,
         cut: &Cut,
         _table: &[u8],
+        sink: &mut K,
         _steps: &mut Steps<L>,
     ) -> Result<Answer, AllocError> {
-        answer_net(host, self, &cut.net)
+        answer_net(host, self, &cut.net, sink)
     }
 }

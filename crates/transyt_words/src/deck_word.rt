@@ -13,6 +13,7 @@ use std::alloc::{AllocError, Global};
 use std::sync::ledger::Ledger;
 use std::thread::Threads;
 use transyt_deck::{CardStop, Cut, cut_deck};
+use transyt_io::Sink;
 use transyt_steps::Steps;
 
 /// The runtime and the allocator that a word is handed.
@@ -35,12 +36,14 @@ pub trait DeckWord {
     /// How many steps they take at most.
     ghost most: { Self → Network → ℕ → List ℕ → ℕ };
 
-    /// Answers a deck that was cut off and the bytes after it. All memory for the answer is taken here.
-    fn judge<R: Threads + Sync, L: Ledger>(
+    /// Answers a deck that was cut off and the bytes after it. All memory for the answer is taken here. The sink is told
+    /// how far a long word is, and nothing is written.
+    fn judge<R: Threads + Sync, K: Sink, L: Ledger>(
         &self,
         host: Host<'_, R>,
         cut: &Cut,
         table: &[u8],
+        sink: &mut K,
         steps: &mut Steps<L>,
     ) -> Result<Answer, AllocError>
         requires shared { IsSync R.row }
@@ -50,6 +53,8 @@ pub trait DeckWord {
         ensures answer { IfOk result (λ found. found
             ≡ answer self.now cut.now.net cut.now.line table.now) }
         ensures reads_back { IfOk result ReadsBack }
+        ensures written { K.written sink.new ≡ K.written sink.old }
+        ensures faults { K.faults sink.new ≡ K.faults sink.old }
         ensures steps { steps.new ≤ steps.old + most self.now cut.now.net cut.now.line table.now }
         ensures more_steps { steps.old ≤ steps.new };
 }
@@ -64,25 +69,29 @@ fn bytes_from(input: &[u8], rest: usize) -> &[u8]
 
 /// Answers an input: by the word where there is a deck at its front, and else by the line of the refused card.
 ///
-/// All memory for the answer is taken here, that of each climb too. The deck text of an answer, if it has one, reads
+/// All memory for the answer is taken here, that of each climb too. The sink is told how far a long word is, and nothing
+/// is written. The deck text of an answer, if it has one, reads
 /// back as its network.
-pub fn judge_deck<R: Threads + Sync, W: DeckWord, L: Ledger>(
+pub fn judge_deck<R: Threads + Sync, W: DeckWord, K: Sink, L: Ledger>(
     host: Host<'_, R>,
     word: &W,
     input: &[u8],
+    sink: &mut K,
     steps: &mut Steps<L>,
 ) -> Result<Answer, AllocError>
     requires fits { W.fits word.now }
     requires few { length input.now ≤ 4194304 }
     ensures answer { IfOk result (λ found. found ≡ answer_after (W.answer word.now) input.now) }
     ensures reads_back { IfOk result ReadsBack }
+    ensures written { K.written sink.new ≡ K.written sink.old }
+    ensures faults { K.faults sink.new ≡ K.faults sink.old }
     ensures steps { steps.new ≤ steps.old + most_after (W.most word.now) input.now }
     ensures more_steps { steps.old ≤ steps.new }
 {
     let alloc = host.alloc;
     match cut_deck(alloc, input) {
         Ok(cut) => {
-            let found = word.judge(host, &cut, bytes_from(input, cut.rest), steps);
+            let found = word.judge(host, &cut, bytes_from(input, cut.rest), sink, steps);
             drop(cut);
             found
         }

@@ -12,6 +12,7 @@ use std::sync::ledger::Ledger;
 use std::thread::Threads;
 use transyt_deck::Cut;
 use transyt_equisat::{Greens, Share, balance};
+use transyt_io::Sink;
 use transyt_net::Net;
 use transyt_steps::Steps;
 
@@ -104,11 +105,12 @@ impl DeckWord for EquisatWord {
 
     ghost most = { λ self net line table. 0 };
 
-    fn judge<R: Threads + Sync, L: Ledger>(
+    fn judge<R: Threads + Sync, K: Sink, L: Ledger>(
         &self,
         host: Host<'_, R>,
         cut: &Cut,
         _table: &[u8],
+        _sink: &mut K,
         _steps: &mut Steps<L>,
     ) -> Result<Answer, AllocError> {
         Ok(Answer::done(equisat_lines(host.alloc, &cut.net)?))

@@ -1,6 +1,6 @@
 //! Laws about the definitions: worked answers and lines, computed from them.
 
-ghost use Rattle.std.specs.Prelude.{◌≡◌, ◌*◌, ◌++◌, ◌∷◌, [], codes, length, map, None, Some, true};
+ghost use Rattle.std.specs.Prelude.{◌≡◌, ℕ, ◌+◌, ◌*◌, ◌++◌, ◌∷◌, [], codes, length, map, None, Some, true};
 ghost use Rattle.transyt_syntax.specs.declared.code.Code.{Code};
 ghost use Rattle.transyt_net.specs.WorkedNets.{town};
 ghost use Rattle.transyt_outcome.specs.Outcome.{TextRow};
@@ -9,9 +9,11 @@ ghost use Rattle.transyt_outcome.specs.declared.status.Status.{Status};
 ghost use Rattle.transyt_equisat.specs.WorkedBalances.{worked_town};
 ghost use Rattle.transyt_audit.specs.declared.verdict.Verdict.{Verdict};
 ghost use Rattle.transyt_climb.specs.WorkedTurns.{idle};
+ghost use Rattle.transyt_climbs.specs.Climbs.{table};
 ghost use Rattle.transyt_climbs.specs.Times.{times_of};
+ghost use Rattle.transyt_net.specs.Parts.{Network};
 ghost use Rattle.transyt_climbs.specs.WorkedClimbs.{junction};
-ghost use Rattle.transyt_scan.specs.WorkedScan.{from_44, three_rows};
+ghost use Rattle.transyt_climbs.specs.WorkedScan.{from_44, three_rows};
 ghost use Rattle.transyt_words.specs.Whole.{answer_of_cut, most_of_cut, IsSilent, StepsWithin, Told};
 ghost use Rattle.transyt_words.specs.Answer.{answer_text, done, of_whole, refusal, with_deck, line_of, lines_text};
 ghost use Rattle.transyt_words.specs.Answer.{refused_card};
@@ -107,4 +109,12 @@ pub fn worked_table()
         ≡ with_deck no_cycles None }
     ensures end { plans_answer Cycles two_plans unlinked
         ≡ with_deck two_plan_lines (Some (junction 0)) }
+{}
+
+/// A run of `starts` may be parted: its rows are those of its first starts, and then those from the next number on.
+#[tactic(auto, using(crate::proofs::PartLaws::starts_parts))]
+pub fn starts_in_parts()
+    ensures { (net : Network) (seed first second from : ℕ)
+        → table (starts seed (first + second) from) net
+        ≡ table (starts seed first from) net ++ table (starts seed second (from + first)) net }
 {}

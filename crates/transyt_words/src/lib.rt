@@ -36,7 +36,9 @@ pub use counts::CountsWord;
 pub use cycles::CyclesWord;
 pub use deck_word::{DeckWord, Host, judge_deck};
 pub use equisat::EquisatWord;
-pub use laws::{worked_answers, worked_asked, worked_table, worked_texts, worked_told};
+pub use laws::{
+    starts_in_parts, worked_answers, worked_asked, worked_table, worked_texts, worked_told,
+};
 pub use line::AnswerLine;
 pub use starts::StartsWord;
 pub use whole::{answer_whole, say};

@@ -9,9 +9,9 @@ use crate::line::AnswerLine;
 use std::alloc::{AllocError, Global};
 use std::sync::ledger::Ledger;
 use std::thread::Threads;
-use transyt_climbs::{CycleTimes, IdleBench};
+use transyt_climbs::{IdleBench, ScanRow, ScanWord, Work, least, scan_told};
 use transyt_deck::Cut;
-use transyt_scan::{ScanRow, ScanWord, least, scan};
+use transyt_io::Sink;
 use transyt_sentences::on_cycle_times;
 use transyt_steps::Steps;
 
@@ -54,7 +54,7 @@ fn table_lines(alloc: Global, rows: &[ScanRow]) -> Result<Vec<AnswerLine>, Alloc
 }
 
 impl DeckWord for ScanWord {
-    ghost use Rattle.transyt_scan.specs.Rows.{IsScan};
+    ghost use Rattle.transyt_climbs.specs.Scan.{IsScan};
 
     ghost fits = { IsScan };
 
@@ -62,24 +62,21 @@ impl DeckWord for ScanWord {
 
     ghost most = { λ self net line table. 0 };
 
-    fn judge<R: Threads + Sync, L: Ledger>(
+    fn judge<R: Threads + Sync, K: Sink, L: Ledger>(
         &self,
         host: Host<'_, R>,
         cut: &Cut,
         _table: &[u8],
+        sink: &mut K,
         _steps: &mut Steps<L>,
     ) -> Result<Answer, AllocError> {
-        let CycleTimes { low, high, by } = self.times;
-        let rows = scan(
-            host.rt,
-            host.alloc,
-            &cut.net,
-            low,
-            high,
-            by,
-            self.workers,
-            &IdleBench,
-        )?;
+        let work = Work {
+            alloc: host.alloc,
+            asked: self,
+            net: &cut.net,
+            bench: &IdleBench,
+        };
+        let rows = scan_told(host.rt, &work, sink)?;
         let lines = table_lines(host.alloc, &rows)?;
         Ok(Answer::done(lines).with_remark(on_cycle_times()))
     }

@@ -11,6 +11,7 @@ use std::sync::ledger::Ledger;
 use std::thread::Threads;
 use transyt_climbs::{Planned, Plans};
 use transyt_deck::Cut;
+use transyt_io::Sink;
 use transyt_net::Net;
 use transyt_steps::Steps;
 use transyt_variants::start_net;
@@ -94,13 +95,14 @@ impl DeckWord for StartsWord {
 
     ghost most = { λ self net line table. 0 };
 
-    fn judge<R: Threads + Sync, L: Ledger>(
+    fn judge<R: Threads + Sync, K: Sink, L: Ledger>(
         &self,
         host: Host<'_, R>,
         cut: &Cut,
         _table: &[u8],
+        sink: &mut K,
         _steps: &mut Steps<L>,
     ) -> Result<Answer, AllocError> {
-        answer_net(host, self, &cut.net)
+        answer_net(host, self, &cut.net, sink)
     }
 }

@@ -10,7 +10,10 @@ use crate::deck_word::Host;
 use crate::line::AnswerLine;
 use std::alloc::{AllocError, Global};
 use std::thread::Threads;
-use transyt_climbs::{BestRow, Climbed, IdleBench, PlanRow, Plans, best, climb_plans, end_at};
+use transyt_climbs::{
+    BestRow, Climbed, IdleBench, PlanRow, Plans, Work, best, climb_plans, end_at,
+};
+use transyt_io::Sink;
 use transyt_net::Net;
 
 /// The numbers of a table's rows.
@@ -128,19 +131,29 @@ fn deck_of<P: Plans>(
     Ok(read_back(end))
 }
 
-/// The answer to a network: the lines of its table, and the deck text of the network at the end of the best climb.
-pub(crate) fn answer_net<R: Threads + Sync, W: TableWord>(
+/// The answer to a network: the lines of its table, and the deck text of the network at the end of the best climb. The
+/// sink is told how far the climbs are.
+pub(crate) fn answer_net<R: Threads + Sync, W: TableWord, K: Sink>(
     host: Host<'_, R>,
     asked: &W,
     net: &Net,
+    sink: &mut K,
 ) -> Result<Answer, AllocError>
     requires { W.fits asked.now }
     ensures answer { IfOk result
         (λ found. found ≡ plans_answer (W.kind asked.now) (W.list asked.now) net.now) }
     ensures reads_back { IfOk result ReadsBack }
+    ensures written { K.written sink.new ≡ K.written sink.old }
+    ensures faults { K.faults sink.new ≡ K.faults sink.old }
 {
     let alloc = host.alloc;
-    let rows = climb_plans(host.rt, alloc, asked, net, &IdleBench)?;
+    let work = Work {
+        alloc,
+        asked,
+        net,
+        bench: &IdleBench,
+    };
+    let rows = climb_plans(host.rt, &work, sink)?;
     let lines = table_lines(alloc, asked.numbered(), &rows)?;
     let deck = deck_of(alloc, asked, net, best(&rows))?;
     Ok(Answer::with_deck(lines, deck))

@@ -1,6 +1,6 @@
 //! The run over an input that is taken whole: it is judged, and then the lines of its answer are written.
 
-ghost use Rattle.std.specs.Prelude.{◌≡◌, ◌≢◌, ◌≤◌, [], length, IfOk};
+ghost use Rattle.std.specs.Prelude.{◌≡◌, ◌≢◌, ◌≤◌, ◌⊎◌, [], length, IfOk};
 ghost use Rattle.std.specs.Option.{option_map};
 ghost use Rattle.transyt_io.specs.Streams.{Rose};
 ghost use Rattle.transyt_outcome.specs.Outcome.{Outcome};
@@ -101,8 +101,10 @@ pub fn answer_whole<R: Threads + Sync, W: DeckWord, S: Source, K: Sink, L: Ledge
         → Rose (S.faults source.old) (S.faults source.new) }
     ensures write_fault { result ≡ Status.WriteFault
         → Rose (K.faults sink.old) (K.faults sink.new) }
-    // the sink isn't touched before the input is judged
-    ensures silent { IsSilent result → sink.new ≡ sink.old }
+    // nothing is written before the input is judged, and the sink isn't touched before it was read
+    ensures silent { IsSilent result → (K.written sink.new ≡ K.written sink.old)
+        × (K.faults sink.new ≡ K.faults sink.old) }
+    ensures unread { (result ≡ Status.ReadFault) ⊎ (result ≡ Status.TooLong) → sink.new ≡ sink.old }
     ensures steps { StepsWithin (most_after (W.most word.now))
         (S.left source.old) (S.left source.new) steps.old steps.new }
     ensures more_steps { steps.old ≤ steps.new }
@@ -114,7 +116,7 @@ pub fn answer_whole<R: Threads + Sync, W: DeckWord, S: Source, K: Sink, L: Ledge
         drop(buffers);
         return stopped_reading(stop);
     }
-    let Ok(found) = judge_deck(host, word, buffers.intake.bytes(), steps) else {
+    let Ok(found) = judge_deck(host, word, buffers.intake.bytes(), sink, steps) else {
         drop(buffers);
         return Status::NoMemory;
     };

@@ -1,7 +1,7 @@
 -- A line for each row, and then the best.
 use Rattle.std.proofs.Common.{◌≡◌, [], ◌∷◌, ◌++◌, ap, ◌∙◌, arith}
 use Rattle.std.proofs.lemmas.Grind.{common_steps}
-use Rattle.transyt_scan.specs.Rows.{best}
+use Rattle.transyt_climbs.specs.Scan.{best}
 use Rattle.transyt_words.specs.Answer.{LineValue}
 use Rattle.transyt_words.specs.Scan.{best_line, row_line}
 use Rattle.transyt_words.proofs.LineLaws.{line_more, lines_done}
