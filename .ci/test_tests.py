@@ -46,7 +46,8 @@ class Counting(unittest.TestCase):
     def end(self, status: str, line: str, groups: Count) -> tuple[int, str]:
         """The exit number and the last line, where each group of unit tests has these numbers."""
         out = io.StringIO()
-        with mock.patch("tests.unit_group", lambda folder: groups), mock.patch("tests.compared", lambda: Count(5, 0)):
+        with mock.patch("tests.unit_group", lambda folder: groups), mock.patch("tests.compared", lambda: Count(5, 0)), \
+                mock.patch("tests.script", lambda: Count(0, 0)):
             with contextlib.redirect_stdout(out):
                 status = tests.main(status, line)
         return status, out.getvalue().splitlines()[-1]

@@ -64,6 +64,13 @@ def unit_group(folder: str) -> Count:
     return group(f"tests of {folder}", ["-m", "unittest", "discover", "-s", folder, "-p", "test_*.py"], unit_tests)
 
 
+def script() -> Count:
+    """The script ./transyt, tried as a user would with nothing built: one test, which names each difference."""
+    say("the script ./transyt")
+    ran = subprocess.run(["sh", ".ci/try_script"], cwd=ROOT, stdin=subprocess.DEVNULL, timeout=SECONDS, check=False)
+    return Count(int(ran.returncode == 0), int(ran.returncode != 0))
+
+
 def compared() -> Count:
     """The examples and some random decks: what the built program writes, against what examples/check works out."""
     if not os.access(f"{ROOT}/{PROGRAM}", os.X_OK):
@@ -77,7 +84,7 @@ def main(status: str, line: str) -> int:
     counts = [told(line) or Count(0, 1)]
     for folder in (".ci", "examples/check", "python/tests"):
         counts.append(unit_group(folder))
-    counts.append(compared())
+    counts += [script(), compared()]
     passed, failed = map(sum, zip(*counts))
     print(f"{passed} passed, {failed} failed")
     return max(int(status), int(failed > 0))
