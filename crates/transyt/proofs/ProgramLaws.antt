@@ -3,6 +3,7 @@ use Rattle.std.proofs.Common.{◌≡◌, ◌≢◌, ℕ, List, Option, None, Som
 use Rattle.std.proofs.Common.{ap, subst, refl, ◌∙◌, ◌≤◌, ◌↔◌, ◌++◌, length, arith}
 use Rattle.std.specs.Option.{option_map}
 use Rattle.transyt_io.specs.Streams.{Rose, Adds}
+use Rattle.transyt_outcome.specs.Ends.{Ends}
 use Rattle.transyt_outcome.specs.Outcome.{exit_number}
 use Rattle.transyt_outcome.specs.declared.status.Status.{Status}
 use Rattle.transyt_outcome.specs.declared.status.Status.TheVariants.{BadWords, ReadFault, WriteFault, NoMemory}

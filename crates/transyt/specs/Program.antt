@@ -4,31 +4,13 @@ use Rattle.std.specs.Option.{option_and}
 use Rattle.std.specs.declared.io.ErrorKind.{ErrorKind}
 use Rattle.std.specs.declared.io.ErrorKind.TheVariants.{OutOfMemory}
 use Rattle.transyt_io.specs.Streams.{Rose}
+use Rattle.transyt_outcome.specs.Ends.{Ends}
 use Rattle.transyt_outcome.specs.Outcome.{exit_number}
 use Rattle.transyt_outcome.specs.declared.status.Status.{Status}
 use Rattle.transyt_outcome.specs.declared.status.Status.TheVariants.{BadWords, ReadFault, WriteFault, NoMemory}
 use Rattle.transyt_line_answers.specs.Report.{report, status}
 use Rattle.transyt.specs.Tasks.{TaskOutcome, TaskHeadline, TaskComplete, TaskTooLong, IsWriting}
 use Rattle.transyt.specs.Words.{task_of, IsRun, word_of}
-
--- the bytes that a source and a sink tell, with their counts of faults
-pub record Ends : Type 0 where
-  pub left : Option (List ℕ)
-  pub last : Option ℕ
-  pub reads : ℕ
-  pub written : Option (List ℕ)
-  pub writes : ℕ
-
--- the bytes that they tell, by the meanings of a source and of a sink
-abbrev pub ends_of : {S K : Type 0} → (S → Option (List ℕ)) → (S → Option ℕ) → (S → ℕ) → (K → Option (List ℕ))
-    → (K → ℕ) → S → K → Ends
-ends_of left last reads written writes source sink = record {
-  left = left source;
-  last = last source;
-  reads = reads source;
-  written = written sink;
-  writes = writes sink;
-}
 
 -- neither count of faults rose
 pub record NoFault (old new : Ends) : Type 0 where

@@ -1,6 +1,7 @@
 -- Worked runs of the program: such as are right, and such as are wrong in one thing.
 use Rattle.std.specs.Prelude.{ℕ, ◌++◌, List, [], ◌∷◌, Option, None, Some, codes}
-use Rattle.transyt.specs.Program.{Ends, Sides}
+use Rattle.transyt_outcome.specs.Ends.{Ends}
+use Rattle.transyt.specs.Program.{Sides}
 
 -- words that ask for the report of an input, for the deck of a town, and for nothing
 abbrev pub run_words : List (List ℕ)

@@ -2,8 +2,9 @@
 ghost use Rattle.std.specs.IoError.{error_kind};
 ghost use Rattle.std.specs.Prelude.{◌≡◌, ◌≢◌, ◌<◌, ◌≤◌, IfErr, IfOk, map, string_bytes};
 ghost use Rattle.transyt_outcome.specs.declared.status.Status.{Status};
-ghost use Rattle.transyt.specs.Program.{ProgramHeadline, ProgramRan, TopCall, after_name, ends_of, sides_of};
+ghost use Rattle.transyt.specs.Program.{ProgramHeadline, ProgramRan, TopCall, after_name, sides_of};
 ghost use Rattle.transyt.specs.Program.{number_without_words};
+ghost use Rattle.transyt_outcome.specs.Ends.{ends_of};
 
 use crate::bad_words::tell_bad_words;
 use crate::ending::{exit_of, sentence_of};

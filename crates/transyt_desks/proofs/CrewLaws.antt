@@ -8,11 +8,11 @@ use Rattle.std.proofs.lemmas.Option.{none-some}
 use Rattle.transyt_net.specs.Parts.{SameShape, shape as shape_word}
 use Rattle.transyt_session.specs.Session.{SessionValue}
 use Rattle.transyt_desks.specs.declared.desk.Desk.{Desk}
-use Rattle.transyt_desks.specs.declared.finds.Made.{Made}
-use Rattle.transyt_desks.specs.declared.reach.Reach.{Reach}
+use Rattle.transyt_desks.specs.declared.results.MadeMove.{MadeMove}
+use Rattle.transyt_desks.specs.declared.batch.Batch.{Batch}
 use Rattle.transyt_desks.specs.declared.stretch.Stretch.{Stretch}
 use Rattle.transyt_desks.specs.Desks.{no_session, session_at, desks_of, sessions_of, AreAlike, AreDesks}
-use Rattle.transyt_desks.specs.Reaches.{CanAllFollow, CanFollow, HasReached}
+use Rattle.transyt_desks.specs.Batches.{CanAllFollow, CanFollow, HasTriedBatch}
 use Rattle.transyt_desks.specs.Stretches.{net_made}
 use Rattle.transyt_desks.proofs.DeskLaws.{crew_can, crew_shape, crew_two, desk_at, desks_count}
 
@@ -21,14 +21,14 @@ pub sessions_first : (n : ℕ) (crew : List Desk) → sessions_of (take n crew) 
 sessions_first n crew = sym (take-map (λ (d : Desk). d.session) n crew)
 
 -- the first of a crew can come to the network of desk 0
-pub first_can : (zero_desk : SessionValue) (crew : List SessionValue) (following n : ℕ) (known : Bool)
-    → AreDesks zero_desk crew following → AreAlike (desks_of zero_desk crew) → (known ≡ true → n ≤ following)
+pub first_can : (zero_desk : SessionValue) (crew : List SessionValue) (in_step n : ℕ) (known : Bool)
+    → AreDesks zero_desk crew in_step → AreAlike (desks_of zero_desk crew) → (known ≡ true → n ≤ in_step)
     → CanAllFollow zero_desk.net known (take n crew)
-first_can zero_desk crew following n known are alike knows k less =
+first_can zero_desk crew in_step n known are alike knows k less =
     let count = length-take n crew in
     let fewer : k < n = omega (arith, count, less) in
     subst (CanFollow zero_desk.net known) (sym (get_or-take n crew k no_session fewer))
-    (crew_can zero_desk crew following are alike n known knows k fewer (omega (arith, count, less)))
+    (crew_can zero_desk crew in_step are alike n known knows k fewer (omega (arith, count, less)))
 
 -- the first of a crew after a change, with the others as they were
 module _ (n : ℕ) (olds front : List SessionValue) (within : n ≤ length olds) (count : length front ≡ n) where
@@ -59,22 +59,22 @@ module _ (n : ℕ) (olds front : List SessionValue) (within : n ≤ length olds)
           let behind : n ≤ k = grind (arith, nat_tests, more) in
           subst (P k) (sym (joined_after k behind)) (after k behind (omega (arith, below, joined_count)))
 
--- desks of which the first of the crew have tried the moves of a reach
-module _ (n : ℕ) (zero_desk zero_new : SessionValue) (olds front : List SessionValue) (following : ℕ) (reach : Reach) (s : Stretch)
-    (within : n ≤ length olds) (count : length front ≡ n) (are : AreDesks zero_desk olds following)
-    (alike : AreAlike (desks_of zero_desk olds)) (reached : HasReached reach zero_desk zero_new front s) where
+-- desks of which the first of the crew have tried the moves of a batch
+module _ (n : ℕ) (zero_desk zero_new : SessionValue) (olds front : List SessionValue) (in_step : ℕ) (batch : Batch) (s : Stretch)
+    (within : n ≤ length olds) (count : length front ≡ n) (are : AreDesks zero_desk olds in_step)
+    (alike : AreAlike (desks_of zero_desk olds)) (has_tried : HasTriedBatch batch zero_desk zero_new front s) where
   -- all have the shape of the network of desk 0 before
   shapes_before : (k : ℕ) → k < length (front ++ drop n olds)
       → SameShape (session_at (front ++ drop n olds) k).net zero_desk.net
-  shapes_before = joined_each n olds front within count (λ k x. SameShape x.net zero_desk.net) reached.shapes
-      (λ k behind less. crew_shape zero_desk olds following are alike k less)
+  shapes_before = joined_each n olds front within count (λ k x. SameShape x.net zero_desk.net) has_tried.shapes
+      (λ k behind less. crew_shape zero_desk olds in_step are alike k less)
 
   two : (k : ℕ) → k < length (front ++ drop n olds) → 1 < length (front ++ drop n olds)
   two k less =
       omega (
         arith,
         joined_count n olds front within count,
-        crew_two zero_desk olds following are k (omega (arith, less, joined_count n olds front within count)),
+        crew_two zero_desk olds in_step are k (omega (arith, less, joined_count n olds front within count)),
       )
 
   after_are : (known : ℕ)
@@ -83,7 +83,7 @@ module _ (n : ℕ) (zero_desk zero_new : SessionValue) (olds front : List Sessio
   after_are known knows = record {
     few = omega (arith, are.few, joined_count n olds front within count);
     several = λ one. are.several (sym (joined_count n olds front within count) ∙ one);
-    closed = joined_each n olds front within count (λ k x. x.before ≡ None) reached.closed (λ k behind less. are.closed k less);
+    closed = joined_each n olds front within count (λ k x. x.before ≡ None) has_tried.closed (λ k behind less. are.closed k less);
     shapes = λ k less. shapes_before k less ∙ sym (shapes_before 1 (two k less));
     known = knows;
   }
@@ -93,26 +93,26 @@ module _ (n : ℕ) (zero_desk zero_new : SessionValue) (olds front : List Sessio
   after_made = after_are 0 (λ k less inside. absurd (omega (arith, less)))
 
   -- or the first are, and those that were
-  pub after_none : s.made ≡ None → AreDesks zero_new (front ++ drop n olds) (max n following)
-  after_none none = after_are (max n following) knows
+  pub after_none : s.made ≡ None → AreDesks zero_new (front ++ drop n olds) (max n in_step)
+  after_none none = after_are (max n in_step) knows
     where
       zero_same : zero_new.net ≡ zero_desk.net
-      zero_same = ap (λ (x : SessionValue). x.net) reached.zero_is ∙ ap (λ made. net_made made zero_desk.net) none
+      zero_same = ap (λ (x : SessionValue). x.net) has_tried.zero_is ∙ ap (λ made. net_made made zero_desk.net) none
 
-      knows : (k : ℕ) → k < max n following → k < length (front ++ drop n olds)
+      knows : (k : ℕ) → k < max n in_step → k < length (front ++ drop n olds)
           → (session_at (front ++ drop n olds) k).net ≡ zero_new.net
       knows k less inside =
-          joined_each n olds front within count (λ j x. j < max n following → x.net ≡ zero_new.net)
-          (λ j fewer _. reached.same none j fewer ∙ sym zero_same)
+          joined_each n olds front within count (λ j x. j < max n in_step → x.net ≡ zero_new.net)
+          (λ j fewer _. has_tried.same none j fewer ∙ sym zero_same)
           (λ j behind fewer within_all. are.known j (omega (arith, behind, within_all)) fewer ∙ sym zero_same)
           k inside less
 
-  -- as many as are known after the reach
-  pub after_known : (known : ℕ) → (s.made ≡ None → known ≡ max n following) → (s.made ≢ None → known ≡ 0)
+  -- as many as are known after the batch
+  pub after_known : (known : ℕ) → (s.made ≡ None → known ≡ max n in_step) → (s.made ≢ None → known ≡ 0)
       → AreDesks zero_new (front ++ drop n olds) known
   after_known known none some = by s.made refl
     where
-      by : (o : Option Made) → s.made ≡ o → AreDesks zero_new (front ++ drop n olds) known
+      by : (o : Option MadeMove) → s.made ≡ o → AreDesks zero_new (front ++ drop n olds) known
       by None is = subst (AreDesks zero_new (front ++ drop n olds)) (sym (none is)) (after_none is)
       by (Some made) is =
           subst (AreDesks zero_new (front ++ drop n olds))
@@ -130,11 +130,11 @@ module _ (n : ℕ) (zero_desk zero_new : SessionValue) (olds front : List Sessio
           ∙ shapes_before (suc k) (omega (arith, less, desks_count zero_new (front ++ drop n olds)))
           ∙ sym same
 
--- a crew of which the first have tried the moves of a reach, and the others are as they were
-module _ (n : ℕ) (zero_desk zero_new : SessionValue) (olds news : List SessionValue) (following : ℕ) (reach : Reach) (s : Stretch)
+-- a crew of which the first have tried the moves of a batch, and the others are as they were
+module _ (n : ℕ) (zero_desk zero_new : SessionValue) (olds news : List SessionValue) (in_step : ℕ) (batch : Batch) (s : Stretch)
     (within : n ≤ length olds) (as_many : length news ≡ length olds) (rest : drop n news ≡ drop n olds)
-    (are : AreDesks zero_desk olds following) (alike : AreAlike (desks_of zero_desk olds))
-    (reached : HasReached reach zero_desk zero_new (take n news) s) where
+    (are : AreDesks zero_desk olds in_step) (alike : AreAlike (desks_of zero_desk olds))
+    (has_tried : HasTriedBatch batch zero_desk zero_new (take n news) s) where
   first_count : length (take n news) ≡ n
   first_count = omega (arith, length-take n news, within, as_many)
 
@@ -142,14 +142,14 @@ module _ (n : ℕ) (zero_desk zero_new : SessionValue) (olds news : List Session
   news_are = ap (λ ss. take n news ++ ss) (sym rest) ∙ take-append-drop n news
 
   -- they are desks, of which as many are known to follow
-  pub tried_are : (known : ℕ) → (s.made ≡ None → known ≡ max n following) → (s.made ≢ None → known ≡ 0)
+  pub tried_are : (known : ℕ) → (s.made ≡ None → known ≡ max n in_step) → (s.made ≢ None → known ≡ 0)
       → AreDesks zero_new news known
   tried_are known none some =
       subst (λ ss. AreDesks zero_new ss known) news_are
-      (after_known n zero_desk zero_new olds (take n news) following reach s within first_count are alike reached known none some)
+      (after_known n zero_desk zero_new olds (take n news) in_step batch s within first_count are alike has_tried known none some)
 
   -- alike still
   pub tried_alike : AreAlike (desks_of zero_new news)
   tried_alike =
       subst (λ ss. AreAlike (desks_of zero_new ss)) news_are
-      (after_alike n zero_desk zero_new olds (take n news) following reach s within first_count are alike reached reached.zero_shape)
+      (after_alike n zero_desk zero_new olds (take n news) in_step batch s within first_count are alike has_tried has_tried.zero_shape)

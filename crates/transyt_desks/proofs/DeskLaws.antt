@@ -1,16 +1,16 @@
 -- Desks as a list: each session is that of its desk, so facts of all desks are facts of their sessions.
-use Rattle.std.proofs.Common.{◌≡◌, ℕ, zero, suc, ◌-◌, ◌<◌, ◌≤◌, List, [], ◌∷◌, length, drop, max, Bool, true, false, nat_lt, ◌==◌, if◌then◌else◌}
+use Rattle.std.proofs.Common.{◌≡◌, ◌≢◌, ℕ, zero, suc, ◌-◌, ◌<◌, ◌≤◌, List, [], ◌∷◌, length, drop, max, Bool, true, false, nat_lt, ◌==◌, if◌then◌else◌}
 use Rattle.std.proofs.Common.{slice_index_or, slice_set, replicate, refl, ap, sym, ◌∙◌, arith}
 use Rattle.std.proofs.Math.ListN.{get_or-map}
 use Rattle.std.proofs.lemmas.Bool.Decides.{nat_tests}
 use Rattle.std.proofs.lemmas.List.{length-map, get_or_default, get_or-set_other, length-set}
-use Rattle.std.proofs.lemmas.List.{get_or-replicate}
+use Rattle.std.proofs.lemmas.List.{get_or-replicate, length-replicate}
 use Rattle.transyt_net.specs.Parts.{SameShape, shape as shape_word}
 use Rattle.transyt_session.specs.Session.{SessionValue, opened}
 use Rattle.transyt_desks.specs.declared.desk.Desk.{Desk}
 use Rattle.transyt_desks.specs.Desks.{no_session, no_desk, session_at, desk_zero, desks_of, sessions_of, opened_desks}
 use Rattle.transyt_desks.specs.Desks.{AreAligned, AreAlike, AreDesks}
-use Rattle.transyt_desks.specs.Reaches.{AreStanding, CanFollow}
+use Rattle.transyt_desks.specs.Batches.{AreStanding, CanFollow}
 
 -- the session at a place is that of the desk there
 pub session_is : (desks : List Desk) (k : ℕ) → session_at (sessions_of desks) k ≡ (slice_index_or desks k no_desk).session
@@ -105,7 +105,34 @@ opened_is s (suc (suc n)) some =
     ap (λ b. desks_of s (replicate (if b then 0 else suc (suc n)) (opened s.net))) many
     ∙ ap (λ k. s ∷ replicate k (opened s.net)) fewer
 
-module _ (zero_desk : SessionValue) (crew : List SessionValue) (following : ℕ) (are : AreDesks zero_desk crew following) where
+-- a crew has none, or two and more
+crew_small : (workers : ℕ) → workers ≤ 8 → (crew_of workers ≤ 8) × (crew_of workers ≢ 1)
+crew_small zero few = (omega arith, omega arith)
+crew_small (suc zero) few = (omega arith, omega arith)
+crew_small (suc (suc n)) few =
+    let many : (suc (suc n) == 1) ≡ false = grind (arith, nat_tests) in
+    let all : crew_of (suc (suc n)) ≡ suc (suc n) = ap (λ b. if b then 0 else suc (suc n)) many in
+    (omega (arith, all, few), omega (arith, all))
+
+-- a session and a crew of twins of it
+pub opened_are : (s : SessionValue) (workers : ℕ) (crew : List SessionValue) → workers ≤ 8
+    → crew ≡ replicate (crew_of workers) (opened s.net) → AreDesks s crew 0
+opened_are s workers crew few is =
+    let small = crew_small workers few in
+    let size : length crew ≡ crew_of workers = ap length is ∙ length-replicate (crew_of workers) (opened s.net) in
+    let each : (k : ℕ) → k < crew_of workers → session_at crew k ≡ opened s.net =
+    λ k less. ap (λ ss. session_at ss k) is ∙ get_or-replicate (crew_of workers) k (opened s.net) no_session less in
+    record {
+      few = omega (arith, size, small.0);
+      several = omega (arith, size, small.1);
+      closed = λ k less. ap (λ (t : SessionValue). t.before) (each k (omega (arith, less, size)));
+      shapes = λ k less.
+          ap (λ (t : SessionValue). shape_word t.net)
+          (each k (omega (arith, less, size)) ∙ sym (each 1 (omega (arith, less, size, small.1))));
+      known = λ k less inside. absurd (omega (arith, less));
+    }
+
+module _ (zero_desk : SessionValue) (crew : List SessionValue) (in_step : ℕ) (are : AreDesks zero_desk crew in_step) where
   -- where there is one of the crew, there are two
   pub crew_two : (k : ℕ) → k < length crew → 1 < length crew
   crew_two k less = by (nat_lt 1 (length crew)) refl
@@ -129,7 +156,7 @@ module _ (zero_desk : SessionValue) (crew : List SessionValue) (following : ℕ)
       ∙ alike.shape 1 (omega (arith, two, desks_count zero_desk crew))
 
   -- so each can come to its network
-  pub crew_can : AreAlike (desks_of zero_desk crew) → (n : ℕ) (known : Bool) → (known ≡ true → n ≤ following)
+  pub crew_can : AreAlike (desks_of zero_desk crew) → (n : ℕ) (known : Bool) → (known ≡ true → n ≤ in_step)
       → (k : ℕ) → k < n → k < length crew → CanFollow zero_desk.net known (session_at crew k)
   crew_can alike n known knows k fewer less = record {
     shape = crew_shape alike k less;
@@ -138,7 +165,7 @@ module _ (zero_desk : SessionValue) (crew : List SessionValue) (following : ℕ)
   }
 
 -- a crew that stands for the network of desk 0
-module _ (zero_desk : SessionValue) (olds news : List SessionValue) (following : ℕ) (are : AreDesks zero_desk olds following)
+module _ (zero_desk : SessionValue) (olds news : List SessionValue) (in_step : ℕ) (are : AreDesks zero_desk olds in_step)
     (count : length news ≡ length olds) (stand : AreStanding zero_desk.net news) where
   pub standing_aligned : AreAligned (desks_of zero_desk news)
   standing_aligned = record { same = same }
@@ -150,9 +177,9 @@ module _ (zero_desk : SessionValue) (olds news : List SessionValue) (following :
           ∙ stand.nets (suc k) (omega (arith, less, desks_count zero_desk news))
 
 -- a crew that is known to follow stands for the network of desk 0
-pub known_aligned : (zero_desk : SessionValue) (crew : List SessionValue) (following : ℕ) → AreDesks zero_desk crew following
-    → length crew ≤ following → AreAligned (desks_of zero_desk crew)
-known_aligned zero_desk crew following are all = record { same = same }
+pub known_aligned : (zero_desk : SessionValue) (crew : List SessionValue) (in_step : ℕ) → AreDesks zero_desk crew in_step
+    → length crew ≤ in_step → AreAligned (desks_of zero_desk crew)
+known_aligned zero_desk crew in_step are all = record { same = same }
   where
     same : (k : ℕ) → k < length (desks_of zero_desk crew) → (session_at (desks_of zero_desk crew) k).net ≡ zero_desk.net
     same zero less = refl

@@ -3,11 +3,11 @@ pub mod PassingLaws
 pub mod LeastLaws
 pub mod DeskLaws
 pub mod SplitLaws
-pub mod FindLaws
+pub mod ResultLaws
 pub mod ShapeLaws
 pub mod StretchLaws
 pub mod RoundLaws
 pub mod WorkedLaws
-pub mod WorkedFindLaws
-pub mod ReachLaws
+pub mod WorkedResultLaws
+pub mod BatchLaws
 pub mod CrewLaws

@@ -16,7 +16,7 @@ use Rattle.transyt_climb.specs.Turns.{noted as noted_by}
 use Rattle.transyt_climb.specs.Way.{IsRound}
 use Rattle.transyt_climb.proofs.TurnLaws.{by_look}
 use Rattle.transyt_desks.specs.declared.turns.Round.{Round}
-use Rattle.transyt_desks.specs.declared.finds.Made.{Made}
+use Rattle.transyt_desks.specs.declared.results.MadeMove.{MadeMove}
 use Rattle.transyt_desks.specs.declared.stretch.Stretch.{Stretch}
 use Rattle.transyt_desks.specs.Stretches.{IsStretch, net_made, place_at}
 use Rattle.transyt_desks.specs.Desks.{desk_zero, AreAlike}
@@ -85,7 +85,7 @@ module _ (places : ℕ) (m : Machine) (s : Stretch) (ready : CanRound m.counters
       }
 
   -- places that pass before one that lowers the index and is made are a round with it
-  module _ (made : Made) (some : s.made ≡ Some made) where
+  module _ (made : MadeMove) (some : s.made ≡ Some made) where
     less : s.passed < room_of places m.counters
     less = tried.next made some
 

@@ -6,7 +6,7 @@ use Rattle.transyt_moves.specs.Moves.{move}
 use Rattle.transyt_sweep.specs.Climb.{lowers}
 use Rattle.transyt_sweep.specs.Sweeps.{index}
 use Rattle.transyt_track.specs.Due.{edit_work}
-use Rattle.transyt_desks.specs.declared.finds.Made.{Made}
+use Rattle.transyt_desks.specs.declared.results.MadeMove.{MadeMove}
 use Rattle.transyt_desks.specs.declared.stretch.Stretch.{Stretch}
 use Rattle.transyt_desks.specs.Stretches.{IsStretch, made_at, passing, place_at, work_before}
 
@@ -32,9 +32,9 @@ module _ (net : Network) (place count n : ℕ) (s : Stretch) (is : IsStretch net
       }
 
   -- one move more lowers the index, and was made
-  pub stretch_made : (to : ℕ) (o : Option Made) → n < to
-      → ((made : Made) → o ≡ Some made → made_at net (index net) (place_at place count n) ≡ Some made)
-      → ((made : Made) → o ≡ Some made → made.work ≤ 8000) → (o ≡ None → ⊥)
+  pub stretch_made : (to : ℕ) (o : Option MadeMove) → n < to
+      → ((made : MadeMove) → o ≡ Some made → made_at net (index net) (place_at place count n) ≡ Some made)
+      → ((made : MadeMove) → o ≡ Some made → made.work ≤ 8000) → (o ≡ None → ⊥)
       → IsStretch net place count to (record { passed = s.passed; work = s.work; made = o })
   stretch_made to o less found small some =
       let all : s.passed ≡ n = is.whole going in

@@ -17,20 +17,20 @@ use Rattle.transyt_climb.specs.declared.turn.Turn.TheVariants.{Took, Passed, Loc
 use Rattle.transyt_climb.specs.Turns.{Machine, machine, looked_at, look_answer, answer_of, after_answer, turned, noted}
 use Rattle.transyt_climb.proofs.CountLaws.{count_moved, shape_moved}
 use Rattle.transyt_climb.proofs.LookLaws.{lowers_is}
-use Rattle.transyt_desks.specs.declared.finds.Made.{Made}
+use Rattle.transyt_desks.specs.declared.results.MadeMove.{MadeMove}
 use Rattle.transyt_desks.specs.Stretches.{made_at, made_by, net_made, work_found}
 
 -- what isn't there
-pub none_made : (o : Option Made) → is_some o ≡ false → o ≡ None
+pub none_made : (o : Option MadeMove) → is_some o ≡ false → o ≡ None
 none_made None is = refl
 none_made (Some made) is = absurd (cc)
 
 -- and what is
-pub some_told : (o : Option Made) → is_some o ≡ true → o ≢ None
+pub some_told : (o : Option MadeMove) → is_some o ≡ true → o ≢ None
 some_told None is = absurd (cc)
 some_told (Some made) is = λ same. absurd (cc)
 
--- the work that a try finds is that of its edit, by its fault
+-- the work that a try results is that of its edit, by its fault
 work_by : (net : Network) (e : Edit) (fault : Option EditFault) → work_found (tried_with net e fault) ≡ work_with net e fault
 work_by net e None = refl
 work_by net e (Some fault) = refl
@@ -45,7 +45,7 @@ made_fault : (net : Network) (bound : ℕ) (e : Edit) (fault : Option EditFault)
     ≡ net_made (made_by bound e (tried_with net e fault)) net
 made_fault net bound e None = by (nat_lt (index (with_edit net e)) bound)
   where
-    made : Made
+    made : MadeMove
     made = record { edit = e; index = index (with_edit net e); work = due net (with_edit net e) }
 
     by : (b : Bool) → (if b then with_edit net e else net) ≡ net_made (if b then Some made else None) net
@@ -63,7 +63,7 @@ lowers_fault : (net : Network) (bound : ℕ) (e : Edit) (fault : Option EditFaul
     → is_some (made_by bound e (tried_with net e fault)) ≡ is_below bound (index_with net e fault)
 lowers_fault net bound e None = by (nat_lt (index (with_edit net e)) bound)
   where
-    made : Made
+    made : MadeMove
     made = record { edit = e; index = index (with_edit net e); work = due net (with_edit net e) }
 
     by : (b : Bool) → is_some (if b then Some made else None) ≡ b
@@ -82,54 +82,54 @@ none_lowers net place is = sym (made_lowers net place) ∙ ap is_some is
 pub lowers_none : (net : Network) (place : ℕ) → lowers net place ≡ false → made_at net (index net) place ≡ None
 lowers_none net place higher = none_made (made_at net (index net) place) (made_lowers net place ∙ higher)
 
-pub some_lowers : (net : Network) (place : ℕ) (made : Made) → made_at net (index net) place ≡ Some made
+pub some_lowers : (net : Network) (place : ℕ) (made : MadeMove) → made_at net (index net) place ≡ Some made
     → lowers net place ≡ true
 some_lowers net place made is = sym (made_lowers net place) ∙ ap is_some is
 
 -- what is made is the edit, with its index and its work
-pub record IsMade (net : Network) (e : Edit) (made : Made) : Type 0 where
+pub record IsMade (net : Network) (e : Edit) (made : MadeMove) : Type 0 where
   pub edit : made.edit ≡ e
   pub index_is : made.index ≡ index (with_edit net e)
   pub work : made.work ≡ edit_work net e
 
-made_fields : (net : Network) (bound : ℕ) (e : Edit) (fault : Option EditFault) (made : Made)
+made_fields : (net : Network) (bound : ℕ) (e : Edit) (fault : Option EditFault) (made : MadeMove)
     → edit_fault net e ≡ fault → made_by bound e (tried_with net e fault) ≡ Some made → IsMade net e made
 made_fields net bound e None made allowed is = by (nat_lt (index (with_edit net e)) bound) is
   where
-    with_it : Made
+    with_it : MadeMove
     with_it = record { edit = e; index = index (with_edit net e); work = due net (with_edit net e) }
 
     by : (b : Bool) → (if b then Some with_it else None) ≡ Some made → IsMade net e made
     by true is =
         let same : made ≡ with_it = sym (same_Some with_it made is) in
         record {
-          edit = ap (λ (m : Made). m.edit) same;
-          index_is = ap (λ (m : Made). m.index) same;
-          work = ap (λ (m : Made). m.work) same ∙ ap (work_with net e) (sym allowed);
+          edit = ap (λ (m : MadeMove). m.edit) same;
+          index_is = ap (λ (m : MadeMove). m.index) same;
+          work = ap (λ (m : MadeMove). m.work) same ∙ ap (work_with net e) (sym allowed);
         }
     by false is = absurd (cc)
 made_fields net bound e (Some fault) made allowed is = absurd (cc)
 
-pub made_is : (net : Network) (bound place : ℕ) (made : Made) → made_at net bound place ≡ Some made
+pub made_is : (net : Network) (bound place : ℕ) (made : MadeMove) → made_at net bound place ≡ Some made
     → IsMade net (move net place) made
 made_is net bound place made is =
     made_fields net bound (move net place) (edit_fault net (move net place)) made refl is
 
 -- the network with it has the same shape
-pub made_shape : (net : Network) (bound place : ℕ) (made : Made) → made_at net bound place ≡ Some made
+pub made_shape : (net : Network) (bound place : ℕ) (made : MadeMove) → made_at net bound place ≡ Some made
     → SameShape (with_edit net made.edit) net
 unfolding moved
 made_shape net bound place made is =
     ap (λ e. shape_word (with_edit net e)) (made_is net bound place made is).edit ∙ shape_moved net place
 
 -- and as many moves
-pub count_made : (net : Network) (place : ℕ) (made : Made) → IsMade net (move net place) made
+pub count_made : (net : Network) (place : ℕ) (made : MadeMove) → IsMade net (move net place) made
     → move_count (with_edit net made.edit) ≡ move_count net
 unfolding moved
 count_made net place made is = ap (λ e. move_count (with_edit net e)) is.edit ∙ count_moved net place
 
 -- a session that has made it, credited with other work and its own, is one that has looked at the place
-pub lowered_made : (net : Network) (place : ℕ) (made : Made) (work : ℕ) (s : SessionValue) → IsMade s.net (move s.net place) made
+pub lowered_made : (net : Network) (place : ℕ) (made : MadeMove) (work : ℕ) (s : SessionValue) → IsMade s.net (move s.net place) made
     → lowers s.net place ≡ true
     → credited made.work (credited work (standing_for (with_edit s.net made.edit) s)) ≡ looked_at place (credited work s)
 lowered_made net place made work s is lower =
@@ -146,7 +146,7 @@ pub made_small : (net : Network) (bound : ℕ) (e : Edit) → edit_work net e �
     → IfSome (made_by bound e (try_of net e)) (λ made. made.work ≤ 8000)
 made_small net bound e few = by (made_by bound e (try_of net e)) refl
   where
-    by : (o : Option Made) → made_by bound e (try_of net e) ≡ o → IfSome o (λ made. made.work ≤ 8000)
+    by : (o : Option MadeMove) → made_by bound e (try_of net e) ≡ o → IfSome o (λ made. made.work ≤ 8000)
     by None is = tt {0}
     by (Some made) is = omega (arith, (made_fields net bound e (edit_fault net e) made refl is).work, few)
 

@@ -40,12 +40,12 @@ pub record AreAlike (sessions : List SessionValue) : Type 0 where
 -- the invariant of desks, of desk 0 and of those who try beside it, the crew: the others of the desks, and one session more
 -- before them. With one desk there is no crew. None of the crew has a trial, their networks have one shape, and the first of
 -- them, as many as are known to follow, stand for the network of desk 0. No public clause cites it.
-pub record AreDesks (zero : SessionValue) (crew : List SessionValue) (following : ℕ) : Type 0 where
+pub record AreDesks (zero : SessionValue) (crew : List SessionValue) (in_step : ℕ) : Type 0 where
   pub few : length crew ≤ 8
   pub several : length crew ≢ 1
   pub closed : (k : ℕ) → k < length crew → (session_at crew k).before ≡ None
   pub shapes : (k : ℕ) → k < length crew → SameShape (session_at crew k).net (session_at crew 1).net
-  pub known : (k : ℕ) → k < following → k < length crew → (session_at crew k).net ≡ zero.net
+  pub known : (k : ℕ) → k < in_step → k < length crew → (session_at crew k).net ≡ zero.net
 
 -- desks by desk 0 and their crew
 abbrev pub desks_of : SessionValue → List SessionValue → List SessionValue
@@ -57,7 +57,7 @@ sessions_of desks = map (λ d. d.session) desks
 
 -- a new desk with a session
 abbrev pub new_desk : SessionValue → Desk
-new_desk session = record { session = session; finds = record { tries = replicate 64 Barred; passed = 0; made = None } }
+new_desk session = record { session = session; results = record { tries = replicate 64 Barred; passed = 0; made = None } }
 
 -- the desk at a place that has none
 abbrev pub no_desk : Desk

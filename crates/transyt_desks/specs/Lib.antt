@@ -1,7 +1,7 @@
 pub mod Stretches
 pub mod Desks
 pub mod Rounds
-pub mod Reaches
+pub mod Batches
 pub mod Lends
 pub mod WorkedRounds
 pub mod WorkedDesks

@@ -12,9 +12,9 @@ use Rattle.transyt_session.specs.declared.answers.Tried.{Tried}
 use Rattle.transyt_session.specs.declared.answers.Tried.TheVariants.{Barred, Index}
 use Rattle.transyt_session.specs.Session.{standing_for, try_of}
 use Rattle.transyt_desks.specs.declared.desk.Desk.{Desk}
-use Rattle.transyt_desks.specs.declared.finds.Finds.{Finds}
-use Rattle.transyt_desks.specs.declared.finds.Made.{Made}
-use Rattle.transyt_desks.specs.declared.reach.Reach.{Reach}
+use Rattle.transyt_desks.specs.declared.results.TryResults.{TryResults}
+use Rattle.transyt_desks.specs.declared.results.MadeMove.{MadeMove}
+use Rattle.transyt_desks.specs.declared.batch.Batch.{Batch}
 use Rattle.transyt_desks.specs.declared.stretch.Stretch.{Stretch}
 use Rattle.transyt_desks.specs.Desks.{no_desk}
 
@@ -22,17 +22,17 @@ use Rattle.transyt_desks.specs.Desks.{no_desk}
 abbrev pub place_at : ℕ → ℕ → ℕ → ℕ
 place_at place count number = (place + number) % count
 
--- the edit that a desk makes by the find of a try of it: it is allowed and brings the index below a bound
-abbrev pub made_by : ℕ → Edit → Tried → Option Made
+-- the edit that a desk makes by the result of a try of it: it is allowed and brings the index below a bound
+abbrev pub made_by : ℕ → Edit → Tried → Option MadeMove
 made_by bound e Barred = None
 made_by bound e (Index index work) = if nat_lt index bound then Some (record { edit = e; index = index; work = work }) else None
 
 -- the move at a place, where a desk makes it
-abbrev pub made_at : Network → ℕ → ℕ → Option Made
+abbrev pub made_at : Network → ℕ → ℕ → Option MadeMove
 made_at net bound place = made_by bound (move net place) (try_of net (move net place))
 
 -- the network with the move that was made, if one was
-abbrev pub net_made : Option Made → Network → Network
+abbrev pub net_made : Option MadeMove → Network → Network
 net_made None net = net
 net_made (Some made) net = with_edit net made.edit
 
@@ -58,9 +58,9 @@ pub record IsStretch (net : Network) (place count to : ℕ) (s : Stretch) : Type
   pub passes : (k : ℕ) → k < s.passed → lowers net (place_at place count k) ≡ false
   pub work : s.work ≡ work_before net place count s.passed
   pub few : s.work ≤ 8000 * s.passed
-  pub next : (made : Made) → s.made ≡ Some made → s.passed < to
-  pub found : (made : Made) → s.made ≡ Some made → made_at net (index net) (place_at place count s.passed) ≡ Some made
-  pub small : (made : Made) → s.made ≡ Some made → made.work ≤ 8000
+  pub next : (made : MadeMove) → s.made ≡ Some made → s.passed < to
+  pub found : (made : MadeMove) → s.made ≡ Some made → made_at net (index net) (place_at place count s.passed) ≡ Some made
+  pub small : (made : MadeMove) → s.made ≡ Some made → made.work ≤ 8000
   pub whole : s.made ≡ None → s.passed ≡ to
 
 -- the tries of so many moves of a network at these places, each of little work
@@ -72,36 +72,36 @@ pub record AreTriesAt (net : Network) (places : ℕ → ℕ) (count : ℕ) (trie
 abbrev pub AreTriesOf : Network → ℕ → ℕ → List Tried → Type 0
 AreTriesOf net from count tries = AreTriesAt net (λ k. from + k) count tries
 
--- the places of a reach that come in turn to a desk
-abbrev pub turn_place : Reach → ℕ → ℕ → ℕ
-turn_place reach desk turn = place_at reach.place reach.count (desk + turn * reach.desks)
+-- the places of a batch that come in turn to a desk
+abbrev pub turn_place : Batch → ℕ → ℕ → ℕ
+turn_place batch desk turn = place_at batch.place batch.count (desk + turn * batch.desks)
 
--- what a desk found by trying the moves of a reach that come to it in turn, up to the first that it made
-pub record AreFinds (net : Network) (reach : Reach) (desk : ℕ) (finds : Finds) : Type 0 where
-  pub tries : AreTriesAt net (turn_place reach desk) finds.passed finds.tries
-  pub passes : (turn : ℕ) → turn < finds.passed → made_at net reach.bound (turn_place reach desk turn) ≡ None
-  pub next : (made : Made) → finds.made ≡ Some made → desk + finds.passed * reach.desks < reach.room
-  pub found : (made : Made) → finds.made ≡ Some made
-      → made_at net reach.bound (turn_place reach desk finds.passed) ≡ Some made
-  pub small : (made : Made) → finds.made ≡ Some made → made.work ≤ 8000
-  pub whole : finds.made ≡ None → (turn : ℕ) → desk + turn * reach.desks < reach.room → turn < finds.passed
+-- what a desk found by trying the moves of a batch that come to it in turn, up to the first that it made
+pub record AreResults (net : Network) (batch : Batch) (desk : ℕ) (results : TryResults) : Type 0 where
+  pub tries : AreTriesAt net (turn_place batch desk) results.passed results.tries
+  pub passes : (turn : ℕ) → turn < results.passed → made_at net batch.bound (turn_place batch desk turn) ≡ None
+  pub next : (made : MadeMove) → results.made ≡ Some made → desk + results.passed * batch.desks < batch.room
+  pub found : (made : MadeMove) → results.made ≡ Some made
+      → made_at net batch.bound (turn_place batch desk results.passed) ≡ Some made
+  pub small : (made : MadeMove) → results.made ≡ Some made → made.work ≤ 8000
+  pub whole : results.made ≡ None → (turn : ℕ) → desk + turn * batch.desks < batch.room → turn < results.passed
 
--- a desk that has come to a network and has tried its moves of a reach on it, before and after. No public clause cites it.
-pub record HasFound (net : Network) (reach : Reach) (desk : ℕ) (before after : Desk) : Type 0 where
-  pub session : after.session ≡ standing_for (net_made after.finds.made net) before.session
-  pub finds : AreFinds net reach desk after.finds
+-- a desk that has come to a network and has tried its moves of a batch on it, before and after. No public clause cites it.
+pub record HasTried (net : Network) (batch : Batch) (desk : ℕ) (before after : Desk) : Type 0 where
+  pub session : after.session ≡ standing_for (net_made after.results.made net) before.session
+  pub results : AreResults net batch desk after.results
 
 -- desks that have each done so, before and after. No public clause cites it.
-pub record HaveFound (net : Network) (reach : Reach) (olds news : List Desk) : Type 0 where
+pub record HaveTried (net : Network) (batch : Batch) (olds news : List Desk) : Type 0 where
   pub len : length news ≡ length olds
-  pub each : (k : ℕ) (d : Desk) → k < length olds → HasFound net reach k (slice_index_or olds k d) (slice_index_or news k d)
+  pub each : (k : ℕ) (d : Desk) → k < length olds → HasTried net batch k (slice_index_or olds k d) (slice_index_or news k d)
 
--- desks that have each tried their moves of a reach on this network
-pub record AreFound (net : Network) (reach : Reach) (desks : List Desk) : Type 0 where
-  pub count : reach.desks ≡ length desks
-  pub each : (k : ℕ) → k < length desks → AreFinds net reach k (slice_index_or desks k no_desk).finds
+-- desks that have each tried their moves of a batch on this network
+pub record AreTried (net : Network) (batch : Batch) (desks : List Desk) : Type 0 where
+  pub count : batch.desks ≡ length desks
+  pub each : (k : ℕ) → k < length desks → AreResults net batch k (slice_index_or desks k no_desk).results
 
 -- the desk whose turn it was has made the move that ends a stretch
-pub record MadeAt (reach : Reach) (desks : List Desk) (s : Stretch) : Type 0 where
-  pub inside : s.passed % reach.desks < length desks
-  pub made : (slice_index_or desks (s.passed % reach.desks) no_desk).finds.made ≡ s.made
+pub record MadeAt (batch : Batch) (desks : List Desk) (s : Stretch) : Type 0 where
+  pub inside : s.passed % batch.desks < length desks
+  pub made : (slice_index_or desks (s.passed % batch.desks) no_desk).results.made ≡ s.made

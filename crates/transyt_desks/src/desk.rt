@@ -3,10 +3,10 @@
 ghost use Rattle.std.specs.Prelude.{◌≡◌, ℕ, ◌<◌, length, true, ◌↔◌, IsTrue};
 ghost use Rattle.transyt_session.specs.Session.{standing_for};
 ghost use Rattle.transyt_desks.specs.Desks.{new_desk, session_at, sessions_of};
-ghost use Rattle.transyt_desks.specs.Reaches.{CanFollow};
+ghost use Rattle.transyt_desks.specs.Batches.{CanFollow};
 
 use crate::equal::same_net;
-use crate::finds::Finds;
+use crate::results::TryResults;
 use transyt_net::Net;
 use transyt_session::Session;
 
@@ -14,7 +14,7 @@ use transyt_session::Session;
 #[derive(Drop)]
 pub(crate) struct Desk {
     pub(crate) session: Session,
-    pub(crate) finds: Finds,
+    pub(crate) results: TryResults,
 }
 
 impl Desk {
@@ -24,7 +24,7 @@ impl Desk {
     {
         Desk {
             session,
-            finds: Finds::none(),
+            results: TryResults::none(),
         }
     }
 }

@@ -9,17 +9,18 @@ ghost use Rattle.transyt_desks.specs.Stretches.{AreTriesOf, IsStretch, net_made}
 ghost use Rattle.transyt_moves.specs.Moves.{move_count};
 ghost use Rattle.transyt_session.specs.Session.{opened, standing_for};
 ghost use Rattle.transyt_sweep.specs.Sweeps.{index};
+ghost use Rattle.transyt_track.specs.Due.{cert_work};
 ghost use Rattle.transyt_desks.specs.Rounds.{places_of, room_of, CanRound, MakesRound, RoundsDesks};
 
+use crate::batch::Batch;
 use crate::desk::{Desk, all_stand};
-use crate::finding::{find_alone, find_first, find_some, stand_all};
 use crate::gate::Gate;
-use crate::means::Means;
-use crate::policy::{goes_alone, share};
-use crate::reach::Reach;
-use crate::rounds::{alone, together};
-use crate::share::Share;
+use crate::policy::{goes_alone, split};
+use crate::rounds::{together, turn_at_zero};
+use crate::runner::Runner;
+use crate::split::Split;
 use crate::stretch::Stretch;
+use crate::trying::{stand_all, try_moves_alone, try_moves_of_crew, try_stretch_at_first};
 use crate::turns::{Round, make_turns};
 use std::alloc::{AllocError, Global};
 use std::marker::Model;
@@ -38,7 +39,7 @@ pub struct Desks {
     /// other.
     crew: Vec<Desk>,
     /// How many of the first of the crew are known to stand for the network of desk 0.
-    following: usize,
+    in_step: usize,
 }
 
 impl Drop for Desks {
@@ -47,7 +48,7 @@ impl Drop for Desks {
         let Desks {
             zero: _,
             crew: _,
-            following: _,
+            in_step: _,
         } = self;
     }
 }
@@ -61,7 +62,7 @@ impl Model for Desks {
 
     ghost view = { λ d. desks_of d.zero (sessions_of d.crew.items) };
 
-    ghost invariant = { λ d. AreDesks d.zero (sessions_of d.crew.items) d.following };
+    ghost invariant = { λ d. AreDesks d.zero (sessions_of d.crew.items) d.in_step };
 }
 
 impl Desks {
@@ -80,7 +81,7 @@ impl Desks {
         Ok(Desks {
             zero: session,
             crew,
-            following: 0,
+            in_step: 0,
         })
     }
 
@@ -96,7 +97,7 @@ impl Desks {
         ensures* writes_back { sem 𝓛 (LendsZero self.entry result) }
         ensures value { result.now ≡ desk_zero self.old }
     {
-        self.following = 0;
+        self.in_step = 0;
         &mut self.zero
     }
 
@@ -111,22 +112,22 @@ impl Desks {
 
     /// Lets every other desk stand for the network of desk 0.
     fn follow_all<R: Threads + Sync>(&mut self, rt: &R)
-        requires shape { AreAlike self.old }
+        requires alike { AreAlike self.old }
         ensures aligned { AreAligned self.new }
         ensures zero { desk_zero self.new ≡ desk_zero self.old }
         ensures workers { length self.new ≡ length self.old }
     {
         let count = self.crew.len();
-        if count <= self.following {
+        if count <= self.in_step {
             return;
         }
         stand_all(rt, self.crew.as_mut_slice(), &self.zero);
-        self.following = count;
+        self.in_step = count;
     }
 
     /// Lets every other desk stand for the network of desk 0. It takes no memory, and does nothing with one desk.
     pub fn align<R: Threads + Sync, L: Ledger>(&mut self, rt: &R, steps: &mut Steps<L>)
-        requires shape { AreAlike self.old }
+        requires alike { AreAlike self.old }
         ensures aligned { AreAligned self.new }
         ensures zero { desk_zero self.new ≡ desk_zero self.old }
         ensures workers { length self.new ≡ length self.old }
@@ -146,64 +147,67 @@ impl Desks {
         all_stand(others, self.zero.net())
     }
 
-    /// Tries consecutive moves of the list from a place on, all desks at once, and writes the find of each: at most 32
+    /// Tries consecutive moves of the list from a place on, all desks at once, and writes the result of each: at most 32
     /// moves for each desk.
     ///
     /// No session changes, but that the other desks stand for the network of desk 0 afterwards. No work is added: credit
     /// it where it counts. The moves come to the desks in turn. A desk tries its own between entering and leaving the
-    /// gate. It takes no memory.
-    pub fn try_moves<R: Threads + Sync, G: Gate>(
+    /// gate. It takes no memory. With one desk it makes as many steps as the tries have work.
+    pub fn try_moves<R: Threads + Sync, G: Gate, L: Ledger>(
         &mut self,
         rt: &R,
         gate: &G,
         from: u32,
         tries: &mut [Tried],
+        steps: &mut Steps<L>,
     )
         requires alike { AreAlike self.old }
         requires closed { (desk_zero self.old).before ≡ None }
         requires places { from + length tries.old ≤ move_count (desk_zero self.old).net }
-        requires few { length tries.old ≤ 32 * length self.old }
+        requires room { length tries.old ≤ 32 * length self.old }
         ensures tried { AreTriesOf (desk_zero self.old).net from (length tries.old) tries.new }
         ensures len { length tries.new ≡ length tries.old }
         ensures zero { desk_zero self.new ≡ desk_zero self.old }
         ensures alike { AreAlike self.new }
         ensures workers { length self.new ≡ length self.old }
+        ensures steps { length self.old ≡ 1 → steps.new + cert_work (desk_zero self.old).net from
+            ≡ steps.old + cert_work (desk_zero self.old).net (from + length tries.old) }
     {
         if self.crew.is_empty() {
             gate.enter(0);
-            find_alone(&mut self.zero, from, tries);
+            try_moves_alone(&mut self.zero, from, tries, steps);
             gate.leave(0);
             return;
         }
-        let means = Means { rt, gate };
-        find_some(&means, self.crew.as_mut_slice(), &self.zero, from, tries);
-        self.following = self.crew.len();
+        let runner = Runner { rt, gate };
+        try_moves_of_crew(&runner, self.crew.as_mut_slice(), &self.zero, from, tries);
+        self.in_step = self.crew.len();
     }
 
-    /// Tries the moves of a reach at as many of the desks as it names, all at once, and gives them as a stretch, up to the
+    /// Tries the moves of a batch at as many of the desks as it names, all at once, and gives them as a stretch, up to the
     /// first that lowers the index. Desk 0 stands for the network with that move made then, with its work as it was.
-    pub(crate) fn try_reach<R: Threads + Sync, G: Gate>(
+    pub(crate) fn try_batch<R: Threads + Sync, G: Gate>(
         &mut self,
-        means: &Means<'_, R, G>,
-        reach: Reach,
+        runner: &Runner<'_, R, G>,
+        batch: Batch,
     ) -> Stretch
         requires several { 1 < length self.old }
-        requires within { reach.desks ≤ length self.old }
+        requires within { batch.desks ≤ length self.old }
         requires alike { AreAlike self.old }
         requires closed { (desk_zero self.old).before ≡ None }
-        requires count { reach.count ≡ move_count (desk_zero self.old).net }
-        requires bound { reach.bound ≡ index (desk_zero self.old).net }
+        requires count { batch.count ≡ move_count (desk_zero self.old).net }
+        requires bound { batch.bound ≡ index (desk_zero self.old).net }
         ensures tried { IsStretch (desk_zero self.old).net
-            reach.place reach.count reach.room result }
+            batch.place batch.count batch.room result }
         ensures zero { desk_zero self.new
             ≡ standing_for (net_made result.made (desk_zero self.old).net) (desk_zero self.old) }
         ensures alike { AreAlike self.new }
         ensures workers { length self.new ≡ length self.old }
     {
-        let count = reach.desks as usize;
-        let reach = reach.with_known(count <= self.following);
-        let tried = find_first(means, &mut self.zero, self.crew.as_mut_slice(), reach);
-        self.following = known_after(tried, count, self.following);
+        let count = batch.desks as usize;
+        let batch = batch.with_known(count <= self.in_step);
+        let tried = try_stretch_at_first(runner, &mut self.zero, self.crew.as_mut_slice(), batch);
+        self.in_step = known_after(tried, count, self.in_step);
         tried
     }
 
@@ -255,13 +259,13 @@ impl Desks {
             → steps.new + (desk_zero self.old).work ≡ steps.old + (desk_zero self.new).work }
     {
         if self.count() == 1 {
-            return alone(gate, self, climber, steps);
+            return turn_at_zero(gate, self, climber, steps);
         }
-        let share = Share {
+        let split = Split {
             desks: self.count(),
             each: 1,
         };
-        let round = together(&Means { rt, gate }, self, share, climber, steps);
+        let round = together(&Runner { rt, gate }, self, split, climber, steps);
         self.follow_all(rt);
         round
     }
@@ -291,21 +295,21 @@ impl Desks {
             → steps.new + (desk_zero self.old).work ≡ steps.old + (desk_zero self.new).work }
     {
         if goes_alone(self.count(), climber) {
-            return alone(gate, self, climber, steps);
+            return turn_at_zero(gate, self, climber, steps);
         }
-        let share = share(self.count(), climber);
-        together(&Means { rt, gate }, self, share, climber, steps)
+        let split = split(self.count(), climber);
+        together(&Runner { rt, gate }, self, split, climber, steps)
     }
 }
 
 /// How many of a crew are known to stand for the network of desk 0 after a stretch by so many: with a step none, and else
 /// these and those that were.
-fn known_after(tried: Stretch, count: usize, following: usize) -> usize
-    ensures none { tried.made ≡ None → result ≡ max count following }
+fn known_after(tried: Stretch, count: usize, in_step: usize) -> usize
+    ensures none { tried.made ≡ None → result ≡ max count in_step }
     ensures some { tried.made ≢ None → result ≡ 0 }
 {
     match tried.made {
-        None => count.max(following),
+        None => count.max(in_step),
         Some(_) => 0,
     }
 }

@@ -12,20 +12,20 @@
 //! is no clause's matter: a test shows it.
 #![tactic(auto)]
 
+mod batch;
 mod climbing;
 mod desk;
 mod desks;
 mod equal;
-mod finding;
-mod finds;
 mod gate;
 mod laws;
-mod means;
 mod policy;
-mod reach;
+mod results;
 mod rounds;
-mod share;
+mod runner;
+mod split;
 mod stretch;
+mod trying;
 mod turns;
 
 pub use climbing::climb_by_rounds;

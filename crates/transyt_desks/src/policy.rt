@@ -3,7 +3,7 @@
 ghost use Rattle.std.specs.Prelude.{◌≡◌, ◌<◌, ◌≤◌};
 ghost use Rattle.transyt_desks.specs.Rounds.{each_of, goes_alone, is_early, least_of, trying_of};
 
-use crate::share::Share;
+use crate::split::Split;
 use transyt_climb::Climber;
 
 /// A climb is early for the desks that try until each of them had its part of so many lists: two lists for two desks, one
@@ -88,7 +88,7 @@ fn each(desks: usize, climber: &Climber) -> u32
 }
 
 /// Which of so many desks try, and how many places each of them.
-pub(crate) fn share(desks: usize, climber: &Climber) -> Share
+pub(crate) fn split(desks: usize, climber: &Climber) -> Split
     requires some { 0 < desks }
     requires few { desks ≤ 8 }
     ensures desks { result.desks ≡ trying_of desks climber.now }
@@ -96,7 +96,7 @@ pub(crate) fn share(desks: usize, climber: &Climber) -> Share
     ensures within { result.desks ≤ desks }
 {
     let trying = trying(desks, climber);
-    Share {
+    Split {
         desks: trying,
         each: each(trying, climber),
     }

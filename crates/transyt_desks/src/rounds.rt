@@ -1,4 +1,4 @@
-//! A round of desks: one turn at desk 0, or moves that the desks of a share try.
+//! A round of desks: one turn at desk 0, or moves that the desks of a split try.
 
 ghost use Rattle.std.specs.Prelude.{◌≡◌, ℕ, ◌+◌, ◌*◌, ◌<◌, ◌≤◌, length, true, false};
 ghost use Rattle.transyt_climb.specs.Turns.{machine};
@@ -6,11 +6,11 @@ ghost use Rattle.transyt_session.specs.Session.{SessionValue};
 ghost use Rattle.transyt_desks.specs.Desks.{desk_zero, AreAlike};
 ghost use Rattle.transyt_desks.specs.Rounds.{room_of, turns_of, CanRound, RoundsDesks};
 
+use crate::batch::Batch;
 use crate::desks::Desks;
 use crate::gate::Gate;
-use crate::means::Means;
-use crate::reach::Reach;
-use crate::share::Share;
+use crate::runner::Runner;
+use crate::split::Split;
 use crate::turns::{Round, make_turn};
 use std::snapshot::Snapshot;
 use std::sync::ledger::Ledger;
@@ -46,7 +46,7 @@ fn turn_zero<L: Ledger>(
 }
 
 /// A round of one turn at desk 0, which passes the gate.
-pub(crate) fn alone<G: Gate, L: Ledger>(
+pub(crate) fn turn_at_zero<G: Gate, L: Ledger>(
     gate: &G,
     desks: &mut Desks,
     climber: &mut Climber,
@@ -69,11 +69,11 @@ pub(crate) fn alone<G: Gate, L: Ledger>(
 
 /// So many next moves of a climber's list, up to its budget and at most once round the list, for so many desks, and the
 /// bound below which they make a move.
-fn reach_of(climber: &Climber, places: u32, desks: usize, bound: u128) -> Reach
+fn batch_of(climber: &Climber, places: u32, desks: usize, bound: u128) -> Batch
     requires since { climber.now.since < climber.now.count }
     requires some { 0 < desks }
-    requires many { desks ≤ 8 }
-    requires few { places ≤ 64 * desks }
+    requires few { desks ≤ 8 }
+    requires each { places ≤ 64 * desks }
     ensures place { result.place ≡ climber.now.place }
     ensures list { result.count ≡ climber.now.count }
     ensures room { result.room ≡ room_of places climber.now }
@@ -82,7 +82,7 @@ fn reach_of(climber: &Climber, places: u32, desks: usize, bound: u128) -> Reach
 {
     let looks = climber.budget() - climber.looked();
     let left = climber.count() - climber.since();
-    Reach {
+    Batch {
         place: climber.place(),
         count: climber.count(),
         room: places.min(looks.min(left)),
@@ -92,27 +92,27 @@ fn reach_of(climber: &Climber, places: u32, desks: usize, bound: u128) -> Reach
     }
 }
 
-/// A round in which the desks of a share try the moves that it gives each of them, or the end of the climb.
+/// A round in which the desks of a split try the moves that it gives each of them, or the end of the climb.
 pub(crate) fn together<R: Threads + Sync, G: Gate, L: Ledger>(
-    means: &Means<'_, R, G>,
+    runner: &Runner<'_, R, G>,
     desks: &mut Desks,
-    share: Share,
+    split: Split,
     climber: &mut Climber,
     steps: &mut Steps<L>,
 ) -> Round
     requires several { 1 < length desks.old }
-    requires within { share.desks ≤ length desks.old }
+    requires within { split.desks ≤ length desks.old }
     requires alike { AreAlike desks.old }
     requires ready { CanRound climber.old (desk_zero desks.old) }
-    ensures { RoundsDesks (share.desks * share.each) climber.old desks.old
+    ensures { RoundsDesks (split.desks * split.each) climber.old desks.old
         climber.new desks.new result }
 {
-    let places = share.desks as u32 * share.each;
+    let places = split.desks as u32 * split.each;
     if is_over(climber) {
         return turn_zero(desks, climber, places, steps);
     }
-    let reach = reach_of(climber, places, share.desks, desks.session().index());
+    let batch = batch_of(climber, places, split.desks, desks.session().index());
     let before = Snapshot::of(desks.session());
-    let tried = desks.try_reach(means, reach);
+    let tried = desks.try_batch(runner, batch);
     desks.make_turns(climber, tried, places, &before)
 }

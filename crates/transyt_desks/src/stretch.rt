@@ -6,8 +6,8 @@ ghost use Rattle.transyt_track.specs.Due.{edit_work};
 ghost use Rattle.transyt_session.specs.Session.{standing_for, tried_below, try_of};
 ghost use Rattle.transyt_desks.specs.Stretches.{made_at, net_made, passing, place_at, work_found};
 
-use crate::finds::{Made, made_by};
-use crate::reach::Reach;
+use crate::batch::Batch;
+use crate::results::{MadeMove, made_by};
 use std::marker::Brand;
 use std::sync::ledger::{Blank, Ledger};
 use transyt_moves::move_at;
@@ -23,7 +23,7 @@ pub(crate) struct Stretch {
     /// The work of these.
     pub(crate) work: u64,
     /// The next one, if it lowers the index.
-    pub(crate) made: Option<Made>,
+    pub(crate) made: Option<MadeMove>,
 }
 
 impl Stretch {
@@ -63,12 +63,12 @@ pub(crate) fn pass(stretch: Stretch, found: Tried) -> Stretch
 }
 
 /// The place of the move with a number.
-pub(crate) fn place_of(reach: Reach, number: u32) -> u32
-    requires { number < reach.room }
-    ensures value { result ≡ place_at reach.place reach.count number }
-    ensures below { result < reach.count }
+pub(crate) fn place_of(batch: Batch, number: u32) -> u32
+    requires { number < batch.room }
+    ensures value { result ≡ place_at batch.place batch.count number }
+    ensures below { result < batch.count }
 {
-    ((u64::from(reach.place) + u64::from(number)) % u64::from(reach.count)) as u32
+    ((u64::from(batch.place) + u64::from(number)) % u64::from(batch.count)) as u32
 }
 
 /// Tries an edit with a bound, with a counter of steps of its own.
@@ -88,7 +88,7 @@ fn try_counted<L: Ledger>(session: &mut Session, edit: Edit, bound: u128, blank:
 /// Tries the move at a place, and makes it where it is allowed and brings the index below a bound: what the try came to,
 /// and the move if it is made.
 #[tactic(auto, using(crate::proofs::TriedLaws::after_try, crate::proofs::TriedLaws::made_small))]
-pub(crate) fn try_at(session: &mut Session, place: u32, bound: u128) -> (Tried, Option<Made>)
+pub(crate) fn try_at(session: &mut Session, place: u32, bound: u128) -> (Tried, Option<MadeMove>)
     requires place { place < move_count session.old.net }
     requires closed { session.old.before ≡ None }
     ensures tried { result.0 ≡ try_of session.old.net (move session.old.net place) }

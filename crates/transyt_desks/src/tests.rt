@@ -129,7 +129,7 @@ fn two_rounds_of_two<R: Threads + Sync, L: Ledger>(
 ) -> Result<Option<Rounds>, AllocError>
     requires name { blank.name ≡ L.name }
     requires parts { blank.parts ≡ L.parts }
-    requires any { 0 < L.parts }
+    requires some { 0 < L.parts }
 {
     let mut steps = Steps::<L>::begin(blank);
     let mut desks = desks_of(alloc, net, 2, &mut steps)?;

@@ -1,7 +1,6 @@
--- The index that a try finds, the work of a certificate and its text.
-use Rattle.std.proofs.Common.{◌≡◌, ℕ, zero, suc, ◌≤◌, Bool, true, false, List, ◌++◌, Option, None, Some, Result, Ok, Err, nat_le}
+-- The index that a try finds, and the work of a certificate.
+use Rattle.std.proofs.Common.{◌≡◌, ℕ, zero, suc, ◌≤◌, Bool, true, false, Option, None, Some, nat_le}
 use Rattle.std.proofs.Common.{refl, sym, subst, arith}
-use Rattle.std.specs.Result.{IsErr}
 use Rattle.transyt_net.specs.Parts.{Network}
 use Rattle.transyt_net.specs.declared.edit.Edit.{Edit}
 use Rattle.transyt_track.specs.Due.{cert_work}
@@ -10,8 +9,6 @@ use Rattle.transyt_moves.specs.Moves.{move}
 use Rattle.transyt_sweep.specs.Climb.{index_with, tried_at}
 use Rattle.transyt_net.specs.declared.edit.EditFault.{EditFault}
 use Rattle.transyt_net.specs.EditFaults.{edit_fault}
-use Rattle.transyt_text.specs.Prints.{Prints}
-use Rattle.transyt_text.proofs.PrintLaws.{prints_front}
 use Rattle.transyt_session.specs.Session.{tried_with, try_of}
 use Rattle.transyt_line_answers.specs.Conditions.{index_found}
 
@@ -39,9 +36,3 @@ pub cert_more : (net : Network) (i n : ℕ) → i ≤ n → cert_work net i ≤ 
 cert_more net i zero less =
     let none : i ≡ 0 = omega (arith, less) in subst (λ (k : ℕ). cert_work net k ≤ 0) (sym none) (omega arith)
 cert_more net i (suc n) less = one_more net i n less (nat_le i n) refl (λ below. cert_more net i n below)
-
--- a text that broke off is a front of a longer one
-pub breaks_longer : {T E : Type 0} {a b : Option (List ℕ)} {f g : ℕ} (r : Result T E) (xs ys : List ℕ) → IsErr r
-    → Prints {T = T} {E = E} a b f g r xs → Prints {T = T} {E = E} a b f g r (xs ++ ys)
-breaks_longer (Ok v) xs ys failed first = absurd (cc)
-breaks_longer (Err e) xs ys failed first = prints_front (Err e) xs ys failed first

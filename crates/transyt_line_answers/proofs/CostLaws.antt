@@ -1,18 +1,19 @@
 -- The steps of lines are those of the whole evaluation at END and the work since, which WORK prints.
-use Rattle.std.proofs.Common.{◌≡◌, ℕ, ◌+◌, ◌-◌, ◌*◌, ◌%◌, ◌≤◌, List, [], ◌∷◌, ◌++◌, length}
-use Rattle.std.proofs.Common.{Option, Some, None, IfSome, refl, sym, ◌∙◌, ap, subst, arith, append_assoc}
-use Rattle.std.proofs.lemmas.List.{append-nil, length-map}
-use Rattle.std.proofs.lemmas.List.Sums.{fold-append}
+use Rattle.std.proofs.Common.{◌≡◌, ℕ, ◌+◌, ◌-◌, ◌*◌, ◌%◌, ◌≤◌, List, [], ◌∷◌, length}
+use Rattle.std.proofs.Common.{Option, Some, None, IfSome, refl, sym, ◌∙◌, ap, arith}
+use Rattle.std.proofs.lemmas.List.{length-map}
+use Rattle.std.specs.List.{fold}
 use Rattle.transyt_parts.specs.Made.{bare_link}
 use Rattle.transyt_net.specs.Parts.{Network, shape, SameShape}
-use Rattle.transyt_deck.specs.Deck.{Deck, Complete, next, start}
+use Rattle.transyt_deck.specs.Deck.{Deck, Complete, next}
 use Rattle.transyt_commands.specs.Commands.{command_in}
 use Rattle.transyt_moves.specs.Moves.{move_count}
 use Rattle.transyt_sweep.specs.Climb.{climb}
 use Rattle.transyt_session.specs.Session.{SessionValue}
 use Rattle.transyt_climb.proofs.CountLaws.{shape_moved}
 use Rattle.transyt_outcome.specs.declared.ending.Ending.{Ending}
-use Rattle.transyt_outcome.specs.Runs.{ending_after, costs_after, first_of, unless_ended, costs_by, ending_by}
+use Rattle.transyt_outcome.specs.Runs.{RunAnswers, no_answers, one_more, answer_next, unless_ended, answers_by}
+use Rattle.transyt_outcome.proofs.MoreLines.{open_state}
 use Rattle.transyt_line_answers.specs.declared.answer.Answer.{Answer}
 use Rattle.transyt_line_answers.specs.declared.answer.Answer.TheVariants as a
 use Rattle.transyt_line_answers.specs.Commands.{after_answer, budget_of, line_answer, line_judged, session_after}
@@ -21,11 +22,6 @@ use Rattle.transyt_line_answers.specs.Report.{deck_steps, deck_answering, steps_
 use Rattle.transyt_line_answers.proofs.ClimbLaws.{of_climb}
 use Rattle.transyt_line_answers.proofs.ShapeLaws.{KeepsShape, keeps_said}
 use Rattle.transyt_line_answers.proofs.WorkLaws.{line_more}
-
--- the state after lines and one more
-pub state_on : (before : List (List ℕ)) (line : List ℕ)
-    → run_state (before ++ line ∷ []) ≡ run_after (run_state before) line
-state_on before line = fold-append run_after (InDeck start) before (line ∷ [])
 
 -- S times the links
 abbrev whole_of : Network → ℕ
@@ -89,35 +85,32 @@ steps_on (InSession s) line h =
     added (whole_of s.net) (whole_of (session_after s line).net) s.work (session_after s line).work
     (whole_same s.net (session_after s line).net (line_keeps s line h).net) (line_more s line)
 
--- sums, one after another
-join : (a c r u b now d all : ℕ) → a + c ≡ b → now ≡ b → now + r ≡ d → d ≡ all → u ≡ r → a + (c + u) ≡ all
-join a c r u b now d all one two three four five = omega arith
+-- the steps of answers are those of their state
+record AreWork (answers : RunAnswers RunState) : Type 0 where
+  kept : IsKept answers.state
+  steps : answers.steps ≡ steps_in answers.state
 
--- the steps with those of the lines to come
-steps_to : (before more : List (List ℕ)) → IsKept (run_state before)
-    → ending_after deck_answering.ends before more ≡ None
-    → steps_in (run_state before) + costs_after deck_answering.cost deck_answering.ends before more
-    ≡ steps_in (run_state (before ++ more))
-steps_to before [] h none =
-    let same = ap (λ (ls : List (List ℕ)). steps_in (run_state ls)) (append-nil before) in omega (arith, same)
-steps_to before (line ∷ more) h none =
-    let on = state_on before line in
-    let later = costs_after deck_answering.cost deck_answering.ends (before ++ line ∷ []) more in
-    let cases : (e : Option Ending) → deck_answering.ends before line ≡ e
-    → first_of e (ending_after deck_answering.ends (before ++ line ∷ []) more) ≡ None
-    → steps_in (run_state before) + (deck_answering.cost before line + unless_ended e 0 later)
-    ≡ steps_in (run_state (before ++ line ∷ more)) =
+-- also with the answer to one line more
+next_work : (answers : RunAnswers RunState) (line : List ℕ) → AreWork answers
+    → AreWork (answer_next deck_answering answers line)
+next_work answers line h =
+    let on = steps_on answers.state line h.kept in
+    let so_far = h.steps in
+    let both : (ending : Option Ending) → AreWork (unless_ended ending answers (one_more deck_answering answers line)) =
     elim [
-      | None ↦ λ is goes.
-          join (steps_in (run_state before)) (deck_answering.cost before line) later later _ _ _ _
-          (steps_on (run_state before) line h) (ap steps_in on)
-          (steps_to (before ++ line ∷ []) more (subst IsKept (sym on) (kept_on (run_state before) line h)) goes)
-          (ap (λ (ls : List (List ℕ)). steps_in (run_state ls)) (append_assoc before (line ∷ []) more)) refl
-      | Some ending ↦ λ is goes. absurd (cc)
+      | None ↦ record { kept = kept_on answers.state line h.kept; steps = omega (arith, on, so_far) }
+      | Some ending ↦ h
     ] in
-    cases (deck_answering.ends before line) refl none
+    both answers.ending
+
+more_work : (ls : List (List ℕ)) (answers : RunAnswers RunState) → AreWork answers
+    → AreWork (fold (answer_next deck_answering) answers ls)
+more_work [] answers h = h
+more_work (line ∷ ls) answers h = more_work ls (answer_next deck_answering answers line) (next_work answers line h)
 
 -- the steps of lines that don't end the run
-pub steps_are : (ls : List (List ℕ)) → ending_by deck_answering ls ≡ None
-    → costs_by deck_answering ls ≡ steps_in (run_state ls)
-steps_are ls none = let all = steps_to [] ls tt none in omega (arith, all)
+pub steps_are : (ls : List (List ℕ)) → (answers_by deck_answering ls).ending ≡ None
+    → (answers_by deck_answering ls).steps ≡ steps_in (run_state ls)
+steps_are ls none =
+    (more_work ls (no_answers deck_answering) (record { kept = tt; steps = refl })).steps
+    ∙ ap steps_in (open_state deck_answering (no_answers deck_answering) ls none)

@@ -1,7 +1,7 @@
 -- The worked reports, computed from the definitions.
 use Rattle.std.proofs.Common.{◌≡◌, ◌++◌, [], ◌∷◌, codes, refl}
 use Rattle.std.specs.Fmt.{digits}
-use Rattle.transyt_outcome.specs.Runs.{costs_by}
+use Rattle.transyt_outcome.specs.Runs.{answers_by}
 use Rattle.transyt_platoon.specs.Platoon.{smoothed}
 use Rattle.transyt_stopline.specs.StopLine.{sum_back, greatest}
 use Rattle.transyt_moves.specs.Moves.{move, move_count}
@@ -26,7 +26,7 @@ unfolding card_refused form_line filled digits
 card_refused_at = refl
 
 -- the steps of END, of an edit and of a trial
-pub steps_of_commands : costs_by deck_answering (one_link ++ commands) ≡ 8
+pub steps_of_commands : (answers_by deck_answering (one_link ++ commands)).steps ≡ 8
 unfolding due due_through due_in differs seen out_of smoothed sum_back greatest
 steps_of_commands = refl
 
@@ -36,7 +36,7 @@ unfolding accepted done_text refused_text queue_line node_line stage_line timing
 commands_reported = refl
 
 -- a refused card has none
-pub steps_of_refused : costs_by deck_answering taken_number ≡ 0
+pub steps_of_refused : (answers_by deck_answering taken_number).steps ≡ 0
 steps_of_refused = refl
 
 -- a climb and a certificate

@@ -95,18 +95,16 @@ abbrev pub end_refused : RunState → Bool
 end_refused (InDeck deck) = true
 end_refused (InSession s) = false
 
--- how a line ends the run, if it does
-abbrev pub ends : List (List ℕ) → List ℕ → Option Ending
-ends before line = line_ends (run_state before) line
-
--- how the lines of a deck and of its commands are answered, each by the state after the lines before it
-abbrev pub deck_answering : Answering
+-- how the lines of a deck and of its commands are answered
+abbrev pub deck_answering : Answering RunState
 deck_answering = record {
-  text = λ before line. line_text (run_state before) line;
-  ends = ends;
-  closing = λ before. text_at_end (run_state before);
-  refused = λ before. end_refused (run_state before);
-  cost = λ before line. line_steps (run_state before) line;
+  start = InDeck start;
+  text = line_text;
+  ends = line_ends;
+  cost = line_steps;
+  next = run_after;
+  closing = text_at_end;
+  refused = end_refused;
 }
 
 -- the report of an input: the answers to its lines and, where it ends before END, the refusal of its deck

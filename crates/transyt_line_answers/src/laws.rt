@@ -1,6 +1,6 @@
 //! Climbs in the words of the report, and worked reports.
 ghost use Rattle.std.specs.Prelude.{◌≡◌, ◌+◌, ◌∷◌, [], ◌++◌, ℕ, All, List, None, Option, Some, codes, map, true};
-ghost use Rattle.transyt_outcome.specs.Runs.{costs_by, ending_by};
+ghost use Rattle.transyt_outcome.specs.Runs.{answers_by};
 ghost use Rattle.transyt_outcome.specs.declared.status.Status.{Status};
 ghost use Rattle.transyt_syntax.specs.Codes.{number};
 ghost use Rattle.transyt_parts.specs.Made.{new_plan};
@@ -41,8 +41,8 @@ pub fn steps_lower()
 /// of the session after them, which WORK prints.
 #[tactic(auto, using(crate::proofs::CostLaws::steps_are))]
 pub fn steps_are_work()
-    ensures { (lines : List (List ℕ)) → ending_by deck_answering lines ≡ None
-        → costs_by deck_answering lines ≡ steps_in (run_state lines) }
+    ensures { (lines : List (List ℕ)) → (answers_by deck_answering lines).ending ≡ None
+        → (answers_by deck_answering lines).steps ≡ steps_in (run_state lines) }
 {}
 
 /// The worked reports come out as they are written beside the definitions, with their statuses and their steps.
@@ -54,8 +54,8 @@ pub fn worked_reports()
     ensures no_end { report (text_of without_end) ≡ codes "CARD 4 REFUSED 21" ++ 10 ∷ [] }
     ensures done { status (text_of (one_link ++ commands)) ≡ Status.Done }
     ensures refused_status { status (text_of taken_number) ≡ Status.DeckRefused }
-    ensures steps { costs_by deck_answering (one_link ++ commands) ≡ 8 }
-    ensures refused_steps { costs_by deck_answering taken_number ≡ 0 }
+    ensures steps { (answers_by deck_answering (one_link ++ commands)).steps ≡ 8 }
+    ensures refused_steps { (answers_by deck_answering taken_number).steps ≡ 0 }
 {}
 
 /// DECK, PLOT and PROFILE in a trial tell the network as it stands then, and DECK after BACK that of before the trial.

@@ -3,7 +3,7 @@
 //!
 //! `specs/Commands` has the answer to a command, its text and the session after it, `specs/Report` the report of an
 //! input as a fold over its lines, `specs/Steps` the rules that a step of a climb keeps to. [`judge`] makes a line into
-//! an [`Answer`]; [`say_text`] and [`certify_on`] write it. A climb is written by `transyt_reporter`, over desks.
+//! an [`Answer`]; [`write_text`] writes it. A climb and a certificate are written by `transyt_reporter`, over desks.
 #![tactic(auto)]
 
 mod answer;
@@ -14,8 +14,8 @@ mod writing;
 
 pub use answer::Answer;
 pub use answering::judge;
-pub use certifying::{certify_on, say_cert_end, say_cert_place};
+pub use certifying::{write_cert_end, write_cert_place};
 pub use laws::{
     steps_are_work, steps_lower, worked_commands, worked_lowering, worked_reports, worked_trial,
 };
-pub use writing::{print_accepted, print_card_refused, say_text};
+pub use writing::{print_accepted, print_card_refused, write_text};

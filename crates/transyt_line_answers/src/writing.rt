@@ -57,7 +57,7 @@ fn print_refused<K: Sink>(code: Code, line: &mut LineBuffer, sink: &mut K) -> Re
 
 /// Writes the text of an answer other than CLIMB and CERT. On Failed some first bytes of it were written. It takes no
 /// memory.
-pub fn say_text<K: Sink>(
+pub fn write_text<K: Sink>(
     answer: Answer,
     session: &Session,
     line: &mut LineBuffer,

@@ -2,6 +2,7 @@
 pub mod Head
 pub mod LastLine
 pub mod MoreBytes
+pub mod MoreLines
+pub mod RunEnds
 pub mod RunLaws
-pub mod SoFar
 pub mod Written

@@ -1,4 +1,5 @@
 -- The definitions of the crate.
+pub mod Ends
 pub mod Outcome
 pub mod RunSoFar
 pub mod Runs

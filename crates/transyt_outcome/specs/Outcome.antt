@@ -2,7 +2,11 @@
 use Rattle.std.specs.Prelude.{◌≡◌, ◌⊎◌, ℕ, ◌-◌, ◌++◌, ◌≤◌, ◌<◌, List, [], Bool, true, false, Option, None, Some, IfSome}
 use Rattle.std.specs.Prelude.{length, take, if◌then◌else◌}
 use Rattle.transyt_io.specs.Streams.{Takes, Adds, IsAtEnd}
+use Rattle.transyt_io.specs.declared.reader.ReadStop.{ReadStop}
+use Rattle.transyt_io.specs.declared.reader.ReadStop.TheVariants.{Fault, TooLong}
 use Rattle.transyt_outcome.specs.declared.ending.Ending.{Ending}
+use Rattle.transyt_outcome.specs.declared.ending.Stop.{Stop}
+use Rattle.transyt_outcome.specs.declared.ending.Stop.TheVariants.{Write, Memory}
 use Rattle.transyt_outcome.specs.declared.status.Status.{Status}
 use Rattle.transyt_outcome.specs.declared.status.Status.TheVariants as s
 
@@ -14,9 +18,22 @@ pub record Reporting : Type 0 where
   pub report : List ℕ → List ℕ
   pub refused : List ℕ → Bool
 
+-- the status of a run that its input ended: whether that is a refusal
+abbrev pub status_if : Bool → Status
+status_if refused = if refused then s.DeckRefused else s.Done
+
 -- the status of the run of an input
 abbrev pub status_by : Reporting → List ℕ → Status
-status_by by input = if by.refused input then s.DeckRefused else s.Done
+status_by by input = status_if (by.refused input)
+
+-- the status of a run that an answer stopped, and of one that a read stopped
+abbrev pub stop_status : Stop → Status
+stop_status Write = s.WriteFault
+stop_status Memory = s.NoMemory
+
+abbrev pub read_stop_status : ReadStop → Status
+read_stop_status Fault = s.ReadFault
+read_stop_status TooLong = s.TooLong
 
 -- these are some first bytes of all
 pub record IsFront (front all : List ℕ) : Type 0 where

@@ -11,15 +11,18 @@ abbrev pub echo_ends : List ℕ → Option Ending
 echo_ends [] = None
 echo_ends (b ∷ bs) = if nat_eq b 83 then Some e.Stopped else if nat_eq b 82 then Some e.Refused else None
 
--- Each line is said again behind a `>`, and takes a step for each byte and a hundred for each line before it. The end of
--- the input is told by how many lines there were, as a digit, and is a refusal after more than two.
-abbrev pub echo : Answering
+-- Each line is said again after a `>`, and takes a step for each byte and a hundred for each line before it. The end of
+-- the input is told by how many lines there were, as a digit, and is a refusal after more than two. The state is how many
+-- lines came.
+abbrev pub echo : Answering ℕ
 echo = record {
-  text = λ before line. 62 ∷ line ++ 10 ∷ [];
-  ends = λ before line. echo_ends line;
-  closing = λ before. (48 + length before) ∷ 10 ∷ [];
-  refused = λ before. nat_lt 2 (length before);
-  cost = λ before line. length line + 100 * length before;
+  start = 0;
+  text = λ count line. 62 ∷ line ++ 10 ∷ [];
+  ends = λ count line. echo_ends line;
+  cost = λ count line. length line + 100 * count;
+  next = λ count line. count + 1;
+  closing = λ count. (48 + count) ∷ 10 ∷ [];
+  refused = λ count. nat_lt 2 count;
 }
 
 -- lines, their answer and their report; the last has no line end

@@ -1,5 +1,6 @@
 //! The status of a run by what ended it.
-ghost use Rattle.std.specs.Prelude.{◌≡◌, if◌then◌else◌};
+ghost use Rattle.std.specs.Prelude.{◌≡◌};
+ghost use Rattle.transyt_outcome.specs.Outcome.{read_stop_status, status_if, stop_status};
 ghost use Rattle.transyt_outcome.specs.Runs.{is_refusal};
 
 use crate::status::Status;
@@ -17,7 +18,7 @@ pub enum Ending {
 impl Ending {
     /// The status of the run that it ends.
     pub fn status(self) -> Status
-        ensures { result ≡ (if is_refusal self then Status.DeckRefused else Status.Done) }
+        ensures { result ≡ status_if (is_refusal self) }
     {
         match self {
             Ending::Stopped => Status::Done,
@@ -37,7 +38,7 @@ pub enum Stop {
 
 /// The status of a run that the end of the input ended: whether that is a refusal.
 pub fn ended(refused: bool) -> Status
-    ensures { result ≡ (if refused then Status.DeckRefused else Status.Done) }
+    ensures { result ≡ status_if refused }
 {
     if refused {
         Status::DeckRefused
@@ -48,8 +49,7 @@ pub fn ended(refused: bool) -> Status
 
 /// The status of a run that an answer ended.
 pub fn stopped(stop: Stop) -> Status
-    ensures write { stop ≡ Stop.Write → result ≡ Status.WriteFault }
-    ensures memory { stop ≡ Stop.Memory → result ≡ Status.NoMemory }
+    ensures { result ≡ stop_status stop }
 {
     match stop {
         Stop::Write => Status::WriteFault,
@@ -59,8 +59,7 @@ pub fn stopped(stop: Stop) -> Status
 
 /// The status of a run that a read ended.
 pub fn stopped_reading(stop: ReadStop) -> Status
-    ensures fault { stop ≡ ReadStop.Fault → result ≡ Status.ReadFault }
-    ensures long { stop ≡ ReadStop.TooLong → result ≡ Status.TooLong }
+    ensures { result ≡ read_stop_status stop }
 {
     match stop {
         ReadStop::Fault => Status::ReadFault,

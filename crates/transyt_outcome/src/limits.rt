@@ -1,7 +1,7 @@
 //! Laws about what is claimed of an input, and about runs at the limit of 4,194,304 bytes.
 ghost use Rattle.std.specs.Prelude.{◌≡◌, ◌++◌, ◌∷◌, ℕ, List, [], None, Some, codes, length};
 ghost use Rattle.transyt_outcome.specs.Outcome.{Complete, Headline, IsSettled, Row, TooLongWhere};
-ghost use Rattle.transyt_outcome.specs.Runs.{StepsRow, of_lines};
+ghost use Rattle.transyt_outcome.specs.Runs.{StepsSaid, of_lines};
 ghost use Rattle.transyt_outcome.specs.WorkedLimits.{fault_rows, no_fault_rows, no_step_rows, refused_lines, step_rows};
 ghost use Rattle.transyt_outcome.specs.WorkedLimits.{tally};
 ghost use Rattle.transyt_outcome.specs.WorkedOutcomes.{Each, echo, two_lines, two_report};
@@ -13,8 +13,8 @@ pub fn worked_faults()
     ensures rows { Each (λ row. Row (of_lines echo) row.0 row.1 row.2 row.3 row.4) fault_rows }
     ensures no_rows { Each (λ row. ¬ Row (of_lines echo) row.0 row.1 row.2 row.3 row.4)
         no_fault_rows }
-    ensures steps { Each (λ row. StepsRow echo (Some (codes "f")) row.0 7 row.1 row.2) step_rows }
-    ensures no_steps { Each (λ row. ¬ StepsRow echo (Some (codes "f")) row.0 7 row.1 row.2)
+    ensures steps { Each (λ row. StepsSaid echo (Some (codes "f")) row.0 7 row.1 row.2) step_rows }
+    ensures no_steps { Each (λ row. ¬ StepsSaid echo (Some (codes "f")) row.0 7 row.1 row.2)
         no_step_rows }
 {}
 

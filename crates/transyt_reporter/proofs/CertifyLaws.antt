@@ -1,6 +1,6 @@
 -- The lines of consecutive places, and the session after them.
 use Rattle.std.proofs.Common.{◌≡◌, ℕ, zero, suc, ◌+◌, ◌-◌, ◌<◌, ◌≤◌, List, ◌∷◌, ◌++◌, Option, Result, Ok, Err, OnOk}
-use Rattle.std.proofs.Common.{refl, sym, ◌∙◌, ap, arith, append_assoc, flat_map}
+use Rattle.std.proofs.Common.{◌*◌, length, refl, sym, ◌∙◌, ap, arith, append_assoc, flat_map}
 use Rattle.std.proofs.lemmas.Grind.{flat_map-append}
 use Rattle.std.specs.List.{range_with_len}
 use Rattle.std.specs.Result.{IsErr}
@@ -10,7 +10,7 @@ use Rattle.transyt_moves.specs.Moves.{move, move_count}
 use Rattle.transyt_sweep.specs.Sweeps.{index}
 use Rattle.transyt_track.specs.Due.{edit_work, cert_work}
 use Rattle.transyt_session.specs.declared.answers.Tried.{Tried}
-use Rattle.transyt_session.specs.Session.{SessionValue, try_of, credited}
+use Rattle.transyt_session.specs.Session.{SessionValue, credited}
 use Rattle.transyt_text.specs.Prints.{Prints, Printed}
 use Rattle.transyt_text.proofs.PrintLaws.{prints_both, prints_front, prints_same, adds_same}
 use Rattle.transyt_cert.specs.Certificate.{place_text, last_text, cert_text}
@@ -21,16 +21,16 @@ use Rattle.transyt_line_answers.proofs.CertLaws.{cert_more}
 use Rattle.std.specs.Prelude.{slice_index_or}
 use Rattle.transyt_desks.specs.Stretches.{AreTriesOf, work_found}
 use Rattle.transyt_desks.proofs.TriedLaws.{try_work}
-use Rattle.transyt_reporter.specs.Conditions.{HasCertified, places_text}
+use Rattle.transyt_reporter.specs.Conditions.{places_text, places_work, AreIdle, LeavesReady}
 use Rattle.transyt_text.proofs.LoopLaws.{whole}
+use Rattle.transyt_desks.specs.Desks.{desk_zero, AreAlike}
+use Rattle.transyt_reporter.proofs.ReadyLaws.{ready_closed}
 
--- the work of a try is little
-pub try_few : (net : Network) (from count : ℕ) (tries : List Tried) (k : ℕ) (d : Tried) → AreTriesOf net from count tries
-    → k < count → work_found (slice_index_or tries k d) ≤ 8000
-try_few net from count tries k d found inside =
-    let is : work_found (slice_index_or tries k d) ≡ edit_work net (move net (from + k)) =
-    ap work_found (found.each k d inside) ∙ try_work net (move net (from + k)) in
-    omega (arith, is, found.few k inside)
+-- the work of a try is that of its move
+pub try_is : (net : Network) (from count : ℕ) (tries : List Tried) (k : ℕ) (d : Tried) → AreTriesOf net from count tries
+    → k < count → work_found (slice_index_or tries k d) ≡ edit_work net (move net (from + k))
+try_is net from count tries k d found inside =
+    ap work_found (found.each k d inside) ∙ try_work net (move net (from + k))
 
 -- places from one on are some first of them and the rest
 range_both : (from first second both next : ℕ) → both ≡ first + second → next ≡ from + first
@@ -89,94 +89,93 @@ lines_ended r v net from a b c all before last =
     (whole v (places_text net 0 from) before) last)
     (ap (λ (n : ℕ). places_text net 0 n ++ last_text (move_count net) (index net)) all ∙ sym (text_by_place net))
 
--- no place is certified yet
-pub certified_none : {T E : Type 0} (v : T) (s : SessionValue) (from : ℕ) → HasCertified {T = T} {E = E} s s from 0 (Ok v)
-certified_none v s from =
-    let at : from + 0 ≡ from = omega arith in
-    let same : cert_work s.net (from + 0) ≡ cert_work s.net from = ap (cert_work s.net) at in
+-- the work of more places
+pub work_more : (net : Network) (from count : ℕ)
+    → cert_work net from + places_work net from count ≡ cert_work net (from + count)
+work_more net from count = let more = cert_more net from (from + count) (omega arith) in omega (arith, more)
+
+-- the work of one place more
+pub work_next : (net : Network) (from count : ℕ)
+    → places_work net from (count + 1) ≡ places_work net from count + edit_work net (move net (from + count))
+work_next net from count =
+    let next : cert_work net (from + (count + 1)) ≡ cert_work net (from + count) + edit_work net (move net (from + count)) =
+    ap (cert_work net) (let at : from + (count + 1) ≡ suc (from + count) = omega arith in at) in
+    let more = cert_more net from (from + count) (omega arith) in
+    omega (arith, next, more)
+
+-- Desks of which desk 0 has certified the first places: their work was added, and with one desk as many steps were made.
+pub record AreCertified (desks after : List SessionValue) (from steps steps_new : ℕ) : Type 0 where
+  pub state : desk_zero after ≡ credited (cert_work (desk_zero desks).net from) (desk_zero desks)
+  pub small : cert_work (desk_zero desks).net from ≤ 8000 * from
+  pub alike : AreAlike after
+  pub len : length after ≡ length desks
+  pub made : length desks ≡ 1 → steps_new ≡ steps + cert_work (desk_zero desks).net from
+
+-- no place yet
+pub certified_none : (desks : List SessionValue) (steps : ℕ) → AreAlike desks → AreCertified desks desks 0 steps steps
+certified_none desks steps alike =
+    let zero = desk_zero desks in
+    let same : zero.work ≡ zero.work + 0 = omega arith in
     record {
-      net = refl;
-      before = refl;
-      few = omega arith;
-      some = omega (arith, same);
-      all = omega (arith, same);
+      state = λ i. record { net = zero.net; before = zero.before; work = same i };
+      small = omega arith;
+      alike = alike;
+      len = refl;
+      made = λ one. omega arith;
     }
 
--- one place is
-pub certified_one : {T E : Type 0} (v : T) (s after : SessionValue) (tried : Tried) (place : ℕ)
-    → after ≡ credited (work_found tried) s → tried ≡ try_of s.net (move s.net place)
-    → edit_work s.net (move s.net place) ≤ 8000 → HasCertified {T = T} {E = E} s after place 1 (Ok v)
-certified_one v s after tried place is found few =
-    let work : after.work ≡ s.work + edit_work s.net (move s.net place) =
-    ap (λ (t : SessionValue). t.work) is
-    ∙ ap (λ (n : ℕ). s.work + n) (ap work_found found ∙ try_work s.net (move s.net place)) in
-    let next : place + 1 ≡ suc place = omega arith in
-    let more : cert_work s.net (place + 1) ≡ cert_work s.net place + edit_work s.net (move s.net place) =
-    ap (cert_work s.net) next in
+-- and then those of a batch
+pub certified_more : {desks now after : List SessionValue} {from steps steps_now : ℕ}
+    (so : AreCertified desks now from steps steps_now) (count steps_new : ℕ)
+    → desk_zero after ≡ credited (places_work (desk_zero now).net from count) (desk_zero now)
+    → places_work (desk_zero now).net from count ≤ 8000 * count → AreAlike after → length after ≡ length now
+    → (length now ≡ 1
+    → steps_new + cert_work (desk_zero now).net from ≡ steps_now + cert_work (desk_zero now).net (from + count))
+    → AreCertified desks after (from + count) steps steps_new
+certified_more {desks} {now} {from = from} so count steps_new state few alike len made =
+    let net = (desk_zero desks).net in
+    let net_is = ap (λ (t : SessionValue). t.net) so.state in
+    let before_is = ap (λ (t : SessionValue). t.before) so.state in
+    let had = ap (λ (t : SessionValue). t.work) so.state in
+    let same : places_work (desk_zero now).net from count ≡ places_work net from count =
+    ap (λ (n : Network). places_work n from count) net_is in
+    let more = work_more net from count in
+    let work : (desk_zero now).work + places_work (desk_zero now).net from count
+    ≡ (desk_zero desks).work + cert_work net (from + count) = omega (arith, had, same, more) in
     record {
-      net = ap (λ (t : SessionValue). t.net) is;
-      before = ap (λ (t : SessionValue). t.before) is;
-      few = omega (arith, work, few);
-      some = omega (arith, work, more);
-      all = omega (arith, work, more);
+      state = state ∙ (λ i. record { net = net_is i; before = before_is i; work = work i });
+      small = omega (arith, so.small, few, same, more);
+      alike = alike;
+      len = len ∙ so.len;
+      made = λ one.
+          let first = so.made one in
+          let then = made (so.len ∙ one) in
+          let here = ap (λ (n : Network). cert_work n from) net_is in
+          let there = ap (λ (n : Network). cert_work n (from + count)) net_is in
+          omega (arith, first, then, here, there);
     }
 
--- places are, and then others
-pub certified_both : {T E U F : Type 0} {v : U} (r : Result T E) (s now after : SessionValue) (from first second both next : ℕ)
-    → next ≡ from + first → both ≡ first + second → HasCertified {T = U} {E = F} s now from first (Ok v)
-    → HasCertified now after next second r → HasCertified s after from both r
-certified_both {T} {E} r s now after from first second both next next_is both_is one two =
-    let at : next + second ≡ from + both = omega arith in
-    let start : cert_work now.net next ≡ cert_work s.net (from + first) = λ i. cert_work (one.net i) (next_is i) in
-    let end : cert_work now.net (next + second) ≡ cert_work s.net (from + both) = λ i. cert_work (one.net i) (at i) in
-    let work : now.work + cert_work s.net from ≡ s.work + cert_work s.net (from + first) = one.all in
-    let all : (r : Result T E) → OnOk r (after.work + cert_work now.net next ≡ now.work + cert_work now.net (next + second))
-    → OnOk r (after.work + cert_work s.net from ≡ s.work + cert_work s.net (from + both)) =
-    elim [ Ok v ↦ λ so. omega (arith, so, start, end, work) | Err e ↦ λ so. tt ] in
-    record {
-      net = two.net ∙ one.net;
-      before = two.before ∙ one.before;
-      few = omega (arith, one.few, two.few, both_is);
-      some = omega (arith, work, two.some, start, end);
-      all = all r two.all;
-    }
+-- once all places are certified, desk 0 is the session after CERT
+pub certified_state : {T E : Type 0} (r : Result T E) {desks after : List SessionValue} {from steps steps_new : ℕ}
+    → AreCertified desks after from steps steps_new → from ≡ move_count (desk_zero desks).net
+    → OnOk r (desk_zero after ≡ after_answer a.Cert (desk_zero desks))
+certified_state (Ok v) {desks} so all =
+    so.state ∙ ap (λ (n : ℕ). credited (cert_work (desk_zero desks).net n) (desk_zero desks)) all
+certified_state (Err e) so all = tt
 
--- the same, however a call ended
-pub certified_any : {T E U F : Type 0} {v : U} (r : Result T E) (s after : SessionValue) (from first count : ℕ) → first ≡ count
-    → HasCertified {T = U} {E = F} s after from first (Ok v) → HasCertified s after from count r
-certified_any {T} {E} r s after from first count same so =
-    let work : after.work + cert_work s.net from ≡ s.work + cert_work s.net (from + first) = so.all in
-    let end : cert_work s.net (from + first) ≡ cert_work s.net (from + count) = ap (λ (n : ℕ). cert_work s.net (from + n)) same in
-    let all : (r : Result T E) → OnOk r (after.work + cert_work s.net from ≡ s.work + cert_work s.net (from + count)) =
-    elim [ Ok v ↦ work ∙ ap (λ (n : ℕ). s.work + n) end | Err e ↦ tt ] in
+-- the desks and the steps, also where the text broke off
+pub certified_leaves : {desks after : List SessionValue} {from steps steps_new : ℕ}
+    → AreCertified desks after from steps steps_new → AreIdle desks → from ≤ move_count (desk_zero desks).net
+    → move_count (desk_zero desks).net ≤ 57600
+    → LeavesReady 8000072000 (after_answer a.Cert (desk_zero desks)) desks after steps steps_new
+certified_leaves {desks} {after} {from} so idle inside most =
+    let work = ap (λ (t : SessionValue). t.work) so.state in
+    let all = cert_more (desk_zero desks).net from (move_count (desk_zero desks).net) inside in
     record {
-      net = so.net;
-      before = so.before;
-      few = omega (arith, so.few, same);
-      some = omega (arith, work, end);
-      all = all r;
+      ready = ready_closed desks after idle.ready so.alike so.len
+          (ap (λ (t : SessionValue). t.before) so.state ∙ idle.closed);
+      len = so.len;
+      few = omega (arith, work, inside, most, so.small);
+      work = omega (arith, work, all);
+      made = λ one. let counted = so.made one in omega (arith, work, counted);
     }
-
--- the lines of more places broke off
-pub certified_front : {T E U F : Type 0} {q : Result U F} (r : Result T E) (s after : SessionValue) (from first count : ℕ)
-    → IsErr r → first ≤ count → HasCertified s after from first q → HasCertified s after from count r
-certified_front (Ok v) s after from first count failed less so = absurd (cc)
-certified_front (Err e) s after from first count failed less so =
-    let more = cert_more s.net (from + first) (from + count) (omega arith) in
-    record {
-      net = so.net;
-      before = so.before;
-      few = omega (arith, so.few, less);
-      some = omega (arith, so.some, more);
-      all = tt;
-    }
-
--- a session whose places are all certified is that after CERT
-pub certified_state : {T E : Type 0} (r : Result T E) (s after : SessionValue) → HasCertified s after 0 (move_count s.net) r
-    → OnOk r (after ≡ after_answer a.Cert s)
-certified_state (Ok v) s after so =
-    let end : cert_work s.net (0 + move_count s.net) ≡ cert_work s.net (move_count s.net) =
-    ap (cert_work s.net) (omega arith) in
-    let work : after.work ≡ s.work + cert_work s.net (move_count s.net) = omega (arith, so.all, end) in
-    λ i. record { net = so.net i; before = so.before i; work = work i }
-certified_state (Err e) s after so = tt

@@ -11,7 +11,7 @@ use Rattle.transyt_desks.specs.Rounds.{MakesRound}
 use Rattle.transyt_text.specs.Prints.{Prints}
 use Rattle.transyt_line_answers.specs.declared.answer.Answer.TheVariants as a
 use Rattle.transyt_line_answers.specs.Commands.{after_answer, budget_of, steps_text}
-use Rattle.transyt_reporter.specs.Conditions.{AreReady, Leaves}
+use Rattle.transyt_reporter.specs.Conditions.{AreReady, LeavesReady}
 use Rattle.transyt_reporter.proofs.ClimbTexts.{ClimbWritten, writes_nothing, climb_work, climb_few, step_written}
 use Rattle.transyt_reporter.proofs.LeavesLaws.{climb_leaves}
 
@@ -62,7 +62,7 @@ module _ {desks now news : List SessionValue} {c : Counters} {w v : Option (List
   }
 
   -- the desks and the steps that it leaves where it is the last, or its line broke off
-  pub way_leaves : AreReady desks → Leaves 8000072000 (after_answer a.Climb (desk_zero desks)) desks news begun after
+  pub way_leaves : AreReady desks → LeavesReady 8000072000 (after_answer a.Climb (desk_zero desks)) desks news begun after
   way_leaves ready =
       climb_leaves desks news _ _ ready so.few alike made.closed (workers ∙ so.len) (climb_few so.written made)
       (climb_work so.written made) rose

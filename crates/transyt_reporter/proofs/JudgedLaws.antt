@@ -10,7 +10,7 @@ use Rattle.transyt_line_answers.specs.Conditions.{IsOf}
 use Rattle.transyt_line_answers.specs.Report.{answer_ends}
 use Rattle.transyt_line_answers.proofs.JudgedTexts.{line_said}
 use Rattle.transyt_outcome.specs.declared.ending.Ending.{Ending}
-use Rattle.transyt_reporter.specs.Conditions.{AreReady, Leaves}
+use Rattle.transyt_reporter.specs.Conditions.{AreReady, LeavesReady}
 use Rattle.transyt_reporter.proofs.ReadyLaws.{ready_judged}
 use Rattle.transyt_reporter.proofs.LeavesLaws.{command_leaves}
 use Rattle.transyt_desks.proofs.DeskLaws.{zero_set}
@@ -59,8 +59,8 @@ module _ {desks : List SessionValue} {lent s : SessionValue} {answer : Answer} (
   -- the desks and the steps that saying it leaves are those after the line
   pub leaves_said : (after : List SessionValue) (steps judged steps_new : ℕ) → s.work ≤ lent.work + 8000
       → judged + lent.work ≡ steps + s.work
-      → Leaves 8000072000 (after_answer answer (desk_zero (set desks 0 s))) (set desks 0 s) after judged steps_new
-      → Leaves 8589934592 (session_after (desk_zero desks) line) desks after steps steps_new
+      → LeavesReady 8000072000 (after_answer answer (desk_zero (set desks 0 s))) (set desks 0 s) after judged steps_new
+      → LeavesReady 8589934592 (session_after (desk_zero desks) line) desks after steps steps_new
   leaves_said after steps judged steps_new few work leaves =
       command_leaves desks after lent s _ _ steps judged steps_new ready value few work
       (λ i. after_answer (answer_is i) (zero_is i)) leaves

@@ -6,7 +6,6 @@ pub mod CertifyLaws
 pub mod ClimbTexts
 pub mod ClimbWay
 pub mod CountLaws
-pub mod FaultLaws
 pub mod JudgedLaws
 pub mod LeavesLaws
 pub mod MoveLaws

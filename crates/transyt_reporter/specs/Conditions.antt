@@ -1,7 +1,7 @@
--- The desks between two lines and before a climb, and a certificate by several desks, which try a batch of places at once.
+-- The desks between two lines and before a climb, and the places of a certificate.
 -- No clause of the top call cites it.
 use Rattle.std.specs.Prelude.{ℕ, ◌+◌, ◌≡◌, ◌<◌, ◌≤◌, true, length, Option, IfSome, List, Result, OnOk, OnErr, IfOk}
-use Rattle.std.specs.Prelude.{IsErrOf, ◌*◌, ◌^◌, None, flat_map}
+use Rattle.std.specs.Prelude.{IsErrOf, ◌-◌, ◌^◌, None, flat_map}
 use Rattle.transyt_io.specs.Streams.{Adds, AddsFront, Rose}
 use Rattle.transyt_deck.specs.Deck.{Deck}
 use Rattle.transyt_outcome.specs.declared.ending.Ending.{Ending}
@@ -37,7 +37,7 @@ IsStep _ = Unit {0}
 
 -- desks and steps after an answer, also one whose text broke off: the desks are ready, the work rose by no more than a
 -- limit and not past that of the whole answer, and with one worker the steps rose as it did
-pub record Leaves (most : ℕ) (answered : SessionValue) (old new : List SessionValue) (steps steps_new : ℕ) : Type 0 where
+pub record LeavesReady (most : ℕ) (answered : SessionValue) (old new : List SessionValue) (steps steps_new : ℕ) : Type 0 where
   pub ready : AreReady new
   pub len : length new ≡ length old
   pub few : (desk_zero new).work ≤ (desk_zero old).work + most
@@ -60,11 +60,6 @@ pub record AnswersDeck (deck : Deck) (result : Result (Option Ending) Stop) (wri
 abbrev pub places_text : Network → ℕ → ℕ → List ℕ
 places_text net from count = flat_map (place_text net) (range_with_len from count)
 
--- a session at whose network the lines of so many places from one on were written, or broke off: it is as it was but for
--- the work of the places, which was added whole or in part
-pub record HasCertified {T E : Type 0} (old new : SessionValue) (from count : ℕ) (result : Result T E) : Type 0 where
-  pub net : new.net ≡ old.net
-  pub before : new.before ≡ old.before
-  pub few : new.work ≤ old.work + 8000 * count
-  pub some : new.work + cert_work old.net from ≤ old.work + cert_work old.net (from + count)
-  pub all : OnOk result (new.work + cert_work old.net from ≡ old.work + cert_work old.net (from + count))
+-- their work
+abbrev pub places_work : Network → ℕ → ℕ → ℕ
+places_work net from count = cert_work net (from + count) - cert_work net from

@@ -1,10 +1,10 @@
 -- The view of a reporter, and its invariant.
-use Rattle.std.specs.Prelude.{ℕ, ◌≡◌, ◌*◌, ◌≤◌, ◌++◌, true, List, length, Option, None, Some, IfSome, IfNone}
+use Rattle.std.specs.Prelude.{ℕ, ◌≡◌, ◌*◌, ◌≤◌, true, List, length, Option, None, IfSome, IfNone}
+use Rattle.std.specs.Option.{option_map_or}
 use Rattle.transyt_deck.specs.Deck.{start, line_count, is_open, ReaderValue}
 use Rattle.transyt_session.specs.Session.{SessionValue}
 use Rattle.transyt_desks.specs.Desks.{desk_zero}
-use Rattle.transyt_outcome.specs.Runs.{answers_by, answers_after}
-use Rattle.transyt_line_answers.specs.Report.{RunState, InDeck, InSession, deck_answering, run_state}
+use Rattle.transyt_line_answers.specs.Report.{RunState, InDeck, InSession}
 use Rattle.transyt_reporter.specs.Conditions.{AreReady}
 
 -- a reporter: how many workers, how many lines it has counted, its reader of cards, and from END on its desks
@@ -15,9 +15,8 @@ pub record ReporterValue : Type 0 where
   pub desks : Option (List SessionValue)
 
 -- the state after its lines
-abbrev pub state_of : ReaderValue → Option (List SessionValue) → RunState
-state_of cards None = InDeck cards.deck
-state_of cards (Some desks) = InSession (desk_zero desks)
+abbrev pub state_of : ReporterValue → RunState
+state_of r = option_map_or (λ desks. InSession (desk_zero desks)) r.desks (InDeck r.cards.deck)
 
 -- a reporter of these
 abbrev pub reporter_of : ℕ → ℕ → ReaderValue → Option (List SessionValue) → ReporterValue
@@ -40,11 +39,6 @@ pub record IsReporter (r : ReporterValue) : Type 0 where
   pub cards : line_count r.cards.deck ≤ r.lines
   pub desks : IfSome r.desks (AreKept r.workers r.lines)
 
--- These lines have come to this, and none of them ends the run: before END they write nothing.
-pub record HasAnswered (r : ReporterValue) (before : List (List ℕ)) : Type 0 where
-  pub is : state_of r.cards r.desks ≡ run_state before
-  pub awaited : IfNone r.desks (is_open r.cards.deck ≡ true)
-  pub live : IfNone r.desks (r.cards.live ≡ true)
-  pub quiet : IfNone r.desks ((more : List (List ℕ))
-      → answers_by deck_answering (before ++ more)
-      ≡ answers_after deck_answering.text deck_answering.ends before more)
+-- the run goes on: END was accepted, or the reader of cards takes the next line
+abbrev pub IsLive : ReporterValue → Type 0
+IsLive r = IfNone r.desks ((is_open r.cards.deck ≡ true) × (r.cards.live ≡ true))

@@ -12,7 +12,7 @@ ghost use Rattle.transyt_reporter.specs.Conditions.{AreIdle};
 
 use crate::climbing::start_climber;
 use crate::opening::desks_of;
-use crate::workers::{Clerk, Workers};
+use crate::workers::{AnswerWriter, Workers};
 use std::alloc::Global;
 use std::sync::ledger::Ledger;
 use std::thread::Threads;
@@ -94,7 +94,7 @@ fn print_brief<K: Sink>(
 
 /// Climbs by the network's plan, and writes the line.
 fn tell_climb<R: Threads + Sync, G: Gate, K: Sink, L: Ledger>(
-    clerk: &mut Clerk<'_, R, G>,
+    writer: &mut AnswerWriter<'_, R, G>,
     desks: &mut Desks,
     sink: &mut K,
     steps: &mut Steps<L>,
@@ -108,7 +108,7 @@ fn tell_climb<R: Threads + Sync, G: Gate, K: Sink, L: Ledger>(
 {
     let before = before_climb(desks.session());
     let mut climber = start_climber(desks.session().net());
-    let workers = &clerk.workers;
+    let workers = &writer.workers;
     let ended = climb_by_rounds(workers.rt, &mut climber, desks, workers.gate, steps);
     let climbed = Climbed {
         took: ended.took,
@@ -116,7 +116,7 @@ fn tell_climb<R: Threads + Sync, G: Gate, K: Sink, L: Ledger>(
         local: ended.local,
     };
     let to = desks.session().index();
-    print_brief(before, climbed, to, &mut clerk.line, sink)
+    print_brief(before, climbed, to, &mut writer.line, sink)
 }
 
 /// Climbs once on a network by its plan, with so many workers, and writes the line of it.
@@ -133,7 +133,7 @@ pub fn write_brief<R: Threads + Sync, G: Gate, K: Sink, L: Ledger>(
     ensures ok { OnOk result (Adds (K.written sink.old) (K.written sink.new) (brief_text net)) }
     ensures err { OnErr result
         (AddsFront (K.written sink.old) (K.written sink.new) (brief_text net)) }
-    ensures later { K.faults sink.old ≤ K.faults sink.new }
+    ensures sink_later { K.faults sink.old ≤ K.faults sink.new }
     ensures fault { IsErrOf result Stop.Write → Rose (K.faults sink.old) (K.faults sink.new) }
     ensures silent { IsErrOf result Stop.Memory → sink.new ≡ sink.old }
     ensures steps { workers.entry.count ≡ 1
@@ -144,12 +144,12 @@ pub fn write_brief<R: Threads + Sync, G: Gate, K: Sink, L: Ledger>(
     let Ok(mut desks) = desks_of(alloc, net, workers.count, steps) else {
         return Err(Stop::Memory);
     };
-    let Ok(mut clerk) = Clerk::open(alloc, workers) else {
+    let Ok(mut writer) = AnswerWriter::open(alloc, workers) else {
         drop(desks);
         return Err(Stop::Memory);
     };
-    let told = tell_climb(&mut clerk, &mut desks, sink, steps);
-    drop(clerk);
+    let told = tell_climb(&mut writer, &mut desks, sink, steps);
+    drop(writer);
     drop(desks);
     match told {
         Ok(()) => Ok(()),

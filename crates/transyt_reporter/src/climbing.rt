@@ -6,10 +6,10 @@ ghost use Rattle.transyt_desks.specs.Desks.{desk_zero};
 ghost use Rattle.transyt_text.specs.Prints.{PrintsOn};
 ghost use Rattle.transyt_report.specs.Texts.{end_text};
 ghost use Rattle.transyt_line_answers.specs.Commands.{after_answer, steps_text, climb_text, climb_of, budget_of};
-ghost use Rattle.transyt_reporter.specs.Conditions.{AreIdle, IsStep, Leaves};
+ghost use Rattle.transyt_reporter.specs.Conditions.{AreIdle, IsStep, LeavesReady};
 
 use crate::remarks::remark_end;
-use crate::workers::Workers;
+use crate::workers::AnswerWriter;
 use std::sync::ledger::Ledger;
 use std::thread::Threads;
 use transyt_climb::{Climber, Turn};
@@ -21,7 +21,7 @@ use transyt_report::{end_line, took_line};
 use transyt_steps::Steps;
 
 /// Writes the line of the step that a turn took, and nothing where it took none.
-fn say_step<K: Sink>(turn: Turn, line: &mut LineBuffer, sink: &mut K) -> Result<(), Failed>
+fn write_step<K: Sink>(turn: Turn, line: &mut LineBuffer, sink: &mut K) -> Result<(), Failed>
     requires { IsStep turn }
     ensures { PrintsOn K.written K.faults sink.old sink.new result
         (steps_text (step_then turn [])) }
@@ -34,7 +34,7 @@ fn say_step<K: Sink>(turn: Turn, line: &mut LineBuffer, sink: &mut K) -> Result<
 }
 
 /// Writes the last line of a climb.
-fn say_end<K: Sink>(
+fn write_end<K: Sink>(
     local: bool,
     looked: u32,
     index: u128,
@@ -63,9 +63,8 @@ pub(crate) fn start_climber(net: &Net) -> Climber
 
 /// Climbs by the network's plan, by rounds of the desks.
 pub(crate) fn climb_on<R: Threads + Sync, G: Gate, K: Sink, L: Ledger>(
-    workers: &Workers<'_, R, G>,
+    writer: &mut AnswerWriter<'_, R, G>,
     desks: &mut Desks,
-    line: &mut LineBuffer,
     sink: &mut K,
     steps: &mut Steps<L>,
 ) -> Result<(), Failed>
@@ -75,17 +74,24 @@ pub(crate) fn climb_on<R: Threads + Sync, G: Gate, K: Sink, L: Ledger>(
         (climb_text (climb_of (desk_zero desks.old).net)) }
     ensures state { OnOk result
         (desk_zero desks.new ≡ after_answer Answer.Climb (desk_zero desks.old)) }
-    ensures leaves { Leaves 8000072000 (after_answer Answer.Climb (desk_zero desks.old)) desks.old
-        desks.new
-        steps.old steps.new }
+    ensures workers { writer.new.workers.count ≡ writer.old.workers.count }
+    ensures leaves { LeavesReady 8000072000 (after_answer Answer.Climb (desk_zero desks.old))
+        desks.old desks.new steps.old steps.new }
 {
     let mut climber = start_climber(desks.session().net());
     loop {
+        let workers = &writer.workers;
         let round = desks.stretch_round(workers.rt, &mut climber, workers.gate, steps);
         if round.last.is_end() {
             let index = desks.session().index();
-            return say_end(round.last.is_local(), climber.looked(), index, line, sink);
+            return write_end(
+                round.last.is_local(),
+                climber.looked(),
+                index,
+                &mut writer.line,
+                sink,
+            );
         }
-        say_step(round.last, line, sink)?;
+        write_step(round.last, &mut writer.line, sink)?;
     }
 }

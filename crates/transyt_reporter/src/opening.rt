@@ -18,7 +18,7 @@ pub(crate) fn desks_of<L: Ledger>(
     steps: &mut Steps<L>,
 ) -> Result<Desks, AllocError>
     requires some { 1 ≤ workers }
-    requires most { workers ≤ 8 }
+    requires few { workers ≤ 8 }
     ensures value { IfOk result (λ desks. desks ≡ opened_desks (opened net) workers) }
     ensures ok { OnOk result (steps.new ≡ steps.old + net.frame.sweeps * length net.links) }
     ensures err { OnErr result (steps.new ≤ steps.old + net.frame.sweeps * length net.links) }

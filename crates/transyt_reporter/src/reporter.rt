@@ -1,20 +1,20 @@
 //! The reporter: it answers the lines of a deck and of its commands.
 ghost use Rattle.std.specs.Prelude.{◌≡◌, ◌≤◌, ◌<◌, ◌+◌, ◌^◌, true, None, Some, Ok, IfOk, IfNone, OnOk, OnErr, IsErrOf, IsTrue, length, ℕ, List, []};
-ghost use Rattle.transyt_outcome.specs.Runs.{answers_by, AnsweredWhole, ClosedWhole};
+ghost use Rattle.transyt_outcome.specs.Runs.{EndAnswered, LineAnswered};
 ghost use Rattle.transyt_io.specs.Streams.{Adds, AddsFront, Rose};
 ghost use Rattle.transyt_text.specs.Prints.{PrintsOn};
 ghost use Rattle.transyt_deck.specs.Deck.{next, is_complete, line_count};
 ghost use Rattle.transyt_desks.specs.Desks.{desk_zero};
 ghost use Rattle.transyt_line_answers.specs.Commands.{line_answer, answer_text, session_after};
-ghost use Rattle.transyt_reporter.specs.Conditions.{AnswersDeck, AreReady, Leaves};
+ghost use Rattle.transyt_reporter.specs.Conditions.{AnswersDeck, AreReady, LeavesReady};
 ghost use Rattle.transyt_line_answers.specs.Report.{InSession, answer_ends, deck_answering, deck_said};
-ghost use Rattle.transyt_line_answers.specs.Report.{deck_ends, deck_steps, run_of};
-ghost use Rattle.transyt_reporter.specs.Reporter.{HasAnswered, state_of, AreKept, new_reporter};
+ghost use Rattle.transyt_line_answers.specs.Report.{deck_ends, deck_steps, line_steps, line_text, run_of, text_at_end};
+ghost use Rattle.transyt_reporter.specs.Reporter.{IsLive, state_of, AreKept, new_reporter};
 
 use crate::opening::desks_of;
 use crate::remarks::{InputLine, remark_card, remark_command};
-use crate::workers::{Clerk, Workers};
-use crate::writing::say;
+use crate::workers::{AnswerWriter, Workers};
+use crate::writing::write_answer;
 use std::alloc::{AllocError, Global};
 use std::marker::Model;
 use std::mem;
@@ -37,7 +37,7 @@ pub(crate) struct Reporter<'a, R, G> {
     lines: u32,
     cards: CardReader,
     desks: Option<Desks>,
-    clerk: Clerk<'a, R, G>,
+    writer: AnswerWriter<'a, R, G>,
 }
 
 impl<'a, R, G> Model for Reporter<'a, R, G> {
@@ -45,10 +45,10 @@ impl<'a, R, G> Model for Reporter<'a, R, G> {
 
     ghost Value = { ReporterValue };
 
-    ghost view = { λ r. reporter_of r.clerk.workers.count r.lines r.cards r.desks };
+    ghost view = { λ r. reporter_of r.writer.workers.count r.lines r.cards r.desks };
 
     ghost invariant = { λ r. IsReporter
-        (reporter_of r.clerk.workers.count r.lines r.cards r.desks) };
+        (reporter_of r.writer.workers.count r.lines r.cards r.desks) };
 }
 
 /// Opens the desks of a complete deck: all memory of the commands is taken here.
@@ -59,7 +59,7 @@ fn open_desks<L: Ledger>(
     steps: &mut Steps<L>,
 ) -> Result<Desks, AllocError>
     requires some { 1 ≤ workers }
-    requires most { workers ≤ 8 }
+    requires few { workers ≤ 8 }
     requires complete { IsTrue (is_complete cards.deck) }
     ensures zero { IfOk result (λ desks. run_of cards.deck ≡ InSession (desk_zero desks)) }
     ensures kept { IfOk result (λ desks. AreKept workers 0 desks) }
@@ -72,16 +72,16 @@ fn open_desks<L: Ledger>(
     desks_of(alloc, net, workers, steps)
 }
 
-/// Answers a command: it is judged, and then said.
+/// Answers a command: it is judged, and then its answer is written.
 fn answer_command<R: Threads + Sync, G: Gate, K: Sink, L: Ledger>(
-    clerk: &mut Clerk<'_, R, G>,
+    writer: &mut AnswerWriter<'_, R, G>,
     desks: &mut Desks,
     command: &[u8],
     sink: &mut K,
     steps: &mut Steps<L>,
 ) -> Result<Option<Ending>, Stop>
     requires ready { AreReady desks.old }
-    requires len { length desks.old ≡ clerk.old.workers.count }
+    requires len { length desks.old ≡ writer.old.workers.count }
     requires room { (desk_zero desks.old).work ≤ 2 ^ 59 }
     ensures prints { PrintsOn K.written K.faults sink.old sink.new result
         (answer_text (desk_zero desks.old) (line_answer (desk_zero desks.old) command.now)) }
@@ -90,19 +90,19 @@ fn answer_command<R: Threads + Sync, G: Gate, K: Sink, L: Ledger>(
     ensures state { OnOk result
         (desk_zero desks.new ≡ session_after (desk_zero desks.old) command.now) }
     ensures takes_none { IsErrOf result Stop.Memory → ⊥ }
-    ensures workers { clerk.new.workers.count ≡ clerk.old.workers.count }
-    ensures leaves { Leaves 8589934592 (session_after (desk_zero desks.old) command.now) desks.old
+    ensures workers { writer.new.workers.count ≡ writer.old.workers.count }
+    ensures leaves { LeavesReady 8589934592 (session_after (desk_zero desks.old) command.now) desks.old
         desks.new
         steps.old steps.new }
 {
     let answer = judge(desks.session_mut(), command, steps);
-    clerk.count(answer);
+    writer.count(answer);
     let said = InputLine {
-        number: clerk.number,
+        number: writer.number,
         text: command,
     };
     remark_command(answer, said, desks.session(), sink);
-    match say(clerk, answer, desks, sink, steps) {
+    match write_answer(writer, answer, desks, sink, steps) {
         Ok(()) => Ok(answer.ending()),
         Err(Failed) => Err(Stop::Write),
     }
@@ -116,13 +116,13 @@ impl<'a, R, G> Reporter<'a, R, G> {
     ) -> Result<Reporter<'a, R, G>, AllocError>
         ensures value { IfOk result (λ r. r ≡ new_reporter workers.entry.count) }
     {
-        match Clerk::open(alloc, workers) {
-            Ok(clerk) => Ok(Reporter {
+        match AnswerWriter::open(alloc, workers) {
+            Ok(writer) => Ok(Reporter {
                 alloc,
                 lines: 0,
                 cards: CardReader::new(alloc),
                 desks: None,
-                clerk,
+                writer,
             }),
             Err(error) => Err(error),
         }
@@ -144,8 +144,8 @@ impl<'a, R, G> Reporter<'a, R, G> {
             (K.written sink.new) (K.faults sink.old) (K.faults sink.new) steps.old steps.new }
         ensures silent { IsErrOf result Stop.Memory → sink.new ≡ sink.old }
         ensures state { result ≡ Ok None
-            → state_of self.new.cards self.new.desks ≡ run_of (next self.old.cards.deck line.now) }
-        ensures live { result ≡ Ok None → IfNone self.new.desks (self.new.cards.live ≡ true) }
+            → state_of self.new ≡ run_of (next self.old.cards.deck line.now) }
+        ensures live { result ≡ Ok None → IsLive self.new }
         ensures lines { self.new.lines ≡ self.old.lines }
         ensures workers { self.new.workers ≡ self.old.workers }
     {
@@ -158,7 +158,7 @@ impl<'a, R, G> Reporter<'a, R, G> {
                     text: line,
                 };
                 remark_card(&self.cards, code, refused, sink);
-                match print_card_refused(card, code, &mut self.clerk.line, sink) {
+                match print_card_refused(card, code, &mut self.writer.line, sink) {
                     Ok(()) => Ok(Some(Ending::Refused)),
                     Err(Failed) => Err(Stop::Write),
                 }
@@ -179,18 +179,17 @@ impl<'a, R, G> Reporter<'a, R, G> {
             (K.written sink.new)
             (K.faults sink.old) (K.faults sink.new) steps.old steps.new }
         ensures silent { IsErrOf result Stop.Memory → sink.new ≡ sink.old }
-        ensures state { OnOk result
-            (state_of self.new.cards self.new.desks ≡ run_of self.old.cards.deck) }
-        ensures live { OnOk result (IfNone self.new.desks ⊥) }
+        ensures state { OnOk result (state_of self.new ≡ run_of self.old.cards.deck) }
+        ensures live { OnOk result (IsLive self.new) }
         ensures lines { self.new.lines ≡ self.old.lines }
         ensures workers { self.new.workers ≡ self.old.workers }
     {
         let cards = mem::replace(&mut self.cards, CardReader::new(self.alloc));
-        let Ok(desks) = open_desks(self.alloc, cards, self.clerk.workers.count, steps) else {
+        let Ok(desks) = open_desks(self.alloc, cards, self.writer.workers.count, steps) else {
             return Err(Stop::Memory);
         };
         let net = desks.session().net();
-        if let Err(Failed) = print_accepted(net, &mut self.clerk.line, sink) {
+        if let Err(Failed) = print_accepted(net, &mut self.writer.line, sink) {
             drop(desks);
             return Err(Stop::Write);
         }
@@ -206,36 +205,29 @@ pub(crate) fn answer_line<R: Threads + Sync, G: Gate, K: Sink, L: Ledger>(
     sink: &mut K,
     steps: &mut Steps<L>,
 ) -> Result<Option<Ending>, Stop>
-    requires { reporter.old.lines < 4194305 }
-    ensures whole { (before : List (List ℕ)) → HasAnswered reporter.old before
-        → IfOk result (AnsweredWhole deck_answering.text deck_answering.ends
-        (HasAnswered reporter.new)
-        (K.written sink.old) (K.written sink.new) before line.now) }
-    ensures part { (before : List (List ℕ)) → HasAnswered reporter.old before
-        → OnErr result (AddsFront (K.written sink.old) (K.written sink.new)
-        (deck_answering.text before line.now)) }
-    ensures steps { (before : List (List ℕ)) → HasAnswered reporter.old before
-        → reporter.old.workers ≡ 1
-        → OnOk result (steps.new ≡ steps.old + deck_answering.cost before line.now) }
-    ensures some_steps { (before : List (List ℕ)) → HasAnswered reporter.old before
-        → reporter.old.workers ≡ 1
-        → OnErr result (steps.new ≤ steps.old + deck_answering.cost before line.now) }
+    requires live { IsLive reporter.old }
+    requires few { reporter.old.lines < 4194305 }
+    ensures whole { IfOk result (LineAnswered deck_answering (state_of reporter.old)
+        (state_of reporter.new)
+        (K.written sink.old) (K.written sink.new) line.now) }
+    ensures part { OnErr result (AddsFront (K.written sink.old) (K.written sink.new)
+        (line_text (state_of reporter.old) line.now)) }
+    ensures live { result ≡ Ok None → IsLive reporter.new }
+    ensures steps { reporter.old.workers ≡ 1
+        → OnOk result (steps.new ≡ steps.old + line_steps (state_of reporter.old) line.now) }
+    ensures some_steps { reporter.old.workers ≡ 1
+        → OnErr result (steps.new ≤ steps.old + line_steps (state_of reporter.old) line.now) }
     ensures workers { reporter.new.workers ≡ reporter.old.workers }
-    // out of memory only where nothing was written yet
-    ensures silent { (before : List (List ℕ)) → HasAnswered reporter.old before
-        → IsErrOf result Stop.Memory
-        → (answers_by deck_answering before ≡ []) × (sink.new ≡ sink.old) }
+    // out of memory only before END is answered: nothing is written until then
+    ensures silent { IsErrOf result Stop.Memory → (reporter.old.desks ≡ None) × (sink.new ≡ sink.old) }
     ensures count { reporter.new.lines ≤ reporter.old.lines + 1 }
-    ensures later { K.faults sink.old ≤ K.faults sink.new }
+    ensures sink_later { K.faults sink.old ≤ K.faults sink.new }
     ensures fault { IsErrOf result Stop.Write → Rose (K.faults sink.old) (K.faults sink.new) }
 {
     reporter.lines += 1;
     if let Some(desks) = &mut reporter.desks {
-        reporter.clerk.number = reporter.lines;
-        return answer_command(&mut reporter.clerk, desks, line, sink, steps);
-    }
-    if !reporter.cards.is_live() {
-        return Ok(Some(Ending::Refused));
+        reporter.writer.number = reporter.lines;
+        return answer_command(&mut reporter.writer, desks, line, sink, steps);
     }
     reporter.answer_card(line, sink, steps)
 }
@@ -243,20 +235,19 @@ pub(crate) fn answer_line<R: Threads + Sync, G: Gate, K: Sink, L: Ledger>(
 impl<'a, R, G> Reporter<'a, R, G> {
     /// How many commands were refused.
     pub(crate) fn refused(&self) -> u32 {
-        self.clerk.refused
+        self.writer.refused
     }
 
     /// Answers the end of the input: whether it is a refusal. It takes no memory.
     pub(crate) fn finish<K: Sink>(&mut self, sink: &mut K) -> Result<bool, Stop>
-        requires { self.old.lines ≤ 4194305 }
-        ensures whole { (before : List (List ℕ)) → HasAnswered self.old before
-            → IfOk result (ClosedWhole deck_answering.closing deck_answering.refused
-            (K.written sink.old) (K.written sink.new) before) }
-        ensures part { (before : List (List ℕ)) → HasAnswered self.old before
-            → OnErr result (AddsFront (K.written sink.old) (K.written sink.new)
-            (deck_answering.closing before)) }
+        requires live { IsLive self.old }
+        requires few { self.old.lines ≤ 4194305 }
+        ensures whole { IfOk result (EndAnswered deck_answering (state_of self.old)
+            (K.written sink.old) (K.written sink.new)) }
+        ensures part { OnErr result (AddsFront (K.written sink.old) (K.written sink.new)
+            (text_at_end (state_of self.old))) }
         ensures takes_none { IsErrOf result Stop.Memory → ⊥ }
-        ensures later { K.faults sink.old ≤ K.faults sink.new }
+        ensures sink_later { K.faults sink.old ≤ K.faults sink.new }
         ensures fault { IsErrOf result Stop.Write → Rose (K.faults sink.old) (K.faults sink.new) }
     {
         if self.desks.is_some() {
@@ -268,7 +259,7 @@ impl<'a, R, G> Reporter<'a, R, G> {
             text: b"",
         };
         remark_card(&self.cards, Code::NoEnd, end, sink);
-        match print_card_refused(card, Code::NoEnd, &mut self.clerk.line, sink) {
+        match print_card_refused(card, Code::NoEnd, &mut self.writer.line, sink) {
             Ok(()) => Ok(true),
             Err(Failed) => Err(Stop::Write),
         }

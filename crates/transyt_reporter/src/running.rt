@@ -3,7 +3,9 @@ ghost use Rattle.std.specs.Prelude.{◌≡◌, ◌≤◌, [], nat_eq};
 ghost use Rattle.transyt_io.specs.Streams.{Rose};
 ghost use Rattle.transyt_io.specs.Reading.{new_reading};
 ghost use Rattle.transyt_outcome.specs.Outcome.{Outcome};
-ghost use Rattle.transyt_outcome.specs.Runs.{Ran, StepsTaken};
+ghost use Rattle.transyt_outcome.specs.Ends.{ends_of};
+ghost use Rattle.transyt_outcome.specs.RunSoFar.{RunOutcome};
+ghost use Rattle.transyt_outcome.specs.Runs.{StepsTaken};
 ghost use Rattle.transyt_line_answers.specs.Report.{deck_answering, reporting_run};
 ghost use Rattle.transyt_reporter.specs.Reporter.{new_reporter};
 
@@ -28,15 +30,10 @@ fn run<R: Threads + Sync, S: Source, K: Sink, G: Gate, L: Ledger>(
 ) -> Status
     requires new { reporter.old ≡ new_reporter reporter.old.workers }
     requires fresh { reader.old ≡ new_reading }
-    ensures ran { Ran deck_answering (nat_eq reporter.old.workers 1)
-        (S.left source.old) (S.left source.new) (S.last source.new)
-        (K.written sink.old) (K.written sink.new) steps.old steps.new result }
-    ensures source_later { S.faults source.old ≤ S.faults source.new }
-    ensures sink_later { K.faults sink.old ≤ K.faults sink.new }
-    ensures read_fault { result ≡ Status.ReadFault
-        → Rose (S.faults source.old) (S.faults source.new) }
-    ensures write_fault { result ≡ Status.WriteFault
-        → Rose (K.faults sink.old) (K.faults sink.new) }
+    ensures { RunOutcome deck_answering (nat_eq reporter.old.workers 1)
+        (ends_of S.left S.last S.faults K.written K.faults source.old sink.old)
+        (ends_of S.left S.last S.faults K.written K.faults source.new sink.new)
+        steps.old steps.new result }
 {
     loop {
         let found = match reader.next(source) {

@@ -18,26 +18,26 @@ pub struct Workers<'a, R, G> {
     ghost most: { count ≤ 8 },
 }
 
-/// The state that commands are carried out and answered with: the workers, the line that is written, the number of the line
-/// that is answered, and how many commands were refused.
+/// Carries out commands and writes their answers: the workers, the line that is written, the number of the line that is
+/// answered, and how many commands were refused.
 #[derive(Drop)]
-pub(crate) struct Clerk<'a, R, G> {
+pub(crate) struct AnswerWriter<'a, R, G> {
     pub(crate) workers: Workers<'a, R, G>,
     pub(crate) line: LineBuffer,
     pub(crate) number: u32,
     pub(crate) refused: u32,
 }
 
-impl<'a, R, G> Clerk<'a, R, G> {
+impl<'a, R, G> AnswerWriter<'a, R, G> {
     /// Nothing is answered yet. The memory for writing is taken here.
     pub(crate) fn open(
         alloc: Global,
         workers: Workers<'a, R, G>,
-    ) -> Result<Clerk<'a, R, G>, AllocError>
-        ensures { IfOk result (λ clerk. clerk.workers.count ≡ workers.entry.count) }
+    ) -> Result<AnswerWriter<'a, R, G>, AllocError>
+        ensures { IfOk result (λ writer. writer.workers.count ≡ workers.entry.count) }
     {
         match LineBuffer::open(alloc) {
-            Ok(line) => Ok(Clerk {
+            Ok(line) => Ok(AnswerWriter {
                 workers,
                 line,
                 number: 0,

@@ -1,5 +1,5 @@
 -- The worked tries, by the lemmas that work them out.
-use Rattle.transyt_desks.proofs.WorkedFindLaws.{not_earlier, tries}
+use Rattle.transyt_desks.proofs.WorkedResultLaws.{not_earlier, tries}
 use Rattle.transyt_desks.proofs.laws.worked_desks.Goals as goal
 
 pub returns-clause-tries : goal.returns-clause-tries

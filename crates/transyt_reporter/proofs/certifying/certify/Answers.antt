@@ -1,35 +1,84 @@
--- A certificate by one desk, or by several.
-use Rattle.std.proofs.Common.{ap, sym, ◌∙◌}
+-- The lines of a batch more are written, or broke off; and then the last line.
+use Rattle.std.proofs.Common.{◌+◌, refl, ap, ◌∙◌, arith}
+use Rattle.transyt_net.specs.Parts.{Network}
+use Rattle.transyt_moves.specs.Moves.{move_count}
+use Rattle.transyt_sweep.specs.Sweeps.{index}
 use Rattle.transyt_session.specs.Session.{SessionValue}
 use Rattle.transyt_desks.specs.Desks.{desk_zero}
+use Rattle.transyt_text.proofs.LoopLaws.{printed_nothing}
 use Rattle.transyt_text.proofs.PrintLaws.{prints_same}
-use Rattle.transyt_cert.specs.Certificate.{cert_text}
-use Rattle.transyt_reporter.proofs.CertifyLaws.{certified_state}
-use Rattle.transyt_reporter.proofs.LeavesLaws.{cert_leaves, batches_leave}
+use Rattle.transyt_cert.specs.Certificate.{last_text}
+use Rattle.transyt_reporter.specs.Conditions.{places_text}
+use Rattle.transyt_reporter.proofs.CertifyLaws.{batch_printed, batch_broken, lines_ended}
+use Rattle.transyt_reporter.proofs.CertifyLaws.{certified_none, certified_more, certified_state, certified_leaves}
 use Rattle.transyt_reporter.proofs.certifying.certify.Goals as goal
 
--- one desk writes it
-pub returns-then-workers-eq1-clause-prints : goal.returns-then-workers-eq1-clause-prints
-returns-then-workers-eq1-clause-prints g c =
-    prints_same _ _ c.certify_on.result _ _ c.certify_on.ensures.prints
-    (ap (λ (s : SessionValue). cert_text s.net) c.session_mut.ensures.value)
+-- no line is written yet
+pub loop-from-init : goal.loop-from-init
+loop-from-init g c = record {
+  printed = printed_nothing _ _;
+  certified = certified_none c.args.desks.now _ c.requires.idle.ready.alike;
+  inside = omega arith;
+  workers = refl;
+}
 
--- its desks and steps
-pub returns-then-workers-eq1-clause-leaves : goal.returns-then-workers-eq1-clause-leaves
-returns-then-workers-eq1-clause-leaves g c =
-    let told = c.certify_on.ensures in
-    cert_leaves c.args.desks.now _ c.certify_on.new.session _ _ c.requires.idle.ready c.session_mut.ensures.value told.same told.closed
-    told.few told.work told.steps
+-- the lines of a batch are written
+pub loop-from-preserved : goal.loop-from-preserved
+loop-from-preserved g c =
+    let so = c.loop-from.invariant in
+    let net = (desk_zero c.args.desks.now).net in
+    let same = ap (λ (s : SessionValue). s.net) so.certified.state in
+    let from = c.loop-from.from in
+    let count = c.min-count.result in
+    let told = c.in_ok-certify_batch.ensures in
+    record {
+      printed = batch_printed net from count (from + count) _ _ _ refl so.printed
+          (prints_same _ _ _ _ _ told.prints (ap (λ (n : Network). places_text n from count) same));
+      certified = certified_more so.certified count _ told.state told.few told.alike told.workers told.steps;
+      inside = omega arith;
+      workers = told.writer ∙ so.workers;
+    }
 
--- several do
+-- the lines of a batch broke off
+pub returns-in_err-certify_batch-clause-prints : goal.returns-in_err-certify_batch-clause-prints
+returns-in_err-certify_batch-clause-prints g c =
+    let so = c.loop-from.invariant in
+    let net = (desk_zero c.args.desks.now).net in
+    let same = ap (λ (s : SessionValue). s.net) so.certified.state in
+    let from = c.loop-from.from in
+    let count = c.min-count.result in
+    let all = c.move_count-places.ensures.count ∙ ap move_count (c.net.ensures ∙ ap (λ (s : SessionValue). s.net) c.session.ensures) in
+    batch_broken _ (tt {0}) net from count (move_count net) _ _ _ c.from_residual.ensures.0 refl (omega (arith, all)) so.printed
+    (prints_same _ _ _ _ _ c.in_err-certify_batch.ensures.prints (ap (λ (n : Network). places_text n from count) same))
+
+-- the desks then
+pub returns-in_err-certify_batch-clause-leaves : goal.returns-in_err-certify_batch-clause-leaves
+returns-in_err-certify_batch-clause-leaves g c =
+    let places = c.move_count-places.ensures in
+    let all = places.count ∙ ap move_count (c.net.ensures ∙ ap (λ (s : SessionValue). s.net) c.session.ensures) in
+    let told = c.in_err-certify_batch.ensures in
+    certified_leaves
+    (certified_more c.loop-from.invariant.certified c.min-count.result _ told.state told.few told.alike told.workers told.steps)
+    c.requires.idle (omega (arith, all)) (omega (arith, all, places))
+
+-- all lines are written, and then the last, or it broke off
+pub returns-clause-prints : goal.returns-clause-prints
+returns-clause-prints g c =
+    let so = c.loop-from.invariant in
+    let count = c.move_count-places.ensures.count ∙ ap move_count (c.net.ensures ∙ ap (λ (s : SessionValue). s.net) c.session.ensures) in
+    let now = ap (λ (s : SessionValue). s.net) (c.session-2.ensures ∙ so.certified.state) in
+    lines_ended c.write_cert_end.result (tt {0}) (desk_zero c.args.desks.now).net c.loop-from.from _ _ _ (omega arith) so.printed
+    (prints_same _ _ c.write_cert_end.result _ _ c.write_cert_end.ensures (λ i. last_text (count i) (index (now i))))
+
+-- desk 0 is the session after CERT
 pub returns-clause-state : goal.returns-clause-state
 returns-clause-state g c =
-    certified_state c.certify_by_desks.result (desk_zero c.args.desks.now) (desk_zero c.certify_by_desks.new.desks)
-    c.certify_by_desks.ensures.certified
+    let all = c.move_count-places.ensures.count ∙ ap move_count (c.net.ensures ∙ ap (λ (s : SessionValue). s.net) c.session.ensures) in
+    certified_state c.write_cert_end.result c.loop-from.invariant.certified (omega (arith, all))
 
--- their desks, and no step of desk 0
+-- the desks and the steps
 pub returns-clause-leaves : goal.returns-clause-leaves
 returns-clause-leaves g c =
-    let told = c.certify_by_desks.ensures in
-    batches_leave c.args.desks.now c.certify_by_desks.new.desks c.certify_by_desks.result c.args.steps.now c.requires.idle
-    told.certified told.most told.alike told.len (λ one. c.if-workers-eq1.false (sym c.requires.len ∙ one))
+    let places = c.move_count-places.ensures in
+    let all = places.count ∙ ap move_count (c.net.ensures ∙ ap (λ (s : SessionValue). s.net) c.session.ensures) in
+    certified_leaves c.loop-from.invariant.certified c.requires.idle (omega (arith, all)) (omega (arith, all, places))

@@ -1,5 +1,5 @@
 -- One round more of a climb on its way, whose line is written, or its last.
-use Rattle.std.proofs.Common.{sym, ◌∙◌, ap}
+use Rattle.std.proofs.Common.{refl, sym, ◌∙◌, ap}
 use Rattle.transyt_sweep.specs.Sweeps.{index}
 use Rattle.transyt_session.specs.Session.{SessionValue}
 use Rattle.transyt_climb.proofs.CountedLaws.{fewer_left}
@@ -13,55 +13,59 @@ use Rattle.transyt_reporter.proofs.climbing.climb_on.Goals as goal
 -- no line is written yet
 pub loop-desks-init : goal.loop-desks-init
 loop-desks-init g c =
-    let start = c.start_climber-climber.ensures in
-    way_begins (c.net.ensures ∙ ap (λ (s : SessionValue). s.net) c.session.ensures) start.start start.few
-    c.requires.idle.closed c.requires.idle.ready.alike _ _ _
+    let start = c.start_climber-climber.ensures in record {
+      way = way_begins (c.net.ensures ∙ ap (λ (s : SessionValue). s.net) c.session.ensures) start.start start.few
+          c.requires.idle.closed c.requires.idle.ready.alike _ _ _;
+      workers = refl;
+    }
 
 -- the line of a step is written
 pub loop-desks-preserved : goal.loop-desks-preserved
 loop-desks-preserved g c =
-    let round = c.stretch_round-round.ensures in
-    way_on _ _ c.loop-desks.invariant round.made round.alike round.workers round.steps (tt {0})
-    (sym c.is_end.ensures ∙ c.if-is_end.false) c.in_ok-say_step.ensures
+    let round = c.stretch_round-round.ensures in record {
+      way = way_on _ _ c.loop-desks.invariant.way round.made round.alike round.workers round.steps (tt {0})
+          (sym c.is_end.ensures ∙ c.if-is_end.false) c.in_ok-write_step.ensures;
+      workers = c.loop-desks.invariant.workers;
+    }
 
 -- the last line is written, or broke off
 pub returns-then-is_end-clause-prints : goal.returns-then-is_end-clause-prints
 returns-then-is_end-clause-prints g c =
     let index_is = c.index-index.ensures ∙ ap (λ (s : SessionValue). index s.net) c.session-then-is_end.ensures in
-    end_written c.loop-desks.invariant.written c.stretch_round-round.ensures.made (tt {0}) c.say_end.result _ _
+    end_written c.loop-desks.invariant.way.written c.stretch_round-round.ensures.made (tt {0}) c.write_end.result _ _
     (sym c.is_end.ensures ∙ c.if-is_end.true)
-    (prints_same _ _ c.say_end.result _ _ c.say_end.ensures
+    (prints_same _ _ c.write_end.result _ _ c.write_end.ensures
     (λ i. end_text (c.is_local.ensures i) (c.looked.ensures.value i) (index_is i)))
 
 -- the session at the end
 pub returns-then-is_end-clause-state : goal.returns-then-is_end-clause-state
 returns-then-is_end-clause-state g c =
-    climb_ended c.loop-desks.invariant.written c.stretch_round-round.ensures.made c.say_end.result
+    climb_ended c.loop-desks.invariant.way.written c.stretch_round-round.ensures.made c.write_end.result
     (sym c.is_end.ensures ∙ c.if-is_end.true)
 
 -- the line of a step broke off
-pub returns-in_err-say_step-clause-prints : goal.returns-in_err-say_step-clause-prints
-returns-in_err-say_step-clause-prints g c =
-    step_breaks c.loop-desks.invariant.written c.stretch_round-round.ensures.made (tt {0}) _ _ _ _
-    c.from_residual.ensures.0 c.in_err-say_step.ensures
+pub returns-in_err-write_step-clause-prints : goal.returns-in_err-write_step-clause-prints
+returns-in_err-write_step-clause-prints g c =
+    step_breaks c.loop-desks.invariant.way.written c.stretch_round-round.ensures.made (tt {0}) _ _ _ _
+    c.from_residual.ensures.0 c.in_err-write_step.ensures
 
 -- fewer places are left
 pub loop-desks-smaller : goal.loop-desks-smaller
 loop-desks-smaller g c =
-    fewer_left c.loop-desks.invariant.written.climb _ _ _ c.stretch_round-round.ensures.made.round
+    fewer_left c.loop-desks.invariant.way.written.climb _ _ _ c.stretch_round-round.ensures.made.round
     (sym c.is_end.ensures ∙ c.if-is_end.false)
 
 -- the step of a round is one of an offset or a change
-pub say_step-requires : goal.say_step-requires
-say_step-requires g c = steps_round _ _ _ _ c.stretch_round-round.ensures.made.round
+pub write_step-requires : goal.write_step-requires
+write_step-requires g c = steps_round _ _ _ _ c.stretch_round-round.ensures.made.round
 
 -- the desks and the steps after the last round, or where the line of a step broke off
 pub returns-then-is_end-clause-leaves : goal.returns-then-is_end-clause-leaves
 returns-then-is_end-clause-leaves g c =
     let round = c.stretch_round-round.ensures in
-    way_leaves _ _ c.loop-desks.invariant round.made round.alike round.workers round.steps c.requires.idle.ready
+    way_leaves _ _ c.loop-desks.invariant.way round.made round.alike round.workers round.steps c.requires.idle.ready
 
-pub returns-in_err-say_step-clause-leaves : goal.returns-in_err-say_step-clause-leaves
-returns-in_err-say_step-clause-leaves g c =
+pub returns-in_err-write_step-clause-leaves : goal.returns-in_err-write_step-clause-leaves
+returns-in_err-write_step-clause-leaves g c =
     let round = c.stretch_round-round.ensures in
-    way_leaves _ _ c.loop-desks.invariant round.made round.alike round.workers round.steps c.requires.idle.ready
+    way_leaves _ _ c.loop-desks.invariant.way round.made round.alike round.workers round.steps c.requires.idle.ready

@@ -1,10 +1,10 @@
--- A command is judged, and then said.
+-- A command is judged, and then its answer is written.
 use Rattle.transyt_reporter.proofs.JudgedLaws.{ends_said, leaves_said, of_said, ready_said, state_said, text_said}
 use Rattle.transyt_reporter.proofs.reporter.answer_command.Goals as goal
 
 -- the desks are ready when desk 0 has judged the line
-pub say-requires-clause-ready : goal.say-requires-clause-ready
-say-requires-clause-ready g c κs within =
+pub write_answer-requires-clause-ready : goal.write_answer-requires-clause-ready
+write_answer-requires-clause-ready g c κs within =
     let judged = c.judge-answer.ensures in
     ready_said c.args.command.now c.requires.ready c.session_mut.ensures.value judged.state judged.answer
 
@@ -39,8 +39,8 @@ returns-in-Err-clause-leaves g c =
     _ _ c.judge-answer.new.steps _ judged.few judged.steps c.in-Err.ensures.leaves
 
 -- desk 0 is the session that judged the line
-pub say-requires-clause-of : goal.say-requires-clause-of
-say-requires-clause-of g c κs within =
+pub write_answer-requires-clause-of : goal.write_answer-requires-clause-of
+write_answer-requires-clause-of g c κs within =
     let judged = c.judge-answer.ensures in
     of_said c.args.command.now c.requires.ready c.session_mut.ensures.value judged.state judged.answer judged.ready
 

@@ -1,21 +1,20 @@
--- How far the run has come, and that no count fell.
-use Rattle.std.proofs.Common.{◌≡◌, ◌≤◌, nat_eq}
+-- How far the run has come.
+use Rattle.std.proofs.Common.{◌≡◌, nat_eq}
 use Rattle.transyt_io.specs.Reading.{most_lines_left}
-use Rattle.transyt_line_answers.specs.Report.{deck_answering}
-use Rattle.transyt_reporter.specs.Reporter.{HasAnswered}
+use Rattle.transyt_outcome.specs.Ends.{ends_of}
 use Rattle.transyt_outcome.specs.RunSoFar.{RunSoFar}
+use Rattle.transyt_line_answers.specs.Report.{deck_answering}
+use Rattle.transyt_reporter.specs.Reporter.{state_of, IsLive}
 use Rattle.transyt_reporter.proofs.running.run.Given as goal
 
--- how far the run has come from what source, sink and steps told at its start
+-- from what source, sink and steps told at its start
 abbrev pub invariant-loop-found : goal.invariant-loop-found
 invariant-loop-found g l =
-    let left = g.S.Source.left in
-    let written = g.K.Sink.written in record {
-      way : RunSoFar deck_answering (HasAnswered l.reporter) l.reporter.lines (nat_eq l.fn.reporter.workers 1) l.reader (left l.fn.source) (left l.source)
-          (g.S.Source.last l.source) (written l.fn.sink) (written l.sink) l.fn.steps l.steps;
+    let ends = ends_of g.S.Source.left g.S.Source.last g.S.Source.faults g.K.Sink.written g.K.Sink.faults in record {
+      way : RunSoFar deck_answering (state_of l.reporter) l.reporter.lines (nat_eq l.fn.reporter.workers 1) l.reader
+          (ends l.fn.source l.fn.sink) (ends l.source l.sink) l.fn.steps l.steps;
+      live : IsLive l.reporter;
       workers : l.reporter.workers ≡ l.fn.reporter.workers;
-      source_later : g.S.Source.faults l.fn.source ≤ g.S.Source.faults l.source;
-      sink_later : g.K.Sink.faults l.fn.sink ≤ g.K.Sink.faults l.sink;
     }
 
 -- fewer lines may still be handed out

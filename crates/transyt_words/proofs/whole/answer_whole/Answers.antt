@@ -1,6 +1,7 @@
 -- The answer is told of all bytes taken.
-use Rattle.std.proofs.Common.{[], ◌∙◌}
+use Rattle.std.proofs.Common.{[], ◌∙◌, ap}
 use Rattle.transyt_io.proofs.Told.{takes_nothing}
+use Rattle.transyt_outcome.specs.Outcome.{read_stop_status}
 use Rattle.transyt_words.specs.Whole.{answer_after, most_after}
 use Rattle.transyt_words.proofs.OutcomeLaws.{no_memory, no_memory_after, no_steps, rose_after, told_after, steps_of, stopped_outcome, stopped_read, stopped_write}
 use Rattle.transyt_words.proofs.OutcomeLaws.{told_outcome, told_read, told_spoken, unread_silent}
@@ -25,19 +26,19 @@ pub returns-in-Err-clause-outcome : goal.returns-in-Err-clause-outcome
 returns-in-Err-clause-outcome g c =
     let all = c.in-Err.ensures.all in
     stopped_outcome (answer_after (g.W.DeckWord.answer c.args.word.now)) _ _ _ _ all.taken c.in-Err.stop
-    c.stopped_reading.result all.takes all.says c.stopped_reading.ensures.fault c.stopped_reading.ensures.long
+    c.stopped_reading.result all.takes all.says (λ is. c.stopped_reading.ensures ∙ ap read_stop_status is) (λ is. c.stopped_reading.ensures ∙ ap read_stop_status is)
 
 pub returns-in-Err-clause-steps : goal.returns-in-Err-clause-steps
 returns-in-Err-clause-steps g c = no_steps _ _ _ _ _ c.in-Err.ensures.all.takes
 
 pub returns-in-Err-clause-read_fault : goal.returns-in-Err-clause-read_fault
 returns-in-Err-clause-read_fault g c = λ is.
-    c.in-Err.ensures.fault (stopped_read c.in-Err.stop c.stopped_reading.result c.stopped_reading.ensures.long is)
+    c.in-Err.ensures.fault (stopped_read c.in-Err.stop c.stopped_reading.result (λ is. c.stopped_reading.ensures ∙ ap read_stop_status is) is)
 
 pub returns-in-Err-clause-write_fault : goal.returns-in-Err-clause-write_fault
 returns-in-Err-clause-write_fault g c = λ is.
-    absurd (stopped_write c.in-Err.stop c.stopped_reading.result c.stopped_reading.ensures.fault
-    c.stopped_reading.ensures.long is)
+    absurd (stopped_write c.in-Err.stop c.stopped_reading.result (λ is. c.stopped_reading.ensures ∙ ap read_stop_status is)
+    (λ is. c.stopped_reading.ensures ∙ ap read_stop_status is) is)
 
 -- no memory for the answer
 pub returns-in_default-judge_deck-clause-outcome : goal.returns-in_default-judge_deck-clause-outcome

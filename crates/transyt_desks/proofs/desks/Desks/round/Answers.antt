@@ -7,15 +7,15 @@ use Rattle.transyt_desks.specs.Rounds.{MakesRound}
 use Rattle.transyt_desks.proofs.DeskLaws.{aligned_alike}
 use Rattle.transyt_desks.proofs.desks.Desks.round.Goals as goal
 
-pub follow_all-requires-clause-shape : goal.follow_all-requires-clause-shape
-follow_all-requires-clause-shape g c κs within =
+pub follow_all-requires-clause-alike : goal.follow_all-requires-clause-alike
+follow_all-requires-clause-alike g c κs within =
     c.together-round.ensures.alike (aligned_alike c.args.self.now c.requires.aligned)
 
 pub returns-then-count-eq1-clause-made : goal.returns-then-count-eq1-clause-made
 returns-then-count-eq1-clause-made g c =
     subst (λ n. MakesRound n (machine c.args.climber.now (desk_zero c.args.self.now))
-    (machine c.alone.new.climber (desk_zero c.alone.new.desks)) c.alone.result)
-    (sym c.if-count-eq1.true ∙ c.count.ensures.value) c.alone.ensures.made.made
+    (machine c.turn_at_zero.new.climber (desk_zero c.turn_at_zero.new.desks)) c.turn_at_zero.result)
+    (sym c.if-count-eq1.true ∙ c.count.ensures.value) c.turn_at_zero.ensures.made.made
 
 pub returns-clause-made : goal.returns-clause-made
 returns-clause-made g c =

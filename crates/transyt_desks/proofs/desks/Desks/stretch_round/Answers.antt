@@ -9,15 +9,15 @@ use Rattle.transyt_desks.proofs.desks.Desks.stretch_round.Goals as goal
 pub returns-then-goes_alone-clause-made : goal.returns-then-goes_alone-clause-made
 returns-then-goes_alone-clause-made g c =
     subst (λ n. MakesRound n (machine c.args.climber.now (desk_zero c.args.self.now))
-    (machine c.alone.new.climber (desk_zero c.alone.new.desks)) c.alone.result)
+    (machine c.turn_at_zero.new.climber (desk_zero c.turn_at_zero.new.desks)) c.turn_at_zero.result)
     (places_alone (length c.args.self.now) c.count.result c.args.climber.now c.goes_alone.result c.count.ensures.value
-    c.goes_alone.ensures.value c.if-goes_alone.true) c.alone.ensures.made.made
+    c.goes_alone.ensures.value c.if-goes_alone.true) c.turn_at_zero.ensures.made.made
 
 pub returns-then-goes_alone-clause-alike : goal.returns-then-goes_alone-clause-alike
-returns-then-goes_alone-clause-alike g c = c.alone.ensures.made.alike c.requires.alike
+returns-then-goes_alone-clause-alike g c = c.turn_at_zero.ensures.made.alike c.requires.alike
 
 pub returns-then-goes_alone-clause-workers : goal.returns-then-goes_alone-clause-workers
-returns-then-goes_alone-clause-workers g c = c.alone.ensures.made.workers
+returns-then-goes_alone-clause-workers g c = c.turn_at_zero.ensures.made.workers
 
 pub together-requires-clause-several : goal.together-requires-clause-several
 together-requires-clause-several g c κs within =
@@ -29,8 +29,8 @@ returns-clause-made g c =
     subst (λ n. MakesRound n (machine c.args.climber.now (desk_zero c.args.self.now))
     (machine c.together.new.climber (desk_zero c.together.new.desks)) c.together.result)
     (places_together (length c.args.self.now) c.count.result c.args.climber.now c.goes_alone.result
-    c.count.ensures.value c.goes_alone.ensures.value c.count-2.result c.share-share.result.desks c.share-share.result.each
-    c.if-goes_alone.false c.count-2.ensures.value c.share-share.ensures.desks c.share-share.ensures.each)
+    c.count.ensures.value c.goes_alone.ensures.value c.count-2.result c.split-split.result.desks c.split-split.result.each
+    c.if-goes_alone.false c.count-2.ensures.value c.split-split.ensures.desks c.split-split.ensures.each)
     c.together.ensures.made
 
 pub returns-clause-alike : goal.returns-clause-alike

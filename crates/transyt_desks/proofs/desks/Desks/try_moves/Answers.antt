@@ -8,10 +8,10 @@ use Rattle.transyt_desks.proofs.desks.Desks.try_moves.Goals as goal
 pub returns-clause-alike : goal.returns-clause-alike
 returns-clause-alike g c =
     let olds = c.self.inside.crew.items in
-    let written = with_items_is c.self.inside.crew c.find_some.new.desks (c.find_some.ensures.len ∙ c.as_mut_slice.ensures.len) in
+    let written = with_items_is c.self.inside.crew c.try_moves_of_crew.new.desks (c.try_moves_of_crew.ensures.workers ∙ c.as_mut_slice.ensures.len) in
     subst (λ ds. AreAlike (desks_of c.self.inside.zero (sessions_of ds))) (sym written)
-    (aligned_alike (desks_of c.self.inside.zero (sessions_of c.find_some.new.desks))
-    (standing_aligned c.self.inside.zero (sessions_of olds) (sessions_of c.find_some.new.desks) c.self.inside.following
+    (aligned_alike (desks_of c.self.inside.zero (sessions_of c.try_moves_of_crew.new.desks))
+    (standing_aligned c.self.inside.zero (sessions_of olds) (sessions_of c.try_moves_of_crew.new.desks) c.self.inside.in_step
     c.self.invariant
-    (omega (arith, sessions_count olds, sessions_count c.find_some.new.desks, c.find_some.ensures.len, ap length c.as_mut_slice.ensures.value))
-    c.find_some.ensures.stand))
+    (omega (arith, sessions_count olds, sessions_count c.try_moves_of_crew.new.desks, c.try_moves_of_crew.ensures.workers, ap length c.as_mut_slice.ensures.value))
+    c.try_moves_of_crew.ensures.stand))

@@ -1,8 +1,0 @@
-//! What several desks need to try moves at once.
-
-/// The runtime, whose threads the desks use, and the gate that they pass.
-#[derive(Drop)]
-pub(crate) struct Means<'a, R, G> {
-    pub(crate) rt: &'a R,
-    pub(crate) gate: &'a G,
-}

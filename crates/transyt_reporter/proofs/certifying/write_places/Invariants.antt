@@ -1,0 +1,12 @@
+-- The lines of the first places are written.
+use Rattle.std.proofs.Common.{take, flat_map, length}
+use Rattle.std.specs.List.{range_with_len}
+use Rattle.transyt_cert.specs.Certificate.{place_text}
+use Rattle.transyt_text.specs.Prints.{Printed}
+use Rattle.transyt_reporter.proofs.certifying.write_places.Given as goal
+
+-- the text so far
+abbrev pub invariant-loop-number : goal.invariant-loop-number
+invariant-loop-number g l =
+    Printed (g.K.Sink.written l.fn.sink) (g.K.Sink.written l.sink) (g.K.Sink.faults l.fn.sink) (g.K.Sink.faults l.sink)
+    (flat_map (place_text l.session.net) (take l.number (range_with_len l.from (length l.tries))))
