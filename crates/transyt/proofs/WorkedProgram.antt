@@ -3,7 +3,7 @@ use Rattle.std.proofs.Common.{◌≡◌, ◌<◌, inl, inr, ℕ, ◌++◌, List,
 use Rattle.std.specs.Fmt.{digits}
 use Rattle.transyt_io.specs.Lines.{lines}
 use Rattle.transyt_io.specs.Streams.{Rose}
-use Rattle.transyt_text.specs.Forms.{filled, form_line}
+use Rattle.transyt_io.specs.Forms.{filled, form_line}
 use Rattle.transyt_deck.specs.Deck.{deck}
 use Rattle.transyt_outcome.specs.declared.status.Status.{Status}
 use Rattle.transyt_outcome.specs.declared.status.Status.TheVariants as s

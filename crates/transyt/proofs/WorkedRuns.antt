@@ -3,7 +3,7 @@ use Rattle.std.proofs.Common.{◌≡◌, ◌↔◌, inl, inr, ℕ, ◌++◌, Lis
 use Rattle.std.proofs.Common.{refl, sym, ap, subst, ◌∙◌, true, false, arith}
 use Rattle.std.specs.Fmt.{digits}
 use Rattle.transyt_io.specs.Streams.{Takes}
-use Rattle.transyt_text.specs.Forms.{filled, form_line}
+use Rattle.transyt_io.specs.Forms.{filled, form_line}
 use Rattle.transyt_outcome.specs.declared.ending.Ending.TheVariants as e
 use Rattle.transyt_outcome.specs.declared.status.Status.{Status}
 use Rattle.transyt_outcome.specs.declared.status.Status.TheVariants as s

@@ -7,6 +7,14 @@
 //! says what a climb of the report is. What each word asks for is `task_of` of `specs/Words`: a report of an input,
 //! or a text for which nothing is read. `Outcome` of transyt_outcome says what a run took, what it wrote and what
 //! each status says of both.
+//!
+//! - `specs/Words` has the words, each with its spelling, its task and its steps. `specs/Numbers` has the numbers
+//!   that words give, `specs/Tasks` the outcome of a run with a task. `word` reads the words, `town` serves `make`
+//!   and `brief`, `top` is the call.
+//! - `specs/Program` has the outcome of the program with its words. `program` is the run over any source and sink.
+//!   `over` is that over a reader and a writer of std. `given` is that with the words that std answers, and `main`
+//!   calls it. `telling` is the sink whose remarks go to standard error, `ending` the sentence on how the program
+//!   ended. `version` names the program.
 #![tactic(auto)]
 
 mod bad_words;

@@ -8,7 +8,7 @@ use Rattle.transyt_io.specs.Lines.{is_skipped}
 use Rattle.transyt_syntax.specs.declared.code.Code.TheVariants as code
 use Rattle.transyt_net.specs.Parts.{Network}
 use Rattle.transyt_moves.specs.Moves.{move_count}
-use Rattle.transyt_cert.specs.Certificate.{cert_texts}
+use Rattle.transyt_audit.specs.Certificate.{cert_texts}
 use Rattle.transyt_audit.specs.declared.verdict.Verdict.{Verdict}
 use Rattle.transyt_audit.specs.declared.verdict.Verdict.TheVariants.{No}
 use Rattle.transyt_audit.specs.declared.truth.Finding.{Finding}

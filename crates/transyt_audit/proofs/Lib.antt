@@ -6,3 +6,6 @@ pub mod YesLaws
 pub mod OwnText
 pub mod Planned
 pub mod Worked
+pub mod CertificateLaws
+pub mod WordTexts
+pub mod WorkedCertificate

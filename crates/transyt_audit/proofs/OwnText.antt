@@ -8,9 +8,9 @@ use Rattle.transyt_net.specs.Parts.{Network}
 use Rattle.transyt_moves.specs.Moves.{move_count}
 use Rattle.transyt_sweep.specs.Sweeps.{index}
 use Rattle.transyt_sweep.specs.Climb.{lowers}
-use Rattle.transyt_cert.specs.Certificate.{joined, CertLine, cert_lines, cert_text, move_words, end_words}
-use Rattle.transyt_cert.proofs.WordTexts.{joined_text}
-use Rattle.transyt_cert.proofs.CertificateLaws.{move_are, end_are, lines_certificate}
+use Rattle.transyt_audit.specs.Certificate.{joined, CertLine, cert_lines, cert_text, move_words, end_words}
+use Rattle.transyt_audit.proofs.WordTexts.{joined_text}
+use Rattle.transyt_audit.proofs.CertificateLaws.{move_are, end_are, lines_certificate}
 use Rattle.transyt_audit.specs.declared.verdict.Verdict.TheVariants.{Yes}
 use Rattle.transyt_audit.specs.Verdict.{Given, given_from, verdict}
 use Rattle.transyt_audit.proofs.YesLaws.{IsShort, yes_certifies, certified_yes}

@@ -13,7 +13,7 @@ use Rattle.transyt_net.specs.EditFaults.{edit_fault}
 use Rattle.transyt_moves.specs.Moves.{move, move_count}
 use Rattle.transyt_sweep.specs.Sweeps.{index}
 use Rattle.transyt_sweep.specs.Climb.{index_with, tried_at, is_below, lowers}
-use Rattle.transyt_cert.specs.Certificate.{joined, CertLine, cert_line, cert_lines, cert_texts, move_words, end_words}
+use Rattle.transyt_audit.specs.Certificate.{joined, CertLine, cert_line, cert_lines, cert_texts, move_words, end_words}
 
 -- an edit that was made has no fault, and the index with it is what trying it finds
 pub tried_made : (net : Network) (place : ℕ) (e back : Edit) (x : ℕ) → e ≡ move net place

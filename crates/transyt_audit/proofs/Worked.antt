@@ -5,16 +5,16 @@ use Rattle.transyt_io.specs.Lines.{lines}
 use Rattle.transyt_syntax.specs.declared.code.Code.TheVariants as code
 use Rattle.transyt_parts.specs.Parts.{PlanValue}
 use Rattle.transyt_delay.specs.declared.figures.Figures.{Figures}
-use Rattle.transyt_platoon.specs.Platoon.{smoothed}
-use Rattle.transyt_stopline.specs.StopLine.{sum_back, greatest}
+use Rattle.transyt_profile.specs.Platoon.{smoothed}
+use Rattle.transyt_profile.specs.StopLine.{sum_back, greatest}
 use Rattle.transyt_net.specs.Parts.{Network}
 use Rattle.transyt_moves.specs.Moves.{move, move_count}
 use Rattle.transyt_sweep.specs.Sweeps.{seen, out_of, evaluated, index}
 use Rattle.transyt_sweep.specs.Climb.{tried_at}
 use Rattle.transyt_sweep.specs.WorkedLinks.{new_figures}
 use Rattle.transyt_sweep.proofs.WorkedFigures.{figures_by_root, its_terms}
-use Rattle.transyt_cert.specs.Certificate.{joined, CertLine, new_line, cert_lines, move_words, end_words}
-use Rattle.transyt_cert.proofs.CertificateLaws.{lines_certificate}
+use Rattle.transyt_audit.specs.Certificate.{joined, CertLine, new_line, cert_lines, move_words, end_words}
+use Rattle.transyt_audit.proofs.CertificateLaws.{lines_certificate}
 use Rattle.transyt_audit.specs.declared.verdict.Verdict.{Verdict}
 use Rattle.transyt_audit.specs.declared.verdict.Verdict.TheVariants.{Yes, No}
 use Rattle.transyt_audit.specs.Verdict.{given_from, first_wrong, first_missing, first_lower, no_or, verdict}

@@ -16,8 +16,8 @@ use Rattle.transyt_net.specs.Parts.{Network}
 use Rattle.transyt_moves.specs.Moves.{move_count}
 use Rattle.transyt_sweep.specs.Sweeps.{index}
 use Rattle.transyt_sweep.specs.Climb.{is_below}
-use Rattle.transyt_cert.specs.Certificate.{CertLine, cert_line, cert_lines, cert_text}
-use Rattle.transyt_cert.proofs.CertificateLaws.{lines_certificate}
+use Rattle.transyt_audit.specs.Certificate.{CertLine, cert_line, cert_lines, cert_text}
+use Rattle.transyt_audit.proofs.CertificateLaws.{lines_certificate}
 use Rattle.transyt_audit.specs.declared.verdict.Verdict.{Verdict}
 use Rattle.transyt_audit.specs.declared.verdict.Verdict.TheVariants.{Yes, No}
 use Rattle.transyt_audit.specs.Verdict.{Given, given_from, same_words, agrees, first_wrong, first_missing, first_lower}

@@ -7,7 +7,7 @@ use Rattle.transyt_net.specs.Parts.{Network}
 use Rattle.transyt_moves.specs.Moves.{move_count}
 use Rattle.transyt_sweep.specs.Sweeps.{index}
 use Rattle.transyt_sweep.specs.Climb.{lowers}
-use Rattle.transyt_cert.specs.Certificate.{cert_texts}
+use Rattle.transyt_audit.specs.Certificate.{cert_texts}
 use Rattle.transyt_audit.specs.declared.truth.Finding.{Finding}
 use Rattle.transyt_audit.specs.declared.truth.Finding.TheVariants.{Wrong, Right, Lower}
 use Rattle.transyt_audit.specs.Verdict.{agrees, Verdict, Yes, no_or}

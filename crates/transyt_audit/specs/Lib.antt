@@ -2,3 +2,4 @@
 pub mod Verdict
 pub mod Findings
 pub mod WorkedVerdicts
+pub mod Certificate

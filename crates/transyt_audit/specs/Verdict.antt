@@ -4,7 +4,7 @@ use Rattle.std.specs.Prelude.{None, if◌then◌else◌, bytes_eq, is_some, ◌�
 use Rattle.std.specs.Cmp.Lexicographic.{pointwise}
 use Rattle.transyt_io.specs.Lines.{is_skipped, words, lines}
 use Rattle.transyt_sweep.specs.Climb.{is_below, lowers}
-use Rattle.transyt_cert.specs.Certificate.{CertLine, cert_lines, cert_text}
+use Rattle.transyt_audit.specs.Certificate.{CertLine, cert_lines, cert_text}
 use Rattle.transyt_syntax.specs.declared.code.Code.{Code}
 use Rattle.transyt_net.specs.Parts.{Network}
 use Rattle.transyt_moves.specs.Moves.{move_count}

@@ -6,7 +6,7 @@ ghost use Rattle.transyt_net.specs.Parts.{Network};
 ghost use Rattle.transyt_moves.specs.Moves.{move_count};
 ghost use Rattle.transyt_sweep.specs.Sweeps.{index};
 ghost use Rattle.transyt_sweep.specs.Climb.{lowers};
-ghost use Rattle.transyt_cert.specs.Certificate.{lines_text, cert_text};
+ghost use Rattle.transyt_audit.specs.Certificate.{lines_text, cert_text};
 ghost use Rattle.transyt_audit.specs.declared.verdict.Verdict.TheVariants.{Yes, No};
 ghost use Rattle.transyt_audit.specs.Verdict.{verdict, IsCertified, agrees};
 ghost use Rattle.transyt_audit.specs.WorkedVerdicts.{agreements, bare, other, bare_lines, other_moves, note};

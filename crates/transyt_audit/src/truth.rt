@@ -5,16 +5,16 @@ ghost use Rattle.std.specs.Prelude.{IfOk, OnOk, OnErr, Option};
 ghost use Rattle.transyt_moves.specs.Moves.{move_count};
 ghost use Rattle.transyt_sweep.specs.Sweeps.{index};
 ghost use Rattle.transyt_sweep.specs.Climb.{is_below, lowers, tried_at};
-ghost use Rattle.transyt_cert.specs.Certificate.{cert_texts};
+ghost use Rattle.transyt_audit.specs.Certificate.{cert_texts};
 ghost use Rattle.transyt_audit.specs.Verdict.{agrees};
 ghost use Rattle.transyt_audit.specs.Findings.{finding_of, finding_at, concluded, steps_from};
 
 use crate::verdict::Verdict;
 use crate::words::agrees;
+use crate::{put_end, put_move};
 use std::alloc::{AllocError, Global};
 use std::marker::Model;
 use std::sync::ledger::Ledger;
-use transyt_cert::{put_end, put_move};
 use transyt_io::LineBuffer;
 use transyt_moves::{move_at, move_count};
 use transyt_net::Net;

@@ -3,8 +3,8 @@ use Rattle.std.proofs.Common.{◌≡◌, ℕ, zero, suc, Bool, true, false, [], 
 use Rattle.std.proofs.Common.{sum, if◌then◌else◌, arith, lit<, lit≤}
 use Rattle.transyt_delay.specs.declared.figures.Figures.{Figures}
 use Rattle.transyt_delay.specs.declared.terms.Terms.{Terms}
-use Rattle.transyt_platoon.specs.Platoon.{smoothed}
-use Rattle.transyt_stopline.specs.StopLine.{sum_back, greatest}
+use Rattle.transyt_profile.specs.Platoon.{smoothed}
+use Rattle.transyt_profile.specs.StopLine.{sum_back, greatest}
 use Rattle.transyt_net.specs.declared.edit.Edit.TheVariants.{Offset, Change}
 use Rattle.transyt_net.specs.Edits.{with_edit}
 use Rattle.transyt_parts.specs.Made.{new_weights}

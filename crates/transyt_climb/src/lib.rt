@@ -9,6 +9,9 @@
 //! `turned` of `specs/Turns` are a turn, and `turns` is n of them. `IsUnderWay` and `IsOver` of `specs/Way` say how far
 //! a climb has come, and `rule_of_way` how they go on. The climb itself is `climb` of transyt_sweep, which knows no
 //! counters; `rule_of_turns` says that the turns are that climb.
+//!
+//! A turn is `answer_of` and `turned`. `IsUnderWay` and `IsOver` carry a climb from its start to its end, turn by
+//! turn or round by round. `HasCome` is the whole of a climb as the steps done and the climb left.
 #![tactic(auto)]
 
 mod certifying;

@@ -7,8 +7,8 @@ use Rattle.std.proofs.lemmas.List.Folds.{flat_map-map}
 use Rattle.transyt_parts.specs.declared.frame.Frame.{Frame}
 use Rattle.transyt_parts.specs.Parts.{NodeValue, LinkValue, PlanValue}
 use Rattle.transyt_net.specs.Parts.{Network}
-use Rattle.transyt_text.specs.Prints.{Prints}
-use Rattle.transyt_text.proofs.PrintLaws.{prints_same}
+use Rattle.transyt_io.specs.Prints.{Prints}
+use Rattle.transyt_io.proofs.PrintLaws.{prints_same}
 use Rattle.transyt_deck.specs.declared.card.Card.{Card}
 use Rattle.transyt_deck.specs.declared.card.Card.TheVariants.{Form, Cycle, End}
 use Rattle.transyt_deck.specs.Cards.{card_line, cards_text, node_cards, link_card, feed_cards, rule_cards, plan_cards}

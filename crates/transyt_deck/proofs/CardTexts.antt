@@ -17,7 +17,7 @@ use Rattle.transyt_syntax.specs.Syntax.{further_words, is_count, is_plain, named
 use Rattle.transyt_syntax.specs.Syntax.{syntax_code, unless}
 use Rattle.transyt_deck.specs.declared.card.Card.{Card}
 use Rattle.transyt_deck.specs.declared.card.Card.TheVariants as c
-use Rattle.transyt_text.specs.Forms.{values_text}
+use Rattle.transyt_io.specs.Forms.{values_text}
 use Rattle.transyt_deck.specs.Cards.{card_text, card_words, cards}
 use Rattle.transyt_deck.proofs.NumberTexts.{is_small, numbers_back, numbers_plain, numbers_short}
 use Rattle.transyt_deck.proofs.NumberTexts.{words_text}

@@ -17,7 +17,7 @@ use Rattle.transyt_io.proofs.WordParts.{word_kept}
 use Rattle.transyt_num.proofs.NumberLaws.{number_of-decimal}
 use Rattle.transyt_io.specs.Lines.{is_blank, is_some_word, words}
 use Rattle.transyt_syntax.specs.Syntax.{all_numbers, is_plain}
-use Rattle.transyt_text.specs.Forms.{values_text}
+use Rattle.transyt_io.specs.Forms.{values_text}
 
 digit_tests : (c : ℕ) → IsInRange 48 57 c → (is_ascii_digit c ≡ true) × (is_blank c ≡ false) × (is_plain c ≡ true)
 digit_tests c h = (grind (arith, nat_tests), grind (arith, nat_tests), grind (arith, nat_tests))

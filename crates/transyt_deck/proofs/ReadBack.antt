@@ -18,7 +18,7 @@ use Rattle.transyt_parts.proofs.PlanLaws.{none_first}
 use Rattle.transyt_net.specs.declared.draft.DraftFault.TheVariants.{Range}
 use Rattle.transyt_net.specs.Parts.{Network}
 use Rattle.transyt_net.specs.Valid.{IsSound, IsValid}
-use Rattle.transyt_text.specs.Forms.{values_text}
+use Rattle.transyt_io.specs.Forms.{values_text}
 use Rattle.transyt_deck.specs.declared.card.Card.{Card}
 use Rattle.transyt_deck.specs.declared.card.Card.TheVariants as c
 use Rattle.transyt_deck.specs.declared.state.Part.{Part}

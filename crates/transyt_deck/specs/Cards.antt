@@ -6,7 +6,7 @@ use Rattle.transyt_parts.specs.declared.frame.Frame.{Frame}
 use Rattle.transyt_parts.specs.Made.{new_stage, new_feed, new_rule, new_weights}
 use Rattle.transyt_deck.specs.declared.card.Card.{Card}
 use Rattle.transyt_parts.specs.declared.link.NewLink.{NewLink}
-use Rattle.transyt_text.specs.Forms.{values_text}
+use Rattle.transyt_io.specs.Forms.{values_text}
 use Rattle.transyt_net.specs.Parts.{Network, NodeValue, LinkValue, PlanValue}
 use Rattle.transyt_deck.specs.declared.card.Card.TheVariants as c
 

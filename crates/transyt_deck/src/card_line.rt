@@ -1,7 +1,7 @@
 //! The line of a card.
 ghost use Rattle.std.specs.Prelude.{◌≡◌, ◌≤◌, ◌+◌, ◌*◌, ◌++◌, ◌∷◌, [], length};
-ghost use Rattle.transyt_text.specs.Forms.{values_text};
-ghost use Rattle.transyt_text.specs.Prints.{PrintsOn};
+ghost use Rattle.transyt_io.specs.Forms.{values_text};
+ghost use Rattle.transyt_io.specs.Prints.{PrintsOn};
 
 use transyt_io::{Failed, LineBuffer, Sink, write_line};
 

@@ -2,7 +2,7 @@
 ghost use Rattle.std.specs.Prelude.{◌≡◌, ◌≤◌, ◌∷◌, [], ◌++◌, length, map, flat_map, All, IfSome};
 ghost use Rattle.std.specs.Option.{option_map};
 ghost use Rattle.transyt_io.specs.Lines.{lines};
-ghost use Rattle.transyt_text.specs.Prints.{PrintsOn};
+ghost use Rattle.transyt_io.specs.Prints.{PrintsOn};
 ghost use Rattle.transyt_parts.specs.Parts.{LinkValue};
 ghost use Rattle.transyt_deck.specs.Cards.{node_cards, link_card, feed_cards};
 ghost use Rattle.transyt_deck.specs.declared.card.Card.TheVariants as card;

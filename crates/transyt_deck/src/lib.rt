@@ -8,10 +8,14 @@
 //! `specs/Deck`).
 //!
 //! The other way round, `print_deck` writes a network as its deck text (`deck_text` of `specs/Cards`), which reads back
-//! as the same network (`text_reads_back`). That it wrote it is said by `Prints` of `transyt_text`, whose forms put its
+//! as the same network (`text_reads_back`). That it wrote it is said by `Prints` of `transyt_io`, whose forms put its
 //! lines.
 //!
 //! Cards, their places and all codes are this project's own.
+//!
+//! It is one machine. `specs/Cards` has the cards, their keywords and counts, and the deck text. `specs/State` has
+//! the state of a deck and one step of it, by cases. `specs/Deck` has the deck as the fold of that step. The
+//! reader's value is that state.
 #![tactic(auto)]
 
 mod card;

@@ -10,6 +10,25 @@
 //! A contract sees desks as the list of their sessions, desk 0 first. `IsRound` of transyt_climb is what a round does to
 //! the climber and desk 0, and `turns_of` of `specs/Rounds` its number of turns. That several desks are at work at once
 //! is no clause's matter: a test shows it.
+//!
+//! - `specs/Desks` has desks as the list of their sessions. `specs/Stretches` has the moves up to the first that
+//!   lowers the index, and what a desk finds (`TryResults`): the results of the tries that it took back, and the move
+//!   that it made, if any. `specs/Rounds` has the number of places that are tried, and the number of turns that a
+//!   round is.
+//! - `Desks` has the session of desk 0 (`zero`), and a crew that tries moves while `zero` is read: the other desks,
+//!   and one session more before them, which no clause sees. With one desk there is no crew. `in_step` notes how many
+//!   of the first of the crew are known to stand for the network of desk 0; networks are compared only where that
+//!   isn't known.
+//! - In one fork each of the crew that tries comes to the network of desk 0 (`follow`) and then tries the moves that
+//!   come to it in turn (`find`). It makes the first that brings the index below desk 0's, and tries no more. The
+//!   caller makes all threads itself before it tries as the first of the crew. What they found is read in the list's
+//!   order, up to the first move that was made (`first_made`), and desk 0 trades networks with the desk that made it
+//!   (`Session::trade`). Then the turns are counted (`make_turns`): those that pass, and the step.
+//! - `proofs/CrewLaws` has what the first of a crew share with all of it, and `proofs/BatchLaws` what those come to
+//!   that have tried moves. `try_moves` hands on the results of consecutive moves as they are, and makes none.
+//!   `policy` says when desks try together, how many of them (`Split`), and how many places each. A `Gate` may say
+//!   how many desks it lets in at once; the program's lets in as many as there are processors (`HostGate` of
+//!   `transyt`).
 #![tactic(auto)]
 
 mod batch;

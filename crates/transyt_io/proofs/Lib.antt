@@ -9,3 +9,7 @@ pub mod StdEnds
 pub mod Told
 pub mod WordParts
 pub mod Worked
+pub mod FormLaws
+pub mod LoopLaws
+pub mod PrintLaws
+pub mod WorkedForms

@@ -6,3 +6,5 @@ pub mod Reading
 pub mod WorkedCalls
 pub mod WorkedEnds
 pub mod WorkedLines
+pub mod Forms
+pub mod Prints

@@ -12,6 +12,18 @@
 //!
 //! Nothing here knows of networks: how rows come about, `transyt_sweep` says. That a link has profiles which repeat
 //! each cycle is from LR 253; marks and versions are this project's own.
+//!
+//! - `specs/Cell` is all of a link at a sweep. `specs/Rows` has the rows as one record, with each read and write.
+//!   `specs/Marked` has the rows with a mark: `Rows` are seen as the rows now and, while a mark is open, the rows of
+//!   the mark.
+//! - That departures are below 2^30 is the invariant of `Rows`. So a read asks for nothing, and a write asks for the
+//!   bound.
+//! - Each row has two versions in memory, side by side in one piece (`src/flat.rt`), and two bits: one tells which
+//!   version is the row now, the other which is the row of the mark (`src/slots.rt`). A write goes to the version
+//!   that isn't the mark's. A mark is set by copying bits, and taken back by copying them the other way, so no row is
+//!   copied for it. A `Table` (`src/table.rt`) is seen as the rows now and those at the mark; departures, arrivals,
+//!   GO and queues are one each, and figures a table of their own (`src/figure_table.rt`). `specs/Versions` has the
+//!   versions, and no other crate knows of them; `proofs/VersionLaws` has the one step of all writes.
 #![tactic(auto)]
 
 mod figure_table;

@@ -2,13 +2,13 @@
 use Rattle.std.proofs.Common.{◌≡◌, ◌++◌, [], ◌∷◌, codes, refl}
 use Rattle.std.specs.Fmt.{digits}
 use Rattle.transyt_outcome.specs.Runs.{answers_by}
-use Rattle.transyt_platoon.specs.Platoon.{smoothed}
-use Rattle.transyt_stopline.specs.StopLine.{sum_back, greatest}
+use Rattle.transyt_profile.specs.Platoon.{smoothed}
+use Rattle.transyt_profile.specs.StopLine.{sum_back, greatest}
 use Rattle.transyt_moves.specs.Moves.{move, move_count}
 use Rattle.transyt_sweep.specs.Sweeps.{seen, out_of, evaluated}
 use Rattle.transyt_sweep.specs.Climb.{tried_at, lowers, moved, climb}
 use Rattle.transyt_track.specs.Due.{differs, due_in, due_through, due}
-use Rattle.transyt_text.specs.Forms.{filled, form_line, values_line, values_text}
+use Rattle.transyt_io.specs.Forms.{filled, form_line, values_line, values_text}
 use Rattle.transyt_report.specs.Texts.{index_line, node_line, queue_line, stage_line, timing_end, work_line}
 use Rattle.transyt_line_answers.specs.Commands.{done_text, refused_text}
 use Rattle.transyt_line_answers.specs.Report.{accepted, card_refused, deck_answering, report}

@@ -1,8 +1,8 @@
 -- The worked answers to commands, computed from the definitions.
 use Rattle.std.proofs.Common.{◌≡◌, ℕ, List, ◌++◌, Option, false, refl, ap, ◌∙◌}
 use Rattle.std.specs.Fmt.{digits}
-use Rattle.transyt_platoon.specs.Platoon.{smoothed}
-use Rattle.transyt_stopline.specs.StopLine.{sum_back, greatest}
+use Rattle.transyt_profile.specs.Platoon.{smoothed}
+use Rattle.transyt_profile.specs.StopLine.{sum_back, greatest}
 use Rattle.transyt_net.specs.declared.edit.Edit.TheVariants.{Offset}
 use Rattle.transyt_net.specs.Edits.{with_edit}
 use Rattle.transyt_moves.specs.Moves.{move, move_count}
@@ -13,7 +13,7 @@ use Rattle.transyt_net.specs.Parts.{Network}
 use Rattle.transyt_session.specs.Session.{SessionValue}
 use Rattle.transyt_session.specs.WorkedSessions.{begun}
 use Rattle.transyt_climb.proofs.WorkedLaws as turns
-use Rattle.transyt_text.specs.Forms.{filled, form_line}
+use Rattle.transyt_io.specs.Forms.{filled, form_line}
 use Rattle.transyt_report.specs.Texts.{end_text}
 use Rattle.transyt_line_answers.specs.declared.answer.Answer.{Answer}
 use Rattle.transyt_line_answers.specs.declared.answer.Answer.TheVariants as a

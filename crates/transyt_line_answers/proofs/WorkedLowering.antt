@@ -2,8 +2,8 @@
 use Rattle.std.proofs.Common.{◌≡◌, ℕ, ◌<◌, List, [], ◌∷◌, None, Some, sum, lit<, lit≤, refl, sym, ◌∙◌, ap, subst, arith}
 use Rattle.std.specs.List.{All}
 use Rattle.std.proofs.lemmas.List.Elements.{All-from_recursion, All-head}
-use Rattle.transyt_platoon.specs.Platoon.{smoothed}
-use Rattle.transyt_stopline.specs.StopLine.{sum_back, greatest}
+use Rattle.transyt_profile.specs.Platoon.{smoothed}
+use Rattle.transyt_profile.specs.StopLine.{sum_back, greatest}
 use Rattle.transyt_parts.specs.Parts.{NodeValue}
 use Rattle.transyt_parts.specs.declared.stage_plan.PlanFault.TheVariants.{LeastGreen}
 use Rattle.transyt_parts.specs.Plan.{plan_fault, stage_of}

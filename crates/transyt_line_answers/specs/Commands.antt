@@ -23,11 +23,11 @@ use Rattle.transyt_sweep.specs.Climb.{Step, Climb, climb}
 use Rattle.transyt_track.specs.Due.{cert_work}
 use Rattle.transyt_session.specs.Session.{SessionValue, edited, trial_of, back_of, keep_of, credited}
 use Rattle.transyt_climb.specs.Way.{climbed}
-use Rattle.transyt_cert.specs.Certificate.{cert_text}
-use Rattle.transyt_text.specs.Forms.{form_line}
+use Rattle.transyt_audit.specs.Certificate.{cert_text}
+use Rattle.transyt_io.specs.Forms.{form_line}
 use Rattle.transyt_report.specs.declared.showing.Report.TheVariants as report
 use Rattle.transyt_report.specs.Texts.{took_text, end_text, report_text}
-use Rattle.transyt_plot.specs.Plot.{plot_text}
+use Rattle.transyt_report.specs.Plot.{plot_text}
 use Rattle.transyt_line_answers.specs.declared.answer.Answer.{Answer}
 use Rattle.transyt_line_answers.specs.declared.answer.Answer.TheVariants as a
 

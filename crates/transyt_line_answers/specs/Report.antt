@@ -7,7 +7,7 @@ use Rattle.transyt_syntax.specs.Codes.{number}
 use Rattle.transyt_net.specs.Parts.{Network}
 use Rattle.transyt_deck.specs.Deck.{Deck, Refused, Complete, Open, next, start}
 use Rattle.transyt_session.specs.Session.{SessionValue, opened}
-use Rattle.transyt_text.specs.Forms.{form_line}
+use Rattle.transyt_io.specs.Forms.{form_line}
 use Rattle.transyt_outcome.specs.declared.ending.Ending.{Ending}
 use Rattle.transyt_outcome.specs.declared.ending.Ending.TheVariants as ending
 use Rattle.transyt_outcome.specs.Runs.{Answering, of_lines}

@@ -3,8 +3,8 @@ ghost use Rattle.std.specs.Prelude.{◌≡◌, ◌<◌};
 ghost use Rattle.transyt_moves.specs.Moves.{move, move_count};
 ghost use Rattle.transyt_sweep.specs.Sweeps.{index};
 ghost use Rattle.transyt_session.specs.Session.{try_of};
-ghost use Rattle.transyt_text.specs.Prints.{PrintsOn};
-ghost use Rattle.transyt_cert.specs.Certificate.{place_text, last_text};
+ghost use Rattle.transyt_io.specs.Prints.{PrintsOn};
+ghost use Rattle.transyt_audit.specs.Certificate.{place_text, last_text};
 ghost use Rattle.transyt_line_answers.specs.Conditions.{index_found};
 
 use transyt_climb::move_at;

@@ -4,6 +4,10 @@
 //! `specs/Commands` has the answer to a command, its text and the session after it, `specs/Report` the report of an
 //! input as a fold over its lines, `specs/Steps` the rules that a step of a climb keeps to. [`judge`] makes a line into
 //! an [`Answer`]; [`write_text`] writes it. A climb and a certificate are written by `transyt_reporter`, over desks.
+//!
+//! `specs/Report` is the report as a fold over the lines. `specs/Commands` has the answer to a command, its text
+//! and the session after it, `specs/Steps` the facts of each step of a climb. `answering` answers a command over a
+//! session, `writing` writes the answer. `certifying` writes the lines of a certificate.
 #![tactic(auto)]
 
 mod answer;

@@ -1,20 +1,18 @@
 //! The text of an answer. CLIMB and CERT, which look as they write, are no part of this.
 ghost use Rattle.std.specs.Prelude.{◌≡◌, true};
 ghost use Rattle.transyt_net.specs.Parts.{Network};
-ghost use Rattle.transyt_text.specs.Prints.{PrintsOn};
+ghost use Rattle.transyt_io.specs.Prints.{PrintsOn};
 ghost use Rattle.transyt_line_answers.specs.Commands.{done_text, refused_text, answer_text};
 ghost use Rattle.transyt_line_answers.specs.Conditions.{IsOf, is_told};
 ghost use Rattle.transyt_line_answers.specs.Report.{card_refused, accepted};
 
 use crate::answer::Answer;
 use transyt_deck::print_deck;
-use transyt_io::{Failed, LineBuffer, Sink};
+use transyt_io::{Failed, LineBuffer, Sink, print_form};
 use transyt_net::Net;
-use transyt_plot::plot;
-use transyt_report::{Report, show};
+use transyt_report::{Report, plot, show};
 use transyt_session::Session;
 use transyt_syntax::Code;
-use transyt_text::print_form;
 
 /// Writes the line of a refused card, `CARD number REFUSED code`. On Failed some first bytes of it were written.
 #[tactic(auto, unfolding(crate::specs::Report::card_refused))]

@@ -11,6 +11,12 @@
 //!
 //! Networks of such parts are those of Robertson's TRANSYT (LR 253); drafts, edits and all limits
 //! are this project's own.
+//!
+//! - A `Net` and a `Draft` keep vectors, two sets of card numbers (`IndexSet` of `indexmap`), which give each number
+//!   its place, and the total flow of each link. No public clause speaks of these sets and the totals.
+//! - A draft's invariant is validity, except for the stage plans. Each call that adds a part has three things: a
+//!   definition of its first fault, a private method that computes this fault, and a definition of the network after
+//!   the call.
 #![tactic(auto)]
 
 mod both;

@@ -9,6 +9,10 @@
 //!
 //! The parts are those of Robertson's TRANSYT (LR 253); lags, give-way rules, climb plans and all
 //! limits are this project's own.
+//!
+//! - It has each part by itself, with public fields. `specs/Valid` says when a part by itself is valid. `specs/Plan`
+//!   has the stage plan, `specs/Made` the parts of given numbers and the shape that no edit changes.
+//! - The facts of parts among others are `transyt_net`'s: that numbers differ, and that names are known.
 #![tactic(auto)]
 
 mod climb_plan;

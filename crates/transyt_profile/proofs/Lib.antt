@@ -1,3 +1,16 @@
 pub mod SharesFit
 pub mod ReadyLaws
 pub mod AddedLaws
+pub mod Parts
+pub mod Mixing
+pub mod Turns
+pub mod Arrived
+pub mod Lanes
+pub mod KnownValues
+pub mod BackSums
+pub mod Greatest
+pub mod QueueLaws
+pub mod Covering
+pub mod QueueBounds
+pub mod CutLaws
+pub mod Examples

@@ -2,7 +2,7 @@
 use Rattle.std.proofs.Common.{ℕ, List, ◌≡◌, [], ◌∷◌, ◌++◌, codes, refl}
 use Rattle.std.specs.Fmt.{digits}
 use Rattle.transyt_delay.specs.declared.figures.Figures.{Figures}
-use Rattle.transyt_text.specs.Forms.{filled, form_line}
+use Rattle.transyt_io.specs.Forms.{filled, form_line}
 use Rattle.transyt_report.specs.Texts.{index_line}
 use Rattle.transyt_report.specs.Texts.{work_line}
 

@@ -3,7 +3,7 @@ use Rattle.std.specs.Prelude.{ℕ, nat_lt, List, [], ◌∷◌, ◌++◌, map, f
 use Rattle.std.specs.List.{range_with_len}
 use Rattle.transyt_net.specs.Parts.{Network, link_of}
 use Rattle.transyt_sweep.specs.Sweeps.{evaluated}
-use Rattle.transyt_text.specs.Forms.{filled, form_line}
+use Rattle.transyt_io.specs.Forms.{filled, form_line}
 
 -- the character of a step, by its GO and the queue at its end: Q where a queue goes, G where the green has no queue, q
 -- where a queue stands, a dot elsewhere

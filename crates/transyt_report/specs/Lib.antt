@@ -4,3 +4,5 @@ pub mod Texts
 pub mod WorkedCharts
 pub mod WorkedMeasures
 pub mod WorkedTexts
+pub mod Plot
+pub mod WorkedPlots

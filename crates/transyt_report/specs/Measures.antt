@@ -9,7 +9,7 @@ use Rattle.transyt_net.specs.Parts.{Network, link_of}
 use Rattle.transyt_sweep.specs.Sweeps.{evaluated, index}
 use Rattle.transyt_report.specs.declared.measures.LinkFigures.{LinkFigures}
 use Rattle.transyt_report.specs.declared.totals.NetworkFigures.{NetworkFigures}
-use Rattle.transyt_text.specs.Forms.{form_line}
+use Rattle.transyt_io.specs.Forms.{form_line}
 
 -- the greatest of a number and these values
 abbrev pub greatest : ℕ → List ℕ → ℕ

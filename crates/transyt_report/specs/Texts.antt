@@ -7,7 +7,7 @@ use Rattle.transyt_parts.specs.Parts.{NodeValue}
 use Rattle.transyt_parts.specs.Plan.{stage_of, length_at}
 use Rattle.transyt_net.specs.Parts.{Network, node_of, link_of}
 use Rattle.transyt_sweep.specs.Sweeps.{evaluated, index}
-use Rattle.transyt_text.specs.Forms.{form_line, values_line}
+use Rattle.transyt_io.specs.Forms.{form_line, values_line}
 use Rattle.transyt_report.specs.declared.showing.Report.{Report}
 use Rattle.transyt_report.specs.Chart.{chart_text}
 use Rattle.transyt_report.specs.Measures.{figures_report}

@@ -1,12 +1,11 @@
 //! CHART.
 ghost use Rattle.std.specs.Prelude.{◌≡◌, ◌≤◌, ◌<◌, ◌+◌, ◌++◌, length};
-ghost use Rattle.transyt_text.specs.Prints.{PrintsOn};
+ghost use Rattle.transyt_io.specs.Prints.{PrintsOn};
 ghost use Rattle.transyt_report.specs.Chart.{step_mark, cycle_marks, chart_line, chart_line_at, chart_end, chart_text};
 
 use crate::session_link::SessionLink;
-use transyt_io::{Failed, LineBuffer, Sink, write_line};
+use transyt_io::{Failed, LineBuffer, Parts, Sink, print_form, print_parts, put_form, write_line};
 use transyt_session::Session;
-use transyt_text::{Parts, print_form, print_parts, put_form};
 
 /// The character of a step, by its GO and the queue at its end: a queue that goes, a green without a queue, a queue
 /// that stands, or neither.

@@ -1,15 +1,14 @@
 //! FIGURES.
 ghost use Rattle.std.specs.Prelude.{◌≡◌, ◌<◌, length};
-ghost use Rattle.transyt_text.specs.Prints.{PrintsOn};
+ghost use Rattle.transyt_io.specs.Prints.{PrintsOn};
 ghost use Rattle.transyt_report.specs.Measures.{network_figures, link_figures_line, link_figures_at, total_line};
 ghost use Rattle.transyt_report.specs.Measures.{figures_report};
 
 use crate::measures::{LinkFigures, link_figures};
 use crate::session_link::SessionLink;
 use crate::totals::{NetworkFigures, network_figures};
-use transyt_io::{Failed, LineBuffer, Sink};
+use transyt_io::{Failed, LineBuffer, Parts, Sink, print_form, print_parts};
 use transyt_session::Session;
-use transyt_text::{Parts, print_form, print_parts};
 
 /// Writes the line of a link.
 #[tactic(auto, unfolding(crate::specs::Measures::link_figures_line))]

@@ -1,12 +1,11 @@
 //! The lines of a climb and of a certificate, each with its line end.
 ghost use Rattle.std.specs.Prelude.{◌≡◌, ◌<◌, ◌≤◌, IsTrue, length};
-ghost use Rattle.transyt_cert.specs.Certificate.{move_text, last_text};
+ghost use Rattle.transyt_audit.specs.Certificate.{move_text, last_text};
 ghost use Rattle.transyt_report.specs.Texts.{is_move, took_text, end_text};
 
-use transyt_cert::{put_end, put_move};
-use transyt_io::LineBuffer;
+use transyt_audit::{put_end, put_move};
+use transyt_io::{LineBuffer, set_line};
 use transyt_net::Edit;
-use transyt_text::set_line;
 
 /// The line becomes that of a step that a climb takes: the place in the list of moves, from 0, the move with its new
 /// offset or change in steps, and the index after it.

@@ -1,6 +1,6 @@
 //! The reports.
 ghost use Rattle.std.specs.Prelude.{◌≡◌, ◌<◌, length};
-ghost use Rattle.transyt_text.specs.Prints.{PrintsOn};
+ghost use Rattle.transyt_io.specs.Prints.{PrintsOn};
 ghost use Rattle.transyt_sweep.specs.Sweeps.{index};
 ghost use Rattle.transyt_report.specs.Texts.{index_line, link_line, links_text, timing_text, in_line, go_line, out_line, queue_line};
 ghost use Rattle.transyt_report.specs.Texts.{profile_text, work_line, report_text, IsOfPlace};
@@ -9,9 +9,8 @@ use crate::charting::print_chart;
 use crate::figures::print_report;
 use crate::session_link::SessionLink;
 use crate::timing::print_timing;
-use transyt_io::{Failed, LineBuffer, Sink};
+use transyt_io::{Failed, LineBuffer, Parts, Sink, print_form, print_parts, print_values};
 use transyt_session::Session;
-use transyt_text::{Parts, print_form, print_parts, print_values};
 
 /// A report of the session. A link is named by its place in card order, from 0.
 #[derive(Clone, Copy, PartialEq, Eq)]

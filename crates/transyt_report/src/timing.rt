@@ -1,13 +1,12 @@
 //! TIMING.
 ghost use Rattle.std.specs.Prelude.{◌≡◌, ◌<◌, ◌≤◌, ◌+◌, ◌%◌, length};
 ghost use Rattle.transyt_net.specs.Parts.{node_of};
-ghost use Rattle.transyt_text.specs.Prints.{PrintsOn};
+ghost use Rattle.transyt_io.specs.Prints.{PrintsOn};
 ghost use Rattle.transyt_report.specs.Texts.{stage_line, node_line, node_text, node_text_at, timing_end, timing_text};
 
-use transyt_io::{Failed, LineBuffer, Sink};
+use transyt_io::{Failed, LineBuffer, Parts, Sink, print_form, print_parts};
 use transyt_net::{Net, Node};
 use transyt_parts::stage_length;
-use transyt_text::{Parts, print_form, print_parts};
 
 /// The node at a place.
 fn node_at(net: &Net, place: usize) -> &Node

@@ -5,7 +5,7 @@ use Rattle.transyt_sweep.specs.Sweeps.{index}
 use Rattle.transyt_moves.specs.Moves.{move_count}
 use Rattle.transyt_sweep.specs.Climb.{climb}
 use Rattle.transyt_climb.specs.Turns.{Counters, start_at}
-use Rattle.transyt_text.specs.Forms.{form_line}
+use Rattle.transyt_io.specs.Forms.{form_line}
 use Rattle.transyt_line_answers.specs.Commands.{budget_of, climb_of}
 use Rattle.transyt_reporter.specs.Brief.{brief_form, brief_text}
 

@@ -4,8 +4,8 @@ use Rattle.transyt_io.proofs.Told.{adds_nothing}
 use Rattle.transyt_net.specs.Parts.{Network}
 use Rattle.transyt_deck.specs.Deck.{Deck, Open, Complete, Refused, is_open, is_complete}
 use Rattle.transyt_session.specs.Session.{SessionValue, opened}
-use Rattle.transyt_text.specs.Prints.{Prints}
-use Rattle.transyt_text.proofs.PrintLaws.{prints_same}
+use Rattle.transyt_io.specs.Prints.{Prints}
+use Rattle.transyt_io.proofs.PrintLaws.{prints_same}
 use Rattle.transyt_outcome.specs.declared.ending.Stop.TheVariants as stop
 use Rattle.transyt_line_answers.specs.Report.{InSession, accepted, deck_said, deck_ends, deck_steps, run_of}
 use Rattle.transyt_reporter.specs.Conditions.{AnswersDeck}

@@ -11,10 +11,10 @@ use Rattle.transyt_sweep.specs.Sweeps.{index}
 use Rattle.transyt_track.specs.Due.{edit_work, cert_work}
 use Rattle.transyt_session.specs.declared.answers.Tried.{Tried}
 use Rattle.transyt_session.specs.Session.{SessionValue, credited}
-use Rattle.transyt_text.specs.Prints.{Prints, Printed}
-use Rattle.transyt_text.proofs.PrintLaws.{prints_both, prints_front, prints_same, adds_same}
-use Rattle.transyt_cert.specs.Certificate.{place_text, last_text, cert_text}
-use Rattle.transyt_cert.proofs.CertificateLaws.{text_by_place}
+use Rattle.transyt_io.specs.Prints.{Prints, Printed}
+use Rattle.transyt_io.proofs.PrintLaws.{prints_both, prints_front, prints_same, adds_same}
+use Rattle.transyt_audit.specs.Certificate.{place_text, last_text, cert_text}
+use Rattle.transyt_audit.proofs.CertificateLaws.{text_by_place}
 use Rattle.transyt_line_answers.specs.declared.answer.Answer.TheVariants as a
 use Rattle.transyt_line_answers.specs.Commands.{after_answer}
 use Rattle.transyt_line_answers.proofs.CertLaws.{cert_more}
@@ -22,7 +22,7 @@ use Rattle.std.specs.Prelude.{slice_index_or}
 use Rattle.transyt_desks.specs.Stretches.{AreTriesOf, work_found}
 use Rattle.transyt_desks.proofs.TriedLaws.{try_work}
 use Rattle.transyt_reporter.specs.Conditions.{places_text, places_work, AreIdle, LeavesReady}
-use Rattle.transyt_text.proofs.LoopLaws.{whole}
+use Rattle.transyt_io.proofs.LoopLaws.{whole}
 use Rattle.transyt_desks.specs.Desks.{desk_zero, AreAlike}
 use Rattle.transyt_reporter.proofs.ReadyLaws.{ready_closed}
 

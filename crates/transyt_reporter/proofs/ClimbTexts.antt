@@ -12,9 +12,9 @@ use Rattle.transyt_climb.specs.Way.{climb_left, climbed}
 use Rattle.transyt_climb.proofs.CountedLaws.{IsClimbing, climb_way, climb_goes, climb_over, climb_state}
 use Rattle.transyt_desks.specs.declared.turns.Round.{Round}
 use Rattle.transyt_desks.specs.Rounds.{MakesRound}
-use Rattle.transyt_text.specs.Prints.{Prints, Printed}
-use Rattle.transyt_text.proofs.PrintLaws.{prints_both, prints_front, prints_same, adds_same}
-use Rattle.transyt_text.proofs.LoopLaws.{printed_nothing, whole}
+use Rattle.transyt_io.specs.Prints.{Prints, Printed}
+use Rattle.transyt_io.proofs.PrintLaws.{prints_both, prints_front, prints_same, adds_same}
+use Rattle.transyt_io.proofs.LoopLaws.{printed_nothing, whole}
 use Rattle.transyt_report.specs.Texts.{took_text, end_text}
 use Rattle.transyt_line_answers.specs.Commands.{steps_text, climb_text}
 use Rattle.transyt_reporter.proofs.MoveLaws.{turns_left}

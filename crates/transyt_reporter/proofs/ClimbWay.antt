@@ -8,7 +8,7 @@ use Rattle.transyt_climb.proofs.CountedLaws.{climb_starts}
 use Rattle.transyt_desks.specs.declared.turns.Round.{Round}
 use Rattle.transyt_desks.specs.Desks.{desk_zero, AreAlike}
 use Rattle.transyt_desks.specs.Rounds.{MakesRound}
-use Rattle.transyt_text.specs.Prints.{Prints}
+use Rattle.transyt_io.specs.Prints.{Prints}
 use Rattle.transyt_line_answers.specs.declared.answer.Answer.TheVariants as a
 use Rattle.transyt_line_answers.specs.Commands.{after_answer, budget_of, steps_text}
 use Rattle.transyt_reporter.specs.Conditions.{AreReady, LeavesReady}

@@ -2,8 +2,8 @@
 use Rattle.std.proofs.Common.{◌≡◌, ℕ, ◌+◌, ◌≤◌, List, Option, Result, sym, ◌∙◌, ap, subst, set}
 use Rattle.transyt_session.specs.Session.{SessionValue}
 use Rattle.transyt_desks.specs.Desks.{desk_zero}
-use Rattle.transyt_text.specs.Prints.{Prints}
-use Rattle.transyt_text.proofs.PrintLaws.{prints_same}
+use Rattle.transyt_io.specs.Prints.{Prints}
+use Rattle.transyt_io.proofs.PrintLaws.{prints_same}
 use Rattle.transyt_line_answers.specs.declared.answer.Answer.{Answer}
 use Rattle.transyt_line_answers.specs.Commands.{after_answer, answer_text, line_answer, line_judged, session_after}
 use Rattle.transyt_line_answers.specs.Conditions.{IsOf}

@@ -9,7 +9,7 @@ use Rattle.transyt_sweep.specs.Climb.{tried_at, lowers, moved, climb}
 use Rattle.transyt_track.specs.Due.{work_of}
 use Rattle.transyt_session.specs.Session.{opened}
 use Rattle.transyt_climb.specs.WorkedTurns.{idle}
-use Rattle.transyt_text.specs.Forms.{filled, form_line}
+use Rattle.transyt_io.specs.Forms.{filled, form_line}
 use Rattle.transyt_stage.specs.ThreeJunctions.{three_junctions}
 use Rattle.transyt_sweep.proofs.WorkedFigures.{index_comes_out}
 use Rattle.transyt_line_answers.proofs.WorkedCommands.{index_after}

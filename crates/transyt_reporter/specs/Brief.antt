@@ -4,7 +4,7 @@ use Rattle.transyt_net.specs.Parts.{Network}
 use Rattle.transyt_sweep.specs.Sweeps.{index}
 use Rattle.transyt_sweep.specs.Climb.{Climb}
 use Rattle.transyt_track.specs.Due.{work_of}
-use Rattle.transyt_text.specs.Forms.{form_line}
+use Rattle.transyt_io.specs.Forms.{form_line}
 use Rattle.transyt_line_answers.specs.Commands.{climb_of}
 
 -- the form of the line, by how the climb ended

@@ -16,7 +16,7 @@ use Rattle.transyt_desks.specs.Desks.{desk_zero, AreAlike}
 use Rattle.transyt_report.specs.Texts.{is_move}
 use Rattle.std.specs.List.{range_with_len}
 use Rattle.transyt_track.specs.Due.{cert_work}
-use Rattle.transyt_cert.specs.Certificate.{place_text}
+use Rattle.transyt_audit.specs.Certificate.{place_text}
 
 -- desks between two lines: each has the shape of desk 0, and so has the network before an open trial
 pub record AreReady (desks : List SessionValue) : Type 0 where

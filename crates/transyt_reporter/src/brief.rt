@@ -3,8 +3,8 @@ ghost use Rattle.std.specs.Prelude.{◌≡◌, ◌+◌, ◌*◌, ◌≤◌, ◌�
 ghost use Rattle.transyt_io.specs.Streams.{Adds, AddsFront, Rose};
 ghost use Rattle.transyt_sweep.specs.Sweeps.{index};
 ghost use Rattle.transyt_desks.specs.Desks.{desk_zero};
-ghost use Rattle.transyt_text.specs.Prints.{PrintsOn};
-ghost use Rattle.transyt_text.specs.Forms.{form_line};
+ghost use Rattle.transyt_io.specs.Prints.{PrintsOn};
+ghost use Rattle.transyt_io.specs.Forms.{form_line};
 ghost use Rattle.transyt_track.specs.Due.{work_of};
 ghost use Rattle.transyt_reporter.specs.Brief.{brief_form, brief_text, brief_steps};
 ghost use Rattle.transyt_line_answers.specs.Commands.{climb_of};
@@ -17,12 +17,11 @@ use std::alloc::Global;
 use std::sync::ledger::Ledger;
 use std::thread::Threads;
 use transyt_desks::{Desks, Gate, climb_by_rounds};
-use transyt_io::{Failed, LineBuffer, Sink};
+use transyt_io::{Failed, LineBuffer, Sink, print_form};
 use transyt_net::Net;
 use transyt_outcome::Stop;
 use transyt_session::Session;
 use transyt_steps::Steps;
-use transyt_text::print_form;
 
 /// A network before the climb: how many nodes and links it has, and its index.
 #[derive(Clone, Copy, Drop)]

@@ -3,7 +3,7 @@ ghost use Rattle.std.specs.Prelude.{◌≡◌, ◌≤◌, [], IsSome, OnOk};
 ghost use Rattle.transyt_moves.specs.Moves.{move_count};
 ghost use Rattle.transyt_climb.specs.Turns.{start_at, step_then};
 ghost use Rattle.transyt_desks.specs.Desks.{desk_zero};
-ghost use Rattle.transyt_text.specs.Prints.{PrintsOn};
+ghost use Rattle.transyt_io.specs.Prints.{PrintsOn};
 ghost use Rattle.transyt_report.specs.Texts.{end_text};
 ghost use Rattle.transyt_line_answers.specs.Commands.{after_answer, steps_text, climb_text, climb_of, budget_of};
 ghost use Rattle.transyt_reporter.specs.Conditions.{AreIdle, IsStep, LeavesReady};

@@ -2,7 +2,7 @@
 ghost use Rattle.std.specs.Prelude.{◌≡◌, ◌≤◌, ◌<◌, ◌+◌, ◌^◌, true, None, Some, Ok, IfOk, IfNone, OnOk, OnErr, IsErrOf, IsTrue, length, ℕ, List, []};
 ghost use Rattle.transyt_outcome.specs.Runs.{EndAnswered, LineAnswered};
 ghost use Rattle.transyt_io.specs.Streams.{Adds, AddsFront, Rose};
-ghost use Rattle.transyt_text.specs.Prints.{PrintsOn};
+ghost use Rattle.transyt_io.specs.Prints.{PrintsOn};
 ghost use Rattle.transyt_deck.specs.Deck.{next, is_complete, line_count};
 ghost use Rattle.transyt_desks.specs.Desks.{desk_zero};
 ghost use Rattle.transyt_line_answers.specs.Commands.{line_answer, answer_text, session_after};

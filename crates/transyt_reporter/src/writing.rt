@@ -1,7 +1,7 @@
 //! The answer to a judged command is written: CLIMB and CERT are carried out as they are written.
 ghost use Rattle.std.specs.Prelude.{◌≡◌, ◌^◌, ◌≤◌, length, OnOk};
 ghost use Rattle.transyt_desks.specs.Desks.{desk_zero};
-ghost use Rattle.transyt_text.specs.Prints.{PrintsOn};
+ghost use Rattle.transyt_io.specs.Prints.{PrintsOn};
 ghost use Rattle.transyt_line_answers.specs.Commands.{answer_text, after_answer};
 ghost use Rattle.transyt_line_answers.specs.Conditions.{IsOf};
 ghost use Rattle.transyt_reporter.specs.Conditions.{AreReady, LeavesReady};

@@ -1,6 +1,6 @@
 -- The factors of a feed are worked out once, and are right for its numbers.
 use Rattle.std.proofs.Common.{◌≡◌, ℕ, ◌∙◌, ap}
-use Rattle.transyt_platoon.specs.Platoon.{travel_steps}
+use Rattle.transyt_profile.specs.Platoon.{travel_steps}
 use Rattle.transyt_parts.specs.declared.frame.Frame.{Frame}
 use Rattle.transyt_parts.specs.declared.link.Feed.{Feed}
 use Rattle.transyt_sweep.specs.declared.factors.Factors.{Factors}

@@ -3,8 +3,8 @@ use Rattle.std.proofs.Common.{◌≡◌, ℕ, ◌-◌, ◌<◌, ◌≤◌, List,
 use Rattle.std.specs.List.{All}
 use Rattle.std.proofs.lemmas.List.{length-take-le}
 use Rattle.std.proofs.lemmas.List.Elements.{All-nil, All-cons, All-take}
-use Rattle.transyt_platoon.specs.declared.platoon.Platoon.{Platoon}
-use Rattle.transyt_platoon.specs.Arriving.{arriving, with_arriving}
+use Rattle.transyt_profile.specs.declared.platoon.Platoon.{Platoon}
+use Rattle.transyt_profile.specs.Arriving.{arriving, with_arriving}
 use Rattle.transyt_profile.specs.Profile.{added}
 use Rattle.transyt_sweep.specs.declared.factors.Factors.{Factors}
 use Rattle.transyt_sweep.specs.Inflow.{IsGroup, carried, with_carried}

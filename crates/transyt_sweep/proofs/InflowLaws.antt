@@ -5,7 +5,7 @@ use Rattle.std.proofs.Math.Seq.{take-add, take-length}
 use Rattle.std.proofs.lemmas.List.{length-drop, length-take, take-append-drop}
 use Rattle.std.proofs.lemmas.List.Elements.{All-replicate, All-take, All-drop}
 use Rattle.transyt_profile.specs.Profile.{added, folded, uniform}
-use Rattle.transyt_platoon.specs.Platoon.{travel_steps, dispersed}
+use Rattle.transyt_profile.specs.Platoon.{travel_steps, dispersed}
 use Rattle.transyt_parts.specs.declared.link.Feed.{Feed}
 use Rattle.transyt_net.specs.Parts.{Network}
 use Rattle.transyt_net.specs.Valid.{IsFeed}

@@ -1,7 +1,7 @@
 -- A link is worked out of the departures of links that there are.
 use Rattle.std.proofs.Common.{◌≡◌, ℕ, ◌<◌, List, [], ◌∷◌, length, Option, Some, None, refl, ap, ◌∙◌}
 use Rattle.transyt_profile.specs.Profile.{uniform, added, shared}
-use Rattle.transyt_platoon.specs.Platoon.{travel_steps, dispersed}
+use Rattle.transyt_profile.specs.Platoon.{travel_steps, dispersed}
 use Rattle.transyt_parts.specs.declared.link.Feed.{Feed}
 use Rattle.transyt_parts.specs.declared.link.GiveWay.{GiveWay}
 use Rattle.transyt_parts.specs.Parts.{total_flow}

@@ -2,7 +2,7 @@
 use Rattle.std.proofs.Common.{◌≡◌, ◌^◌, ◌<◌, ◌≤◌, ℕ, List, length, sum, All, arith}
 use Rattle.std.proofs.lemmas.Bool.Decides.{nat_tests}
 use Rattle.std.proofs.lemmas.List.Sums.{sum_by-le}
-use Rattle.transyt_stopline.specs.StopLine.{arrivals_of}
+use Rattle.transyt_profile.specs.StopLine.{arrivals_of}
 
 -- the sum over a cycle is small where each step's value is
 pub sum_small : (limit : ℕ) (xs : List ℕ) → limit ≤ 2 ^ 48 → length xs ≤ 120 → All (λ v. v < limit) xs → sum xs < 2 ^ 55

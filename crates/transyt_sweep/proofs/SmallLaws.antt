@@ -16,9 +16,9 @@ use Rattle.transyt_parts.specs.Valid.{IsFrame}
 use Rattle.transyt_net.specs.Parts.{Network, link_of, no_link, perstep}
 use Rattle.transyt_net.specs.Valid.{IsValid, IsLink, link_numbers, link_place}
 use Rattle.transyt_stage.specs.Green.{signal, shown_link, green_at, yielded, yielded_at}
-use Rattle.transyt_stopline.specs.StopLine.{arrivals_of, scaled, out_at}
-use Rattle.transyt_stopline.proofs.CutLaws.{scaled_total}
-use Rattle.transyt_stopline.proofs.QueueLaws.{out-le-go}
+use Rattle.transyt_profile.specs.StopLine.{arrivals_of, scaled, out_at}
+use Rattle.transyt_profile.proofs.CutLaws.{scaled_total}
+use Rattle.transyt_profile.proofs.QueueLaws.{out-le-go}
 use Rattle.transyt_sweep.specs.Cell.{under_rule, inflow, go, cell_by}
 use Rattle.transyt_sweep.specs.Sweeps.{read_of, out_of}
 use Rattle.transyt_sweep.proofs.SweepLaws.{out_of_start, out_of_pair}

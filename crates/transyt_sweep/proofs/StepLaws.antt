@@ -11,7 +11,7 @@ use Rattle.transyt_parts.specs.declared.link.GiveWay.{GiveWay}
 use Rattle.transyt_parts.specs.Valid.{IsFrame}
 use Rattle.transyt_net.specs.Parts.{Network, link_of, perstep}
 use Rattle.transyt_stage.specs.Green.{signal, shown_link, passed_at}
-use Rattle.transyt_stopline.specs.StopLine.{arrivals_of, scaled, queue_at, out_at}
+use Rattle.transyt_profile.specs.StopLine.{arrivals_of, scaled, queue_at, out_at}
 use Rattle.transyt_sweep.specs.Cell.{HasSteps, brought, inflow, go, under_rule, cell_by}
 
 length-gathered : (net : Network) (read : ℕ → List ℕ) (feeds : List Feed) (come : List ℕ)

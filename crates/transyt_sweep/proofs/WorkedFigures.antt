@@ -7,8 +7,8 @@ use Rattle.transyt_parts.specs.Made.{new_weights}
 use Rattle.transyt_delay.specs.declared.terms.Terms.{Terms}
 use Rattle.transyt_delay.specs.declared.figures.Figures.{Figures}
 use Rattle.transyt_delay.specs.Figures.{figures, in_period, under_root, uniform_of, stops_of, index_of}
-use Rattle.transyt_platoon.specs.Platoon.{smoothed}
-use Rattle.transyt_stopline.specs.StopLine.{sum_back, greatest}
+use Rattle.transyt_profile.specs.Platoon.{smoothed}
+use Rattle.transyt_profile.specs.StopLine.{sum_back, greatest}
 use Rattle.transyt_stage.specs.ThreeJunctions.{its_frame, three_junctions}
 use Rattle.transyt_sweep.specs.Cell.{terms_frame}
 use Rattle.transyt_sweep.specs.Sweeps.{seen, out_of, evaluated, index}

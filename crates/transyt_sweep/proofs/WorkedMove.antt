@@ -4,8 +4,8 @@ use Rattle.std.proofs.Common.{lit<, lit≤, if◌then◌else◌}
 use Rattle.std.specs.Option.{option_map}
 use Rattle.std.specs.List.{range_with_len}
 use Rattle.transyt_delay.specs.declared.figures.Figures.{Figures}
-use Rattle.transyt_platoon.specs.Platoon.{smoothed}
-use Rattle.transyt_stopline.specs.StopLine.{sum_back, greatest}
+use Rattle.transyt_profile.specs.Platoon.{smoothed}
+use Rattle.transyt_profile.specs.StopLine.{sum_back, greatest}
 use Rattle.transyt_net.specs.declared.edit.Edit.TheVariants.{Offset}
 use Rattle.transyt_net.specs.Parts.{Network}
 use Rattle.transyt_net.specs.Edits.{with_edit}

@@ -1,8 +1,8 @@
 -- One link worked out from the departures that it reads: arrivals, GO, queue, departures and figures.
 use Rattle.std.specs.Prelude.{ℕ, List, Option, Some, None, fold, sum}
 use Rattle.transyt_profile.specs.Profile.{uniform, added, shared}
-use Rattle.transyt_platoon.specs.Platoon.{travel_steps, dispersed}
-use Rattle.transyt_stopline.specs.StopLine.{arrivals_of, queues, outs, stopped_of}
+use Rattle.transyt_profile.specs.Platoon.{travel_steps, dispersed}
+use Rattle.transyt_profile.specs.StopLine.{arrivals_of, queues, outs, stopped_of}
 use Rattle.transyt_delay.specs.declared.terms.Terms.{Terms}
 use Rattle.transyt_delay.specs.declared.terms.TermsFrame.{TermsFrame}
 use Rattle.transyt_delay.specs.Figures.{figures}

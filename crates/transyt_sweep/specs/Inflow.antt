@@ -2,8 +2,8 @@
 -- cites it.
 use Rattle.std.specs.Prelude.{◌≡◌, ℕ, List, ◌-◌, ◌*◌, ◌^◌, ◌<◌, ◌≤◌, All, fold, length, slice_index_or}
 use Rattle.transyt_profile.specs.Profile.{IsPart, shared, added, folded}
-use Rattle.transyt_platoon.specs.Platoon.{travel_steps, dispersed}
-use Rattle.transyt_platoon.specs.Travels.{IsTravel}
+use Rattle.transyt_profile.specs.Platoon.{travel_steps, dispersed}
+use Rattle.transyt_profile.specs.Travels.{IsTravel}
 use Rattle.transyt_parts.specs.declared.frame.Frame.{Frame}
 use Rattle.transyt_parts.specs.declared.link.Feed.{Feed}
 use Rattle.transyt_parts.specs.Parts.{total_flow}

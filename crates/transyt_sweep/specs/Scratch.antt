@@ -1,8 +1,8 @@
 -- The facts of the room for one link's work. No public clause cites it.
 use Rattle.std.specs.Prelude.{◌≡◌, ℕ, ◌*◌, ◌^◌, ◌<◌, ◌≤◌, List, length, sum, All}
 use Rattle.transyt_parts.specs.Valid as parts
-use Rattle.transyt_stopline.specs.declared.totals.Totals.{Totals}
-use Rattle.transyt_stopline.specs.StopLine.{arrivals_of, stopped_of}
+use Rattle.transyt_profile.specs.declared.cut_totals.Totals.{Totals}
+use Rattle.transyt_profile.specs.StopLine.{arrivals_of, stopped_of}
 use Rattle.transyt_delay.specs.declared.terms.Terms.{Terms}
 use Rattle.transyt_delay.specs.declared.figures.Figures.{Figures}
 use Rattle.transyt_delay.specs.Figures.{figures}

@@ -3,13 +3,12 @@
 ghost use Rattle.std.specs.Prelude.{◌≡◌, ◌≤◌, IsTrue};
 ghost use Rattle.transyt_parts.specs.declared.frame.Frame.{Frame};
 ghost use Rattle.transyt_parts.specs.declared.link.Feed.{Feed};
-ghost use Rattle.transyt_platoon.specs.Platoon.{travel_steps};
-ghost use Rattle.transyt_platoon.specs.Travels.{IsTravel};
+ghost use Rattle.transyt_profile.specs.Platoon.{travel_steps};
+ghost use Rattle.transyt_profile.specs.Travels.{IsTravel};
 ghost use Rattle.transyt_sweep.specs.Inflow.{AreFactors, IsSmall, Serve};
 
 use transyt_net::{Feed, Frame, Net};
-use transyt_platoon::{Travel, travel_of, travel_steps};
-use transyt_profile::{Part, part_of};
+use transyt_profile::{Part, Travel, part_of, travel_of, travel_steps};
 
 /// A feed's part of its feeder's departures, and how its platoon travels: both are worked out of a feed's numbers once.
 ///

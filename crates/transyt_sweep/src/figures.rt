@@ -9,7 +9,7 @@ ghost use Rattle.transyt_sweep.specs.Scratch.{AreWeights};
 
 use transyt_delay::{Figures, TermsFrame, weigh};
 use transyt_net::Net;
-use transyt_stopline::Totals;
+use transyt_profile::Totals;
 
 /// The terms of a link's figures beside its rows and their sums.
 #[derive(Clone, Copy)]

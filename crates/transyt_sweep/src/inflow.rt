@@ -22,8 +22,9 @@ use crate::factors::Factors;
 use crate::inputs::Inputs;
 use crate::sending::{platoon, renew_feed, share_feed};
 use transyt_net::{Feed, Net};
-use transyt_platoon::{disperse, disperse_together, travel_steps};
-use transyt_profile::{add_to_first, fold_into, start_turns};
+use transyt_profile::{
+    add_to_first, disperse, disperse_together, fold_into, start_turns, travel_steps,
+};
 
 /// Adds the arrivals of one feed to the two turns of arrivals, in millionths of a vehicle per step. `room` is room for
 /// the work.

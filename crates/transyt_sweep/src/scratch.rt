@@ -13,8 +13,7 @@ use std::marker::Model;
 use std::mem::size_of;
 use transyt_delay::{Figures, Terms, figures_of};
 use transyt_net::{Feed, Net};
-use transyt_profile::total;
-use transyt_stopline::{Totals, stopped};
+use transyt_profile::{Totals, stopped, total};
 
 /// The bytes of a scratch for each link of its network: eight feeds, and the factors that were worked out last of each.
 pub const FACTOR_BYTES: usize = 8 * size_of::<Factors>();

@@ -3,15 +3,14 @@
 ghost use Rattle.std.specs.Prelude.{◌≡◌, ◌^◌, ◌<◌, ◌≤◌, length, All, IsTrue};
 ghost use Rattle.transyt_parts.specs.declared.link.Feed.{Feed};
 ghost use Rattle.transyt_net.specs.Valid.{link_place};
-ghost use Rattle.transyt_platoon.specs.Arriving.{arriving};
+ghost use Rattle.transyt_profile.specs.Arriving.{arriving};
 ghost use Rattle.transyt_sweep.specs.Cell.{taken};
 ghost use Rattle.transyt_sweep.specs.Inflow.{AreFactors, AreSendable, IsSmall, Served, carried, read_by};
 
 use crate::factors::{Factors, renew};
 use crate::inputs::Inputs;
 use transyt_net::{Feed, Net};
-use transyt_platoon::Platoon;
-use transyt_profile::share_into;
+use transyt_profile::{Platoon, share_into};
 
 /// The place of a link's number; the first where there is no such link.
 pub(crate) fn link_place(inputs: &Inputs<'_>, number: u32) -> usize

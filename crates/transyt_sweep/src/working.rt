@@ -1,7 +1,7 @@
 //! One link at one sweep: the cell of which an evaluation is made.
 
 ghost use Rattle.std.specs.Prelude.{◌≡◌, ◌+◌, ◌<◌, ◌≤◌, length};
-ghost use Rattle.transyt_stopline.specs.StopLine.{arrivals_of, queues, outs};
+ghost use Rattle.transyt_profile.specs.StopLine.{arrivals_of, queues, outs};
 ghost use Rattle.transyt_sweep.specs.Cell.{go, cell_by};
 ghost use Rattle.transyt_sweep.specs.Inflow.{read_by};
 ghost use Rattle.transyt_sweep.specs.Reading.{Fits, read_in};
@@ -16,9 +16,9 @@ use crate::sending::link_place;
 use std::sync::ledger::Ledger;
 use transyt_kept::Rows;
 use transyt_net::Net;
+use transyt_profile::{Totals, cut, queue};
 use transyt_stage::{fill_go, give_way};
 use transyt_steps::Steps;
-use transyt_stopline::{Totals, cut, queue};
 
 /// Works out one link at one sweep, from the rows that it reads. It takes no memory.
 ///

@@ -4,7 +4,7 @@ use Rattle.std.specs.Prelude.{fold}
 use Rattle.std.specs.List.{range_with_len}
 use Rattle.std.proofs.lemmas.List.Elements.{All-head, All-tail}
 use Rattle.transyt_profile.specs.Profile.{uniform, added, shared}
-use Rattle.transyt_platoon.specs.Platoon.{travel_steps, dispersed}
+use Rattle.transyt_profile.specs.Platoon.{travel_steps, dispersed}
 use Rattle.transyt_parts.specs.declared.frame.Frame.{Frame}
 use Rattle.transyt_parts.specs.declared.link.Feed.{Feed}
 use Rattle.transyt_parts.specs.declared.link.GiveWay.{GiveWay}

@@ -4,7 +4,7 @@ use Rattle.std.proofs.lemmas.List.{set-get_or}
 use Rattle.std.proofs.Common.{◌≡◌, ℕ, ◌<◌, ◌≤◌, false, List, length, sum, ap, sym, ◌∙◌}
 use Rattle.transyt_delay.specs.declared.figures.Figures.{Figures}
 use Rattle.transyt_delay.specs.Figures.{figures, index_of}
-use Rattle.transyt_stopline.specs.StopLine.{arrivals_of, queues, stopped_of}
+use Rattle.transyt_profile.specs.StopLine.{arrivals_of, queues, stopped_of}
 use Rattle.transyt_parts.specs.declared.frame.Frame.{Frame}
 use Rattle.transyt_parts.specs.declared.link.Weights.{Weights}
 use Rattle.transyt_net.specs.Parts.{Network, link_of, SameShape}

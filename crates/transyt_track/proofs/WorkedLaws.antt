@@ -1,7 +1,7 @@
 -- The worked networks, computed from the definitions.
 use Rattle.std.proofs.Common.{◌≡◌, map, refl}
-use Rattle.transyt_platoon.specs.Platoon.{smoothed}
-use Rattle.transyt_stopline.specs.StopLine.{sum_back, greatest}
+use Rattle.transyt_profile.specs.Platoon.{smoothed}
+use Rattle.transyt_profile.specs.StopLine.{sum_back, greatest}
 use Rattle.transyt_sweep.specs.Sweeps.{seen, out_of}
 use Rattle.transyt_moves.specs.Moves.{move}
 use Rattle.transyt_track.specs.Due.{differs, is_due, due_in, due_through, due, edit_work, work_of, cert_work}

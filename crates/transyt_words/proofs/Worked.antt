@@ -3,7 +3,7 @@ use Rattle.std.proofs.Common.{◌≡◌, ◌*◌, ◌++◌, ℕ, List, [], ◌�
 use Rattle.std.proofs.Common.{refl, sym, ◌∙◌, lit≤, arith}
 use Rattle.std.specs.Fmt.{digits}
 use Rattle.transyt_syntax.specs.declared.code.Code.TheVariants.{Unknown}
-use Rattle.transyt_text.specs.Forms.{filled, form_line, values_text}
+use Rattle.transyt_io.specs.Forms.{filled, form_line, values_text}
 use Rattle.transyt_outcome.specs.Outcome.{IsFront, TextRow}
 use Rattle.transyt_outcome.specs.WorkedOutcomes.{Each}
 use Rattle.transyt_outcome.specs.declared.status.Status.TheVariants.{Done}

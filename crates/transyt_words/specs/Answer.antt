@@ -2,7 +2,7 @@
 use Rattle.std.specs.Prelude.{ℕ, List, [], ◌∷◌, codes, flat_map, ◌++◌, Bool, true, false, Option, None, Some}
 use Rattle.transyt_syntax.specs.declared.code.Code.{Code}
 use Rattle.transyt_syntax.specs.Codes.{number}
-use Rattle.transyt_text.specs.Forms.{form_line}
+use Rattle.transyt_io.specs.Forms.{form_line}
 use Rattle.transyt_net.specs.Parts.{Network}
 use Rattle.transyt_deck.specs.Cards.{deck_text}
 use Rattle.transyt_outcome.specs.Outcome.{Reporting}

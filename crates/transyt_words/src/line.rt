@@ -1,14 +1,13 @@
 //! The lines of an answer, and the writing of them.
 
 ghost use Rattle.std.specs.Prelude.{◌≡◌, ◌≤◌, ◌++◌, [], ◌∷◌, length, IfOk, OnOk};
-ghost use Rattle.transyt_text.specs.Prints.{PrintsOn};
+ghost use Rattle.transyt_io.specs.Prints.{PrintsOn};
 ghost use Rattle.transyt_words.specs.Answer.{line_of, line_text, lines_text, refused_card};
 
 use std::alloc::{AllocError, Global};
 use std::marker::Model;
-use transyt_io::{Failed, LineBuffer, Sink};
+use transyt_io::{Failed, LineBuffer, Sink, print_form};
 use transyt_syntax::Code;
-use transyt_text::print_form;
 
 /// How many numbers a line has at most.
 const MOST_NUMBERS: usize = 5;

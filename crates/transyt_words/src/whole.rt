@@ -4,7 +4,7 @@ ghost use Rattle.std.specs.Prelude.{◌≡◌, ◌≢◌, ◌≤◌, ◌⊎◌, 
 ghost use Rattle.std.specs.Option.{option_map};
 ghost use Rattle.transyt_io.specs.Streams.{Rose};
 ghost use Rattle.transyt_outcome.specs.Outcome.{Outcome};
-ghost use Rattle.transyt_text.specs.Prints.{PrintsOn};
+ghost use Rattle.transyt_io.specs.Prints.{PrintsOn};
 ghost use Rattle.transyt_words.specs.Whole.{answer_after, most_after, IsSilent, StepsWithin, Told};
 ghost use Rattle.transyt_words.specs.Answer.{answer_text, deck_after, of_whole};
 

@@ -2,7 +2,7 @@
 use Rattle.std.proofs.Common.{[], ◌∷◌, ◌++◌, codes, refl}
 use Rattle.std.specs.Fmt.{digits}
 use Rattle.transyt_moves.specs.Moves.{move}
-use Rattle.transyt_cert.specs.Certificate.{lines_text}
+use Rattle.transyt_audit.specs.Certificate.{lines_text}
 use Rattle.transyt_audit.specs.WorkedVerdicts.{bare_lines, other_moves, first_line, spaced_line, changed_line, note}
 use Rattle.transyt_audit.proofs.Worked.{on_bare, on_other}
 use Rattle.transyt_audit.proofs.laws.worked_verdicts.Goals as goal

@@ -1,7 +1,7 @@
 -- The numbers of a card are put in two lists, one after the other.
 use Rattle.std.proofs.Common.{◌≡◌, ℕ, List, ◌++◌, ap, ◌∙◌, append_assoc}
-use Rattle.transyt_text.specs.Forms.{values_text}
-use Rattle.transyt_text.proofs.PrintLaws.{prints_same}
+use Rattle.transyt_io.specs.Forms.{values_text}
+use Rattle.transyt_io.proofs.PrintLaws.{prints_same}
 use Rattle.transyt_deck.proofs.NumberTexts.{values_both}
 use Rattle.transyt_deck.proofs.card_line.print_card.Goals as goal
 

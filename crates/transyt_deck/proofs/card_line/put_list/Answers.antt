@@ -1,7 +1,7 @@
 -- Each turn puts a blank and a number of at most 39 digits.
 use Rattle.std.proofs.Common.{ℕ, ◌∷◌, [], ◌++◌, length, ap, ◌∙◌, arith, length-append}
 use Rattle.std.specs.Fmt.{decimal}
-use Rattle.transyt_text.proofs.FormLaws.{values_more, values_end}
+use Rattle.transyt_io.proofs.FormLaws.{values_more, values_end}
 use Rattle.transyt_deck.proofs.card_line.put_list.Goals as goal
 
 -- a blank and one number more are put

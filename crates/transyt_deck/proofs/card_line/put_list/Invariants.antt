@@ -1,6 +1,6 @@
 -- The line so far, with the text of the numbers still to come, is the whole text.
 use Rattle.std.proofs.Common.{◌≡◌, ◌+◌, ◌*◌, ◌≤◌, ◌++◌, length, drop}
-use Rattle.transyt_text.specs.Forms.{values_text}
+use Rattle.transyt_io.specs.Forms.{values_text}
 use Rattle.transyt_deck.proofs.card_line.put_list.Given as goal
 
 abbrev pub invariant-loop-number : goal.invariant-loop-number

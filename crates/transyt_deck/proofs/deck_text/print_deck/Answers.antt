@@ -1,6 +1,6 @@
 -- The parts are written one after another; where one breaks off, a front of the whole is written.
 use Rattle.std.proofs.Common.{refl}
-use Rattle.transyt_text.proofs.PrintLaws.{prints_both, prints_front, prints_same}
+use Rattle.transyt_io.proofs.PrintLaws.{prints_both, prints_front, prints_same}
 use Rattle.transyt_deck.proofs.CardLines.{parts_are}
 use Rattle.transyt_deck.proofs.ReadBack.{deck_read_back}
 use Rattle.transyt_deck.proofs.deck_text.print_deck.Goals as goal

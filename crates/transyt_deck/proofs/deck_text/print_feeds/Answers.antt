@@ -1,7 +1,7 @@
 -- A link more has its FEED cards written after those of the links before it.
 use Rattle.std.proofs.Common.{rules, ◌≡◌, map, ap, ◌∙◌}
-use Rattle.transyt_text.proofs.LoopLaws.{item_printed, item_broken, items_printed}
-use Rattle.transyt_text.proofs.PrintLaws.{prints_same}
+use Rattle.transyt_io.proofs.LoopLaws.{item_printed, item_broken, items_printed}
+use Rattle.transyt_io.proofs.PrintLaws.{prints_same}
 use Rattle.transyt_deck.specs.Cards.{cards_text, feed_cards}
 use Rattle.transyt_deck.specs.declared.card.Card.TheVariants as card
 use Rattle.transyt_deck.proofs.CardLines.{lines_of_map}

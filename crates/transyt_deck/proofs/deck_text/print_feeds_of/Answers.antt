@@ -1,6 +1,6 @@
 -- A feed more has its card written after those of the feeds before it.
 use Rattle.std.proofs.Common.{rules, refl}
-use Rattle.transyt_text.proofs.LoopLaws.{item_printed, item_broken, items_printed}
+use Rattle.transyt_io.proofs.LoopLaws.{item_printed, item_broken, items_printed}
 use Rattle.transyt_net.specs.Edits.{no_feed}
 use Rattle.transyt_deck.specs.Cards.{card_line}
 use Rattle.transyt_deck.specs.declared.card.Card.TheVariants as card

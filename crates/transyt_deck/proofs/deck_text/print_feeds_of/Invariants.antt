@@ -1,6 +1,6 @@
 -- The feeds before this one have their cards written.
 use Rattle.std.proofs.Common.{take, flat_map}
-use Rattle.transyt_text.specs.Prints.{Printed}
+use Rattle.transyt_io.specs.Prints.{Printed}
 use Rattle.transyt_deck.specs.Cards.{card_line}
 use Rattle.transyt_deck.specs.declared.card.Card.TheVariants as card
 use Rattle.transyt_deck.proofs.deck_text.print_feeds_of.Given as goal

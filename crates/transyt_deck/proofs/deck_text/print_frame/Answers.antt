@@ -1,5 +1,5 @@
 -- The FORM card is written, and then the CYCLE card.
-use Rattle.transyt_text.proofs.PrintLaws.{prints_both, prints_front}
+use Rattle.transyt_io.proofs.PrintLaws.{prints_both, prints_front}
 use Rattle.transyt_deck.specs.declared.card.Card.TheVariants as card
 use Rattle.transyt_deck.proofs.CardLines.{one_printed}
 use Rattle.transyt_deck.proofs.deck_text.print_frame.Goals as goal

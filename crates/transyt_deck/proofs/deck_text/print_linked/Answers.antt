@@ -1,5 +1,5 @@
 -- The parts are written one after another; where one breaks off, a front of the whole is written.
-use Rattle.transyt_text.proofs.PrintLaws.{prints_both, prints_front}
+use Rattle.transyt_io.proofs.PrintLaws.{prints_both, prints_front}
 use Rattle.transyt_deck.proofs.deck_text.print_linked.Goals as goal
 
 -- the text broke off in the links

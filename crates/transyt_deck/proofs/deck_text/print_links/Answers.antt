@@ -1,6 +1,6 @@
 -- A link more has its card written after those of the links before it.
 use Rattle.std.proofs.Common.{rules}
-use Rattle.transyt_text.proofs.LoopLaws.{item_printed, item_broken, items_printed}
+use Rattle.transyt_io.proofs.LoopLaws.{item_printed, item_broken, items_printed}
 use Rattle.transyt_deck.specs.Cards.{card_line, link_card}
 use Rattle.transyt_deck.proofs.deck_text.print_links.Goals as goal
 

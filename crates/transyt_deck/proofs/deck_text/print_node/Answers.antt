@@ -1,6 +1,6 @@
 -- The NODE card is written, and then the STAGE cards.
 use Rattle.std.proofs.Common.{ap, ◌∙◌}
-use Rattle.transyt_text.proofs.PrintLaws.{prints_both, prints_front, prints_same}
+use Rattle.transyt_io.proofs.PrintLaws.{prints_both, prints_front, prints_same}
 use Rattle.transyt_parts.specs.Parts.{NodeValue}
 use Rattle.transyt_deck.specs.Cards.{node_cards, cards_text}
 use Rattle.transyt_deck.specs.declared.card.Card.TheVariants as card

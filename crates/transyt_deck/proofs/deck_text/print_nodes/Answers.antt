@@ -1,6 +1,6 @@
 -- A node more has its cards written after those of the nodes before it.
 use Rattle.std.proofs.Common.{rules}
-use Rattle.transyt_text.proofs.LoopLaws.{item_printed, item_broken, items_printed}
+use Rattle.transyt_io.proofs.LoopLaws.{item_printed, item_broken, items_printed}
 use Rattle.transyt_deck.specs.Cards.{cards_text, node_cards}
 use Rattle.transyt_deck.proofs.deck_text.print_nodes.Goals as goal
 

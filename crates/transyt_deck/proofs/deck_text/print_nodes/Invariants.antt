@@ -1,6 +1,6 @@
 -- The nodes before this one have their cards written.
 use Rattle.std.proofs.Common.{take, flat_map}
-use Rattle.transyt_text.specs.Prints.{Printed}
+use Rattle.transyt_io.specs.Prints.{Printed}
 use Rattle.transyt_deck.specs.Cards.{cards_text, node_cards}
 use Rattle.transyt_deck.proofs.deck_text.print_nodes.Given as goal
 

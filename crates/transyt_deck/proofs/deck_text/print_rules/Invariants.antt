@@ -1,6 +1,6 @@
 -- The links before this one have their YIELD cards written.
 use Rattle.std.proofs.Common.{take, flat_map}
-use Rattle.transyt_text.specs.Prints.{Printed}
+use Rattle.transyt_io.specs.Prints.{Printed}
 use Rattle.transyt_deck.specs.Cards.{cards_text, rule_cards}
 use Rattle.transyt_deck.proofs.deck_text.print_rules.Given as goal
 

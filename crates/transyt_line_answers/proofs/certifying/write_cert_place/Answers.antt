@@ -3,8 +3,8 @@ use Rattle.std.proofs.Common.{◌≡◌, ◌∙◌, ap}
 use Rattle.transyt_net.specs.Parts.{Network}
 use Rattle.transyt_moves.specs.Moves.{move}
 use Rattle.transyt_sweep.specs.Climb.{tried_at}
-use Rattle.transyt_text.proofs.PrintLaws.{prints_same}
-use Rattle.transyt_cert.specs.Certificate.{move_text}
+use Rattle.transyt_io.proofs.PrintLaws.{prints_same}
+use Rattle.transyt_audit.specs.Certificate.{move_text}
 use Rattle.transyt_line_answers.specs.Conditions.{index_found}
 use Rattle.transyt_line_answers.proofs.CertLaws.{found_at_place}
 use Rattle.transyt_line_answers.proofs.certifying.write_cert_place.Goals as goal

@@ -1,7 +1,7 @@
 -- A plot, and the deck's text.
 use Rattle.std.proofs.Common.{sym, ◌∙◌, ap}
 use Rattle.transyt_deck.specs.Cards.{deck_text}
-use Rattle.transyt_text.proofs.PrintLaws.{prints_same}
+use Rattle.transyt_io.proofs.PrintLaws.{prints_same}
 use Rattle.transyt_line_answers.specs.Commands.{answer_text}
 use Rattle.transyt_line_answers.proofs.writing.write_text.Goals as goal
 

@@ -3,13 +3,13 @@ use Rattle.std.proofs.Common.{◌≡◌, ℕ, List, [], ◌∷◌, ◌++◌, map
 use Rattle.std.specs.List.{range_with_len}
 use Rattle.std.specs.Fmt.{digits}
 use Rattle.transyt_delay.specs.declared.figures.Figures.{Figures}
-use Rattle.transyt_platoon.specs.Platoon.{smoothed}
-use Rattle.transyt_stopline.specs.StopLine.{sum_back, greatest}
+use Rattle.transyt_profile.specs.Platoon.{smoothed}
+use Rattle.transyt_profile.specs.StopLine.{sum_back, greatest}
 use Rattle.transyt_stage.specs.ThreeJunctions.{three_junctions}
 use Rattle.transyt_sweep.specs.Sweeps.{seen, out_of, evaluated, index}
 use Rattle.transyt_sweep.specs.WorkedLinks.{figures_of_three}
 use Rattle.transyt_sweep.proofs.WorkedFigures.{figures_come_out, index_comes_out}
-use Rattle.transyt_text.specs.Forms.{filled, form_line, values_line, values_text}
+use Rattle.transyt_io.specs.Forms.{filled, form_line, values_line, values_text}
 use Rattle.transyt_report.specs.declared.showing.Report.TheVariants as r
 use Rattle.transyt_report.specs.Texts.{figures_line, in_line, index_line, go_line, node_line, out_line, queue_line}
 use Rattle.transyt_report.specs.Texts.{report_text, stage_line, timing_end, IsOfPlace}

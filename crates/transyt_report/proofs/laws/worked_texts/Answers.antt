@@ -1,7 +1,7 @@
 -- The worked texts, computed from the definitions.
 use Rattle.std.proofs.Common.{refl}
 use Rattle.std.specs.Fmt.{digits}
-use Rattle.transyt_text.specs.Forms.{filled, form_line}
+use Rattle.transyt_io.specs.Forms.{filled, form_line}
 use Rattle.transyt_report.specs.Texts.{figures_line, node_line, stage_line, timing_end}
 use Rattle.transyt_report.proofs.Worked.{index_is, work_is}
 use Rattle.transyt_report.proofs.laws.worked_texts.Goals as goal

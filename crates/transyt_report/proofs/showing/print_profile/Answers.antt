@@ -1,5 +1,5 @@
 -- Three rows of one link are printed one after the other.
-use Rattle.transyt_text.proofs.PrintLaws.{prints_both, prints_front}
+use Rattle.transyt_io.proofs.PrintLaws.{prints_both, prints_front}
 use Rattle.transyt_report.proofs.showing.print_profile.Goals as goal
 
 -- one text after the other

@@ -1,5 +1,5 @@
 -- The line of the node and those of its stages are printed one after the other.
-use Rattle.transyt_text.proofs.PrintLaws.{prints_both, prints_front}
+use Rattle.transyt_io.proofs.PrintLaws.{prints_both, prints_front}
 use Rattle.transyt_report.proofs.timing.print_node.Goals as goal
 
 -- one text after the other

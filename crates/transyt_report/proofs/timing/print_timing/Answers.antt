@@ -1,5 +1,5 @@
 -- The lines of the nodes and the last line are printed one after the other.
-use Rattle.transyt_text.proofs.PrintLaws.{prints_both, prints_front}
+use Rattle.transyt_io.proofs.PrintLaws.{prints_both, prints_front}
 use Rattle.transyt_report.proofs.timing.print_timing.Goals as goal
 
 -- one text after the other

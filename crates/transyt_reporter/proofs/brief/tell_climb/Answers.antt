@@ -5,7 +5,7 @@ use Rattle.transyt_sweep.specs.Sweeps.{index}
 use Rattle.transyt_track.specs.Due.{work_of}
 use Rattle.transyt_session.specs.Session.{SessionValue}
 use Rattle.transyt_desks.specs.Desks.{desk_zero}
-use Rattle.transyt_text.proofs.PrintLaws.{prints_same}
+use Rattle.transyt_io.proofs.PrintLaws.{prints_same}
 use Rattle.transyt_reporter.proofs.BriefLaws.{brief_told, whole_climb}
 use Rattle.transyt_reporter.proofs.brief.tell_climb.Goals as goal
 

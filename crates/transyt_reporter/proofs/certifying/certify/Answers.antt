@@ -5,9 +5,9 @@ use Rattle.transyt_moves.specs.Moves.{move_count}
 use Rattle.transyt_sweep.specs.Sweeps.{index}
 use Rattle.transyt_session.specs.Session.{SessionValue}
 use Rattle.transyt_desks.specs.Desks.{desk_zero}
-use Rattle.transyt_text.proofs.LoopLaws.{printed_nothing}
-use Rattle.transyt_text.proofs.PrintLaws.{prints_same}
-use Rattle.transyt_cert.specs.Certificate.{last_text}
+use Rattle.transyt_io.proofs.LoopLaws.{printed_nothing}
+use Rattle.transyt_io.proofs.PrintLaws.{prints_same}
+use Rattle.transyt_audit.specs.Certificate.{last_text}
 use Rattle.transyt_reporter.specs.Conditions.{places_text}
 use Rattle.transyt_reporter.proofs.CertifyLaws.{batch_printed, batch_broken, lines_ended}
 use Rattle.transyt_reporter.proofs.CertifyLaws.{certified_none, certified_more, certified_state, certified_leaves}

@@ -1,7 +1,7 @@
 -- The lines of the places before this one are written, and their work is added.
 use Rattle.std.proofs.Common.{◌≡◌, ◌-◌, ◌≤◌}
 use Rattle.transyt_desks.specs.Desks.{desk_zero}
-use Rattle.transyt_text.specs.Prints.{Printed}
+use Rattle.transyt_io.specs.Prints.{Printed}
 use Rattle.transyt_reporter.specs.Conditions.{places_text}
 use Rattle.transyt_reporter.proofs.CertifyLaws.{AreCertified}
 use Rattle.transyt_reporter.proofs.certifying.certify.Given as goal

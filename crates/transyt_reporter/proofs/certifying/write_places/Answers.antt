@@ -2,8 +2,8 @@
 use Rattle.std.proofs.Common.{◌+◌, sym, arith, length}
 use Rattle.std.specs.List.{range_with_len}
 use Rattle.std.proofs.lemmas.List.FromFn.{length-range_with_len, get_or-range_with_len}
-use Rattle.transyt_text.proofs.LoopLaws.{printed_nothing, item_printed, item_broken, items_printed}
-use Rattle.transyt_cert.specs.Certificate.{place_text}
+use Rattle.transyt_io.proofs.LoopLaws.{printed_nothing, item_printed, item_broken, items_printed}
+use Rattle.transyt_audit.specs.Certificate.{place_text}
 use Rattle.transyt_reporter.proofs.certifying.write_places.Goals as goal
 
 -- no line is written yet

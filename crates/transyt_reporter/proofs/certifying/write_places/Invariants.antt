@@ -1,8 +1,8 @@
 -- The lines of the first places are written.
 use Rattle.std.proofs.Common.{take, flat_map, length}
 use Rattle.std.specs.List.{range_with_len}
-use Rattle.transyt_cert.specs.Certificate.{place_text}
-use Rattle.transyt_text.specs.Prints.{Printed}
+use Rattle.transyt_audit.specs.Certificate.{place_text}
+use Rattle.transyt_io.specs.Prints.{Printed}
 use Rattle.transyt_reporter.proofs.certifying.write_places.Given as goal
 
 -- the text so far

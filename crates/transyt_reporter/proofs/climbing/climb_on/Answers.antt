@@ -3,7 +3,7 @@ use Rattle.std.proofs.Common.{refl, sym, ◌∙◌, ap}
 use Rattle.transyt_sweep.specs.Sweeps.{index}
 use Rattle.transyt_session.specs.Session.{SessionValue}
 use Rattle.transyt_climb.proofs.CountedLaws.{fewer_left}
-use Rattle.transyt_text.proofs.PrintLaws.{prints_same}
+use Rattle.transyt_io.proofs.PrintLaws.{prints_same}
 use Rattle.transyt_report.specs.Texts.{end_text}
 use Rattle.transyt_reporter.proofs.ClimbTexts.{climb_ended, step_breaks, end_written}
 use Rattle.transyt_reporter.proofs.ClimbWay.{way_begins, way_on, way_leaves}

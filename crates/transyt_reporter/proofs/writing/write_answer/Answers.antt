@@ -1,7 +1,7 @@
 -- A certificate, a climb, and an answer that is no more than its text.
 use Rattle.std.proofs.Common.{ap}
 use Rattle.transyt_session.specs.Session.{SessionValue}
-use Rattle.transyt_text.proofs.PrintLaws.{prints_same}
+use Rattle.transyt_io.proofs.PrintLaws.{prints_same}
 use Rattle.transyt_line_answers.specs.Commands.{answer_text}
 use Rattle.transyt_reporter.proofs.LeavesLaws.{told_by, told_leaves}
 use Rattle.transyt_reporter.proofs.writing.write_answer.Goals as goal

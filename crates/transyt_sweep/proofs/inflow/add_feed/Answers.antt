@@ -1,7 +1,7 @@
 -- The arrivals of one feed are added.
 use Rattle.std.proofs.Common.{◌≡◌, ℕ, ◌+◌, ◌-◌, ◌^◌, ◌<◌, List, All, length, ap, sym, subst, ◌∙◌, arith}
 use Rattle.transyt_profile.specs.Profile.{added, folded}
-use Rattle.transyt_platoon.specs.Platoon.{travel_steps}
+use Rattle.transyt_profile.specs.Platoon.{travel_steps}
 use Rattle.transyt_parts.specs.declared.frame.Frame.{Frame}
 use Rattle.transyt_net.specs.Parts.{Network}
 use Rattle.transyt_sweep.specs.Cell.{brought}

@@ -1,8 +1,8 @@
 -- The links of the three junctions, computed from the definitions.
 use Rattle.std.proofs.Common.{◌≡◌, ℕ, List, [], ◌∷◌, get_or, map, ap, refl}
 use Rattle.std.specs.List.{range_with_len}
-use Rattle.transyt_platoon.specs.Platoon.{smoothed}
-use Rattle.transyt_stopline.specs.StopLine.{sum_back, greatest}
+use Rattle.transyt_profile.specs.Platoon.{smoothed}
+use Rattle.transyt_profile.specs.StopLine.{sum_back, greatest}
 use Rattle.transyt_stage.specs.ThreeJunctions.{three_junctions}
 use Rattle.transyt_sweep.specs.Cell.{CellValue}
 use Rattle.transyt_sweep.specs.Sweeps.{seen, out_of, evaluated}

@@ -1,7 +1,7 @@
 -- Sweeps, computed from the definitions.
 use Rattle.std.proofs.Common.{refl}
-use Rattle.transyt_platoon.specs.Platoon.{smoothed}
-use Rattle.transyt_stopline.specs.StopLine.{sum_back, greatest}
+use Rattle.transyt_profile.specs.Platoon.{smoothed}
+use Rattle.transyt_profile.specs.StopLine.{sum_back, greatest}
 use Rattle.transyt_sweep.specs.Sweeps.{seen, out_of, evaluated}
 use Rattle.transyt_sweep.proofs.laws.worked_sweeps.Goals as goal
 

@@ -1,6 +1,6 @@
 -- The lines are written one after another.
 use Rattle.std.proofs.Common.{arith}
-use Rattle.transyt_text.proofs.LoopLaws.{item_printed, item_broken, items_printed}
+use Rattle.transyt_io.proofs.LoopLaws.{item_printed, item_broken, items_printed}
 use Rattle.transyt_words.specs.Answer.{line_text}
 use Rattle.transyt_words.proofs.line.print_lines.Goals as goal
 

@@ -1,6 +1,6 @@
 -- The lines are written one after another.
 use Rattle.std.proofs.Common.{take, flat_map}
-use Rattle.transyt_text.specs.Prints.{Printed}
+use Rattle.transyt_io.specs.Prints.{Printed}
 use Rattle.transyt_words.specs.Answer.{line_text}
 use Rattle.transyt_words.proofs.line.print_lines.Given as goal
 

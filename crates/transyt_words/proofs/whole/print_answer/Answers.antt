@@ -1,6 +1,6 @@
 -- The deck text after the lines.
 use Rattle.std.proofs.Common.{◌++◌, ap}
-use Rattle.transyt_text.proofs.PrintLaws.{prints_both, prints_front, prints_same}
+use Rattle.transyt_io.proofs.PrintLaws.{prints_both, prints_front, prints_same}
 use Rattle.transyt_words.specs.Answer.{deck_after, lines_text}
 use Rattle.transyt_words.proofs.whole.print_answer.Goals as goal
 

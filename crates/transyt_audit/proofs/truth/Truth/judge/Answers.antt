@@ -3,7 +3,7 @@ use Rattle.std.proofs.Common.{◌≡◌, false, nat_lt, ap, sym, ◌∙◌, arit
 use Rattle.std.proofs.lemmas.Bool.Decides.{nat_tests}
 use Rattle.transyt_moves.specs.Moves.{move_count}
 use Rattle.transyt_sweep.specs.Sweeps.{index}
-use Rattle.transyt_cert.specs.Certificate.{joined, end_words}
+use Rattle.transyt_audit.specs.Certificate.{joined, end_words}
 use Rattle.transyt_audit.specs.Findings.{finding_of}
 use Rattle.transyt_audit.proofs.TrueLines.{text_last}
 use Rattle.transyt_audit.proofs.truth.Truth.judge.Goals as goal

@@ -4,7 +4,7 @@ use Rattle.transyt_net.specs.Parts.{Network}
 use Rattle.transyt_moves.specs.Moves.{move}
 use Rattle.transyt_sweep.specs.Sweeps.{index}
 use Rattle.transyt_sweep.specs.Climb.{tried_at}
-use Rattle.transyt_cert.specs.Certificate.{joined, new_line, move_words}
+use Rattle.transyt_audit.specs.Certificate.{joined, new_line, move_words}
 use Rattle.transyt_audit.proofs.TrueLines.{text_at, lowers_is}
 use Rattle.transyt_audit.proofs.truth.Truth.judge_move.Goals as goal
 

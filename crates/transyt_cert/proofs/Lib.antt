@@ -1,3 +1,0 @@
-pub mod CertificateLaws
-pub mod WordTexts
-pub mod Worked

@@ -1,6 +1,0 @@
-pub mod Parts
-pub mod Mixing
-pub mod Turns
-pub mod Arrived
-pub mod Lanes
-pub mod KnownValues

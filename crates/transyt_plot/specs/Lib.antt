@@ -1,2 +1,0 @@
-pub mod Plot
-pub mod WorkedPlots

@@ -1,0 +1,49 @@
+-- One step more of the second turn, where it arrives.
+use Rattle.std.proofs.Common.{◌≡◌, ℕ, ◌+◌, ◌*◌, ◌%◌, ◌^◌, ◌<◌, length, get_or, get_or-set_same, get_or-set_other, ap, ◌∙◌, arith}
+use Rattle.std.proofs.Math.Nat.{mod-lt}
+use Rattle.std.proofs.lemmas.List.Elements.{All-set}
+use Rattle.transyt_profile.specs.Passing.{gone_by, steps_of}
+use Rattle.transyt_profile.specs.Platoon.{mixed}
+use Rattle.transyt_profile.specs.declared.platoon.Platoon.{Platoon}
+use Rattle.transyt_profile.proofs.Arrived.{arrived_more}
+use Rattle.transyt_profile.proofs.Turns.{second_gone}
+use Rattle.transyt_profile.proofs.passing.Passing.arrive.Goals as goal
+
+-- within the two turns
+within : (p : Platoon) (i place : ℕ) → i < steps_of p → place ≡ p.travel.now.place → place + i < 2 * steps_of p
+within p i place step is =
+    omega (arith, is, p.is_travel.place, mod-lt p.travel.now.time {m = steps_of p} (omega (arith, step)), step)
+
+-- the value that goes by is the smoothed profile's next
+pub returns-clause-passed : goal.returns-clause-passed
+returns-clause-passed c =
+    let p = c.args.platoon.now in
+    let i : ℕ = c.args.step in
+    let next : steps_of p + 1 + i ≡ steps_of p + (i + 1) = omega arith in
+    grind (arith, second_gone p i c.requires.step ∙ ap (gone_by p) next)
+
+-- and it is added
+pub returns-clause-arrives : goal.returns-clause-arrives
+returns-clause-arrives c =
+    let p = c.args.platoon.now in
+    let n : ℕ = steps_of p in
+    let i : ℕ = c.args.step in
+    let gone = c.mix-self.ensures.value ∙ ap (mixed _ _) c.requires.passed.value ∙ second_gone p i c.requires.step in
+    let place : ℕ = c.args.self.now.place in
+    let is_place : place ≡ p.travel.now.time % n = c.requires.passed.place ∙ p.is_travel.place in
+    let inside : place + i < length c.args.turns.now =
+    omega (arith, within p i place c.requires.step c.requires.passed.place, c.requires.turns_len) in
+    arrived_more (λ m. gone_by p (n + 1 + m)) (p.travel.now.time % n) i place c.args.turns.now _ is_place
+    (get_or-set_same c.args.turns.now (place + i) (get_or c.args.turns.now (place + i) 0 + c.mix-self.result) 0 inside
+    ∙ ap (λ v. get_or c.args.turns.now (place + i) 0 + v) gone)
+    (λ j other. get_or-set_other c.args.turns.now (place + i) j _ 0 other)
+
+-- a value below its travel's limit
+pub returns-clause-grows : goal.returns-clause-grows
+returns-clause-grows c = λ limit all.
+    (let p = c.args.platoon.now in
+    let place : ℕ = c.args.self.now.place + c.args.step in
+    let inside = within p c.args.step _ c.requires.step c.requires.passed.place in
+    All-set (λ v. v < limit + 2 ^ 22) c.args.turns.now place _
+    (omega (arith, all place 0 (omega (arith, inside, c.requires.turns_len)), c.mix-self.ensures.small, p.is_travel.small))
+    (λ k d less. omega (arith, all k d less)))

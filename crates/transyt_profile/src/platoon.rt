@@ -1,0 +1,24 @@
+//! A platoon that is to set out.
+
+ghost use Rattle.std.specs.Prelude.{◌^◌, ◌<◌, length, All};
+ghost use Rattle.transyt_profile.specs.Profile.{IsPart};
+ghost use Rattle.transyt_profile.specs.Travels.{IsTravel};
+
+use crate::Part;
+use crate::travel::Travel;
+
+/// A platoon that is to set out: the departures of a link, the part of them that goes on, and how that travels.
+///
+/// All of it is borrowed, so that a platoon is four words.
+#[derive(Clone, Copy)]
+pub struct Platoon<'a> {
+    /// The departures of the link, one value for each step of the cycle.
+    pub leaving: &'a [u64],
+    /// The part of them that goes on.
+    pub part: &'a Part,
+    /// How it travels.
+    pub travel: &'a Travel,
+    ghost leaving_fit: { All (λ v. v < 2 ^ 30) leaving.now },
+    ghost is_part: { IsPart part.now },
+    ghost is_travel: { IsTravel (length leaving.now) travel.now },
+}

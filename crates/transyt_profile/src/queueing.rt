@@ -1,0 +1,106 @@
+//! The queue at the stop line, and the departures.
+
+ghost use Rattle.std.specs.Prelude.{◌≡◌, ℕ, ◌+◌, ◌-◌, ◌*◌, ◌^◌, ◌<◌, ◌≤◌, length, sum, slice_index, All};
+ghost use Rattle.transyt_cycle.specs.Cycle.{step_before};
+ghost use Rattle.transyt_profile.specs.StopLine.{IsQueue, outs, queues, turn};
+
+use crate::flow::Flow;
+
+/// The queue at the end of each step, and the departures in each step.
+///
+/// All four slices have one value for each step of the cycle, in millionths of a vehicle; `queue` and `out` are
+/// overwritten, and nothing is rounded. The arrivals of a cycle are at most its GO, so that the queue of a cycle that
+/// repeats for ever is finite. A queue stands at the step's end: arrivals in a step with room depart in it. The
+/// recurrence is LR 253's; the queue without a start is this project's own.
+pub fn queue(arrivals: &[u64], go: &[u64], queue: &mut [u64], out: &mut [u64])
+    requires steps { 0 < length arrivals.now }
+    requires most { length arrivals.now ≤ 120 }
+    requires go_len { length go.now ≡ length arrivals.now }
+    requires queue_len { length queue.old ≡ length arrivals.now }
+    requires out_len { length out.old ≡ length arrivals.now }
+    requires arrivals_fit { All (λ v. v < 2 ^ 48) arrivals.now }
+    requires go_fit { All (λ v. v < 2 ^ 30) go.now }
+    requires served { sum arrivals.now ≤ sum go.now }
+    ensures queue { queue.new ≡ queues arrivals.now go.now }
+    ensures out { out.new ≡ outs arrivals.now go.now }
+
+    // the same without a difference: the queue covers each excess of the last steps, and it is 0 or one of them
+    ensures greatest { (i : ℕ) → i < length arrivals.now
+        → IsQueue arrivals.now go.now i (slice_index queue.new i) }
+    ensures recurrence { (i : ℕ) → i < length arrivals.now → slice_index queue.new i
+        ≡ slice_index queue.new (step_before (length arrivals.now) i)
+        + slice_index arrivals.now i - slice_index go.now i }
+    // no vehicle is lost: departures and the queue after the step are the queue before it and its arrivals
+    ensures kept { (i : ℕ) → i < length arrivals.now
+        → slice_index out.new i + slice_index queue.new i
+        ≡ slice_index queue.new (step_before (length arrivals.now) i) + slice_index arrivals.now i }
+    ensures out_at_most_go { (i : ℕ) → slice_index out.new i ≤ slice_index go.now i }
+    ensures total { sum out.new ≡ sum arrivals.now }
+    ensures queue_small { All (λ v. v < 2 ^ 37) queue.new }
+    ensures out_small { All (λ v. v < 2 ^ 30) out.new }
+{
+    let flow = Flow { arrivals, go };
+    let left = first_turn(&flow, queue, out);
+    second_turn(&flow, left, queue, out);
+}
+
+/// Once round the cycle from an empty queue. The answer is the queue left then, that of every later cycle at its last
+/// step.
+#[tactic(auto, using(crate::proofs::QueueLaws::turn_more))]
+fn first_turn(flow: &Flow<'_>, queue: &mut [u64], out: &mut [u64]) -> u64
+    requires queue_len { length queue.old ≡ length flow.now.arrivals.now }
+    requires out_len { length out.old ≡ length flow.now.arrivals.now }
+    ensures left { result
+        ≡ turn flow.now.arrivals.now flow.now.go.now 0 (length flow.now.arrivals.now) }
+    ensures small { result ≤ length flow.now.arrivals.now * 2 ^ 48 }
+    ensures queue { (i : ℕ) → i < length flow.now.arrivals.now
+        → slice_index queue.new i ≡ turn flow.now.arrivals.now flow.now.go.now 0 (i + 1) }
+    ensures out { (i : ℕ) → i < length flow.now.arrivals.now
+        → slice_index out.new i + turn flow.now.arrivals.now flow.now.go.now 0 (i + 1)
+        ≡ turn flow.now.arrivals.now flow.now.go.now 0 i + slice_index flow.now.arrivals.now i }
+{
+    let Flow { arrivals, go } = *flow;
+    let mut waiting: u64 = 0;
+    for i in 0..arrivals.len() {
+        let present = waiting + arrivals[i];
+        let leaving = present.min(go[i]);
+        waiting = present - leaving;
+        queue[i] = waiting;
+        out[i] = leaving;
+    }
+    waiting
+}
+
+/// Round the cycle again, from the queue that was left, up to a step with the queue of the first turn: from there on
+/// the two turns are the same.
+#[tactic(auto, using(crate::proofs::QueueLaws::turn_more))]
+fn second_turn(flow: &Flow<'_>, left: u64, queue: &mut [u64], out: &mut [u64])
+    requires queue_len { length queue.old ≡ length flow.now.arrivals.now }
+    requires out_len { length out.old ≡ length flow.now.arrivals.now }
+    requires small { left ≤ length flow.now.arrivals.now * 2 ^ 48 }
+    requires queue { (i : ℕ) → i < length flow.now.arrivals.now
+        → slice_index queue.old i ≡ turn flow.now.arrivals.now flow.now.go.now 0 (i + 1) }
+    requires out { (i : ℕ) → i < length flow.now.arrivals.now
+        → slice_index out.old i + turn flow.now.arrivals.now flow.now.go.now 0 (i + 1)
+        ≡ turn flow.now.arrivals.now flow.now.go.now 0 i + slice_index flow.now.arrivals.now i }
+    ensures queue { (i : ℕ) → i < length flow.now.arrivals.now
+        → slice_index queue.new i ≡ turn flow.now.arrivals.now flow.now.go.now left (i + 1) }
+    ensures out { (i : ℕ) → i < length flow.now.arrivals.now
+        → slice_index out.new i + turn flow.now.arrivals.now flow.now.go.now left (i + 1)
+        ≡ turn flow.now.arrivals.now flow.now.go.now left i + slice_index flow.now.arrivals.now i }
+{
+    if left == 0 {
+        return;
+    }
+    let Flow { arrivals, go } = *flow;
+    let mut standing = left;
+    for i in 0..arrivals.len() {
+        let there = standing + arrivals[i];
+        standing = there.saturating_sub(go[i]);
+        out[i] = there - standing;
+        if standing == queue[i] {
+            return;
+        }
+        queue[i] = standing;
+    }
+}

@@ -1,7 +1,0 @@
-pub mod BackSums
-pub mod Greatest
-pub mod QueueLaws
-pub mod Covering
-pub mod QueueBounds
-pub mod CutLaws
-pub mod Examples

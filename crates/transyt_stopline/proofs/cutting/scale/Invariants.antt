@@ -1,9 +1,0 @@
--- Arrivals are scaled step by step.
-use Rattle.std.proofs.Common.{◌≡◌, ℕ, ◌<◌, get_or}
-use Rattle.transyt_stopline.specs.StopLine.{scaled}
-use Rattle.transyt_stopline.proofs.cutting.scale.Given as goal
-
--- the steps passed are scaled
-abbrev pub invariant-loop-step : goal.invariant-loop-step
-invariant-loop-step l =
-    (k : ℕ) → k < l.step → get_or l.out k 0 ≡ scaled l.ratio.arrivals l.ratio.go (get_or l.x k 0)

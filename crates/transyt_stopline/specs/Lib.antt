@@ -1,3 +1,0 @@
-pub mod StopLine
-pub mod WorkedCycles
-pub mod WorkedQueues

@@ -1,4 +1,0 @@
-pub mod FormLaws
-pub mod LoopLaws
-pub mod PrintLaws
-pub mod Worked
