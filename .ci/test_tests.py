@@ -2,6 +2,7 @@
 import contextlib
 import io
 import unittest
+from typing import Tuple
 from unittest import mock
 
 import tests
@@ -24,7 +25,9 @@ class Counting(unittest.TestCase):
 
     def test_a_group_that_ends_badly_has_failed(self) -> None:
         with contextlib.redirect_stdout(io.StringIO()) as out:
-            count = lambda program: tests.group("x", ["-c", program], told)
+            def count(program: str) -> Count:
+                return tests.group("x", ["-c", program], told)
+
             self.assertEqual(count("print('3 passed, 0 failed')"), Count(3, 0))
             self.assertEqual(count("print('3 passed, 0 failed'); exit(1)"), Count(3, 1))
             self.assertEqual(count("print('3 passed, 2 failed'); exit(1)"), Count(3, 2))
@@ -43,14 +46,14 @@ class Counting(unittest.TestCase):
             self.assertEqual(tests.unit_group("no/such/folder"), Count(0, 0))
         self.assertEqual(out.getvalue(), ".ci: crates has no tests\n.ci: no/such/folder has no tests\n")
 
-    def end(self, status: str, line: str, groups: Count) -> tuple[int, str]:
+    def end(self, status: str, line: str, groups: Count) -> Tuple[int, str]:
         """The exit number and the last line, where each group of unit tests has these numbers."""
         out = io.StringIO()
         with mock.patch("tests.unit_group", lambda folder: groups), mock.patch("tests.compared", lambda: Count(5, 0)), \
                 mock.patch("tests.script", lambda: Count(0, 0)):
             with contextlib.redirect_stdout(out):
-                status = tests.main(status, line)
-        return status, out.getvalue().splitlines()[-1]
+                ended = tests.main(status, line)
+        return ended, out.getvalue().splitlines()[-1]
 
     def test_the_last_line_and_the_worse_status(self) -> None:
         self.assertEqual(self.end("0", "100 passed, 0 failed", Count(10, 0)), (0, "135 passed, 0 failed"))

@@ -1,14 +1,14 @@
 """tests.py STATUS LINE: the tests of what isn't Rattle, after rt ci ended with STATUS and with the last line LINE.
 
-Each group is left out, with a word on it, where what it needs isn't there. Nothing is built here: the program is the one
-that rt ci has just built. The last line is 'N passed, M failed' of rt ci and of these together, and the exit number is the
-worse of the two."""
+Each group is left out, with a word on it, where what it needs isn't there. Nothing is built here: the program is the
+one that rt ci has just built. The last line is 'N passed, M failed' of rt ci and of these together, and the exit number
+is the worse of the two."""
 import glob
 import os
 import re
 import subprocess
 import sys
-from typing import NamedTuple, Optional
+from typing import Callable, List, NamedTuple, Optional
 
 ROOT = os.path.dirname(os.path.dirname(os.path.abspath(__file__)))
 PROGRAM = "crates/transyt_cli/out/transyt_cli"
@@ -16,11 +16,14 @@ SECONDS = 900  # that a group has
 
 
 class Count(NamedTuple):
+    """How many tests passed, and how many failed."""
+
     passed: int
     failed: int
 
 
 def say(text: str) -> None:
+    """A line of the gate's own."""
     print(f".ci: {text}", flush=True)
 
 
@@ -40,14 +43,15 @@ def unit_tests(text: str) -> Optional[Count]:
     return Count(max(0, int(ran[-1]) - failed - of.get("skipped", 0)), failed)
 
 
-def group(name: str, words: list[str], counted: object) -> Count:
-    """Runs a group of tests, shows what it writes, and counts it; one that ends badly, or with no number, has failed."""
+def group(name: str, words: List[str], counted: Callable[[str], Optional[Count]]) -> Count:
+    """Runs a group of tests, shows what it writes, and counts it; a bad end, or no number, is a failure."""
     say(name)
     # the package of python/ is found without being installed, and its program is the one that the gate built
     env = {**os.environ, "PYTHONPATH": f"{ROOT}/python", "TRANSYT": ""}
-    how = {"cwd": ROOT, "env": env, "stdin": subprocess.DEVNULL, "stdout": subprocess.PIPE, "stderr": subprocess.STDOUT}
     try:
-        ran = subprocess.run([sys.executable, "-B", *words], timeout=SECONDS, text=True, errors="replace", **how)
+        ran = subprocess.run([sys.executable, "-B", *words], timeout=SECONDS, text=True, errors="replace", cwd=ROOT,
+                             env=env, stdin=subprocess.DEVNULL, stdout=subprocess.PIPE, stderr=subprocess.STDOUT,
+                             check=False)
         text, status = ran.stdout, ran.returncode
     except subprocess.TimeoutExpired as error:
         text, status = (error.stdout or b"").decode(errors="replace") + "\nit took too long", 1
@@ -81,6 +85,7 @@ def compared() -> Count:
 
 
 def main(status: str, line: str) -> int:
+    """Runs all groups, writes the last line, and returns the exit number."""
     counts = [told(line) or Count(0, 1)]
     for folder in (".ci", "examples/check", "python/tests"):
         counts.append(unit_group(folder))

@@ -4,8 +4,6 @@
 LOG is what a build says on standard error, from nothing: touch crates.txt; rm -rf crates/*/out; ./transyt run 2> LOG.
 """
 
-from __future__ import annotations
-
 import os
 import re
 import sys

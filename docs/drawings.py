@@ -2,11 +2,9 @@
 """drawings.py: draws all pictures of the documents into docs/pictures.
 
 Of ARCHITECTURE: front.svg is the law of the front, round.svg a round of desks, crates.svg which crate waits for which,
-read from crates.txt. Of README and GUIDE, by ./plan and the built program: the arterial's road before and after a climb,
-its signals and saturation. Run it where one of them has changed.
+read from crates.txt. Of README and GUIDE, by ./plan and the built program: the arterial's road before and after a
+climb, its signals and saturation. Run it where one of them has changed.
 """
-
-from __future__ import annotations
 
 import os
 import sys
@@ -61,7 +59,8 @@ class Drawing:
 
 def draw_front() -> None:
     """Pairs of a link and a sweep, those before the front and those after it."""
-    picture = Drawing(640, 250, "The front: pairs before it have the new network's departures, all others the old one's")
+    picture = Drawing(640, 250, "The front: pairs before it have the new network's departures, all others the old "
+                      "one's")
     links, sweeps, front = 8, 3, (1, 4)
     for link in range(links):
         picture.words(150 + 56 * link, 38, f"link {link + 1}", "middle")
@@ -72,14 +71,16 @@ def draw_front() -> None:
             fill = TURN if place == front else NEW if place < front else OLD
             words = "turn" if place == front else "new" if place < front else "old"
             picture.box(124 + 56 * link, 50 + 46 * sweep, (52, 36), fill, words)
-    picture.words(20, 214, "The pair whose turn it is reads departures of this sweep from links before it in card order,")
+    picture.words(20, 214, "The pair whose turn it is reads departures of this sweep from links before it in card "
+                  "order,")
     picture.words(20, 234, "and of the sweep before from itself and the links after it: they stand before the front.")
     picture.write("front.svg")
 
 
 def draw_round() -> None:
     """A round of four desks over the next eight moves of the list."""
-    picture = Drawing(640, 270, "A round of desks: the next moves are dealt out, and the first that lowers the index is made")
+    picture = Drawing(640, 270, "A round of desks: the next moves are dealt out, and the first that lowers the index "
+                      "is made")
     for place in range(8):
         fill = TURN if place == 5 else PASS if place < 5 else OLD
         picture.box(20 + 76 * place, 30, (70, 32), fill, f"move {place + 1}")
@@ -91,7 +92,8 @@ def draw_round() -> None:
             picture.line((55 + 76 * place, 62), (x + 55, 118), dashed=place > 5)
         picture.line((x + 55, 152), (320, 196))
     picture.box(170, 196, (300, 34), TURN, "desk 0 has move 6: five pass, one is made")
-    picture.words(20, 256, "Moves 1 to 5 don't lower the index; move 6 does. Tries after it are forgotten, with their work.")
+    picture.words(20, 256, "Moves 1 to 5 don't lower the index; move 6 does. Tries after it are forgotten, with their "
+                  "work.")
     picture.write("round.svg")
 
 

@@ -1,8 +1,6 @@
 #!/usr/bin/env python3
 """worked.py: writes the table of worked laws into docs/PROMISES.md, out of the public laws of the crates."""
 
-from __future__ import annotations
-
 import os
 import re
 from typing import Dict, List

@@ -10,6 +10,7 @@ import sys
 import tempfile
 import time
 import unittest
+from typing import Callable
 
 HERE = os.path.dirname(os.path.realpath(__file__))
 sys.path.insert(0, os.path.dirname(HERE))
@@ -52,13 +53,13 @@ END
 """
 
 
-def example(name):
+def example(name: str) -> str:
     """The text of an example."""
     with open(os.path.join(ROOT, "examples", name), encoding="utf-8") as file:
         return file.read()
 
 
-def is_there(number):
+def is_there(number: int) -> bool:
     """Whether a process is there."""
     try:
         os.kill(number, 0)
@@ -67,7 +68,7 @@ def is_there(number):
     return True
 
 
-def wait_until(condition, seconds=10):
+def wait_until(condition: Callable[[], object], seconds: float = 10) -> bool:
     """Whether a condition holds within some seconds."""
     end = time.monotonic() + seconds
     while time.monotonic() < end:
@@ -93,7 +94,8 @@ def deck():
         if line.split()[:1] == ["END"]: return count
 """
 
-    def play(self, body):
+    def play(self, body: str) -> str:
+        """The file of a script that plays a part."""
         folder = tempfile.TemporaryDirectory()
         self.addCleanup(folder.cleanup)
         path = os.path.join(folder.name, "transyt")

@@ -5,11 +5,12 @@ import signal
 import subprocess
 import sys
 import unittest
+from typing import List, Optional
 
 import support
 from support import PROGRAM, needs_program
 from transyt.best import Search, Wanted
-from transyt.deck import read_deck
+from transyt.deck import Deck, read_deck
 from transyt.faults import Fault
 from transyt.kicks import Draws, Kicker, near
 from transyt.program import ROOT, Program
@@ -60,7 +61,7 @@ END
 
 
 class ReadRows(unittest.TestCase):
-    def test_rows_and_deck(self):
+    def test_rows_and_deck(self) -> None:
         rows = read_rows(ROWS + str(read_deck(support.THREE).bare()).split("\n"))
         self.assertEqual([(row.number, row.index, row.local, row.barred) for row in rows.rows],
                          [(45, None, False, None), (60, None, False, 300), (90, 525337775, False, None),
@@ -69,26 +70,26 @@ class ReadRows(unittest.TestCase):
                          (1181182170, 24, 250, 355203319))
         self.assertEqual(rows.deck, read_deck(support.THREE).bare())
 
-    def test_none(self):
+    def test_none(self) -> None:
         self.assertIsNone(read_rows(ROWS[:2] + ["* NONE"]).deck)
 
-    def test_start_row(self):
+    def test_start_row(self) -> None:
         self.assertEqual(read_rows(["* START 7 FROM 5 TOOK 4 LOCAL 3 TO 2"]).rows[0].index, 2)
 
 
 class KicksApart(unittest.TestCase):
-    def test_draws_are_the_generators(self):
+    def test_draws_are_the_generators(self) -> None:
         # `make 1 1` has these draws before the remainder is taken (docs/MODEL.md, "The generated town")
         draws = Draws(1)
         self.assertEqual([draws.below(10 ** 9) for _ in range(6)], [16838, 5758, 10113, 17515, 31051, 5627])
 
-    def test_near(self):
+    def test_near(self) -> None:
         self.assertEqual(near(read_deck(support.THREE)), {1: (1, 2), 2: (1, 2, 3), 3: (2, 3)})
 
 
 @needs_program
 class Kicks(unittest.TestCase):
-    def kicked(self, text, count, seed):
+    def kicked(self, text: str, count: int, seed: int) -> str:
         """The plan after kicks by the package, told as the second script tells it."""
         with Session(text, 1, PROGRAM) as town:
             kicker = Kicker(town, town.deck(), town.index(), seed)
@@ -102,7 +103,7 @@ class Kicks(unittest.TestCase):
                      for number, (offset, changes) in town.deck().plan().items()]
             return "".join(lines) + f"{town.index()}\n"
 
-    def compare(self, text, count, seed):
+    def compare(self, text: str, count: int, seed: int) -> int:
         """Climbs until LOCAL, kicks, and compares with the second script to the byte; how many kicks were kept."""
         self.kept = 0
         with Session(text, 1, PROGRAM) as town:
@@ -114,25 +115,26 @@ class Kicks(unittest.TestCase):
         self.assertEqual(self.kicked(text, count, seed), again.stdout)
         return self.kept
 
-    def test_as_the_second_script(self):
+    def test_as_the_second_script(self) -> None:
         kept = [self.compare(support.THREE, count, seed) for seed, count in ((1, 4), (5, 2), (6, 4), (3, 2))]
         self.assertTrue(sum(kept) >= 2 and 0 in kept)  # some are kept, and some are taken back
 
-    def test_as_the_second_script_in_a_loop(self):
+    def test_as_the_second_script_in_a_loop(self) -> None:
         self.compare(LOOP, 2, 1)
         self.compare(LOOP, 2, 4)
 
 
 @needs_program
 class Best(unittest.TestCase):
-    def search(self, text, wanted):
-        self.said = []
+    def search(self, text: str, wanted: Wanted) -> Search:
+        """A search that is over, and checked."""
+        self.said: List[str] = []
         search = Search(read_deck(text), Program(PROGRAM), wanted, self.said.append)
         search.run()
         search.check()
         return search
 
-    def test_words_one_after_another(self):
+    def test_words_one_after_another(self) -> None:
         search = self.search(support.example("cycles.deck"), Wanted((60, 100, 20), 12, 3, 1, 2))
         self.assertEqual([line.split(":")[0] for line in self.said], ["cycles", "starts", "climb", "kicks", "climb"])
         self.assertIn("4 rows", self.said[0])  # 60, 80, 100, and the deck's own plan at its own 80 s
@@ -141,36 +143,37 @@ class Best(unittest.TestCase):
         with Session(search.deck, 1, PROGRAM) as town:
             self.assertTrue(all(move.index is None or move.index >= search.index for move in town.certificate().moves))
 
-    def test_starts_in_parts_are_the_starts(self):
+    def test_starts_in_parts_are_the_starts(self) -> None:
         text = support.example("cycles.deck")
         whole = read_rows(Program(PROGRAM).answer(["starts", 2, 5, 25], str(read_deck(text).bare())))
         search = Search(read_deck(text), Program(PROGRAM), Wanted(seed=5, workers=2), lambda _: None)
         search.starts(25)
         self.assertEqual((search.deck.bare(), search.index), (whole.deck, whole.index))
 
-    def test_cycles_one_after_another_are_the_cycles(self):
+    def test_cycles_one_after_another_are_the_cycles(self) -> None:
         text = support.example("cycles.deck")
         whole = read_rows(Program(PROGRAM).answer(["cycles", 2, 90, 110, 10], str(read_deck(text).bare())))
         search = Search(read_deck(text), Program(PROGRAM), Wanted(workers=2), lambda _: None)
         search.cycles(90, 110, 10)
         self.assertEqual((search.deck.bare(), search.index), (whole.deck, whole.index))
 
-    def test_no_cycle_time_fits(self):
+    def test_no_cycle_time_fits(self) -> None:
         with self.assertRaisesRegex(Fault, "no cycle time can be climbed on"):
             self.search(support.example("cycles.deck"), Wanted((61, 63, 2)))
-        self.assertEqual([line[:30] for line in self.said], [f"cycles: {cycle}: no whole number of" for cycle in (61, 63)])
+        self.assertEqual([line[:30] for line in self.said],
+                         [f"cycles: {cycle}: no whole number of" for cycle in (61, 63)])
 
-    def test_names_and_comments_go_along(self):
+    def test_names_and_comments_go_along(self) -> None:
         search = self.search(support.THREE, Wanted((60, 60, 1), 3, 1))
         given = read_deck(support.THREE)
         self.assertEqual((search.deck.names, search.deck.comments), (given.names, given.comments))
 
-    def test_deck_without_steps(self):
+    def test_deck_without_steps(self) -> None:
         text = "".join(line + "\n" for line in support.THREE.split("\n")[:-1] if not line.startswith("STEPS"))
         with self.assertRaisesRegex(Fault, "no STEPS card"):
             self.search(text, Wanted())
 
-    def test_budget_shorter_than_the_list(self):
+    def test_budget_shorter_than_the_list(self) -> None:
         text = support.THREE.replace("STEPS 200 1 3", "STEPS 2 1 3")
         search = self.search(text, Wanted((60, 60, 1), 1, 2))
         self.assertTrue(any("a budget of 2 doesn't go round the list of 36 moves" in line for line in self.said))
@@ -178,7 +181,7 @@ class Best(unittest.TestCase):
         with Session(search.deck, 1, PROGRAM) as town:
             self.assertTrue(all(move.index is None or move.index >= search.index for move in town.certificate().moves))
 
-    def test_how_many(self):
+    def test_how_many(self) -> None:
         wanted = Wanted()
         self.assertEqual([wanted.start_count(junctions) for junctions in (1, 8, 9, 20, 21)], [100, 100, 30, 30, 0])
         self.assertEqual([wanted.kick_count(junctions) for junctions in (1, 8, 9)], [0, 0, 250])
@@ -205,7 +208,7 @@ sys.stdout.write(text.replace("NODE 1 0", f"NODE 1 {best % 12}"))
 
 
 class Parts(support.Played):
-    def test_starts_in_parts_of_ten(self):
+    def test_starts_in_parts_of_ten(self) -> None:
         path, said = self.play(STARTS), []
         search = Search(read_deck(support.THREE), Program(path), Wanted(seed=5, workers=2), said.append)
         search.starts(25)
@@ -218,7 +221,7 @@ class Parts(support.Played):
 
 @needs_program
 class CtrlC(unittest.TestCase):
-    def stop(self, phase, words, text, after=2):
+    def stop(self, phase: str, words: List[str], text: str, after: int = 2) -> Deck:
         """Runs `best`, presses Ctrl-C in a phase after some progress of it, and judges the deck that it leaves."""
         code = ("import os, signal, sys\n"
                 f"sys.path.insert(0, {os.path.dirname(support.HERE)!r})\n"
@@ -230,8 +233,8 @@ class CtrlC(unittest.TestCase):
                 "best.Search.progress = progress\n"
                 "signal.signal(signal.SIGINT, signal.default_int_handler)\n"
                 "sys.exit(__main__.main(sys.argv[1:]))\n")
-        done = subprocess.run([sys.executable, "-c", code, "best", "-", "--program", PROGRAM, "--workers", "2", *words],
-                              input=text.encode(), capture_output=True, timeout=60)
+        done = subprocess.run([sys.executable, "-c", code, "best", "-", "--program", str(PROGRAM), "--workers", "2",
+                               *words], input=text.encode(), capture_output=True, timeout=60)
         self.assertEqual(done.returncode, 130, done.stderr)
         index = int(done.stderr.decode().strip().split(" ")[-1])
         with Session(done.stdout, 1, PROGRAM) as town:
@@ -239,7 +242,7 @@ class CtrlC(unittest.TestCase):
             self.assertLessEqual(index, Session(text, 1, PROGRAM).index())
             return town.deck()
 
-    def test_in_each_phase(self):
+    def test_in_each_phase(self) -> None:
         text = support.example("arterial.deck")
         self.stop("cycles", ["--cycles", "80", "120", "20"], text)
         self.stop("starts", ["--starts", "30"], text, after=1)
@@ -248,23 +251,24 @@ class CtrlC(unittest.TestCase):
         self.assertEqual(len(moved), 1)  # two steps at the first junction
         self.stop("kicks", ["--starts", "0", "--kicks", "5"], text)
 
-    def test_ctrl_c_of_the_terminal_comes_to_python_alone(self):
+    def test_ctrl_c_of_the_terminal_comes_to_python_alone(self) -> None:
         with Session(support.THREE, 1, PROGRAM) as town:
             self.assertNotEqual(os.getpgid(town._child.process.pid), os.getpgid(0))
 
 
 @needs_program
 class Command(unittest.TestCase):
-    def plan(self, *words, text="", folder=None):
-        return subprocess.run([os.path.join(ROOT, "plan"), *words, "--program", PROGRAM], input=text, text=True,
+    def plan(self, *words: str, text: str = "", folder: Optional[str] = None) -> "subprocess.CompletedProcess[str]":
+        """The command with words, in a folder."""
+        return subprocess.run([os.path.join(ROOT, "plan"), *words, "--program", str(PROGRAM)], input=text, text=True,
                               capture_output=True, cwd=folder or ROOT, timeout=120)
 
-    def test_from_another_folder_and_by_standard_input(self):
+    def test_from_another_folder_and_by_standard_input(self) -> None:
         done = self.plan("best", "-", "--starts", "2", text=support.THREE, folder="/tmp")
         self.assertEqual(done.returncode, 0, done.stderr)
         self.assertIn("* NAME TOWN Mill Road, morning\n", done.stdout)
 
-    def test_faults(self):
+    def test_faults(self) -> None:
         for words, text, said in ((["best", "/nowhere"], "", "/nowhere can't be read"),
                                   (["best", "-"], "CYCLE 60 12\n", "-, line 1, CYCLE 60 12"),
                                   (["best", "-", "--cycles", "90", "80", "10"], support.THREE, "the low one first"),

@@ -17,7 +17,7 @@ from unittest import mock
 import support
 from support import PROGRAM, ROOT, needs_program, wait_until
 from transyt.board import server as serving
-from transyt.board.server import Server, serve
+from transyt.board.server import serve
 from transyt.board.state import Board, Stale, Wanted
 from transyt.deck import read_deck
 from transyt.faults import Fault
@@ -155,12 +155,14 @@ class Who(unittest.TestCase):
         self.addCleanup(self.server.server_close)
         self.addCleanup(self.server.shutdown)
 
-    def ask(self, method: str, path: str, body: Optional[bytes] = None, **more: str) -> Tuple[int, bytes, Dict[str, str]]:
+    def ask(self, method: str, path: str, body: Optional[bytes] = None,
+            **more: str) -> Tuple[int, bytes, Dict[str, str]]:
         """Status, body and headers of an answer."""
         connection = http.client.HTTPConnection("127.0.0.1", self.server.server_address[1], timeout=20)
         self.addCleanup(connection.close)
         headers = {"X_Board": self.server.secret, "Origin": self.server.origin, **more}
-        connection.request(method, path, body, {name.replace("_", "-"): value for name, value in headers.items() if value})
+        connection.request(method, path, body,
+                           {name.replace("_", "-"): value for name, value in headers.items() if value})
         answer = connection.getresponse()
         return answer.status, answer.read(), dict(answer.getheaders())
 

@@ -1,4 +1,4 @@
-"""The board in Chromium: a drag, the keyboard, a climb that is stopped, two tabs, refusals, the deck that is downloaded."""
+"""The board in Chromium: a drag, the keyboard, a climb that is stopped, two tabs, refusals, the deck as a download."""
 
 import importlib.util
 import os

@@ -6,6 +6,7 @@ import subprocess
 import sys
 import time
 import unittest
+from typing import Tuple
 
 import support
 from support import is_there, wait_until
@@ -32,33 +33,33 @@ print(town._child.process.pid, flush=True)
 
 
 class Sentences(support.Played):
-    def test_sentence_of_the_refused_line(self):
+    def test_sentence_of_the_refused_line(self) -> None:
         said = 'told("line 31: code 17: there is no node 99")'
         with Session(support.THREE, 1, self.play(SERVER.format(said=said))) as town:
             with self.assertRaises(Refused) as caught:
                 town.offset(99, 1)
         self.assertEqual((caught.exception.sentence, caught.exception.line), ("there is no node 99", 31))
 
-    def test_meaning_of_the_code_where_nothing_is_said(self):
+    def test_meaning_of_the_code_where_nothing_is_said(self) -> None:
         with Session(support.THREE, 1, self.play(SERVER.format(said="pass"))) as town:
             with self.assertRaises(Refused) as caught:
                 town.offset(99, 1)
         self.assertIn("code 17: a node", caught.exception.sentence)
 
-    def test_sentence_of_another_line_isnt_taken(self):
+    def test_sentence_of_another_line_isnt_taken(self) -> None:
         said = 'told("line 30: code 17: there is no node 98")'
         with Session(support.THREE, 1, self.play(SERVER.format(said=said))) as town:
             with self.assertRaises(Refused) as caught:
                 town.offset(99, 1)
         self.assertIn("code 17: a node", caught.exception.sentence)
 
-    def test_refused_card(self):
+    def test_refused_card(self) -> None:
         body = 'deck(); told("line 9: code 14: offset 30, and it is 0 to 11"); said("CARD 9 REFUSED 14"); sys.exit(2)'
         with self.assertRaises(Refused) as caught:
             Session(support.THREE, 1, self.play(body))
         self.assertEqual(str(caught.exception), "NODE 2 3: offset 30, and it is 0 to 11")
 
-    def test_full_standard_error(self):
+    def test_full_standard_error(self) -> None:
         said = 'sys.stderr.write("x" * 200 + "\\n" * 3000 + "y" * 100000); sys.stderr.flush()'
         with Session(support.THREE, 1, self.play(SERVER.format(said=said))) as town:
             for _ in range(20):
@@ -67,7 +68,7 @@ class Sentences(support.Played):
 
 
 class Ends(support.Played):
-    def test_child_that_is_killed(self):
+    def test_child_that_is_killed(self) -> None:
         with Session(support.THREE, 1, self.play(SERVER.format(said="pass"))) as town:
             os.kill(town._child.process.pid, signal.SIGKILL)
             with self.assertRaisesRegex(Ended, "ended by signal 9"):
@@ -75,21 +76,21 @@ class Ends(support.Played):
             with self.assertRaisesRegex(Ended, "closed"):
                 town.index()
 
-    def test_child_that_ends_in_an_answer(self):
+    def test_child_that_ends_in_an_answer(self) -> None:
         body = 'deck(); said("ACCEPTED 3 6"); sys.stdin.readline(); sys.stdout.write("IND"); sys.exit(5)'
         with Session(support.THREE, 1, self.play(body)) as town:
             with self.assertRaisesRegex(Ended, "ended with 5"):
                 town.index()
 
-    def test_child_that_is_no_program(self):
+    def test_child_that_is_no_program(self) -> None:
         with self.assertRaisesRegex(Ended, "ended with 1: what"):
             Session(support.THREE, 1, self.play('told("what"); sys.exit(1)'))
 
-    def test_program_that_isnt_there(self):
+    def test_program_that_isnt_there(self) -> None:
         with self.assertRaisesRegex(Fault, "can't be started"):
             Session(support.THREE, 1, "/nowhere/transyt")
 
-    def test_child_that_doesnt_end_with_its_input(self):
+    def test_child_that_doesnt_end_with_its_input(self) -> None:
         body = 'deck(); said("ACCEPTED 3 6"); time.sleep(1000)'
         town = Session(support.THREE, 1, self.play(body))
         child = town._child.process.pid
@@ -98,7 +99,7 @@ class Ends(support.Played):
         self.assertLess(time.monotonic() - begin, 5)
         self.assertFalse(is_there(child))
 
-    def test_session_that_is_dropped(self):
+    def test_session_that_is_dropped(self) -> None:
         town = Session(support.THREE, 1, self.play(SERVER.format(said="pass")))
         child = town._child.process.pid
         del town
@@ -106,35 +107,37 @@ class Ends(support.Played):
 
 
 class Signals(support.Played):
-    def hold(self, then="time.sleep(1000)"):
+    def hold(self, then: str = "time.sleep(1000)") -> "Tuple[subprocess.Popen[bytes], int]":
         """Another Python that holds a session, and the number of its child."""
         program = self.play(SERVER.format(said="pass"))
         package = os.path.dirname(support.HERE)
         code = HOLDER.format(package=package, deck=support.THREE, program=program, then=then)
         holder = subprocess.Popen([sys.executable, "-c", code], stdout=subprocess.PIPE, stderr=subprocess.PIPE)
         self.addCleanup(holder.communicate)
+        assert holder.stdout is not None
         return holder, int(holder.stdout.readline())
 
-    def ended_by(self, number):
+    def ended_by(self, number: int) -> None:
+        """Python ends by a signal, and its child with it."""
         holder, child = self.hold()
         self.assertTrue(is_there(child))
         holder.send_signal(number)
         self.assertEqual(holder.wait(10), -number)
         self.assertTrue(wait_until(lambda: not is_there(child)))
 
-    def test_sigterm_and_sighup_end_the_child(self):
+    def test_sigterm_and_sighup_end_the_child(self) -> None:
         self.ended_by(signal.SIGTERM)
         self.ended_by(signal.SIGHUP)
 
-    def test_python_killed_outright(self):
+    def test_python_killed_outright(self) -> None:
         self.ended_by(signal.SIGKILL)
 
-    def test_end_of_python_ends_the_child(self):
+    def test_end_of_python_ends_the_child(self) -> None:
         holder, child = self.hold("sys.exit(3)")
         self.assertEqual(holder.wait(10), 3)
         self.assertTrue(wait_until(lambda: not is_there(child)))
 
-    def test_ctrl_c_in_an_answer(self):
+    def test_ctrl_c_in_an_answer(self) -> None:
         program = 'deck(); said("ACCEPTED 3 6"); time.sleep(1000)'
         town = Session(support.THREE, 1, self.play(program))
         child = town._child.process.pid
@@ -146,7 +149,7 @@ class Signals(support.Played):
         self.assertFalse(is_there(child))
         self.assertTrue(town.is_closed)
 
-    def test_child_has_a_process_group_of_its_own(self):
+    def test_child_has_a_process_group_of_its_own(self) -> None:
         with Session(support.THREE, 1, self.play(SERVER.format(said="pass"))) as town:
             child = town._child.process.pid
             self.assertEqual(os.getpgid(child), child)

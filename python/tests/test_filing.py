@@ -5,7 +5,7 @@ import re
 import shutil
 import tempfile
 import unittest
-from typing import Callable, Dict, List, Optional
+from typing import Callable, Dict, List, Tuple
 
 import support
 from sheet_tables import two_junctions, write_tables
@@ -39,9 +39,10 @@ def swap_figures(files: Files) -> None:
     one, other = re.findall(r'<data value="([0-9]+)" class="FIGURES LINK [0-9]+ DELAY">([^<]*)</data>', text)[:2]
     first, second = (f'<data value="{raw}" class="FIGURES LINK {link} DELAY">{shown}</data>'
                      for (raw, shown), link in ((one, 11), (other, 12)))
-    changed = text.replace(first, "\0").replace(second, f'<data value="{one[0]}" class="FIGURES LINK 12 DELAY">{one[1]}</data>')
-    files["plan.html"] = changed.replace("\0", f'<data value="{other[0]}" class="FIGURES LINK 11 DELAY">{other[1]}</data>'
-                                         ).encode("utf-8")
+    in_second = f'<data value="{one[0]}" class="FIGURES LINK 12 DELAY">{one[1]}</data>'
+    in_first = f'<data value="{other[0]}" class="FIGURES LINK 11 DELAY">{other[1]}</data>'
+    changed = text.replace(first, "\0").replace(second, in_second).replace("\0", in_first)
+    files["plan.html"] = changed.encode("utf-8")
     assert files["plan.html"] != text.encode("utf-8")
 
 
@@ -82,19 +83,33 @@ class Filing(unittest.TestCase):
 
     def test_each_change_is_found(self) -> None:
         """A sentence that names the file; sums made anew each time."""
-        line = next(line for line in self.files["plan.report"].decode().split("\n") if line.startswith("MOVE 3 "))
-        at = re.search(r"AT ([0-9]+)", self.files["plan.report"].decode())
-        assert at is not None
+        slipped = "an edit after END", self.slipped(), "after END stands OFFSET 2 5"
+        for what, change, sentence in [*self.changes_of_files(), slipped]:
+            with self.subTest(what):
+                files = dict(self.files)
+                change(files)
+                self.assertIn(sentence, self.failing(files))
+
+    def slipped(self) -> Change:
+        """An edit after END, with report, page and controller's sheet made to fit."""
         edit = "OFFSET 2 5\nTIMING\n"
         with Session(self.deck, 1, PROGRAM) as town:
             town.offset(2, 5)
             moved = town.deck()
         fitting = made_files(moved, self.program, Asked("Two", "A. Engineer", "2026-04-02", self.sheets, True))
-        slipped: Files = {**fitting, "plan.deck": self.files["plan.deck"].replace(b"END\nTIMING\n", b"END\n" + edit.encode()),
-                          "certificate": self.files["certificate"]}
+        with_edit = self.files["plan.deck"].replace(b"END\nTIMING\n", b"END\n" + edit.encode())
+        slipped: Files = {**fitting, "plan.deck": with_edit, "certificate": self.files["certificate"]}
         slipped["plan.report"] = self.program.ask(["run"], slipped["plan.deck"].decode()).text.encode()
-        changes: List[tuple] = [
-            ("a byte of plan.deck", put("plan.deck", "LINK 11 1 442", "LINK 11 1 443"), "sheets give another deck: LINK 11"),
+        return lambda files: files.update(slipped)
+
+    def changes_of_files(self) -> List[Tuple[str, Change, str]]:
+        """What is changed, how, and what the sentence says of it."""
+        line = next(line for line in self.files["plan.report"].decode().split("\n") if line.startswith("MOVE 3 "))
+        at = re.search(r"AT ([0-9]+)", self.files["plan.report"].decode())
+        assert at is not None
+        return [
+            ("a byte of plan.deck", put("plan.deck", "LINK 11 1 442", "LINK 11 1 443"),
+             "sheets give another deck: LINK 11"),
             ("the title", put("plan.deck", "* TITLE Two", "* TITLE Too"), "plan.html"),
             ("a byte of plan.report", put("plan.report", "TOTAL DELAY", "TOTAL  DELAY"), "plan.report, line"),
             ("an AT", put("plan.report", at[0], f"AT {int(at[1]) + 1}"), "plan.report, line"),
@@ -102,22 +117,17 @@ class Filing(unittest.TestCase):
                            line.replace("BARRED", "INDEX 7")), "plan.report, line"),
             ("a byte of certificate", put("certificate", "CYCLE 80", "CYCLE 82"), "certificate, line"),
             ("audit's answer", put("certificate", "* AUDIT YES", "* AUDIT yes"), "certificate, line 1"),
-            ("a time of the controllers", put("controller.csv", "1,First,1,road,", "1,First,1,main,"), "controller.csv, line 2"),
+            ("a time of the controllers", put("controller.csv", "1,First,1,road,", "1,First,1,main,"),
+             "controller.csv, line 2"),
             ("a byte of the page", put("plan.html", "Certificate", "certificate"), "plan.html"),
             ("two figures", swap_figures, "plan.html: FIGURES LINK"),
             ("a count", put("sheets/counts.csv", "07:45,15,100", "07:45,15,101"), "the sheets aren't those"),
             ("a count with its sum", recount, "the sheets give another deck"),
-            ("an edit after END", lambda files: files.update(slipped), "after END stands OFFSET 2 5"),
             ("a file more", lambda files: files.update({"notes": b"x"}), "notes is no file"),
             ("a sheet more", lambda files: files.update({"sheets/ways2.csv": b"x"}), "ways2.csv"),
             ("a file less", lambda files: files.pop("controller.csv") and None, "controller.csv isn't there"),
             ("a sheet less", lambda files: files.pop("sheets/gives.csv") and None, "gives.csv"),
         ]
-        for what, change, sentence in changes:
-            with self.subTest(what):
-                files = dict(self.files)
-                change(files)
-                self.assertIn(sentence, self.failing(files))
 
     def test_a_sum(self) -> None:
         """Without the sums made anew the file itself is named."""
@@ -148,7 +158,7 @@ class Filing(unittest.TestCase):
         """Text and pictures aren't compared then, but each figure is."""
         files = dict(self.files)
         put("plan.deck", "* PLAN plan ", "* PLAN plan 0.")(files)
-        put("plan.html", "<h2>Road</h2>", "<h2>The road</h2>")(files) if b"<h2>Road</h2>" in files["plan.html"] else None
+        put("plan.html", "<h2>Signals</h2>", "<h2>The signals</h2>")(files)
         told = [finding for finding in self.checked(files) if "plan.html" in finding.sentence]
         self.assertEqual([finding.holds for finding in told], [True])
         swap_figures(files)

@@ -85,7 +85,8 @@ class Pictures(unittest.TestCase):
 
     def test_climb_counts_the_looks(self) -> None:
         """The first step at place + 1, each next as far round the list; the end agrees with the last line."""
-        steps = [Step(3, Edit("OFFSET", (1, 1)), 9), Step(3, Edit("OFFSET", (1, 2)), 8), Step(1, Edit("OFFSET", (1, 3)), 7)]
+        steps = [Step(3, Edit("OFFSET", (1, 1)), 9), Step(3, Edit("OFFSET", (1, 2)), 8),
+                 Step(1, Edit("OFFSET", (1, 3)), 7)]
         self.assertEqual(looks_of(steps, 10), [4, 5, 14])
         self.assertIn("LOCAL", pictures.climb(self.town))
 

@@ -15,8 +15,8 @@ from transyt.session import Session
 
 
 class Found(unittest.TestCase):
-    def test_order(self):
-        def none(_path, _mode):
+    def test_order(self) -> None:
+        def none(_path: str, _mode: int) -> bool:
             return False
 
         with mock.patch.dict(os.environ, {"TRANSYT": "/b"}):
@@ -36,33 +36,33 @@ class Found(unittest.TestCase):
 
 
 class Played(support.Played):
-    def test_exit_number_is_told(self):
+    def test_exit_number_is_told(self) -> None:
         with self.assertRaisesRegex(Fault, "ended with 1 at run 2: what"):
             Program(self.play('told("what"); sys.exit(1)')).answer(["run", 2], "")
 
-    def test_missing_program_is_told(self):
+    def test_missing_program_is_told(self) -> None:
         with self.assertRaisesRegex(Fault, "can't be started"):
             Program("/nowhere/transyt").answer(["run"], support.THREE)
 
-    def test_sentence_of_a_refused_card(self):
+    def test_sentence_of_a_refused_card(self) -> None:
         body = 'deck(); told("line 9: code 14: offset 30, and it is 0 to 11"); said("CARD 9 REFUSED 14"); sys.exit(2)'
         with self.assertRaises(Refused) as caught:
             Program(self.play(body)).answer(["equisat"], support.THREE)
         self.assertEqual((caught.exception.code, caught.exception.line), (14, 9))
         self.assertEqual(str(caught.exception), "NODE 2 3: offset 30, and it is 0 to 11")
 
-    def test_refused_row(self):
+    def test_refused_row(self) -> None:
         body = 'deck(); told("row 2: code 17: there is no link 9"); said("ROW 2 REFUSED 17"); sys.exit(2)'
         with self.assertRaisesRegex(Refused, "ROW 2 REFUSED 17: there is no link 9"):
             Program(self.play(body)).answer(["counts"], support.THREE)
 
-    def test_more_than_a_pipe_holds_both_ways(self):
+    def test_more_than_a_pipe_holds_both_ways(self) -> None:
         body = 'for line in sys.stdin: sys.stdout.write(line)\nsys.stderr.write("e\\n" * 50000)'
         text = "x" * 99 + "\n"
         answer = Program(self.play(body)).ask(["run"], text * 20000)
         self.assertEqual((answer.text, answer.status, len(answer.messages)), (text * 20000, 0, 1000))
 
-    def test_ctrl_c_ends_the_child(self):
+    def test_ctrl_c_ends_the_child(self) -> None:
         path = self.play('open(__file__ + ".pid", "w").write(str(os.getpid())); time.sleep(1000)')
         signal.signal(signal.SIGALRM, lambda *_: (_ for _ in ()).throw(KeyboardInterrupt()))
         self.addCleanup(signal.signal, signal.SIGALRM, signal.SIG_DFL)
@@ -75,7 +75,7 @@ class Played(support.Played):
 
 @needs_program
 class Decks(unittest.TestCase):
-    def test_towns_are_written_as_the_program_writes_them(self):
+    def test_towns_are_written_as_the_program_writes_them(self) -> None:
         for seed in range(1, 21):
             text = "".join(line + "\n" for line in Program(PROGRAM).answer(["make", seed, 1 + seed * 5]))
             deck = read_deck(text)
@@ -86,7 +86,7 @@ class Decks(unittest.TestCase):
 
 @needs_program
 class Asked(unittest.TestCase):
-    def test_balanced(self):
+    def test_balanced(self) -> None:
         deck = read_deck(support.example("equisat.deck"))
         other = Program(PROGRAM).balanced(deck)
         self.assertEqual([node.offset for node in other.nodes], [node.offset for node in deck.nodes])
@@ -94,12 +94,12 @@ class Asked(unittest.TestCase):
         self.assertEqual([stage.change for node in other.nodes for stage in node.stages],
                          [int(line.split(" ")[3]) for line in lines if line.startswith("STAGE")])
 
-    def test_refused_deck(self):
+    def test_refused_deck(self) -> None:
         with self.assertRaises(Refused) as caught:
             Program(PROGRAM).answer(["starts", 1, 1, 1], support.THREE.replace("NODE 2 3", "NODE 2 30"))
         self.assertEqual((caught.exception.code, caught.exception.line, caught.exception.command), (14, 9, "NODE 2 30"))
 
-    def test_words_that_are_none(self):
+    def test_words_that_are_none(self) -> None:
         with self.assertRaisesRegex(Fault, "ended with 1 at nonsense"):
             Program(PROGRAM).answer(["nonsense"])
 

@@ -1,6 +1,7 @@
 """Answers read out of a stored report."""
 
 import unittest
+from typing import List
 
 import support
 from transyt.deck import read_deck
@@ -22,7 +23,7 @@ END TIMING""".split("\n")
 
 
 class Readers(unittest.TestCase):
-    def test_figures_in_units_and_raw(self):
+    def test_figures_in_units_and_raw(self) -> None:
         figures = read_figures(FIGURES)
         link = figures.link(5)
         self.assertEqual((link.flow_an_hour, link.sent_an_hour, link.saturation, link.delay_seconds, link.stopped,
@@ -37,28 +38,29 @@ class Readers(unittest.TestCase):
             with self.assertRaises(Fault):
                 wrong()
 
-    def test_links(self):
+    def test_links(self) -> None:
         links = read_links(["LINK 9 UNIFORM 4055238 RANDOM 74990806 STOPS 109427 INDEX 158537455", "INDEX 158537455"])
         link = links.link(9)
         self.assertEqual((link.uniform_vehicle_hours, link.random_vehicle_hours, link.stops_a_second),
                          (4.055238, 74.990806, 0.109427))
         self.assertEqual((link.place("RANDOM"), links.total.place("INDEX")), ("LINKS LINK 9 RANDOM", "LINKS INDEX"))
 
-    def test_timing(self):
+    def test_timing(self) -> None:
         timing = read_timing(TIMING)
         self.assertEqual(timing.plan(), {7: (17, [5, 16]), 8: (1, [5])})
         stage = timing.node(7).stages[1]
         self.assertEqual((stage.number, stage.raw["GREEN"], stage.place("LENGTH")),
                          (2, 6, "TIMING NODE 7 STAGE 2 LENGTH"))
 
-    def test_values_of_steps(self):
+    def test_values_of_steps(self) -> None:
         profile = read_profile(["IN 11 1 2", "GO 11 3 4", "OUT 11 5 6"])
-        self.assertEqual((profile.number, profile.arrivals, profile.go, profile.departures), (11, (1, 2), (3, 4), (5, 6)))
+        self.assertEqual((profile.number, profile.arrivals, profile.go, profile.departures),
+                         (11, (1, 2), (3, 4), (5, 6)))
         queue = read_queue(["QUEUE 11 0 1500000"])
         self.assertEqual((queue.raw, queue.vehicles, queue.place(1)), ((0, 1500000), (0, 1.5), "QUEUE 11 1"))
         self.assertEqual(read_chart(["CHART 4 qqQG.", "END CHART"]), {4: "qqQG."})
 
-    def test_climb_and_certificate(self):
+    def test_climb_and_certificate(self) -> None:
         step = read_step("TOOK 29 CHANGE 21 2 7 INDEX 521795021")
         self.assertEqual((step.place, step.edit, step.index), (29, Edit("CHANGE", (21, 2, 7)), 521795021))
         end = read_climb_end("BUDGET 192 INDEX 518578809")
@@ -69,16 +71,17 @@ class Readers(unittest.TestCase):
                          [(0, "OFFSET 300 15", 520471746), (1, "CHANGE 21 2 1", None)])
         self.assertEqual((certificate.index, str(certificate)), (518578809, "\n".join(lines) + "\n"))
 
-    def test_balance(self):
+    def test_balance(self) -> None:
         node, = read_balance(["NODE 1 PEAK 9000 OF 9500 LINK 2", "STAGE 1 CHANGE 0 GREEN 3 NEED 3",
                               "STAGE 2 CHANGE 4 GREEN 5 NEED 6", "END EQUISAT"])
         self.assertEqual((node.number, node.top, node.base, node.link), (1, 9000, 9500, 2))
         self.assertEqual([stage["CHANGE"] for stage in node.stages], [0, 4])
 
-    def test_last_lines(self):
+    def test_last_lines(self) -> None:
         for command, last, other in (("INDEX", "INDEX 5", None), ("LINKS", "INDEX 5", "LINK 1 UNIFORM 2"),
                                      ("PROFILE 4", "OUT 4 1", "GO 4 1"), ("DECK", "END", "FORM 2"),
-                                     ("CLIMB", "BUDGET 3 INDEX 4", "TOOK 1 OFFSET 1 2 INDEX 4"), ("OFFSET 1 2", "DONE", None),
+                                     ("CLIMB", "BUDGET 3 INDEX 4", "TOOK 1 OFFSET 1 2 INDEX 4"),
+                                     ("OFFSET 1 2", "DONE", None),
                                      ("FIGURES", "TOTAL DELAY 0", "LINK 1 FLOW 2"), ("QUEUE 4", "QUEUE 4 0", None)):
             self.assertTrue(is_last(command, last))
             self.assertTrue(is_last(command, "REFUSED 17"))
@@ -86,12 +89,13 @@ class Readers(unittest.TestCase):
 
 
 class WholeReport(unittest.TestCase):
-    def commands(self, text):
+    def commands(self, text: str) -> List[str]:
+        """The commands of a deck's text but PLOT."""
         lines = lines_of(text)
         after = lines[lines.index("END") + 1:]
         return [line for line in after if not line.startswith("*") and line and line != "STOP" and "PLOT" not in line]
 
-    def test_each_answer_of_the_arterial(self):
+    def test_each_answer_of_the_arterial(self) -> None:
         report = lines_of(support.example("arterial.report"))
         start = next(place for place, line in enumerate(report) if line.startswith("PLOT"))
         count = 1 + 40
@@ -104,7 +108,7 @@ class WholeReport(unittest.TestCase):
         timing = read_timing(next(lines for command, lines in answers if command == "TIMING"))
         self.assertEqual(deck.plan(), timing.plan())
 
-    def test_report_that_ends_early(self):
+    def test_report_that_ends_early(self) -> None:
         with self.assertRaisesRegex(Fault, "before the answer to FIGURES"):
             split_answers(["INDEX", "FIGURES"], ["INDEX 5", *FIGURES[:2]])
 

@@ -4,27 +4,29 @@ import os
 import signal
 import time
 import unittest
+from typing import List, Tuple
 
 import support
 from support import PROGRAM, is_there, needs_program, wait_until
-from transyt.deck import cards_of, read_deck
+from transyt.deck import Deck, cards_of, read_deck
 from transyt.edits import Edit, after, read_edit
 from transyt.faults import Ended, Fault, Refused
 from transyt.session import Session
 
 
-def child_of(session):
+def child_of(session: Session) -> int:
     """The number of a session's child."""
+    assert session._child is not None
     return session._child.process.pid
 
 
 @needs_program
 class Asked(unittest.TestCase):
-    def setUp(self):
+    def setUp(self) -> None:
         self.town = Session(support.example("arterial.deck"), 2, PROGRAM)
         self.addCleanup(self.town.close)
 
-    def test_each_report(self):
+    def test_each_report(self) -> None:
         town = self.town
         figures, links, timing = town.figures(), town.links(), town.timing()
         self.assertEqual(figures.index, town.index())
@@ -43,7 +45,7 @@ class Asked(unittest.TestCase):
         self.assertEqual([len(values) for values in (profile.arrivals, profile.go, profile.departures)], [40] * 3)
         self.assertEqual(profile.place("GO", 3), "PROFILE 43 GO 3")
 
-    def test_deck_is_that_of_the_cards_with_the_edits(self):
+    def test_deck_is_that_of_the_cards_with_the_edits(self) -> None:
         given = read_deck(support.example("arterial.deck"))
         self.assertEqual(self.town.deck(), given)
         edited = given
@@ -53,7 +55,7 @@ class Asked(unittest.TestCase):
             edited = after(edited, read_edit(edit))
         self.assertEqual(self.town.deck(), edited)
 
-    def test_edits_by_name(self):
+    def test_edits_by_name(self) -> None:
         town = self.town
         town.offset(2, 7), town.change(3, 2, 22), town.entry(11, 9), town.part(21, 11, 5)
         town.cruise(21, 13, 5), town.saturation(22, 900), town.weight(32, 5, 6)
@@ -62,15 +64,15 @@ class Asked(unittest.TestCase):
         self.assertEqual((deck.link(21).feed(11).flow, deck.link(21).feed(13).cruise), (5, 5))
         self.assertEqual((deck.link(22).saturation, deck.link(32).delay_weight, deck.link(32).stop_weight), (900, 5, 6))
 
-    def test_certificate(self):
+    def test_certificate(self) -> None:
         certificate = self.town.certificate()
         self.assertEqual(len(certificate.moves), 6 * 6 * 3)
         self.assertEqual(certificate.index, self.town.index())
         self.assertEqual(str(certificate).count("\n"), 6 * 6 * 3 + 1)
         self.assertIsNone(next(move for move in certificate.moves if move.index is None).index)
 
-    def test_a_thousand_trials_a_second(self):
-        def seconds():
+    def test_a_thousand_trials_a_second(self) -> None:
+        def seconds() -> float:
             begin = time.monotonic()
             for count in range(1000):
                 with self.town.trial():
@@ -80,7 +82,7 @@ class Asked(unittest.TestCase):
 
         self.assertLess(min(seconds() for _ in range(3)), 1)  # the machine may be busy for a while
 
-    def test_what_isnt_asked(self):
+    def test_what_isnt_asked(self) -> None:
         for command in ("CLIMB", "STOP", "PLOT 1", "* x", "", "INDEX\nSTOP", "index"):
             with self.assertRaisesRegex(Fault, "no command"):
                 self.town.ask(command)
@@ -89,11 +91,11 @@ class Asked(unittest.TestCase):
 
 @needs_program
 class Trials(unittest.TestCase):
-    def setUp(self):
+    def setUp(self) -> None:
         self.town = Session(support.example("arterial.deck"), 1, PROGRAM)
         self.addCleanup(self.town.close)
 
-    def test_taken_back_unless_kept(self):
+    def test_taken_back_unless_kept(self) -> None:
         before = self.town.index()
         with self.town.trial() as trial:
             self.town.offset(4, 8)
@@ -106,7 +108,7 @@ class Trials(unittest.TestCase):
             trial.keep()
         self.assertEqual(self.town.index(), kept)
 
-    def test_refusal_in_a_trial(self):
+    def test_refusal_in_a_trial(self) -> None:
         before = self.town.index()
         with self.assertRaises(Refused) as caught:
             with self.town.trial():
@@ -116,7 +118,7 @@ class Trials(unittest.TestCase):
         self.assertIn("OFFSET 99 8: ", str(caught.exception))
         self.assertEqual((self.town.index(), self.town.in_trial), (before, False))
 
-    def test_trial_within_a_trial_and_climb_within_one(self):
+    def test_trial_within_a_trial_and_climb_within_one(self) -> None:
         with self.town.trial():
             with self.assertRaises(Refused) as caught:
                 self.town.ask("TRIAL")
@@ -129,7 +131,7 @@ class Trials(unittest.TestCase):
             self.town.ask("BACK")
         self.assertEqual(caught.exception.code, 24)
 
-    def test_exception_in_a_trial_takes_it_back(self):
+    def test_exception_in_a_trial_takes_it_back(self) -> None:
         before = self.town.index()
         with self.assertRaises(ZeroDivisionError):
             with self.town.trial():
@@ -140,11 +142,11 @@ class Trials(unittest.TestCase):
 
 @needs_program
 class Attempts(unittest.TestCase):
-    def setUp(self):
+    def setUp(self) -> None:
         self.town = Session(support.THREE, 1, PROGRAM)
         self.addCleanup(self.town.close)
 
-    def test_index_of_a_try(self):
+    def test_index_of_a_try(self) -> None:
         before = self.town.index()
         tried = self.town.attempt(read_edit("OFFSET 2 7"))
         self.assertTrue(self.town.in_trial)
@@ -156,7 +158,7 @@ class Attempts(unittest.TestCase):
         self.town.ask("BACK")
         self.assertEqual((self.town.index(), self.town.in_trial), (tried, False))
 
-    def test_what_isnt_tried(self):
+    def test_what_isnt_tried(self) -> None:
         for edit, ending in ((read_edit("OFFSET 2 7"), "BACK"), (Edit("INDEX", ()), "")):
             with self.assertRaises(Fault):
                 self.town.attempt(edit, ending)
@@ -168,11 +170,11 @@ class Attempts(unittest.TestCase):
 
 @needs_program
 class Climbs(unittest.TestCase):
-    def setUp(self):
+    def setUp(self) -> None:
         self.town = Session(support.example("arterial.deck"), 2, PROGRAM)
         self.addCleanup(self.town.close)
 
-    def test_steps_and_end(self):
+    def test_steps_and_end(self) -> None:
         climb = self.town.climb()
         steps = list(climb)
         self.assertEqual((climb.local, climb.looked, climb.end.index), (True, 492, steps[-1].index))
@@ -183,7 +185,7 @@ class Climbs(unittest.TestCase):
             deck = after(deck, step.edit)
         self.assertEqual(self.town.deck(), deck)
 
-    def test_another_call_meanwhile_raises(self):
+    def test_another_call_meanwhile_raises(self) -> None:
         climb = self.town.climb()
         next(climb)
         with self.assertRaisesRegex(Fault, "climb is being read"):
@@ -191,7 +193,7 @@ class Climbs(unittest.TestCase):
         climb.run()
         self.assertEqual(self.town.index(), climb.end.index)
 
-    def test_left_early(self):
+    def test_left_early(self) -> None:
         child = child_of(self.town)
         for step in self.town.climb():
             if step.place == 7:
@@ -200,12 +202,12 @@ class Climbs(unittest.TestCase):
         self.assertEqual(self.town.index(), step.index)
         self.assertTrue(self.town.climb().run().local)
 
-    def test_left_before_its_first_step(self):
+    def test_left_before_its_first_step(self) -> None:
         before = self.town.index()
         self.town.climb().close()
         self.assertEqual(self.town.index(), before)
 
-    def test_stopped_from_another_thread(self):
+    def test_stopped_from_another_thread(self) -> None:
         climb = self.town.climb()
         first = next(climb)
         climb.stop()
@@ -213,7 +215,7 @@ class Climbs(unittest.TestCase):
         self.assertIsNone(climb.end)
         self.assertEqual(self.town.index(), (rest or [first])[-1].index)
 
-    def test_session_ends_in_a_climb(self):
+    def test_session_ends_in_a_climb(self) -> None:
         child = child_of(self.town)
         with self.assertRaises(ZeroDivisionError):
             with self.town:
@@ -223,7 +225,7 @@ class Climbs(unittest.TestCase):
         with self.assertRaises(Ended):
             self.town.index()
 
-    def test_ctrl_c_in_a_climb(self):
+    def test_ctrl_c_in_a_climb(self) -> None:
         child = child_of(self.town)
         signal.signal(signal.SIGALRM, lambda *_: (_ for _ in ()).throw(KeyboardInterrupt()))
         self.addCleanup(signal.signal, signal.SIGALRM, signal.SIG_DFL)
@@ -233,7 +235,7 @@ class Climbs(unittest.TestCase):
         self.assertTrue(wait_until(lambda: not is_there(child)))
         self.assertEqual(self.town.index(), step.index)
 
-    def test_deck_without_a_climb_plan(self):
+    def test_deck_without_a_climb_plan(self) -> None:
         text = "".join(line + "\n" for line in cards_of(support.THREE).split("\n") if not line.startswith("STEPS"))
         with Session(text, 1, PROGRAM) as town:
             with self.assertRaises(Refused) as caught:
@@ -244,10 +246,11 @@ class Climbs(unittest.TestCase):
 
 @needs_program
 class AnotherChild(unittest.TestCase):
-    def follow(self, full):
+    def follow(self, full: int) -> Tuple[List[object], int, Deck]:
         """What a session answers to some edits, trials and climbs, and how many children it had."""
         with Session(support.THREE, 1, PROGRAM, full=full) as town:
-            told, children = [], {child_of(town)}
+            told: List[object] = []
+            children = {child_of(town)}
             for count in range(60):
                 town.offset(2, count % 12)
                 with town.trial() as trial:
@@ -262,7 +265,7 @@ class AnotherChild(unittest.TestCase):
                 told += [town.index(), town.work()]
             return told, len(children), town.deck()
 
-    def test_a_session_over_many_children_answers_alike(self):
+    def test_a_session_over_many_children_answers_alike(self) -> None:
         one, few, deck = self.follow(3_000_000)
         self.assertEqual(few, 1)
         for full in (700, 1000, 3000):
@@ -270,7 +273,7 @@ class AnotherChild(unittest.TestCase):
             self.assertEqual((told, last), (one, deck))
             self.assertGreater(many, 2)
 
-    def test_past_the_programs_limit(self):
+    def test_past_the_programs_limit(self) -> None:
         with Session(support.THREE, 1, PROGRAM) as town:
             children, before, sent = {child_of(town)}, town.index(), 0
             with town.trial():
@@ -289,36 +292,36 @@ class AnotherChild(unittest.TestCase):
 
 @needs_program
 class Decks(unittest.TestCase):
-    def test_deck_refused_at_end(self):
+    def test_deck_refused_at_end(self) -> None:
         with self.assertRaises(Refused) as caught:
             Session(support.THREE.replace("STAGE 7 1 2", "STAGE 11 1 9"), 1, PROGRAM)
         self.assertEqual((caught.exception.code, caught.exception.line, caught.exception.command), (19, 30, "END"))
 
-    def test_card_that_is_refused(self):
+    def test_card_that_is_refused(self) -> None:
         with self.assertRaises(Refused) as caught:
             Session(support.THREE.replace("NODE 2 3", "NODE 2 30"), 1, PROGRAM)
         self.assertEqual((caught.exception.code, caught.exception.line, caught.exception.command), (14, 9, "NODE 2 30"))
 
-    def test_deck_without_end(self):
+    def test_deck_without_end(self) -> None:
         with self.assertRaises(Refused) as caught:
             Session(support.THREE.replace("END\n", ""), 1, PROGRAM)
         self.assertEqual((caught.exception.code, caught.exception.command), (21, "the deck"))
 
-    def test_text_after_end_isnt_sent(self):
+    def test_text_after_end_isnt_sent(self) -> None:
         with Session(support.THREE + "OFFSET 1 5\nSTOP\n", 1, PROGRAM) as town:
             self.assertEqual(town.deck().node(1).offset, 0)
 
-    def test_names_and_comments_go_along(self):
+    def test_names_and_comments_go_along(self) -> None:
         with Session(support.THREE, 1, PROGRAM) as town:
             self.assertEqual(town.deck(), read_deck(support.THREE))
             self.assertIn("* NAME NODE 1 Market Street\nNODE 1 0\n", str(town.deck()))
 
-    def test_deck_as_value_and_as_bytes(self):
+    def test_deck_as_value_and_as_bytes(self) -> None:
         for deck in (read_deck(support.THREE), support.THREE.encode()):
             with Session(deck, 1, PROGRAM) as town:
                 self.assertEqual(town.deck(), read_deck(support.THREE))
 
-    def test_comment_in_other_bytes(self):
+    def test_comment_in_other_bytes(self) -> None:
         # each of these bytes is shown as three, and the line is still one that the program takes
         data = b"* " + b"\xe4" * 4000 + b"\n" + support.THREE.encode()
         for deck in (data, data.decode("utf-8", "surrogateescape")):
@@ -327,7 +330,7 @@ class Decks(unittest.TestCase):
                 with Session(town.deck(), 1, PROGRAM) as again:
                     self.assertEqual(again.index(), town.index())
 
-    def test_deck_that_is_too_long(self):
+    def test_deck_that_is_too_long(self) -> None:
         with self.assertRaisesRegex(Fault, "4,194,304"):
             Session("* x\n" * 1_100_000 + support.THREE, 1, PROGRAM)
 

@@ -76,8 +76,8 @@ FAULTS: List[Tuple[Change, str]] = [
     (put("stages", 3, 2, "3"), "stages.csv, row 3, stage: junction 1 has a stage 3 and no stage 2"),
     (put("stages", 3, 2, "1"), "stages.csv, row 3, stage: stage 1 of junction 1 stands twice"),
     (put("stages", 3, 5, ""), "stages.csv, row 3, least: it is empty"),
-    (put("stages", 3, 5, "1"), "stages.csv, row 3, least: 1 s is no whole number of steps of 2 s; the nearest are 0 and "
-                               "2 s"),
+    (put("stages", 3, 5, "1"), "stages.csv, row 3, least: 1 s is no whole number of steps of 2 s; the nearest are 0 "
+                               "and 2 s"),
     (put("stages", 3, 5, "0"), "stages.csv, row 3, least: 0 s is not within 2 to 80 s"),
     (put("stages", 3, 6, ""), "stages.csv, row 3, change: it is empty, and other changes of junction 1 aren't"),
     (put("stages", 2, 1, "9"), "stages.csv, row 2, junction: there is no junction 9"),
@@ -123,7 +123,8 @@ FAULTS: List[Tuple[Change, str]] = [
     (put("periods", 2, 1, "HALF"), "periods.csv, row 3, name: half stands twice"),
     (put("periods", 2, 2, "23:30"), "periods.csv, row 2, for: the period goes on after midnight"),
     (feeders(8), "links.csv, row 4, link: link 21 is fed by 10 links, and 8 are the most"),
-    (put("counts", 7, 5, "12500"), "links.csv, row 4, link: the feed from link 11 of link 21 is 10,204 vehicles an hour"),
+    (put("counts", 7, 5, "12500"),
+     "links.csv, row 4, link: the feed from link 11 of link 21 is 10,204 vehicles an hour"),
     (put("counts", 6, 7, "20000"), "links.csv, row 3, link: the entry flow of link 12 is 20,000 vehicles an hour"),
 ]
 

@@ -202,7 +202,9 @@ def between(least: int, most: int) -> Callable[[str], int]:
 
 def wanted_of(args: argparse.Namespace) -> Wanted:
     """What the arguments of `add_wanted` say."""
-    cycles = tuple(args.cycles) if args.cycles else None
-    if cycles and not (30 <= cycles[0] <= cycles[1] <= 240):
-        raise Fault(f"--cycles {cycles[0]} {cycles[1]} {cycles[2]}: cycle times are 30 to 240 s, the low one first")
-    return Wanted(cycles, args.starts, args.kicks, args.seed, args.workers)
+    if not args.cycles:
+        return Wanted(None, args.starts, args.kicks, args.seed, args.workers)
+    low, high, by = args.cycles
+    if not 30 <= low <= high <= 240:
+        raise Fault(f"--cycles {low} {high} {by}: cycle times are 30 to 240 s, the low one first")
+    return Wanted((low, high, by), args.starts, args.kicks, args.seed, args.workers)

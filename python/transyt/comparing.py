@@ -11,9 +11,11 @@ from .report import Figures, LinkFigures
 from .text import csv_name
 
 # Each figure of a link that is compared: its word in FIGURES, its head, and how a raw number is shown.
-FIGURES: Tuple[Tuple[str, str, Callable[[int], str]], ...] = (
+NO_GREEN = 999_999  # SATURATION where GO is 0
+Shown = Callable[[int], str]
+FIGURES: Tuple[Tuple[str, str, Shown], ...] = (
     ("DELAY", "s a vehicle", lambda raw: f"{raw / 10:.1f}"),
-    ("SATURATION", "saturation %", lambda raw: "no green" if raw >= 999_999 else f"{raw / 10:.1f}"),
+    ("SATURATION", "saturation %", lambda raw: "no green" if raw >= NO_GREEN else f"{raw / 10:.1f}"),
     ("QUEUE", "queue", lambda raw: f"{raw / 1_000_000:.1f}"),
 )
 
@@ -52,13 +54,19 @@ def compared(one: Answers, other: Answers) -> Comparison:
     rows: List[Row] = []
     for number in dict.fromkeys([link.number for link in (*deck.links, *second.links)]):
         name = deck.names.links.get(number) or second.names.links.get(number) or ""
-        rows.append(Row(number, name, figures_of(first_figures, deck, number), figures_of(second_figures, second, number)))
+        rows.append(Row(number, name, figures_of(first_figures, deck, number),
+                        figures_of(second_figures, second, number)))
     rows.sort(key=lambda row: (row.one is None or row.other is None, -row.loss))
     same = [link.number for link in deck.links] == [link.number for link in second.links]
-    frames = [(two.frame.sweeps, two.frame.period, two.frame.stop_penalty, two.frame.dispersion,
-               sorted((link.number, link.delay_weight, link.stop_weight) for link in two.links)) for two in (deck, second)]
-    return Comparison(tuple(differences_of(deck, second)), same, frames[0] == frames[1], tuple(rows), first_figures,
-                      second_figures)
+    return Comparison(tuple(differences_of(deck, second)), same, index_by(deck) == index_by(second), tuple(rows),
+                      first_figures, second_figures)
+
+
+def index_by(deck: Deck) -> object:
+    """What an index is reckoned by: S, T, K, k and the weights; where these differ two indexes have no difference."""
+    frame = deck.frame
+    return (frame.sweeps, frame.period, frame.stop_penalty, frame.dispersion,
+            sorted((link.number, *weights_of(link)) for link in deck.links))
 
 
 def figures_of(figures: Figures, deck: Deck, number: int) -> Optional[LinkFigures]:
@@ -69,8 +77,9 @@ def figures_of(figures: Figures, deck: Deck, number: int) -> Optional[LinkFigure
 def differences_of(one: Deck, other: Deck) -> List[str]:
     """What differs besides offsets and changes: the frame, and flows, saturations, weights and cruise times."""
     told = []
-    for word, name in (("cycle", "cycle, s"), ("step_count", "steps"), ("sweeps", "sweeps S"), ("period", "period T, min"),
-                       ("stop_penalty", "stop penalty K"), ("dispersion", "dispersion k, %")):
+    for word, name in (("cycle", "cycle, s"), ("step_count", "steps"), ("sweeps", "sweeps S"),
+                       ("period", "period T, min"), ("stop_penalty", "stop penalty K"),
+                       ("dispersion", "dispersion k, %")):
         before, after = getattr(one.frame, word), getattr(other.frame, word)
         if before != after:
             told.append(f"{name}: {before} and {after}")
@@ -88,7 +97,7 @@ def flow_of(link: Link) -> object:
     return link.entry, sorted((feed.feeder, feed.flow) for feed in link.feeds)
 
 
-def weights_of(link: Link) -> object:
+def weights_of(link: Link) -> Tuple[int, int]:
     """The weights of a link."""
     return link.delay_weight, link.stop_weight
 
@@ -98,13 +107,11 @@ def cruises_of(link: Link) -> object:
     return sorted((feed.feeder, feed.cruise) for feed in link.feeds)
 
 
-def cells_of(row: Row, word: str, shown: Callable[[int], str]) -> Tuple[str, str, str]:
+def cells_of(row: Row, word: str, shown: Shown) -> Tuple[str, str, str]:
     """A figure of both plans, and the difference, as text."""
     one, other = (None if figures is None else figures.raw[word] for figures in (row.one, row.other))
-    difference = ""
-    if one is not None and other is not None and max(one, other) < 999_999 * (word == "SATURATION") + 2**63 * (
-            word != "SATURATION"):
-        difference = f"{'+' if other > one else '-' if other < one else ''}{shown(abs(other - one))}"
+    both = one is not None and other is not None and (word != "SATURATION" or max(one, other) < NO_GREEN)
+    difference = signed(one or 0, other or 0, shown) if both else ""
     return "" if one is None else shown(one), "" if other is None else shown(other), difference
 
 
@@ -113,11 +120,20 @@ def totals_of(comparison: Comparison) -> List[Tuple[str, str, str, str]]:
     rows = []
     for word, name in (("DELAY", "delay, vehicle-hours in an hour"), ("STOPS", "stops a second"), ("INDEX", "INDEX")):
         one, other = comparison.one.total.raw[word], comparison.other.total.raw[word]
-        shown: Callable[[int], str] = str if word == "INDEX" else in_millions
+        shown: Shown = whole if word == "INDEX" else in_millions
         comparable = comparison.is_same_network and (word != "INDEX" or comparison.is_same_index)
-        rows.append((name, shown(one), shown(other),
-                     f"{'+' if other > one else '-' if other < one else ''}{shown(abs(other - one))}" if comparable else ""))
+        rows.append((name, shown(one), shown(other), signed(one, other, shown) if comparable else ""))
     return rows
+
+
+def signed(one: int, other: int, shown: Shown) -> str:
+    """The second number less the first, with its sign."""
+    return f"{'+' if other > one else '-' if other < one else ''}{shown(abs(other - one))}"
+
+
+def whole(raw: int) -> str:
+    """A number as it is."""
+    return str(raw)
 
 
 def in_millions(raw: int) -> str:

@@ -101,8 +101,8 @@ def common_cycle(day: Day, decks: Sequence[Deck]) -> int:
 def made_period(day: Day, folder: str, deck: Deck, before: Optional[Deck]) -> Planned:
     """A period's plan, as it is filed already where nothing that it is made of has changed, or searched and filed."""
     name = os.path.basename(folder)
-    key = sum_of("\n".join([str(deck), str(day.wanted), str(replace(day.asked, sheets=None)), str(before and before.plan()),
-                            str(before and before.frame)]).encode("utf-8"))
+    made_of = (deck, day.wanted, replace(day.asked, sheets=None), before and before.plan(), before and before.frame)
+    key = sum_of("\n".join(map(str, made_of)).encode("utf-8"))
     kept = filed_before(folder, key)
     if kept:
         day.tell(f"{name}: nothing that it is made of has changed")
@@ -168,7 +168,11 @@ def least_turn(deck: Deck, before: Deck) -> int:
     count = deck.frame.step_count
     apart = [(begin_of(deck, node.number) - begin_of(before, node.number)) % count for node in deck.nodes
              if node.number in before.node_by_number]
-    return min(range(count), key=lambda turn: (sum(min((way + turn) % count, -(way + turn) % count) for way in apart), turn))
+
+    def moved(turn: int) -> int:
+        return sum(min((way + turn) % count, -(way + turn) % count) for way in apart)
+
+    return min(range(count), key=lambda turn: (moved(turn), turn))
 
 
 def begin_of(deck: Deck, number: int) -> int:

@@ -316,16 +316,16 @@ class _Cards:
         elif word == "NODE":
             self.nodes[_new(numbers[0], self.nodes)] = Node(numbers[0], numbers[1])
         elif word == "STAGE":
-            node = list(self.nodes.values())[-1]
-            self.nodes[node.number] = replace(node, stages=node.stages + (Stage(*numbers),))
+            last = list(self.nodes.values())[-1]
+            self.nodes[last.number] = replace(last, stages=last.stages + (Stage(*numbers),))
         elif word == "LINK":
             number, node, entry, saturation, delay, stop, *rest = numbers if self.form == 2 else [*numbers[:6], 0, 0,
                                                                                                *numbers[6:]]
             self.links[_new(number, self.links)] = Link(number, node, entry, saturation, delay, stop, rest[0], rest[1],
                                                         tuple(rest[2:]))
         elif word == "FEED":
-            link = self.links[numbers[0]]
-            self.links[link.number] = replace(link, feeds=link.feeds + (Feed(*numbers[1:]),))
+            fed = self.links[numbers[0]]
+            self.links[fed.number] = replace(fed, feeds=fed.feeds + (Feed(*numbers[1:]),))
         elif word == "YIELD":
             self.links[numbers[0]] = replace(self.links[numbers[0]], gives_way=GiveWay(*numbers[1:]))
         elif word == "STEPS":

@@ -48,7 +48,7 @@ def digest(text_of: str) -> str:
 
 
 def document(title: str, body: str) -> str:
-    """A page that needs no network: its policy allows its own style sheet and script by their sums, and nothing else."""
+    """A page that needs no network: its policy allows its own style sheet and script by their sums, nothing else."""
     policy = f"default-src 'none'; style-src '{digest(CSS)}'; script-src '{digest(SCRIPT)}'"
     return (f'<!DOCTYPE html>\n<html lang="en">\n<head>\n<meta charset="utf-8">\n'
             f'<meta http-equiv="Content-Security-Policy" content="{policy}">\n'

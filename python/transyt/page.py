@@ -1,7 +1,7 @@
 """The page of a plan: one file that needs no network and no script, with the pictures, the figures and the tables.
 
-Each figure stands in a `<data>` with its raw value and its place in the report, as `FIGURES LINK 21 DELAY`. A place with
-a `+` is the sum of numbers, round the cycle where it is a time.
+Each figure stands in a `<data>` with its raw value and its place in the report, as `FIGURES LINK 21 DELAY`. A place
+with a `+` is the sum of numbers, round the cycle where it is a time.
 """
 
 from typing import List, Optional, Sequence, Tuple
@@ -29,12 +29,13 @@ def page(answers: Answers, against: Optional[Answers] = None, top: str = "", foo
     if pictures.routes_of(deck):
         parts += ["<h2>Road</h2>", pictures.road(answers)]
     parts += ["<h2>Signals</h2>", pictures.signals(answers), "<h2>Saturation</h2>", pictures.saturation(answers),
-              "<h2>Links</h2>", links_table(answers, deck), "<h2>For the controllers</h2>", controller_table(answers, deck)]
+              "<h2>Links</h2>", links_table(answers, deck),
+              "<h2>For the controllers</h2>", controller_table(answers, deck)]
     if deck.climb_plan:
         parts += ["<h2>Certificate</h2>", certificate_part(answers.certificate(), deck)]
-    parts += ['<p class="small">Delay, queue, saturation, stops and INDEX are the program\'s; of each the page has the raw '
-              "number and its place in the report. They hold for the model: docs/GUIDE.md says when not to trust it.</p>",
-              foot]
+    parts += ['<p class="small">Delay, queue, saturation, stops and INDEX are the program\'s; of each the page has the '
+              "raw number and its place in the report. They hold for the model: docs/GUIDE.md says when not to trust "
+              "it.</p>", foot]
     return document(name, "\n".join(part for part in parts if part))
 
 
@@ -60,8 +61,8 @@ def links_table(answers: Answers, deck: Deck) -> str:
     """The links with their figures; a queue in metres where the sheets told lanes, marked where it is longer than a
     link."""
     rows = [link_row(deck, one) for one in answers.figures().links]
-    return table(["link", "name", "veh/h", "saturation %", "s a vehicle", "stopped %", "queue, veh", "queue, m"], rows, 6,
-                 "sortable")
+    heads = ["link", "name", "veh/h", "saturation %", "s a vehicle", "stopped %", "queue, veh", "queue, m"]
+    return table(heads, rows, 6, "sortable")
 
 
 def link_row(deck: Deck, one: LinkFigures) -> List[str]:
@@ -72,7 +73,8 @@ def link_row(deck: Deck, one: LinkFigures) -> List[str]:
     saturation = f"{one.raw['SATURATION'] / 10:.1f}" if one.has_capacity else "no green"
     return [str(one.number), text(deck.names.links.get(one.number, "")), cell("FLOW", str(one.flow_an_hour)),
             cell("SATURATION", saturation), cell("DELAY", f"{one.delay_seconds:.1f}"),
-            cell("STOPPED", f"{100 * one.stopped:.1f}"), cell("QUEUE", f"{one.queue_vehicles:.1f}"), metres_cell(deck, one)]
+            cell("STOPPED", f"{100 * one.stopped:.1f}"), cell("QUEUE", f"{one.queue_vehicles:.1f}"),
+            metres_cell(deck, one)]
 
 
 def metres_cell(deck: Deck, one: LinkFigures) -> str:
@@ -120,11 +122,12 @@ def certificate_part(certificate: Certificate, deck: Deck) -> str:
     indexes = [move.index for move in certificate.moves if move.index is not None]
     lower = sum(1 for index in indexes if index < certificate.index)
     sizes = " ".join(map(str, deck.climb_plan.sizes)) if deck.climb_plan else ""
-    ended = "LOCAL: no listed move lowers INDEX" if not lower else f"{lower} listed moves lower INDEX: the climb isn't over"
+    ended = f"{lower} listed moves lower INDEX: the climb isn't over" if lower else "LOCAL: no listed move lowers INDEX"
     least = f"; the least with a move is {figure('CERT least', min(indexes), str(min(indexes)))}" if indexes else ""
-    return (f"<p>{ended}. {figure('CERT places', len(certificate.moves), str(len(certificate.moves)))} moves by steps of "
-            f"{sizes}, {figure('CERT barred', len(certificate.moves) - len(indexes), str(len(certificate.moves) - len(indexes)))}"
-            f" of them barred; INDEX {figure('CERT INDEX', certificate.index, str(certificate.index))}{least}. "
+    places, barred = len(certificate.moves), len(certificate.moves) - len(indexes)
+    return (f"<p>{ended}. {figure('CERT places', places, str(places))} moves by steps of {sizes}, "
+            f"{figure('CERT barred', barred, str(barred))} of them barred; "
+            f"INDEX {figure('CERT INDEX', certificate.index, str(certificate.index))}{least}. "
             "It says as much as the list.</p>")
 
 
@@ -133,8 +136,8 @@ def comparison_part(comparison: Comparison) -> str:
     told = "".join(f"<li>{text(difference)}</li>" for difference in comparison.differences)
     rows = [[cells[0], text(cells[1]), *marked(cells[2:])] for cells in table_rows(comparison)]
     totals = [[text(name), one, other, signed(difference)] for name, one, other, difference in totals_of(comparison)]
-    return ("<h2>Against the other plan</h2>" + (f"<p>Besides offsets and changes these differ:</p><ul>{told}</ul>" if told
-                                                 else "")
+    also = f"<p>Besides offsets and changes these differ:</p><ul>{told}</ul>" if told else ""
+    return (f"<h2>Against the other plan</h2>{also}"
             + table(["total", "this plan", "against", "difference"], totals, 3)
             + table(heads(), rows, len(heads()) - 2, "sortable"))
 

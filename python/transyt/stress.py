@@ -31,7 +31,8 @@ def scaled(deck: Deck, factor: Fraction) -> Deck:
         return (2 * product.numerator + product.denominator) // (2 * product.denominator)
 
     links = tuple(replace(link, entry=times(link.entry),
-                          feeds=tuple(replace(feed, flow=times(feed.flow)) for feed in link.feeds)) for link in deck.links)
+                          feeds=tuple(replace(feed, flow=times(feed.flow)) for feed in link.feeds))
+                  for link in deck.links)
     return replace(deck, links=links)
 
 

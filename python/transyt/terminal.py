@@ -54,7 +54,8 @@ def open_session(path: str, args: argparse.Namespace, workers: Optional[int] = N
     """A session of the deck in a file; a fault of it has the file's name, and name lines that are left are told."""
     data = read_file(path)
     try:
-        return Session(data, workers or getattr(args, "workers", 1), args.program, lambda said: tell(f"{path}, {said}"))
+        count = workers or int(getattr(args, "workers", 1))
+        return Session(data, count, args.program, lambda said: tell(f"{path}, {said}"))
     except Fault as fault:
         raise in_file(path, fault) from fault
 

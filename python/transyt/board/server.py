@@ -202,7 +202,8 @@ class Handler(BaseHTTPRequestHandler):
         self._deadline.cancel()
         self.close_connection = True
         self.send_response(status)
-        for name, value in (*HEADERS, ("Content-Type", kind), ("Content-Length", str(len(data))), ("Connection", "close")):
+        for name, value in (*HEADERS, ("Content-Type", kind), ("Content-Length", str(len(data))),
+                            ("Connection", "close")):
             self.send_header(name, value)
         self.end_headers()
         if self.command != "HEAD":

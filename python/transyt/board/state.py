@@ -193,7 +193,8 @@ class Board:
         if wrong:
             self._session.close(at_once=True)
             self._session = Session(self._kept, self._workers, self._program)
-            return "the steps of the climb don't lead to the index that the program told: the plan from before it stands"
+            return ("the steps of the climb don't lead to the index that the program told: the plan from before it "
+                    "stands")
         self._kept = deck
         if change:
             self._undo.append(change)

@@ -1,1 +1,1 @@
-"""A filed plan: a folder with the deck, the program's answer to it, the certificate, the controller's sheet and the page."""
+"""A filed plan: a folder with the deck, the program's answer, the certificate, the controller's sheet, the page."""

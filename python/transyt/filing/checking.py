@@ -1,7 +1,7 @@
 """Checking a filed plan: a line a thing, and whether all of it holds.
 
-Nothing of the folder is run as a command, and no path in it leads out of it. What can't be found here: a folder that was
-made anew as a whole; only the sum on the signed paper shows that.
+Nothing of the folder is run as a command, and no path in it leads out of it. What can't be found here: a folder that
+was made anew as a whole; only the sum on the signed paper shows that.
 """
 
 import os
@@ -83,7 +83,7 @@ class Check:
             return False
         told = self.files.pop(SUMS)
         wanted = sums_text(self.files).encode("ascii", "replace")
-        differ = [line.split("  ", 1)[1] for line in wanted.decode().splitlines()
+        differ = [line.split("  ", 1)[1] for line in wanted.decode().split("\n")[:-1]
                   if line not in told.decode("utf-8", "replace").split("\n")]
         return self.note(told == wanted, f"{SUMS} has the sums of all files",
                          f"{SUMS} hasn't the sum of {', '.join(differ)}" if differ else f"{SUMS} has lines of its own")
@@ -108,8 +108,8 @@ class Check:
         if same:
             self.note(True, f"the program is the one that was filed: {version}")
         else:
-            self.note(not self.same_program, f"the program is another one: {version} ({total[:16]}..), and {filed.program} "
-                                             f"({filed.program_sum[:16]}..) was filed")
+            self.note(not self.same_program, f"the program is another one: {version} ({total[:16]}..), and "
+                                             f"{filed.program} ({filed.program_sum[:16]}..) was filed")
 
     def check_report(self, deck: Deck) -> Optional[FiledReport]:
         """plan.report is the answer to plan.deck, to the byte."""
@@ -163,15 +163,16 @@ class Check:
                       for (raw, place, shown), (raw_right, place_right, shown_right) in zip(figures, right)
                       if (raw, place, shown) != (raw_right, place_right, shown_right)), None)
         if wrong or len(figures) != len(right) or filed.plan == plan_name():
-            self.note(False, "", f"{PAGE}: {wrong}" if wrong else f"{PAGE}, line {first_difference(found, wanted)}: it isn't "
-                      f"the page of {REPORT}")
+            self.note(False, "", f"{PAGE}: {wrong}" if wrong else
+                      f"{PAGE}, line {first_difference(found, wanted)}: it isn't the page of {REPORT}")
         else:
-            self.note(True, f"{PAGE} has the {len(figures)} figures of {REPORT}; text and pictures, by {filed.plan}, weren't "
-                      "compared")
+            self.note(True, f"{PAGE} has the {len(figures)} figures of {REPORT}; text and pictures, by {filed.plan}, "
+                      "weren't compared")
 
     def check_sheets(self, filed: Filed, deck: Deck) -> None:
         """The sheets are those that were filed, and the deck is what they give."""
-        there = {name[len(SHEETS) + 1:]: sum_of(data) for name, data in self.files.items() if name.startswith(SHEETS + "/")}
+        there = {name[len(SHEETS) + 1:]: sum_of(data) for name, data in self.files.items()
+                 if name.startswith(SHEETS + "/")}
         odd = {name for name, _ in set(there.items()) ^ set(filed.sheets.items())}
         if not self.note(not odd, f"{len(there)} sheets are those that {DECK} names",
                          f"the sheets aren't those that {DECK} names: {', '.join(sorted(odd))}"):
@@ -182,7 +183,7 @@ class Check:
         try:
             told = differences(deck, self.deck_of_sheets(deck, there))
         except Fault as fault:
-            self.note(False, "", f"the sheets can't be read: {str(fault).splitlines()[0]}")
+            self.note(False, "", f"the sheets can't be read: {lines_of(str(fault))[0]}")
             return
         wrong = [sentence for is_wrong, sentence in told if is_wrong]
         also = "".join(f"; {sentence}" for is_wrong, sentence in told if not is_wrong)
@@ -195,13 +196,14 @@ class Check:
         if len(words) != 4 or words[0] != "--from" or words[2] != "--for" or not words[3].isdecimal():
             raise Fault(f"{DECK} has no line * SHEETS --from HH:MM --for MINUTES")
         folder = os.path.join(self.path, SHEETS)
-        path = os.path.join(folder, next(iter(there))) if len(there) == 1 and next(iter(there)).endswith(".xlsx") else folder
+        alone = next(iter(there)) if len(there) == 1 else ""
+        path = os.path.join(folder, alone) if alone.endswith(".xlsx") else folder
         made = make_deck(read_sheets(path), read_window(words[1], int(words[3])))
         return balanced(made, self.program.path).deck if self.program is not None else made.deck
 
 
 def differences(deck: Deck, sheets: Deck) -> List[Tuple[bool, str]]:
-    """What differs between a deck and that of its sheets: whether it is wrong, and a sentence. Offsets and changes may."""
+    """What differs between a deck and that of its sheets, but offsets and changes: whether it is wrong; a sentence."""
     told: List[Tuple[bool, str]] = []
     one, other = deck.frame, sheets.frame
     if one.cycle * other.step_count != other.cycle * one.step_count:

@@ -25,7 +25,7 @@ def sum_of(data: bytes) -> str:
 
 @dataclass(frozen=True)
 class Filed:
-    """What a filed plan says of itself: title, name, date, whether it is finished, what made it, and its sheets' sums."""
+    """What a filed plan says of itself: title, name, date, whether it is finished, what made it, its sheets' sums."""
 
     title: str
     by: str

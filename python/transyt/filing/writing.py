@@ -20,7 +20,7 @@ from .folder import (CERTIFICATE, CONTROLLER, DECK, PAGE, REPORT, SHEETS, SUMS, 
 
 @dataclass(frozen=True)
 class Asked:
-    """What a filing is asked with: title, name, date, the sheets' folder, and whether an unfinished plan is filed too."""
+    """What a filing is asked with: title, name, date, the sheets' folder, whether an unfinished plan is filed too."""
 
     title: str
     by: str
@@ -61,8 +61,8 @@ def filed_page(report: FiledReport, filed: Filed, deck_sum: str) -> str:
     mark = "" if filed.finished else '<p class="mark">UNFINISHED: a listed move lowers the index.</p>'
     top = f"<p>{text(filed.by)}, {text(filed.date)}</p>{mark}"
     foot = (f'<p class="small">SHA-256 of plan.deck: <code>{deck_sum}</code>. Made by {text(filed.program)} and '
-            f"{text(filed.plan)}. Who checks the folder compares this sum with that of the paper that was signed: a folder "
-            "that was made anew as a whole only the paper shows.</p>")
+            f"{text(filed.plan)}. Who checks the folder compares this sum with that of the paper that was signed: a "
+            "folder that was made anew as a whole only the paper shows.</p>")
     return page(report, top=top, foot=foot, title=filed.title)
 
 

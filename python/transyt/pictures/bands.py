@@ -23,8 +23,8 @@ def draw_bands(drawing: Drawing, axis: Axis, deck: Deck, profile: Profile, way: 
         values = profile.departures[begin:end]
         points = [(axis.x(begin * step), begin_y), (axis.x(end * step), begin_y),
                   (axis.x(end * step + cruise), end_y), (axis.x(begin * step + cruise), end_y)]
-        drawing.shape(points, FLOW, f"departures of link {profile.number} in steps {begin} to {end - 1}: {min(values)} to "
-                      f"{max(values)} (OUT); {cruise} s to the next stop line", opacity=DARKEST * shade / SHADES)
+        drawing.shape(points, FLOW, f"departures of link {profile.number} in steps {begin} to {end - 1}: {min(values)} "
+                      f"to {max(values)} (OUT); {cruise} s to the next stop line", opacity=DARKEST * shade / SHADES)
     drawing.close()
     for turn in range(-1 - int(cruise / cycle), 2):
         if turn:

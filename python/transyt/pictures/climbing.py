@@ -42,14 +42,16 @@ def drawn(deck: Deck, before: int, steps: List[Step], end: ClimbEnd, caption: st
     looks = looks_of(steps, count)
     last = looks[-1] if looks else 0
     if end.looked != (last + count if end.local else deck.climb_plan.budget) or last > end.looked:
-        raise Fault(f"the last step of the climb is at look {last} of {end.looked}, which a list of {count} moves hasn't")
+        raise Fault(f"the last step of the climb is at look {last} of {end.looked}, which a list of {count} moves "
+                    "hasn't")
     drawing = Drawing("climb", 270, "The index over the looks of a climb", caption)
     least, most = end.index, max(before, end.index + 1)
     left, right, top, bottom = 96.0, WIDE - 30, 26.0, 236.0
 
     def at(look: int, index: int) -> Tuple[float, float]:
         """Where an index at a look stands."""
-        return left + (right - left) * look / max(end.looked, 1), bottom - (bottom - top) * (index - least) / (most - least)
+        high = (bottom - top) * (index - least) / (most - least)
+        return left + (right - left) * look / max(end.looked, 1), bottom - high
 
     drawing.box((left, top), (right - left, bottom - top), PALE)
     points, index = [at(0, before)], before
@@ -64,6 +66,6 @@ def drawn(deck: Deck, before: int, steps: List[Step], end: ClimbEnd, caption: st
         drawing.words((left - 6, at(0, value)[1] + 4), str(value), "end", size=10.5)
     drawing.words((left, bottom + 16), "0", "middle", size=10.5)
     drawing.words((right, bottom + 16), f"{end.looked} looks", "end", size=10.5)
-    drawing.words((left, top - 8), f"INDEX, {len(steps)} steps, {'LOCAL' if end.local else 'BUDGET'} {end.looked} INDEX "
-                  f"{end.index}", size=11)
+    drawing.words((left, top - 8), f"INDEX, {len(steps)} steps, {'LOCAL' if end.local else 'BUDGET'} {end.looked} "
+                  f"INDEX {end.index}", size=11)
     return str(drawing)

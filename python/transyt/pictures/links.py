@@ -5,7 +5,7 @@ from typing import List, Sequence, Tuple
 from ..deck import Deck
 from ..report import UNITS, LinkFigures
 from .source import Answers, isolated, link_name, whose
-from .svg import CAN_GO, CANNOT, FLOW, INK, MIDDLE, PALE, QUEUE, WIDE, Axis, Drawing, legend, number
+from .svg import CANNOT, FLOW, INK, MIDDLE, PALE, QUEUE, WIDE, Axis, Drawing, legend, number
 
 MOST_LINKS = 60  # of the picture of saturations
 LEFT = 64.0

@@ -85,7 +85,8 @@ def opposite_of(deck: Deck, route: Route) -> List[int]:
 def road(answers: Answers, routes: Sequence[Route] = (), both: bool = True) -> str:
     """The time-space diagram of routes, each with the way back, over two cycles.
 
-    Without routes those of `routes_of` are drawn. A route through the junctions of one before, backward, is drawn with it.
+    Without routes those of `routes_of` are drawn. A route through the junctions of one before, backward, is drawn with
+    it.
     """
     deck = answers.deck()
     given = [judged(deck, route) for route in routes] or routes_of(deck)
@@ -175,8 +176,9 @@ class Panel:
         """The departures of one stop line on their way to the next."""
         cruise = self.deck.link(there.link).feed(here.link).cruise
         ends = (here.side(0), there.side(BAR + STRIP))
-        draw_bands(self.drawing, self.axis, self.deck, self.profile(here.link), (f"{self.name}-{here.link}", cruise, ends))
-        draw_fronts(self.drawing, self.axis, self.deck, self.profile(here.link), (cruise, ends))
+        profile = self.profile(here.link)
+        draw_bands(self.drawing, self.axis, self.deck, profile, (f"{self.name}-{here.link}", cruise, ends))
+        draw_fronts(self.drawing, self.axis, self.deck, profile, (cruise, ends))
 
     def draw_lane(self, lane: Lane) -> None:
         """A stop line: its bar, its arrivals and its queue, over both cycles."""
@@ -192,8 +194,8 @@ class Panel:
             values = profile.arrivals[begin:end]
             if shade:
                 self.box(lane, (begin * step, end * step), (BAR, STRIP), FLOW,
-                         f"arrivals of link {lane.link} in steps {begin} to {end - 1}: {min(values)} to {max(values)} (IN)",
-                         opacity=shade / 8)
+                         f"arrivals of link {lane.link} in steps {begin} to {end - 1}: {min(values)} to {max(values)} "
+                         "(IN)", opacity=shade / 8)
         self.draw_queue(lane, step)
         self.drawing.close()
         self.drawing.again(ident, self.axis.wide(self.deck.frame.cycle))

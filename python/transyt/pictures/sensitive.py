@@ -11,7 +11,7 @@ HIGH = 64.0
 
 
 def sensitivity(answers: Answers) -> str:
-    """For each junction the index at the offsets of the list, and for each stage at its changes; barred moves marked."""
+    """Of each junction the index at the offsets of the list, of each stage at its changes; barred moves are marked."""
     deck, certificate = answers.deck(), answers.certificate()
     rows: Dict[Tuple[int, int], List[Tuple[int, Optional[int]]]] = {}
     for node in deck.nodes:

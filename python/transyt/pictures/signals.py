@@ -41,8 +41,8 @@ def draw_stage(drawing: Drawing, deck: Deck, axis: Axis, which: Tuple[int, Stage
     step, count = deck.frame.step_seconds, deck.frame.step_count
     at, intergreen, green = (stage.raw[word] for word in ("AT", "INTERGREEN", "GREEN"))
     name = deck.names.stages.get((node, stage.number), "")
-    title = (f"junction {node}, stage {stage.number} {isolated(name) if name else ''}: AT {at}, INTERGREEN {intergreen}, "
-             f"GREEN {green} steps of {seconds(step)} s")
+    title = (f"junction {node}, stage {stage.number}{' ' + isolated(name) if name else ''}: AT {at}, "
+             f"INTERGREEN {intergreen}, GREEN {green} steps of {seconds(step)} s")
     widest: Tuple[float, float] = (0, 0)
     for begin, length, fill in ((at, intergreen, drawing.hatch()), (at + intergreen, green, CAN_GO)):
         for first, last in parted(begin % count, length, count):

@@ -40,8 +40,8 @@ class Drawing:
     def __str__(self) -> str:
         high = self.height + 24
         return (f'<svg xmlns="http://www.w3.org/2000/svg" class="picture {self.name}" viewBox="0 0 {number(WIDE)} '
-                f'{number(high)}" width="{number(WIDE)}" height="{number(high)}" font-family="sans-serif" font-size="12" '
-                f'role="img">\n<title>{escape(self.title)}</title>\n'
+                f'{number(high)}" width="{number(WIDE)}" height="{number(high)}" font-family="sans-serif" '
+                f'font-size="12" role="img">\n<title>{escape(self.title)}</title>\n'
                 + (f'<defs>{"".join(self.definitions)}</defs>\n' if self.definitions else "")
                 + f'<rect width="{number(WIDE)}" height="{number(high)}" fill="#ffffff"/>\n' + "\n".join(self.parts)
                 + f'\n<text x="12" y="{number(high - 9)}" font-size="11" fill="{INK}" class="of">{escape(self.caption)}'

@@ -1,7 +1,7 @@
 """Tables into sheets: each row as a value, with every fault of it."""
 
 from fractions import Fraction
-from typing import Callable, Dict, Iterable, List, Mapping, Optional, Sequence, Set, Tuple, TypeVar
+from typing import Callable, Dict, Iterable, Mapping, Optional, Sequence, Set, Tuple, TypeVar
 
 from ..text import name_fault, words_of
 from . import values

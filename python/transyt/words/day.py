@@ -1,7 +1,7 @@
 """A plan for each row of periods: deck, best, filed in FOLDER2/NAME; and FOLDER2/day.html and day.csv.
 
-Only what a changed sheet touches is made again. A plan is turned as a whole toward that of the period before, where both
-have one cycle, so that signals move least at the change.
+Only what a changed sheet touches is made again. A plan is turned as a whole toward that of the period before, where
+both have one cycle, so that signals move least at the change.
 """
 
 import argparse
