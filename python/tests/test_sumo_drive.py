@@ -11,7 +11,7 @@ from transyt.faults import Fault
 from transyt.sumo.calibrate import Green, headway_of, one_stop_line, usual_green
 from transyt.sumo.drive import LinkMeasures, Measures, read_measures
 from transyt.sumo.figures import LinkPlan, PlanFigures
-from transyt.sumo.plans import Plan, check_same_demand, correlation, link_table, total_table
+from transyt.sumo.plans import Plan, check_same_demand, correlation, is_apart, link_table, total_table
 
 DECK = """FORM 2
 CYCLE 60 30 1 60 0 0
@@ -128,8 +128,17 @@ class Tables(unittest.TestCase):
 
     def test_links(self):
         lines = link_table([self.plan("before", 8, [4, 6]), self.plan("after", 6, [3, 3])])
-        self.assertIn("| 11 | 600 | 24.0 | 30.0 | 2.0 | 3.0 | 18.0 | 18.0 | 2.0 | 3.0 |", lines)
-        self.assertIn("| 13 | 300 | 24.0 | 0.0 | 2.0 | 0.0 | 18.0 | 0.0 | 2.0 | 0.0 |", lines)
+        self.assertIn("| 11* | 600 | 24.0 | 30.0 | 2.0 | **3.0** | 18.0 | 18.0 | 2.0 | **3.0** |", lines)
+        self.assertIn("| 13* | 300 | 24.0 | **0.0** | 2.0 | **0.0** | 18.0 | **0.0** | 2.0 | **0.0** |", lines)
+
+    def test_apart_is_more_than_a_third(self):
+        self.assertEqual([is_apart(12, driven) for driven in (8, 7.9, 16, 16.1)], [False, True, False, True])
+        self.assertEqual([is_apart(0, driven) for driven in (0, 0.04, 0.1)], [False, False, True])
+
+    def test_collisions_stand_in_the_table(self):
+        plans = [self.plan("before", 8, [4, 6]), self.plan("after", 6, [3, 3])]
+        plans[1].runs[1] = Measures(plans[1].runs[1].links, 7, 0)
+        self.assertIn("| collisions in all runs | 0 | 7 |  |", total_table(plans))
 
     def test_correlation(self):
         self.assertAlmostEqual(correlation([(1, 2), (2, 4), (4, 8)]), 1)

@@ -7,7 +7,8 @@ import support  # noqa: F401
 from transyt.deck import read_deck
 from transyt.faults import Fault
 from transyt.sumo import layout
-from transyt.sumo.roads import check_carried, draw_map, free_direction, lane_count, lane_pairs, mean_cruise, shape, Map, Road
+from transyt.sumo.network import shape
+from transyt.sumo.roads import Map, Road, check_carried, draw_map, free_direction, mean_cruise
 
 DECK = """FORM 2
 CYCLE 60 30 1 60 0 0
@@ -34,8 +35,8 @@ class CheckCarried(unittest.TestCase):
     def test_plain_deck_is_carried_over(self):
         self.assertIsNone(check_carried(read_deck(DECK)))
 
-    def test_give_way_rule(self):
-        self.refused("END\n", "YIELD 12 11 90\nEND\n", "link 12 gives way to link 11")
+    def test_more_lanes_than_a_road_has(self):
+        self.refused("END\n", "* LANES 12 21\nEND\n", "link 12 has 21 lanes")
 
     def test_feeders_at_two_nodes(self):
         deck = DECK.replace("NODE 2 0", "NODE 3 0\nSTAGE 0 1 3\nSTAGE 10 2 4\nNODE 2 0")
@@ -79,16 +80,7 @@ class DrawMap(unittest.TestCase):
         self.assertEqual((self.drawn.roads["out12"].start, self.drawn.roads["out12"].lanes), ("node1", 1))
 
 
-class Lanes(unittest.TestCase):
-    def test_a_lane_for_each_1800(self):
-        deck = read_deck(DECK)
-        self.assertEqual([lane_count(deck.link(number)) for number in (11, 12, 21)], [2, 1, 1])
-
-    def test_lanes_side_by_side(self):
-        self.assertEqual(lane_pairs(2, 2), [(0, 0), (1, 1)])
-        self.assertEqual(lane_pairs(1, 2), [(0, 0), (0, 1)])
-        self.assertEqual(lane_pairs(3, 1), [(0, 0)])
-
+class Shapes(unittest.TestCase):
     def test_second_road_lies_to_the_right(self):
         drawn = Map({"node1": (0, 0), "node2": (100, 0)})
         self.assertEqual(shape(Road("link1", "node1", "node2", 1), drawn, 2), "0.0,-6.4 100.0,-6.4")

@@ -7,10 +7,12 @@ from typing import Callable, List, Optional
 
 from ..deck import Deck, Frame, Link, Node, Stage
 from ..faults import Fault
+from ..names import Names
 from .cars import Car, lane_saturation, write_cars
 from .drive import SECONDS, Run, drive, write_signals
 from .greens import green_steps, shown_steps
-from .roads import Net, build, link_road, out_road
+from .network import Net, build
+from .roads import link_road, out_road
 
 HEADWAYS = (0.8, 1.0, 1.2, 1.4, 1.6, 1.8, 2.0, 2.2)  # seconds behind the car ahead, of which some are tried
 USUAL = 3  # the place of the one that is tried first
@@ -51,7 +53,7 @@ def one_stop_line(green: Green) -> Deck:
     stages = (Stage(0, last - green.shown, green.shown), Stage(last, 0, 1))
     entry = round(1.25 * green.cars * 3600 / green.frame.cycle)
     link = Link(1, 1, entry, round(green.saturation), 1, 1, 0, 0, (1,))
-    return Deck(green.frame, (Node(1, 0, stages),), (link,))
+    return Deck(green.frame, (Node(1, 0, stages),), (link,), names=Names(lanes={1: 1}))
 
 
 def cars_in_green(deck: Deck, net: Net, folder: str, headway: float) -> float:

@@ -4,7 +4,9 @@ import random
 from typing import Any, Dict, List, Sequence, Tuple
 
 from ..deck import Deck, Link
-from .roads import is_left, lane_count, link_road, out_road, start_node, write_xml
+from .lanes import lane_count
+from .roads import is_left, link_road, out_road, start_node
+from .tools import write_xml
 
 Car = Tuple[float, int, List[str]]  # the second at which it enters, its link, the edges of its route
 Ways = Dict[int, List[Tuple[int, float]]]
@@ -89,5 +91,5 @@ def write_cars(deck: Deck, cars: Sequence[Car], tau: float, path: str) -> None:
 def lane_saturation(deck: Deck) -> float:
     """The mean saturation flow of a lane, by the links' flows, in vehicles an hour."""
     flow = sum(link.total_flow for link in deck.links)
-    weighed = ((link.total_flow, link.saturation / lane_count(link)) for link in deck.links)
+    weighed = ((link.total_flow, link.saturation / lane_count(deck, link)) for link in deck.links)
     return sum(part * saturation for part, saturation in weighed) / flow

@@ -5,10 +5,13 @@ import xml.etree.ElementTree as ElementTree
 from dataclasses import dataclass
 from typing import Any, Dict, List, Mapping, Set, Tuple
 
-from ..deck import Deck
+from ..deck import Deck, Link
 from ..faults import Fault
 from .greens import aspects, phases, shown_steps
-from .roads import Net, lane_count, link_road, run_tool, write_xml
+from .lanes import lane_count
+from .network import Net
+from .roads import link_road
+from .tools import run_tool, write_root, write_xml
 
 WARM_UP, MEASURED, AFTER = 900, 3600, 900  # seconds
 SECONDS = WARM_UP + MEASURED + AFTER
@@ -32,12 +35,17 @@ def write_signals(deck: Deck, net: Net, path: str) -> None:
     """Writes the signals of a plan: at each node a fixed program over the cycle, in the time of the whole network."""
     root = ElementTree.Element("additional")
     for junction, order in net.signals.items():
-        signals = [aspects(shown_steps(deck, deck.link(order[index])), deck.frame) for index in sorted(order)]
+        signals = [signal_of(deck, deck.link(order[index])) for index in sorted(order)]
         logic = ElementTree.SubElement(root, "tlLogic", id=junction, type="static", programID="plan", offset="0")
         for duration, state in phases(signals):
             ElementTree.SubElement(logic, "phase", duration=f"{duration:g}", state=state)
-    ElementTree.indent(root)
-    ElementTree.ElementTree(root).write(path, encoding="utf-8", xml_declaration=True)
+    write_root(root, path)
+
+
+def signal_of(deck: Deck, link: Link) -> str:
+    """The signal of a link at each half second; the green of one that gives way is g, at which its cars look out."""
+    shown = aspects(shown_steps(deck, link), deck.frame)
+    return shown.replace("G", "g") if link.gives_way else shown
 
 
 def write_measures(deck: Deck, cycle: int, path: str) -> None:
@@ -46,7 +54,7 @@ def write_measures(deck: Deck, cycle: int, path: str) -> None:
         ("edgeData", {"id": "roads", "file": "roads.xml", "begin": WARM_UP, "end": WARM_UP + MEASURED,
                       "withInternal": "true"})]
     for link in deck.links:
-        for lane in range(lane_count(link)):
+        for lane in range(lane_count(deck, link)):
             name = f"{link_road(link.number)}_{lane}"
             elements.append(("laneAreaDetector", {"id": name, "lane": name, "pos": 0, "endPos": -0.1,
                                                   "freq": cycle, "file": "queues.xml"}))
@@ -60,8 +68,7 @@ def write_configuration(path: str, signals: str, cars: str) -> None:
               "gui-settings-file": "view.xml", "begin": 0, "end": SECONDS} | OPTIONS
     for key, value in wanted.items():
         ElementTree.SubElement(root, key, value=str(value))
-    ElementTree.indent(root)
-    ElementTree.ElementTree(root).write(path, encoding="utf-8", xml_declaration=True)
+    write_root(root, path)
 
 
 def write_view(path: str) -> None:

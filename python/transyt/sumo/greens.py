@@ -44,10 +44,19 @@ def expected_go(deck: Deck, link: Link) -> Tuple[int, ...]:
     return tuple(rate if is_green else 0 for is_green in green)
 
 
+def is_green_of(deck: Deck, link: Link, go: Sequence[int]) -> bool:
+    """Whether a link's GO is as laid out here; one that gives way lets something pass at each green step, not all."""
+    expected = expected_go(deck, link)
+    if not link.gives_way:
+        return expected == tuple(go)
+    return len(go) == len(expected) and all(0 < passed <= most or passed == most == 0
+                                            for passed, most in zip(go, expected))
+
+
 def check_greens(deck: Deck, figures: PlanFigures) -> None:
     """Refuses a deck of which a link's GO, as laid out here, differs from the program's at some step."""
     for link in deck.links:
-        if expected_go(deck, link) != figures.link(link.number).go:
+        if not is_green_of(deck, link, figures.link(link.number).go):
             raise Fault(f"the green of link {link.number} as laid out here isn't that of the program's "
                         f"PROFILE {link.number}")
 

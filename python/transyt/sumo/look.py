@@ -16,7 +16,8 @@ from .cars import draw_cars, write_cars
 from .drive import SECONDS, write_configuration, write_signals, write_view
 from .figures import PlanFigures
 from .greens import check_greens
-from .roads import build, check_carried
+from .network import build
+from .roads import check_carried
 
 CONFIGURATION = "town.sumocfg"
 
@@ -27,8 +28,7 @@ def last_plan(report: str) -> Plan:
     block: List[str] = []
     for line in lines_of(report):
         words = line.split(" ")
-        is_node, is_stage = (words[0::2][:2] == head for head in (["NODE", "OFFSET"], ["STAGE", "CHANGE"]))
-        if is_node or is_stage and block:
+        if words[::2][:2] == ["NODE", "OFFSET"] or words[::2][:2] == ["STAGE", "CHANGE"] and block:
             block.append(line)
         elif words == ["END", "TIMING"]:
             found, block = block + [line], []
@@ -38,9 +38,9 @@ def last_plan(report: str) -> Plan:
 
 
 def write_town(deck: Deck, figures: PlanFigures, folder: str, seed: int) -> float:
-    """Writes the network, signals and cars of a deck to a folder, once its greens are the program's.
+    """Writes the network, signals and cars of a deck to a folder, once its greens are the program's; tells the headway.
 
-    Returned is the headway: how many seconds a car stays behind the one ahead.
+    The headway is how many seconds a car stays behind the one ahead.
     """
     check_carried(deck)
     check_greens(deck, figures)

@@ -11,14 +11,17 @@ from concurrent.futures import ThreadPoolExecutor
 from dataclasses import dataclass
 from typing import Callable, Dict, List, Optional, Sequence, Tuple
 
-from ..deck import Deck
+from ..deck import Deck, Link
 from ..faults import Fault
 from ..terminal import progress
 from .calibrate import calibrate
 from .cars import draw_cars, write_cars
 from .drive import SECONDS, Measures, Run, drive, write_signals
 from .figures import PlanFigures
-from .roads import build
+from .network import build
+
+
+MARK = "A star: SUMO's figure in bold differs from the program's by more than a third of it.\n"
 
 
 @dataclass(frozen=True)
@@ -54,10 +57,12 @@ class Plan:
 def check_same_demand(one: Deck, other: Deck) -> None:
     """Refuses two decks that differ in more than their plans and cycles."""
     def demand(deck: Deck) -> Dict[int, object]:
-        return {link.number: (link.node, link.entry, link.saturation, link.feeds) for link in deck.links}
+        return {link.number: (link.node, link.entry, link.saturation, link.feeds, link.gives_way)
+                for link in deck.links}
 
     if demand(one) != demand(other):
-        raise Fault("the two decks differ in links, flows, saturation flows or feeds, and so can't share their cars")
+        raise Fault("the two decks differ in links, flows, saturation flows, feeds or give-way rules, and so can't "
+                    "share their cars")
 
 
 def write_all_cars(deck: Deck, headway: float, folder: str, seeds: Sequence[int]) -> int:
@@ -113,19 +118,38 @@ def row(cells: Sequence[object]) -> str:
     return "| " + " | ".join(str(cell) for cell in cells) + " |"
 
 
+def is_apart(programs: float, driven: float) -> bool:
+    """Whether SUMO's figure differs from the program's by more than a third of that, as they are shown."""
+    return abs(round(driven, 1) - round(programs, 1)) * 3 > round(programs, 1) + 1e-9
+
+
+def driven_cell(programs: float, driven: float) -> str:
+    """SUMO's figure, bold where it is apart from the program's."""
+    return f"**{told(driven, 1)}**" if is_apart(programs, driven) else told(driven, 1)
+
+
+def link_cells(plan: Plan, link: Link) -> List[str]:
+    """The cells of a link and a plan: seconds a vehicle and queue, the program's and SUMO's."""
+    figures = plan.figures.link(link.number)
+    seconds, queue = plan.driven_seconds(link.number), plan.driven_queue(link.number)
+    if not link.total_flow:
+        return [told(figures.seconds, 1), told(seconds, 1), told(figures.queue, 1), told(queue, 1)]
+    return [told(figures.seconds, 1), driven_cell(figures.seconds, seconds),
+            told(figures.queue, 1), driven_cell(figures.queue, queue)]
+
+
 def link_table(plans: Sequence[Plan]) -> List[str]:
-    """The table of links: for each plan seconds a vehicle and queue, the program's and SUMO's."""
+    """The table of links: for each plan seconds a vehicle and queue, the program's and SUMO's.
+
+    A link has a star where SUMO's seconds or queue are bold: they differ by more than a third.
+    """
     heads = [head for plan in plans
              for head in (f"{plan.name}: s a vehicle", "in SUMO", f"{plan.name}: queue", "in SUMO")]
     lines = [row(["link", "vehicles an hour", *heads]), row(["--:"] * (2 + len(heads)))]
     for link in plans[0].deck.links:
-        number = link.number
-        cells: List[str] = []
-        for plan in plans:
-            figures = plan.figures.link(number)
-            cells += [told(figures.seconds, 1), told(plan.driven_seconds(number), 1),
-                      told(figures.queue, 1), told(plan.driven_queue(number), 1)]
-        lines.append(row([number, link.total_flow, *cells]))
+        cells = [cell for plan in plans for cell in link_cells(plan, link)]
+        star = "*" if any("**" in cell for cell in cells) else ""
+        lines.append(row([f"{link.number}{star}", link.total_flow, *cells]))
     return lines
 
 
@@ -154,6 +178,7 @@ def total_table(plans: Sequence[Plan]) -> List[str]:
         row(["SUMO / program", *shares, ""]),
         row(["correlation over the links, seconds a vehicle", *seconds, ""]),
         row(["correlation over the links, queue", *queues, ""]),
+        row(["collisions in all runs", *(sum(run.collisions for run in plan.runs) for plan in plans), ""]),
     ]
 
 
@@ -173,4 +198,6 @@ def table(plans: Sequence[Plan], folder: str, seeds: Sequence[int], jobs: int) -
     end = (f"{version}, seeds 1 to {len(seeds)}, {count // len(seeds)} cars a run that stay {headway:.2f} s behind "
            f"one another; {sum(run.collisions for run in runs)} collisions and {sum(run.teleports for run in runs)} "
            f"teleports in {len(runs)} runs; {sum(os.times()[:4]):.0f} s of processor time.")
-    return total_table(plans) + [""] + link_table(plans) + ["", end]
+    links = link_table(plans)
+    mark = [MARK] if any("**" in line for line in links) else []
+    return total_table(plans) + [""] + links + [""] + mark + [end]

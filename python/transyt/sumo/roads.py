@@ -1,26 +1,19 @@
-"""The network of a deck in SUMO: an edge for each link, an end of the town for each link that nothing feeds."""
+"""The map of a deck: a road for each link, an end of the town for each link that nothing feeds."""
 
 import math
-import os
-import subprocess
-import xml.etree.ElementTree as ElementTree
 from dataclasses import dataclass, field
-from typing import Any, Dict, Iterable, List, Mapping, Optional, Sequence, Tuple
+from typing import Dict, List, Mapping, Optional, Sequence, Tuple
 
 from ..deck import Deck, Link
 from ..faults import Fault
 from . import layout
+from .lanes import lane_count
 
 SPEED = 13.9  # metres a second, about 50 km/h: a link is as long as its cruise time at that speed
 ENTRY_LENGTH = 500  # metres of a link that nothing feeds
 LEAST_LENGTH = 30  # metres; shorter links hold no queue
-LANE_FLOW = 1800  # vehicles an hour of saturation flow for each lane
 LANE_WIDTH = 3.2
-
-
-def lane_count(link: Link) -> int:
-    """How many lanes a link has."""
-    return max(1, round(link.saturation / LANE_FLOW))
+MOST_LANES = 20
 
 
 def mean_cruise(link: Link) -> Optional[float]:
@@ -41,9 +34,8 @@ def check_carried(deck: Deck) -> None:
     for link in deck.links:
         starts = {deck.link(feed.feeder).node for feed in link.used_feeds}
         number = link.number
-        if link.gives_way:
-            raise Fault(f"link {number} gives way to link {link.gives_way.other}, and give-way rules are not carried "
-                          "over: --without-yield leaves them out, here and for the program alike")
+        if lane_count(deck, link) > MOST_LANES:
+            raise Fault(f"link {number} has {lane_count(deck, link)} lanes, and {MOST_LANES} are the most here")
         if len(starts) > 1:
             raise Fault(f"link {number} is fed from the nodes {', '.join(map(str, sorted(starts)))}, "
                           "and a road begins at one")
@@ -66,11 +58,16 @@ class Road:
 
 @dataclass
 class Map:
-    """The roads of a deck, the places of their ends, and which road leads on to which."""
+    """The roads of a deck and the places of their ends.
+
+    `turns` has of a road and one to which it leads the vehicles an hour that go there, `gives` of a road that gives
+    way the one that has priority.
+    """
 
     places: Dict[str, Tuple[float, float]] = field(default_factory=dict)
     roads: Dict[str, Road] = field(default_factory=dict)
-    turns: List[Tuple[str, str]] = field(default_factory=list)
+    turns: Dict[Tuple[str, str], int] = field(default_factory=dict)
+    gives: Dict[str, str] = field(default_factory=dict)
 
 
 def link_road(number: int) -> str:
@@ -86,6 +83,12 @@ def out_road(number: int) -> str:
 def is_left(deck: Deck, link: Link) -> bool:
     """Whether vehicles leave the town at a link's stop line."""
     return link.total_flow > deck.sent(link.number) or not deck.sent(link.number)
+
+
+def can_be_drawn(deck: Deck, link: Link) -> bool:
+    """Whether a link gives way to another one at its own node."""
+    rule = link.gives_way
+    return rule is not None and rule.other != link.number and deck.link(rule.other).node == link.node
 
 
 def neighbours(deck: Deck) -> Dict[int, Dict[int, float]]:
@@ -132,9 +135,12 @@ def draw_map(deck: Deck) -> Map:
         draw_links(deck, links, drawn)
         draw_ways_out(deck, links, ends, drawn)
     for link in deck.links:
-        drawn.turns += [(link_road(feed.feeder), link_road(link.number)) for feed in link.used_feeds]
+        road = link_road(link.number)
+        drawn.turns.update({(link_road(feed.feeder), road): feed.flow for feed in link.used_feeds})
         if is_left(deck, link):
-            drawn.turns.append((link_road(link.number), out_road(link.number)))
+            drawn.turns[road, out_road(link.number)] = max(0, link.total_flow - deck.sent(link.number))
+        if can_be_drawn(deck, link) and link.gives_way:
+            drawn.gives[road] = link_road(link.gives_way.other)
     return drawn
 
 
@@ -166,7 +172,7 @@ def draw_links(deck: Deck, links: Sequence[Link], drawn: Map) -> None:
         length = ENTRY_LENGTH if start is None else (mean_cruise(link) or 0) * SPEED
         begins = end_of(link) if start is None else f"node{start}"
         name = link_road(link.number)
-        drawn.roads[name] = Road(name, begins, f"node{link.node}", lane_count(link), length)
+        drawn.roads[name] = Road(name, begins, f"node{link.node}", lane_count(deck, link), length)
 
 
 def draw_ways_out(deck: Deck, links: Sequence[Link], ends: Mapping[str, float], drawn: Map) -> None:
@@ -178,105 +184,4 @@ def draw_ways_out(deck: Deck, links: Sequence[Link], ends: Mapping[str, float], 
             ahead = math.atan2(y - start_y, x - start_x)
             end = min(ends, key=lambda name: round(apart(ends[name], ahead), 3))
             name = out_road(link.number)
-            drawn.roads[name] = Road(name, f"node{link.node}", end, lane_count(link))
-
-
-def lane_pairs(start: int, end: int) -> List[Tuple[int, int]]:
-    """Which lane leads to which at a turn between roads of so many lanes: side by side, and one lane to both of two."""
-    return [(lane, lane) for lane in range(min(start, end))] + [(start - 1, lane) for lane in range(start, end)]
-
-
-def shape(road: Road, drawn: Map, beside: int) -> str:
-    """The shape of a road, moved to the right by the lanes of the roads that lie between the same ends before it."""
-    (x, y), (end_x, end_y) = drawn.places[road.start], drawn.places[road.end]
-    length = math.hypot(end_x - x, end_y - y)
-    right, down = (end_y - y) / length * LANE_WIDTH * beside, (x - end_x) / length * LANE_WIDTH * beside
-    return f"{x + right:.1f},{y + down:.1f} {end_x + right:.1f},{end_y + down:.1f}"
-
-
-def write_xml(path: str, name: str, elements: Iterable[Tuple[str, Mapping[str, Any]]]) -> None:
-    """Writes a file of SUMO: a root element and, one in a line, (name, attributes) of those in it."""
-    root = ElementTree.Element(name)
-    for tag, attributes in elements:
-        ElementTree.SubElement(root, tag, {key: str(value) for key, value in attributes.items()})
-    ElementTree.indent(root)
-    ElementTree.ElementTree(root).write(path, encoding="utf-8", xml_declaration=True)
-
-
-def write_map(drawn: Map, folder: str) -> None:
-    """Writes the nodes, edges and connections of a map for netconvert."""
-    signals = {road.end for road in drawn.roads.values() if road.name.startswith("link")}
-    write_xml(os.path.join(folder, "town.nod.xml"), "nodes", (
-        ("node", {"id": name, "x": f"{x:.1f}", "y": f"{y:.1f}",
-                  "type": "traffic_light_unregulated" if name in signals else "priority"})
-        for name, (x, y) in drawn.places.items()))
-    beside: Dict[Tuple[str, str], int] = {}
-    edges: List[Tuple[str, Mapping[str, Any]]] = []
-    for road in drawn.roads.values():
-        before = beside.get((road.start, road.end), 0)
-        beside[road.start, road.end] = before + road.lanes
-        edge: Dict[str, Any] = {"id": road.name, "from": road.start, "to": road.end, "numLanes": road.lanes,
-                                "speed": SPEED, "shape": shape(road, drawn, before)}
-        edges.append(("edge", edge | ({"length": round(road.length, 2)} if road.length else {})))
-    write_xml(os.path.join(folder, "town.edg.xml"), "edges", edges)
-    write_xml(os.path.join(folder, "town.con.xml"), "connections", (
-        ("connection", {"from": start, "to": end, "fromLane": one, "toLane": other})
-        for start, end in drawn.turns
-        for one, other in lane_pairs(drawn.roads[start].lanes, drawn.roads[end].lanes)))
-
-
-def run_tool(words: Sequence[str], folder: str) -> None:
-    """Runs a program of SUMO in a folder."""
-    try:
-        done = subprocess.run(words, cwd=folder, capture_output=True, text=True)
-    except FileNotFoundError as error:
-        raise Fault(f"{words[0]} is not installed: examples/sumo/README.md says how SUMO is") from error
-    if done.returncode:
-        raise Fault(f"{words[0]} failed in {folder}: {' '.join(done.stderr.split()) or 'it said nothing'}")
-
-
-def convert(drawn: Map, folder: str) -> "Net":
-    """Has netconvert make the network of a map, and reads it."""
-    write_map(drawn, folder)
-    run_tool(["netconvert", "--node-files", "town.nod.xml", "--edge-files", "town.edg.xml",
-              "--connection-files", "town.con.xml", "--output-file", "town.net.xml", "--no-turnarounds", "true",
-              "--junctions.limit-turn-speed", "-1", "--offset.disable-normalization", "true",
-              "--xml-validation", "never"], folder)
-    return Net(os.path.join(folder, "town.net.xml"))
-
-
-class Net:
-    """A network that netconvert has made: its signals, and the edges within its junctions."""
-
-    def __init__(self, path: str) -> None:
-        root = ElementTree.parse(path).getroot()
-        # for each junction with signals the link of each signal, in their order
-        self.signals: Dict[str, Dict[int, int]] = {}
-        # for each edge within a junction the road that leads to it
-        self.inside: Dict[str, str] = {}
-        # for each turn the length of its way through the junction, in metres
-        self.turn_length: Dict[Tuple[str, str], float] = {}
-        lanes = {lane.get("id"): float(lane.get("length", 0)) for lane in root.iter("lane")}
-        for turn in root.iter("connection"):
-            start, end, via = (turn.get(key, "") for key in ("from", "to", "via"))
-            if via:
-                self.inside[via.rsplit("_", 1)[0]] = start
-                self.turn_length[start, end] = lanes[via]
-            if turn.get("tl"):
-                order = self.signals.setdefault(turn.get("tl", ""), {})
-                order[int(turn.get("linkIndex", 0))] = int(start[len("link"):])
-
-
-def build(deck: Deck, folder: str) -> Net:
-    """Makes the network of a deck in a folder; a link and the way to it through the junction last its cruise time."""
-    check_carried(deck)
-    drawn = draw_map(deck)
-    first = convert(drawn, folder)
-    for link in deck.links:
-        flow = sum(feed.flow for feed in link.used_feeds)
-        if flow:
-            ways = ((feed.flow, first.turn_length[link_road(feed.feeder), link_road(link.number)])
-                    for feed in link.used_feeds)
-            road = drawn.roads[link_road(link.number)]
-            road.length = max(LEAST_LENGTH / 2, (road.length or 0) - sum(part * way for part, way in ways) / flow)
-    return convert(drawn, folder)
+            drawn.roads[name] = Road(name, f"node{link.node}", end, lane_count(deck, link))

@@ -14,12 +14,12 @@ from ..deck import Deck
 from ..faults import Fault
 from ..session import Session
 from ..sumo.figures import PlanFigures, read_plan
+from ..sumo.giving import as_drawn
 from ..sumo.greens import check_greens
 from ..sumo.look import CONFIGURATION, last_plan, write_town
 from ..sumo.plans import Plan, check_same_demand, table
 from ..sumo.roads import check_carried
-from ..terminal import add_program, add_workers, read_deck_file, read_file, write
-from ..text import decoded
+from ..terminal import add_program, add_workers, read_deck_file, read_file, tell, write
 
 
 def add_arguments(parser: argparse.ArgumentParser) -> None:
@@ -54,15 +54,15 @@ def figures_of(deck: Deck, args: argparse.Namespace) -> PlanFigures:
 
 
 def read(path: str, args: argparse.Namespace) -> Deck:
-    """The deck of a file, without its give-way rules where that is wished."""
+    """The deck of a file, without its give-way rules where that is wished, and without those that SUMO can't drive."""
     deck = read_deck_file(path, args)
-    return deck.without_give_way() if args.without_yield else deck
+    return deck.without_give_way() if args.without_yield else as_drawn(deck, lambda said: tell(f"{path}: {said}"))
 
 
 def look(args: argparse.Namespace) -> int:
     """Writes a town."""
     deck = read(args.deck, args)
-    deck = deck.with_plan(last_plan(decoded(read_file(args.plan)))) if args.plan else deck
+    deck = deck.with_plan(last_plan(read_file(args.plan))) if args.plan else deck
     headway = write_town(deck, figures_of(deck, args), args.folder, args.seed)
     write(f"the greens of all {len(deck.links)} links are the program's; cars stay {headway:.2f} s behind one another\n"
           f"sumo-gui -c {os.path.join(args.folder, CONFIGURATION)}\n")
