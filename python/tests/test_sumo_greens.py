@@ -7,7 +7,8 @@ from transyt.deck import read_deck
 from transyt.faults import Fault
 from transyt.sumo.figures import LinkPlan, PlanFigures
 from transyt.sumo.look import last_plan
-from transyt.sumo.greens import aspects, check_greens, expected_go, green_steps, phases, shown_steps
+from transyt.sumo.greens import (aspects, check_greens, expected_go, green_steps, phases, shown_steps,
+                                 stage_names)
 
 THREE_STAGES = """FORM 2
 CYCLE 40 20 1 60 0 0
@@ -104,7 +105,18 @@ class Signals(unittest.TestCase):
         self.assertEqual((len(laid_out), laid_out.count("G")), (140, 3))
 
     def test_phases_have_the_states_of_all_signals(self):
-        self.assertEqual(phases(["GGyyrr", "rrrrGG"]), [(1, "Gr"), (1, "yr"), (1, "rG")])
+        names = ["stage 1"] * 3 + ["to stage 2"] * 2 + ["stage 2"]
+        self.assertEqual(phases(["GGyyrr", "rrrrGG"], names), [
+            (1, "Gr", "stage 1"), (0.5, "yr", "stage 1"), (0.5, "yr", "to stage 2"), (0.5, "rG", "to stage 2"),
+            (0.5, "rG", "stage 2")])
+
+    def test_names_of_stages(self):
+        # stage 3 is on at step 13 to 20, which is 0, and its intergreen has three steps of two seconds
+        deck = read_deck(THREE_STAGES)
+        names = stage_names(deck.node(7), deck.frame)
+        self.assertEqual((len(names), names[:4], names[4]), (80, ["stage 3"] * 4, "to stage 1"))
+        self.assertEqual([names.count(f"{to}stage {stage}") for stage in (1, 2, 3) for to in ("to ", "")],
+                         [8, 16, 4, 20, 12, 20])
 
 
 if __name__ == "__main__":

@@ -7,8 +7,9 @@ from typing import Any, Dict, List, Mapping, Set, Tuple
 
 from ..deck import Deck, Link
 from ..faults import Fault
-from .greens import aspects, phases, shown_steps
+from .greens import aspects, phases, shown_steps, stage_names
 from .lanes import lane_count
+from .netfile import read_root
 from .network import Net
 from .roads import link_road
 from .tools import run_tool, write_root, write_xml
@@ -31,14 +32,34 @@ VIEW = """<viewsettings>
 """
 
 
-def write_signals(deck: Deck, net: Net, path: str) -> None:
-    """Writes the signals of a plan: at each node a fixed program over the cycle, in the time of the whole network."""
-    root = ElementTree.Element("additional")
+def programs(deck: Deck, net: Net, program: str) -> List[ElementTree.Element]:
+    """The signals of a plan: at each node a fixed program over the cycle, in the time of the whole network."""
+    found = []
     for junction, order in net.signals.items():
+        node = deck.node(deck.link(order[0]).node)
         signals = [signal_of(deck, deck.link(order[index])) for index in sorted(order)]
-        logic = ElementTree.SubElement(root, "tlLogic", id=junction, type="static", programID="plan", offset="0")
-        for duration, state in phases(signals):
-            ElementTree.SubElement(logic, "phase", duration=f"{duration:g}", state=state)
+        logic = ElementTree.Element("tlLogic", id=junction, type="static", programID=program, offset="0")
+        for duration, state, name in phases(signals, stage_names(node, deck.frame)):
+            ElementTree.SubElement(logic, "phase", duration=f"{duration:g}", state=state, name=name)
+        found.append(logic)
+    return found
+
+
+def write_signals(deck: Deck, net: Net, path: str) -> None:
+    """Writes the signals of a plan as a file that goes beside the network."""
+    root = ElementTree.Element("additional")
+    root.extend(programs(deck, net, "plan"))
+    write_root(root, path)
+
+
+def put_signals(deck: Deck, net: Net, path: str) -> None:
+    """Puts the signals of a plan into the network's file, in the place of those that netconvert made up."""
+    root = read_root(path)
+    for logic in root.findall("tlLogic"):
+        root.remove(logic)
+    first = next(place for place, element in enumerate(root) if element.tag in ("junction", "connection"))
+    for count, logic in enumerate(programs(deck, net, "0")):
+        root.insert(first + count, logic)
     write_root(root, path)
 
 

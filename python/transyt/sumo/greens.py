@@ -1,8 +1,8 @@
 """The steps at which a link is green, by the rules of docs/MODEL.md, "Green"; and the signals as SUMO takes them."""
 
-from typing import List, Mapping, Sequence, Tuple
+from typing import List, Sequence, Tuple
 
-from ..deck import Deck, Frame, Link
+from ..deck import Deck, Frame, Link, Node
 from ..faults import Fault
 from ..report import UNITS
 from .figures import PlanFigures
@@ -61,10 +61,15 @@ def check_greens(deck: Deck, figures: PlanFigures) -> None:
                         f"PROFILE {link.number}")
 
 
+def tick_steps(frame: Frame) -> List[int]:
+    """For each half second of the cycle the step in which it lies."""
+    ends = [round(TICKS * frame.cycle * step / frame.step_count) for step in range(frame.step_count + 1)]
+    return [step for step in range(frame.step_count) for _ in range(ends[step], ends[step + 1])]
+
+
 def aspects(shown: Sequence[bool], frame: Frame) -> str:
     """The signal of a link at each half second of the cycle: G for green, y for yellow, r for red."""
-    ends = [round(TICKS * frame.cycle * step / frame.step_count) for step in range(frame.step_count + 1)]
-    green = [is_green for step, is_green in enumerate(shown) for _ in range(ends[step], ends[step + 1])]
+    green = [shown[step] for step in tick_steps(frame)]
 
     def aspect(tick: int) -> str:
         if green[tick]:
@@ -74,11 +79,22 @@ def aspects(shown: Sequence[bool], frame: Frame) -> str:
     return "".join(aspect(tick) for tick in range(len(green)))
 
 
-def phases(signals: Sequence[str]) -> List[Tuple[float, str]]:
-    """The phases of a node: from each signal's aspects, in the order of the signals, (seconds, state) in turn."""
-    states = ["".join(state) for state in zip(*signals)]
-    found: List[Tuple[float, str]] = []
-    for state in states:
-        before = found.pop()[0] if found and found[-1][1] == state else 0
-        found.append((before + 1 / TICKS, state))
+def stage_names(node: Node, frame: Frame) -> List[str]:
+    """At each half second of the cycle the stage that a node shows, `stage 2`, or to which it goes, `to stage 2`."""
+    def name(step: int) -> str:
+        for place, stage in enumerate(node.stages, 1):
+            age = (step - node.offset - stage.change) % frame.step_count
+            if age < node.length(place, frame.step_count):
+                return f"{'to ' if age < stage.intergreen else ''}stage {place}"
+        return ""
+
+    return [name(step) for step in tick_steps(frame)]
+
+
+def phases(signals: Sequence[str], names: Sequence[str]) -> List[Tuple[float, str, str]]:
+    """The phases of a node: from each signal's aspects and the stages' names, (seconds, state, name) in turn."""
+    found: List[Tuple[float, str, str]] = []
+    for state, name in zip(("".join(state) for state in zip(*signals)), names):
+        before = found.pop()[0] if found and found[-1][1:] == (state, name) else 0
+        found.append((before + 1 / TICKS, state, name))
     return found

@@ -13,13 +13,13 @@ from ..report import read_timing
 from ..text import lines_of
 from .calibrate import calibrate
 from .cars import draw_cars, write_cars
-from .drive import SECONDS, write_configuration, write_signals, write_view
+from .drive import SECONDS, put_signals, write_configuration, write_signals, write_view
 from .figures import PlanFigures
 from .greens import check_greens
 from .network import build
 from .roads import check_carried
 
-CONFIGURATION = "town.sumocfg"
+CONFIGURATION, NETWORK = "town.sumocfg", "town.net.xml"
 
 
 def last_plan(report: str) -> Plan:
@@ -48,6 +48,7 @@ def write_town(deck: Deck, figures: PlanFigures, folder: str, seed: int) -> floa
     net = build(deck, folder)
     headway = calibrate(deck, os.path.join(folder, "calibration"))
     write_signals(deck, net, os.path.join(folder, "signals.add.xml"))
+    put_signals(deck, net, os.path.join(folder, NETWORK))
     write_cars(deck, draw_cars(deck, seed, SECONDS), headway, os.path.join(folder, "cars.rou.xml"))
     write_view(os.path.join(folder, "view.xml"))
     write_configuration(os.path.join(folder, CONFIGURATION), "signals.add.xml", "cars.rou.xml")

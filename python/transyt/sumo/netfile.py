@@ -59,22 +59,24 @@ class Request:
 
 @dataclass(frozen=True)
 class Junction:
-    """A junction: its type, the lanes that come to it, and the requests in the order of its connections."""
+    """A junction: its type, its place in metres, the lanes that come to it, the requests in its connections' order."""
 
     name: str
     kind: str
+    at: Tuple[float, float]
     incoming: Tuple[str, ...]
     requests: Tuple[Request, ...]
 
 
 @dataclass(frozen=True)
 class Phase:
-    """A phase of a program: seconds, the signal of each place, the least seconds where they are told, what follows."""
+    """A phase: seconds, the signal of each place, the least seconds where they are told, what follows, its name."""
 
     duration: float
     state: str
     least: Optional[float]
     following: str
+    name: str = ""
 
 
 @dataclass(frozen=True)
@@ -114,6 +116,11 @@ class NetFile:
             if not edge.startswith(":"):
                 found += [one for one in self.from_edge.get(edge, ()) if str(one.from_lane) == place]
         return found
+
+    def requests_at(self, name: str) -> List[Tuple[Connection, Request]]:
+        """The connections of a junction, each with its request, in the order by which requests name them."""
+        junction = self.junctions.get(name)
+        return list(zip(self.ordered(junction), junction.requests)) if junction else []
 
     def way_inside(self, connection: Connection) -> List[str]:
         """The internal lanes of a connection, one after another: two where cars wait within the junction."""
@@ -202,7 +209,9 @@ def junction_of(element: ElementTree.Element) -> Junction:
     """A junction with its requests, each by its index."""
     rows = sorted(element.iterfind("request"), key=lambda row: int(row.attrib["index"]))
     requests = tuple(Request(places_of(row.get("response", "")), places_of(row.get("foes", ""))) for row in rows)
-    return Junction(element.attrib["id"], element.get("type", ""), tuple(element.get("incLanes", "").split()), requests)
+    at = float(element.get("x", 0)), float(element.get("y", 0))
+    return Junction(element.attrib["id"], element.get("type", ""), at, tuple(element.get("incLanes", "").split()),
+                    requests)
 
 
 def places_of(bits: str) -> Tuple[int, ...]:
@@ -213,7 +222,8 @@ def places_of(bits: str) -> Tuple[int, ...]:
 def logic_of(element: ElementTree.Element) -> Logic:
     """A program of signals."""
     phases = tuple(Phase(float(phase.attrib["duration"]), phase.attrib["state"],
-                         float(phase.attrib["minDur"]) if phase.get("minDur") else None, phase.get("next", ""))
+                         float(phase.attrib["minDur"]) if phase.get("minDur") else None, phase.get("next", ""),
+                         phase.get("name", ""))
                    for phase in element.iterfind("phase"))
     return Logic(element.attrib["id"], element.get("type", "static"), element.get("programID", ""),
                  float(element.get("offset", 0)), phases)

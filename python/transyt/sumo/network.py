@@ -73,6 +73,7 @@ def write_map(drawn: Map, folder: str, prohibited: bool) -> None:
     elements: List[Tuple[str, Mapping[str, Any]]] = [
         ("connection", {"from": start, "to": end, "fromLane": one, "toLane": other})
         for start in dict.fromkeys(start for start, _ in drawn.turns) for end, one, other in connections(start, drawn)]
+    elements += [("connection", {"from": name}) for name in drawn.roads if name.startswith("out")]  # leads nowhere
     write_xml(os.path.join(folder, "town.con.xml"), "connections",
               elements + (prohibitions(drawn) if prohibited else []))
 
@@ -127,10 +128,10 @@ class Net:
 
     def names(self, road: str, other: str, places: Callable[[Request], Tuple[int, ...]]) -> bool:
         """Whether a request of a road's connections names one of another road."""
-        junction = self.file.junctions[self.file.edges[road].end]
-        starts = [connection.start for connection in self.file.ordered(junction)]
-        return any(starts[place:place + 1] == [other] for request, start in zip(junction.requests, starts)
-                   if start == road for place in places(request))
+        there = self.file.requests_at(self.file.edges[road].end)
+        starts = [connection.start for connection, _ in there]
+        return any(starts[place:place + 1] == [other] for connection, request in there if connection.start == road
+                   for place in places(request))
 
 
 def build(deck: Deck, folder: str) -> Net:

@@ -1,0 +1,180 @@
+"""A network of SUMO as junctions with their stages, arms and links, by the numbers that the sheets have."""
+
+from dataclasses import dataclass
+from fractions import Fraction
+from typing import Dict, List, Mapping, Optional, Tuple
+
+from ..faults import Fault
+from ..sumo.netfile import Connection, Logic, NetFile
+from .arms import Arm, ArmLink, Program, Tell, arms_of
+from .frames import Frame, cycle_of_most, frame_of, is_fixed, numbered, only
+from .stages import MOST_STAGES, Stage, at_most_eight, cycle_of, exact, stages_of
+from .trails import Trail, Trails, inside
+
+MOST_JUNCTIONS, MOST_LINKS = 200, 1_000
+
+
+@dataclass(frozen=True)
+class Junction:
+    """A junction: its number, its program of signals, its arms; and whether the program's times go into the sheets."""
+
+    number: int
+    program: Program
+    arms: Tuple[Arm, ...]
+    has_times: bool
+
+    @property
+    def links(self) -> List[Tuple[Arm, ArmLink]]:
+        """Its links with their arms, in the order of their numbers."""
+        return [(arm, link) for arm in self.arms for link in arm.links]
+
+    def place_of(self, arm: Arm, link: int) -> int:
+        """The place of an arm's link among all of the junction."""
+        return sum(len(one.links) for one in self.arms[:self.arms.index(arm)]) + link
+
+    def begin(self, stage: Stage) -> Fraction:
+        """AT of a stage: the second of the common cycle at which its intergreen begins."""
+        logic = self.program.logic
+        return (exact(logic.offset) + stage.begin) % cycle_of(logic)
+
+
+@dataclass(frozen=True)
+class Way:
+    """A way from a junction to an arm: the ways of its turns, each with metres and seconds, through the junction too."""
+
+    metres: float
+    seconds: float
+
+
+@dataclass(frozen=True)
+class Town:
+    """All junctions, the cycle and steps, each link's number by junction and place, and the ways.
+
+    `goals` has for a turn (junction, arm, turn) the junction and the arm to which it goes on, if any.
+    """
+
+    net: NetFile
+    frame: Frame
+    junctions: Tuple[Junction, ...]
+    numbers: Mapping[Tuple[int, int], int]
+    goals: Mapping[Tuple[int, str, str], Tuple[int, str]]
+    ways: Mapping[Tuple[int, int, str], Way]
+
+    def number(self, junction: Junction, arm: Arm, link: int) -> int:
+        """The number of an arm's link."""
+        return self.numbers[junction.number, junction.place_of(arm, link)]
+
+
+def town_of(net: NetFile, wanted: Optional[List[str]], cycle: Optional[int], tell: Tell) -> Town:
+    """The town of a network: the junctions that are wanted, or all that have signals of two stages or more."""
+    logics = [logic for logic in only(net.logics, wanted) if is_a_junction(net, logic, tell)]
+    if not logics:
+        raise Fault("the network has no junction with signals of at least two stages")
+    seconds = cycle or cycle_of_most(logics)
+    junctions = tuple(junction_of(net, logic, number, seconds, tell) for number, logic in enumerate(logics, 1))
+    times = [time for one in junctions if one.has_times for time in times_of(one)]
+    numbers = numbered({one.number: len(one.links) for one in junctions})
+    if len(junctions) > MOST_JUNCTIONS or len(numbers) > MOST_LINKS:
+        raise Fault(f"the network has {len(junctions):,} junctions with signals and {len(numbers):,} links, and a deck "
+                    f"{MOST_JUNCTIONS} and {MOST_LINKS:,} at most: --junctions takes a part")
+    goals, ways = onward(net, junctions, tell)
+    return Town(net, frame_of(seconds, times), junctions, numbers, goals, ways)
+
+
+def is_a_junction(net: NetFile, logic: Logic, tell: Tell) -> bool:
+    """Whether signals stop cars in at least two stages; those that don't are told, and left out."""
+    places = {one.place for one in net.connections if one.signals == logic.name and not one.start.startswith(":")}
+    length = min((len(phase.state) for phase in logic.phases), default=0)
+    if places and max(places) >= length:
+        raise Fault(f"signals {logic.name}: a connection has the place {max(places)}, and a phase has {length} places")
+    if not places or len(stages_of(logic)) < 2:
+        tell(f"signals {logic.name} have fewer than two stages for cars, and are left out")
+        return False
+    return True
+
+
+def junction_of(net: NetFile, logic: Logic, number: int, cycle: int, tell: Tell) -> Junction:
+    """A junction of a program of signals."""
+    every = tuple(stages_of(logic))
+    stages, into = every, {place: place for place in range(len(every))}
+    if len(every) > MOST_STAGES:
+        kept, into = at_most_eight(list(every), cycle_of(logic))
+        stages = tuple(kept)
+        left = [str(place + 1) for place in range(len(every)) if every[place].begin not in {one.begin for one in kept}]
+        tell(f"signals {logic.name} have {len(every)} stages, and {MOST_STAGES} are the most: left out are those with "
+             f"least green, {', '.join(left)}, whose time goes to the stage before")
+    told_of(logic, cycle, tell)
+    program = Program(logic, stages, every, into)
+    arms = tuple(arms_of(net, program, tell))
+    return Junction(number, program, arms, is_fixed(logic) and cycle_of(logic) == cycle)
+
+
+def told_of(logic: Logic, cycle: int, tell: Tell) -> None:
+    """Tells what of a program isn't carried over."""
+    if not is_fixed(logic):
+        tell(f"signals {logic.name} are {logic.kind}, and their times aren't fixed: their changes are left empty, for "
+             "equal saturation")
+    elif cycle_of(logic) != cycle:
+        tell(f"signals {logic.name} have a cycle of {float(cycle_of(logic)):g} s, and the sheets {cycle}: their changes "
+             "are left empty, for equal saturation")
+    if any(phase.following not in ("", str(place)) for place, phase in
+           enumerate(logic.phases[:-1], 1)) or logic.phases[-1].following not in ("", "0"):
+        tell(f"signals {logic.name}: a phase is followed by another than the next one; they are taken in turn")
+    other = sorted({signal for phase in logic.phases for signal in phase.state} - set("GgyYruU"))
+    if other:
+        tell(f"signals {logic.name}: the signals {' '.join(other)} are taken as red")
+
+
+def times_of(junction: Junction) -> List[Fraction]:
+    """The times of a junction that have to be whole steps."""
+    stages = junction.program.stages
+    return [time for stage in stages for time in (junction.begin(stage), stage.intergreen)]
+
+
+def onward(net: NetFile, junctions: Tuple[Junction, ...], tell: Tell) -> Tuple[Dict[Tuple[int, str, str],
+                                                                                   Tuple[int, str]],
+                                                                               Dict[Tuple[int, int, str], Way]]:
+    """Where each turn goes on, and the ways from junctions to arms."""
+    at = {arm.edge.name: junction.number for junction in junctions for arm in junction.arms}
+    signalled = {one.start for one in net.connections if one.signals and not one.start.startswith(":")}
+    trails = Trails(net, signalled)
+    goals: Dict[Tuple[int, str, str], Tuple[int, str]] = {}
+    found: Dict[Tuple[int, int, str], List[Way]] = {}
+    parted: Dict[str, None] = {}
+    for junction in junctions:
+        for arm in junction.arms:
+            for turn in arm.turns:
+                ends = trails.ends_of(turn.goal)
+                if len(ends) > 1:
+                    parted[turn.goal] = None
+                if ends and ends[0].end in at:
+                    goal = at[ends[0].end], ends[0].end
+                    goals[junction.number, arm.edge.name, turn.name] = goal
+                    found.setdefault((junction.number, *goal), []).append(way_of(net, ends[0], turn.connections[0]))
+    for edge in parted:
+        tell_parted(edge, trails.ends_of(edge), at, tell)
+    return goals, {key: mean_way(key, ways, tell) for key, ways in found.items()}
+
+
+def tell_parted(edge: str, ends: List[Trail], at: Mapping[str, int], tell: Tell) -> None:
+    """Tells that a way parts before the next signals."""
+    more = f" and {len(ends) - 4} more" if len(ends) > 4 else ""
+    taken = ends[0].end if ends[0].end in at else f"{ends[0].end}, where it leaves"
+    tell(f"the way from the beginning of edge {edge} parts before the next signals, to the ends of "
+         f"{', '.join(trail.end for trail in ends[:4])}{more}: all of it is taken to go to {taken}")
+
+
+def way_of(net: NetFile, trail: Trail, connection: Connection) -> Way:
+    """The way of a turn: through its junction, and then on."""
+    metres, seconds = inside(net, connection)
+    return Way(metres + trail.metres, seconds + trail.seconds)
+
+
+def mean_way(key: Tuple[int, int, str], ways: List[Way], tell: Tell) -> Way:
+    """The mean of the ways by which turns of a junction come to an arm; told where they differ by more than 2 s."""
+    seconds = [way.seconds for way in ways]
+    mean = Way(sum(way.metres for way in ways) / len(ways), sum(seconds) / len(ways))
+    if max(seconds) - min(seconds) > 2:
+        tell(f"the turns of junction {key[0]} come to edge {key[2]} in {min(seconds):.0f} to {max(seconds):.0f} s; taken "
+             f"is the mean, {mean.seconds:.0f} s")
+    return mean
