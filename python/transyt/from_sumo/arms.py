@@ -126,7 +126,8 @@ def gives_way(lane: Lane, turns: Sequence[Connection], program: Program, tell: T
         return True
     if any(minor):
         goals = " and ".join(turn.end for turn, looks in zip(turns, minor) if looks)
-        tell(f"lane {lane.name}: its turn to {goals} gives way, and other turns of the lane don't; taken without a rule")
+        tell(f"lane {lane.name}: its turn to {goals} gives way, and other turns of the lane don't; taken without a "
+             "rule")
     for turn in turns:
         if turn.signals == name and program.greens(turn) == {"G", "g"}:
             tell(f"lane {lane.name}: its turn to {turn.end} gives way in some stages alone; taken without a rule")

@@ -36,13 +36,13 @@ def is_fixed(logic: Logic) -> bool:
 
 
 def cycle_of_most(logics: Iterable[Logic]) -> int:
-    """The cycle of most programs that go by the clock; of equally many the longest. Other programs count where none does."""
+    """The cycle of most programs that go by the clock, of equally many the longest; where none does, that of most."""
     there = list(logics)
     cycles = Counter(cycle_of(logic) for logic in there if is_fixed(logic)) or Counter(map(cycle_of, there))
     seconds = max(cycles, key=lambda cycle: (cycles[cycle], cycle))
     if seconds.denominator != 1 or not CYCLES[0] <= seconds <= CYCLES[1]:
-        raise Fault(f"most signals have a cycle of {float(seconds):g} s, and a deck's is a whole number from {CYCLES[0]} to "
-                    f"{CYCLES[1]}: --cycle names one")
+        raise Fault(f"most signals have a cycle of {float(seconds):g} s, and a deck's is a whole number from "
+                    f"{CYCLES[0]} to {CYCLES[1]}: --cycle names one")
     return int(seconds)
 
 

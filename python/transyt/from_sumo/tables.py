@@ -63,8 +63,9 @@ def stage_rows(town: Town, junction: Junction, tell: Tell) -> List[List[str]]:
             least = least_green(town, junction, number, least, (following - begin) % frame.cycle - intergreen, tell)
             if (begin, intergreen) != (junction.begin(stage), stage.intergreen):
                 tell(f"signals {junction.program.logic.name}: stage {number} begins at "
-                     f"{seconds_text(junction.begin(stage))} s with an intergreen of {seconds_text(stage.intergreen)} s, "
-                     f"which aren't whole steps: taken are {seconds_text(begin)} s and {seconds_text(intergreen)} s")
+                     f"{seconds_text(junction.begin(stage))} s with an intergreen of "
+                     f"{seconds_text(stage.intergreen)} s, which aren't whole steps: taken are {seconds_text(begin)} s "
+                     f"and {seconds_text(intergreen)} s")
         change = seconds_text((begin - first) % frame.cycle) if junction.has_times else ""
         rows.append([str(junction.number), str(number), "", seconds_text(intergreen), seconds_text(least), change])
     return rows
@@ -77,8 +78,8 @@ def least_green(town: Town, junction: Junction, number: int, least: Fraction, gr
         raise Fault(f"signals {signals}: the green of stage {number} is shorter than a step of "
                     f"{seconds_text(town.frame.step)} s")
     if least > green:
-        tell(f"signals {signals}: stage {number} has {seconds_text(green)} s of green, which is its least green here in "
-             f"the place of {seconds_text(least)} s")
+        tell(f"signals {signals}: stage {number} has {seconds_text(green)} s of green, which is its least green here "
+             f"in the place of {seconds_text(least)} s")
     return min(least, green)
 
 
@@ -90,8 +91,8 @@ def link_rows(town: Town, junction: Junction, tell: Tell) -> List[List[str]]:
             number, lanes = town.number(junction, arm, place), len(link.lanes)
             saturation = min(LANE_SATURATION * lanes, MOST_SATURATION)
             if saturation < LANE_SATURATION * lanes:
-                tell(f"edge {arm.edge.name}: {lanes} lanes are taken with {saturation:,} vehicles an hour, the most there "
-                     "is")
+                tell(f"edge {arm.edge.name}: {lanes} lanes are taken with {saturation:,} vehicles an hour, the most "
+                     "that a deck has")
             turns = " ".join(turn.name for turn in arm.turns if turn.link == place)
             name = named(f"from {arm.edge.street or arm.edge.name}: {turns}")
             rows.append([str(number), str(junction.number), csv_name(arm.edge.name), name, str(saturation), str(lanes),
@@ -137,8 +138,8 @@ def count_table(town: Town, intervals: Optional[Sequence[Interval]], tell: Tell)
     for interval in intervals:
         for junction, arm in arms:
             counted = counts_of(arm, interval)
-            rows.append([str(junction.number), csv_name(arm.edge.name), time_text(interval.begin), str(interval.minutes),
-                         *(str(counted[turn]) if turn in counted else "" for turn in turns)])
+            rows.append([str(junction.number), csv_name(arm.edge.name), time_text(interval.begin),
+                         str(interval.minutes), *(str(counted[turn]) if turn in counted else "" for turn in turns)])
     known = {(arm.edge.name, turn.goal) for _, arm in arms for turn in arm.turns}
     left = sorted({key for interval in intervals for key in interval.vehicles} - known)
     if left:

@@ -40,7 +40,7 @@ class Junction:
 
 @dataclass(frozen=True)
 class Way:
-    """A way from a junction to an arm: the ways of its turns, each with metres and seconds, through the junction too."""
+    """A way from a junction to an arm, the way through the junction with it."""
 
     metres: float
     seconds: float
@@ -115,8 +115,8 @@ def told_of(logic: Logic, cycle: int, tell: Tell) -> None:
         tell(f"signals {logic.name} are {logic.kind}, and their times aren't fixed: their changes are left empty, for "
              "equal saturation")
     elif cycle_of(logic) != cycle:
-        tell(f"signals {logic.name} have a cycle of {float(cycle_of(logic)):g} s, and the sheets {cycle}: their changes "
-             "are left empty, for equal saturation")
+        tell(f"signals {logic.name} have a cycle of {float(cycle_of(logic)):g} s, and the sheets {cycle}: their "
+             "changes are left empty, for equal saturation")
     if any(phase.following not in ("", str(place)) for place, phase in
            enumerate(logic.phases[:-1], 1)) or logic.phases[-1].following not in ("", "0"):
         tell(f"signals {logic.name}: a phase is followed by another than the next one; they are taken in turn")
@@ -175,6 +175,6 @@ def mean_way(key: Tuple[int, int, str], ways: List[Way], tell: Tell) -> Way:
     seconds = [way.seconds for way in ways]
     mean = Way(sum(way.metres for way in ways) / len(ways), sum(seconds) / len(ways))
     if max(seconds) - min(seconds) > 2:
-        tell(f"the turns of junction {key[0]} come to edge {key[2]} in {min(seconds):.0f} to {max(seconds):.0f} s; taken "
-             f"is the mean, {mean.seconds:.0f} s")
+        tell(f"the turns of junction {key[0]} come to edge {key[2]} in {min(seconds):.0f} to {max(seconds):.0f} s; "
+             f"taken is the mean, {mean.seconds:.0f} s")
     return mean

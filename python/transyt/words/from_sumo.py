@@ -54,7 +54,7 @@ def town_name(path: str) -> str:
 def summary(town: Town, args: argparse.Namespace) -> List[str]:
     """What was written, and what was guessed."""
     counts = "the counts are left empty" if args.turns is None else f"the counts are those of {args.turns}"
-    return [f"{args.folder}: {len(town.junctions)} junctions, {len(town.numbers)} links, {len(town.ways)} ways; a cycle "
-            f"of {town.frame.cycle} s in {town.frame.steps} steps; {counts}",
+    return [f"{args.folder}: {len(town.junctions)} junctions, {len(town.numbers)} links, {len(town.ways)} ways; a "
+            f"cycle of {town.frame.cycle} s in {town.frame.steps} steps; {counts}",
             f"guessed are saturation flows of 1,800 vehicles an hour and lane, lags of 2 and 3 s, and a least green of "
             f"{LEAST_GREEN} s where a phase has no minDur"]
