@@ -1,5 +1,5 @@
 #!/usr/bin/env python3
-"""gives.py [SEEDS]: what a give-way rule takes off in SUMO, beside the percentages that the sheets take for an empty field.
+"""gives.py [SEEDS]: what a give-way rule takes off in SUMO, beside the percentages of the sheets for an empty field.
 
 A turn across the traffic that comes the other way has a queue for the whole hour, and no signal but its rule. How many
 go through with nobody coming, less how many go with so many coming, for each 100 that come, is the percentage of a
@@ -86,7 +86,8 @@ def table(seeds: Sequence[int]) -> List[str]:
         taken = [percent for least, percent in GIVE_WAY if least <= flow][-1]
         lines.append(row([flow, lanes_of(flow), f"{statistics.fmean(through[flow]):.0f}",
                           f"{statistics.fmean(percents):.0f}", f"{min(percents):.0f} to {max(percents):.0f}", taken]))
-    return lines + ["", f"{sumo_version()}, seeds 1 to {len(seeds)}; {free:.0f} vehicles an hour go where nobody comes."]
+    return lines + ["", f"{sumo_version()}, seeds 1 to {len(seeds)}; {free:.0f} vehicles an hour go where nobody "
+                        "comes."]
 
 
 if __name__ == "__main__":
