@@ -102,6 +102,11 @@ class Grids(FromSumo):
             self.assertNotEqual(link["arm"], other["arm"])
             self.assertTrue(link["name"].endswith(": l") and not other["name"].endswith(": l"))
 
+    def test_crossings_on_foot_make_no_stages(self):
+        made = self.made(grid(self.folder, "--sidewalks.guess", "true", "--crossings.guess", "true"))
+        self.assertEqual([(row["intergreen"], row["change"]) for row in made["stages"]], [("3", "0"), ("3", "45")] * 9)
+        self.assertEqual({row["lanes"] for row in made["links"]}, {"1"})
+
     def test_some_junctions_alone(self):
         made = self.made(grid(self.folder), "--junctions", "B1,A1")
         self.assertEqual([row["name"] for row in made["junctions"]], ["A1", "B1"])
@@ -168,7 +173,7 @@ class Turned(FromSumo):
         made = self.made(net)
         self.assertEqual([row["name"] for row in made["junctions"]], ["A0", "A1", "A2", "B0", "B2", "C0", "C1", "C2"])
         self.assertEqual(sum(row["junction"] == "2" for row in made["links"]), 8)
-        self.assertTrue(self.told("signals unused have fewer than two stages for cars, and are left out"))
+        self.assertTrue(self.told("signals unused have fewer than two stages, and are left out"))
         self.assertIn(("2", "2", "A1B1"), {(row["from junction"], row["to junction"], row["to arm"])
                                            for row in made["ways"]})
 

@@ -6,7 +6,7 @@ from fractions import Fraction
 import support  # noqa: F401
 from transyt.faults import Fault
 from transyt.from_sumo.frames import cycle_of_most, frame_of, numbered, only
-from transyt.from_sumo.stages import at_most_eight, cycle_of, stages_of
+from transyt.from_sumo.stages import ON_FOOT, at_most_eight, cycle_of, stages_of
 from transyt.sumo.netfile import Logic, Phase
 
 
@@ -17,10 +17,15 @@ def logic(*phases, offset=0.0, kind="static", name="J"):
     return Logic(name, kind, "0", offset, tuple(made))
 
 
+def cars(program):
+    """All places of a program."""
+    return frozenset(range(len(program.phases[0].state)))
+
+
 def told(program):
     """Of each stage the beginning, intergreen and green in seconds, and the green places."""
     return [(float(stage.begin), float(stage.intergreen), float(stage.green), sorted(stage.places))
-            for stage in stages_of(program)]
+            for stage in stages_of(program, cars(program))]
 
 
 class Stages(unittest.TestCase):
@@ -56,7 +61,7 @@ class Stages(unittest.TestCase):
 
     def test_least_greens_are_those_of_the_green_phases(self):
         program = logic((10, "Gr", "", 6.0), (20, "gr", "", 4.0), (3, "yr", "", 3.0), (20, "rG"), (3, "ry"))
-        self.assertEqual([stage.least for stage in stages_of(program)], [10, None])
+        self.assertEqual([stage.least for stage in stages_of(program, cars(program))], [10, None])
 
     def test_greens_alone_without_intergreens(self):
         self.assertEqual(told(logic((20, "Gr"), (25, "rG"))), [(0, 0, 20, [0]), (20, 0, 25, [1])])
@@ -73,13 +78,22 @@ class Stages(unittest.TestCase):
 
     def test_states_of_two_lengths_are_refused(self):
         with self.assertRaisesRegex(Fault, "signals J: .* length"):
-            stages_of(logic((20, "Gr"), (20, "rGG")))
+            stages_of(logic((20, "Gr"), (20, "rGG")), frozenset({0, 1}))
+        with self.assertRaisesRegex(Fault, "signals J: .* place 2, and a phase has 2 places"):
+            stages_of(logic((20, "Gr"), (20, "rG")), frozenset({0, 2}))
+
+    def test_signals_of_those_on_foot_make_no_stage_but_where_they_alone_are_green(self):
+        # place 2 is on foot: along with place 0 for a while, and alone at the end
+        program = logic((20, "GrG"), (5, "Grr"), (3, "yrr"), (20, "rGr"), (3, "ryr"), (12, "rrG"), (4, "rrr"))
+        stages = stages_of(program, frozenset({0, 1}))
+        self.assertEqual([(float(one.begin), float(one.intergreen), float(one.green), one.places) for one in stages],
+                         [(63, 4, 25, {0}), (25, 3, 20, {1}), (48, 3, 12, ON_FOOT)])
 
     def test_the_eight_stages_with_most_green(self):
         phases = [step for place in range(9) for step in (
             (20 - place if place != 4 else 5, "r" * place + "G" + "r" * (8 - place)), (3, "r" * place + "y" + "r" * (
                 8 - place)))]
-        stages = stages_of(logic(*phases))
+        stages = stages_of(logic(*phases), frozenset(range(9)))
         cycle = cycle_of(logic(*phases))
         kept, into = at_most_eight(stages, cycle)
         self.assertEqual([into[place] for place in range(9)], [0, 1, 2, 3, 3, 4, 5, 6, 7])

@@ -1,14 +1,19 @@
 """The round trip: a deck as `sumo look` writes it, read back by `from-sumo`."""
 
+import contextlib
+import io
 import os
 import random
 import tempfile
 import unittest
+import unittest.mock
 from dataclasses import replace
 from fractions import Fraction
 
 import support
 from sumo_nets import needs_sumo, run
+from support import PROGRAM, needs_program
+from transyt.__main__ import main
 from transyt.deck import read_deck
 from transyt.from_sumo.tables import tables_of
 from transyt.from_sumo.town import town_of
@@ -123,6 +128,21 @@ class RoundTrip(unittest.TestCase):
             for _ in range(4):
                 with self.subTest(name):
                     self.compare(another_plan(deck, draw))
+
+    @needs_program
+    def test_by_the_words_themselves(self):
+        with tempfile.TemporaryDirectory() as folder, contextlib.redirect_stderr(io.StringIO()):
+            deck, town, sheets = (os.path.join(folder, name) for name in ("a.deck", "town", "sheets"))
+            with open(deck, "w", encoding="utf-8") as file:
+                file.write(THREE_STAGES)
+            with unittest.mock.patch("transyt.words.sumo.write"):
+                self.assertEqual(main(["sumo", "look", deck, town, "--program", PROGRAM]), 0)
+            self.assertEqual(main(["from-sumo", os.path.join(town, "town.net.xml"), "-o", sheets]), 0)
+            with open(os.path.join(sheets, "stages.csv"), encoding="utf-8") as file:
+                rows = [row.split(",") for row in file.read().split()[1:]]
+        # AT is at 4, 28 and 48 s at junction 1, whose stages follow one another from the first on
+        self.assertEqual([(row[0], row[3], row[5]) for row in rows],
+                         [("1", "4", "0"), ("1", "2", "24"), ("1", "6", "44"), ("2", "2", "0"), ("2", "4", "30")])
 
     def test_an_intergreen_that_ends_nothing(self):
         self.compare(read_deck(THREE_STAGES))

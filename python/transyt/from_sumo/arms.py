@@ -65,28 +65,9 @@ class Program:
 
 def arms_of(net: NetFile, program: Program, tell: Tell) -> List[Arm]:
     """The arms of a program of signals, in the file's order of edges."""
-    name = program.logic.name
-    found = []
-    for edge in net.edges.values():
-        connections = driven(net, edge)
-        if edge.function != "internal" and any(one.signals == name for one in connections):
-            arm = arm_of(edge, connections, program, tell)
-            if arm.links:
-                found.append(arm)
-    return found
-
-
-def driven(net: NetFile, edge: Edge) -> List[Connection]:
-    """The connections of an edge by which cars go, from right to left."""
-    lanes = {lane.place for lane in edge.lanes if lane.cars}
-    return sorted((one for one in net.from_edge.get(edge.name, ()) if one.from_lane in lanes and takes_cars(net, one)),
-                  key=lambda one: one.from_lane)
-
-
-def takes_cars(net: NetFile, connection: Connection) -> bool:
-    """Whether a connection leads to a lane for cars."""
-    edge = net.edges.get(connection.end)
-    return edge is not None and any(lane.cars and lane.place == connection.to_lane for lane in edge.lanes)
+    starts = {one.start for one in net.at_signals[program.logic.name]}
+    arms = [arm_of(edge, net.driven(edge.name), program, tell) for edge in net.edges.values() if edge.name in starts]
+    return [arm for arm in arms if arm.links]
 
 
 def arm_of(edge: Edge, connections: Sequence[Connection], program: Program, tell: Tell) -> Arm:

@@ -1,8 +1,9 @@
 """The stages of a program of signals: its phases, with yellow and all red as intergreen.
 
-A stage is a run of phases with the same greens. Phases in which some signal is yellow, or none is green, belong to the
-intergreen of the stage that follows, as does a short one whose greens are on before it and after it. The phases that
-`./plan sumo look` writes have the names `stage 2` and `to stage 2`, and are taken by them.
+A stage is a run of phases with the same greens for cars. Phases in which some signal is yellow, or none is green,
+belong to the intergreen of the stage that follows, as does a short one whose greens are on before it and after it. Where
+those on foot alone have green, that is a stage too. The phases that `./plan sumo look` writes have the names `stage 2`
+and `to stage 2`, and are taken by them.
 """
 
 import re
@@ -19,6 +20,7 @@ GREENS = "Gg"
 CHANGING = "yYuU"
 CLEARING = 5  # seconds; a run of phases with less green, whose greens are on before and after it, is no stage
 MOST_STAGES = 8
+ON_FOOT = frozenset({-1})  # in the place of the places of those on foot
 
 
 @dataclass(frozen=True)
@@ -39,6 +41,7 @@ class Part:
 
     begin: Fraction
     phase: Phase
+    cars: FrozenSet[int]
 
     @property
     def seconds(self) -> Fraction:
@@ -47,13 +50,14 @@ class Part:
 
     @property
     def places(self) -> FrozenSet[int]:
-        """The places that are green."""
-        return frozenset(place for place, signal in enumerate(self.phase.state) if signal in GREENS)
+        """The places of cars that are green; ON_FOOT where only others are."""
+        green = {place for place, signal in enumerate(self.phase.state) if signal in GREENS}
+        return frozenset(green & self.cars) or (ON_FOOT if green else frozenset())
 
     @property
     def is_changing(self) -> bool:
         """Whether some signal is yellow, or none is green."""
-        return not self.places or any(signal in CHANGING for signal in self.phase.state)
+        return not self.places or any(self.phase.state[place] in CHANGING for place in self.cars)
 
 
 Run = List[Part]
@@ -69,21 +73,28 @@ def cycle_of(logic: Logic) -> Fraction:
     return sum((exact(phase.duration) for phase in logic.phases), Fraction(0))
 
 
-def parts_of(logic: Logic) -> Run:
+def parts_of(logic: Logic, cars: FrozenSet[int]) -> Run:
     """The phases with their beginnings; those that last no time are left."""
     begin, found = Fraction(0), []
     for phase in logic.phases:
         if phase.duration > 0:
-            found.append(Part(begin, phase))
+            found.append(Part(begin, phase, cars))
         begin += exact(phase.duration)
     return found
 
 
-def stages_of(logic: Logic) -> List[Stage]:
-    """The stages of a program, from the one on with which its first phase is green, or that is green first."""
-    parts = parts_of(logic)
-    if len({len(part.phase.state) for part in parts}) > 1:
+def stages_of(logic: Logic, cars: FrozenSet[int]) -> List[Stage]:
+    """The stages of a program, from the one on with which its first phase is green, or that is green first.
+
+    `cars` are the places of its states that are signals for cars.
+    """
+    lengths = {len(phase.state) for phase in logic.phases}
+    if len(lengths) > 1:
         raise Fault(f"signals {logic.name}: the states of its phases differ in length")
+    if cars and lengths and (max(cars) >= max(lengths) or min(cars) < 0):
+        raise Fault(f"signals {logic.name}: a connection has the place {max(cars)}, and a phase has {max(lengths)} "
+                    "places")
+    parts = parts_of(logic, cars)
     names = [NAMED.fullmatch(part.phase.name) for part in parts]
     if parts and all(names):
         return named_stages(parts, [(int(name[2]), bool(name[1])) for name in names if name])

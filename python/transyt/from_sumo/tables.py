@@ -12,7 +12,7 @@ from ..sumo.netfile import Connection
 from ..text import csv_name, name_fault
 from .arms import Arm, Tell, Turn
 from .counts import Interval
-from .stages import exact
+from .stages import ON_FOOT, exact
 from .town import Junction, Town
 
 LANE_SATURATION, MOST_SATURATION = 1_800, 9_999
@@ -67,7 +67,8 @@ def stage_rows(town: Town, junction: Junction, tell: Tell) -> List[List[str]]:
                      f"{seconds_text(stage.intergreen)} s, which aren't whole steps: taken are {seconds_text(begin)} s "
                      f"and {seconds_text(intergreen)} s")
         change = seconds_text((begin - first) % frame.cycle) if junction.has_times else ""
-        rows.append([str(junction.number), str(number), "", seconds_text(intergreen), seconds_text(least), change])
+        name = "on foot" if stage.places == ON_FOOT else ""
+        rows.append([str(junction.number), str(number), name, seconds_text(intergreen), seconds_text(least), change])
     return rows
 
 

@@ -2,7 +2,7 @@
 
 from dataclasses import dataclass
 from fractions import Fraction
-from typing import Dict, List, Mapping, Optional, Tuple
+from typing import Dict, FrozenSet, List, Mapping, Optional, Tuple
 
 from ..faults import Fault
 from ..sumo.netfile import Connection, Logic, NetFile
@@ -67,7 +67,10 @@ class Town:
 
 def town_of(net: NetFile, wanted: Optional[List[str]], cycle: Optional[int], tell: Tell) -> Town:
     """The town of a network: the junctions that are wanted, or all that have signals of two stages or more."""
-    logics = [logic for logic in only(net.logics, wanted) if is_a_junction(net, logic, tell)]
+    logics = [logic for logic in only(net.logics, wanted) if has_stages(net, logic)]
+    for logic in only(net.logics, wanted):
+        if logic not in logics:
+            tell(f"signals {logic.name} have fewer than two stages, and are left out")
     if not logics:
         raise Fault("the network has no junction with signals of at least two stages")
     seconds = cycle or cycle_of_most(logics)
@@ -81,21 +84,28 @@ def town_of(net: NetFile, wanted: Optional[List[str]], cycle: Optional[int], tel
     return Town(net, frame_of(seconds, times), junctions, numbers, goals, ways)
 
 
-def is_a_junction(net: NetFile, logic: Logic, tell: Tell) -> bool:
-    """Whether signals stop cars in at least two stages; those that don't are told, and left out."""
-    places = {one.place for one in net.connections if one.signals == logic.name and not one.start.startswith(":")}
-    length = min((len(phase.state) for phase in logic.phases), default=0)
-    if places and max(places) >= length:
-        raise Fault(f"signals {logic.name}: a connection has the place {max(places)}, and a phase has {length} places")
-    if not places or len(stages_of(logic)) < 2:
-        tell(f"signals {logic.name} have fewer than two stages for cars, and are left out")
-        return False
-    return True
+def cars_at(net: NetFile, logic: Logic) -> FrozenSet[int]:
+    """The places of signals for cars."""
+    return frozenset(one.place for one in net.at_signals.get(logic.name, ()))
+
+
+def has_stages(net: NetFile, logic: Logic) -> bool:
+    """Whether signals stop cars, and have at least two stages."""
+    cars = cars_at(net, logic)
+    return bool(cars) and len(stages_of(logic, cars)) >= 2
+
+
+def stops_ways(net: NetFile, name: str) -> bool:
+    """Whether ways end at signals, be they wanted or not; those with fewer than two stages are as none."""
+    try:
+        return name in net.logics and has_stages(net, net.logics[name])
+    except Fault:
+        return True
 
 
 def junction_of(net: NetFile, logic: Logic, number: int, cycle: int, tell: Tell) -> Junction:
     """A junction of a program of signals."""
-    every = tuple(stages_of(logic))
+    every = tuple(stages_of(logic, cars_at(net, logic)))
     stages, into = every, {place: place for place in range(len(every))}
     if len(every) > MOST_STAGES:
         kept, into = at_most_eight(list(every), cycle_of(logic))
@@ -136,8 +146,8 @@ def onward(net: NetFile, junctions: Tuple[Junction, ...], tell: Tell) -> Tuple[D
                                                                                Dict[Tuple[int, int, str], Way]]:
     """Where each turn goes on, and the ways from junctions to arms."""
     at = {arm.edge.name: junction.number for junction in junctions for arm in junction.arms}
-    signalled = {one.start for one in net.connections if one.signals and not one.start.startswith(":")}
-    trails = Trails(net, signalled)
+    others = {one.start for name, led in net.at_signals.items() if stops_ways(net, name) for one in led}
+    trails = Trails(net, others | set(at))
     goals: Dict[Tuple[int, str, str], Tuple[int, str]] = {}
     found: Dict[Tuple[int, int, str], List[Way]] = {}
     parted: Dict[str, None] = {}

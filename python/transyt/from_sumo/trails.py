@@ -6,7 +6,6 @@ from dataclasses import dataclass
 from typing import AbstractSet, Dict, List, Tuple
 
 from ..sumo.netfile import Connection, Edge, NetFile
-from .arms import driven
 
 TURNING_BACK = "t"
 
@@ -77,7 +76,7 @@ class Trails:
 
     def onward(self, edge: Edge) -> List[Connection]:
         """The connections by which cars go on from an edge, without those that turn back."""
-        return [one for one in driven(self.net, edge) if one.direction != TURNING_BACK]
+        return [one for one in self.net.driven(edge.name) if one.direction != TURNING_BACK]
 
     def heading(self, name: str) -> float:
         """The direction of an edge from its first end to its last."""

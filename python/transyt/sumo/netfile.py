@@ -108,6 +108,25 @@ class NetFile:
             found.setdefault(connection.start, []).append(connection)
         return {edge: tuple(connections) for edge, connections in found.items()}
 
+    @cached_property
+    def at_signals(self) -> Mapping[str, Tuple[Connection, ...]]:
+        """The connections of cars that each program of signals has, in the file's order, without internal ones."""
+        found: Dict[str, List[Connection]] = {}
+        for one in self.connections:
+            if one.signals and not one.start.startswith(":") and self.takes_cars(one):
+                found.setdefault(one.signals, []).append(one)
+        return {name: tuple(connections) for name, connections in found.items()}
+
+    def takes_cars(self, connection: Connection) -> bool:
+        """Whether a connection leads from a lane for cars to one."""
+        ends = ((connection.start, connection.from_lane), (connection.end, connection.to_lane))
+        return all(any(lane.cars and lane.place == place for lane in self.edges[edge].lanes) if edge in self.edges
+                   else False for edge, place in ends)
+
+    def driven(self, edge: str) -> List[Connection]:
+        """The connections of an edge by which cars go, from right to left."""
+        return sorted(filter(self.takes_cars, self.from_edge.get(edge, ())), key=lambda one: one.from_lane)
+
     def ordered(self, junction: Junction) -> List[Connection]:
         """The connections of a junction in the order of its requests: lane by lane, and as the file has them."""
         found: List[Connection] = []
