@@ -6,7 +6,7 @@ from fractions import Fraction
 import support  # noqa: F401
 from transyt.faults import Fault
 from transyt.from_sumo.frames import cycle_of_most, frame_of, numbered, only
-from transyt.from_sumo.stages import ON_FOOT, at_most_eight, cycle_of, stages_of
+from transyt.from_sumo.stages import ON_FOOT, cycle_of, fullest, stages_of
 from transyt.sumo.netfile import Logic, Phase
 
 
@@ -95,7 +95,7 @@ class Stages(unittest.TestCase):
                 8 - place)))]
         stages = stages_of(logic(*phases), frozenset(range(9)))
         cycle = cycle_of(logic(*phases))
-        kept, into = at_most_eight(stages, cycle)
+        kept, into = fullest(stages, cycle)
         self.assertEqual([into[place] for place in range(9)], [0, 1, 2, 3, 3, 4, 5, 6, 7])
         self.assertEqual(kept[3].green, stages[3].green + 3 + 5)
         self.assertEqual(sum(stage.intergreen + stage.green for stage in kept), cycle)

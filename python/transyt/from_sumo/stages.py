@@ -1,9 +1,9 @@
 """The stages of a program of signals: its phases, with yellow and all red as intergreen.
 
 A stage is a run of phases with the same greens for cars. Phases in which some signal is yellow, or none is green,
-belong to the intergreen of the stage that follows, as does a short one whose greens are on before it and after it. Where
-those on foot alone have green, that is a stage too. The phases that `./plan sumo look` writes have the names `stage 2`
-and `to stage 2`, and are taken by them.
+belong to the intergreen of the stage that follows, as does a short one whose greens are on before it and after it.
+Where those on foot alone have green, that is a stage too. The phases that `./plan sumo look` writes have the names
+`stage 2` and `to stage 2`, and are taken by them.
 """
 
 import re
@@ -167,7 +167,7 @@ def is_stage(runs: Sequence[Run], place: int) -> bool:
     return green >= CLEARING or not (run[0].places < before and run[0].places < after)
 
 
-def at_most_eight(stages: List[Stage], cycle: Fraction) -> Tuple[List[Stage], Dict[int, int]]:
+def fullest(stages: List[Stage], cycle: Fraction) -> Tuple[List[Stage], Dict[int, int]]:
     """The eight stages with most green, and for each place of a stage that is left that of the kept one before it.
 
     The time of a stage that is left goes to the stage before it.

@@ -12,7 +12,7 @@ from ..sumo.netfile import Connection
 from ..text import csv_name, name_fault
 from .arms import Arm, Tell, Turn
 from .counts import Interval
-from .stages import ON_FOOT, exact
+from .stages import ON_FOOT, Stage, exact
 from .town import Junction, Town
 
 LANE_SATURATION, MOST_SATURATION = 1_800, 9_999
@@ -55,9 +55,11 @@ def stage_rows(town: Town, junction: Junction, tell: Tell) -> List[List[str]]:
     frame, rows = town.frame, []
     stages = junction.program.stages
     first = frame.nearest(junction.begin(stages[0]))
+    if not junction.has_times:
+        told_if_too_long(town, junction, tell)
     for number, stage in enumerate(stages, 1):
         begin, intergreen = frame.nearest(junction.begin(stage)), frame.nearest(stage.intergreen)
-        least = max(frame.step, frame.nearest(stage.least or Fraction(LEAST_GREEN)))
+        least = guessed_least(town, stage)
         if junction.has_times:
             following = frame.nearest(junction.begin(stages[number % len(stages)]))
             least = least_green(town, junction, number, least, (following - begin) % frame.cycle - intergreen, tell)
@@ -70,6 +72,21 @@ def stage_rows(town: Town, junction: Junction, tell: Tell) -> List[List[str]]:
         name = "on foot" if stage.places == ON_FOOT else ""
         rows.append([str(junction.number), str(number), name, seconds_text(intergreen), seconds_text(least), change])
     return rows
+
+
+def guessed_least(town: Town, stage: Stage) -> Fraction:
+    """The least green of a stage: what its program tells, else a guess, in whole steps."""
+    return max(town.frame.step, town.frame.nearest(stage.least or Fraction(LEAST_GREEN)))
+
+
+def told_if_too_long(town: Town, junction: Junction, tell: Tell) -> None:
+    """Tells where intergreens and least greens don't fit into the cycle, which `./plan deck` refuses."""
+    frame = town.frame
+    whole = sum(frame.nearest(stage.intergreen) + guessed_least(town, stage) for stage in junction.program.stages)
+    if whole > frame.cycle:
+        tell(f"signals {junction.program.logic.name}: intergreens and least greens sum to "
+             f"{seconds_text(Fraction(whole))} s, which is more than the cycle of {frame.cycle} s: the sheets need a "
+             "longer one, or shorter stages")
 
 
 def least_green(town: Town, junction: Junction, number: int, least: Fraction, green: Fraction, tell: Tell) -> Fraction:

@@ -7,11 +7,13 @@ from typing import Dict, FrozenSet, List, Mapping, Optional, Tuple
 from ..faults import Fault
 from ..sumo.netfile import Connection, Logic, NetFile
 from .arms import Arm, ArmLink, Program, Tell, arms_of
+from .feeders import Goals, at_most_eight
 from .frames import Frame, cycle_of_most, frame_of, is_fixed, numbered, only
-from .stages import MOST_STAGES, Stage, at_most_eight, cycle_of, exact, stages_of
+from .stages import MOST_STAGES, Stage, cycle_of, exact, fullest, stages_of
 from .trails import Trail, Trails, inside
 
 MOST_JUNCTIONS, MOST_LINKS = 200, 1_000
+Ways = Dict[Tuple[int, int, str], "Way"]  # from a junction to a junction's arm
 
 
 @dataclass(frozen=True)
@@ -108,7 +110,7 @@ def junction_of(net: NetFile, logic: Logic, number: int, cycle: int, tell: Tell)
     every = tuple(stages_of(logic, cars_at(net, logic)))
     stages, into = every, {place: place for place in range(len(every))}
     if len(every) > MOST_STAGES:
-        kept, into = at_most_eight(list(every), cycle_of(logic))
+        kept, into = fullest(list(every), cycle_of(logic))
         stages = tuple(kept)
         left = [str(place + 1) for place in range(len(every)) if every[place].begin not in {one.begin for one in kept}]
         tell(f"signals {logic.name} have {len(every)} stages, and {MOST_STAGES} are the most: left out are those with "
@@ -141,14 +143,12 @@ def times_of(junction: Junction) -> List[Fraction]:
     return [time for stage in stages for time in (junction.begin(stage), stage.intergreen)]
 
 
-def onward(net: NetFile, junctions: Tuple[Junction, ...], tell: Tell) -> Tuple[Dict[Tuple[int, str, str],
-                                                                                   Tuple[int, str]],
-                                                                               Dict[Tuple[int, int, str], Way]]:
+def onward(net: NetFile, junctions: Tuple[Junction, ...], tell: Tell) -> Tuple[Goals, Ways]:
     """Where each turn goes on, and the ways from junctions to arms."""
     at = {arm.edge.name: junction.number for junction in junctions for arm in junction.arms}
     others = {one.start for name, led in net.at_signals.items() if stops_ways(net, name) for one in led}
     trails = Trails(net, others | set(at))
-    goals: Dict[Tuple[int, str, str], Tuple[int, str]] = {}
+    goals: Goals = {}
     found: Dict[Tuple[int, int, str], List[Way]] = {}
     parted: Dict[str, None] = {}
     for junction in junctions:
@@ -163,7 +163,9 @@ def onward(net: NetFile, junctions: Tuple[Junction, ...], tell: Tell) -> Tuple[D
                     found.setdefault((junction.number, *goal), []).append(way_of(net, ends[0], turn.connections[0]))
     for edge in parted:
         tell_parted(edge, trails.ends_of(edge), at, tell)
-    return goals, {key: mean_way(key, ways, tell) for key, ways in found.items()}
+    goals = at_most_eight([(junction.number, arm) for junction in junctions for arm in junction.arms], goals, tell)
+    kept = {(key[0], *goal) for key, goal in goals.items()}
+    return goals, {key: mean_way(key, ways, tell) for key, ways in found.items() if key in kept}
 
 
 def tell_parted(edge: str, ends: List[Trail], at: Mapping[str, int], tell: Tell) -> None:
