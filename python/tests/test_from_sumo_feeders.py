@@ -10,13 +10,15 @@ from transyt.sumo.netfile import Edge
 
 def arm(name, *turns):
     """An arm of an edge with turns, each with a link of its own."""
-    return Arm(Edge(name, "", "", "", "", ()), (), tuple(Turn(turn, "x", place, ()) for place, turn in enumerate(turns)))
+    edge = Edge(name, "", "", "", "", ())
+    return Arm(edge, (), tuple(Turn(turn, "x", place, ()) for place, turn in enumerate(turns)))
 
 
 class Feeders(unittest.TestCase):
     def setUp(self):
         self.arms = [(1, arm("a", "t", "s", "l", "r")), (1, arm("b", "t", "s", "l", "r")), (2, arm("c", "r", "s2"))]
-        self.goals = {(number, one.edge.name, turn.name): (3, "goal") for number, one in self.arms for turn in one.turns}
+        self.goals = {(number, one.edge.name, turn.name): (3, "goal") for number, one in self.arms
+                      for turn in one.turns}
 
     def test_eight_stay(self):
         told = []
