@@ -1,10 +1,10 @@
 """cone.py [CLAUSE]: the definitions on which a clause rests, as the table of docs/THEOREM.md.
 
 CLAUSE is headline (where none is named) or climbs of the top call, or program, the headline of the function that main
-calls. From the words that the clause names it goes to the words that their definitions in crates/*/specs name, and so on.
-The crates stand in the order of crates.txt, each after those on which it stands. Lines are those of definitions, without
-comments, blank lines and imports. Structs and enums that are declared in src/ are listed at the end, and words of std are
-counted. `cone.py names [CLAUSE]` tells the names of the definitions and of the words of std too.
+calls. From the words that the clause names it goes to the words that their definitions in crates/*/specs name, and so
+on. The crates stand in the order of crates.txt, each after those on which it stands. Lines are those of definitions,
+without comments, blank lines and imports. Structs and enums that are declared in src/ are listed at the end, and words
+of std are counted. `cone.py names [CLAUSE]` tells the names of the definitions and of the words of std too.
 """
 
 import os

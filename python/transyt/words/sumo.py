@@ -20,6 +20,7 @@ from ..sumo.look import CONFIGURATION, last_plan, write_town
 from ..sumo.plans import Plan, check_same_demand, table
 from ..sumo.roads import check_carried
 from ..terminal import add_program, add_workers, read_deck_file, read_file, tell, write
+from ..text import decoded
 
 
 def add_arguments(parser: argparse.ArgumentParser) -> None:
@@ -62,7 +63,7 @@ def read(path: str, args: argparse.Namespace) -> Deck:
 def look(args: argparse.Namespace) -> int:
     """Writes a town."""
     deck = read(args.deck, args)
-    deck = deck.with_plan(last_plan(read_file(args.plan))) if args.plan else deck
+    deck = deck.with_plan(last_plan(decoded(read_file(args.plan)))) if args.plan else deck
     headway = write_town(deck, figures_of(deck, args), args.folder, args.seed)
     write(f"the greens of all {len(deck.links)} links are the program's; cars stay {headway:.2f} s behind one another\n"
           f"sumo-gui -c {os.path.join(args.folder, CONFIGURATION)}\n")
