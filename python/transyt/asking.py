@@ -224,8 +224,8 @@ class Asker:
                 self._exchange(command)
             self._work_before -= read_index(self._exchange("WORK"))
 
-    def _kill(self) -> None:
-        """Ends the child at once, from whatever thread."""
+    def end_child(self) -> None:
+        """Ends the child at once, from whatever thread: who waits for an answer of it then gets `Ended`."""
         child = self._child
         if child:
             child.kill()

@@ -76,7 +76,7 @@ class Climb(Iterator[Step]):
         with self._lock:
             if not self._is_over:
                 self._is_stopped = True
-                self._session._kill()
+                self._session.end_child()
 
     def close(self) -> None:
         """Leaves the climb: the child is ended, and the session has the steps so far."""

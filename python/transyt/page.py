@@ -10,7 +10,7 @@ from . import pictures
 from .comparing import Comparison, compared, heads, table_rows, totals_of
 from .deck import Deck
 from .html import document, figure, table, text
-from .pictures.source import Answers
+from .pictures.source import Answers, Once
 from .report import Certificate, Figures, LinkFigures, StageTiming
 
 METRES_A_VEHICLE = 6
@@ -21,6 +21,7 @@ def page(answers: Answers, against: Optional[Answers] = None, top: str = "", foo
 
     `top` and `foot` are HTML for what a filed plan says of itself.
     """
+    answers = Once(answers)
     deck, figures = answers.deck(), answers.figures()
     name = title or deck.names.town or "Signal plan"
     parts = [f"<h1>{text(name)}</h1>", top, summary(answers, deck, figures)]

@@ -1,7 +1,7 @@
 """The board's address: 127.0.0.1 alone, and only for who has its secret.
 
-`/`, `/board.js` and `/board.css` hold nothing of the deck; every other request needs the secret in the header X-Board.
-Only POST changes something. Nothing is logged and nothing is written to disk.
+`/`, its two scripts and its style sheet hold nothing of the deck; every other request needs the secret in the header
+X-Board. Only POST changes something. Nothing is logged and nothing is written to disk.
 """
 
 import hmac
@@ -20,8 +20,8 @@ from ..faults import Fault
 from .state import Board, Stale, Wanted
 
 STATIC = os.path.join(os.path.dirname(os.path.realpath(__file__)), "static")
-FILES = {"/": ("board.html", "text/html; charset=utf-8"), "/board.js": ("board.js", "text/javascript; charset=utf-8"),
-         "/board.css": ("board.css", "text/css; charset=utf-8")}
+FILES = {"/": ("board.html", "text/html"), "/board.js": ("board.js", "text/javascript"),
+         "/hand.js": ("hand.js", "text/javascript"), "/board.css": ("board.css", "text/css")}
 MOST_BODY, MOST_CONNECTIONS, SECONDS, TICKET_SECONDS = 1_000_000, 16, 10, 30
 HEADERS = (("Cache-Control", "no-store"), ("Referrer-Policy", "no-referrer"), ("X-Content-Type-Options", "nosniff"),
            ("Content-Security-Policy", "default-src 'none'; script-src 'self'; style-src 'self'; connect-src 'self'; "
@@ -123,11 +123,13 @@ class Handler(BaseHTTPRequestHandler):
         elif self.path in FILES:
             name, kind = FILES[self.path]
             with open(os.path.join(STATIC, name), "rb") as file:
-                self.answer(200, file.read(), kind)
+                self.answer(200, file.read(), f"{kind}; charset=utf-8")
         elif not self.has_secret():
             self.answer(404, b"")
         elif self.path == "/state":
             self.say(200, self.server.board.view())
+        elif self.path == "/took":
+            self.say(200, self.server.board.took())
         elif self.path == "/deck":
             self.answer(200, self.server.board.deck_text().encode("utf-8", "replace"), "text/plain; charset=utf-8")
         else:
@@ -152,11 +154,11 @@ class Handler(BaseHTTPRequestHandler):
         self.change(asked)
 
     def change(self, asked: Dict[str, Any]) -> None:
-        """Makes a change; a fault is a sentence, with the state that is."""
+        """Makes a change; one that is refused is answered by a sentence and the state that is."""
         board = self.server.board
         calls: Dict[str, Callable[[int], Any]] = {
             "/undo": board.undo, "/redo": board.redo, "/again": board.start_again, "/climb": board.climb,
-            "/stop": lambda _: board.stop(), "/certificate": lambda _: board.certificate(),
+            "/stop": lambda _: board.stop(), "/certificate": board.certificate,
             "/edit": lambda version: board.edit(version, wanted_of(asked))}
         call = calls.get(self.path)
         if call is None:
@@ -166,7 +168,8 @@ class Handler(BaseHTTPRequestHandler):
         try:
             self.say(200, call(version if isinstance(version, int) else -1))
         except Fault as fault:
-            self.say(409, {**board.view(), "message": str(fault), "refused": not isinstance(fault, Stale)})
+            self.say(200, {**board.view(), "message": str(fault), "refused": True,
+                           "stale": isinstance(fault, Stale)})
 
     def has_secret(self) -> bool:
         """Whether the request has the board's secret."""
@@ -179,19 +182,24 @@ class Handler(BaseHTTPRequestHandler):
         if self.headers.get("Transfer-Encoding") or not (length.isascii() and length.isdecimal()):
             self.answer(411, b"")
             return None
-        if int(length) > MOST_BODY:
+        if len(length) > len(str(MOST_BODY)) or int(length) > MOST_BODY:
             self.answer(413, b"")
             return None
         data = self.rfile.read(int(length))
         self._deadline.cancel()
         try:
             asked = json.loads(data)
-        except ValueError:
+        except (ValueError, RecursionError):
             asked = None
         if not isinstance(asked, dict):
             self.answer(400, b"")
             return None
         return asked
+
+    def send_error(self, code: int, message: Optional[str] = None, explain: Optional[str] = None) -> None:
+        """Requests that are none, and methods that there aren't, are answered as all others are."""
+        self.request_version = "HTTP/1.0"
+        self.answer(code, b"")
 
     def say(self, status: int, what: object) -> None:
         """Answers with JSON."""

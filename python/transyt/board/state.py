@@ -7,15 +7,19 @@ Besides the session the board keeps the deck text after each change, for a child
 import threading
 from dataclasses import dataclass
 from fractions import Fraction
-from typing import Dict, List, Optional, Sequence, Tuple
+from types import TracebackType
+from typing import Dict, List, Optional, Sequence, Tuple, Type
 
 from ..deck import Deck
-from ..edits import Edit, after
+from ..edits import Edit, after, inverse
 from ..faults import Ended, Fault, Refused
+from ..pictures import sensitivity
 from ..session import Climb, Session
 from .view import Shown, view_of
 
 Change = List[Tuple[Edit, Edit]]  # edits in their order, each with its inverse
+STARTED = "the program had ended: it was started again, and the plan is as it was before"
+STOPPED = "stopped: the program was started again, and the plan is as it was before"
 
 
 class Stale(Fault):
@@ -44,25 +48,27 @@ class Board:
         self._redo: List[Change] = []
         self._climb: Optional[Climb] = None
         self._climber: Optional[threading.Thread] = None
+        self._is_stopped = False  # whether a long answer, and not a climb, was stopped
         self.version = 0
         self._kept = self._given
         self._view = self._made("")
 
     def view(self) -> Shown:
         """The view as it was made last, with how far a climb is."""
+        return {**self._view, **self.took()}
+
+    def took(self) -> Shown:
+        """How far a climb is: whether one goes, and its steps so far."""
         climb = self._climb
-        return self._view if climb is None else {**self._view, "climbing": True,
-                                                 "took": [f"{step.edit}  INDEX {step.index}" for step in climb.steps]}
+        steps = [] if climb is None else list(climb.steps)
+        return {"climbing": climb is not None, "took": [f"{step.edit}  INDEX {step.index}" for step in steps]}
 
     def edit(self, version: int, wanted: Wanted) -> Shown:
         """Makes a change by hand."""
         with self._changing(version):
             edit = edit_of(self._kept, wanted)
-            change = [(edit, inverse_of(self._kept, edit))]
-            try:
-                self._do([edit])
-            except Refused as refused:
-                raise Fault(f"{refused.sentence} (code {refused.code})") from refused
+            change = [(edit, inverse(self._kept, edit))]
+            self._do([edit])
             self._undo.append(change)
             self._redo.clear()
             return self._next("")
@@ -73,7 +79,7 @@ class Board:
             if not self._undo:
                 raise Fault("there is nothing to undo")
             change = self._undo[-1]
-            self._do([inverse for _, inverse in reversed(change)])
+            self._do([back for _, back in reversed(change)])
             self._redo.append(self._undo.pop())
             return self._next("")
 
@@ -88,19 +94,19 @@ class Board:
             return self._next("")
 
     def start_again(self, version: int) -> Shown:
-        """Goes to the deck of the call; Undo comes back from there."""
+        """Goes to the deck of the call, by the inverse of every change since it; Undo comes back from there."""
         with self._changing(version):
-            edits = edits_between(self._kept, self._given)
             change, deck = [], self._kept
-            for edit in edits:
-                change.append((edit, inverse_of(deck, edit)))
-                deck = after(deck, edit)
-            self._session.close()
-            self._session = Session(self._given, self._workers, self._program)
-            self._kept = self._given
+            for edit, back in ((edit, back) for done in reversed(self._undo) for edit, back in reversed(done)):
+                if deck == self._given:
+                    break
+                change.append((back, edit))
+                deck = after(deck, back)
             if change:
+                self._kept = self._given
+                self._start_child()
                 self._undo.append(change)
-            self._redo.clear()
+                self._redo.clear()
             return self._next("")
 
     def climb(self, version: int) -> Shown:
@@ -112,18 +118,20 @@ class Board:
             return self.view()
 
     def stop(self) -> Shown:
-        """Stops a climb: the state is that of its last whole step."""
+        """Stops a climb: the state is that of its last whole step. A long answer to something else is stopped too."""
         climb, climber = self._climb, self._climber
         if climb is not None:
             climb.stop()
+        elif self._lock.locked():
+            self._is_stopped = True
+            self._session.end_child()
         if climber is not None:
             climber.join(10)
         return self.view()
 
-    def certificate(self) -> Dict[str, str]:
+    def certificate(self, version: int) -> Dict[str, str]:
         """The picture of the certificate, when it is asked for."""
-        from ..pictures import sensitivity
-        with self._changing(self.version):
+        with self._changing(version):
             return {"sensitivity": sensitivity(self._session)}
 
     def deck_text(self) -> str:
@@ -144,20 +152,27 @@ class Board:
         return _Changing(self, version)
 
     def _do(self, edits: Sequence[Edit]) -> None:
-        """Makes edits one after another; the board keeps the deck after all of them."""
-        try:
-            for edit in edits:
+        """Makes edits one after another, or none; the board keeps the deck after all of them."""
+        for place, edit in enumerate(edits):
+            try:
                 self._session.edit(edit)
-        except Ended:
-            self._session = Session(self._kept, self._workers, self._program)
-            raise Fault("the program had ended: it was started again, and nothing has changed") from None
+            except Refused as refused:
+                if place:
+                    self._start_child()
+                raise Fault(f"{edit} is refused: {said_of(refused)}") from refused
         for edit in edits:
             self._kept = after(self._kept, edit)
 
+    def _start_child(self) -> None:
+        """Starts the program again, with the deck that the board keeps."""
+        self._session.close(at_once=True)
+        self._session = Session(self._kept, self._workers, self._program)
+
     def _next(self, message: str) -> Shown:
         """The view of the state that is there now."""
+        made = self._made(message)
         self.version += 1
-        self._view = self._made(message)
+        self._view = {**made, "version": self.version}
         return self._view
 
     def _made(self, message: str) -> Shown:
@@ -177,22 +192,25 @@ class Board:
             message = f"the climb ended: {fault}"
         with self._lock:
             message = self._after_climb(climb, message)
-            self._next(message)
+            try:
+                self._next(message)
+            except Ended:
+                self._start_child()
+                self._next(message)
             self._climb = self._climber = None
 
     def _after_climb(self, climb: Climb, message: str) -> str:
         """Takes the steps of a climb as one change; where the program's index isn't the last step's, none of them."""
         change, deck = [], self._kept
         for step in climb.steps:
-            change.append((step.edit, inverse_of(deck, step.edit)))
+            change.append((step.edit, inverse(deck, step.edit)))
             deck = after(deck, step.edit)
         try:
             wrong = bool(climb.steps) and self._session.index() != climb.steps[-1].index
         except Fault:
             wrong = True
         if wrong:
-            self._session.close(at_once=True)
-            self._session = Session(self._kept, self._workers, self._program)
+            self._start_child()
             return ("the steps of the climb don't lead to the index that the program told: the plan from before it "
                     "stands")
         self._kept = deck
@@ -203,7 +221,10 @@ class Board:
 
 
 class _Changing:
-    """The lock of a board for one change: refused where the state is another, or a climb is on its way."""
+    """The lock of a board for one change: refused where the state is another, or a climb is on its way.
+
+    Where the child is lost in it, or a long answer is stopped, another one is started with the deck from before.
+    """
 
     def __init__(self, board: Board, version: int) -> None:
         self._board, self._version = board, version
@@ -217,9 +238,24 @@ class _Changing:
         if self._version != board.version:
             board._lock.release()
             raise Stale("the plan was changed elsewhere meanwhile: this is how it stands now")
+        board._is_stopped = False
+        self._before = board._kept, list(board._undo), list(board._redo)
 
-    def __exit__(self, *_: object) -> None:
-        self._board._lock.release()
+    def __exit__(self, kind: Optional[Type[BaseException]], fault: Optional[BaseException],
+                 trace: Optional[TracebackType]) -> None:
+        board = self._board
+        try:
+            if isinstance(fault, Ended):
+                board._kept, board._undo, board._redo = self._before
+                board._start_child()
+                raise Fault(STOPPED if board._is_stopped else STARTED) from None
+        finally:
+            board._lock.release()
+
+
+def said_of(refused: Refused) -> str:
+    """What a refusal says, with its code at the end."""
+    return f"{refused.sentence.replace(f'code {refused.code}: ', '', 1)} (code {refused.code})"
 
 
 def edit_of(deck: Deck, wanted: Wanted) -> Edit:
@@ -237,22 +273,3 @@ def edit_of(deck: Deck, wanted: Wanted) -> Edit:
     if not 1 <= wanted.stage <= len(node.stages):
         raise Fault(f"junction {node.number} has no stage {wanted.stage}")
     return Edit("CHANGE", (node.number, wanted.stage, (int(steps) - node.offset) % deck.frame.step_count))
-
-
-def inverse_of(deck: Deck, edit: Edit) -> Edit:
-    """The edit that takes an edit of an offset or a change back."""
-    node = deck.node(edit.node)
-    old = node.offset if edit.word == "OFFSET" else node.stages[edit.numbers[1] - 1].change
-    return Edit(edit.word, (*edit.numbers[:-1], old))
-
-
-def edits_between(deck: Deck, goal: Deck) -> List[Edit]:
-    """Edits of offsets and changes that lead from one deck to another of the same network."""
-    edits: List[Edit] = []
-    for node in goal.nodes:
-        here = deck.node(node.number)
-        if here.offset != node.offset:
-            edits.append(Edit("OFFSET", (node.number, node.offset)))
-        edits += [Edit("CHANGE", (node.number, place, stage.change))
-                  for place, (stage, now) in enumerate(zip(node.stages, here.stages), 1) if stage.change != now.change]
-    return edits

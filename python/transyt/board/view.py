@@ -4,6 +4,7 @@ from typing import Any, Dict, List, Sequence
 
 from ..deck import Deck
 from ..pictures import road, routes_of, saturation, signals
+from ..pictures.source import Once
 from ..report import Figures, LinkFigures, Timing
 from ..session import Session
 
@@ -12,15 +13,16 @@ Shown = Dict[str, Any]
 
 def view_of(session: Session, given: Deck, before: Figures, routes: Sequence[Sequence[int]]) -> Shown:
     """The plan as it stands, and the differences to the deck of the call."""
-    deck, figures, timing = session.deck(), session.figures(), session.timing()
+    answers = Once(session)
+    deck, figures, timing = answers.deck(), answers.figures(), answers.timing()
     step = deck.frame.step_seconds
     return {
         "town": deck.names.town or "", "cycle": deck.frame.cycle, "steps": deck.frame.step_count, "step": step,
         "has_climb": deck.climb_plan is not None,
         "totals": totals_of(figures, before), "nodes": nodes_of(deck, timing, step),
         "links": [link_of(deck, one, before.link(one.number)) for one in figures.links],
-        "road": road(session, routes) if routes or routes_of(deck) else "",
-        "signals": signals(session), "saturation": saturation(session),
+        "road": road(answers, routes) if routes or routes_of(deck) else "",
+        "signals": signals(answers), "saturation": saturation(answers),
     }
 
 

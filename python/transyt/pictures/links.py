@@ -4,7 +4,7 @@ from typing import List, Sequence, Tuple
 
 from ..deck import Deck
 from ..report import UNITS, LinkFigures
-from .source import Answers, isolated, link_name, whose
+from .source import Answers, link_name, short_name, whose
 from .svg import CANNOT, FLOW, INK, MIDDLE, PALE, QUEUE, WIDE, Axis, Drawing, legend, number
 
 MOST_LINKS = 60  # of the picture of saturations
@@ -108,8 +108,7 @@ def draw_bar(drawing: Drawing, deck: Deck, one: LinkFigures, scale: Tuple[float,
     full = one.saturation >= 1 or not one.has_capacity
     colour = CANNOT if full else QUEUE if one.saturation >= 0.9 else FLOW
     wide = (right - left) * min(one.saturation, most) / most
-    name = deck.names.links.get(one.number)
-    drawing.words((12, top + 11), f"{one.number} {isolated(name)}" if name else str(one.number), width=left - 22)
+    drawing.words((12, top + 11), short_name(deck, one.number), width=left - 22)
     drawing.box((left, top), (max(wide, 0.8), 13), colour, f"{one.place('SATURATION')} {one.raw['SATURATION']}")
     inside = wide > right - left - 52
     drawing.words((left + wide + (-4 if inside else 4), top + 11), saturation_text(one), "end" if inside else "start",

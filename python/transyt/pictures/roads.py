@@ -7,7 +7,7 @@ from ..deck import Deck
 from ..faults import Fault
 from ..report import Profile
 from .bands import draw_bands, draw_fronts
-from .source import Answers, isolated, link_name, node_name, whose
+from .source import Answers, node_name, short_name, whose
 from .svg import CAN_GO, CANNOT, FLOW, GREEN_EDGE, INK, MIDDLE, QUEUE, WIDE, Axis, Drawing, legend, seconds
 
 Route = Sequence[int]
@@ -183,6 +183,7 @@ class Panel:
     def draw_lane(self, lane: Lane) -> None:
         """A stop line: its bar, its arrivals and its queue, over both cycles."""
         ident = f"{self.drawing.name}-lane{self.name}-{lane.link}"
+        self.drawing.open(f'class="lane node-{self.deck.link(lane.link).node}"')
         self.drawing.open(f'id="{ident}" class="link-{lane.link}"')
         profile, step = self.profile(lane.link), self.deck.frame.step_seconds
         for begin, end, goes in runs([go > 0 for go in profile.go]):
@@ -198,7 +199,9 @@ class Panel:
                          "(IN)", opacity=shade / 8)
         self.draw_queue(lane, step)
         self.drawing.close()
-        self.drawing.again(ident, self.axis.wide(self.deck.frame.cycle))
+        for turn in (-1, 1, 2):  # those before and after show while a junction is dragged
+            self.drawing.again(ident, self.axis.wide(turn * self.deck.frame.cycle))
+        self.drawing.close()
 
     def draw_queue(self, lane: Lane, step: float) -> None:
         """The queue as an area that grows and falls away from the stop line, at most as tall as its room."""
@@ -225,12 +228,13 @@ class Panel:
         for place, lane in enumerate(up):
             node = self.deck.link(lane.link).node
             self.drawing.line((8, lane.y - 1), (self.axis.left - 6, lane.y - 1), MIDDLE, 0.8)
-            self.drawing.words((12, lane.y - 5), node_name(self.deck, node), bold=True, width=LEFT - 24)
-            self.drawing.words((12, lane.y + 12), f"↑ {link_name(self.deck, lane.link)}", size=10.5, width=LEFT - 24)
+            self.drawing.words((12, lane.y - 5), node_name(self.deck, node), bold=True, width=LEFT - 22,
+                               kind=f"name node-{node}")
+            self.drawing.words((12, lane.y + 12), f"↑ {short_name(self.deck, lane.link)}", size=10.5, width=LEFT - 22)
             if place:
                 self.drawing.words((12, lane.y + 36), f"{lengths[place - 1]} {unit} from below", size=10)
         for lane in down:
-            self.drawing.words((12, lane.y + 24), f"↓ {link_name(self.deck, lane.link)}", size=10.5, width=LEFT - 24)
+            self.drawing.words((12, lane.y + 24), f"↓ {short_name(self.deck, lane.link)}", size=10.5, width=LEFT - 22)
 
 
 def runs(values: Sequence[object]) -> List[Tuple[int, int, int]]:
@@ -242,9 +246,3 @@ def runs(values: Sequence[object]) -> List[Tuple[int, int, int]]:
         else:
             found.append((place, place + 1, int(value)))  # type: ignore[call-overload]
     return found
-
-
-def named_route(deck: Deck, route: Route) -> str:
-    """A route in words: its junctions."""
-    return ", ".join(isolated(deck.names.nodes.get(deck.link(number).node, str(deck.link(number).node)))
-                     for number in route)

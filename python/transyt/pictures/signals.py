@@ -1,38 +1,60 @@
 """Each junction's stages over the cycle."""
 
-from typing import Tuple
+from typing import List, Tuple
 
 from ..deck import Deck
 from ..report import NodeTiming, StageTiming
 from .source import Answers, isolated, node_name, whose
 from .svg import CAN_GO, GREEN_EDGE, WIDE, Axis, Drawing, legend, seconds
 
-LEFT, HIGH, BAR = 178.0, 40.0, 20.0
+LEFT, BAR, LINE = 196.0, 20.0, 10.0  # the column of names, a bar's height, that of a line of ATs
+DIGIT = 6.2  # the width of a digit of an AT
+Mark = Tuple[float, str, int]  # where an AT stands, as it is shown, and its line: from 0 up above the bar, else below
 
 
 def signals(answers: Answers) -> str:
     """Each junction's stages in seconds of the common cycle: intergreens hatched, greens with their number and name."""
     deck, timing = answers.deck(), answers.timing()
-    bottom = 44 + HIGH * len(timing.nodes)
-    drawing = Drawing("signals", bottom + 22, "Stages over the cycle", whose(answers, deck))
+    axis = Axis(LEFT, WIDE - 24, deck.frame.cycle)
+    rows = [(node, marks_of(deck, axis, node)) for node in timing.nodes]
+    tops, y = [], 38.0
+    for _, marks in rows:
+        tops.append(y + LINE * (1 + max([0, *(line for _, _, line in marks)])))
+        y = tops[-1] + BAR + 10 + LINE * max([0, *(-line for _, _, line in marks)])
+    drawing = Drawing("signals", y + 16, "Stages over the cycle", whose(answers, deck))
     legend(drawing, 18, ((drawing.hatch(), "intergreen"), (CAN_GO, "green of a stage"),
                          ("-#1d1d26", "AT, where the intergreen begins, in seconds")))
-    axis = Axis(LEFT, WIDE - 24, deck.frame.cycle)
-    axis.draw(drawing, 30, bottom)
-    for place, node in enumerate(timing.nodes):
-        draw_node(drawing, deck, axis, node, 50 + HIGH * place)
+    axis.draw(drawing, 30, y)
+    for (node, marks), top in zip(rows, tops):
+        draw_node(drawing, deck, axis, (node, marks), top)
     return str(drawing)
 
 
-def draw_node(drawing: Drawing, deck: Deck, axis: Axis, node: NodeTiming, top: float) -> None:
-    """A junction's bar."""
-    drawing.words((12, top + 14), node_name(deck, node.number), bold=True, width=LEFT - 20)
+def marks_of(deck: Deck, axis: Axis, node: NodeTiming) -> List[Mark]:
+    """Where each AT of a junction is written: above its bar, or in the next line where it would run into another."""
+    marks: List[Mark] = []
+    ends = {line: -1e9 for line in (0, -1, 1, -2, 2, -3)}
+    for at in sorted(stage.raw["AT"] * deck.frame.step_seconds for stage in node.stages):
+        shown, x = seconds(at), axis.x(at)
+        half = DIGIT * len(shown) / 2
+        line = next((line for line, end in ends.items() if x - half > end), 3)
+        ends[line] = x + half + 2
+        marks.append((x, shown, line))
+    return marks
+
+
+def draw_node(drawing: Drawing, deck: Deck, axis: Axis, row: Tuple[NodeTiming, List[Mark]], top: float) -> None:
+    """A junction's bar, its name before it, its ATs above and below."""
+    node, marks = row
+    drawing.open(f'class="junction node-{node.number}"')
+    drawing.words((12, top + 14), node_name(deck, node.number), bold=True, width=LEFT - 22, kind="name")
     for stage in node.stages:
         draw_stage(drawing, deck, axis, (node.number, stage), top)
-    for stage in node.stages:
-        at = stage.raw["AT"] * deck.frame.step_seconds
-        drawing.line((axis.x(at), top - 3), (axis.x(at), top + BAR + 3), wide=1.4)
-        drawing.words((axis.x(at), top - 5), seconds(at), "middle", size=10)
+    for x, shown, line in marks:
+        high, low = top - 3 - LINE * max(line, 0), top + BAR + 3 + LINE * max(-1 - line, 0)
+        drawing.line((x, high), (x, low), wide=1.4)
+        drawing.words((x, high - 2 if line >= 0 else low + 8), shown, "middle", size=10, kind="at")
+    drawing.close()
 
 
 def draw_stage(drawing: Drawing, deck: Deck, axis: Axis, which: Tuple[int, StageTiming], top: float) -> None:
@@ -45,14 +67,15 @@ def draw_stage(drawing: Drawing, deck: Deck, axis: Axis, which: Tuple[int, Stage
              f"INTERGREEN {intergreen}, GREEN {green} steps of {seconds(step)} s")
     widest: Tuple[float, float] = (0, 0)
     for begin, length, fill in ((at, intergreen, drawing.hatch()), (at + intergreen, green, CAN_GO)):
+        kind = f"stage stage-{stage.number} {'green' if fill == CAN_GO else 'intergreen'}"
         for first, last in parted(begin % count, length, count):
-            drawing.box((axis.x(first * step), top), (axis.wide((last - first) * step), BAR), fill, title,
-                        kind=f"stage node-{node} stage-{stage.number}", edge=GREEN_EDGE)
+            drawing.box((axis.x(first * step), top), (axis.wide((last - first) * step), BAR), fill, title, kind=kind,
+                        edge=GREEN_EDGE)
             if fill == CAN_GO:
                 widest = max(widest, (axis.wide((last - first) * step), axis.x(first * step)))
     label = f"{stage.number} {isolated(name)}" if name else str(stage.number)
     if widest[0] >= 12:
-        drawing.words((widest[1] + 4, top + 14), label, size=11, width=widest[0] - 4)
+        drawing.words((widest[1] + 4, top + 14), label, size=11, width=widest[0] - 4, kind="label")
 
 
 def parted(begin: int, length: int, count: int) -> Tuple[Tuple[int, int], ...]:

@@ -6,7 +6,8 @@ from xml.sax.saxutils import escape, quoteattr
 # Told apart by people who don't see red and green, and in grey print: from light to dark.
 CAN_GO, GREEN_EDGE, PALE, MIDDLE, QUEUE, FLOW, CANNOT, INK = (
     "#f4d35e", "#8a6d00", "#e9e9ee", "#b9bccb", "#d1603d", "#1b6ca8", "#4a4e69", "#1d1d26")
-LETTER = 6.9  # the width of a letter, at the size of labels
+LETTER, BOLD = 6.3, 6.9  # the width of a letter, at the size of labels
+SMALLEST = 9.0  # size of a label
 WIDE = 760.0  # of a picture, so that its text is read on A4
 
 
@@ -15,10 +16,14 @@ def number(value: float) -> str:
     return f"{value:.2f}".rstrip("0").rstrip(".") if value % 1 else str(int(value))
 
 
-def shortened(text: str, width: float) -> str:
-    """A text that fits into a width, with dots where it is cut; an isolated part stays isolated."""
-    most = max(3, int(width / LETTER))
-    if sum(1 for letter in text if letter not in "\u2068\u2069") <= most:
+def length_of(text: str) -> int:
+    """How many letters of a text are seen."""
+    return sum(1 for letter in text if letter not in "\u2068\u2069")
+
+
+def shortened(text: str, most: int) -> str:
+    """A text of at most so many letters, with dots where it is cut; an isolated part stays isolated."""
+    if length_of(text) <= most:
         return text
     cut = text.replace("\u2069", "")[:most - 1].rstrip() + "…"
     return cut + "\u2069" if "\u2068" in cut else cut
@@ -36,14 +41,15 @@ class Drawing:
         self.name, self.height, self.title, self.caption = name, height, title, caption
         self.parts: List[str] = []
         self.definitions: List[str] = []
+        self.data = ""  # what a script has to know of the picture, as attributes
 
     def __str__(self) -> str:
-        high = self.height + 24
-        return (f'<svg xmlns="http://www.w3.org/2000/svg" class="picture {self.name}" viewBox="0 0 {number(WIDE)} '
-                f'{number(high)}" width="{number(WIDE)}" height="{number(high)}" font-family="sans-serif" '
-                f'font-size="12" role="img">\n<title>{escape(self.title)}</title>\n'
+        high, wide = self.height + 24, number(WIDE)
+        return (f'<svg xmlns="http://www.w3.org/2000/svg" class="picture {self.name}"{self.data} '
+                f'viewBox="0 0 {wide} {number(high)}" width="{wide}" height="{number(high)}" '
+                f'font-family="sans-serif" font-size="12" role="img">\n<title>{escape(self.title)}</title>\n'
                 + (f'<defs>{"".join(self.definitions)}</defs>\n' if self.definitions else "")
-                + f'<rect width="{number(WIDE)}" height="{number(high)}" fill="#ffffff"/>\n' + "\n".join(self.parts)
+                + f'<rect width="{wide}" height="{number(high)}" fill="#ffffff"/>\n' + "\n".join(self.parts)
                 + f'\n<text x="12" y="{number(high - 9)}" font-size="11" fill="{INK}" class="of">{escape(self.caption)}'
                 "</text>\n</svg>\n")
 
@@ -87,10 +93,14 @@ class Drawing:
         self.add(f'<circle cx="{number(at[0])}" cy="{number(at[1])}" r="{number(size)}" fill="{colour}"/>', title)
 
     def words(self, at: Tuple[float, float], text: str, anchor: str = "start", *, size: float = 12, bold: bool = False,
-              width: Optional[float] = None, colour: str = INK) -> None:
-        """A text; cut to a width, with the whole of it as its title, where one is told."""
-        shown = text if width is None else shortened(text, width * 12 / size)
-        more = (' font-weight="bold"' if bold else "") + (f' font-size="{number(size)}"' if size != 12 else "")
+              width: Optional[float] = None, colour: str = INK, kind: str = "") -> None:
+        """A text; where a width is told, smaller letters or a cut make it fit, and a cut one has the whole as title."""
+        shown, letter = text, (BOLD if bold else LETTER) / 12
+        if width is not None:
+            size = max(min(size, SMALLEST), min(size, width / letter / max(length_of(text), 1)))
+            shown = shortened(text, max(2, int(width / letter / size)))
+        more = (f" class={quoteattr(kind)}" if kind else "") + (' font-weight="bold"' if bold else "")
+        more += (f' font-size="{number(size)}"' if size != 12 else "")
         more += f' text-anchor="{anchor}"' if anchor != "start" else ""
         title = f"<title>{escape(text)}</title>" if shown != text else ""
         self.parts.append(f'<text x="{number(at[0])}" y="{number(at[1])}" fill="{colour}"{more}>{title}{escape(shown)}'
@@ -139,7 +149,9 @@ class Axis:
         return (self.right - self.left) * time / self.span
 
     def draw(self, drawing: Drawing, top: float, bottom: float, step: Optional[float] = None) -> None:
-        """Thin lines with their seconds below."""
+        """Thin lines with their seconds below. The picture's attributes say where its seconds begin and end."""
+        drawing.data = (f' data-left="{number(self.left)}" data-right="{number(self.right)}" '
+                        f'data-seconds="{number(self.span)}"')
         pace = step or next(pace for pace in (5, 10, 20, 30, 60, 120, 240) if self.span / pace <= 16)
         time = 0.0
         while time <= self.span + 1e-9:
