@@ -3,14 +3,16 @@
 import os
 import re
 import shutil
+import subprocess
 import tempfile
 import unittest
 from typing import Callable, Dict, List, Tuple
 
 import support
 from sheet_tables import two_junctions, write_tables
-from support import PROGRAM, needs_program
+from support import PROGRAM, ROOT, needs_program
 from transyt.deck import cards_of, read_deck
+from transyt.edits import moves
 from transyt.faults import Fault
 from transyt.filing.checking import Check, Finding
 from transyt.filing.folder import SUMS, read_filed, sum_of, sums_text
@@ -36,11 +38,11 @@ def put(name: str, old: str, new: str) -> Change:
 def swap_figures(files: Files) -> None:
     """Two figures of the page exchanged, raw values and all."""
     text = files["plan.html"].decode("utf-8")
-    one, other = re.findall(r'<data value="([0-9]+)" class="FIGURES LINK [0-9]+ DELAY">([^<]*)</data>', text)[:2]
-    first, second = (f'<data value="{raw}" class="FIGURES LINK {link} DELAY">{shown}</data>'
-                     for (raw, shown), link in ((one, 11), (other, 12)))
-    in_second = f'<data value="{one[0]}" class="FIGURES LINK 12 DELAY">{one[1]}</data>'
-    in_first = f'<data value="{other[0]}" class="FIGURES LINK 11 DELAY">{other[1]}</data>'
+    one, other = re.findall(r'<data value="([0-9]+)" class="FIGURES LINK [0-9]+ DELAY" title="DELAY / 10">([^<]*)<',
+                            text)[:2]
+    first, second, in_second, in_first = (
+        f'<data value="{raw}" class="FIGURES LINK {link} DELAY" title="DELAY / 10">{shown}</data>'
+        for (raw, shown), link in ((one, 11), (other, 12), (one, 12), (other, 11)))
     changed = text.replace(first, "\0").replace(second, in_second).replace("\0", in_first)
     files["plan.html"] = changed.encode("utf-8")
     assert files["plan.html"] != text.encode("utf-8")
@@ -183,6 +185,58 @@ class Filing(unittest.TestCase):
         path = os.path.join(tempfile.mkdtemp(dir=self.folder), "filed")
         write_folder(path, self.files)
         self.assertEqual([finding.sentence for finding in Check(path, None, again=True).run() if not finding.holds], [])
+
+    def command(self, *words: str, text: str = "") -> "subprocess.CompletedProcess[str]":
+        """The command's run."""
+        return subprocess.run([os.path.join(ROOT, "plan"), *words], input=text, capture_output=True, text=True,
+                              timeout=120, check=False, env={**os.environ, "TRANSYT": str(PROGRAM)})
+
+    def test_the_commands(self) -> None:
+        """Filed, and checked with and without the program; the last line is HOLDS with the sum that the page has."""
+        path = os.path.join(tempfile.mkdtemp(dir=self.folder), "filed")
+        words = ["file", "-", "-o", path, "--title", "T", "--by", "A", "--date", "2026-04-02"]
+        done = self.command(*words, "--sheets", self.sheets, text=str(self.deck))
+        self.assertEqual(done.returncode, 0, done.stderr)
+        again = self.command(*words, text=str(self.deck))
+        self.assertEqual((again.returncode, "isn't an empty folder" in again.stderr), (2, True))
+        with open(os.path.join(path, "plan.html"), encoding="utf-8") as file:
+            page = file.read()
+        for how in ([], ["--same-program"], ["--again"]):
+            done = self.command("check", path, *how)
+            last = done.stdout.strip().split("\n")[-1]
+            self.assertEqual((done.returncode, last[:6]), (0, "HOLDS "), done.stdout)
+            self.assertIn(last[6:], page)
+        self.assertIn(f"{len(moves(self.deck))} moves are worked out from nothing", done.stderr)
+        self.assertIn("audit: done", done.stderr)
+        with open(os.path.join(path, "plan.deck"), "ab") as deck:
+            deck.write(b"OFFSET 1 1\n")
+        done = self.command("check", path, "--again")
+        self.assertEqual((done.returncode, done.stdout.strip().split("\n")[-1]), (1, "DOES NOT HOLD"))
+
+    def test_sheets_that_give_another_deck(self) -> None:
+        """Nothing is filed that wouldn't hold."""
+        path = os.path.join(tempfile.mkdtemp(dir=self.folder), "filed")
+        text = str(self.deck).replace("LINK 11 1 442", "LINK 11 1 443")
+        with Session(text, 1, PROGRAM) as town:
+            town.climb().run()
+            text = str(town.deck())
+        done = self.command("file", "-", "-o", path, "--title", "T", "--by", "A", "--date", "2026-04-02", "--sheets",
+                            self.sheets, text=text)
+        self.assertEqual(done.returncode, 2)
+        self.assertIn("the sheets give another deck: LINK 11", done.stderr)
+        self.assertEqual(os.listdir(os.path.dirname(path)), [])
+
+    def test_controllers_of_another_version(self) -> None:
+        """Its numbers are compared, its heads aren't."""
+        files = dict(self.files)
+        put("plan.deck", "* PLAN plan ", "* PLAN plan 0.")(files)
+        put("controller.csv", "intergreen begins (s)", "intergreen begins, s")(files)
+        told = [finding for finding in self.checked(files) if "controller.csv" in finding.sentence]
+        self.assertEqual([finding.holds for finding in told], [True])
+        number = files["controller.csv"].decode().split("\n")[1].split(",")[5]
+        put("controller.csv", f",{number},", f",{number}1,")(files)
+        told = [finding for finding in self.checked(files) if "controller.csv" in finding.sentence]
+        self.assertEqual([finding.holds for finding in told], [False])
 
     def test_what_cant_be_filed(self) -> None:
         """No title, a date that is none, a direction mark, a deck without STEPS, a folder that isn't empty."""

@@ -8,12 +8,13 @@ from xml.etree import ElementTree
 import support
 from support import PROGRAM, needs_program
 from transyt import pictures
-from transyt.comparing import as_csv, as_text, compared
+from transyt.comparing import DIFFERENT, as_csv, as_text, compared
 from transyt.deck import read_deck
 from transyt.faults import Fault
 from transyt.html import CSS, SCRIPT, digest
 from transyt.page import page
 from transyt.pictures.climbing import looks_of
+from transyt.pictures.roads import heights_of, lengths_of, to_scale
 from transyt.report import Step
 from transyt.edits import Edit
 from transyt.session import Session
@@ -56,8 +57,11 @@ class Pictures(unittest.TestCase):
     def test_saturation_has_the_degrees(self) -> None:
         """Of every link, the fullest first."""
         found = [title for title in titles(pictures.saturation(self.town)) if title.startswith("FIGURES")]
-        wanted = sorted(self.town.figures().links, key=lambda one: -one.raw["SATURATION"])
-        self.assertEqual(found, [f"FIGURES LINK {one.number} SATURATION {one.raw['SATURATION']}" for one in wanted])
+        wanted: List[str] = []
+        for one in sorted(self.town.figures().links, key=lambda one: -one.raw["SATURATION"]):
+            bar, delay = (f"FIGURES LINK {one.number} {word} {one.raw[word]}" for word in ("SATURATION", "DELAY"))
+            wanted += [bar, f"{bar} / 10, %", f"{delay} / 10, s"]
+        self.assertEqual(found, wanted)
 
     def test_the_road_shows_go_and_queues(self) -> None:
         """A bar ends where GO ends; the queue's title is QUEUE's greatest."""
@@ -115,6 +119,42 @@ class Pictures(unittest.TestCase):
                 self.assertNotIn("style=", svg)
             self.assertIn("Saturation", page(town))
 
+    def test_labels_dont_run_into_each_other(self) -> None:
+        """ATs of stages that last 4 s stand in lines of their own; a long caption goes on in another line."""
+        stages = "".join(f"STAGE {change} 1 1\n" for change in (0, 2, 4, 6, 8, 10, 40, 50))
+        links = "".join(f"LINK {place} 1 300 1800 1 1 {place}\n" for place in range(1, 9))
+        text = f"* NAME TOWN {'Mill ' * 39}\nCYCLE 120 60 1 60 100\nNODE 1 50\n{stages}{links}STEPS 9 1\nEND\n"
+        with Session(text, 1, PROGRAM) as town:
+            svg = pictures.signals(town)
+        ats = [(float(x), float(y), shown) for x, y, shown in re.findall(
+            r'<text x="([0-9.]+)" y="([0-9.]+)"[^>]*class="at"[^>]*><title>[^<]*</title>([0-9.]+)<', svg)]
+        self.assertEqual(len(ats), 8)
+        for x, y, shown in ats:
+            near = [one for one in ats if one[1] == y and abs(one[0] - x) < 6.2 * len(shown) and one[2] != shown]
+            self.assertEqual(near, [])
+        captions = re.findall(r'class="of">([^<]*)<', svg)
+        self.assertEqual(len(captions), 3)
+        self.assertLess(max(map(len, captions)), 120)
+
+    def test_stop_lines_stand_at_their_distance(self) -> None:
+        """By METRES where all are told, else by cruise times; to scale, or it is said that it isn't."""
+        deck = self.town.deck()
+        self.assertEqual(lengths_of(deck, [11, 21, 31]), ([21, 17], "s"))
+        told = read_deck(support.THREE.replace("* METRES 21 11 340", "* METRES 21 11 340\n* METRES 31 21 170"))
+        self.assertEqual(lengths_of(told, [11, 21, 31]), ([340, 170], "m"))
+        low, middle, high = heights_of(told, [11, 21, 31], True)
+        self.assertAlmostEqual((low - middle) / (middle - high), 2)
+        far = read_deck(support.THREE.replace("* METRES 21 11 340", "* METRES 21 11 9000\n* METRES 31 21 90"))
+        self.assertFalse(to_scale(far, [11, 21, 31], []))
+        self.assertNotIn("to scale", pictures.road(self.town, [[11, 21, 31]]))
+        with Session(far, 1, PROGRAM) as town:
+            self.assertIn("drawn to scale", pictures.road(town, [[11, 21, 31]]))
+
+    def test_below_the_road_stands_where_the_signals_are(self) -> None:
+        """Bars are GO, with lags and give way: the signals' own times are in another picture."""
+        captions = re.findall(r'class="of">([^<]*)<', pictures.road(self.town))
+        self.assertIn("the signals' own times are in the picture signals", " ".join(captions))
+
     def test_names_are_text(self) -> None:
         """Markup in a name is shown."""
         with Session(support.THREE.replace("Market Street", "<b>&\"x"), 1, PROGRAM) as town:
@@ -138,7 +178,7 @@ class Pages(unittest.TestCase):
     def test_each_figure_is_at_its_place(self) -> None:
         """The raw values of all links, looked up in FIGURES, and of all stages, in TIMING."""
         text = page(self.town)
-        found = dict((place, int(raw)) for raw, place in re.findall(r'<data value="([0-9]+)" class="([^"]*)">', text))
+        found = dict((place, int(raw)) for raw, place in re.findall(r'<data value="([0-9]+)" class="([^"]*)"', text))
         for one in self.town.figures().links:
             for word in ("FLOW", "SATURATION", "DELAY", "STOPPED", "QUEUE"):
                 self.assertEqual(found[one.place(word)], one.raw[word])
@@ -160,7 +200,8 @@ class Pages(unittest.TestCase):
         text = page(self.town)
         queue = self.town.figures().link(21).raw["QUEUE"]
         metres = f"{6 * queue / 1_000_000 / 2:.0f}"
-        self.assertRegex(text, rf'class="FIGURES LINK 21 QUEUE">{metres}(<|, )')
+        formula = "6 m × QUEUE / 1,000,000 / 2 lanes"
+        self.assertRegex(text, rf'class="FIGURES LINK 21 QUEUE" title="{formula}">{metres}(<|, )')
 
     def test_two_plans(self) -> None:
         """The greatest loss first; no difference of the index where K differs; a link of one plan alone last."""
@@ -173,6 +214,57 @@ class Pages(unittest.TestCase):
         self.assertFalse(comparison.is_same_index)
         self.assertNotIn("difference", as_text(comparison, str).split("INDEX: ")[1])
         self.assertIn("link,name,s a vehicle", as_csv(comparison))
+
+    def test_what_else_differs(self) -> None:
+        """Each of S, T, K, k, flows, weights, saturations, cruise times; offsets and changes alone are nothing."""
+        for old, new, said in (
+                ("60 12 1 60", "60 12 2 60", "sweeps S: 1 and 2"), ("1 60 100", "1 30 100", "period T, min: 60 and 30"),
+                ("60 100\n", "60 100 20\n", "dispersion k, %: 35 and 20"),
+                ("LINK 11 1 500", "LINK 11 1 510", "flow of link 11"), ("11 350 21", "11 340 21", "flow of link 21"),
+                ("1800 1 1 1\nLINK 12", "1800 2 1 1\nLINK 12", "weights of link 11"),
+                ("300 1800", "300 1900", "saturation flow of link 12"), ("350 21", "350 22", "cruise time of link 21"),
+                ("YIELD 32 31 40", "YIELD 32 31 50", "give-way rule of link 32"), ("NODE 2 3", "NODE 2 9", None)):
+            text = support.THREE.replace(old, new)
+            self.assertNotEqual(text, support.THREE)
+            with self.subTest(new), Session(text, 1, PROGRAM) as town:
+                comparison = compared(self.town, town)
+                self.assertEqual(comparison.differences, () if said is None else (said,))
+                wanted = said is None or said.split(" ")[0] in ("flow", "saturation", "cruise", "give-way")
+                self.assertEqual(comparison.is_same_index, wanted)
+                self.assertEqual("difference" in as_text(comparison, str).split("INDEX: ")[1], wanted)
+
+    def test_another_network(self) -> None:
+        """A link of one deck alone stands last, without a difference; totals are told as of different networks."""
+        with Session(support.THREE.replace("LINK 12 1", "LINK 19 1").replace("21 12 ", "21 19 "), 1, PROGRAM) as town:
+            comparison = compared(self.town, town)
+            html = page(self.town, town)
+        self.assertEqual({row.number for row in comparison.rows[-2:]}, {12, 19})
+        self.assertNotIn("difference", as_text(comparison, str).split("different networks")[1])
+        for told in (as_text(comparison, str), as_csv(comparison), html):
+            self.assertIn(DIFFERENT, told)
+
+    def test_each_figure_has_the_other_plans_beside_it(self) -> None:
+        """Where the two differ, at the same place; the page of a plan against itself is the page and no difference."""
+        with Session(support.THREE.replace("NODE 2 3", "NODE 2 9"), 1, PROGRAM) as town:
+            text, other = page(self.town, town), page(town)
+            figures = town.figures()
+        found = re.findall(r'<data value="([0-9]+)" class="AGAINST ([^"]*)">', text)
+        self.assertIn((str(figures.index), "FIGURES TOTAL INDEX"), found)
+        self.assertIn((str(figures.link(21).raw["DELAY"]), "FIGURES LINK 21 DELAY"), found)
+        self.assertTrue(any(place == "TIMING NODE 2 STAGE 1 AT" for _, place in found))
+        theirs = re.findall(r'<data value="([0-9]+)" class="([^"]*)"', other)
+        self.assertEqual([one for one in found if one not in theirs], [])
+        with Session(support.THREE, 1, PROGRAM) as town:
+            self.assertNotIn("AGAINST", page(self.town, town))
+
+    def test_derived_figures_have_their_formula(self) -> None:
+        """In their titles; figures as they are printed have none."""
+        text = page(self.town)
+        self.assertRegex(text, r'class="FIGURES LINK 21 DELAY" title="DELAY / 10">')
+        self.assertRegex(text, r'class="FIGURES TOTAL STOPS" title="STOPS / 1,000,000">')
+        self.assertRegex(text, r'class="TIMING NODE 2 STAGE 1 AT" title="AT × 60 s / 12">')
+        self.assertRegex(text, r'AT\+INTERGREEN" title="\(\(AT \+ INTERGREEN\) mod 12\) × 60 s / 12">')
+        self.assertRegex(text, r'class="FIGURES LINK 21 FLOW">')
 
 
 if __name__ == "__main__":

@@ -10,6 +10,7 @@ from typing import List, Optional
 
 from .faults import Fault
 from .program import BUILT, SCRIPT, find_program
+from .sheets.faults import Faults
 from .terminal import tell
 from .words import WORDS
 
@@ -56,7 +57,8 @@ def main(words: List[str]) -> int:
         tell_of_build(args.program)
         return int(module.run(args))
     except Fault as fault:
-        tell(f"plan {words[0]}: {fault}")
+        for sentence in fault.sentences if isinstance(fault, Faults) else [str(fault)]:
+            tell(f"plan {words[0]}: {sentence}")
         return 2
     except BrokenPipeError:
         return 2

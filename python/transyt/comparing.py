@@ -12,6 +12,7 @@ from .text import csv_name
 
 # Each figure of a link that is compared: its word in FIGURES, its head, and how a raw number is shown.
 NO_GREEN = 999_999  # SATURATION where GO is 0
+DIFFERENT = "the totals are of different networks"
 Shown = Callable[[int], str]
 FIGURES: Tuple[Tuple[str, str, Shown], ...] = (
     ("DELAY", "s a vehicle", lambda raw: f"{raw / 10:.1f}"),
@@ -57,7 +58,7 @@ def compared(one: Answers, other: Answers) -> Comparison:
         rows.append(Row(number, name, figures_of(first_figures, deck, number),
                         figures_of(second_figures, second, number)))
     rows.sort(key=lambda row: (row.one is None or row.other is None, -row.loss))
-    same = [link.number for link in deck.links] == [link.number for link in second.links]
+    same = set(deck.link_by_number) == set(second.link_by_number)
     return Comparison(tuple(differences_of(deck, second)), same, index_by(deck) == index_by(second), tuple(rows),
                       first_figures, second_figures)
 
@@ -75,7 +76,7 @@ def figures_of(figures: Figures, deck: Deck, number: int) -> Optional[LinkFigure
 
 
 def differences_of(one: Deck, other: Deck) -> List[str]:
-    """What differs besides offsets and changes: the frame, and flows, saturations, weights and cruise times."""
+    """What differs besides offsets and changes: the frame, and flows, saturations, weights, cruise times and rules."""
     told = []
     for word, name in (("cycle", "cycle, s"), ("step_count", "steps"), ("sweeps", "sweeps S"),
                        ("period", "period T, min"), ("stop_penalty", "stop penalty K"),
@@ -85,7 +86,8 @@ def differences_of(one: Deck, other: Deck) -> List[str]:
             told.append(f"{name}: {before} and {after}")
     both = [number for number in one.link_by_number if number in other.link_by_number]
     for what, value in (("flow", flow_of), ("saturation flow", lambda link: link.saturation), ("weights", weights_of),
-                        ("cruise time", cruises_of)):
+                        ("cruise time", cruises_of), ("lags", lambda link: (link.start_lag, link.end_lag)),
+                        ("stages", lambda link: link.stages), ("give-way rule", lambda link: link.gives_way)):
         differ = [number for number in both if value(one.link(number)) != value(other.link(number))]
         if differ:
             told.append(f"{what} of {'link' if len(differ) == 1 else 'links'} {', '.join(map(str, differ))}")
@@ -159,6 +161,8 @@ def as_csv(comparison: Comparison) -> str:
     writer.writerow(heads())
     for row in table_rows(comparison):
         writer.writerow([row[0], csv_name(row[1]), *row[2:]])
+    if not comparison.is_same_network:
+        writer.writerow(["total", DIFFERENT])
     for total in totals_of(comparison):
         writer.writerow(["total", *total])
     return out.getvalue()
@@ -172,7 +176,7 @@ def as_text(comparison: Comparison, shown: Callable[[str], str]) -> str:
     lines += ["  ".join(cell.ljust(wide[place]) if place == 1 else cell.rjust(wide[place])
                         for place, cell in enumerate(row)).rstrip() for row in rows]
     if not comparison.is_same_network:
-        lines.append("the two are different networks")
+        lines.append(DIFFERENT)
     lines += [f"{name}: {one}, against {other}{', difference ' + difference if difference else ''}"
               for name, one, other, difference in totals_of(comparison)]
     return "".join(line + "\n" for line in lines)

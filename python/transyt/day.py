@@ -12,6 +12,7 @@ from .best import Search, Wanted
 from .comparing import in_millions
 from .deck import Deck, read_deck
 from .faults import Fault
+from .filing.checking import hold
 from .filing.commands import FiledReport
 from .filing.folder import DECK, REPORT, sum_of
 from .filing.writing import Asked, made_files, write_folder
@@ -22,6 +23,7 @@ from .program import Program
 from .rows import read_rows
 from .sheets import Sheets, make_deck
 from .sheets.checking import balanced, checked
+from .sheets.faults import Faults
 from .sheets.hour import read_window
 from .sheets.values import time_text
 from .text import csv_name, decoded, lines_of
@@ -69,7 +71,11 @@ def made_day(day: Day, folder: str, one_cycle: bool) -> List[Planned]:
 def deck_of(day: Day, name: str) -> Deck:
     """The deck of a period, checked against the program."""
     period = day.sheets.periods[name]
-    made = balanced(make_deck(day.sheets, read_window(time_text(period.begin), period.minutes)), day.program.path)
+    try:
+        made = make_deck(day.sheets, read_window(time_text(period.begin), period.minutes))
+    except Faults as faults:
+        raise Faults([f"period {period.name}: {sentence}" for sentence in faults.sentences]) from faults
+    made = balanced(made, day.program.path)
     deck, told = checked(made, day.program.path)
     for sentence in (*made.told, *told):
         day.tell(f"{name}: {sentence}")
@@ -113,7 +119,7 @@ def made_period(day: Day, folder: str, deck: Deck, before: Optional[Deck]) -> Pl
     found = turned(day, name, search.deck, before)
     whole = replace(found, comments=(*[line for line in found.comments if not line.startswith(MADE_OF)], MADE_OF + key))
     files = made_files(whole, day.program, day.asked)
-    replace_folder(folder, files)
+    replace_folder(folder, files, lambda path: hold(path, day.program))
     filed = read_deck(files[DECK])
     return Planned(name, FiledReport(filed, lines_of(decoded(files[REPORT]))))
 
@@ -130,16 +136,16 @@ def filed_before(folder: str, key: str) -> Optional[FiledReport]:
     return report if MADE_OF + key in deck.comments else None
 
 
-def replace_folder(folder: str, files: Dict[str, bytes]) -> None:
+def replace_folder(folder: str, files: Dict[str, bytes], judge: Tell) -> None:
     """Writes a folder in the place of the one that is there."""
     os.makedirs(os.path.dirname(os.path.abspath(folder)), exist_ok=True)
     if not os.path.lexists(folder):
-        write_folder(folder, files)
+        write_folder(folder, files, judge)
         return
     aside = tempfile.mkdtemp(prefix=".old.", dir=os.path.dirname(os.path.abspath(folder)))
     os.rename(folder, os.path.join(aside, "plan"))
     try:
-        write_folder(folder, files)
+        write_folder(folder, files, judge)
     except BaseException:
         os.rename(os.path.join(aside, "plan"), folder)
         raise
@@ -231,8 +237,9 @@ def day_html(plans: Sequence[Planned], title: str) -> str:
     for row, plan in zip(periods, plans):
         total = plan.report.figures().total
         shown.append([text(row[0]), row[1], figure(f"{plan.name} {total.place('INDEX')}", total.raw["INDEX"], row[2]),
-                      figure(f"{plan.name} {total.place('DELAY')}", total.raw["DELAY"], row[3]),
-                      figure(f"{plan.name} {total.place('STOPS')}", total.raw["STOPS"], row[4]), row[5], row[6]])
+                      figure(f"{plan.name} {total.place('DELAY')}", total.raw["DELAY"], row[3], "DELAY / 1,000,000"),
+                      figure(f"{plan.name} {total.place('STOPS')}", total.raw["STOPS"], row[4], "STOPS / 1,000,000"),
+                      row[5], row[6]])
     cells = [[row[0], text(row[1]), row[2], text(row[3]), *row[4:]] for row in stages]
     return document(title, f"<h1>{text(title)}</h1>\n<h2>Periods</h2>\n{table(PERIOD_HEADS, shown, 6)}\n"
                     f"<h2>Stages, in seconds of the common cycle</h2>\n"

@@ -2,8 +2,9 @@
 
 import base64
 import hashlib
+import re
 from html import escape
-from typing import Sequence
+from typing import Dict, List, Sequence, Tuple
 
 CSS = """
 body { font: 14px/1.45 sans-serif; color: #1d1d26; max-width: 62em; margin: 2em auto; padding: 0 1em; }
@@ -11,6 +12,7 @@ h1 { font-size: 1.5em; margin-bottom: 0.2em; } h2 { font-size: 1.15em; margin: 1
 table { border-collapse: collapse; width: 100%; } th, td { padding: 0.18em 0.5em; border-bottom: 1px solid #d9d9e0; }
 th { text-align: left; vertical-align: bottom; } td.number, th.number { text-align: right; }
 thead th { border-bottom: 2px solid #4a4e69; } th[data-sorted] { text-decoration: underline; }
+.against { color: #4a4e69; } .against::before { content: "/ "; } .more { font-weight: bold; }
 .worse { font-weight: bold; } .better { color: #1b6ca8; } .mark { color: #b23a48; font-weight: bold; }
 .small { font-size: 0.85em; color: #4a4e69; } code { overflow-wrap: anywhere; } svg { width: 100%; height: auto; }
 dl { display: grid; grid-template-columns: max-content 1fr; gap: 0.1em 1em; } dd { margin: 0; }
@@ -32,14 +34,37 @@ for (const table of document.querySelectorAll('table.sortable')) {
 """
 
 
+FIGURE = re.compile(r'<data value="([^"]*)" class="([^"]*)"[^>]*>([^<]*)</data>')
+
+
 def text(words: str) -> str:
     """A text as text, isolated in its direction."""
     return f"<bdi>{escape(words)}</bdi>"
 
 
-def figure(place: str, raw: int, shown: str) -> str:
-    """A figure: its raw value, its place in the report, and how it is shown."""
-    return f'<data value="{raw}" class="{escape(place)}">{escape(shown)}</data>'
+def figure(place: str, raw: int, shown: str, formula: str = "") -> str:
+    """A figure: its raw value, its place in the report, how it is shown; its formula as title where it is derived."""
+    title = f' title="{escape(formula)}"' if formula else ""
+    return f'<data value="{raw}" class="{escape(place)}"{title}>{escape(shown)}</data>'
+
+
+def with_others(page: str, other: str) -> str:
+    """A page's figures, each with that of the same place on another page beside it where the two differ."""
+    others: Dict[str, List[Tuple[str, str]]] = {}
+    for raw, place, shown in FIGURE.findall(other):
+        others.setdefault(place, []).append((raw, shown))
+
+    def both(found: "re.Match[str]") -> str:
+        raw, place, shown = found.groups()
+        there = others.get(place, [])
+        against, its = there.pop(0) if there else (raw, shown)
+        if against == raw and its == shown:
+            return found[0]
+        kind = "more" if int(against) > int(raw) else "less"
+        return (f'{found[0]} <span class="against {kind}" title="the other plan">'
+                f'<data value="{against}" class="AGAINST {place}">{its}</data></span>')
+
+    return FIGURE.sub(both, page)
 
 
 def digest(text_of: str) -> str:

@@ -51,6 +51,10 @@ class FiledReport:
         """The answer to CHART."""
         return read_chart(self._answers["CHART"])
 
+    def text_of(self, command: str) -> str:
+        """The answer to a command as it was written."""
+        return "".join(line + "\n" for line in self._answers[command])
+
     def certificate(self) -> Certificate:
         """The answer to CERT."""
         return read_certificate(self._answers["CERT"])

@@ -9,6 +9,7 @@ from typing import Dict, List, Optional
 from .. import VERSION
 from ..deck import Deck, read_deck
 from ..faults import Fault
+from ..names import Tell, ignore
 from ..page import page
 from ..program import BUILT, Program
 from ..html import text
@@ -93,8 +94,11 @@ def made_files(deck: Deck, program: Program, asked: Asked) -> Dict[str, bytes]:
     return whole
 
 
-def write_folder(path: str, files: Dict[str, bytes]) -> None:
-    """Writes files into a new folder beside, and renames it at the end; a folder that isn't empty is refused."""
+def write_folder(path: str, files: Dict[str, bytes], judge: Tell = ignore) -> None:
+    """Writes files into a new folder beside, and renames it at the end; a folder that isn't empty is refused.
+
+    `judge` is given the new folder before it is renamed: where it raises, nothing is left.
+    """
     if os.path.lexists(path) and not (os.path.isdir(path) and not os.path.islink(path) and not os.listdir(path)):
         raise Fault(f"{path} is there already, and isn't an empty folder")
     parent = os.path.dirname(os.path.abspath(path))
@@ -106,6 +110,7 @@ def write_folder(path: str, files: Dict[str, bytes]) -> None:
             with open(place, "wb") as file:
                 file.write(data)
         os.chmod(beside, 0o755)
+        judge(beside)
         os.rename(beside, path)
     except BaseException:
         shutil.rmtree(beside, ignore_errors=True)

@@ -5,7 +5,7 @@ from typing import List, Sequence, Tuple
 from ..deck import Deck
 from ..report import UNITS, LinkFigures
 from .source import Answers, link_name, short_name, whose
-from .svg import CANNOT, FLOW, INK, MIDDLE, PALE, QUEUE, WIDE, Axis, Drawing, legend, number
+from .svg import FLOW, INK, MIDDLE, PALE, QUEUE, WIDE, Axis, Drawing, legend
 
 MOST_LINKS = 60  # of the picture of saturations
 LEFT = 64.0
@@ -14,17 +14,17 @@ LEFT = 64.0
 def link(answers: Answers, which: int) -> str:
     """A link's arrivals, GO and departures step by step, its queue below, in vehicles, and its figures beside."""
     deck, profile, queue = answers.deck(), answers.profile(which), answers.queue(which)
-    drawing = Drawing("link", 346, f"Link {which} over the cycle", f"{link_name(deck, which)}; {whose(answers, deck)}")
+    drawing = Drawing("link", 360, f"Link {which} over the cycle", f"{link_name(deck, which)}; {whose(answers, deck)}")
     legend(drawing, 18, ((PALE, "GO"), (f"-{FLOW}", "arrivals"), (f"-{INK}", "departures"), (QUEUE, "queue")))
     axis = Axis(LEFT, WIDE - 190, deck.frame.cycle)
     most = max(max(profile.arrivals), max(profile.go), max(profile.departures), 1)
-    upper = Panel(drawing, axis, deck, (32.0, 186.0), most, "vehicles a step")
+    upper = Panel(drawing, axis, deck, (46.0, 200.0), most, "vehicles a step")
     upper.area(profile.go, PALE, f"GO of link {which}", "PROFILE")
     upper.steps(profile.arrivals, FLOW, f"arrivals of link {which}, before the cut")
     upper.steps(profile.departures, INK, f"departures of link {which}", "5 2")
-    lower = Panel(drawing, axis, deck, (216.0, 318.0), max(max(queue.raw), 1), "vehicles in queue")
+    lower = Panel(drawing, axis, deck, (230.0, 332.0), max(max(queue.raw), 1), "vehicles in queue")
     lower.area(queue.raw, QUEUE, f"queue of link {which} at the end of each step", "QUEUE")
-    axis.draw(drawing, 318, 322)
+    axis.draw(drawing, 332, 336)
     beside(drawing, answers.figures().link(which))
     return str(drawing)
 
@@ -68,12 +68,13 @@ class Panel:
 def beside(drawing: Drawing, figures: LinkFigures) -> None:
     """The figures of a link in words."""
     x, rows = WIDE - 176, (
-        (f"flow {figures.flow_an_hour} veh/h", "FLOW"), (f"sent on {figures.sent_an_hour} veh/h", "SENT"),
-        (f"saturation {saturation_text(figures)}", "SATURATION"), (f"delay {figures.delay_seconds:.1f} s", "DELAY"),
-        (f"stopped {100 * figures.stopped:.1f} %", "STOPPED"), (f"queue {figures.queue_vehicles:.1f} veh", "QUEUE"))
-    for place, (text, word) in enumerate(rows):
-        drawing.parts.append(f'<text x="{number(x)}" y="{number(52 + 21 * place)}" fill="{INK}"><title>'
-                             f"{figures.place(word)} {figures.raw[word]}</title>{text}</text>")
+        (f"flow {figures.flow_an_hour} veh/h", "FLOW", ""), (f"sent on {figures.sent_an_hour} veh/h", "SENT", ""),
+        (f"saturation {saturation_text(figures)}", "SATURATION", " / 10, %"),
+        (f"delay {figures.delay_seconds:.1f} s", "DELAY", " / 10, s"),
+        (f"stopped {100 * figures.stopped:.1f} %", "STOPPED", " / 10, %"),
+        (f"queue {figures.queue_vehicles:.1f} veh", "QUEUE", " / 1,000,000"))
+    for place, (text, word, formula) in enumerate(rows):
+        drawing.words((x, 66 + 21 * place), text, title=f"{figures.place(word)} {figures.raw[word]}{formula}")
 
 
 def saturation_text(figures: LinkFigures) -> str:
@@ -89,28 +90,29 @@ def saturation(answers: Answers) -> str:
     bottom = 52 + 19.0 * len(shown)
     more = f"; the {MOST_LINKS} fullest of {len(figures)} links" if len(figures) > MOST_LINKS else ""
     drawing = Drawing("saturation", bottom + 8, "Links by degree of saturation", whose(answers, deck) + more)
-    left, right = 212.0, WIDE - 150
+    left, right = 212.0, WIDE - 176
     most = max([1.2] + [min(one.saturation, 1.5) for one in shown if one.has_capacity])
-    legend(drawing, 18, ((FLOW, "below 90 %"), (QUEUE, "90 % and more"), (CANNOT, "100 % and more, or no green")))
-    for share in (0.9, 1.0):
-        x = left + (right - left) * share / most
-        drawing.line((x, 38), (x, bottom), INK, 1, "3 3")
-        drawing.words((x, 34), f"{share:.0%}", "end" if share < 1 else "start", size=10.5)
+    legend(drawing, 18, ((FLOW, "below 90 %"), (QUEUE, "90 % and more"), (INK, "100 % and more, or no green")))
+    drawing.words((WIDE - 92, 34), "saturation", "end", size=10.5)
     drawing.words((WIDE - 20, 34), "s a vehicle", "end", size=10.5)
     for place, one in enumerate(shown):
         draw_bar(drawing, deck, one, (left, right, most), 44 + 19.0 * place)
+    for share in (0.9, 1.0):
+        x = left + (right - left) * share / most
+        drawing.line((x, 38), (x, bottom), INK, 1, "3 3")
+        drawing.words((x, 34), f"{share:.0%}".replace("%", " %"), "end" if share < 1 else "start", size=10.5)
     return str(drawing)
 
 
 def draw_bar(drawing: Drawing, deck: Deck, one: LinkFigures, scale: Tuple[float, float, float], top: float) -> None:
-    """A link's bar, its degree beside it, its delay at the right."""
+    """A link's bar; its degree and its delay at the right."""
     left, right, most = scale
     full = one.saturation >= 1 or not one.has_capacity
-    colour = CANNOT if full else QUEUE if one.saturation >= 0.9 else FLOW
+    colour = INK if full else QUEUE if one.saturation >= 0.9 else FLOW
     wide = (right - left) * min(one.saturation, most) / most
     drawing.words((12, top + 11), short_name(deck, one.number), width=left - 22)
     drawing.box((left, top), (max(wide, 0.8), 13), colour, f"{one.place('SATURATION')} {one.raw['SATURATION']}")
-    inside = wide > right - left - 52
-    drawing.words((left + wide + (-4 if inside else 4), top + 11), saturation_text(one), "end" if inside else "start",
-                  size=10.5, colour="#ffffff" if inside else INK)
-    drawing.words((WIDE - 20, top + 11), f"{one.delay_seconds:.1f}", "end", size=11)
+    drawing.words((WIDE - 92, top + 11), saturation_text(one), "end", size=11,
+                  title=f"{one.place('SATURATION')} {one.raw['SATURATION']} / 10, %")
+    drawing.words((WIDE - 20, top + 11), f"{one.delay_seconds:.1f}", "end", size=11,
+                  title=f"{one.place('DELAY')} {one.raw['DELAY']} / 10, s")

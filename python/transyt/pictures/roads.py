@@ -11,10 +11,12 @@ from .source import Answers, node_name, short_name, whose
 from .svg import CAN_GO, CANNOT, FLOW, GREEN_EDGE, INK, MIDDLE, QUEUE, WIDE, Axis, Drawing, legend, seconds
 
 Route = Sequence[int]
-LEFT, BAR, STRIP, TALL = 196.0, 8.0, 7.0, 17.0  # label column; heights of a bar, a strip of arrivals, a queue
+LEFT, BAR, STRIP, TALL = 216.0, 8.0, 7.0, 17.0  # label column; heights of a bar, a strip of arrivals, a queue
 BLOCK = BAR + STRIP + TALL  # what stands at one side of a junction
 GAP = 14.0  # at least, between two junctions' blocks
 TARGET = 520.0  # the height of a road, where its stop lines don't stand too close for it
+NOT_TO_SCALE = "stop lines aren't drawn to scale; "
+MOST_HIGH = 1_000.0  # of a road to scale, so that it is printed on A4
 
 
 @dataclass(frozen=True)
@@ -98,7 +100,9 @@ def road(answers: Answers, routes: Sequence[Route] = (), both: bool = True) -> s
     for places in heights:
         tops.append(y)
         y += places[0] + BLOCK + 46
-    drawing = Drawing("road", y - 6, "The road: stop lines up the page, two cycles across", whose(answers, deck))
+    drawing = Drawing("road", y - 6, "The road: stop lines up the page, two cycles across",
+                      f"{whose(answers, deck)}; {'' if all(to_scale(deck, *pair) for pair in pairs) else NOT_TO_SCALE}"
+                      "bars are GO, with lags and give way; the signals' own times are in the picture signals")
     legend(drawing, 18, ((CAN_GO, "can go"), (CANNOT, "can't"), (FLOW, "arrivals, and departures on their way"),
                          (QUEUE, "queue"), (f"-{INK}", "platoon's front")))
     for place, ((forth, back), places) in enumerate(zip(pairs, heights)):
@@ -132,13 +136,25 @@ def heights_of(deck: Deck, route: Route, both: bool) -> List[float]:
     """The height of each stop line of a route below the top of its panel; the last one stands highest."""
     lengths, _ = lengths_of(deck, route)
     least = BLOCK * (2 if both else 1) + GAP
-    scale = TARGET / max(sum(lengths), 1)
+    scale = scale_of(lengths, least)
+    rest = max(TARGET, least * len(lengths)) - least * len(lengths)
     y: float = BLOCK + 6 if both else 14.0
-    places: List[float] = []
-    for length in [0, *reversed(lengths)]:
-        y += max(least, scale * length) if places else 0
+    places: List[float] = [y]
+    for length in reversed(lengths):
+        y += scale * length if scale else least + rest * length / max(sum(lengths), 1)
         places.insert(0, y)
     return places
+
+
+def scale_of(lengths: Sequence[int], least: float) -> Optional[float]:
+    """How high a metre or a second is drawn, so that no two stop lines stand too close; None where that is too high."""
+    scale = max(TARGET / max(sum(lengths), 1), least / max(min(lengths), 1))
+    return scale if scale * sum(lengths) <= MOST_HIGH else None
+
+
+def to_scale(deck: Deck, forth: Route, back: Route) -> bool:
+    """Whether the stop lines of a road stand as far apart as they are."""
+    return scale_of(lengths_of(deck, forth)[0], BLOCK * (2 if back else 1) + GAP) is not None
 
 
 class Panel:
@@ -225,6 +241,7 @@ class Panel:
     def draw_labels(self, forth: Route, up: Sequence[Lane], down: Sequence[Lane]) -> None:
         """The junctions' and links' names at the left, and how far apart they are."""
         lengths, unit = lengths_of(self.deck, forth)
+        what = {"m": "METRES, by the sheets", "s": "cruise time of the FEED card, seconds"}[unit]
         for place, lane in enumerate(up):
             node = self.deck.link(lane.link).node
             self.drawing.line((8, lane.y - 1), (self.axis.left - 6, lane.y - 1), MIDDLE, 0.8)
@@ -232,7 +249,7 @@ class Panel:
                                kind=f"name node-{node}")
             self.drawing.words((12, lane.y + 12), f"↑ {short_name(self.deck, lane.link)}", size=10.5, width=LEFT - 22)
             if place:
-                self.drawing.words((12, lane.y + 36), f"{lengths[place - 1]} {unit} from below", size=10)
+                self.drawing.words((12, lane.y + 36), f"{lengths[place - 1]} {unit} from below", size=10, title=what)
         for lane in down:
             self.drawing.words((12, lane.y + 24), f"↓ {short_name(self.deck, lane.link)}", size=10.5, width=LEFT - 22)
 

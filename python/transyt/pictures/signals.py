@@ -7,7 +7,7 @@ from ..report import NodeTiming, StageTiming
 from .source import Answers, isolated, node_name, whose
 from .svg import CAN_GO, GREEN_EDGE, WIDE, Axis, Drawing, legend, seconds
 
-LEFT, BAR, LINE = 196.0, 20.0, 10.0  # the column of names, a bar's height, that of a line of ATs
+LEFT, BAR, LINE = 216.0, 20.0, 10.0  # the column of names, a bar's height, that of a line of ATs
 DIGIT = 6.2  # the width of a digit of an AT
 Mark = Tuple[float, str, int]  # where an AT stands, as it is shown, and its line: from 0 up above the bar, else below
 
@@ -53,7 +53,8 @@ def draw_node(drawing: Drawing, deck: Deck, axis: Axis, row: Tuple[NodeTiming, L
     for x, shown, line in marks:
         high, low = top - 3 - LINE * max(line, 0), top + BAR + 3 + LINE * max(-1 - line, 0)
         drawing.line((x, high), (x, low), wide=1.4)
-        drawing.words((x, high - 2 if line >= 0 else low + 8), shown, "middle", size=10, kind="at")
+        drawing.words((x, high - 2 if line >= 0 else low + 8), shown, "middle", size=10, kind="at",
+                      title=f"AT × {deck.frame.cycle} s / {deck.frame.step_count} steps")
     drawing.close()
 
 

@@ -6,7 +6,7 @@ from xml.sax.saxutils import escape, quoteattr
 # Told apart by people who don't see red and green, and in grey print: from light to dark.
 CAN_GO, GREEN_EDGE, PALE, MIDDLE, QUEUE, FLOW, CANNOT, INK = (
     "#f4d35e", "#8a6d00", "#e9e9ee", "#b9bccb", "#d1603d", "#1b6ca8", "#4a4e69", "#1d1d26")
-LETTER, BOLD = 6.3, 6.9  # the width of a letter, at the size of labels
+LETTER, BOLD = 6.9, 7.6  # the width of a letter at size 12, of the wider fonts
 SMALLEST = 9.0  # size of a label
 WIDE = 760.0  # of a picture, so that its text is read on A4
 
@@ -29,6 +29,16 @@ def shortened(text: str, most: int) -> str:
     return cut + "\u2069" if "\u2068" in cut else cut
 
 
+def wrapped(text: str, most: int) -> List[str]:
+    """A text in lines of at most so many letters, cut at blanks; a longer word stands on a line of its own, cut."""
+    lines = [""]
+    for word in text.split(" "):
+        if lines[-1] and length_of(lines[-1]) + 1 + length_of(word) > most:
+            lines.append("")
+        lines[-1] += (" " if lines[-1] else "") + shortened(word, most)
+    return lines
+
+
 def seconds(value: float) -> str:
     """Seconds with at most three decimals."""
     return f"{value:.3f}".rstrip("0").rstrip(".")
@@ -44,14 +54,16 @@ class Drawing:
         self.data = ""  # what a script has to know of the picture, as attributes
 
     def __str__(self) -> str:
-        high, wide = self.height + 24, number(WIDE)
+        lines = wrapped(self.caption, int((WIDE - 24) / LETTER / 11 * 12))
+        high, wide = self.height + 10 + 14 * len(lines), number(WIDE)
+        below = "".join(f'\n<text x="12" y="{number(self.height + 1 + 14 * place)}" font-size="11" fill="{INK}" '
+                        f'class="of">{escape(line)}</text>' for place, line in enumerate(lines, 1))
         return (f'<svg xmlns="http://www.w3.org/2000/svg" class="picture {self.name}"{self.data} '
                 f'viewBox="0 0 {wide} {number(high)}" width="{wide}" height="{number(high)}" '
                 f'font-family="sans-serif" font-size="12" role="img">\n<title>{escape(self.title)}</title>\n'
                 + (f'<defs>{"".join(self.definitions)}</defs>\n' if self.definitions else "")
                 + f'<rect width="{wide}" height="{number(high)}" fill="#ffffff"/>\n' + "\n".join(self.parts)
-                + f'\n<text x="12" y="{number(high - 9)}" font-size="11" fill="{INK}" class="of">{escape(self.caption)}'
-                "</text>\n</svg>\n")
+                + f"{below}\n</svg>\n")
 
     def add(self, element: str, title: str = "") -> None:
         """An element, with a title inside it where there is one; `element` ends with `/>`."""
@@ -93,7 +105,7 @@ class Drawing:
         self.add(f'<circle cx="{number(at[0])}" cy="{number(at[1])}" r="{number(size)}" fill="{colour}"/>', title)
 
     def words(self, at: Tuple[float, float], text: str, anchor: str = "start", *, size: float = 12, bold: bool = False,
-              width: Optional[float] = None, colour: str = INK, kind: str = "") -> None:
+              width: Optional[float] = None, colour: str = INK, kind: str = "", title: str = "") -> None:
         """A text; where a width is told, smaller letters or a cut make it fit, and a cut one has the whole as title."""
         shown, letter = text, (BOLD if bold else LETTER) / 12
         if width is not None:
@@ -102,7 +114,8 @@ class Drawing:
         more = (f" class={quoteattr(kind)}" if kind else "") + (' font-weight="bold"' if bold else "")
         more += (f' font-size="{number(size)}"' if size != 12 else "")
         more += f' text-anchor="{anchor}"' if anchor != "start" else ""
-        title = f"<title>{escape(text)}</title>" if shown != text else ""
+        told = title or (text if shown != text else "")
+        title = f"<title>{escape(told)}</title>" if told else ""
         self.parts.append(f'<text x="{number(at[0])}" y="{number(at[1])}" fill="{colour}"{more}>{title}{escape(shown)}'
                           "</text>")
 

@@ -7,10 +7,12 @@ the SHA-256 with that on the paper that was signed.
 import argparse
 
 from ..deck import read_deck
+from ..edits import moves
+from ..faults import Fault
 from ..filing.checking import Check
 from ..filing.folder import DECK, read_filed, sum_of
 from ..program import Program
-from ..terminal import tell, write
+from ..terminal import progress, tell, write
 from ..text import decoded, escaped
 
 
@@ -21,15 +23,22 @@ def add_arguments(parser: argparse.ArgumentParser) -> None:
     parser.add_argument("--again", action="store_true", help="without the program, by examples/check/twin.py")
 
 
+def tell_of_moves(data: bytes) -> None:
+    """Tells how many moves the witness has before it."""
+    try:
+        count = len(moves(read_deck(data)))
+    except Fault:
+        return  # which the check tells
+    tell(f"plan check: {count} moves are worked out from nothing, for the report and once more for audit")
+
+
 def run(args: argparse.Namespace) -> int:
     """Checks, and ends with 1 where something doesn't hold."""
-    check = Check(args.folder, None if args.again else Program(args.program), args.same_program, args.again)
+    program = None if args.again else Program(args.program)
+    check = Check(args.folder, program, args.same_program, args.again, progress)
     data = check.files.get(DECK, b"")
-    if args.again and data:
-        deck = read_deck(data)
-        sizes = len(deck.climb_plan.sizes) if deck.climb_plan else 0
-        places = 2 * sizes * sum(1 + len(node.stages) for node in deck.nodes)
-        tell(f"plan check: {places} moves are worked out from nothing, twice each")
+    if args.again:
+        tell_of_moves(data)
     findings = check.run()
     for finding in findings:
         write(f"{'holds' if finding.holds else 'DOES NOT HOLD'}: {escaped(finding.sentence)}\n")

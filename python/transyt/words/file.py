@@ -1,10 +1,12 @@
 """Files a plan: a folder with the deck, the program's answer, the certificate, the controller's sheet and the page.
 
-A plan to which audit doesn't say YES is refused, but for --unfinished. `./plan check FOLDER` checks the folder later.
+A plan to which audit doesn't say YES is refused, but for --unfinished. The folder is checked before it is there, as
+`./plan check FOLDER` does later: sheets that don't give this deck are told, and nothing is written.
 """
 
 import argparse
 
+from ..filing.checking import hold
 from ..filing.folder import DECK, sum_of
 from ..filing.writing import Asked, made_files, write_folder
 from ..program import Program
@@ -31,7 +33,8 @@ def run(args: argparse.Namespace) -> int:
     """Makes all files, and writes the folder."""
     deck = read_deck_file(args.deck, args)
     asked = Asked(args.title, args.by, args.date, args.sheets, args.unfinished)
-    files = made_files(deck, Program(args.program), asked)
-    write_folder(args.folder, files)
+    program = Program(args.program)
+    files = made_files(deck, program, asked)
+    write_folder(args.folder, files, lambda path: hold(path, program))
     tell(f"{args.folder}: {len(files)} files; SHA-256 of {DECK}: {sum_of(files[DECK])}")
     return 0

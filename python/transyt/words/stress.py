@@ -5,6 +5,7 @@ from typing import List, Optional
 
 from ..deck import Deck
 from ..report import Figures
+from ..session import Session
 from ..stress import FACTORS, read_factor, reserves, stressed
 from ..terminal import add_workers, read_deck_file, tell, write
 from ..text import escaped
@@ -34,7 +35,7 @@ def reserve_lines(deck: Deck, figures: Figures) -> List[str]:
     lines = ["reserve of each junction, to 90 % at its fullest link:"]
     for node, greatest, reserve in reserves(deck, figures):
         name = escaped(deck.names.nodes.get(node, ""))
-        told = "none arrive" if reserve is None else "no green" if greatest >= 999_999 else f"{reserve} %"
+        told = "none" if reserve is None else "no green" if greatest >= 999_999 else f"{reserve} %"
         lines.append(f"  {node} {name}: {told}".replace(" :", ":"))
     return lines
 
@@ -49,7 +50,9 @@ def run(args: argparse.Namespace) -> int:
     wide = [max(len(row[column]) for row in table) for column in range(len(table[0]))]
     lines = ["  ".join(cell.rjust(wide[place]) for place, cell in enumerate(row)).rstrip() for row in table]
     now = next((row.standing for row in rows if row.factor == 1), None)
-    if now:
-        lines += reserve_lines(deck, now)
+    if now is None:
+        with Session(deck, args.workers, args.program) as session:
+            now = session.figures()
+    lines += reserve_lines(deck, now)
     write("".join(line + "\n" for line in lines))
     return 0
