@@ -11,7 +11,7 @@ from ..deck import Deck, read_deck
 from ..faults import Fault
 from ..names import Tell, ignore
 from ..page import page
-from ..program import BUILT, Program
+from ..program import BUILT, SCRIPT, Program
 from ..html import text
 from .commands import FiledReport, commands_of
 from .controller import controller_sheet
@@ -36,14 +36,10 @@ def plan_name() -> str:
 
 
 def program_sum(program: Program) -> str:
-    """The sum of the program's file; of a script that builds it, the sum of what it built."""
-    path = program.path
-    with open(path, "rb") as file:
-        data = file.read()
-    if data[:2] == b"#!" and os.path.isfile(BUILT):
-        with open(BUILT, "rb") as file:
-            data = file.read()
-    return sum_of(data)
+    """The sum of the program's file; of the script that builds it, the sum of what it built."""
+    path = shutil.which(program.path) or program.path
+    with open(BUILT if os.path.realpath(path) == os.path.realpath(SCRIPT) else path, "rb") as file:
+        return sum_of(file.read())
 
 
 def filed_deck(deck: Deck, filed: Filed) -> str:
