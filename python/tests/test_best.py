@@ -6,6 +6,7 @@ import subprocess
 import sys
 import unittest
 from typing import List, Optional
+from unittest import mock
 
 import support
 from support import PROGRAM, needs_program
@@ -14,7 +15,7 @@ from transyt.deck import Deck, read_deck
 from transyt.faults import Fault
 from transyt.kicks import Draws, Kicker, near
 from transyt.program import ROOT, Program
-from transyt.rows import read_rows
+from transyt.rows import Row, read_rows
 from transyt.session import Session
 
 ROWS = """* CYCLE 45 NONE
@@ -119,6 +120,24 @@ class Kicks(unittest.TestCase):
         kept = [self.compare(support.THREE, count, seed) for seed, count in ((1, 4), (5, 2), (6, 4), (3, 2))]
         self.assertTrue(sum(kept) >= 2 and 0 in kept)  # some are kept, and some are taken back
 
+    def test_kicks_of_best_are_these(self) -> None:
+        """The same seed and count, with each kept one the best so far."""
+        with Session(support.THREE, 1, PROGRAM) as town:
+            while not town.climb().run().local:
+                pass
+            text = str(town.deck())
+        self.kept = 0
+        wanted = self.kicked(text, 4, 6)
+        self.assertTrue(self.kept)
+        said: List[str] = []
+        search = Search(read_deck(text), Program(PROGRAM), Wanted(starts=0, seed=6), said.append)
+        search.kicks(4)
+        lines = [f"{number} {offset} {' '.join(map(str, changes))}\n"
+                 for number, (offset, changes) in search.deck.plan().items()]
+        self.assertEqual("".join(lines) + f"{search.index}\n", wanted)
+        search.check()
+        self.assertTrue(said[0].endswith(f"{self.kept} of 4 kept"))
+
     def test_as_the_second_script_in_a_loop(self) -> None:
         self.compare(LOOP, 2, 1)
         self.compare(LOOP, 2, 4)
@@ -217,6 +236,27 @@ class Parts(support.Played):
         # starts 0, 9 and 18 end at 100, and the first stays
         self.assertEqual((search.index, search.deck.node(1).offset), (100, 0))
         self.assertEqual(said, ["starts: 500 to 100; 25 rows, 1 ended BUDGET"])
+
+    def test_of_equal_cycles_the_first_stays(self) -> None:
+        """And rows that can't be climbed on are told, and counted as no budget."""
+        path, said = self.play(STARTS), []
+        deck = read_deck(support.THREE)
+        search = Search(deck, Program(path), Wanted(), said.append)
+        found = {60: [(Row(60, None), None)], 70: [(Row(70, 90, 95, local=True), deck.with_plan({1: (7, [0, 7])}))],
+                 80: [(Row(80, 90, 95, local=False), deck.with_plan({1: (8, [0, 7])}))]}
+        with mock.patch.object(search, "_cycle", found.get):
+            search.cycles(60, 80, 10)
+        self.assertEqual((search.index, search.deck.node(1).offset), (90, 7))
+        self.assertEqual(len(said), 2)
+        self.assertTrue(said[1].endswith("3 rows, 1 ended BUDGET"), said)
+
+    def test_an_index_that_isnt_the_expected_one(self) -> None:
+        """The best deck is run once more, and not written where its index is another."""
+        search = Search(read_deck(support.THREE), Program(self.play(STARTS)), Wanted(), lambda _: None)
+        search.check()
+        search.best = (search.deck, search.index + 1)
+        with self.assertRaisesRegex(Fault, "500, and 501 was expected: nothing is written"):
+            search.check()
 
 
 @needs_program

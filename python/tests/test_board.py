@@ -6,6 +6,7 @@ import subprocess
 import threading
 import time
 import unittest
+from dataclasses import replace
 from fractions import Fraction
 from typing import List
 from unittest import mock
@@ -14,7 +15,8 @@ import support
 from support import PROGRAM, needs_program, wait_until
 from transyt.board.state import Board, Stale, Wanted
 from transyt.deck import read_deck
-from transyt.faults import Fault
+from transyt.edits import Edit
+from transyt.faults import Ended, Fault
 from transyt.session import Session
 
 TOWN = read_deck(support.example("arterial.deck"))
@@ -92,6 +94,47 @@ class Changes(unittest.TestCase):
         self.assertEqual(self.total(), first)
         self.board.redo(self.board.version)
         self.assertEqual(self.total(), local)
+
+    def test_an_edit_ends_what_can_be_made_again(self) -> None:
+        """After Undo and another edit there is nothing to redo."""
+        self.board.edit(0, Wanted(4, 0, Fraction(16)))
+        self.board.undo(1)
+        self.board.edit(2, Wanted(4, 0, Fraction(18)))
+        self.assertFalse(self.board.view()["can_redo"])
+        with self.assertRaises(Fault):
+            self.board.redo(3)
+
+    def test_a_change_is_made_whole_or_not(self) -> None:
+        """Of several edits one is refused: the program has none of them."""
+        before = self.board.deck_text()
+        self.board._undo.append([(Edit("CHANGE", (4, 2, 0)), Edit("CHANGE", (4, 2, 0))),
+                                 (Edit("OFFSET", (4, 0)), Edit("OFFSET", (4, 9)))])
+        with self.assertRaises(Fault):
+            self.board.undo(0)
+        self.assertEqual(self.board.deck_text(), before)
+        self.assertEqual(str(self.board._session.deck()), before)
+
+    def test_a_child_that_is_lost_after_an_edit(self) -> None:
+        """The edit is taken back with all that goes with it, and the plan is as it was before."""
+        before = self.board.deck_text()
+        with mock.patch.object(self.board, "_made", mock.Mock(side_effect=Ended("gone"))):
+            with self.assertRaises(Fault) as caught:
+                self.board.edit(0, Wanted(4, 0, Fraction(16)))
+        self.assertIn("started again", str(caught.exception))
+        self.assertEqual((self.board.version, self.board.view()["can_undo"]), (0, False))
+        self.assertEqual(self.board.deck_text(), before)
+        self.assertEqual(str(self.board._session.deck()), before)
+        with self.assertRaises(Fault):
+            self.board.undo(0)
+
+    def test_steps_that_lead_elsewhere(self) -> None:
+        """Where the program's index isn't that of the last step the plan from before the climb stands."""
+        before = self.board.deck_text()
+        climb = self.board._session.climb()
+        climb.run()
+        climb.steps[-1] = replace(climb.steps[-1], index=climb.steps[-1].index - 1)
+        self.assertIn("the plan from before it stands", self.board._after_climb(climb, "LOCAL"))
+        self.assertEqual((self.board.deck_text(), str(self.board._session.deck())), (before, before))
 
     def test_start_again(self) -> None:
         """To the deck of the call, and back from there."""

@@ -83,6 +83,19 @@ class Who(unittest.TestCase):
             line.sendall(b"GET / HTTP/99\r\n\r\n")
             self.assertIn(b"no-store", line.recv(4096))
 
+    def test_it_is_this_machines_alone(self) -> None:
+        """127.0.0.1, and no other address."""
+        self.assertEqual(self.server.server_address[0], "127.0.0.1")
+
+    def test_a_change_names_the_state_that_it_was_made_from(self) -> None:
+        """Another one, or none, is refused in a sentence with the state that is."""
+        for version in (b"1", b'"0"', b"null"):
+            body = b'{"version": %s, "node": 2, "stage": 0, "seconds": "10"}' % version
+            answer = json.loads(self.ask("POST", "/edit", body)[1])
+            self.assertEqual((answer["stale"], answer["refused"], answer["version"]), (True, True, 0))
+        answer = json.loads(self.ask("POST", "/edit", b'{"version": 0, "node": 2, "stage": 0, "seconds": "10"}')[1])
+        self.assertEqual((answer["version"], answer["nodes"][1]["offset"]), (1, 10))
+
     def test_only_post_changes(self) -> None:
         """GET of a change is nothing."""
         for path in ("/edit", "/undo", "/redo", "/again", "/climb", "/stop", "/certificate", "/ticket"):
@@ -104,6 +117,7 @@ class Who(unittest.TestCase):
         """Two megabytes are 413 before they are read, a chunked body 411, no JSON 400."""
         self.assertEqual(self.ask("POST", "/edit", None, Content_Length="2000000")[0], 413)
         self.assertEqual(self.ask("POST", "/edit", None, Transfer_Encoding="chunked", Content_Length="")[0], 411)
+        self.assertEqual(self.ask("POST", "/edit", b"{}", Transfer_Encoding="chunked")[0], 411)
         self.assertEqual(self.ask("POST", "/edit", b"[1]")[0], 400)
         self.assertEqual(self.ask("POST", "/edit", b"[" * 100_000)[0], 400)
         self.assertEqual(self.ask("POST", "/edit", None, Content_Length="9" * 5_000)[0], 413)

@@ -119,6 +119,7 @@ class Filing(unittest.TestCase):
                            line.replace("BARRED", "INDEX 7")), "plan.report, line"),
             ("a byte of certificate", put("certificate", "CYCLE 80", "CYCLE 82"), "certificate, line"),
             ("audit's answer", put("certificate", "* AUDIT YES", "* AUDIT yes"), "certificate, line 1"),
+            ("audit's word", put("certificate", "* AUDIT YES", "* AUDIR YES"), "certificate, line 1"),
             ("a time of the controllers", put("controller.csv", "1,First,1,road,", "1,First,1,main,"),
              "controller.csv, line 2"),
             ("a byte of the page", put("plan.html", "Certificate", "certificate"), "plan.html"),
@@ -130,6 +131,19 @@ class Filing(unittest.TestCase):
             ("a file less", lambda files: files.pop("controller.csv") and None, "controller.csv isn't there"),
             ("a sheet less", lambda files: files.pop("sheets/gives.csv") and None, "gives.csv"),
         ]
+
+    def test_an_edit_at_the_very_end(self) -> None:
+        """After the last command, with the report made to fit."""
+        files = dict(self.files)
+        files["plan.deck"] += b"OFFSET 2 5\n"
+        files["plan.report"] = self.program.ask(["run"], files["plan.deck"].decode()).text.encode()
+        self.assertIn("after END stands OFFSET 2 5", self.failing(files))
+
+    def test_lines_of_the_sums(self) -> None:
+        """One more, or another order, is found."""
+        for change in (lambda data: data + b"0  x\n", lambda data: b"\n".join(sorted(data.split(b"\n"))[1:]) + b"\n"):
+            files = {**self.files, SUMS: change(self.files[SUMS])}
+            self.assertIn("SHA256SUMS has lines of its own", self.failing(files, sums=False))
 
     def test_a_sum(self) -> None:
         """Without the sums made anew the file itself is named."""
