@@ -136,6 +136,7 @@ def make(name: str) -> None:
             table = written(os.path.join(HERE, "ten.sh"), os.path.join(folder, "ten"), "3")
         store("ten", table)
         put("ten", totals_of(table))
+        put("back", table[table.index("| plan |"):])
     else:
         sys.exit(f"there is no table {name}; there are {', '.join([*DRIVES, 'ten', 'gives'])}")
     put("overview", overview())

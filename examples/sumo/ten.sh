@@ -1,6 +1,7 @@
 #!/bin/sh
 # ten.sh [FOLDER] [SEEDS]: a made map of ten signals goes from SUMO to sheets, a deck, a better plan and its page, and
-# back into SUMO, where the plan before and after is driven by the same cars. The table goes to standard output.
+# back into SUMO, where the plan before and after is driven by the same cars: in the deck's town, and on the map itself
+# with the trips that were counted. The two tables go to standard output.
 set -e
 here=$(CDPATH='' cd "$(dirname "$0")" && pwd -P)
 plan=$here/../../plan
@@ -24,3 +25,5 @@ python3 "$tools/turn-defs/generateTurnRatios.py" -r "$folder/routes.xml" -o "$fo
 # back into SUMO
 "$plan" sumo look "$folder/after.deck" "$folder/town" >&2
 "$plan" sumo drive "$folder/before.deck" --against "$folder/after.deck" --seeds "$seeds"
+echo
+python3 "$here/back.py" "$folder/ten.net.xml" "$folder/routes.xml" "$folder/before.deck" "$folder/after.deck"

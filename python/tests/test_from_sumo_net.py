@@ -177,6 +177,10 @@ class Turned(FromSumo):
         self.assertIn(("2", "2", "A1B1"), {(row["from junction"], row["to junction"], row["to arm"])
                                            for row in made["ways"]})
 
+    def test_edges_that_differ_in_case_alone(self):
+        self.made(self.edited(grid(self.folder), ('"A1B1"', '"b0b1"'), ("A1B1_", "b0b1_")), status=2)
+        self.assertTrue(self.told("signals B1: the edges", "b0b1", "B0B1", "differ in case"))
+
     def test_a_turn_without_a_signal_runs_in_all_stages(self):
         net = grid(self.folder, "--turn-lanes", "1")
         found = [one for one in read_net(net).connections if one.signals == "B1" and one.start.startswith("A1B1")

@@ -5,6 +5,7 @@ from fractions import Fraction
 from typing import Dict, FrozenSet, List, Mapping, Optional, Tuple
 
 from ..faults import Fault
+from ..sheets.tables import folded
 from ..sumo.netfile import Connection, Logic, NetFile
 from .arms import Arm, ArmLink, Program, Tell, arms_of
 from .feeders import Goals, at_most_eight
@@ -118,7 +119,18 @@ def junction_of(net: NetFile, logic: Logic, number: int, cycle: int, tell: Tell)
     told_of(logic, cycle, tell)
     program = Program(logic, stages, every, into)
     arms = tuple(arms_of(net, program, tell))
+    check_arms(logic, arms)
     return Junction(number, program, arms, is_fixed(logic) and cycle_of(logic) == cycle)
+
+
+def check_arms(logic: Logic, arms: Tuple[Arm, ...]) -> None:
+    """Refuses two edges of a junction whose ids the sheets don't tell apart."""
+    seen: Dict[str, str] = {}
+    for arm in arms:
+        other = seen.setdefault(folded(arm.edge.name), arm.edge.name)
+        if other != arm.edge.name:
+            raise Fault(f"signals {logic.name}: the edges {other} and {arm.edge.name} differ in case or blanks alone, "
+                        "and the sheets don't tell such arms apart")
 
 
 def told_of(logic: Logic, cycle: int, tell: Tell) -> None:
