@@ -1,5 +1,6 @@
 """Stages out of the phases of programs of signals."""
 
+import random
 import unittest
 from fractions import Fraction
 
@@ -7,6 +8,7 @@ import support  # noqa: F401
 from transyt.faults import Fault
 from transyt.from_sumo.frames import cycle_of_most, frame_of, numbered, only
 from transyt.from_sumo.stages import ON_FOOT, cycle_of, fullest, stages_of
+from transyt.sheets.values import seconds_text
 from transyt.sumo.netfile import Logic, Phase
 
 
@@ -120,6 +122,15 @@ class Frames(unittest.TestCase):
         self.assertEqual(frame_of(150, [Fraction(5), Fraction(25, 2)]).steps, 120)
         self.assertEqual(frame_of(90, half).steps, 90)
         self.assertEqual(frame_of(90, half).nearest(Fraction(5, 2)), 3)
+
+    def test_steps_can_be_written(self):
+        draw = random.Random(3)
+        for cycle in range(30, 241):
+            frame = frame_of(cycle, [Fraction(draw.randrange(1, 20), draw.choice((1, 2, 3, 10)))])
+            self.assertTrue(10 <= frame.steps <= 120)
+            for seconds in range(8):
+                written = Fraction(seconds_text(frame.nearest(Fraction(seconds))))
+                self.assertEqual((written / frame.step).denominator, 1, (cycle, frame.steps, seconds))
 
     def test_numbers_of_links(self):
         self.assertEqual(numbered({1: 2, 2: 1}), {(1, 0): 11, (1, 1): 12, (2, 0): 21})

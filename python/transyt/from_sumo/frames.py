@@ -47,16 +47,17 @@ def cycle_of_most(logics: Iterable[Logic]) -> int:
 
 
 def frame_of(cycle: int, times: Iterable[Fraction]) -> Frame:
-    """The frame of a cycle: with steps of a second where the cycle isn't above 120 s, or else the most steps in which
-    all times are whole, or else steps of two seconds."""
+    """The frame of a cycle: steps of a second up to 120 s, and of two above; where not all times are whole steps then,
+    the most steps in which they are, if there are such. A step has at most three decimals."""
     wanted = list(times)
     if not CYCLES[0] <= cycle <= CYCLES[1]:
         raise Fault(f"--cycle {cycle}: a cycle lasts {CYCLES[0]} to {CYCLES[1]} s")
-    usual = cycle if cycle <= STEPS[1] else cycle // 2 if cycle % 2 == 0 else STEPS[1]
-    for steps in (usual, *range(STEPS[1], STEPS[0] - 1, -1)):
+    usable = [steps for steps in range(STEPS[1], STEPS[0] - 1, -1) if (1000 * cycle) % steps == 0]
+    usual = [cycle if cycle <= STEPS[1] else cycle // 2] if cycle <= STEPS[1] or cycle % 2 == 0 else usable[:1]
+    for steps in usual + usable:
         if all((seconds * steps / cycle).denominator == 1 for seconds in wanted):
             return Frame(cycle, steps)
-    return Frame(cycle, usual)
+    return Frame(cycle, usual[0])
 
 
 def numbered(sizes: Mapping[int, int]) -> Dict[Tuple[int, int], int]:
