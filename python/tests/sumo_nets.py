@@ -57,7 +57,8 @@ def write(folder, name, text):
 
 def grid(folder, *options):
     """A grid of three by three junctions with signals."""
-    run(["netgenerate", "--grid", "--grid.number", "3", "--grid.length", "200", "--grid.attach-length", "150",
+    number = [] if "--grid.number" in options else ["--grid.number", "3"]
+    run(["netgenerate", "--grid", *number, "--grid.length", "200", "--grid.attach-length", "150",
          "--default-junction-type", "traffic_light", "--no-turnarounds", "true", "-o", "grid.net.xml", *options],
         folder)
     return os.path.join(folder, "grid.net.xml")

@@ -135,6 +135,10 @@ class Grids(FromSumo):
         self.assertTrue(self.told("signals A0 have a cycle of 90 s, and the sheets 60"))
         self.made(net, "--cycle", "20", status=2)
 
+    def test_more_than_a_deck_takes(self):
+        self.made(grid(self.folder, "--grid.number", "15"), status=2)
+        self.assertTrue(self.told("the network has 225 junctions with signals, and a deck 200 at most", "--junctions"))
+
     def test_a_packed_network(self):
         net = grid(self.folder)
         with open(net, "rb") as file, gzip.open(net + ".gz", "wb") as packed:

@@ -65,8 +65,8 @@ class Program:
 
 def arms_of(net: NetFile, program: Program, tell: Tell) -> List[Arm]:
     """The arms of a program of signals, in the file's order of edges."""
-    starts = {one.start for one in net.at_signals[program.logic.name]}
-    arms = [arm_of(edge, net.driven(edge.name), program, tell) for edge in net.edges.values() if edge.name in starts]
+    starts = sorted({one.start for one in net.at_signals[program.logic.name]}, key=net.edge_places.__getitem__)
+    arms = [arm_of(net.edges[edge], net.driven(edge), program, tell) for edge in starts]
     return [arm for arm in arms if arm.links]
 
 

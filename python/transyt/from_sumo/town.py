@@ -2,7 +2,7 @@
 
 from dataclasses import dataclass
 from fractions import Fraction
-from typing import Dict, FrozenSet, List, Mapping, Optional, Tuple
+from typing import Dict, FrozenSet, List, Mapping, Optional, Sized, Tuple
 
 from ..faults import Fault
 from ..sheets.tables import folded
@@ -76,15 +76,22 @@ def town_of(net: NetFile, wanted: Optional[List[str]], cycle: Optional[int], tel
             tell(f"signals {logic.name} have fewer than two stages, and are left out")
     if not logics:
         raise Fault("the network has no junction with signals of at least two stages")
+    check_size(logics, [])
     seconds = cycle or cycle_of_most(logics)
     junctions = tuple(junction_of(net, logic, number, seconds, tell) for number, logic in enumerate(logics, 1))
     times = [time for one in junctions if one.has_times for time in times_of(one)]
     numbers = numbered({one.number: len(one.links) for one in junctions})
-    if len(junctions) > MOST_JUNCTIONS or len(numbers) > MOST_LINKS:
-        raise Fault(f"the network has {len(junctions):,} junctions with signals and {len(numbers):,} links, and a deck "
-                    f"{MOST_JUNCTIONS} and {MOST_LINKS:,} at most: --junctions takes a part")
+    check_size(junctions, numbers)
     goals, ways = onward(net, junctions, tell)
     return Town(net, frame_of(seconds, times), junctions, numbers, goals, ways)
+
+
+def check_size(junctions: Sized, links: Sized) -> None:
+    """Refuses what is too large for a deck."""
+    for name, count, most in (("junctions with signals", len(junctions), MOST_JUNCTIONS),
+                              ("links", len(links), MOST_LINKS)):
+        if count > most:
+            raise Fault(f"the network has {count:,} {name}, and a deck {most:,} at most: --junctions takes a part")
 
 
 def cars_at(net: NetFile, logic: Logic) -> FrozenSet[int]:

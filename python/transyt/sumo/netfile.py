@@ -117,6 +117,11 @@ class NetFile:
                 found.setdefault(one.signals, []).append(one)
         return {name: tuple(connections) for name, connections in found.items()}
 
+    @cached_property
+    def edge_places(self) -> Mapping[str, int]:
+        """The place of each edge in the file."""
+        return {name: place for place, name in enumerate(self.edges)}
+
     def takes_cars(self, connection: Connection) -> bool:
         """Whether a connection leads from a lane for cars to one."""
         ends = ((connection.start, connection.from_lane), (connection.end, connection.to_lane))
