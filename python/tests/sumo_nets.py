@@ -57,10 +57,10 @@ def write(folder, name, text):
 
 def grid(folder, *options):
     """A grid of three by three junctions with signals."""
-    number = [] if "--grid.number" in options else ["--grid.number", "3"]
-    run(["netgenerate", "--grid", *number, "--grid.length", "200", "--grid.attach-length", "150",
-         "--default-junction-type", "traffic_light", "--no-turnarounds", "true", "-o", "grid.net.xml", *options],
-        folder)
+    usual = {"--grid.number": "3", "--no-turnarounds": "true"}
+    words = [word for name, value in usual.items() if name not in options for word in (name, value)]
+    run(["netgenerate", "--grid", *words, "--grid.length", "200", "--grid.attach-length", "150",
+         "--default-junction-type", "traffic_light", "-o", "grid.net.xml", *options], folder)
     return os.path.join(folder, "grid.net.xml")
 
 

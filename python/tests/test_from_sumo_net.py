@@ -135,6 +135,14 @@ class Grids(FromSumo):
         self.assertTrue(self.told("signals A0 have a cycle of 90 s, and the sheets 60"))
         self.made(net, "--cycle", "20", status=2)
 
+    def test_nobody_turns_back_at_the_end_of_a_street(self):
+        made = self.made(grid(self.folder, "--no-turnarounds", "false"))
+        goals = {(row["junction"], row["arm"], row["turn"]): (row["to junction"], row["to arm"])
+                 for row in made["movements"]}
+        self.assertEqual(goals["8", "B1C1", "s"], ("", ""))
+        self.assertEqual(goals["5", "A1B1", "t"], ("2", "B1A1"))
+        self.assertEqual(len(made["ways"]), 24)
+
     def test_more_than_a_deck_takes(self):
         self.made(grid(self.folder, "--grid.number", "15"), status=2)
         self.assertTrue(self.told("the network has 225 junctions with signals, and a deck 200 at most", "--junctions"))
