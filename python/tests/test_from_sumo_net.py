@@ -88,6 +88,7 @@ class Grids(FromSumo):
         self.assertEqual([row["stages"] for row in links], ["3", "3 4", "1", "1 2", "1", "1 2", "3", "3 4"])
         self.assertEqual(len(made["ways"]), 24)
         self.assertTrue(self.told("signals B1", "stage 2", "6 s of green"))
+        self.assertEqual([row["least"] for row in made["stages"] if row["junction"] == "5"], ["7", "6", "7", "6"])
         self.assertTrue(self.told("B2B1", "gives way in some stages alone"))
         self.assertEqual(made["gives"], [])
 

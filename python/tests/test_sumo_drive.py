@@ -11,6 +11,7 @@ from transyt.faults import Fault
 from transyt.sumo.calibrate import Green, headway_of, one_stop_line, usual_green
 from transyt.sumo.drive import LinkMeasures, Measures, read_measures
 from transyt.sumo.figures import LinkPlan, PlanFigures
+from transyt.sumo.lanes import lane_count
 from transyt.sumo.plans import Plan, check_same_demand, correlation, is_apart, link_table, total_table
 
 DECK = """FORM 2
@@ -89,6 +90,10 @@ class Calibration(unittest.TestCase):
     def test_stop_line_has_the_green(self):
         deck = one_stop_line(Green(read_deck(DECK).frame, 12, 0, 1750))
         self.assertEqual(usual_green(deck).shown, 12)
+
+    def test_stop_line_has_one_lane_however_much_it_carries(self):
+        deck = one_stop_line(Green(read_deck(DECK).frame, 12, 0, 3500))
+        self.assertEqual(lane_count(deck, deck.link(1)), 1)
 
     def test_headway_lies_between_two_that_were_tried(self):
         tried = []
