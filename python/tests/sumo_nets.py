@@ -42,7 +42,8 @@ ROUND = ("rw", "rs", "re", "rn")  # the way round, where traffic drives on the r
 
 def run(words, folder):
     """Runs a program of SUMO."""
-    done = subprocess.run(words, cwd=folder, capture_output=True, text=True)
+    home = {"SUMO_HOME": "/usr/share/sumo"} if os.path.isdir("/usr/share/sumo") else {}
+    done = subprocess.run(words, cwd=folder, capture_output=True, text=True, env={**home, **os.environ})
     if done.returncode:
         raise AssertionError(f"{words[0]} failed: {done.stderr}")
 

@@ -10,7 +10,7 @@ class Fractions(unittest.TestCase):
     """A window of 40 minutes: each vehicle is one and a half an hour."""
 
     def test_a_movement_stays_a_fraction(self) -> None:
-        """7 ahead and 7 to the left are 10.5 and 10.5, and 21 together; 5 alone are 7.5, which is 8, as its ENTRY is."""
+        """7 ahead and 7 to the left are 10.5 each, and 21 together; 5 alone are 7.5, which is 8, as its ENTRY is."""
         tables = two_junctions()
         tables["counts"] = table("junction,arm,from,minutes,ahead,left,right\n1,west,08:00,40,7,7,\n"
                                  "1,south,08:00,40,,,5\n2,west,08:00,40,11,,\n2,north,08:00,40,,3,")
