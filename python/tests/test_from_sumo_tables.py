@@ -106,20 +106,32 @@ class Links(unittest.TestCase):
 
 
 class Ways(unittest.TestCase):
-    def test_metres_and_seconds_through_junctions(self):
-        # 100 m and 20 m, then 50 m at 5 m/s within a junction without signals, and 200 m
+    def made(self, middle=""):
+        """Two junctions with signals and one between them: 20 m and 100 m, 50 m at 5 m/s within it, and 200 m."""
         far = [edge("c", "c", "K"), edge("y", "K", "y"), edge("m", "J", "M"), edge("n", "M", "K", length=200.0),
                inside(":M_0", 50.0, 5.0), inside(":J_0", 20.0, 10.0)]
-        made, told = tables(
-            edge("a", "a", "J"), edge("b", "b", "J"), *far, phases("Gr", "rG"), phases("Gr", "rG", name="K"),
+        return tables(
+            edge("a", "a", "J"), edge("b", "b", "J"), *far, phases("Gr", "rG"), phases("Gr", "rG", name="K"), middle,
             junction("J", "a_0 b_0"), junction("K", "n_0 c_0"), junction("M", "m_0", kind="priority"),
             turn("a", "m", 0, 0, via=":J_0_0"), turn("b", "m", 0, 1, via=":J_0_0"),
-            turn("m", "n", 0, None, via=":M_0_0"), turn("n", "y", 0, 0).replace('tl="J"', 'tl="K"'),
+            turn("m", "n", 0, 0 if middle else None, via=":M_0_0").replace('tl="J"', 'tl="M"'),
+            turn("n", "y", 0, 0).replace('tl="J"', 'tl="K"'),
             turn("c", "y", 0, 1).replace('tl="J"', 'tl="K"'))
+
+    def test_metres_and_seconds_through_junctions(self):
+        made, told = self.made()
         self.assertEqual([(row["from junction"], row["to junction"], row["to arm"], row["metres"])
                           for row in made["ways"]], [("1", "2", "n", "370")])
         self.assertAlmostEqual(3.6 * 370 / float(made["ways"][0]["km/h"]), 2 + 10 + 10 + 20, delta=0.01)
         self.assertFalse([line for line in told if "way" in line])
+
+    def test_signals_of_one_stage_are_as_none(self):
+        made, told = self.made(phases("G", name="M"))
+        self.assertEqual(made["ways"], self.made()[0]["ways"])
+        self.assertEqual([row["name"] for row in made["junctions"]], ["J", "K"])
+        self.assertIn("signals M have fewer than two stages, and are left out", told)
+        made, _ = self.made(phases("G", "r", name="M"))
+        self.assertEqual(made["ways"], self.made()[0]["ways"])
 
 
 if __name__ == "__main__":

@@ -71,9 +71,10 @@ class DrawMap(unittest.TestCase):
     def test_nodes_are_as_far_apart_as_the_link_is_long(self):
         self.assertAlmostEqual(math.dist(self.drawn.places["node1"], self.drawn.places["node2"]), 21 * 13.9, 3)
 
-    def test_turns(self):
-        self.assertEqual(sorted(self.drawn.turns), [("link11", "link21"), ("link11", "out11"), ("link12", "link21"),
-                                                    ("link12", "out12"), ("link21", "out21")])
+    def test_turns_with_their_flows(self):
+        self.assertEqual(self.drawn.turns, {("link11", "link21"): 450, ("link11", "out11"): 150,
+                                            ("link12", "link21"): 150, ("link12", "out12"): 150,
+                                            ("link21", "out21"): 600})
 
     def test_cars_leave_by_another_road_than_they_came(self):
         self.assertNotEqual(self.drawn.roads["out11"].end, self.drawn.roads["link11"].start)
