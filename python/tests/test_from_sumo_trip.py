@@ -19,7 +19,7 @@ from transyt.from_sumo.tables import tables_of
 from transyt.from_sumo.town import town_of
 from transyt.sumo.drive import put_signals
 from transyt.sumo.giving import as_drawn
-from transyt.sumo.netfile import read_net
+from transyt.sumo.netfile import read_net, read_root
 from transyt.sumo.network import build
 from transyt.sumo.roads import mean_cruise
 
@@ -137,7 +137,11 @@ class RoundTrip(unittest.TestCase):
                 file.write(THREE_STAGES)
             with unittest.mock.patch("transyt.words.sumo.write"):
                 self.assertEqual(main(["sumo", "look", deck, town, "--program", PROGRAM]), 0)
-            self.assertEqual(main(["from-sumo", os.path.join(town, "town.net.xml"), "-o", sheets]), 0)
+            net, signals = (os.path.join(town, name) for name in ("town.net.xml", "signals.add.xml"))
+            # the same phases under two names, since SUMO takes both files together
+            self.assertEqual(read_net(net).logics["node1"].program, "0")
+            self.assertEqual([logic.get("programID") for logic in read_root(signals)], ["plan", "plan"])
+            self.assertEqual(main(["from-sumo", net, "-o", sheets]), 0)
             with open(os.path.join(sheets, "stages.csv"), encoding="utf-8") as file:
                 rows = [row.split(",") for row in file.read().split()[1:]]
         # AT is at 4, 28 and 48 s at junction 1, whose stages follow one another from the first on
