@@ -117,7 +117,7 @@ class Who(unittest.TestCase):
         """Two megabytes are 413 before they are read, a chunked body 411, no JSON 400."""
         self.assertEqual(self.ask("POST", "/edit", None, Content_Length="2000000")[0], 413)
         self.assertEqual(self.ask("POST", "/edit", None, Transfer_Encoding="chunked", Content_Length="")[0], 411)
-        self.assertEqual(self.ask("POST", "/edit", b"{}", Transfer_Encoding="chunked")[0], 411)
+        self.assertEqual(self.ask("POST", "/edit", b"{}", Transfer_Encoding="chunked", Content_Length="2")[0], 411)
         self.assertEqual(self.ask("POST", "/edit", b"[1]")[0], 400)
         self.assertEqual(self.ask("POST", "/edit", b"[" * 100_000)[0], 400)
         self.assertEqual(self.ask("POST", "/edit", None, Content_Length="9" * 5_000)[0], 413)
