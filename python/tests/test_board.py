@@ -46,6 +46,18 @@ class Changes(unittest.TestCase):
         self.assertEqual(self.total(), 47853157)
         self.assertEqual(index_of(self.board.deck_text()), 47853157)
 
+    def test_differences_to_the_deck_of_the_call(self) -> None:
+        """Of the totals and of each link, as now less then; a stage is shown where it begins in the common cycle."""
+        first = self.board.view()
+        self.assertEqual([total["change"] for total in first["totals"]], [""] * 4)
+        now = self.board.edit(0, Wanted(4, 0, Fraction(16)))
+        self.assertEqual(now["totals"][0]["change"], f"\u2212{first['totals'][0]['raw'] - 47853157}")
+        for before, after in zip(first["links"], now["links"]):
+            change = after["raw"]["DELAY"] - before["raw"]["DELAY"]
+            self.assertEqual(after["delay_change"][:1], "+" if change > 0 else "\u2212" if change else "")
+        stages = [[node["stages"][1]["at"] for node in view["nodes"] if node["number"] == 4] for view in (first, now)]
+        self.assertEqual((stages[1][0] - stages[0][0]) % 80, 16)
+
     def test_a_stage_begins_in_the_common_cycle(self) -> None:
         """With the offset of 16 s a stage that is to begin at 70 s has its change at 54 s, step 27."""
         self.board.edit(0, Wanted(4, 0, Fraction(16)))
@@ -73,7 +85,8 @@ class Changes(unittest.TestCase):
         before = self.board.deck_text()
         with self.assertRaises(Fault) as caught:
             self.board.edit(0, Wanted(4, 2, Fraction(2)))
-        self.assertRegex(str(caught.exception), "code 1[89]")
+        self.assertRegex(str(caught.exception),
+                         r"^stage 2 of junction 4 can't begin at 2 s: a stage .* \(code 1[89]\)$")
         self.assertEqual(self.board.deck_text(), before)
 
     def test_another_tab_was_quicker(self) -> None:

@@ -8,18 +8,23 @@ import subprocess
 import sys
 import tempfile
 import unittest
+from dataclasses import replace
 from fractions import Fraction
 from typing import Dict, List
+from unittest import mock
 
 import support
 from sheet_tables import table, two_junctions, write_tables
 from support import PROGRAM, ROOT, needs_program
+from test_sheets import made
 from transyt.day import begin_of, least_turn
+from transyt.day import turned as turned_toward
 from transyt.deck import Deck, read_deck
 from transyt.faults import Fault
 from transyt.filing.checking import Check
 from transyt.program import Program
 from transyt.session import Session
+from transyt.sheets import Window
 from transyt.stress import read_factor, reserve, scaled, stressed
 
 SIGNED = ["--title", "Two", "--by", "A. Engineer", "--date", "2026-04-02"]
@@ -42,6 +47,27 @@ class Turning(unittest.TestCase):
         deck = read_deck(support.THREE)
         for steps in (0, 1, 5, 11):
             self.assertEqual(least_turn(turned(deck, steps), deck), -steps % 12)
+
+    def test_of_equal_turns_the_least(self) -> None:
+        """One of two junctions half a cycle late: any turn moves them by half a cycle together."""
+        deck = read_deck(support.THREE)
+        two = replace(deck, nodes=deck.nodes[:2], links=())
+        late = replace(two, nodes=(replace(two.nodes[0], offset=6), two.nodes[1]))
+        self.assertEqual(least_turn(late, two), 0)
+
+    def test_what_is_turned(self) -> None:
+        """All offsets by the turn, then it is climbed on, and told; not where the cycle is another, nor the first."""
+        deck, said = read_deck(support.THREE), []
+        late, climbed = turned(deck, 5), replace(deck, comments=("* climbed",))
+        day = mock.Mock(tell=said.append)
+        with mock.patch("transyt.day.climb_to_local", return_value=(climbed, 77)) as climb:
+            self.assertIs(turned_toward(day, "pm", late, deck), climbed)
+            self.assertEqual(climb.call_args.args[0], deck)
+            self.assertEqual(said, ["pm: turned by 7 steps toward the period before; INDEX 77"])
+            other = replace(deck, frame=replace(deck.frame, cycle=90, step_count=18))
+            for before in (None, other, late):
+                self.assertIs(turned_toward(day, "pm", late, before), late)
+            self.assertEqual(climb.call_count, 1)
 
     def test_the_sum_over_the_junctions_is_least(self) -> None:
         """Two of three junctions 2 steps late and one at its place: 2 back leaves 2, which is less than 4."""
@@ -133,8 +159,14 @@ class Day(unittest.TestCase):
         self.assertEqual(self.day("--one-cycle").returncode, 2)
         done = self.day("--one-cycle", "--cycles", "60", "80", "20")
         self.assertEqual(done.returncode, 0, done.stderr)
-        self.assertIn("one cycle for all periods", done.stderr)
-        self.assertEqual(len({deck.frame.cycle for deck in self.periods().values()}), 1)
+        sums: Dict[int, int] = {}
+        for deck in (made(self.tables, Window(60 * hour + minute, 60)).deck for hour, minute in ((7, 45), (16, 0))):
+            for cycle in (60, 80):
+                lines = Program(PROGRAM).answer(["cycles", 1, cycle, cycle, 1], str(deck.bare()))
+                sums[cycle] = sums.get(cycle, 0) + int(next(line for line in lines if " TO " in line).split(" ")[-1])
+        best = min(sums, key=lambda cycle: sums[cycle])
+        self.assertIn(f"one cycle for all periods: {best} s, the sum of their indexes is {sums[best]}", done.stderr)
+        self.assertEqual({deck.frame.cycle for deck in self.periods().values()}, {best})
 
 
 @needs_program

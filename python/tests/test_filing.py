@@ -15,6 +15,7 @@ from transyt.deck import cards_of, read_deck
 from transyt.edits import moves
 from transyt.faults import Fault
 from transyt.filing.checking import Check, Finding
+from transyt.filing.commands import FiledReport
 from transyt.filing.folder import SUMS, read_filed, sum_of, sums_text
 from transyt.filing.writing import Asked, made_files, write_folder
 from transyt.program import Program
@@ -138,6 +139,14 @@ class Filing(unittest.TestCase):
         files["plan.deck"] += b"OFFSET 2 5\n"
         files["plan.report"] = self.program.ask(["run"], files["plan.deck"].decode()).text.encode()
         self.assertIn("after END stands OFFSET 2 5", self.failing(files))
+
+    def test_a_report_that_goes_on(self) -> None:
+        """Past its last answer."""
+        lines = self.files["plan.report"].decode().split("\n")[:-1]
+        FiledReport(self.deck, lines)
+        for more in ([*lines, "INDEX 1"], lines[:-1], ["ACCEPTED 1 1", *lines[1:]]):
+            with self.assertRaises(Fault):
+                FiledReport(self.deck, more)
 
     def test_lines_of_the_sums(self) -> None:
         """One more, or another order, is found."""

@@ -2,20 +2,21 @@
 
 import re
 import unittest
+from dataclasses import replace
 from typing import List
 from xml.etree import ElementTree
 
 import support
 from support import PROGRAM, needs_program
 from transyt import pictures
-from transyt.comparing import DIFFERENT, as_csv, as_text, compared
+from transyt.comparing import DIFFERENT, as_csv, as_text, cells_of, compared, totals_of
 from transyt.deck import read_deck
 from transyt.faults import Fault
 from transyt.html import CSS, SCRIPT, digest
-from transyt.page import page
+from transyt.page import ended_text, page, seconds_text
 from transyt.pictures.climbing import looks_of
 from transyt.pictures.roads import heights_of, lengths_of, to_scale
-from transyt.report import Step
+from transyt.report import Certificate, Move, Step
 from transyt.edits import Edit
 from transyt.session import Session
 
@@ -187,6 +188,42 @@ class Pages(unittest.TestCase):
                 self.assertEqual(found[stage.place("AT")], stage.raw["AT"])
                 self.assertEqual(found[f"{stage.place('AT')}+INTERGREEN"],
                                  (stage.raw["AT"] + stage.raw["INTERGREEN"]) % 12)
+
+    def test_greens_begin_round_the_cycle(self) -> None:
+        """AT 11 and an intergreen of 1 step of 12: green begins at 0."""
+        with Session(support.THREE.replace("NODE 1 0", "NODE 1 11"), 1, PROGRAM) as town:
+            self.assertIn('<data value="0" class="TIMING NODE 1 STAGE 1 AT+INTERGREEN"', page(town))
+
+    def test_seconds_are_rounded_a_half_up(self) -> None:
+        """33 s in 48 steps: a step is 0.6875 s, three are 2.0625."""
+        deck = read_deck(support.THREE.replace("CYCLE 60 12", "CYCLE 33 48"))
+        self.assertEqual([seconds_text(deck, steps) for steps in (0, 1, 3, 16, 48)],
+                         ["0", "0.688", "2.063", "11", "33"])
+
+    def test_a_queue_longer_than_its_link_is_marked(self) -> None:
+        """Than the shortest way to it."""
+        text = support.THREE.replace("* METRES 21 11 340", "* METRES 21 11 340\n* METRES 21 12 2")
+        with Session(text, 1, PROGRAM) as town:
+            self.assertIn("longer than the link", page(town))
+        self.assertNotIn("longer than the link", page(self.town))
+
+    def test_how_it_ended(self) -> None:
+        """A move with the same index doesn't lower it; one with less does, and is counted."""
+        moves = tuple(Move(place, Edit("OFFSET", (1, place)), index) for place, index in enumerate((9, None, 10)))
+        self.assertIn("LOCAL", ended_text(Certificate(moves, 9, ())))
+        self.assertIn(">1</data> listed moves lower", ended_text(Certificate(moves, 10, ())))
+
+    def test_differences_have_their_sign(self) -> None:
+        """The second number less the first; none where one has no green."""
+        with Session(support.THREE.replace("NODE 2 3", "NODE 2 9"), 1, PROGRAM) as town:
+            comparison = compared(self.town, town)
+            more = town.index() - self.town.index()
+        self.assertEqual(totals_of(comparison)[2][3], f"{more:+d}")
+        row = comparison.rows[0]
+        assert row.one and row.other
+        closed = replace(row, other=replace(row.other, raw={**row.other.raw, "SATURATION": 999_999}))
+        self.assertEqual(cells_of(closed, "SATURATION", str)[2], "")
+        self.assertNotEqual(cells_of(closed, "DELAY", str)[2], "")
 
     def test_a_page_needs_no_network(self) -> None:
         """No address but the name of SVG; its policy allows its own style sheet and script alone."""

@@ -34,6 +34,12 @@ class Wanted:
     stage: int  # 0 for the offset
     seconds: Fraction
 
+    def refused(self) -> str:
+        """What can't be, where the program refuses it."""
+        seconds = f"{float(self.seconds):g} s"
+        return f"stage {self.stage} of junction {self.node} can't begin at {seconds}" if self.stage else \
+            f"the offset of junction {self.node} can't be {seconds}"
+
 
 class Board:
     """A plan that is changed by hand."""
@@ -68,7 +74,7 @@ class Board:
         with self._changing(version):
             edit = edit_of(self._kept, wanted)
             change = [(edit, inverse(self._kept, edit))]
-            self._do([edit])
+            self._do([edit], wanted.refused())
             self._undo.append(change)
             self._redo.clear()
             return self._next("")
@@ -151,7 +157,7 @@ class Board:
         """The lock for one change from a state."""
         return _Changing(self, version)
 
-    def _do(self, edits: Sequence[Edit]) -> None:
+    def _do(self, edits: Sequence[Edit], refused_what: str = "") -> None:
         """Makes edits one after another, or none; the board keeps the deck after all of them."""
         for place, edit in enumerate(edits):
             try:
@@ -159,7 +165,7 @@ class Board:
             except Refused as refused:
                 if place:
                     self._start_child()
-                raise Fault(f"{edit} is refused: {said_of(refused)}") from refused
+                raise Fault(f"{refused_what or f'{edit} is refused'}: {said_of(refused)}") from refused
         for edit in edits:
             self._kept = after(self._kept, edit)
 
