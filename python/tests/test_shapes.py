@@ -3,7 +3,7 @@
 import re
 import subprocess
 import unittest
-from typing import Dict, List, Tuple
+from typing import Dict, List, Sequence, Tuple
 from xml.etree import ElementTree
 
 import support
@@ -49,10 +49,18 @@ class Shapes(unittest.TestCase):
 
     def test_bars_are_go(self) -> None:
         """Each step of each link lies in a bar that says whether GO is above 0 there, departures or not."""
-        for link in (11, 21, 31):
-            go = self.town.profile(link).go
+        with Session(support.THREE.replace("LINK 12 1 300", "LINK 12 1 0"), 1, PROGRAM) as town:
+            self.assertEqual(max(town.profile(12).departures), 0)
+            self.check_bars(town, (12, 21, 31))
+        self.check_bars(self.town, (11, 21, 31))
+
+    def check_bars(self, town: Session, route: Sequence[int]) -> None:
+        """The bars of a route."""
+        svg = pictures.road(town, [route])
+        for link in route:
+            go = town.profile(link).go
             said = [False] * 12
-            for _, title in shapes(self.svg, "rect"):
+            for _, title in shapes(svg, "rect"):
                 found = re.fullmatch(rf"link {link} can go from ([0-9]+) to ([0-9]+) s \(GO\)", title)
                 if found:
                     said[int(found[1]) // 5:int(found[2]) // 5] = [True] * ((int(found[2]) - int(found[1])) // 5)
