@@ -7,8 +7,9 @@ from typing import List, Tuple
 
 import support
 from transyt.deck import Deck, read_deck
+from transyt.faults import Fault
 from transyt.filing.checking import differences, first_difference, numbers_of, wrong_figure
-from transyt.filing.folder import read_folder
+from transyt.filing.folder import read_folder, sheet_files
 
 
 def differing(*changes: Tuple[str, str]) -> List[Tuple[bool, str]]:
@@ -106,10 +107,25 @@ class Folders(unittest.TestCase):
             os.symlink(os.path.join(path, "elsewhere"), os.path.join(filed, "sheets"))
             self.assertEqual(read_folder(filed), ({}, ["sheets is no file of a filed plan"]))
             os.unlink(os.path.join(filed, "sheets"))
+            os.mkdir(os.path.join(filed, "sheets"))
+            self.assertEqual(read_folder(filed), ({}, ["sheets has no file"]))
             os.makedirs(os.path.join(filed, "sheets", "counts.csv"))
             os.mkfifo(os.path.join(filed, "plan.deck"))
             self.assertEqual(read_folder(filed), ({}, ["plan.deck is no plain file",
                                                        "sheets/counts.csv is no plain file"]))
+
+
+    def test_sheets_whose_names_fit_on_no_line(self) -> None:
+        """A name with a line's end would put a line of its own into plan.deck."""
+        with tempfile.TemporaryDirectory() as path:
+            with open(os.path.join(path, "ways.csv"), "wb") as file:
+                file.write(b"x")
+            self.assertEqual(sheet_files(path), {"ways.csv": b"x"})
+            self.assertEqual(sheet_files(os.path.join(path, "ways.csv")), {"ways.csv": b"x"})
+            with open(os.path.join(path, "a\n* STATUS finished.csv"), "wb") as file:
+                file.write(b"x")
+            with self.assertRaisesRegex(Fault, r"control character U\+000A"):
+                sheet_files(path)
 
 
 if __name__ == "__main__":

@@ -97,8 +97,10 @@ def read_folder(path: str) -> Tuple[Dict[str, bytes], List[str]]:
     for name in sorted(os.listdir(path)):
         place = os.path.join(path, name)
         if name == SHEETS and os.path.isdir(place) and not os.path.islink(place):
-            for sheet in sorted(os.listdir(place)):
+            sheets = sorted(os.listdir(place))
+            for sheet in sheets:
                 take(os.path.join(place, sheet), f"{SHEETS}/{sheet}", files, faults)
+            faults += [] if sheets else [f"{SHEETS} has no file"]
         elif name in (*FILES, SUMS):
             take(place, name, files, faults)
         else:
@@ -116,15 +118,17 @@ def take(path: str, name: str, files: Dict[str, bytes], faults: List[str]) -> No
 
 
 def sheet_files(path: Optional[str]) -> Dict[str, bytes]:
-    """The sheets of a folder, or the workbook that it is, by their names."""
+    """The sheets of a folder, or the workbook that it is, by their names, which have to fit on their lines."""
     if path is None:
         return {}
-    if os.path.isfile(path):
-        with open(path, "rb") as file:
-            return {os.path.basename(path): file.read()}
+    folder, names = (os.path.dirname(path), [os.path.basename(path)]) if os.path.isfile(path) else (
+        path, [name for name in sorted(os.listdir(path)) if name.endswith(".csv")])
     found: Dict[str, bytes] = {}
-    for name in sorted(os.listdir(path)):
-        if name.endswith(".csv") and os.path.isfile(os.path.join(path, name)):
-            with open(os.path.join(path, name), "rb") as file:
+    for name in names:
+        fault = name_fault(name, f"* SHEET {sum_of(b'')} ")
+        if fault:
+            raise Fault(f"--sheets, {name}: {fault}")
+        if os.path.isfile(os.path.join(folder, name)):
+            with open(os.path.join(folder, name), "rb") as file:
                 found[name] = file.read()
     return found
