@@ -110,7 +110,7 @@ class Browser(unittest.TestCase):
             if text:
                 self.open(text)
             taken = min(self.drag("[data-key='offset-3']", pixels) for pixels in (30, 40, 50, -30, -40))
-            self.assertLess(taken, most * (4 if os.getloadavg()[0] > 2 * (os.cpu_count() or 1) else 1))
+            self.assertLess(taken, most * (4 if os.getloadavg()[0] > (os.cpu_count() or 1) / 2 else 1))
         bars = self.driver.find_elements("css selector", "#saturation svg > rect > title")
         self.assertEqual(len(bars), 60)
 
