@@ -14,6 +14,6 @@ filed() {
 }
 
 ./plan best examples/guide/two-junctions.deck --cycles 70 120 10 --workers 2 >"$work/guide.deck" &&
-    filed guide 'Market Street and Mill Road, morning peak' "$work/guide.deck" --sheets examples/guide &&
+    filed guide 'Bridge Street and Market Street, morning peak' "$work/guide.deck" --sheets examples/guide &&
     ./plan best examples/arterial.deck --starts 0 --kicks 0 --workers 2 >"$work/arterial.deck" &&
     filed arterial 'The arterial of six junctions, climbed until LOCAL' "$work/arterial.deck"

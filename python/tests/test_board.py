@@ -86,7 +86,7 @@ class Changes(unittest.TestCase):
         with self.assertRaises(Fault) as caught:
             self.board.edit(0, Wanted(4, 2, Fraction(2)))
         self.assertRegex(str(caught.exception),
-                         r"^stage 2 of junction 4 can't begin at 2 s: a stage .* \(code 1[89]\)$")
+                         r"^stage 2 of junction 4 can't begin at 2 s: .*stage.* \(code 1[89]\)$")
         self.assertEqual(self.board.deck_text(), before)
 
     def test_another_tab_was_quicker(self) -> None:

@@ -123,7 +123,7 @@ class Browser(unittest.TestCase):
         box = stage.rect
         ActionChains(self.driver).click_and_hold(stage).move_by_offset(-400, 0).release().perform()
         self.assertTrue(wait_until(lambda: self.find("#note").is_displayed()))
-        self.assertIn("a stage shorter than its intergreen plus its least green", self.find("#note").text)
+        self.assertRegex(self.find("#note").text, r"stage.*intergreen.*green.*\(code 19\)")
         self.assertEqual(self.find("#message").text, self.find("#note").text)
         self.assertLess(abs(self.find("#note").rect["y"] - box["y"]), 60)
         self.assertEqual(self.index(), before)
