@@ -90,13 +90,9 @@ def check_words(checks: Checks, draw: Random) -> None:
         checks.same('words that are none', [text.split()], b'CYCLE 60 10 1 60 100\nEND\n')
 
 
-def check_version(checks: Checks) -> bool:
-    """Compares the word `version`; a program that hasn't it hasn't the fourth number of `starts` either."""
-    if checks.run(['version'], b'')[1] == 1:
-        print('this program has no word version: it and the fourth number of starts are left out')
-        return False
+def check_version(checks: Checks) -> None:
+    """Compares the word `version`."""
     checks.same('the version', [['version']])
-    return True
 
 
 def check_lengths(checks: Checks) -> None:
@@ -122,7 +118,7 @@ def check_faults(checks: Checks) -> None:
         checks.tell(f'a write that fails, {words[0]}', (b'', done.returncode), (b'', 4))
 
 
-def check_random(checks: Checks, name: str, draw: Random, has_from: bool) -> None:
+def check_random(checks: Checks, name: str, draw: Random) -> None:
     """One random deck with its commands, and for each word that takes a deck."""
     draft = decks.Draft(draw)
     cards, failed = [*draft.cards, 'END'], checks.failed
@@ -131,7 +127,7 @@ def check_random(checks: Checks, name: str, draw: Random, has_from: bool) -> Non
     for _ in range(3):
         checks.same(name, [['run']], decks.written(draw, [*decks.spoiled(draft, cards), 'DECK', 'INDEX']))
     C, low = draft.cycle, max(30, draft.cycle - 20)
-    first = [str(draw.choice([0, 1, 3, 997]))] if has_from and draw.random() < 0.5 else []
+    first = [str(draw.choice([0, 1, 3, 997]))] if draw.random() < 0.5 else []
     rows = [['scan', str(C), str(min(240, C + 20)), '20'], ['starts', str(draw.randrange(100)), '3', *first],
             ['cycles', str(low), str(min(240, C + 20)), draw.choice(['5', '10'])]]
     spoiled = decks.spoiled(draft, cards) if draw.random() < 0.2 else cards
@@ -149,11 +145,11 @@ def main(program: str = BUILT, count: str = '20', seed: str = '1') -> int:
     check_stored(checks)
     if os.path.exists(program):
         draw = Random(int(seed))
-        has_from = check_version(checks)
+        check_version(checks)
         check_words(checks, draw)
         check_lengths(checks)
         check_faults(checks)
-        for place in range(int(count)): check_random(checks, f'deck {place + 1} of seed {seed}', draw, has_from)
+        for place in range(int(count)): check_random(checks, f'deck {place + 1} of seed {seed}', draw)
     else: print(f'{program} is not built: no random decks')
     print(f'{checks.passed} passed, {checks.failed} failed')
     return 1 if checks.failed else 0
