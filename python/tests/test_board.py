@@ -146,7 +146,7 @@ class Changes(unittest.TestCase):
         climb = self.board._session.climb()
         climb.run()
         climb.steps[-1] = replace(climb.steps[-1], index=climb.steps[-1].index - 1)
-        self.assertIn("the plan from before it stands", self.board._after_climb(climb, "LOCAL"))
+        self.assertIn("the plan from before it stands", self.board._after_climb(climb, "LOCAL")[0])
         self.assertEqual((self.board.deck_text(), str(self.board._session.deck())), (before, before))
 
     def test_start_again(self) -> None:
@@ -280,6 +280,18 @@ class Stopping(unittest.TestCase):
         self.assertLess(board.view()["totals"][0]["raw"], first)
         board.undo(board.version)
         self.assertEqual(board.view()["totals"][0]["raw"], first)
+
+    def test_all_steps_of_an_ended_climb_are_listed(self) -> None:
+        """The list has every step, its last index is that of the plan, and the next change ends it."""
+        board = Board(TOWN, 1, PROGRAM, [])
+        self.addCleanup(board.close)
+        board.climb(0)
+        self.assertTrue(wait_until(lambda: not board.view()["climbing"], 20))
+        view = board.view()
+        self.assertIn(f" {len(view['took'])} steps", view["message"])
+        self.assertEqual(view["took"][-1].rsplit(" ", 1)[-1], str(view["totals"][0]["raw"]))
+        board.undo(board.version)
+        self.assertEqual(board.view()["took"], [])
 
 
 if __name__ == "__main__":

@@ -64,10 +64,9 @@ class Board:
         return {**self._view, **self.took()}
 
     def took(self) -> Shown:
-        """How far a climb is: whether one goes, and its steps so far."""
+        """How far a climb is: whether one goes, and its steps so far; after it all of them, until the next change."""
         climb = self._climb
-        steps = [] if climb is None else list(climb.steps)
-        return {"climbing": climb is not None, "took": [f"{step.edit}  INDEX {step.index}" for step in steps]}
+        return {"climbing": climb is not None, "took": self._view["took"] if climb is None else lines_of(climb)}
 
     def edit(self, version: int, wanted: Wanted) -> Shown:
         """Makes a change by hand."""
@@ -174,11 +173,11 @@ class Board:
         self._session.close(at_once=True)
         self._session = Session(self._kept, self._workers, self._program)
 
-    def _next(self, message: str) -> Shown:
-        """The view of the state that is there now."""
+    def _next(self, message: str, took: Sequence[str] = ()) -> Shown:
+        """The view of the state that is there now, after the steps that a climb took."""
         made = self._made(message)
         self.version += 1
-        self._view = {**made, "version": self.version}
+        self._view = {**made, "version": self.version, "took": list(took)}
         return self._view
 
     def _made(self, message: str) -> Shown:
@@ -197,16 +196,18 @@ class Board:
         except Fault as fault:
             message = f"the climb ended: {fault}"
         with self._lock:
-            message = self._after_climb(climb, message)
+            message, took = self._after_climb(climb, message)
             try:
-                self._next(message)
+                self._next(message, took)
             except Ended:
                 self._start_child()
-                self._next(message)
+                self._next(message, took)
             self._climb = self._climber = None
 
-    def _after_climb(self, climb: Climb, message: str) -> str:
-        """Takes the steps of a climb as one change; where the program's index isn't the last step's, none of them."""
+    def _after_climb(self, climb: Climb, message: str) -> Tuple[str, List[str]]:
+        """Takes the steps of a climb as one change; where the program's index isn't the last step's, none of them.
+
+        The message then, and the lines of the steps that were taken."""
         change, deck = [], self._kept
         for step in climb.steps:
             change.append((step.edit, inverse(deck, step.edit)))
@@ -218,12 +219,17 @@ class Board:
         if wrong:
             self._start_child()
             return ("the steps of the climb don't lead to the index that the program told: the plan from before it "
-                    "stands")
+                    "stands"), []
         self._kept = deck
         if change:
             self._undo.append(change)
             self._redo.clear()
-        return message
+        return message, lines_of(climb)
+
+
+def lines_of(climb: Climb) -> List[str]:
+    """The steps that a climb took so far, a line each."""
+    return [f"{step.edit}  INDEX {step.index}" for step in list(climb.steps)]
 
 
 class _Changing:
