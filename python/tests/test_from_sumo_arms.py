@@ -32,41 +32,41 @@ class Arms(unittest.TestCase):
     def links(self, made):
         return [([lane.place for lane in link.lanes], link.stages, link.is_minor) for link in made.links]
 
-    def test_lanes_of_one_green_are_a_link(self):
+    def test_lanes_of_one_green_are_a_link(self) -> None:
         made, told = arm(["Grr", "Grr", "rGr", "rrG"], (0, "x", 0, "r"), (1, "y", 1, "s"), (2, "z", 2, "l"))
         self.assertEqual(self.links(made), [([0, 1], (1,), False), ([2], (2,), False)])
         self.assertEqual([(turn.name, turn.goal, turn.link) for turn in made.turns],
                          [("r", "x", 0), ("s", "y", 0), ("l", "z", 1)])
         self.assertEqual(told, [])
 
-    def test_turns_of_a_lane_with_different_greens_have_the_common_one(self):
+    def test_turns_of_a_lane_with_different_greens_have_the_common_one(self) -> None:
         made, told = arm(["GGr", "Grr", "rrG"], (0, "x", 0, "r"), (0, "y", 1, "s"))
         self.assertEqual(self.links(made), [([0], (1,), False)])
         self.assertEqual(told, ["lane e_0: its turns have different greens; taken is stage 1, that all of them have"])
 
-    def test_turns_of_a_lane_that_share_no_green_have_the_longest(self):
+    def test_turns_of_a_lane_that_share_no_green_have_the_longest(self) -> None:
         made, told = arm(["Grr", "rGG", "rrG"], (0, "x", 0, "r"), (0, "y", 1, "s"))
         self.assertEqual(self.links(made), [([0], (2, 3), False)])
         self.assertIn("taken is stage 2 and 3, of one of them, since they share none", told[0])
 
-    def test_a_turn_without_a_signal(self):
+    def test_a_turn_without_a_signal(self) -> None:
         made, told = arm(["Grr", "rGr", "rrG"], (0, "x", None, "r"), (1, "y", 0, "s"))
         self.assertEqual(self.links(made), [([0], (1, 2, 3), False), ([1], (1,), False)])
         made, told = arm(["Grr", "rGr", "rrG"], (0, "x", None, "r"), (0, "y", 0, "s"))
         self.assertEqual(self.links(made), [([0], (1,), False)])
         self.assertEqual(len(told), 1)
 
-    def test_a_lane_that_is_never_green(self):
+    def test_a_lane_that_is_never_green(self) -> None:
         made, told = arm(["rrr", "Grr", "rGr", "rrG"], (0, "x", 0, "r"), (1, "y", 1, "s"))
         self.assertEqual(self.links(made), [([1], (1,), False)])
         self.assertEqual(told, ["lane e_0 is never green, and is left out"])
 
-    def test_lanes_that_look_out_are_links_of_their_own(self):
+    def test_lanes_that_look_out_are_links_of_their_own(self) -> None:
         made, told = arm(["Grr", "grr", "rGr", "rrG"], (0, "x", 0, "s"), (1, "y", 1, "l"))
         self.assertEqual(self.links(made), [([0], (1,), False), ([1], (1,), True)])
         self.assertEqual(told, [])
 
-    def test_turns_that_look_out_among_others_are_told(self):
+    def test_turns_that_look_out_among_others_are_told(self) -> None:
         made, told = arm(["Grr", "grr", "rGr", "rrG"], (0, "x", 0, "s"), (0, "y", 1, "l"))
         self.assertEqual(self.links(made), [([0], (1,), False)])
         self.assertEqual(told, ["lane e_0: its turn to y gives way, and other turns of the lane don't; taken without a "
@@ -75,7 +75,7 @@ class Arms(unittest.TestCase):
         self.assertEqual(self.links(made), [([0], (1, 2), False)])
         self.assertEqual(told, ["lane e_0: its turn to x gives way in some stages alone; taken without a rule"])
 
-    def test_turns_that_are_alike_have_numbers(self):
+    def test_turns_that_are_alike_have_numbers(self) -> None:
         made, told = arm(["Grr", "rGr", "rrG"], (0, "x", 0, "r"), (0, "y", 0, "R"), (0, "z", 0, "s"), (1, "z", 1, "s"))
         self.assertEqual([(turn.name, turn.goal, turn.link) for turn in made.turns],
                          [("r", "x", 0), ("r2", "y", 0), ("s", "z", 0), ("s2", "z", 1)])

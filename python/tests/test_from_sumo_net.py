@@ -25,7 +25,7 @@ from transyt.sumo.netfile import read_net
 class FromSumo(unittest.TestCase):
     """Tests that make a network and call the word."""
 
-    def setUp(self):
+    def setUp(self) -> None:
         folder = tempfile.TemporaryDirectory()
         self.addCleanup(folder.cleanup)
         self.folder = folder.name
@@ -62,7 +62,7 @@ class FromSumo(unittest.TestCase):
 
 
 class Grids(FromSumo):
-    def test_junctions_arms_and_ways(self):
+    def test_junctions_arms_and_ways(self) -> None:
         made = self.made(grid(self.folder))
         self.assertEqual([row["name"] for row in made["junctions"]], [x + y for x in "ABC" for y in "012"])
         self.assertEqual(len(made["links"]), 36)
@@ -75,14 +75,14 @@ class Grids(FromSumo):
         self.assertEqual(goals["5", "A1B1", "s"], ("8", "B1C1"))
         self.assertEqual(goals["8", "B1C1", "s"], ("", ""))
 
-    def test_two_greens_with_yellow_between(self):
+    def test_two_greens_with_yellow_between(self) -> None:
         made = self.made(grid(self.folder))
         rows = [row for row in made["stages"] if row["junction"] == "5"]
         self.assertEqual([(row["intergreen"], row["least"], row["change"]) for row in rows], [("3", "7", "0"),
                                                                                             ("3", "7", "45")])
         self.assertEqual([row["offset"] for row in made["junctions"]], ["87"] * 9)
 
-    def test_pockets_have_links_of_their_own_and_the_ways_go_through_the_points_where_they_begin(self):
+    def test_pockets_have_links_of_their_own_and_the_ways_go_through_the_points_where_they_begin(self) -> None:
         made = self.made(grid(self.folder, "--turn-lanes", "1", "--tls.left-green.time", "6"))
         links = [row for row in made["links"] if row["junction"] == "5"]
         self.assertEqual([row["stages"] for row in links], ["3", "3 4", "1", "1 2", "1", "1 2", "3", "3 4"])
@@ -92,7 +92,7 @@ class Grids(FromSumo):
         self.assertTrue(self.told("B2B1", "gives way in some stages alone"))
         self.assertEqual(made["gives"], [])
 
-    def test_pockets_that_always_look_out_give_way(self):
+    def test_pockets_that_always_look_out_give_way(self) -> None:
         made = self.made(grid(self.folder, "--turn-lanes", "1", "--tls.left-green.time", "0"))
         numbers = {row["link"]: row for row in made["links"]}
         self.assertEqual(len(made["gives"]), 36)
@@ -103,12 +103,12 @@ class Grids(FromSumo):
             self.assertNotEqual(link["arm"], other["arm"])
             self.assertTrue(link["name"].endswith(": l") and not other["name"].endswith(": l"))
 
-    def test_crossings_on_foot_make_no_stages(self):
+    def test_crossings_on_foot_make_no_stages(self) -> None:
         made = self.made(grid(self.folder, "--sidewalks.guess", "true", "--crossings.guess", "true"))
         self.assertEqual([(row["intergreen"], row["change"]) for row in made["stages"]], [("3", "0"), ("3", "45")] * 9)
         self.assertEqual({row["lanes"] for row in made["links"]}, {"1"})
 
-    def test_some_junctions_alone(self):
+    def test_some_junctions_alone(self) -> None:
         made = self.made(grid(self.folder), "--junctions", "B1,A1")
         self.assertEqual([row["name"] for row in made["junctions"]], ["A1", "B1"])
         self.assertEqual([(row["from junction"], row["to arm"]) for row in made["ways"]],
@@ -116,27 +116,27 @@ class Grids(FromSumo):
         self.made(grid(self.folder), "--junctions", "B1,X9", status=2)
         self.assertTrue(self.told("--junctions X9", "no signals with this id"))
 
-    def test_actuated_signals_have_no_changes(self):
+    def test_actuated_signals_have_no_changes(self) -> None:
         net = grid(self.folder, "--tls.default-type", "actuated")
         made = self.made(net)
         self.assertEqual({row["change"] for row in made["stages"]}, {""})
         self.assertEqual({row["least"] for row in made["stages"]}, {"5"})
         self.assertTrue(self.told("signals B1 are actuated", "equal saturation"))
 
-    def test_offsets_of_the_file_are_added(self):
+    def test_offsets_of_the_file_are_added(self) -> None:
         net = self.edited(grid(self.folder), ('id="B1" type="static" programID="0" offset="0"',
                                               'id="B1" type="static" programID="0" offset="17"'))
         made = self.made(net)
         self.assertEqual([row["offset"] for row in made["junctions"]], ["87"] * 4 + ["14"] + ["87"] * 4)
 
-    def test_a_cycle_that_most_signals_have_not(self):
+    def test_a_cycle_that_most_signals_have_not(self) -> None:
         net = grid(self.folder)
         made = self.made(net, "--cycle", "60")
         self.assertEqual({row["change"] for row in made["stages"]}, {""})
         self.assertTrue(self.told("signals A0 have a cycle of 90 s, and the sheets 60"))
         self.made(net, "--cycle", "20", status=2)
 
-    def test_nobody_turns_back_at_the_end_of_a_street(self):
+    def test_nobody_turns_back_at_the_end_of_a_street(self) -> None:
         made = self.made(grid(self.folder, "--no-turnarounds", "false"))
         goals = {(row["junction"], row["arm"], row["turn"]): (row["to junction"], row["to arm"])
                  for row in made["movements"]}
@@ -144,11 +144,11 @@ class Grids(FromSumo):
         self.assertEqual(goals["5", "A1B1", "t"], ("2", "B1A1"))
         self.assertEqual(len(made["ways"]), 24)
 
-    def test_more_than_a_deck_takes(self):
+    def test_more_than_a_deck_takes(self) -> None:
         self.made(grid(self.folder, "--grid.number", "15"), status=2)
         self.assertTrue(self.told("the network has 225 junctions with signals, and a deck 200 at most", "--junctions"))
 
-    def test_a_packed_network(self):
+    def test_a_packed_network(self) -> None:
         net = grid(self.folder)
         with open(net, "rb") as file, gzip.open(net + ".gz", "wb") as packed:
             packed.write(file.read())
@@ -158,7 +158,7 @@ class Grids(FromSumo):
 class Turned(FromSumo):
     """Programs that can't be carried over whole."""
 
-    def test_a_lane_whose_turns_have_different_greens(self):
+    def test_a_lane_whose_turns_have_different_greens(self) -> None:
         # the straight way out of the north ends with the first green second half of its phase, the turn right doesn't
         net = grid(self.folder)
         with open(net, encoding="utf-8") as file:
@@ -170,7 +170,7 @@ class Turned(FromSumo):
         self.made(net, "--cycle", "110")
         self.assertTrue(self.told("its turns have different greens; taken is stage"))
 
-    def test_more_than_eight_stages(self):
+    def test_more_than_eight_stages(self) -> None:
         net = grid(self.folder)
         with open(net, encoding="utf-8") as file:
             block = file.read().split('<tlLogic id="B1"')[1].split(">", 1)[1].split("</tlLogic>")[0]
@@ -181,7 +181,7 @@ class Turned(FromSumo):
         self.assertEqual(len([row for row in made["stages"] if row["junction"] == "5"]), 8)
         self.assertTrue(self.told("signals B1 have 9 stages, and 8 are the most", "left out"))
 
-    def test_several_junctions_under_one_program(self):
+    def test_several_junctions_under_one_program(self) -> None:
         net = self.edited(grid(self.folder), ('tl="B1"', 'tl="A1"'), ('<tlLogic id="B1"', '<tlLogic id="unused"'))
         made = self.made(net)
         self.assertEqual([row["name"] for row in made["junctions"]], ["A0", "A1", "A2", "B0", "B2", "C0", "C1", "C2"])
@@ -190,11 +190,11 @@ class Turned(FromSumo):
         self.assertIn(("2", "2", "A1B1"), {(row["from junction"], row["to junction"], row["to arm"])
                                            for row in made["ways"]})
 
-    def test_edges_that_differ_in_case_alone(self):
+    def test_edges_that_differ_in_case_alone(self) -> None:
         self.made(self.edited(grid(self.folder), ('"A1B1"', '"b0b1"'), ("A1B1_", "b0b1_")), status=2)
         self.assertTrue(self.told("signals B1: the edges", "b0b1", "B0B1", "differ in case"))
 
-    def test_a_turn_without_a_signal_runs_in_all_stages(self):
+    def test_a_turn_without_a_signal_runs_in_all_stages(self) -> None:
         net = grid(self.folder, "--turn-lanes", "1")
         found = [one for one in read_net(net).connections if one.signals == "B1" and one.start.startswith("A1B1")
                  and one.direction == "l"]
@@ -207,7 +207,7 @@ class Turned(FromSumo):
 
 
 class Ways(FromSumo):
-    def test_a_roundabout_without_signals(self):
+    def test_a_roundabout_without_signals(self) -> None:
         made = self.made(roundabout(self.folder))
         self.assertEqual([row["name"] for row in made["junctions"]], ["A", "B"])
         ways = {(row["from junction"], row["to junction"], row["to arm"]): row for row in made["ways"]}
@@ -216,7 +216,7 @@ class Ways(FromSumo):
         self.assertAlmostEqual(int(ways["1", "2", "reB"]["metres"]), 600 + 20, delta=25)
         self.assertTrue(self.told("edge Arw parts before the next signals", "rnn", "rss", "taken to go to reB"))
 
-    def test_a_map_of_openstreetmap(self):
+    def test_a_map_of_openstreetmap(self) -> None:
         made = self.made(of_a_map(self.folder))
         self.assertEqual([row["name"] for row in made["junctions"]], ["2", "3"])
         self.assertEqual(len(made["links"]), 8)
@@ -242,7 +242,7 @@ class Counts(FromSumo):
             + "</interval>" for begin, end in intervals)
         return write(self.folder, "turns.xml", f"<data>{rows}</data>"), counts
 
-    def test_each_interval_is_a_window(self):
+    def test_each_interval_is_a_window(self) -> None:
         net = grid(self.folder)
         path, counts = self.turns(net)
         made = self.made(net, "--turns", path)
@@ -252,7 +252,7 @@ class Counts(FromSumo):
             turn: str(counts[29700, ("A1B1", goal)]) for turn, goal in (("l", "B1B2"), ("r", "B1B0"), ("s", "B1C1"))})
 
     @needs_program
-    def test_the_deck_of_the_sheets_has_the_counts(self):
+    def test_the_deck_of_the_sheets_has_the_counts(self) -> None:
         for options in ((), ("--turn-lanes", "1", "--tls.left-green.time", "0"), ("--default.lanenumber", "3")):
             net = grid(self.folder, *options)
             path, counts = self.turns(net)
@@ -262,12 +262,12 @@ class Counts(FromSumo):
                                    delta=len(deck.links) / 2)
             self.assertEqual(sum(1 for link in deck.links if link.gives_way), len(made["gives"]))
 
-    def test_counts_left_empty_are_faults_of_the_sheets(self):
+    def test_counts_left_empty_are_faults_of_the_sheets(self) -> None:
         self.made(grid(self.folder))
         with self.assertRaisesRegex(Fault, "counts.csv, row 2, l: it is empty"):
             read_sheets(os.path.join(self.folder, "sheets"))
 
-    def test_faults_of_the_counts(self):
+    def test_faults_of_the_counts(self) -> None:
         net = grid(self.folder)
         interval = '<data><interval begin="{}" end="{}"><edgeRelation from="A1B1" to="B1C1"{}/></interval></data>'
         for text, words in (("<data/>", "has no interval"),
@@ -296,12 +296,12 @@ class Refused(unittest.TestCase):
                 read_net(path)
             self.assertIn(path, str(raised.exception))
 
-    def test_a_doctype_is_refused_before_its_entities(self):
+    def test_a_doctype_is_refused_before_its_entities(self) -> None:
         self.refused('<?xml version="1.0"?><!DOCTYPE net [<!ENTITY a "b">]><net>&a;</net>', "DOCTYPE")
         self.refused('<!DOCTYPE net SYSTEM "file:///etc/passwd"><net/>', "DOCTYPE")
         self.refused('<?xml version="1.0" encoding="utf-16"?><!DOCTYPE net><net/>'.encode("utf-16"), "DOCTYPE")
 
-    def test_what_is_no_network(self):
+    def test_what_is_no_network(self) -> None:
         self.refused("<routes/>", "its root is routes")
         self.refused("<net><edge/></net>", "as SUMO writes it")
         self.refused("<net>", "can't be read as XML")
@@ -310,7 +310,7 @@ class Refused(unittest.TestCase):
         with self.assertRaisesRegex(Fault, "none.net.xml can't be read"):
             read_net("none.net.xml")
 
-    def test_a_folder_with_something_in_it(self):
+    def test_a_folder_with_something_in_it(self) -> None:
         with tempfile.TemporaryDirectory() as folder:
             write(folder, "there", "")
             said = io.StringIO()
@@ -318,7 +318,7 @@ class Refused(unittest.TestCase):
                 self.assertEqual(main(["from-sumo", "none.net.xml", "-o", folder]), 2)
             self.assertIn("isn't an empty folder", said.getvalue())
 
-    def test_a_network_without_signals(self):
+    def test_a_network_without_signals(self) -> None:
         with tempfile.TemporaryDirectory() as folder:
             said, sheets = io.StringIO(), os.path.join(folder, "sheets")
             with contextlib.redirect_stderr(said):

@@ -64,27 +64,27 @@ class Gives(unittest.TestCase):
         turns = [turn(name, "x", 0, place) for place, name in enumerate("abcd")]
         return tables(*edges, phases(*states), junction("J", "a_0 b_0 c_0 d_0", foes, "0000", "0000", "0000"), *turns)
 
-    def test_the_foe_that_goes_first(self):
+    def test_the_foe_that_goes_first(self) -> None:
         made, told = self.made(["ggGr", "rrrG"])
         self.assertEqual([(row["link"], row["other"], row["percent"]) for row in made["gives"]], [("11", "13", "")])
         self.assertEqual([line for line in told if "gives way" in line], [])
 
-    def test_the_first_of_several_foes(self):
+    def test_the_first_of_several_foes(self) -> None:
         made, told = self.made(["gGGr", "rrrG"])
         self.assertEqual([(row["link"], row["other"]) for row in made["gives"]], [("11", "12")])
         self.assertIn("edge a: link 11 gives way to the links 12, 13; the rule has the first alone", told)
 
-    def test_foes_of_another_stage_are_none(self):
+    def test_foes_of_another_stage_are_none(self) -> None:
         made, _ = self.made(["grrr", "rGGG"])
         self.assertEqual(made["gives"], [])
 
-    def test_connections_that_are_no_foes_are_none(self):
+    def test_connections_that_are_no_foes_are_none(self) -> None:
         made, _ = self.made(["gGGr", "rrrG"], "1000")
         self.assertEqual(made["gives"], [])
 
 
 class Links(unittest.TestCase):
-    def test_turns_from_two_links_to_one_edge_share_its_count_by_lanes(self):
+    def test_turns_from_two_links_to_one_edge_share_its_count_by_lanes(self) -> None:
         parts = [edge("a", "a", "J", 3, street="=Mill Lane"), edge("b", "b", "J"), edge("x", "J", "x", 3),
                  phases("GGrr", "rrGG"), junction("J", "a_0 a_1 a_2 b_0", "0000", "0000", "0000", "0000"),
                  turn("a", "x", 0, 0, to_lane=0), turn("a", "x", 1, 1, to_lane=1), turn("a", "x", 2, 2, to_lane=2),
@@ -97,7 +97,7 @@ class Links(unittest.TestCase):
                          [("a", "08:00", "15", "15", "7"), ("b", "08:00", "15", "2", "")])
         self.assertTrue(any("1 of the counts are of no turn" in line and "b to y" in line for line in told))
 
-    def test_more_lanes_than_a_saturation_flow_has(self):
+    def test_more_lanes_than_a_saturation_flow_has(self) -> None:
         made, told = tables(edge("a", "a", "J", 6), edge("b", "b", "J"), edge("x", "J", "x", 6), phases("Gr", "rG"),
                             junction("J", " ".join(f"a_{place}" for place in range(6)) + " b_0"),
                             *(turn("a", "x", place, 0, to_lane=place) for place in range(6)), turn("b", "x", 0, 1))
@@ -118,14 +118,14 @@ class Ways(unittest.TestCase):
             turn("n", "y", 0, 0).replace('tl="J"', 'tl="K"'),
             turn("c", "y", 0, 1).replace('tl="J"', 'tl="K"'))
 
-    def test_metres_and_seconds_through_junctions(self):
+    def test_metres_and_seconds_through_junctions(self) -> None:
         made, told = self.made()
         self.assertEqual([(row["from junction"], row["to junction"], row["to arm"], row["metres"])
                           for row in made["ways"]], [("1", "2", "n", "370")])
         self.assertAlmostEqual(3.6 * 370 / float(made["ways"][0]["km/h"]), 2 + 10 + 10 + 20, delta=0.01)
         self.assertFalse([line for line in told if "way" in line])
 
-    def test_signals_of_one_stage_are_as_none(self):
+    def test_signals_of_one_stage_are_as_none(self) -> None:
         made, told = self.made(phases("G", name="M"))
         self.assertEqual(made["ways"], self.made()[0]["ways"])
         self.assertEqual([row["name"] for row in made["junctions"]], ["J", "K"])

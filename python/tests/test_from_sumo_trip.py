@@ -116,12 +116,12 @@ class RoundTrip(unittest.TestCase):
                 self.assertLessEqual(abs(ways[name] - mean_cruise(link)), 1, name)
         return tables
 
-    def test_examples(self):
+    def test_examples(self) -> None:
         for name in ("town.deck", "arterial.deck", "cycles.deck"):
             with self.subTest(name):
                 self.compare(as_drawn(read_deck(support.example(name)), lambda _: None))
 
-    def test_other_plans_of_them(self):
+    def test_other_plans_of_them(self) -> None:
         draw = random.Random(5)
         for name in ("town.deck", "arterial.deck"):
             deck = read_deck(support.example(name)).without_give_way()
@@ -130,7 +130,7 @@ class RoundTrip(unittest.TestCase):
                     self.compare(another_plan(deck, draw))
 
     @needs_program
-    def test_by_the_words_themselves(self):
+    def test_by_the_words_themselves(self) -> None:
         with tempfile.TemporaryDirectory() as folder, contextlib.redirect_stderr(io.StringIO()):
             deck, town, sheets = (os.path.join(folder, name) for name in ("a.deck", "town", "sheets"))
             with open(deck, "w", encoding="utf-8") as file:
@@ -148,19 +148,19 @@ class RoundTrip(unittest.TestCase):
         self.assertEqual([(row[0], row[3], row[5]) for row in rows],
                          [("1", "4", "0"), ("1", "2", "24"), ("1", "6", "44"), ("2", "2", "0"), ("2", "4", "30")])
 
-    def test_an_intergreen_that_ends_nothing(self):
+    def test_an_intergreen_that_ends_nothing(self) -> None:
         self.compare(read_deck(THREE_STAGES))
 
-    def test_an_offset_of_the_file(self):
+    def test_an_offset_of_the_file(self) -> None:
         self.compare(read_deck(THREE_STAGES), 7)
 
-    def test_a_give_way_rule(self):
+    def test_a_give_way_rule(self) -> None:
         deck = as_drawn(read_deck(support.example("arterial.deck")), lambda _: None)
         tables = self.compare(deck)
         names = {row["link"]: row["arm"] for row in tables["links"]}
         self.assertEqual([(names[row["link"]], names[row["other"]]) for row in tables["gives"]], [("link44", "link42")])
 
-    def test_steps_that_are_no_whole_seconds_are_told(self):
+    def test_steps_that_are_no_whole_seconds_are_told(self) -> None:
         deck = read_deck(THREE_STAGES.replace("CYCLE 60 30", "CYCLE 70 30"))
         tables, told = self.back(deck)
         self.assertTrue(any("aren't whole steps" in line for line in told), told)

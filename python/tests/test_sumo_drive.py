@@ -54,48 +54,48 @@ class Inside:
 
 
 class ReadMeasures(unittest.TestCase):
-    def setUp(self):
+    def setUp(self) -> None:
         with tempfile.TemporaryDirectory() as folder:
             for name, text in FILES.items():
                 with open(os.path.join(folder, name), "w") as file:
                     file.write(text)
             self.measures = read_measures(read_deck(DECK), Inside, folder)
 
-    def test_delay_is_lost_on_the_link_in_the_junction_and_before_entering(self):
+    def test_delay_is_lost_on_the_link_in_the_junction_and_before_entering(self) -> None:
         self.assertEqual(self.measures.links[11].delay, 2)
         self.assertEqual((self.measures.links[11].vehicles, self.measures.links[11].seconds), (600, 12))
 
-    def test_queue_is_the_mean_over_the_cycles(self):
+    def test_queue_is_the_mean_over_the_cycles(self) -> None:
         self.assertEqual(self.measures.links[11].queue, 4.5)
 
-    def test_link_without_cars_has_nothing(self):
+    def test_link_without_cars_has_nothing(self) -> None:
         self.assertEqual(self.measures.links[12], LinkMeasures(0, 0, 0))
         self.assertEqual(self.measures.links[12].seconds, 0)
 
-    def test_collisions_and_teleports(self):
+    def test_collisions_and_teleports(self) -> None:
         self.assertEqual((self.measures.collisions, self.measures.teleports), (3, 0))
 
 
 class Calibration(unittest.TestCase):
-    def test_usual_green_is_weighed_by_flow(self):
+    def test_usual_green_is_weighed_by_flow(self) -> None:
         # link 11 is shown for 9 steps and gains one, link 12 for 18; link 13 is never red
         green = usual_green(read_deck(DECK))
         self.assertEqual(green.shown, 12)
         self.assertAlmostEqual(green.added, 2 / 3)
         self.assertAlmostEqual(green.saturation, (600 * 1800 + 300 * 1500 + 300 * 1800) / 1200)
 
-    def test_cars_in_a_green(self):
+    def test_cars_in_a_green(self) -> None:
         self.assertAlmostEqual(Green(read_deck(DECK).frame, 21, 1, 1800).cars, 22)
 
-    def test_stop_line_has_the_green(self):
+    def test_stop_line_has_the_green(self) -> None:
         deck = one_stop_line(Green(read_deck(DECK).frame, 12, 0, 1750))
         self.assertEqual(usual_green(deck).shown, 12)
 
-    def test_stop_line_has_one_lane_however_much_it_carries(self):
+    def test_stop_line_has_one_lane_however_much_it_carries(self) -> None:
         deck = one_stop_line(Green(read_deck(DECK).frame, 12, 0, 3500))
         self.assertEqual(lane_count(deck, deck.link(1)), 1)
 
-    def test_headway_lies_between_two_that_were_tried(self):
+    def test_headway_lies_between_two_that_were_tried(self) -> None:
         tried = []
 
         def cars(headway):
@@ -107,7 +107,7 @@ class Calibration(unittest.TestCase):
         self.assertAlmostEqual(headway_of(cars, 23), 1.4)
         self.assertAlmostEqual(headway_of(cars, 23.5), 1.3)
 
-    def test_out_of_reach_is_refused(self):
+    def test_out_of_reach_is_refused(self) -> None:
         for wanted in (27, 10):
             with self.assertRaisesRegex(Fault, f"{wanted}.0 cars"):
                 headway_of(lambda headway: 30 - 5 * headway, wanted)
@@ -124,33 +124,33 @@ class Tables(unittest.TestCase):
                           13: LinkMeasures(0, 0, 0)}, 0, 0) for part in driven]
         return Plan(name, deck, PlanFigures(figures, 5_000_000), runs)
 
-    def test_totals(self):
+    def test_totals(self) -> None:
         lines = total_table([self.plan("before", 8, [4, 6]), self.plan("after", 6, [3, 3])])
         self.assertIn("| delay by the program, vehicle-hours an hour | 8.00 | 6.00 | 0.750 |", lines)
         ratio = "0.600, from 0.500 to 0.750 by seed"
         self.assertIn(f"| delay in SUMO, vehicle-hours an hour | 7.50 | 4.50 | {ratio} |", lines)
         self.assertIn("| SUMO / program | 0.94 | 0.75 |  |", lines)
 
-    def test_links(self):
+    def test_links(self) -> None:
         lines = link_table([self.plan("before", 8, [4, 6]), self.plan("after", 6, [3, 3])])
         self.assertIn("| 11* | 600 | 24.0 | 30.0 | 2.0 | **3.0** | 18.0 | 18.0 | 2.0 | **3.0** |", lines)
         self.assertIn("| 13* | 300 | 24.0 | **0.0** | 2.0 | **0.0** | 18.0 | **0.0** | 2.0 | **0.0** |", lines)
 
-    def test_apart_is_more_than_a_third(self):
+    def test_apart_is_more_than_a_third(self) -> None:
         self.assertEqual([is_apart(12, driven) for driven in (8, 7.9, 16, 16.1)], [False, True, False, True])
         self.assertEqual([is_apart(0, driven) for driven in (0, 0.04, 0.1)], [False, False, True])
 
-    def test_collisions_stand_in_the_table(self):
+    def test_collisions_stand_in_the_table(self) -> None:
         plans = [self.plan("before", 8, [4, 6]), self.plan("after", 6, [3, 3])]
         plans[1].runs[1] = Measures(plans[1].runs[1].links, 7, 0)
         self.assertIn("| collisions in all runs | 0 | 7 |  |", total_table(plans))
 
-    def test_correlation(self):
+    def test_correlation(self) -> None:
         self.assertAlmostEqual(correlation([(1, 2), (2, 4), (4, 8)]), 1)
         self.assertIsNone(correlation([(1, 2), (1, 3)]))
         self.assertIsNone(correlation([]))
 
-    def test_decks_of_other_flows_are_refused(self):
+    def test_decks_of_other_flows_are_refused(self) -> None:
         with self.assertRaisesRegex(Fault, "differ"):
             check_same_demand(read_deck(DECK), read_deck(DECK.replace("600 3600", "601 3600")))
         check_same_demand(read_deck(DECK), read_deck(DECK.replace("CYCLE 60 30", "CYCLE 80 40")))

@@ -18,24 +18,24 @@ END TIMING
 
 
 class LastPlan(unittest.TestCase):
-    def test_offset_and_changes(self):
+    def test_offset_and_changes(self) -> None:
         self.assertEqual(last_plan(TIMING), {7: (17, [5, 16])})
 
-    def test_the_last_timing_counts(self):
+    def test_the_last_timing_counts(self) -> None:
         later = TIMING.replace("OFFSET 17", "OFFSET 3")
         self.assertEqual(last_plan(TIMING + "INDEX 4\n" + later + "DONE\n"), {7: (3, [5, 16])})
 
-    def test_deck_text_is_no_timing(self):
+    def test_deck_text_is_no_timing(self) -> None:
         with self.assertRaises(Fault):
             last_plan(support.THREE)
 
-    def test_timing_after_a_deck_text(self):
+    def test_timing_after_a_deck_text(self) -> None:
         self.assertEqual(last_plan(str(read_deck(support.THREE).bare()) + TIMING), {7: (17, [5, 16])})
 
 
 @needs_program
 class ReadPlan(unittest.TestCase):
-    def test_delay_queue_and_go(self):
+    def test_delay_queue_and_go(self) -> None:
         with Session(support.example("arterial.deck"), 1, PROGRAM) as town:
             plan, queue, profile = read_plan(town), town.queue(43), town.profile(43)
         link = plan.link(43)

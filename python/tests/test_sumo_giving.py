@@ -46,12 +46,12 @@ def told_of(deck):
 
 
 class Greens(unittest.TestCase):
-    def test_green_that_looks_out(self):
+    def test_green_that_looks_out(self) -> None:
         deck = read_deck(DECK)
         self.assertEqual(set(signal_of(deck, deck.link(12))), {"g", "y", "r"})
         self.assertEqual(set(signal_of(deck, deck.link(11))), {"G"})
 
-    def test_go_of_a_link_that_gives_way_is_less_and_green_at_the_same_steps(self):
+    def test_go_of_a_link_that_gives_way_is_less_and_green_at_the_same_steps(self) -> None:
         deck = read_deck(DECK)
         links = {link.number: LinkPlan(100, 0, 0, 0, expected_go(deck, link)) for link in deck.links}
         less = tuple(max(1, go // 3) if go else 0 for go in links[12].go)
@@ -60,17 +60,17 @@ class Greens(unittest.TestCase):
             with self.assertRaisesRegex(Fault, "link 12 "):
                 check_greens(deck, PlanFigures(links | {12: LinkPlan(100, 0, 0, 0, wrong)}, 0))
 
-    def test_plans_of_other_rules_are_refused(self):
+    def test_plans_of_other_rules_are_refused(self) -> None:
         with self.assertRaisesRegex(Fault, "give-way"):
             check_same_demand(read_deck(DECK), read_deck(DECK).without_give_way())
 
 
 @needs_sumo
 class Rules(unittest.TestCase):
-    def test_ways_that_meet_are_carried(self):
+    def test_ways_that_meet_are_carried(self) -> None:
         self.assertEqual(told_of(DECK), ({12}, []))
 
-    def test_the_link_waits_and_its_green_says_so(self):
+    def test_the_link_waits_and_its_green_says_so(self) -> None:
         with tempfile.TemporaryDirectory() as folder:
             net = build(read_deck(DECK), folder)
             self.assertTrue(net.waits("link12", "link11"))
@@ -82,7 +82,7 @@ class Rules(unittest.TestCase):
                      if number == link} for link in (11, 12)}
         self.assertEqual(at, {11: {"G"}, 12: {"g", "y", "r"}})
 
-    def test_ways_that_do_not_meet_are_told_and_left(self):
+    def test_ways_that_do_not_meet_are_told_and_left(self) -> None:
         # two links from the same end of the town to the same ends beside one another
         apart = DECK.replace("LINK 22", "LINK 23 2 0 1800 1 1 0 0 1\nLINK 22").replace(
             "YIELD 12 11 90", "FEED 23 11 50 20\nYIELD 23 21 90")
@@ -91,7 +91,7 @@ class Rules(unittest.TestCase):
         self.assertEqual(said, ["link 23 gives way to link 21, and their ways don't meet as they are drawn here: the "
                                 "rule is left out, in SUMO and for the program alike"])
 
-    def test_links_of_two_junctions_are_told_and_left(self):
+    def test_links_of_two_junctions_are_told_and_left(self) -> None:
         rules, said = told_of(DECK.replace("YIELD 12 11", "YIELD 12 21"))
         self.assertEqual((rules, len(said)), (set(), 1))
         self.assertIn("don't stop at one junction", said[0])

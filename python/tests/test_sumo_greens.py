@@ -31,55 +31,55 @@ def steps_of(flags):
 
 class ShownSteps(unittest.TestCase):
     # stage 1 is on at 1 to 6, stage 2 at 7 to 12, stage 3 at 13 to 20, which is 0
-    def setUp(self):
+    def setUp(self) -> None:
         self.deck = read_deck(THREE_STAGES)
 
     def shown(self, number):
         return steps_of(shown_steps(self.deck, self.deck.link(number)))
 
-    def test_intergreen_comes_first(self):
+    def test_intergreen_comes_first(self) -> None:
         self.assertEqual(self.shown(1), [3, 4, 5, 6])
 
-    def test_intergreen_between_two_stages_of_a_link_is_green(self):
+    def test_intergreen_between_two_stages_of_a_link_is_green(self) -> None:
         self.assertEqual(self.shown(2), [0] + list(range(8, 20)))
 
-    def test_stage_before_the_first_is_the_last(self):
+    def test_stage_before_the_first_is_the_last(self) -> None:
         self.assertEqual(self.shown(4), list(range(0, 7)) + list(range(16, 20)))
 
-    def test_link_in_every_stage_is_always_shown(self):
+    def test_link_in_every_stage_is_always_shown(self) -> None:
         self.assertEqual(self.shown(3), list(range(20)))
 
 
 class GreenSteps(unittest.TestCase):
-    def test_start_lag_takes_off_the_beginning_and_end_lag_runs_on(self):
+    def test_start_lag_takes_off_the_beginning_and_end_lag_runs_on(self) -> None:
         shown = [step in (0, 8, 9) for step in range(10)]
         self.assertEqual(steps_of(green_steps(shown, 1, 2)), [0, 1, 2, 9])
 
-    def test_always_shown_has_no_opening(self):
+    def test_always_shown_has_no_opening(self) -> None:
         self.assertEqual(green_steps([True] * 5, 3, 0), [True] * 5)
 
-    def test_start_lag_takes_all(self):
+    def test_start_lag_takes_all(self) -> None:
         self.assertEqual(green_steps([False, True, False, False], 3, 1), [False] * 4)
 
 
 class Go(unittest.TestCase):
-    def test_go_is_the_saturation_flow_at_green(self):
+    def test_go_is_the_saturation_flow_at_green(self) -> None:
         deck = read_deck(THREE_STAGES)
         expected = tuple(1_000_000 if 3 <= step < 7 else 0 for step in range(20))
         self.assertEqual(expected_go(deck, deck.link(1)), expected)
 
-    def test_go_reckons_with_both_lags(self):
+    def test_go_reckons_with_both_lags(self) -> None:
         # shown at 8 to 20, which is 0: opened at 8, closed at 1
         deck = read_deck(THREE_STAGES)
         self.assertEqual(steps_of(expected_go(deck, deck.link(2))), [0, 1] + list(range(10, 20)))
 
-    def test_go_of_the_stored_report(self):
+    def test_go_of_the_stored_report(self) -> None:
         deck, report = read_deck(support.example("arterial.deck")), support.example("arterial.report")
         go = next(line.split()[2:] for line in report.splitlines() if line.startswith("GO 31 "))
         deck = deck.with_plan(last_plan(report))
         self.assertEqual(expected_go(deck, deck.link(31)), tuple(int(number) for number in go))
 
-    def test_another_go_is_refused(self):
+    def test_another_go_is_refused(self) -> None:
         deck = read_deck(THREE_STAGES)
         links = {link.number: LinkPlan(100, 0, 0, 0, expected_go(deck, link)) for link in deck.links}
         check_greens(deck, PlanFigures(links, 0))
@@ -89,28 +89,28 @@ class Go(unittest.TestCase):
 
 
 class Signals(unittest.TestCase):
-    def test_yellow_follows_green(self):
+    def test_yellow_follows_green(self) -> None:
         frame = read_deck("CYCLE 30 15 1 60 0 0\nEND\n").frame
         shown = [step in (0, 1, 12, 13, 14) for step in range(15)]
         self.assertEqual(aspects(shown, frame), "G" * 8 + "y" * 6 + "r" * 34 + "G" * 12)
 
-    def test_short_red_is_yellow(self):
+    def test_short_red_is_yellow(self) -> None:
         frame = read_deck("CYCLE 30 30 1 60 0 0\nEND\n").frame
         self.assertEqual(aspects([step != 3 for step in range(30)], frame), "G" * 6 + "yy" + "G" * 52)
 
-    def test_steps_end_at_half_seconds(self):
+    def test_steps_end_at_half_seconds(self) -> None:
         frame = read_deck("CYCLE 70 45 1 60 0 0\nEND\n").frame
         shown = [step < 1 for step in range(45)]
         laid_out = aspects(shown, frame)
         self.assertEqual((len(laid_out), laid_out.count("G")), (140, 3))
 
-    def test_phases_have_the_states_of_all_signals(self):
+    def test_phases_have_the_states_of_all_signals(self) -> None:
         names = ["stage 1"] * 3 + ["to stage 2"] * 2 + ["stage 2"]
         self.assertEqual(phases(["GGyyrr", "rrrrGG"], names), [
             (1, "Gr", "stage 1"), (0.5, "yr", "stage 1"), (0.5, "yr", "to stage 2"), (0.5, "rG", "to stage 2"),
             (0.5, "rG", "stage 2")])
 
-    def test_names_of_stages(self):
+    def test_names_of_stages(self) -> None:
         # stage 3 is on at step 13 to 20, which is 0, and its intergreen has three steps of two seconds
         deck = read_deck(THREE_STAGES)
         names = stage_names(deck.node(7), deck.frame)

@@ -45,45 +45,45 @@ END
 
 
 class LaneCount(unittest.TestCase):
-    def test_a_lane_for_each_1800(self):
+    def test_a_lane_for_each_1800(self) -> None:
         deck = read_deck(POCKET.replace("LINK 12 1 400 1800", "LINK 12 1 400 800"))
         self.assertEqual([lane_count(deck, deck.link(number)) for number in (11, 12, 22)], [2, 1, 1])
 
-    def test_a_lanes_line_goes_before(self):
+    def test_a_lanes_line_goes_before(self) -> None:
         deck = read_deck(POCKET.replace("END\n", "* LANES 11 3\nEND\n"))
         self.assertEqual([lane_count(deck, deck.link(number)) for number in (11, 21)], [3, 2])
 
 
 class Shares(unittest.TestCase):
-    def test_lanes_side_by_side(self):
+    def test_lanes_side_by_side(self) -> None:
         self.assertEqual(side_by_side((0, 1), 2), [(0, 0), (1, 1)])
         self.assertEqual(side_by_side((1, 1), 2), [(1, 0), (1, 1)])
         self.assertEqual(side_by_side((0, 2), 1), [(0, 0), (1, 0), (2, 0)])
 
-    def test_a_feeder_as_narrow_as_its_goals_shares_nothing(self):
+    def test_a_feeder_as_narrow_as_its_goals_shares_nothing(self) -> None:
         self.assertEqual(ways(2, [Goal(2, 100), Goal(3, 900)]), [[(0, 0), (1, 1)], [(0, 0), (1, 1), (1, 2)]])
         self.assertEqual(ways(1, [Goal(1, 100), Goal(1, 900)]), [[(0, 0)], [(0, 0)]])
 
-    def test_one_lane_each_and_the_rest_by_greatest_remainder(self):
+    def test_one_lane_each_and_the_rest_by_greatest_remainder(self) -> None:
         # three goals, five lanes: two to spare of 2 * 0.55, 2 * 0.15, 2 * 0.3
         self.assertEqual(parted(5, [550, 150, 300]), [(0, 1), (2, 2), (3, 4)])
         self.assertEqual(parted(3, [100, 100]), [(0, 1), (2, 2)])
         self.assertEqual(parted(2, [10, 990]), [(0, 0), (1, 1)])
 
-    def test_neighbours_share_the_lane_of_the_running_sum(self):
+    def test_neighbours_share_the_lane_of_the_running_sum(self) -> None:
         # sums 0.4 and 1.6 lanes: the first two share lane 0, the last two lane 1
         self.assertEqual(overlapping(2, [200, 600, 200]), [(0, 0), (0, 1), (1, 1)])
         # a sum that falls on the line between two lanes parts them
         self.assertEqual(overlapping(2, [250, 250, 500]), [(0, 0), (0, 0), (1, 1)])
         self.assertEqual(overlapping(1, [1, 2]), [(0, 0), (0, 0)])
 
-    def test_spare_lanes_of_a_goal_take_its_last_lane(self):
+    def test_spare_lanes_of_a_goal_take_its_last_lane(self) -> None:
         self.assertEqual(ways(2, [Goal(1, 200), Goal(2, 700)]), [[(0, 0)], [(1, 0), (1, 1)]])
 
-    def test_a_feeder_without_traffic_is_shared_too(self):
+    def test_a_feeder_without_traffic_is_shared_too(self) -> None:
         self.assertEqual(ways(3, [Goal(1, 0), Goal(1, 0), Goal(1, 0)]), [[(0, 0)], [(1, 0)], [(2, 0)]])
 
-    def test_no_two_ways_of_a_sharing_feeder_cross(self):
+    def test_no_two_ways_of_a_sharing_feeder_cross(self) -> None:
         draw = random.Random(7)
         for _ in range(2_000):
             lanes = draw.randint(2, 5)
@@ -103,7 +103,7 @@ class Shares(unittest.TestCase):
 
 
 class FromTheRight(unittest.TestCase):
-    def test_goals_stand_from_right_to_left(self):
+    def test_goals_stand_from_right_to_left(self) -> None:
         places = {"west": (-100, 0), "node": (0, 0), "east": (100, 0), "north": (0, 100), "south": (0, -100)}
         roads = {"in": Road("in", "west", "node", 4), "back": Road("back", "node", "west", 1)}
         for place, end in enumerate(("north", "east", "south", "east")):
@@ -127,7 +127,7 @@ def crossing(one, other):
 
 @needs_sumo
 class Netconvert(unittest.TestCase):
-    def test_no_two_connections_of_a_feeder_cross_as_netconvert_draws_them(self):
+    def test_no_two_connections_of_a_feeder_cross_as_netconvert_draws_them(self) -> None:
         with tempfile.TemporaryDirectory() as folder:
             net = build(read_deck(POCKET), folder)
             root = read_root(os.path.join(folder, "town.net.xml"))
